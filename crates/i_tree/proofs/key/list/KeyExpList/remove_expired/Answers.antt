@@ -1,0 +1,34 @@
+use Rattle.std.proofs.Common.{◌≡◌, sym, subst, ap, ◌∙◌, length, arith}
+use Rattle.std.specs.declared.cmp.Ordering.TheVariants.{Less}
+use Rattle.std.proofs.lemmas.List.Kept.{AllPairs-filter}
+use Rattle.i_tree.specs.Live.{is_live, NoneExpiresBefore}
+use Rattle.i_tree.specs.Pairs.{IsRising}
+use Rattle.i_tree.proofs.Lists.{length-filter_le}
+use Rattle.i_tree.proofs.Times.{gt_from_cmp, live_pairs-early}
+use Rattle.i_tree.proofs.key.list.KeyExpList.remove_expired.Goals as goal
+
+pub returns-then-gt-clause-live : goal.returns-then-gt-clause-live
+returns-then-gt-clause-live g c =
+    let early = sym (gt_from_cmp g.E.PartialOrd.partial_cmp g.E.Ord.cmp g.met.E.Ord.matches_partial_cmp c.self.inside.earliest c.args.time) ∙ sym c.gt.ensures ∙ c.if-gt.true in
+    rw (← c.self.view_is) (sym (live_pairs-early g.met.E.Ord.total g.K.ExpiredKey.expiration c.self.inside.earliest c.args.time c.self.inside.pairs.items early c.self.invariant.1))
+
+pub returns-then-gt-clause-rising : goal.returns-then-gt-clause-rising
+returns-then-gt-clause-rising g c = rw (← c.self.view_is) c.self.invariant.0
+
+kept_rising : (g : _) (c : goal.After-self-1 g) → IsRising g.K.Ord.cmp c.keep_live.new.pairs.items
+kept_rising g c =
+    rw c.keep_live.ensures.live
+    (AllPairs-filter (λ earlier later. g.K.Ord.cmp earlier.0 later.0 ≡ Less) (λ pair. is_live g.K.ExpiredKey.expiration g.E.Ord.cmp c.args.time pair.0) c.self.inside.pairs.items c.self.invariant.0)
+
+pub invariant_of-self : goal.invariant_of-self
+invariant_of-self g c =
+    (kept_rising g c, subst (NoneExpiresBefore g.K.ExpiredKey.expiration g.E.Ord.cmp c.earliest_expiration-self-inside.result) c.deref.ensures.value c.earliest_expiration-self-inside.ensures)
+
+pub returns-clause-rising : goal.returns-clause-rising
+returns-clause-rising g c = kept_rising g c
+
+pub returns-clause-room : goal.returns-clause-room
+returns-clause-room g c =
+    let shorter = length-filter_le (λ pair. is_live g.K.ExpiredKey.expiration g.E.Ord.cmp c.args.time pair.0) c.self.inside.pairs.items in
+    rw (← c.self.view_is)
+    (omega (arith, shorter, ap length c.keep_live.ensures.live, c.keep_live.ensures.capacity, c.self.inside.pairs.ok.0, c.self.inside.pairs.ok.1, c.keep_live.new.pairs.ok.0, c.keep_live.new.pairs.ok.1))

@@ -1,0 +1,74 @@
+use Rattle.std.proofs.Common.{◌≡◌, ◌≢◌, length, sym, subst, ap, ◌∙◌, arith}
+use Rattle.std.specs.List.{insert}
+use Rattle.std.specs.declared.cmp.Ordering.TheVariants.{Less}
+use Rattle.std.specs.List.Sorted.{IsPartitionPoint}
+use Rattle.std.proofs.lemmas.Result.{MatchResult-from_err}
+use Rattle.i_tree.specs.Live.{is_live, live_pairs}
+use Rattle.i_tree.specs.Pairs.{IsRising, NoKey}
+use Rattle.i_tree.proofs.Keys.{IsRising-insert, same_contents}
+use Rattle.i_tree.proofs.Lists.{filter_same_length, length-filter_le, length-filter_lt, Without-filter}
+use Rattle.i_tree.proofs.Times.{NoneExpiresBefore-insert}
+use Rattle.i_tree.proofs.key.list.KeyExpListKeyExpCollection.insert.Goals as goal
+
+-- what a refusal says: after the expired pairs went there was no room
+full : (g : _) (c : goal.After-from_residual g) → c.remove_expired.new.self.spare ≡ 0
+full g c = sym (ap (λ list. list.spare) c.self.view_is) ∙ omega (arith, (c.in_err-reserve.ensures).full, c.self.inside.pairs.ok.0, c.self.inside.pairs.ok.1)
+
+nothing_went : (g : _) (c : goal.After-from_residual g) → c.remove_expired.new.self.pairs ≡ c.args.self.now.pairs
+nothing_went g c =
+    let live = λ (pair : g.row.K.Denot × g.row.V.Denot). is_live g.K.ExpiredKey.expiration g.E.Ord.cmp c.args.time pair.0 in
+    c.remove_expired.ensures.live ∙ filter_same_length live c.args.self.now.pairs (omega (arith, full g c, c.remove_expired.ensures.room, ap length c.remove_expired.ensures.live, length-filter_le live c.args.self.now.pairs))
+
+pub returns-in_err-reserve-clause-with_spare : goal.returns-in_err-reserve-clause-with_spare
+returns-in_err-reserve-clause-with_spare g c room =
+    absurd (omega (arith, full g c, c.remove_expired.ensures.room, ap length (nothing_went g c)))
+
+pub returns-in_err-reserve-clause-with_expired : goal.returns-in_err-reserve-clause-with_expired
+returns-in_err-reserve-clause-with_expired g c expired =
+    let live = λ (pair : g.row.K.Denot × g.row.V.Denot). is_live g.K.ExpiredKey.expiration g.E.Ord.cmp c.args.time pair.0 in
+    absurd (omega (arith, length-filter_lt live c.args.self.now.pairs expired, ap length c.remove_expired.ensures.live, ap length (nothing_went g c)))
+
+pub returns-in_err-reserve-clause-err : goal.returns-in_err-reserve-clause-err
+returns-in_err-reserve-clause-err g c =
+    MatchResult-from_err c.from_residual.result _ _ c.from_residual.ensures.0 (λ _.
+    same_contents
+    ((c.in_err-reserve.ensures).items ∙ ap (λ list. list.pairs) c.self.view_is ∙ nothing_went g c)
+    (omega (arith, full g c, c.remove_expired.ensures.room, ap length (nothing_went g c), (c.in_err-reserve.ensures).err, (c.in_err-reserve.ensures).full, (c.in_err-reserve.ensures).len, c.self.inside.pairs.ok.1)))
+
+-- what an insertion that has room leaves: the pair has joined the live ones at its place
+live_items : (g : _) (c : goal.After-self-1 g) → c.self.inside.pairs.items ≡ live_pairs g.K.ExpiredKey.expiration g.E.Ord.cmp c.args.time c.args.self.now.pairs
+live_items g c = ap (λ list. list.pairs) c.self.view_is ∙ c.remove_expired.ensures.live
+
+slice_items : (g : _) (c : goal.After-self-1 g) → c.deref.result.now ≡ c.self.inside.pairs.items
+slice_items g c = c.deref.ensures.value ∙ (c.in_ok-reserve.ensures).items
+
+inserted : (g : _) (c : goal.After-self-1 g) → c.insert.new.self.items ≡ insert c.self.inside.pairs.items c.place_of-place.result (c.args.key, c.args.val)
+inserted g c = (rw c.unwrap.ensures at c.insert.ensures.items) ∙ ap (λ pairs. insert pairs c.place_of-place.result (c.args.key, c.args.val)) (c.in_ok-reserve.ensures).items
+
+pub returns-clause-joins_live : goal.returns-clause-joins_live
+returns-clause-joins_live g c =
+    (c.place_of-place.result, omega (arith, c.place_of-place.ensures.within, ap length (slice_items g c), ap length (live_items g c)), inserted g c ∙ ap (λ pairs. insert pairs c.place_of-place.result (c.args.key, c.args.val)) (live_items g c))
+
+pub returns-clause-ok : goal.returns-clause-ok
+returns-clause-ok g c =
+    let live = λ (pair : g.row.K.Denot × g.row.V.Denot). is_live g.K.ExpiredKey.expiration g.E.Ord.cmp c.args.time pair.0 in
+    (live_pairs g.K.ExpiredKey.expiration g.E.Ord.cmp c.args.time c.args.self.now.pairs, Without-filter live c.args.self.now.pairs, returns-clause-joins_live g c)
+
+rising : (g : _) (c : goal.After-self-1 g) → IsRising g.K.Ord.cmp c.insert.new.self.items
+rising g c =
+    let cmp = g.K.Ord.cmp in
+    let at_place = subst (λ pairs. IsPartitionPoint (λ (pair : g.row.K.Denot × g.row.V.Denot). cmp pair.0 c.args.key ≡ Less) (λ pair. cmp pair.0 c.args.key ≢ Less) pairs c.place_of-place.result) (slice_items g c) c.place_of-place.ensures.splits in
+    rw (inserted g c)
+    (IsRising-insert g.met.K.Ord.total c.self.inside.pairs.items (c.args.key, c.args.val) c.place_of-place.result c.self.invariant.0 at_place
+    (omega (arith, c.place_of-place.ensures.within, ap length (slice_items g c)))
+    (subst (λ pairs. NoKey cmp pairs c.args.key) (sym (live_items g c)) c.requires))
+
+pub returns-clause-rising : goal.returns-clause-rising
+returns-clause-rising g c = rising g c
+
+pub invariant_of-self-2 : goal.invariant_of-self-2
+invariant_of-self-2 g c = (
+  rising g c,
+  rw (inserted g c, c.min-self-inside.ensures, c.expiration.ensures)
+      (NoneExpiresBefore-insert g.met.E.Ord.total g.K.ExpiredKey.expiration c.self.inside.earliest c.self.inside.pairs.items c.place_of-place.result (c.args.key, c.args.val) c.self.invariant.1),
+)

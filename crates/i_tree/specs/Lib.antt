@@ -1,0 +1,5 @@
+pub mod Answer
+pub mod Change
+pub mod KeyExpList
+pub mod Live
+pub mod Pairs

@@ -1,0 +1,37 @@
+ghost use Rattle.std.specs.Prelude.{◌≡◌, List, OnOk, OnErr, MatchBool};
+ghost use Rattle.i_tree.specs.Live.{live_pairs, IsExpired};
+ghost use Rattle.i_tree.specs.Pairs.{HasKey, NoKey, IsRising};
+ghost use Rattle.i_tree.specs.Answer.{Below};
+ghost use Rattle.i_tree.specs.Change.{Without, Gains};
+
+use crate::{Expiration, ExpiredKey, Refusal};
+
+/// A collection of keys that expire, each with a value.
+///
+/// A key is live at each time before its expiration. At the equal moment it is expired. A call removes expired
+/// keys only, and answers from the live ones. Each call stands for itself: times may go back.
+pub trait KeyExpCollection<K: ExpiredKey<E>, E: Expiration, V: Copy> {
+    /// The pairs that are stored, expired ones among them.
+    ghost stored: { Self → List (K × V) };
+
+    /// Stores the pair, whatever its expiration.
+    ///
+    /// `contains_key` is the test of the condition: no key that is live at `time` compares Equal. A refusal leaves
+    /// what is stored as it was.
+    fn insert(&mut self, key: K, val: V, time: E) -> Result<(), Refusal>
+        requires { NoKey K.cmp (live_pairs K.expiration E.cmp time (stored self.old)) key }
+        ensures ok { OnOk result (Gains (IsExpired K.expiration E.cmp time) (key, val) (stored self.old) (stored self.new)) }
+        ensures err { OnErr result (stored self.new ≡ stored self.old) }
+        ensures rising { IsRising K.cmp (stored self.new) };
+
+    /// The value of the greatest live key below `key`, or `default` where no live key is below it.
+    fn first_less(&mut self, time: E, default: V, key: K) -> V
+        ensures value { Below K.cmp (live_pairs K.expiration E.cmp time (stored self.old)) key default result }
+        ensures kept { Without (IsExpired K.expiration E.cmp time) (stored self.old) (stored self.new) }
+        ensures rising { IsRising K.cmp (stored self.new) };
+
+    /// Whether a key that is live at `time` compares Equal to `key`.
+    fn contains_key(&self, time: E, key: K) -> bool
+        ensures cases { MatchBool result (HasKey K.cmp (live_pairs K.expiration E.cmp time (stored self.now)) key) (NoKey K.cmp (live_pairs K.expiration E.cmp time (stored self.now)) key) }
+        ensures rising { IsRising K.cmp (stored self.now) };
+}

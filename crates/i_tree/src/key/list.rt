@@ -1,0 +1,114 @@
+ghost use Rattle.std.specs.Prelude.{◌≡◌, ◌≤◌, ◌<◌, ◌+◌, ℕ, List, [], All, Any, length, IsOk, OnOk, OnErr, IfOk, IfErr, MatchBool};
+ghost use Rattle.i_tree.specs.Answer.{Below};
+ghost use Rattle.i_tree.specs.Change.{Joins, Gains, Without};
+ghost use Rattle.i_tree.specs.Live.{live_pairs, IsExpired};
+ghost use Rattle.i_tree.specs.Pairs.{HasKey, NoKey, IsRising};
+
+use super::exp::KeyExpCollection;
+use super::live::{earliest_expiration, keep_live};
+use super::sorted::{has_live_key, place_of, value_below};
+use crate::{Expiration, ExpiredKey, Refusal};
+use std::alloc::Allocator;
+use std::marker::Model;
+
+/// A sorted vector of keys that expire, each with a value.
+///
+/// Contracts see the stored pairs by rising key, and `spare`, for how many more there is room.
+#[derive(Drop)]
+pub struct KeyExpList<K: ExpiredKey<E>, E: Expiration, V: Copy, A: Allocator + Copy> {
+    pairs: Vec<(K, V), A>,
+    // No stored key expires before it, so at each earlier time all of them are live.
+    earliest: E,
+}
+
+impl<K: ExpiredKey<E>, E: Expiration, V: Copy, A: Allocator + Copy> Model
+    for KeyExpList<K, E, V, A> {
+    ghost use Rattle.std.specs.Prelude.{◌-◌, vec_len, vec_capacity};
+    ghost use Rattle.i_tree.specs.KeyExpList.{Contents};
+    ghost use Rattle.i_tree.specs.Live.{NoneExpiresBefore};
+    ghost use Rattle.i_tree.specs.Pairs.{IsRising};
+
+    ghost Value = { Contents K V };
+
+    ghost view = { λ list. record {
+      pairs = list.pairs.items;
+      spare = vec_capacity list.pairs - vec_len list.pairs;
+    } };
+
+    ghost invariant = { λ list. IsRising K.cmp list.pairs.items × NoneExpiresBefore K.expiration E.cmp list.earliest list.pairs.items };
+}
+
+impl<K: ExpiredKey<E>, E: Expiration, V: Copy, A: Allocator + Copy> KeyExpList<K, E, V, A> {
+    /// An empty list with room for at least `capacity` pairs, refused where the allocator refuses that room.
+    pub fn new(alloc: A, capacity: usize) -> Result<Self, Refusal>
+        ensures empty { IfOk result (λ list. list.pairs ≡ []) }
+        ensures room { IfOk result (λ list. capacity ≤ list.spare) }
+        ensures refused { IfErr result (λ cause. cause ≡ Refusal.OutOfMemory) }
+        ensures takes_none { capacity ≡ 0 → IsOk result }
+    {
+        Ok(KeyExpList {
+            pairs: Vec::with_capacity(alloc, capacity)?,
+            earliest: E::max_expiration(),
+        })
+    }
+
+    // Removes what is expired at `time`, unless the bound says that nothing is.
+    fn remove_expired(&mut self, time: E)
+        ensures live { self.new.pairs ≡ live_pairs K.expiration E.cmp time self.old.pairs }
+        ensures rising { IsRising K.cmp self.new.pairs }
+        ensures room { length self.new.pairs + self.new.spare ≡ length self.old.pairs + self.old.spare }
+    {
+        if self.earliest > time {
+            return;
+        }
+        keep_live(&mut self.pairs, time);
+        self.earliest = earliest_expiration(&self.pairs);
+    }
+}
+
+impl<K: ExpiredKey<E>, E: Expiration, V: Copy, A: Allocator + Copy> KeyExpCollection<K, E, V>
+    for KeyExpList<K, E, V, A> {
+    ghost stored = { λ list. list.pairs };
+
+    /// Removes what is expired at `time`, and then stores the pair.
+    ///
+    /// It is refused for want of memory alone: never while there is room, nor where an expired pair makes room.
+    /// A refusal changes nothing at all.
+    fn insert(&mut self, key: K, val: V, time: E) -> Result<(), Refusal>
+        requires { NoKey K.cmp (live_pairs K.expiration E.cmp time self.old.pairs) key }
+        ensures ok { OnOk result (Gains (IsExpired K.expiration E.cmp time) (key, val) self.old.pairs self.new.pairs) }
+        ensures joins_live { OnOk result (Joins (key, val) (live_pairs K.expiration E.cmp time self.old.pairs) self.new.pairs) }
+        ensures err { OnErr result (self.new ≡ self.old) }
+        ensures rising { IsRising K.cmp self.new.pairs }
+
+        // When it is refused, and that the room never shrinks.
+        ensures refused { IfErr result (λ cause. cause ≡ Refusal.OutOfMemory) }
+        ensures with_spare { 0 < self.old.spare → IsOk result }
+        ensures with_expired { Any (IsExpired K.expiration E.cmp time) self.old.pairs → IsOk result }
+        ensures room { length self.old.pairs + self.old.spare ≤ length self.new.pairs + self.new.spare }
+    {
+        self.remove_expired(time);
+        self.pairs.reserve(1)?;
+        let place = place_of(&self.pairs, &key);
+        self.pairs.insert(place, (key, val)).unwrap();
+        self.earliest = self.earliest.min(key.expiration());
+        Ok(())
+    }
+
+    /// Removes what is expired at `time`, and answers the value of the greatest key below `key`, or `default`
+    /// where none is below it.
+    fn first_less(&mut self, time: E, default: V, key: K) -> V
+        ensures value { Below K.cmp (live_pairs K.expiration E.cmp time self.old.pairs) key default result }
+        ensures kept { Without (IsExpired K.expiration E.cmp time) self.old.pairs self.new.pairs }
+        ensures keeps_live { self.new.pairs ≡ live_pairs K.expiration E.cmp time self.old.pairs }
+        ensures rising { IsRising K.cmp self.new.pairs }
+        ensures room { length self.new.pairs + self.new.spare ≡ length self.old.pairs + self.old.spare }
+    {
+        self.remove_expired(time);
+        value_below(&self.pairs, &key, default)
+    }
+
+    fn contains_key(&self, time: E, key: K) -> bool {
+        has_live_key(&self.pairs, time, &key)
+    }
+}

@@ -1,0 +1,6 @@
+//! Keys with an expiration.
+
+pub mod exp;
+pub mod list;
+mod live;
+mod sorted;

@@ -1,0 +1,76 @@
+//! The containers of a sweep line: keys that expire, in a sorted list.
+//!
+//! A port of the Rust crate `i_tree`. Each call is proved to answer from a plain list of pairs.
+#![tactic(auto)]
+
+ghost use Rattle.std.specs.Prelude.{◌≡◌};
+ghost use Rattle.i_tree.specs.declared.Refusal.TheVariants.{OutOfMemory};
+
+pub mod key;
+
+use std::alloc::AllocError;
+
+/// The handle that stands for no entry. It is never the handle of one.
+pub const EMPTY_REF: u32 = u32::MAX;
+
+/// Why a call that takes memory or a handle was refused.
+#[derive(Clone, Copy, Debug, PartialEq, Eq)]
+pub enum Refusal {
+    /// A growth was refused by the allocator.
+    OutOfMemory,
+    /// Every handle is in use.
+    NoHandle,
+}
+
+impl From<AllocError> for Refusal {
+    ghost from_gives = { λ _ refusal. refusal ≡ OutOfMemory };
+
+    fn from(_refused: AllocError) -> Refusal {
+        Refusal::OutOfMemory
+    }
+}
+
+/// A refusal that hands the refused value back.
+#[derive(Debug, Drop)]
+pub struct Refused<V> {
+    /// The value that was not taken.
+    pub value: V,
+    /// Why it was not taken.
+    pub cause: Refusal,
+}
+
+/// A type of times, in the order of `Ord`.
+pub trait Expiration: Copy + Ord {
+    /// A time after which the caller lets nothing expire, as the greatest of the type.
+    ///
+    /// No answer depends on it: any value of the type will do.
+    fn max_expiration() -> Self;
+}
+
+impl Expiration for i32 {
+    fn max_expiration() -> Self
+        ensures { result ≡ i32.MAX }
+    {
+        i32::MAX
+    }
+}
+
+/// A key that expires. Keys that compare Equal are one place, whatever their expirations.
+pub trait ExpiredKey<E: Expiration>: Copy + Ord {
+    /// The time at which the key is no longer live. It depends on the key alone.
+    ghost expiration: { Self → E };
+
+    /// The time at which the key is no longer live.
+    fn expiration(&self) -> E
+        ensures { result ≡ expiration self.now };
+}
+
+/// A value that expires.
+pub trait ExpiredVal<E: Expiration>: Copy {
+    /// The last time at which the value is live. It depends on the value alone.
+    ghost expiration: { Self → E };
+
+    /// The last time at which the value is live.
+    fn expiration(&self) -> E
+        ensures { result ≡ expiration self.now };
+}
