@@ -1,0 +1,7 @@
+//! For tests alone: worked examples of the public calls of `i_tree`.
+#![tactic(auto)]
+
+#[cfg(test)]
+mod key_lists;
+#[cfg(test)]
+mod timed_key;
