@@ -1,0 +1,58 @@
+-- What holds of a list by its members alone.
+use Rattle.std.proofs.Common.{◌≡◌, ◌≢◌, zero, suc, Bool, true, List, [], ◌∷◌, get_or, sym, ap, ◌∙◌, inl, inr, arith}
+use Rattle.std.specs.declared.cmp.Ordering.{Ordering}
+use Rattle.std.specs.declared.cmp.Ordering.TheVariants.{Equal, Greater}
+use Rattle.std.specs.List.{All, Any, Contains, filter}
+use Rattle.std.proofs.lemmas.Bool.{cond_both}
+use Rattle.std.proofs.lemmas.List.Elements.{All-contains, Contains-get_or}
+use Rattle.i_tree.specs.Answer.{GreatestOr}
+use Rattle.i_tree.specs.Pairs.{HasKey, NoKey}
+
+module _ {X : Type 0} where
+  -- each member of the first list is one of the second
+  abbrev pub Within : List X → List X → Type 0
+  Within xs ys = (x : X) → Contains xs x → Contains ys x
+
+  pub All-within : (P : X → Type 0) (xs ys : List X) → Within ys xs → All P xs → All P ys
+  All-within P xs ys within h k d inside = All-contains P xs (get_or ys k d) h (within (get_or ys k d) (Contains-get_or ys k d inside))
+
+  pub Any-within : (P : X → Type 0) (xs ys : List X) → Within xs ys → Any P xs → Any P ys
+  Any-within P xs ys within (k, x, inside, is, p) =
+      let found = within x (k, inside, is) in
+      (found.0, x, found.1, found.2, p)
+
+  -- what a filter keeps is a member that passes
+  pub Contains-from_filter : (p : X → Bool) (xs : List X) (x : X) → Contains (filter p xs) x → Contains xs x × (p x ≡ true)
+  Contains-from_filter p [] x (k, inside, is) = absurd (omega arith)
+  Contains-from_filter p (y ∷ ys) x h = by_test (Contains-from_filter p ys x) h
+    where
+      there : Contains ys x × (p x ≡ true) → Contains (y ∷ ys) x × (p x ≡ true)
+      there ((k, inside, is), passes) = ((suc k, omega arith, is), passes)
+
+      at_kept : (Contains (filter p ys) x → Contains ys x × (p x ≡ true)) → p y ≡ true → Contains (y ∷ filter p ys) x → Contains (y ∷ ys) x × (p x ≡ true)
+      at_kept rest passes (zero, inside, is) = ((0, omega arith, is), sym (ap p is) ∙ passes)
+      at_kept rest passes (suc k, inside, is) = there (rest (k, omega arith, is))
+
+      by_test : (Contains (filter p ys) x → Contains ys x × (p x ≡ true)) → Contains (filter p (y ∷ ys)) x → Contains (y ∷ ys) x × (p x ≡ true)
+      by_test rest =
+          cond_both (p y) (y ∷ filter p ys) (filter p ys) (λ zs. Contains zs x → Contains (y ∷ ys) x × (p x ≡ true)) (at_kept rest) (λ _ h. there (rest h))
+
+module _ {K V : Type 0} (cmp : K → K → Ordering) (xs ys : List (K × V)) (into : Within xs ys) (back : Within ys xs) where
+  pub HasKey-members : (key : K) → HasKey cmp xs key → HasKey cmp ys key
+  HasKey-members key = Any-within (λ pair. cmp pair.0 key ≡ Equal) xs ys into
+
+  pub NoKey-members : (key : K) → NoKey cmp xs key → NoKey cmp ys key
+  NoKey-members key = All-within (λ pair. cmp pair.0 key ≢ Equal) xs ys back
+
+  pub GreatestOr-members : (P : K → Type 0) (default value : V) → GreatestOr cmp P xs default value → GreatestOr cmp P ys default value
+  GreatestOr-members P default value (inl (pair, greatest, is)) =
+      inl (
+        pair,
+        record {
+          contained = into pair greatest.contained;
+          meets = greatest.meets;
+          none_above = All-within (λ other. P other.0 → cmp other.0 pair.0 ≢ Greater) xs ys back greatest.none_above;
+        },
+        is,
+      )
+  GreatestOr-members P default value (inr (none_meets, is)) = inr (All-within (λ pair. ¬ (P pair.0)) xs ys back none_meets, is)

@@ -1,0 +1,5 @@
+pub mod KeyMachine
+pub mod Modes
+pub mod Replies
+pub mod StandsFor
+pub mod Words

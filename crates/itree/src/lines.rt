@@ -1,0 +1,116 @@
+//! Lines of text, as commands and as replies.
+
+ghost use Rattle.std.specs.Prelude.{◌≡◌, ◌≢◌, ◌++◌, ◌⊎◌, ℤ, flat_map, IfErr, IfOk, IfSome, IsNone, OnOk, string_bytes};
+ghost use Rattle.itree.specs.Replies.{reply_line};
+ghost use Rattle.itree.specs.Words.{Reads};
+
+use crate::fault::Fault;
+use crate::run::{KeyCommand, KeyReply};
+use crate::timed_key::TimedKey;
+use std::alloc::{AllocError, Allocator};
+use std::str;
+
+/// A command of a line: keys, expirations, values and times are whole numbers.
+pub type LineCommand = KeyCommand<TimedKey, i32, i32>;
+
+/// The commands of a text, in order. A line feed ends a line, and the last line may lack it.
+///
+/// A line without words has no command, and counts in the numbers of the lines. The answer is `Fault::Line` with the
+/// number of the first faulty line, or `Fault::Stopped` where memory was refused before that line.
+pub fn parse_commands<A: Allocator + Copy>(
+    alloc: A,
+    text: &[u8],
+) -> Result<Vec<LineCommand, A>, Fault>
+    ensures { IfErr result (λ fault. fault ≢ Fault.Arguments) }
+{
+    let mut commands = Vec::new(alloc);
+    for (index, line) in text.split(|byte| *byte == b'\n').enumerate() {
+        if let Some(command) = parse_line(alloc, index + 1, line)? {
+            commands.push(command)?;
+        }
+    }
+    Ok(commands)
+}
+
+// The command of the line of this number, or `None` where the line has no words.
+fn parse_line<A: Allocator>(
+    alloc: A,
+    number: usize,
+    line: &[u8],
+) -> Result<Option<LineCommand>, Fault>
+    ensures { IfErr result (λ fault. (fault ≡ Fault.Line number) ⊎ (fault ≡ Fault.Stopped)) }
+{
+    let text = ascii_text(line).ok_or(Fault::Line(number))?;
+    let words: Vec<&str, A> = text.split_ascii_whitespace().collect(alloc)?;
+    if words.is_empty() {
+        return Ok(None);
+    }
+    let command = parse_words(&words).ok_or(Fault::Line(number))?;
+    Ok(Some(command))
+}
+
+// The line as text, unless a byte lies outside ASCII.
+fn ascii_text(line: &[u8]) -> Option<&str> {
+    if !line.is_ascii() {
+        return None;
+    }
+    str::from_utf8(line).ok()
+}
+
+// The command of these words, where they are one.
+fn parse_words(words: &[&str]) -> Option<LineCommand> {
+    match words {
+        ["insert", key, expiration, val, time] => Some(KeyCommand::Insert {
+            key: TimedKey {
+                key: number(key)?,
+                expiration: number(expiration)?,
+            },
+            val: number(val)?,
+            time: number(time)?,
+        }),
+        ["less", time, default, key] => Some(KeyCommand::Less {
+            time: number(time)?,
+            default: number(default)?,
+            key: TimedKey {
+                key: number(key)?,
+                expiration: i32::MAX,
+            },
+        }),
+        _ => None,
+    }
+}
+
+// The number that a word is read as.
+fn number(word: &str) -> Option<i32>
+    ensures read { IfSome result (Reads word.now) }
+    ensures unread { IsNone result → (number : ℤ) → ¬ (Reads word.now number) }
+{
+    word.parse().ok()
+}
+
+/// One line for each reply, in order. A refusal is `refused`, whatever its cause.
+pub fn reply_text<A: Allocator>(
+    alloc: A,
+    replies: &[KeyReply<i32>],
+) -> Result<String<A>, AllocError>
+    ensures { IfOk result (λ text. string_bytes text ≡ flat_map reply_line replies.now) }
+{
+    let mut text = String::new(alloc);
+    for reply in replies {
+        push_reply(&mut text, *reply)?;
+    }
+    Ok(text)
+}
+
+// Appends the line of a reply.
+fn push_reply<A: Allocator>(text: &mut String<A>, reply: KeyReply<i32>) -> Result<(), AllocError>
+    ensures { OnOk result (string_bytes text.new ≡ string_bytes text.old ++ reply_line reply) }
+{
+    match reply {
+        KeyReply::Inserted => text.push_str("inserted\n"),
+        KeyReply::Present => text.push_str("present\n"),
+        KeyReply::Late => text.push_str("late\n"),
+        KeyReply::Refused(_) => text.push_str("refused\n"),
+        KeyReply::Value(val) => writeln!(text, "value {val}"),
+    }
+}

@@ -1,0 +1,113 @@
+//! The whole program, over any reader, any writers and any allocator.
+
+ghost use Rattle.std.specs.Prelude.{◌≡◌, ◌≢◌, ◌≤◌, ◌↔◌, IsTrue, IfErr};
+ghost use Rattle.itree.specs.Modes.{NamesMode};
+
+use crate::fault::Fault;
+use crate::lines::{parse_commands, reply_text};
+use crate::run::run_keys;
+use i_tree::key::list::KeyExpList;
+use std::alloc::{Allocator, Global};
+use std::io::{Read, Write};
+
+#[cfg(test)]
+mod tests;
+
+/// Runs the program: reads all of `input`, and writes one reply line for each command to `output`.
+///
+/// `words` are the arguments without the program's name, `faults` stands for standard error, and the answer is the
+/// process's status:
+///
+/// - 0 where all replies were written and flushed. A pair that was refused for want of memory is a reply too.
+/// - 1 where reading, writing, flushing or memory outside the commands failed; nothing goes to `faults`, and a failed
+///   write may have taken a part of the replies.
+/// - 2 where the words name no mode, before any input is read, and where a line is faulty, before any command is run.
+///   `faults` is told which, and whether it takes that changes nothing.
+pub fn run_itree<I: Read, O: Write, X: Write>(
+    alloc: Global,
+    words: &[&str],
+    input: &mut I,
+    output: &mut O,
+    faults: &mut X,
+) -> u8
+    ensures status { result ≤ 2 }
+    ensures no_replies { result ≡ 2 → output.new ≡ output.old }
+    ensures no_fault { result ≢ 2 → faults.new ≡ faults.old }
+    ensures faulty_words { ¬ (NamesMode words.now) → result ≡ 2 }
+    ensures unread { ¬ (NamesMode words.now) → input.new ≡ input.old }
+{
+    run_over(alloc, words, input, output, faults)
+}
+
+/// As `run_itree`, with the memory of any allocator.
+pub fn run_over<A: Allocator + Copy, I: Read, O: Write, X: Write>(
+    alloc: A,
+    words: &[&str],
+    input: &mut I,
+    output: &mut O,
+    faults: &mut X,
+) -> u8
+    ensures status { result ≤ 2 }
+    ensures no_replies { result ≡ 2 → output.new ≡ output.old }
+    ensures no_fault { result ≢ 2 → faults.new ≡ faults.old }
+    ensures faulty_words { ¬ (NamesMode words.now) → result ≡ 2 }
+    ensures unread { ¬ (NamesMode words.now) → input.new ≡ input.old }
+{
+    match serve(alloc, words, input, output) {
+        Ok(()) => 0,
+        Err(Fault::Stopped) => 1,
+        Err(Fault::Arguments) => {
+            let _ = faults.write_all(b"itree: arguments\n");
+            2
+        }
+        Err(Fault::Line(number)) => {
+            let _ = writeln!(faults, "itree: line {number}");
+            2
+        }
+    }
+}
+
+// Whether the words name the mode of keys in a list.
+fn is_keylist(words: &[&str]) -> bool
+    ensures { IsTrue result ↔ NamesMode words.now }
+{
+    matches!(words, ["keylist"])
+}
+
+// Writes the replies to `input`, all at once.
+fn serve<A: Allocator + Copy, I: Read, O: Write>(
+    alloc: A,
+    words: &[&str],
+    input: &mut I,
+    output: &mut O,
+) -> Result<(), Fault>
+    ensures unwritten { IfErr result (λ fault. fault ≢ Fault.Stopped → output.new ≡ output.old) }
+    ensures faulty_words { (result ≡ Err Fault.Arguments) ↔ ¬ (NamesMode words.now) }
+    ensures unread { ¬ (NamesMode words.now) → input.new ≡ input.old }
+{
+    let replies = answer(alloc, words, input)?;
+    output.write_all(replies.as_bytes())?;
+    output.flush()?;
+    Ok(())
+}
+
+// The text of the replies to all of `input`.
+fn answer<A: Allocator + Copy, I: Read>(
+    alloc: A,
+    words: &[&str],
+    input: &mut I,
+) -> Result<String<A>, Fault>
+    ensures faulty_words { (result ≡ Err Fault.Arguments) ↔ ¬ (NamesMode words.now) }
+    ensures unread { ¬ (NamesMode words.now) → input.new ≡ input.old }
+{
+    if !is_keylist(words) {
+        return Err(Fault::Arguments);
+    }
+    let mut text = Vec::new(alloc);
+    input.read_to_end(&mut text)?;
+    let commands = parse_commands(alloc, &text)?;
+    let mut list = KeyExpList::new(alloc, 0)?;
+    let mut replies = Vec::new(alloc);
+    run_keys(&mut list, &commands, &mut replies)?;
+    Ok(reply_text(alloc, &replies)?)
+}

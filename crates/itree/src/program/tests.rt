@@ -1,0 +1,338 @@
+//! Tests of the whole program over memory, with what no contract says: the texts, and what goes wrong outside.
+
+use super::*;
+use refusing::Refusing;
+use std::io::{self, ErrorKind};
+use std::process::Abort;
+use std::test::Fail;
+
+const COMMANDS: &str = "insert 0 10 0 0\ninsert 3 10 3 0\nless 0 -1 4\nless 0 -1 0\n";
+
+const REPLIES: &str = "inserted\ninserted\nvalue 3\nvalue -1\n";
+
+// What a run over memory gave.
+#[derive(Drop)]
+struct Outcome {
+    status: u8,
+    output: Vec<u8>,
+    faults: Vec<u8>,
+}
+
+fn outcome_of(alloc: Global, words: &[&str], input: &mut impl Read) -> Outcome {
+    let mut output = Vec::new(alloc);
+    let mut faults = Vec::new(alloc);
+    let status = run_itree(alloc, words, input, &mut output, &mut faults);
+    Outcome {
+        status,
+        output,
+        faults,
+    }
+}
+
+// Gives its bytes and then fails, and counts how often it is asked.
+#[derive(Drop)]
+struct BrokenReader<'a> {
+    bytes: &'a [u8],
+    reads: usize,
+}
+
+impl Read for BrokenReader<'_> {
+    fn read(&mut self, buf: &mut [u8]) -> io::Result<usize> {
+        self.reads = self.reads.saturating_add(1);
+        match self.bytes.read(buf)? {
+            0 => Err(io::Error::from(ErrorKind::BrokenPipe)),
+            count => Ok(count),
+        }
+    }
+}
+
+// Takes what is written, and fails to flush it.
+#[derive(Drop)]
+struct Unflushed {
+    taken: Vec<u8>,
+}
+
+impl Write for Unflushed {
+    fn write(&mut self, buf: &[u8]) -> io::Result<usize> {
+        self.taken.write(buf)
+    }
+
+    fn flush(&mut self) -> io::Result<()> {
+        Err(io::Error::from(ErrorKind::StorageFull))
+    }
+}
+
+#[test]
+fn answers_each_command_by_a_line(rt: HostRuntime) {
+    for (input, replies) in [
+        (COMMANDS, REPLIES),
+        ("", ""),
+        ("\n \t\r\n\n", ""),
+        (
+            "insert 4 1 40 0\n\ninsert 4 9 41 1\nless 1 -1 5\n",
+            "inserted\ninserted\nvalue 41\n",
+        ),
+        (
+            "\tinsert  +4 9\x0c-40 -0\r\nless 0 007 5",
+            "inserted\nvalue -40\n",
+        ),
+        (
+            "insert 2147483647 2147483647 -2147483648 -2147483648\nless 2147483646 0 2147483647\nless 0 1 2\n",
+            "inserted\nvalue 0\nlate\n",
+        ),
+    ] {
+        let outcome = outcome_of(rt.alloc(), &["keylist"], &mut input.as_bytes());
+        assert_eq!(rt; outcome.status, 0, "at {input:?}");
+        assert_eq!(rt;
+            outcome.output.as_slice(),
+            replies.as_bytes(),
+            "at {input:?}"
+        );
+        assert!(rt; outcome.faults.is_empty(), "at {input:?}");
+    }
+}
+
+#[test]
+fn names_the_first_faulty_line_and_runs_nothing(rt: HostRuntime) {
+    for (input, fault) in [
+        (
+            b"insert 0 10 0 0\nless 0 -1\n".as_slice(),
+            "itree: line 2\n",
+        ),
+        (b"less 0 -1 4\n\nless 0 -1 2147483648\n", "itree: line 3\n"),
+        (b"less 0 -2147483649 4\n", "itree: line 1\n"),
+        (b"\n\nfind 4\nless\n", "itree: line 3\n"),
+        (b"Insert 0 10 0 0\n", "itree: line 1\n"),
+        (b"insert 0 10 0\n", "itree: line 1\n"),
+        (b"insert 0 10 0 0 0\n", "itree: line 1\n"),
+        (b"less 0 -1 4 4\n", "itree: line 1\n"),
+        (b"less 0 - 4\n", "itree: line 1\n"),
+        (b"less 0 1.5 4\n", "itree: line 1\n"),
+        (b"less 0 x 4", "itree: line 1\n"),
+        (b"less 0 -1 4\n\xc2\xa0\n", "itree: line 2\n"),
+        (b"less 0 -1 \xff4\n", "itree: line 1\n"),
+        (b"less\x0b0 -1 4\n", "itree: line 1\n"),
+    ] {
+        let outcome = outcome_of(rt.alloc(), &["keylist"], &mut { input });
+        assert_eq!(rt; outcome.status, 2, "at {input:?}");
+        assert_eq!(rt; outcome.faults.as_slice(), fault.as_bytes(), "at {input:?}");
+        assert!(rt; outcome.output.is_empty(), "at {input:?}");
+    }
+}
+
+#[test]
+fn refuses_other_arguments_before_it_reads(rt: HostRuntime) {
+    for words in [
+        [].as_slice(),
+        &["keylist", "keylist"],
+        &["keylist", ""],
+        &[""],
+        &["keytree"],
+        &["Keylist"],
+        &["keylist "],
+    ] {
+        let mut input = BrokenReader {
+            bytes: b"",
+            reads: 0,
+        };
+        let outcome = outcome_of(rt.alloc(), words, &mut input);
+        assert_eq!(rt; outcome.status, 2, "at {words:?}");
+        assert_eq!(rt;
+            outcome.faults.as_slice(),
+            b"itree: arguments\n".as_slice(),
+            "at {words:?}"
+        );
+        assert!(rt; outcome.output.is_empty(), "at {words:?}");
+        assert_eq!(rt; input.reads, 0, "at {words:?}");
+    }
+}
+
+#[test]
+fn stops_where_a_stream_fails(rt: HostRuntime) {
+    // A reader that fails after some lines, a faulty one among them.
+    let mut input = BrokenReader {
+        bytes: b"insert 0 10 0 0\nless\n",
+        reads: 0,
+    };
+    let outcome = outcome_of(rt.alloc(), &["keylist"], &mut input);
+    assert_eq!(rt; outcome.status, 1);
+    assert!(rt; outcome.output.is_empty() && outcome.faults.is_empty());
+    assert!(rt; input.reads > 1);
+
+    // A writer with room for a part.
+    let mut room = *b"........";
+    let mut faults = Vec::new(rt.alloc());
+    let words = ["keylist"];
+    let status = run_itree(
+        rt.alloc(),
+        &words,
+        &mut COMMANDS.as_bytes(),
+        &mut &mut room[..5],
+        &mut faults,
+    );
+    assert_eq!(rt; status, 1);
+    assert_eq!(rt; room, *b"inser...");
+    assert!(rt; faults.is_empty());
+
+    // A flush that fails.
+    let mut output = Unflushed {
+        taken: Vec::new(rt.alloc()),
+    };
+    let status = run_itree(
+        rt.alloc(),
+        &words,
+        &mut COMMANDS.as_bytes(),
+        &mut output,
+        &mut faults,
+    );
+    assert_eq!(rt; status, 1);
+    assert_eq!(rt; output.taken.as_slice(), REPLIES.as_bytes());
+    assert!(rt; faults.is_empty());
+
+    // Standard error that takes only a part.
+    for words in [["keylist"], ["keytree"]] {
+        let mut taken = *b"........";
+        let mut output = Vec::new(rt.alloc());
+        let status = run_itree(
+            rt.alloc(),
+            &words,
+            &mut b"less".as_slice(),
+            &mut output,
+            &mut &mut taken[..5],
+        );
+        assert_eq!(rt; status, 2, "at {words:?}");
+        assert_eq!(rt; taken, *b"itree...", "at {words:?}");
+        assert!(rt; output.is_empty(), "at {words:?}");
+    }
+}
+
+#[test]
+fn survives_each_refused_request_for_memory(rt: HostRuntime) {
+    // The keys are more than a small vector holds, and the answer is the same whichever of them is refused.
+    let commands =
+        "insert 1 9 1 0\ninsert 2 9 2 0\ninsert 3 9 3 0\ninsert 4 9 4 0\ninsert 5 9 5 0\n\
+        insert 6 9 6 0\ninsert 7 9 7 0\ninsert 8 9 8 0\ninsert 9 9 9 0\nless 0 -1 1\n";
+    let replies =
+        "inserted\ninserted\ninserted\ninserted\ninserted\ninserted\ninserted\ninserted\ninserted\nvalue -1\n";
+    let memory = Refusing::new(rt.alloc());
+    let (mut has_stopped, mut has_refused, mut asked) = (false, false, 0);
+    for nth in 1..100 {
+        memory.refuse_nth(nth);
+        let outcome = outcome_over(&memory, rt.alloc(), commands);
+        asked = memory.requests();
+        assert!(rt; outcome.faults.is_empty(), "at request {nth}");
+        if outcome.status == 1 {
+            assert!(rt; outcome.output.is_empty(), "at request {nth}");
+            has_stopped = true;
+        } else {
+            assert_eq!(rt; outcome.status, 0, "at request {nth}");
+            has_refused |= refuses_an_insertion(&rt, &outcome.output, replies);
+        }
+        memory.refuse_none();
+        let again = outcome_over(&memory, rt.alloc(), commands);
+        assert_eq!(rt;
+            again.output.as_slice(),
+            replies.as_bytes(),
+            "after request {nth}"
+        );
+        if asked < nth {
+            break;
+        }
+    }
+    assert!(rt; asked > 0 && asked < 99);
+    assert!(rt; has_stopped && has_refused);
+}
+
+fn outcome_over(memory: &Refusing<Global>, alloc: Global, input: &str) -> Outcome {
+    let mut output = Vec::new(alloc);
+    let mut faults = Vec::new(alloc);
+    let status = run_over(
+        memory,
+        &["keylist"],
+        &mut input.as_bytes(),
+        &mut output,
+        &mut faults,
+    );
+    Outcome {
+        status,
+        output,
+        faults,
+    }
+}
+
+// Whether the output has `refused` in place of one `inserted` of the replies. All else is the same.
+fn refuses_an_insertion(rt: &impl Abort, output: &[u8], replies: &str) -> bool {
+    let text = str::from_utf8(output).expect(rt, "the output is text");
+    assert_eq!(rt; text.lines().count(), replies.lines().count());
+    let mut is_refused = false;
+    for (line, reply) in text.lines().zip(replies.lines()) {
+        if line != reply {
+            assert!(rt; !is_refused && line == "refused" && reply == "inserted");
+            is_refused = true;
+        }
+    }
+    is_refused
+}
+
+// Lines, each with the reply of the original crate's containers.
+const SAMPLE: [(&str, &str); 42] = [
+    ("insert 5 3 50 0", "inserted"),
+    ("insert 1 3 10 0", "inserted"),
+    ("insert 9 3 90 0", "inserted"),
+    ("less 0 -1 9", "value 50"),
+    ("insert 5 8 51 1", "present"),
+    ("insert 4 2 40 1", "inserted"),
+    ("", ""),
+    ("less 1 -1 5", "value 40"),
+    ("less 2 -1 5", "value 10"),
+    ("insert 4 9 41 2", "inserted"),
+    ("\tless  2 -1   +5 ", "value 41"),
+    ("insert 5 8 52 3", "inserted"),
+    ("less 3 -7 5", "value 41"),
+    ("less 3 -7 4", "value -7"),
+    ("less 3 -7 10", "value 52"),
+    ("less 2 0 10", "late"),
+    ("insert 7 9 70 2", "late"),
+    ("insert 7 5 70 5", "inserted"),
+    ("less 5 0 8", "value 52"),
+    ("insert 7 9 71 5", "inserted"),
+    ("less 5 0 8", "value 71"),
+    ("insert -2147483648 2147483647 -2147483648 5", "inserted"),
+    ("less 5 0 -2147483648", "value 0"),
+    ("less 5 0 -2147483647", "value -2147483648"),
+    ("insert 2147483647 2147483647 2147483647 5", "inserted"),
+    ("less 5 0 2147483647", "value 71"),
+    ("less 8 0 2147483647", "value 71"),
+    ("less 8 6 7", "value 41"),
+    ("insert 3 9 +30 8", "inserted"),
+    ("insert 3 10 31 8", "present"),
+    ("less 9 1 3", "value -2147483648"),
+    ("less 9 1 4", "value -2147483648"),
+    ("less 9 1 2147483647", "value -2147483648"),
+    ("insert 3 10 32 9", "inserted"),
+    ("less 9 -0 4", "value 32"),
+    ("insert 0 9 -5 9", "inserted"),
+    ("less 9 1 1", "value -2147483648"),
+    ("insert 0 007 -6 9", "inserted"),
+    ("less 2147483646 1 2147483647", "value -2147483648"),
+    ("insert 0 2147483647 7 2147483647", "inserted"),
+    ("less 2147483647 1 2147483647", "value 1"),
+    ("less 9 1 4", "late"),
+];
+
+#[test]
+fn answers_a_sample_as_the_original_does(rt: HostRuntime) -> Result<(), Fail> {
+    let mut input = String::new(rt.alloc());
+    let mut replies = String::new(rt.alloc());
+    for (line, reply) in SAMPLE {
+        writeln!(&mut input, "{line}")?;
+        if !reply.is_empty() {
+            writeln!(&mut replies, "{reply}")?;
+        }
+    }
+    let outcome = outcome_of(rt.alloc(), &["keylist"], &mut input.as_bytes());
+    assert_eq!(rt; outcome.status, 0);
+    assert_eq!(rt; outcome.output.as_slice(), replies.as_bytes());
+    assert!(rt; outcome.faults.is_empty());
+    Ok(())
+}
