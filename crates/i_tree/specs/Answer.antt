@@ -1,7 +1,8 @@
 -- What a query answers from a list of pairs, in whatever order the pairs stand. `cmp` compares keys.
-use Rattle.std.specs.Prelude.{◌≡◌, ◌≢◌, ◌⊎◌, List, All, Contains}
+use Rattle.std.specs.Prelude.{◌≡◌, ◌≢◌, ◌≤◌, ◌⊎◌, List, All, Any, Contains}
+use Rattle.std.specs.Ordering.{ordering_index}
 use Rattle.std.specs.declared.cmp.Ordering.{Ordering}
-use Rattle.std.specs.declared.cmp.Ordering.TheVariants.{Less, Greater}
+use Rattle.std.specs.declared.cmp.Ordering.TheVariants.{Less, Equal, Greater}
 
 module _ {K V : Type 0} (cmp : K → K → Ordering) where
   -- of the pairs whose keys meet P, this one has the greatest key
@@ -19,3 +20,18 @@ module _ {K V : Type 0} (cmp : K → K → Ordering) where
   -- the value of the greatest key below this one, or the default where none is below it
   abbrev pub Below : List (K × V) → K → V → V → Type 0
   Below pairs key default value = GreatestOr (λ other. cmp other key ≡ Less) pairs default value
+
+  -- the value of a key that the order calls Equal, else of the greatest that it calls Less, else the default
+  abbrev pub AtMost : List (K × V) → (K → Ordering) → V → V → Type 0
+  AtMost pairs order default value =
+      Any (λ pair. (order pair.0 ≡ Equal) × (value ≡ pair.1)) pairs
+      ⊎ (All (λ pair. order pair.0 ≢ Equal) pairs × GreatestOr (λ key. order key ≡ Less) pairs default value)
+
+  -- for two keys of the list, the lower one never comes after the other in the order Less, Equal, Greater
+  abbrev pub IsMonotone : (K → Ordering) → List (K × V) → Type 0
+  IsMonotone order pairs =
+      All (λ lower. All (λ upper. cmp lower.0 upper.0 ≡ Less → ordering_index (order lower.0) ≤ ordering_index (order upper.0)) pairs) pairs
+
+-- at each key of the list, whatever a closure may answer is what the order says
+abbrev pub AnswersBy : {K V : Type 0} → (K → Ordering → Type 0) → (K → Ordering) → List (K × V) → Type 0
+AnswersBy may_answer order pairs = All (λ pair. (answer : Ordering) → may_answer pair.0 answer → answer ≡ order pair.0) pairs

@@ -47,11 +47,75 @@ pub trait Expiration: Copy + Ord {
     fn max_expiration() -> Self;
 }
 
+impl Expiration for u8 {
+    fn max_expiration() -> Self
+        ensures { result ≡ u8.MAX }
+    {
+        u8::MAX
+    }
+}
+
+impl Expiration for i8 {
+    fn max_expiration() -> Self
+        ensures { result ≡ i8.MAX }
+    {
+        i8::MAX
+    }
+}
+
+impl Expiration for u16 {
+    fn max_expiration() -> Self
+        ensures { result ≡ u16.MAX }
+    {
+        u16::MAX
+    }
+}
+
+impl Expiration for i16 {
+    fn max_expiration() -> Self
+        ensures { result ≡ i16.MAX }
+    {
+        i16::MAX
+    }
+}
+
+impl Expiration for u32 {
+    fn max_expiration() -> Self
+        ensures { result ≡ u32.MAX }
+    {
+        u32::MAX
+    }
+}
+
 impl Expiration for i32 {
     fn max_expiration() -> Self
         ensures { result ≡ i32.MAX }
     {
         i32::MAX
+    }
+}
+
+impl Expiration for u64 {
+    fn max_expiration() -> Self
+        ensures { result ≡ u64.MAX }
+    {
+        u64::MAX
+    }
+}
+
+impl Expiration for i64 {
+    fn max_expiration() -> Self
+        ensures { result ≡ i64.MAX }
+    {
+        i64::MAX
+    }
+}
+
+impl Expiration for usize {
+    fn max_expiration() -> Self
+        ensures { result ≡ usize.MAX }
+    {
+        usize::MAX
     }
 }
 

@@ -1,3 +1,4 @@
+pub mod Knowing
 pub mod Members
 pub mod Serving
 pub mod Standing

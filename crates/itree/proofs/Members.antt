@@ -1,12 +1,15 @@
 -- What holds of a list by its members alone.
 use Rattle.std.proofs.Common.{◌≡◌, ◌≢◌, zero, suc, Bool, true, List, [], ◌∷◌, get_or, sym, ap, ◌∙◌, inl, inr, arith}
 use Rattle.std.specs.declared.cmp.Ordering.{Ordering}
-use Rattle.std.specs.declared.cmp.Ordering.TheVariants.{Equal, Greater}
+use Rattle.std.specs.declared.cmp.Ordering.TheVariants.{Less, Equal, Greater}
 use Rattle.std.specs.List.{All, Any, Contains, filter}
 use Rattle.std.proofs.lemmas.Bool.{cond_both}
 use Rattle.std.proofs.lemmas.List.Elements.{All-contains, Contains-get_or}
-use Rattle.i_tree.specs.Answer.{GreatestOr}
+use Rattle.i_tree.specs.Answer.{GreatestOr, AtMost}
+use Rattle.i_tree.specs.Change.{Without}
+use Rattle.i_tree.specs.Change.Without.{none, keeps, loses}
 use Rattle.i_tree.specs.Pairs.{HasKey, NoKey}
+use Rattle.i_tree.proofs.Lists.{Contains-there}
 
 module _ {X : Type 0} where
   -- each member of the first list is one of the second
@@ -37,6 +40,19 @@ module _ {X : Type 0} where
       by_test rest =
           cond_both (p y) (y ∷ filter p ys) (filter p ys) (λ zs. Contains zs x → Contains (y ∷ ys) x × (p x ≡ true)) (at_kept rest) (λ _ h. there (rest h))
 
+module _ {X : Type 0} where
+  -- what is left after some items went
+  pub Without-within : {MayGo : X → Type 0} {before after : List X} → Without MayGo before after → Within after before
+  Without-within none x h = h
+  Without-within (keeps y rest) x (zero, inside, is) = (0, omega arith, is)
+  Without-within (keeps {before = before} y rest) x (suc k, inside, is) = Contains-there y before x (Without-within rest x (k, omega arith, is))
+  Without-within (loses {before = before} y goes rest) x h = Contains-there y before x (Without-within rest x h)
+
+  -- none has to go
+  pub Without-all : {MayGo : X → Type 0} (xs : List X) → Without MayGo xs xs
+  Without-all [] = none
+  Without-all (x ∷ xs) = keeps x (Without-all xs)
+
 module _ {K V : Type 0} (cmp : K → K → Ordering) (xs ys : List (K × V)) (into : Within xs ys) (back : Within ys xs) where
   pub HasKey-members : (key : K) → HasKey cmp xs key → HasKey cmp ys key
   HasKey-members key = Any-within (λ pair. cmp pair.0 key ≡ Equal) xs ys into
@@ -56,3 +72,8 @@ module _ {K V : Type 0} (cmp : K → K → Ordering) (xs ys : List (K × V)) (in
         is,
       )
   GreatestOr-members P default value (inr (none_meets, is)) = inr (All-within (λ pair. ¬ (P pair.0)) xs ys back none_meets, is)
+
+  pub AtMost-members : (order : K → Ordering) (default value : V) → AtMost cmp xs order default value → AtMost cmp ys order default value
+  AtMost-members order default value (inl equal) = inl (Any-within (λ pair. (order pair.0 ≡ Equal) × (value ≡ pair.1)) xs ys into equal)
+  AtMost-members order default value (inr (none_equal, less)) =
+      inr (All-within (λ pair. order pair.0 ≢ Equal) xs ys back none_equal, GreatestOr-members (λ key. order key ≡ Less) default value less)

@@ -1,5 +1,6 @@
 pub mod KeyMachine
 pub mod Modes
+pub mod Probes
 pub mod Replies
 pub mod StandsFor
 pub mod Words

@@ -2,7 +2,7 @@
 use Rattle.std.specs.Prelude.{ℕ, ℤ, List, [], ◌∷◌, ◌++◌, codes}
 use Rattle.std.specs.Fmt.{signed_decimal}
 use Rattle.itree.specs.declared.run.KeyReply.{KeyReply}
-use Rattle.itree.specs.declared.run.KeyReply.TheVariants.{Inserted, Present, Late, Refused, Value}
+use Rattle.itree.specs.declared.run.KeyReply.TheVariants.{Inserted, Present, Late, Refused, Value, Cleared}
 
 -- the words of a reply
 abbrev pub reply_words : KeyReply ℤ → List ℕ
@@ -10,6 +10,7 @@ reply_words Inserted = codes "inserted"
 reply_words Present = codes "present"
 reply_words Late = codes "late"
 reply_words (Refused cause) = codes "refused"
+reply_words Cleared = codes "cleared"
 reply_words (Value val) = codes "value " ++ signed_decimal val
 
 -- the line of a reply, which ends with a line feed

@@ -10,8 +10,8 @@ use crate::timed_key::TimedKey;
 use std::alloc::{AllocError, Allocator};
 use std::str;
 
-/// A command of a line: keys, expirations, values and times are whole numbers.
-pub type LineCommand = KeyCommand<TimedKey, i32, i32>;
+/// A command of a line: keys, expirations, values and times are whole numbers, and a probe is the key that is sought.
+pub type LineCommand = KeyCommand<TimedKey, i32, i32, i32>;
 
 /// The commands of a text, in order. A line feed ends a line, and the last line may lack it.
 ///
@@ -76,6 +76,12 @@ fn parse_words(words: &[&str]) -> Option<LineCommand> {
                 expiration: i32::MAX,
             },
         }),
+        ["leq", time, default, key] => Some(KeyCommand::LessOrEqualBy {
+            time: number(time)?,
+            default: number(default)?,
+            probe: number(key)?,
+        }),
+        ["clear"] => Some(KeyCommand::Clear),
         _ => None,
     }
 }
@@ -111,6 +117,7 @@ fn push_reply<A: Allocator>(text: &mut String<A>, reply: KeyReply<i32>) -> Resul
         KeyReply::Present => text.push_str("present\n"),
         KeyReply::Late => text.push_str("late\n"),
         KeyReply::Refused(_) => text.push_str("refused\n"),
+        KeyReply::Cleared => text.push_str("cleared\n"),
         KeyReply::Value(val) => writeln!(text, "value {val}"),
     }
 }

@@ -1,13 +1,16 @@
 //! The whole program, over any reader, any writers and any allocator.
 
 ghost use Rattle.std.specs.Prelude.{◌≡◌, ◌≢◌, ◌≤◌, ◌↔◌, IsTrue, IfErr};
+ghost use Rattle.std.specs.Ordering.{int_cmp};
 ghost use Rattle.itree.specs.Modes.{NamesMode};
 
 use crate::fault::Fault;
 use crate::lines::{parse_commands, reply_text};
 use crate::run::run_keys;
+use crate::timed_key::TimedKey;
 use i_tree::key::list::KeyExpList;
 use std::alloc::{Allocator, Global};
+use std::cmp::Ordering;
 use std::io::{Read, Write};
 
 #[cfg(test)]
@@ -91,6 +94,13 @@ fn serve<A: Allocator + Copy, I: Read, O: Write>(
     Ok(())
 }
 
+// How a key stands to the one that is sought.
+fn compare_key(sought: i32, timed: TimedKey) -> Ordering
+    ensures { result ≡ int_cmp timed.key sought }
+{
+    timed.key.cmp(&sought)
+}
+
 // The text of the replies to all of `input`.
 fn answer<A: Allocator + Copy, I: Read>(
     alloc: A,
@@ -108,6 +118,6 @@ fn answer<A: Allocator + Copy, I: Read>(
     let commands = parse_commands(alloc, &text)?;
     let mut list = KeyExpList::new(alloc, 0)?;
     let mut replies = Vec::new(alloc);
-    run_keys(&mut list, &commands, &mut replies)?;
+    run_keys(&mut list, &commands, compare_key, &mut replies)?;
     Ok(reply_text(alloc, &replies)?)
 }

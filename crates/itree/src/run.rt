@@ -1,23 +1,30 @@
 //! Runs of commands over a collection.
 
-ghost use Rattle.std.specs.Prelude.{◌≡◌, ◌≤◌, ◌+◌, ◌++◌, true, false, Option, List, length, vec_len, vec_capacity, IsOk, OnOk, OnErr, IfErr, MatchBool};
-ghost use Rattle.itree.specs.KeyMachine.{State, beginning, is_late, Run, Serves};
+ghost use Rattle.std.specs.Prelude.{◌≡◌, ◌≤◌, ◌+◌, ◌++◌, true, false, Option, List, All, Contains, length, vec_len, vec_capacity, IsOk, OnOk, OnErr, IfErr, MatchBool};
+ghost use Rattle.std.specs.declared.cmp.Ordering.{Ordering};
+ghost use Rattle.itree.specs.KeyMachine.{State, beginning, is_late, Run, Serves, Inserts};
+ghost use Rattle.itree.specs.Probes.{CanProbe, CanProbeAll, ProbesBy, ProbesAllBy, known_after};
 ghost use Rattle.itree.specs.StandsFor.{StandsFor};
 
 use i_tree::key::exp::KeyExpCollection;
 use i_tree::{Expiration, ExpiredKey, Refusal};
 use std::alloc::Allocator;
+use std::cmp::Ordering;
 
 #[cfg(test)]
 mod tests;
 
 /// A command to a collection of keys that expire.
 #[derive(Clone, Copy, Debug, PartialEq, Eq)]
-pub enum KeyCommand<K, E, V> {
+pub enum KeyCommand<K, E, V, P> {
     /// Stores the pair of `key` and `val` at `time`.
     Insert { key: K, val: V, time: E },
     /// Asks for the value of the greatest key below `key` that is live at `time`.
     Less { time: E, default: V, key: K },
+    /// Asks for the value of a live key that the probe calls Equal, else of the greatest that it calls Less.
+    LessOrEqualBy { time: E, default: V, probe: P },
+    /// Removes every pair, and forgets the last time.
+    Clear,
 }
 
 /// The reply to a command.
@@ -33,30 +40,41 @@ pub enum KeyReply<V> {
     Refused(Refusal),
     /// The answer to a query.
     Value(V),
+    /// No pair is stored any more, and there is no last time.
+    Cleared,
 }
 
 /// Runs the commands in order, and appends one reply for each to `out`.
 ///
 /// The run begins with the pairs that `c` stores and with no last time. A command whose time is before the last
-/// time is answered `Late` and changes nothing; every other command makes its time the last one, whatever its
-/// reply. Room for all replies is taken first: where it is refused, the answer is `OutOfMemory`, and `c` and `out`
-/// are as they were.
-pub fn run_keys<K, E, V, C, B>(
+/// time is answered `Late` and changes nothing; every other command with a time makes it the last one, whatever its
+/// reply. `probe` says how a key stands to what a `LessOrEqualBy` looks for: it is asked about live keys alone, and
+/// is to be monotone on these. Room for all replies is taken first: where it is refused, the answer is
+/// `OutOfMemory`, and `c` and `out` are as they were.
+pub fn run_keys<K, E, V, P, C, G, B>(
     c: &mut C,
-    commands: &[KeyCommand<K, E, V>],
+    commands: &[KeyCommand<K, E, V, P>],
+    probe: G,
     out: &mut Vec<KeyReply<V>, B>,
 ) -> Result<(), Refusal>
 where
     K: ExpiredKey<E>,
     E: Expiration,
     V: Copy,
+    P: Copy,
     C: KeyExpCollection<K, E, V>,
+    G: Fn(P, K) -> Ordering,
     B: Allocator,
+    // Each probe may be called on those keys, stored at the start or inserted before, that are live at its time.
+    requires { CanProbeAll K.expiration E.cmp (G.pre probe) (C.stored c.old) commands.now }
+
+    // By whatever order the probes answer at these keys, where it is monotone there, the replies are a run.
     ensures run { OnOk result (
-        (replies : List (KeyReply V)) × (end : State K E V)
-        × (out.new.items ≡ out.old.items ++ replies)
-        × Run K.expiration E.cmp K.cmp (beginning (C.stored c.old)) commands.now replies end
-        × StandsFor K.expiration E.cmp (C.stored c.new) end.accepted end.last) }
+        (replies : List (KeyReply V)) × (out.new.items ≡ out.old.items ++ replies)
+        × ((order : P → K → Ordering) → ProbesAllBy K.expiration E.cmp K.cmp (G.post probe) order (C.stored c.old) commands.now
+        → (end : State K E V)
+        × Run K.expiration E.cmp K.cmp order (beginning (C.stored c.old)) commands.now replies end
+        × StandsFor K.expiration E.cmp (C.stored c.new) end.accepted end.last)) }
     ensures refused { IfErr result (λ cause. cause ≡ Refusal.OutOfMemory) }
     ensures err { OnErr result ((c.new ≡ c.old) × (out.new.items ≡ out.old.items)) }
     ensures with_room { vec_len out.old + length commands.now ≤ vec_capacity out.old → IsOk result }
@@ -64,20 +82,30 @@ where
     out.reserve(commands.len())?;
     let mut last = None;
     for command in commands {
-        let reply = serve(c, *command, &mut last);
+        let reply = serve(c, *command, &probe, &mut last);
         out.push_reserved(reply);
     }
     Ok(())
 }
 
 // Serves one command, and moves the last time on.
-fn serve<K, E, V, C>(c: &mut C, command: KeyCommand<K, E, V>, last: &mut Option<E>) -> KeyReply<V>
+fn serve<K, E, V, P, C, G>(
+    c: &mut C,
+    command: KeyCommand<K, E, V, P>,
+    probe: &G,
+    last: &mut Option<E>,
+) -> KeyReply<V>
 where
     K: ExpiredKey<E>,
     E: Expiration,
     V: Copy,
+    P: Copy,
     C: KeyExpCollection<K, E, V>,
-    ensures { Serves K.expiration E.cmp K.cmp (C.stored c.old) last.old command result (C.stored c.new) last.new }
+    G: Fn(P, K) -> Ordering,
+    requires { CanProbe K.expiration E.cmp (G.pre probe.now) command (C.stored c.old) }
+    ensures steps { (order : P → K → Ordering) → ProbesBy K.expiration E.cmp K.cmp (G.post probe.now) order command (C.stored c.old)
+        → Serves K.expiration E.cmp K.cmp order (C.stored c.old) last.old command result (C.stored c.new) last.new }
+    ensures known { All (Contains (known_after command (C.stored c.old))) (C.stored c.new) }
 {
     match command {
         KeyCommand::Insert { key, val, time } => {
@@ -91,6 +119,25 @@ where
                 return KeyReply::Late;
             }
             KeyReply::Value(c.first_less(time, default, key))
+        }
+        KeyCommand::LessOrEqualBy {
+            time,
+            default,
+            probe: sought,
+        } => {
+            if !advance(last, time) {
+                return KeyReply::Late;
+            }
+            let asked = |key: K| -> Ordering
+                requires { G.pre probe.now sought key }
+                ensures { G.post probe.entry.now sought key result }
+            { probe(sought, key) };
+            KeyReply::Value(c.first_less_or_equal_by(time, default, asked))
+        }
+        KeyCommand::Clear => {
+            c.clear();
+            *last = None;
+            KeyReply::Cleared
         }
     }
 }
@@ -115,7 +162,7 @@ where
     E: Expiration,
     V: Copy,
     C: KeyExpCollection<K, E, V>,
-    ensures { (last : Option E) → is_late E.cmp last time ≡ false → Serves K.expiration E.cmp K.cmp (C.stored c.old) last (KeyCommand.Insert key val time) result (C.stored c.new) (Some time) }
+    ensures { Inserts K.expiration E.cmp K.cmp time key val (C.stored c.old) result (C.stored c.new) }
 {
     if c.contains_key(time, key) {
         return KeyReply::Present;

@@ -4,4 +4,6 @@
 #[cfg(test)]
 mod key_lists;
 #[cfg(test)]
+mod live_closures;
+#[cfg(test)]
 mod timed_key;

@@ -1,10 +1,12 @@
-ghost use Rattle.std.specs.Prelude.{◌≡◌, List, OnOk, OnErr, MatchBool};
+ghost use Rattle.std.specs.Prelude.{◌≡◌, List, [], All, OnOk, OnErr, MatchBool};
+ghost use Rattle.std.specs.declared.cmp.Ordering.{Ordering};
 ghost use Rattle.i_tree.specs.Live.{live_pairs, IsExpired};
 ghost use Rattle.i_tree.specs.Pairs.{HasKey, NoKey, IsRising};
-ghost use Rattle.i_tree.specs.Answer.{Below};
+ghost use Rattle.i_tree.specs.Answer.{Below, AtMost, AnswersBy, IsMonotone};
 ghost use Rattle.i_tree.specs.Change.{Without, Gains};
 
 use crate::{Expiration, ExpiredKey, Refusal};
+use std::cmp::Ordering;
 
 /// A collection of keys that expire, each with a value.
 ///
@@ -30,8 +32,26 @@ pub trait KeyExpCollection<K: ExpiredKey<E>, E: Expiration, V: Copy> {
         ensures kept { Without (IsExpired K.expiration E.cmp time) (stored self.old) (stored self.new) }
         ensures rising { IsRising K.cmp (stored self.new) };
 
+    /// The value of a live key that `f` calls Equal; where there is none, of the greatest live key that it calls
+    /// Less; where there is none of these either, `default`.
+    ///
+    /// `f` says how a key stands to what is looked for. It is asked about live keys alone, and on these it is to be
+    /// monotone: it never answers a lower key by a later of Less, Equal, Greater than a higher one. Which of several
+    /// Equal keys is answered is open.
+    fn first_less_or_equal_by<F: Fn(K) -> Ordering>(&mut self, time: E, default: V, f: F) -> V
+        requires { All (λ pair. F.pre f pair.0) (live_pairs K.expiration E.cmp time (stored self.old)) }
+        ensures value { (order : K → Ordering) → AnswersBy (F.post f) order (live_pairs K.expiration E.cmp time (stored self.old))
+            → IsMonotone K.cmp order (live_pairs K.expiration E.cmp time (stored self.old))
+            → AtMost K.cmp (live_pairs K.expiration E.cmp time (stored self.old)) order default result }
+        ensures kept { Without (IsExpired K.expiration E.cmp time) (stored self.old) (stored self.new) }
+        ensures rising { IsRising K.cmp (stored self.new) };
+
     /// Whether a key that is live at `time` compares Equal to `key`.
     fn contains_key(&self, time: E, key: K) -> bool
         ensures cases { MatchBool result (HasKey K.cmp (live_pairs K.expiration E.cmp time (stored self.now)) key) (NoKey K.cmp (live_pairs K.expiration E.cmp time (stored self.now)) key) }
         ensures rising { IsRising K.cmp (stored self.now) };
+
+    /// Removes every pair.
+    fn clear(&mut self)
+        ensures empty { stored self.new ≡ [] };
 }

@@ -1,14 +1,16 @@
 ghost use Rattle.std.specs.Prelude.{◌≡◌, ◌≤◌, ◌<◌, ◌+◌, ℕ, List, [], All, Any, length, IsOk, OnOk, OnErr, IfOk, IfErr, MatchBool};
-ghost use Rattle.i_tree.specs.Answer.{Below};
+ghost use Rattle.std.specs.declared.cmp.Ordering.{Ordering};
+ghost use Rattle.i_tree.specs.Answer.{Below, AtMost, AnswersBy, IsMonotone};
 ghost use Rattle.i_tree.specs.Change.{Joins, Gains, Without};
 ghost use Rattle.i_tree.specs.Live.{live_pairs, IsExpired};
 ghost use Rattle.i_tree.specs.Pairs.{HasKey, NoKey, IsRising};
 
 use super::exp::KeyExpCollection;
 use super::live::{earliest_expiration, keep_live};
-use super::sorted::{has_live_key, place_of, value_below};
+use super::sorted::{has_live_key, place_of, value_at_most, value_below};
 use crate::{Expiration, ExpiredKey, Refusal};
-use std::alloc::Allocator;
+use std::alloc::{AllocError, Allocator};
+use std::cmp::Ordering;
 use std::marker::Model;
 
 /// A sorted vector of keys that expire, each with a value.
@@ -52,9 +54,38 @@ impl<K: ExpiredKey<E>, E: Expiration, V: Copy, A: Allocator + Copy> KeyExpList<K
         })
     }
 
+    /// Makes room for `capacity` pairs in all, those that are stored among them. A refusal changes nothing.
+    pub fn reserve_capacity(&mut self, capacity: usize) -> Result<(), Refusal>
+        ensures pairs { self.new.pairs ≡ self.old.pairs }
+        ensures room { OnOk result (capacity ≤ length self.new.pairs + self.new.spare) }
+        ensures kept { self.old.spare ≤ self.new.spare }
+        ensures err { OnErr result (self.new ≡ self.old) }
+        ensures refused { IfErr result (λ cause. cause ≡ Refusal.OutOfMemory) }
+        ensures with_room { capacity ≤ length self.old.pairs + self.old.spare → IsOk result }
+    {
+        self.pairs
+            .reserve(capacity.saturating_sub(self.pairs.len()))?;
+        Ok(())
+    }
+
+    /// How many pairs are stored, expired ones among them.
+    pub fn stored(&self) -> usize
+        ensures { result ≡ length self.now.pairs }
+    {
+        self.pairs.len()
+    }
+
+    /// For how many more pairs there is room.
+    pub fn spare(&self) -> usize
+        ensures { result ≡ self.now.spare }
+    {
+        self.pairs.capacity() - self.pairs.len()
+    }
+
     // Removes what is expired at `time`, unless the bound says that nothing is.
     fn remove_expired(&mut self, time: E)
         ensures live { self.new.pairs ≡ live_pairs K.expiration E.cmp time self.old.pairs }
+        ensures kept { Without (IsExpired K.expiration E.cmp time) self.old.pairs self.new.pairs }
         ensures rising { IsRising K.cmp self.new.pairs }
         ensures room { length self.new.pairs + self.new.spare ≡ length self.old.pairs + self.old.spare }
     {
@@ -108,7 +139,45 @@ impl<K: ExpiredKey<E>, E: Expiration, V: Copy, A: Allocator + Copy> KeyExpCollec
         value_below(&self.pairs, &key, default)
     }
 
+    /// Removes what is expired at `time`, and answers by `f`, which is asked about what is left alone.
+    fn first_less_or_equal_by<F: Fn(K) -> Ordering>(&mut self, time: E, default: V, f: F) -> V
+        requires { All (λ pair. F.pre f pair.0) (live_pairs K.expiration E.cmp time self.old.pairs) }
+        ensures value { (order : K → Ordering) → AnswersBy (F.post f) order (live_pairs K.expiration E.cmp time self.old.pairs)
+            → IsMonotone K.cmp order (live_pairs K.expiration E.cmp time self.old.pairs)
+            → AtMost K.cmp (live_pairs K.expiration E.cmp time self.old.pairs) order default result }
+        ensures kept { Without (IsExpired K.expiration E.cmp time) self.old.pairs self.new.pairs }
+        ensures keeps_live { self.new.pairs ≡ live_pairs K.expiration E.cmp time self.old.pairs }
+        ensures rising { IsRising K.cmp self.new.pairs }
+        ensures room { length self.new.pairs + self.new.spare ≡ length self.old.pairs + self.old.spare }
+    {
+        self.remove_expired(time);
+        value_at_most(&self.pairs, f, default)
+    }
+
     fn contains_key(&self, time: E, key: K) -> bool {
         has_live_key(&self.pairs, time, &key)
+    }
+
+    /// Removes every pair, and keeps the room.
+    fn clear(&mut self)
+        ensures empty { self.new.pairs ≡ [] }
+        ensures room { self.new.spare ≡ length self.old.pairs + self.old.spare }
+    {
+        self.pairs.clear();
+        self.earliest = E::max_expiration();
+    }
+}
+
+impl<K: ExpiredKey<E>, E: Expiration, V: Copy, A: Allocator + Copy> Clone
+    for KeyExpList<K, E, V, A> {
+    // A clone stores the same pairs.
+    ghost is_clone = { λ list clone. clone.pairs ≡ list.pairs };
+
+    /// Copies the pairs, which asks nothing of the clones of keys and values. A refusal leaves nothing behind.
+    fn clone(&self) -> Result<Self, AllocError> {
+        Ok(KeyExpList {
+            pairs: Vec::from_slice(*self.pairs.allocator(), &self.pairs)?,
+            earliest: self.earliest,
+        })
     }
 }

@@ -73,6 +73,10 @@ fn answers_each_command_by_a_line(rt: HostRuntime) {
             "inserted\ninserted\nvalue 41\n",
         ),
         (
+            "insert 5 10 5 0\ninsert 5 10 6 0\nleq 3 -1 5\nless 2 -1 9\nclear\nless 0 -1 9\n",
+            "inserted\npresent\nvalue 5\nlate\ncleared\nvalue -1\n",
+        ),
+        (
             "\tinsert  +4 9\x0c-40 -0\r\nless 0 007 5",
             "inserted\nvalue -40\n",
         ),
@@ -106,6 +110,8 @@ fn names_the_first_faulty_line_and_runs_nothing(rt: HostRuntime) {
         (b"insert 0 10 0\n", "itree: line 1\n"),
         (b"insert 0 10 0 0 0\n", "itree: line 1\n"),
         (b"less 0 -1 4 4\n", "itree: line 1\n"),
+        (b"leq 0 -1\n", "itree: line 1\n"),
+        (b"clear\nclear 0\n", "itree: line 2\n"),
         (b"less 0 - 4\n", "itree: line 1\n"),
         (b"less 0 1.5 4\n", "itree: line 1\n"),
         (b"less 0 x 4", "itree: line 1\n"),
@@ -275,7 +281,7 @@ fn refuses_an_insertion(rt: &impl Abort, output: &[u8], replies: &str) -> bool {
 }
 
 // Lines, each with the reply of the original crate's containers.
-const SAMPLE: [(&str, &str); 42] = [
+const SAMPLE: [(&str, &str); 62] = [
     ("insert 5 3 50 0", "inserted"),
     ("insert 1 3 10 0", "inserted"),
     ("insert 9 3 90 0", "inserted"),
@@ -318,6 +324,26 @@ const SAMPLE: [(&str, &str); 42] = [
     ("insert 0 2147483647 7 2147483647", "inserted"),
     ("less 2147483647 1 2147483647", "value 1"),
     ("less 9 1 4", "late"),
+    ("leq 9 -1 5", "late"),
+    ("leq 9 -1 0", "late"),
+    ("clear", "cleared"),
+    ("leq 0 -7 100", "value -7"),
+    ("insert 3 4 30 0", "inserted"),
+    ("insert 6 9 60 0", "inserted"),
+    ("insert 8 2 80 1", "inserted"),
+    ("leq 1 -1 7", "value 60"),
+    ("leq 1 -1 8", "value 80"),
+    ("leq 2 -1 8", "value 60"),
+    ("less 3 -1 6", "value 30"),
+    ("leq 4 -1 5", "value -1"),
+    ("leq 3 -1 6", "late"),
+    ("insert 3 8 31 4", "inserted"),
+    ("leq 4 -1 3", "value 31"),
+    ("clear", "cleared"),
+    ("less -5 -2 9", "value -2"),
+    ("insert -1 0 10 -5", "inserted"),
+    ("leq -5 -2 -1", "value 10"),
+    ("leq 0 -2 -1", "value -2"),
 ];
 
 #[test]

@@ -1,14 +1,49 @@
-use Rattle.itree.proofs.Serving.{serves_less}
+use Rattle.itree.proofs.Serving.{serves_less, serves_at_most, serves_insert}
+use Rattle.itree.proofs.Knowing.{known_inserts, known_same, known_without}
 use Rattle.itree.proofs.run.serve.Goals as goal
 
-pub returns-else-not-advance : goal.returns-else-not-advance
-returns-else-not-advance g c =
-    let advanced = c.if-not-advance.ensures in
-    rw (c.in-Insert.is, advanced.1) (c.insert.ensures c.args.last.now advanced.0)
+pub returns-then-not-advance-clause-known : goal.returns-then-not-advance-clause-known
+returns-then-not-advance-clause-known g c = known_same c.args.command (g.C.KeyExpCollection.stored c.args.c.now)
 
-pub returns-else-not-advance-2 : goal.returns-else-not-advance-2
-returns-else-not-advance-2 g c =
+pub returns-then-not-advance-2-clause-known : goal.returns-then-not-advance-2-clause-known
+returns-then-not-advance-2-clause-known g c = known_same c.args.command (g.C.KeyExpCollection.stored c.args.c.now)
+
+pub returns-then-not-advance-3-clause-known : goal.returns-then-not-advance-3-clause-known
+returns-then-not-advance-3-clause-known g c = known_same c.args.command (g.C.KeyExpCollection.stored c.args.c.now)
+
+pub returns-else-not-advance-clause-steps : goal.returns-else-not-advance-clause-steps
+returns-else-not-advance-clause-steps g c order probes =
+    let advanced = c.if-not-advance.ensures in
+    let stored = g.C.KeyExpCollection.stored in
+    rw (c.in-Insert.is, advanced.1)
+    (serves_insert g.K.ExpiredKey.expiration g.met.E.Ord.total g.K.Ord.cmp order (stored c.args.c.now) c.args.last.now c.in-Insert.time advanced.0 c.in-Insert.key c.in-Insert.val (stored c.insert.new.c) c.insert.result c.insert.ensures)
+
+pub returns-else-not-advance-clause-known : goal.returns-else-not-advance-clause-known
+returns-else-not-advance-clause-known g c =
+    let stored = g.C.KeyExpCollection.stored in
+    rw c.in-Insert.is
+    (known_inserts g.K.ExpiredKey.expiration g.E.Ord.cmp g.K.Ord.cmp c.in-Insert.time c.in-Insert.key c.in-Insert.val (stored c.args.c.now) (stored c.insert.new.c) c.insert.result c.insert.ensures)
+
+pub returns-else-not-advance-2-clause-steps : goal.returns-else-not-advance-2-clause-steps
+returns-else-not-advance-2-clause-steps g c order probes =
     let advanced = c.if-not-advance-2.ensures in
     let stored = g.C.KeyExpCollection.stored in
     rw (c.in-Less.is, advanced.1)
-    (serves_less g.K.ExpiredKey.expiration g.met.E.Ord.total g.K.Ord.cmp (stored c.args.c.now) c.args.last.now c.in-Less.time advanced.0 c.in-Less.default c.in-Less.key c.first_less.result (stored c.first_less.new.self) c.first_less.ensures.value c.first_less.ensures.kept)
+    (serves_less g.K.ExpiredKey.expiration g.met.E.Ord.total g.K.Ord.cmp order (stored c.args.c.now) c.args.last.now c.in-Less.time advanced.0 c.in-Less.default c.in-Less.key c.first_less.result (stored c.first_less.new.self) c.first_less.ensures.value c.first_less.ensures.kept)
+
+pub returns-else-not-advance-2-clause-known : goal.returns-else-not-advance-2-clause-known
+returns-else-not-advance-2-clause-known g c =
+    known_without c.args.command (g.C.KeyExpCollection.stored c.args.c.now) (g.C.KeyExpCollection.stored c.first_less.new.self) c.first_less.ensures.kept
+
+pub returns-else-not-advance-3-clause-steps : goal.returns-else-not-advance-3-clause-steps
+returns-else-not-advance-3-clause-steps g c order probes =
+    let advanced = c.if-not-advance-3.ensures in
+    let stored = g.C.KeyExpCollection.stored in
+    let asked = rw c.in-LessOrEqualBy.is at probes in
+    rw (c.in-LessOrEqualBy.is, advanced.1)
+    (serves_at_most g.K.ExpiredKey.expiration g.met.E.Ord.total g.K.Ord.cmp order (stored c.args.c.now) c.args.last.now c.in-LessOrEqualBy.time advanced.0 c.in-LessOrEqualBy.default c.in-LessOrEqualBy.sought c.first_less_or_equal_by.result (stored c.first_less_or_equal_by.new.self)
+    (c.first_less_or_equal_by.ensures.value (order c.in-LessOrEqualBy.sought) (λ k d within answer says. asked.0 k d within answer says) asked.1) c.first_less_or_equal_by.ensures.kept)
+
+pub returns-else-not-advance-3-clause-known : goal.returns-else-not-advance-3-clause-known
+returns-else-not-advance-3-clause-known g c =
+    known_without c.args.command (g.C.KeyExpCollection.stored c.args.c.now) (g.C.KeyExpCollection.stored c.first_less_or_equal_by.new.self) c.first_less_or_equal_by.ensures.kept

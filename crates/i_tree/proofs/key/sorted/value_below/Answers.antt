@@ -1,7 +1,8 @@
-use Rattle.i_tree.proofs.Keys.{Below-at_last}
+use Rattle.std.specs.declared.cmp.Ordering.TheVariants.{Less}
+use Rattle.std.proofs.Common.{◌≡◌}
+use Rattle.i_tree.proofs.Keys.{GreatestOr-at_count}
 use Rattle.i_tree.proofs.key.sorted.value_below.Goals as goal
 
-pub returns-in-Some : goal.returns-in-Some
-returns-in-Some g c =
-    let last = (c.in-Some.ensures).item in
-    Below-at_last g.met.K.Ord.total c.args.pairs.now c.args.key.now c.place_of.result c.args.default c.in-Some.pair.now c.requires c.place_of.ensures.splits c.place_of.ensures.within last.3.0 last.1
+pub returns : goal.returns
+returns g c =
+    GreatestOr-at_count g.met.K.Ord.total (λ other. g.K.Ord.cmp other c.args.key.now ≡ Less) c.args.pairs.now c.place_of.result c.args.default c.last_value.result c.requires c.place_of.ensures.splits c.place_of.ensures.within c.last_value.ensures.none c.last_value.ensures.last

@@ -1,16 +1,25 @@
 use Rattle.std.proofs.Common.{◌≡◌, sym, subst, ap, ◌∙◌, length, arith}
 use Rattle.std.specs.declared.cmp.Ordering.TheVariants.{Less}
 use Rattle.std.proofs.lemmas.List.Kept.{AllPairs-filter}
-use Rattle.i_tree.specs.Live.{is_live, NoneExpiresBefore}
+use Rattle.i_tree.specs.Change.{Without}
+use Rattle.i_tree.specs.Live.{is_live, live_pairs, IsExpired, NoneExpiresBefore}
 use Rattle.i_tree.specs.Pairs.{IsRising}
-use Rattle.i_tree.proofs.Lists.{length-filter_le}
+use Rattle.i_tree.proofs.Lists.{length-filter_le, Without-filter}
 use Rattle.i_tree.proofs.Times.{gt_from_cmp, live_pairs-early}
 use Rattle.i_tree.proofs.key.list.KeyExpList.remove_expired.Goals as goal
 
-pub returns-then-gt-clause-live : goal.returns-then-gt-clause-live
-returns-then-gt-clause-live g c =
+all_live : (g : _) (c : goal.Then-gt g) → live_pairs g.K.ExpiredKey.expiration g.E.Ord.cmp c.args.time c.args.self.now.pairs ≡ c.args.self.now.pairs
+all_live g c =
     let early = sym (gt_from_cmp g.E.PartialOrd.partial_cmp g.E.Ord.cmp g.met.E.Ord.matches_partial_cmp c.self.inside.earliest c.args.time) ∙ sym c.gt.ensures ∙ c.if-gt.true in
-    rw (← c.self.view_is) (sym (live_pairs-early g.met.E.Ord.total g.K.ExpiredKey.expiration c.self.inside.earliest c.args.time c.self.inside.pairs.items early c.self.invariant.1))
+    rw (← c.self.view_is) (live_pairs-early g.met.E.Ord.total g.K.ExpiredKey.expiration c.self.inside.earliest c.args.time c.self.inside.pairs.items early c.self.invariant.1)
+
+pub returns-then-gt-clause-live : goal.returns-then-gt-clause-live
+returns-then-gt-clause-live g c = sym (all_live g c)
+
+pub returns-then-gt-clause-kept : goal.returns-then-gt-clause-kept
+returns-then-gt-clause-kept g c =
+    subst (Without (IsExpired g.K.ExpiredKey.expiration g.E.Ord.cmp c.args.time) c.args.self.now.pairs) (all_live g c)
+    (Without-filter (λ pair. is_live g.K.ExpiredKey.expiration g.E.Ord.cmp c.args.time pair.0) c.args.self.now.pairs)
 
 pub returns-then-gt-clause-rising : goal.returns-then-gt-clause-rising
 returns-then-gt-clause-rising g c = rw (← c.self.view_is) c.self.invariant.0
@@ -32,3 +41,8 @@ returns-clause-room g c =
     let shorter = length-filter_le (λ pair. is_live g.K.ExpiredKey.expiration g.E.Ord.cmp c.args.time pair.0) c.self.inside.pairs.items in
     rw (← c.self.view_is)
     (omega (arith, shorter, ap length c.keep_live.ensures.live, c.keep_live.ensures.capacity, c.self.inside.pairs.ok.0, c.self.inside.pairs.ok.1, c.keep_live.new.pairs.ok.0, c.keep_live.new.pairs.ok.1))
+
+pub returns-clause-kept : goal.returns-clause-kept
+returns-clause-kept g c =
+    rw (c.keep_live.ensures.live, ← c.self.view_is)
+    (Without-filter (λ pair. is_live g.K.ExpiredKey.expiration g.E.Ord.cmp c.args.time pair.0) c.self.inside.pairs.items)
