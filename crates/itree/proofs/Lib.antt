@@ -1,4 +1,5 @@
 pub mod Knowing
 pub mod Members
+pub mod Saying
 pub mod Serving
 pub mod Standing

@@ -1,3 +1,4 @@
+pub mod Grammar
 pub mod KeyMachine
 pub mod Modes
 pub mod Probes

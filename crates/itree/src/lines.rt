@@ -1,6 +1,7 @@
 //! Lines of text, as commands and as replies.
 
-ghost use Rattle.std.specs.Prelude.{◌≡◌, ◌≢◌, ◌++◌, ◌⊎◌, ℤ, flat_map, IfErr, IfOk, IfSome, IsNone, OnOk, string_bytes};
+ghost use Rattle.std.specs.Prelude.{◌≡◌, ◌≢◌, ◌∷◌, [], ◌++◌, ◌⊎◌, ℤ, codes, flat_map, map, IfErr, IfOk, IfSome, IsNone, OnOk, string_bytes};
+ghost use Rattle.itree.specs.Grammar.{ReadsAll, SaysCommand, SaysNoCommand};
 ghost use Rattle.itree.specs.Replies.{reply_line};
 ghost use Rattle.itree.specs.Words.{Reads};
 
@@ -58,32 +59,81 @@ fn ascii_text(line: &[u8]) -> Option<&str> {
 }
 
 // The command of these words, where they are one.
-fn parse_words(words: &[&str]) -> Option<LineCommand> {
-    match words {
-        ["insert", key, expiration, val, time] => Some(KeyCommand::Insert {
-            key: TimedKey {
-                key: number(key)?,
-                expiration: number(expiration)?,
-            },
-            val: number(val)?,
-            time: number(time)?,
-        }),
-        ["less", time, default, key] => Some(KeyCommand::Less {
-            time: number(time)?,
-            default: number(default)?,
-            key: TimedKey {
-                key: number(key)?,
-                expiration: i32::MAX,
-            },
-        }),
-        ["leq", time, default, key] => Some(KeyCommand::LessOrEqualBy {
-            time: number(time)?,
-            default: number(default)?,
-            probe: number(key)?,
-        }),
-        ["clear"] => Some(KeyCommand::Clear),
+fn parse_words(words: &[&str]) -> Option<LineCommand>
+    ensures said { IfSome result (SaysCommand (map (λ word. word.now) words.now)) }
+    ensures unsaid { IsNone result → SaysNoCommand (map (λ word. word.now) words.now) }
+{
+    let (name, rest) = words.split_first()?;
+    match *name {
+        "insert" => parse_insert(rest),
+        "less" => parse_less(rest),
+        "leq" => parse_at_most(rest),
+        "clear" => parse_clear(rest),
         _ => None,
     }
+}
+
+// The insertion whose words follow its name.
+fn parse_insert(words: &[&str]) -> Option<LineCommand>
+    ensures said { IfSome result (SaysCommand (codes "insert" ∷ map (λ word. word.now) words.now)) }
+    ensures unsaid { IsNone result → SaysNoCommand (codes "insert" ∷ map (λ word. word.now) words.now) }
+{
+    let (first, rest) = words.split_first()?;
+    let key = number(first)?;
+    let (expiration, val, time) = three_numbers(rest)?;
+    let key = TimedKey { key, expiration };
+    Some(KeyCommand::Insert { key, val, time })
+}
+
+// The query below a key whose words follow its name.
+fn parse_less(words: &[&str]) -> Option<LineCommand>
+    ensures said { IfSome result (SaysCommand (codes "less" ∷ map (λ word. word.now) words.now)) }
+    ensures unsaid { IsNone result → SaysNoCommand (codes "less" ∷ map (λ word. word.now) words.now) }
+{
+    let (time, default, key) = three_numbers(words)?;
+    let expiration = i32::MAX;
+    let key = TimedKey { key, expiration };
+    Some(KeyCommand::Less { time, default, key })
+}
+
+// The query up to a key whose words follow its name.
+fn parse_at_most(words: &[&str]) -> Option<LineCommand>
+    ensures said { IfSome result (SaysCommand (codes "leq" ∷ map (λ word. word.now) words.now)) }
+    ensures unsaid { IsNone result → SaysNoCommand (codes "leq" ∷ map (λ word. word.now) words.now) }
+{
+    let (time, default, probe) = three_numbers(words)?;
+    Some(KeyCommand::LessOrEqualBy {
+        time,
+        default,
+        probe,
+    })
+}
+
+// The command to clear, whose name no word follows.
+fn parse_clear(words: &[&str]) -> Option<LineCommand>
+    ensures said { IfSome result (SaysCommand (codes "clear" ∷ map (λ word. word.now) words.now)) }
+    ensures unsaid { IsNone result → SaysNoCommand (codes "clear" ∷ map (λ word. word.now) words.now) }
+{
+    if !words.is_empty() {
+        return None;
+    }
+    Some(KeyCommand::Clear)
+}
+
+// The numbers that three words are read as.
+fn three_numbers(words: &[&str]) -> Option<(i32, i32, i32)>
+    ensures read { IfSome result (λ numbers.
+        ReadsAll (map (λ word. word.now) words.now) (numbers.0 ∷ numbers.1 ∷ numbers.2 ∷ [])) }
+    ensures unread { IsNone result → (first second third : ℤ) →
+        ¬ (ReadsAll (map (λ word. word.now) words.now) (first ∷ second ∷ third ∷ [])) }
+{
+    let [first, second, third] = words else {
+        return None;
+    };
+    let first = number(first)?;
+    let second = number(second)?;
+    let third = number(third)?;
+    Some((first, second, third))
 }
 
 // The number that a word is read as.
