@@ -1,5 +1,7 @@
+pub mod Counting
 pub mod Knowing
 pub mod Members
 pub mod Saying
 pub mod Serving
+pub mod Splitting
 pub mod Standing

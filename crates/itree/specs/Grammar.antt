@@ -1,8 +1,8 @@
 -- The grammar of a text: which words say which command, what each line says, and which line is the first faulty one.
-use Rattle.std.specs.Prelude.{◌≡◌, ℕ, ℤ, pos, ◌+◌, nat_lt, ⊤, List, [], ◌∷◌, ◌++◌, Option, Some, None, All, filter, length, codes}
+use Rattle.std.specs.Prelude.{◌≡◌, ◌==◌, ℕ, ℤ, pos, ◌+◌, nat_lt, ⊤, List, [], ◌∷◌, ◌++◌, Option, Some, None, All, filter, length, codes}
+use Rattle.std.specs.Borrow.{Bor}
 use Rattle.std.specs.Char.{is_ascii_whitespace}
 use Rattle.std.specs.List.{slice_split, cons_option}
-use Rattle.std.specs.Prelude.{◌==◌}
 use Rattle.std.specs.Str.{IsAscii}
 use Rattle.itree.specs.Words.{Reads}
 use Rattle.itree.specs.declared.run.KeyCommand.{KeyCommand}
@@ -52,6 +52,11 @@ IsFaulty line = (said : Option TextCommand) → ¬ (LineSays line said)
 -- the lines of a text, each ended by a line feed or by the end of the text
 abbrev pub lines_of : List ℕ → List (List ℕ)
 lines_of text = slice_split (λ byte. byte == 10) text
+
+-- the lines of what is left of a text, if anything is
+abbrev pub lines_left : Option (Bor (List ℕ)) → List (List ℕ)
+lines_left None = []
+lines_left (Some text) = lines_of text.now
 
 -- the lines say the commands, in order
 abbrev pub LinesSay : List (List ℕ) → List TextCommand → Type 0

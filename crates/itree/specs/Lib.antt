@@ -4,4 +4,5 @@ pub mod Modes
 pub mod Probes
 pub mod Replies
 pub mod StandsFor
+pub mod Texts
 pub mod Words

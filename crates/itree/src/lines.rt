@@ -1,7 +1,8 @@
 //! Lines of text, as commands and as replies.
 
-ghost use Rattle.std.specs.Prelude.{◌≡◌, ◌≢◌, ◌∷◌, [], ◌++◌, ◌⊎◌, ℤ, codes, flat_map, map, IfErr, IfOk, IfSome, IsNone, OnOk, string_bytes};
-ghost use Rattle.itree.specs.Grammar.{ReadsAll, SaysCommand, SaysNoCommand};
+ghost use Rattle.std.specs.Prelude.{◌≡◌, ◌==◌, ◌≢◌, ◌∷◌, [], ◌++◌, ◌<◌, ◌⊎◌, ℕ, ℤ, codes, flat_map, length, map, IfErr, IfOk, IfSome, IsNone, OnOk, position, string_bytes};
+ghost use Rattle.std.specs.Str.{IsAscii};
+ghost use Rattle.itree.specs.Grammar.{ReadsAll, SaysCommand, SaysNoCommand, words_of, LineSays, IsFaulty, lines_of, lines_left, LinesSay, IsFirstFaulty};
 ghost use Rattle.itree.specs.Replies.{reply_line};
 ghost use Rattle.itree.specs.Words.{Reads};
 
@@ -22,15 +23,41 @@ pub fn parse_commands<A: Allocator + Copy>(
     alloc: A,
     text: &[u8],
 ) -> Result<Vec<LineCommand, A>, Fault>
-    ensures { IfErr result (λ fault. fault ≢ Fault.Arguments) }
+    ensures said { IfOk result (λ commands. LinesSay (lines_of text.now) commands.items) }
+    ensures faulty { (number : ℕ) → result ≡ Err (Fault.Line number) →
+        IsFirstFaulty (lines_of text.now) number }
+    ensures err { IfErr result (λ fault. fault ≢ Fault.Arguments) }
 {
     let mut commands = Vec::new(alloc);
-    for (index, line) in text.split(|byte| *byte == b'\n').enumerate() {
-        if let Some(command) = parse_line(alloc, index + 1, line)? {
+    let mut number = 0;
+    let mut rest = Some(text);
+    'lines: while let Some(left) = rest {
+        let (line, after) = cut_line(left);
+        number += 1;
+        if let Some(command) = parse_line(alloc, number, line)? {
             commands.push(command)?;
         }
+        rest = after;
     }
     Ok(commands)
+}
+
+// The first line of a text, and what follows its line feed, where it has one.
+fn cut_line(text: &[u8]) -> (&[u8], Option<&[u8]>)
+    ensures first { lines_of text.now ≡ result.0.now ∷ lines_left result.1 }
+    ensures shorter { IfSome result.1 (λ after. length after.now < length text.now) }
+{
+    match line_end(text) {
+        Some(end) => (&text[..end], Some(&text[end + 1..])),
+        None => (text, None),
+    }
+}
+
+// Where the first line feed of a text stands.
+fn line_end(text: &[u8]) -> Option<usize>
+    ensures { result ≡ position (λ byte. byte == 10) text.now }
+{
+    text.iter().position(|byte| *byte == b'\n')
 }
 
 // The command of the line of this number, or `None` where the line has no words.
@@ -39,23 +66,39 @@ fn parse_line<A: Allocator>(
     number: usize,
     line: &[u8],
 ) -> Result<Option<LineCommand>, Fault>
-    ensures { IfErr result (λ fault. (fault ≡ Fault.Line number) ⊎ (fault ≡ Fault.Stopped)) }
+    ensures said { IfOk result (LineSays line.now) }
+    ensures faulty { result ≡ Err (Fault.Line number) → IsFaulty line.now }
+    ensures err { IfErr result (λ fault. (fault ≡ Fault.Line number) ⊎ (fault ≡ Fault.Stopped)) }
 {
-    let text = ascii_text(line).ok_or(Fault::Line(number))?;
-    let words: Vec<&str, A> = text.split_ascii_whitespace().collect(alloc)?;
+    let Some(text) = ascii_text(line) else {
+        return Err(Fault::Line(number));
+    };
+    let words = line_words(alloc, text)?;
     if words.is_empty() {
         return Ok(None);
     }
-    let command = parse_words(&words).ok_or(Fault::Line(number))?;
-    Ok(Some(command))
+    match parse_words(&words) {
+        Some(command) => Ok(Some(command)),
+        None => Err(Fault::Line(number)),
+    }
 }
 
 // The line as text, unless a byte lies outside ASCII.
-fn ascii_text(line: &[u8]) -> Option<&str> {
+fn ascii_text(line: &[u8]) -> Option<&str>
+    ensures text { IfSome result (λ text. (text.now ≡ line.now) × IsAscii line.now) }
+    ensures other { IsNone result → ¬ (IsAscii line.now) }
+{
     if !line.is_ascii() {
         return None;
     }
     str::from_utf8(line).ok()
+}
+
+// The words of a line.
+fn line_words<A: Allocator>(alloc: A, text: &str) -> Result<Vec<&str, A>, AllocError>
+    ensures { IfOk result (λ words. map (λ word. word.now) words.items ≡ words_of text.now) }
+{
+    text.split_ascii_whitespace().collect(alloc)
 }
 
 // The command of these words, where they are one.

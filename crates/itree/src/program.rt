@@ -1,8 +1,11 @@
 //! The whole program, over any reader, any writers and any allocator.
 
-ghost use Rattle.std.specs.Prelude.{◌≡◌, ◌≢◌, ◌≤◌, ◌↔◌, IsTrue, IfErr};
+ghost use Rattle.std.specs.Prelude.{◌≡◌, ◌≢◌, ◌≤◌, ◌↔◌, ℕ, List, IsTrue, IfErr, IfOk, IfSome, OnOk, string_bytes};
+ghost use Rattle.std.specs.Io.KnownBytes.{Appends};
 ghost use Rattle.std.specs.Ordering.{int_cmp};
+ghost use Rattle.itree.specs.Grammar.{lines_of, IsFirstFaulty};
 ghost use Rattle.itree.specs.Modes.{NamesMode};
+ghost use Rattle.itree.specs.Texts.{Answers, HasFaultyLine};
 
 use crate::fault::Fault;
 use crate::lines::{parse_commands, reply_text};
@@ -34,9 +37,14 @@ pub fn run_itree<I: Read, O: Write, X: Write>(
     faults: &mut X,
 ) -> u8
     ensures status { result ≤ 2 }
+    ensures answered { result ≡ 0 → IfSome (I.remaining input.old) (λ text.
+        (replies : List ℕ) × Answers text replies
+        × Appends (O.contents output.old) (O.contents output.new) replies) }
     ensures no_replies { result ≡ 2 → output.new ≡ output.old }
     ensures no_fault { result ≢ 2 → faults.new ≡ faults.old }
     ensures faulty_words { ¬ (NamesMode words.now) → result ≡ 2 }
+    ensures faulty_line { result ≡ 2 → NamesMode words.now →
+        IfSome (I.remaining input.old) HasFaultyLine }
     ensures unread { ¬ (NamesMode words.now) → input.new ≡ input.old }
 {
     run_over(alloc, words, input, output, faults)
@@ -51,9 +59,14 @@ pub fn run_over<A: Allocator + Copy, I: Read, O: Write, X: Write>(
     faults: &mut X,
 ) -> u8
     ensures status { result ≤ 2 }
+    ensures answered { result ≡ 0 → IfSome (I.remaining input.old) (λ text.
+        (replies : List ℕ) × Answers text replies
+        × Appends (O.contents output.old) (O.contents output.new) replies) }
     ensures no_replies { result ≡ 2 → output.new ≡ output.old }
     ensures no_fault { result ≢ 2 → faults.new ≡ faults.old }
     ensures faulty_words { ¬ (NamesMode words.now) → result ≡ 2 }
+    ensures faulty_line { result ≡ 2 → NamesMode words.now →
+        IfSome (I.remaining input.old) HasFaultyLine }
     ensures unread { ¬ (NamesMode words.now) → input.new ≡ input.old }
 {
     match serve(alloc, words, input, output) {
@@ -84,8 +97,13 @@ fn serve<A: Allocator + Copy, I: Read, O: Write>(
     input: &mut I,
     output: &mut O,
 ) -> Result<(), Fault>
+    ensures answered { OnOk result (IfSome (I.remaining input.old) (λ text.
+        (replies : List ℕ) × Answers text replies
+        × Appends (O.contents output.old) (O.contents output.new) replies)) }
     ensures unwritten { IfErr result (λ fault. fault ≢ Fault.Stopped → output.new ≡ output.old) }
     ensures faulty_words { (result ≡ Err Fault.Arguments) ↔ ¬ (NamesMode words.now) }
+    ensures faulty_line { (number : ℕ) → result ≡ Err (Fault.Line number) →
+        IfSome (I.remaining input.old) (λ text. IsFirstFaulty (lines_of text) number) }
     ensures unread { ¬ (NamesMode words.now) → input.new ≡ input.old }
 {
     let replies = answer(alloc, words, input)?;
@@ -107,7 +125,11 @@ fn answer<A: Allocator + Copy, I: Read>(
     words: &[&str],
     input: &mut I,
 ) -> Result<String<A>, Fault>
+    ensures answered { IfOk result (λ replies.
+        IfSome (I.remaining input.old) (λ text. Answers text (string_bytes replies))) }
     ensures faulty_words { (result ≡ Err Fault.Arguments) ↔ ¬ (NamesMode words.now) }
+    ensures faulty_line { (number : ℕ) → result ≡ Err (Fault.Line number) →
+        IfSome (I.remaining input.old) (λ text. IsFirstFaulty (lines_of text) number) }
     ensures unread { ¬ (NamesMode words.now) → input.new ≡ input.old }
 {
     if !is_keylist(words) {

@@ -1,0 +1,14 @@
+use Rattle.std.proofs.Common.{◌≡◌, ◌≤◌, ◌+◌, ◌++◌, ℕ, List, Option, Some, None, IfSome, length}
+use Rattle.itree.specs.Grammar.{lines_of, lines_left, LinesSay}
+use Rattle.itree.proofs.lines.parse_commands.Given as goal
+
+-- the commands are those of the lines so far, which are counted, and the other lines are left
+abbrev pub invariant-lines : goal.invariant-lines
+invariant-lines g l = record {
+  in_range : IfSome l.rest (λ left. l.number + length left.now ≤ length l.text);
+  so_far : (before : List (List ℕ)) × (lines_of l.text ≡ before ++ lines_left l.rest) × (l.number ≡ length before) × LinesSay before l.commands.items;
+}
+
+-- one more than the length of what is left, or nothing
+abbrev pub decreases-lines : goal.decreases-lines
+decreases-lines g l = length (lines_left l.rest)

@@ -1,0 +1,31 @@
+-- What the program answers to a text.
+use Rattle.std.specs.Prelude.{◌≡◌, ℕ, ℤ, List, [], flat_map}
+use Rattle.std.specs.Ordering.{int_cmp}
+use Rattle.std.specs.declared.cmp.Ordering.{Ordering}
+use Rattle.itree.specs.Grammar.{TextCommand, lines_of, LinesSay, IsFirstFaulty}
+use Rattle.itree.specs.KeyMachine.{State, beginning, Run}
+use Rattle.itree.specs.Replies.{reply_line}
+use Rattle.itree.specs.declared.run.KeyReply.{KeyReply}
+use Rattle.itree.specs.declared.timed_key.TimedKey.{TimedKey}
+
+-- keys are compared by `key` alone
+abbrev pub cmp_keys : TimedKey → TimedKey → Ordering
+cmp_keys left right = int_cmp left.key right.key
+
+-- how a key stands to the one that is sought
+abbrev pub cmp_sought : ℤ → TimedKey → Ordering
+cmp_sought sought timed = int_cmp timed.key sought
+
+-- The replies are a run of the machine, from no pairs and no last time, over the commands that the text's lines say, and
+-- the output is their lines.
+pub record Answers (text output : List ℕ) : Type 0 where
+  pub commands : List TextCommand
+  pub replies : List (KeyReply ℤ)
+  pub end : State TimedKey ℤ ℤ
+  pub said : LinesSay (lines_of text) commands
+  pub run : Run (λ timed. timed.expiration) int_cmp cmp_keys cmp_sought (beginning []) commands replies end
+  pub written : output ≡ flat_map reply_line replies
+
+-- a line of the text is faulty
+abbrev pub HasFaultyLine : List ℕ → Type 0
+HasFaultyLine text = (number : ℕ) × IsFirstFaulty (lines_of text) number
