@@ -6,11 +6,12 @@ use Rattle.std.specs.declared.cmp.Ordering.{Ordering}
 use Rattle.std.specs.declared.cmp.Ordering.TheVariants as ordering
 use Rattle.std.specs.List.{All, Contains}
 use Rattle.std.proofs.lemmas.List.Elements.{All-contains_itself, All-weaker, All-same}
+use Rattle.i_tree.specs.Answer.{IsMonotone}
 use Rattle.i_tree.specs.Change.{Without}
 use Rattle.i_tree.specs.Live.{is_live, live_pairs}
 use Rattle.i_tree.proofs.Lists.{All-insert, Contains-filter, Contains-here, Contains-there}
 use Rattle.itree.specs.KeyMachine.{Inserts}
-use Rattle.itree.specs.Probes.{CanProbe, CanProbeAll, ProbesBy, known_after}
+use Rattle.itree.specs.Probes.{CanProbe, CanProbeAll, ProbesBy, ProbesAllBy, known_after}
 use Rattle.itree.specs.declared.run.KeyCommand.{KeyCommand}
 use Rattle.itree.specs.declared.run.KeyCommand.TheVariants.{Insert, Less, LessOrEqualBy, Clear}
 use Rattle.itree.specs.declared.run.KeyReply.{KeyReply}
@@ -101,3 +102,20 @@ module _ {K E V P : Type 0} where
     ProbesBy-within cmp_key may_answer order (Insert key val time) stored known within probes = probes
     ProbesBy-within cmp_key may_answer order (Less time default key) stored known within probes = probes
     ProbesBy-within cmp_key may_answer order Clear stored known within probes = probes
+
+    -- probes that answer by an order wherever they are called, which is monotone everywhere
+    pub ProbesAllBy-always : (cmp_key : K → K → Ordering) (may_answer : P → K → Ordering → Type 0) (order : P → K → Ordering)
+        → ((probe : P) (key : K) (answer : Ordering) → may_answer probe key answer → answer ≡ order probe key)
+        → ((probe : P) (pairs : List (K × V)) → IsMonotone cmp_key (order probe) pairs)
+        → (known : List (K × V)) (commands : List (KeyCommand K E V P)) → ProbesAllBy expiration cmp_time cmp_key may_answer order known commands
+    ProbesAllBy-always cmp_key may_answer order answers monotone known [] = tt
+    ProbesAllBy-always cmp_key may_answer order answers monotone known (Insert key val time ∷ commands) =
+        (tt, ProbesAllBy-always cmp_key may_answer order answers monotone ((key, val) ∷ known) commands)
+    ProbesAllBy-always cmp_key may_answer order answers monotone known (Less time default key ∷ commands) =
+        (tt, ProbesAllBy-always cmp_key may_answer order answers monotone known commands)
+    ProbesAllBy-always cmp_key may_answer order answers monotone known (LessOrEqualBy time default probe ∷ commands) = (
+      ((λ k d inside answer says. answers probe _ answer says), monotone probe (live_pairs expiration cmp_time time known)),
+      ProbesAllBy-always cmp_key may_answer order answers monotone known commands,
+    )
+    ProbesAllBy-always cmp_key may_answer order answers monotone known (Clear ∷ commands) =
+        (tt, ProbesAllBy-always cmp_key may_answer order answers monotone known commands)

@@ -16,14 +16,17 @@ cmp_keys left right = int_cmp left.key right.key
 abbrev pub cmp_sought : ℤ → TimedKey → Ordering
 cmp_sought sought timed = int_cmp timed.key sought
 
--- The replies are a run of the machine, from no pairs and no last time, over the commands that the text's lines say, and
--- the output is their lines.
+-- the replies are a run of the machine over the commands, from no pairs and no last time on
+abbrev pub AreReplies : List TextCommand → List (KeyReply ℤ) → Type 0
+AreReplies commands replies =
+    (end : State TimedKey ℤ ℤ) × Run (λ timed. timed.expiration) int_cmp cmp_keys cmp_sought (beginning []) commands replies end
+
+-- the output is the lines of replies to the commands that the lines of the text say
 pub record Answers (text output : List ℕ) : Type 0 where
   pub commands : List TextCommand
   pub replies : List (KeyReply ℤ)
-  pub end : State TimedKey ℤ ℤ
   pub said : LinesSay (lines_of text) commands
-  pub run : Run (λ timed. timed.expiration) int_cmp cmp_keys cmp_sought (beginning []) commands replies end
+  pub run : AreReplies commands replies
   pub written : output ≡ flat_map reply_line replies
 
 -- a line of the text is faulty

@@ -5,13 +5,14 @@ ghost use Rattle.std.specs.Io.KnownBytes.{Appends};
 ghost use Rattle.std.specs.Ordering.{int_cmp};
 ghost use Rattle.itree.specs.Grammar.{lines_of, IsFirstFaulty};
 ghost use Rattle.itree.specs.Modes.{NamesMode};
-ghost use Rattle.itree.specs.Texts.{Answers, HasFaultyLine};
+ghost use Rattle.itree.specs.Texts.{AreReplies, Answers, HasFaultyLine};
 
 use crate::fault::Fault;
-use crate::lines::{parse_commands, reply_text};
-use crate::run::run_keys;
+use crate::lines::{parse_commands, reply_text, LineCommand};
+use crate::run::{run_keys, KeyReply};
 use crate::timed_key::TimedKey;
 use i_tree::key::list::KeyExpList;
+use i_tree::Refusal;
 use std::alloc::{Allocator, Global};
 use std::cmp::Ordering;
 use std::io::{Read, Write};
@@ -138,8 +139,19 @@ fn answer<A: Allocator + Copy, I: Read>(
     let mut text = Vec::new(alloc);
     input.read_to_end(&mut text)?;
     let commands = parse_commands(alloc, &text)?;
+    let replies = run_commands(alloc, &commands)?;
+    Ok(reply_text(alloc, &replies)?)
+}
+
+// The replies to the commands, from an empty list on.
+fn run_commands<A: Allocator + Copy>(
+    alloc: A,
+    commands: &[LineCommand],
+) -> Result<Vec<KeyReply<i32>, A>, Refusal>
+    ensures { IfOk result (λ replies. AreReplies commands.now replies.items) }
+{
     let mut list = KeyExpList::new(alloc, 0)?;
     let mut replies = Vec::new(alloc);
-    run_keys(&mut list, &commands, compare_key, &mut replies)?;
-    Ok(reply_text(alloc, &replies)?)
+    run_keys(&mut list, commands, compare_key, &mut replies)?;
+    Ok(replies)
 }
