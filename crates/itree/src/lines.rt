@@ -70,17 +70,13 @@ fn parse_line<A: Allocator>(
     ensures faulty { result ≡ Err (Fault.Line number) → IsFaulty line.now }
     ensures err { IfErr result (λ fault. (fault ≡ Fault.Line number) ⊎ (fault ≡ Fault.Stopped)) }
 {
-    let Some(text) = ascii_text(line) else {
-        return Err(Fault::Line(number));
-    };
+    let text = ascii_text(line).ok_or(Fault::Line(number))?;
     let words = line_words(alloc, text)?;
     if words.is_empty() {
         return Ok(None);
     }
-    match parse_words(&words) {
-        Some(command) => Ok(Some(command)),
-        None => Err(Fault::Line(number)),
-    }
+    let command = parse_words(&words).ok_or(Fault::Line(number))?;
+    Ok(Some(command))
 }
 
 // The line as text, unless a byte lies outside ASCII.
