@@ -8,11 +8,11 @@ ghost use Rattle.itree.specs.Modes.{NamesMode};
 ghost use Rattle.itree.specs.Texts.{AreReplies, Answers, HasFaultyLine};
 
 use crate::fault::Fault;
-use crate::lines::{parse_commands, reply_text, LineCommand};
-use crate::run::{run_keys, KeyReply};
+use crate::lines::{LineCommand, parse_commands, reply_text};
+use crate::run::{KeyReply, run_keys};
 use crate::timed_key::TimedKey;
-use i_tree::key::list::KeyExpList;
 use i_tree::Refusal;
+use i_tree::key::list::KeyExpList;
 use std::alloc::{Allocator, Global};
 use std::cmp::Ordering;
 use std::io::{Read, Write};

@@ -1,4 +1,3 @@
-use Rattle.std.proofs.Common.{map}
 use Rattle.std.proofs.lemmas.Iterator.Consumers.{map_from_collect}
 use Rattle.itree.proofs.Splitting.{YieldsList-from_words}
 use Rattle.itree.proofs.lines.line_words.Goals as goal

@@ -1,4 +1,4 @@
-use Rattle.std.proofs.Common.{◌≡◌, ◌≤◌, ◌+◌, ◌++◌, ℕ, List, Option, Some, None, IfSome, length}
+use Rattle.std.proofs.Common.{◌≡◌, ◌≤◌, ◌+◌, ◌++◌, ℕ, List, IfSome, length}
 use Rattle.itree.specs.Grammar.{lines_of, lines_left, LinesSay}
 use Rattle.itree.proofs.lines.parse_commands.Given as goal
 
@@ -9,6 +9,6 @@ invariant-lines g l = record {
   so_far : (before : List (List ℕ)) × (lines_of l.text ≡ before ++ lines_left l.rest) × (l.number ≡ length before) × LinesSay before l.commands.items;
 }
 
--- one more than the length of what is left, or nothing
+-- how many lines are left
 abbrev pub decreases-lines : goal.decreases-lines
 decreases-lines g l = length (lines_left l.rest)

@@ -3,7 +3,7 @@ use Rattle.std.proofs.Common.{◌≡◌, List, [], ◌++◌, ℤ, ap, sym, subst
 use Rattle.std.specs.Cmp.{int_cmp_total}
 use Rattle.std.specs.Ordering.{int_cmp}
 use Rattle.i_tree.proofs.Monotone.{IsMonotone-compare}
-use Rattle.itree.specs.KeyMachine.{State, beginning, Run}
+use Rattle.itree.specs.KeyMachine.{beginning, Run}
 use Rattle.itree.specs.Texts.{cmp_keys, cmp_sought}
 use Rattle.itree.specs.declared.run.KeyReply.{KeyReply}
 use Rattle.itree.specs.declared.timed_key.TimedKey.{TimedKey}
