@@ -1,5 +1,5 @@
 -- What contracts see of counted steps.
-use Rattle.std.specs.Prelude.{◌≡◌, ℕ}
+use Rattle.std.specs.Prelude.{ℕ}
 
 -- how many comparisons of keys, tests of an expiration, removals and rotations were made
 pub record Counts : Type 0 where
