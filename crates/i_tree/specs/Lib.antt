@@ -3,3 +3,4 @@ pub mod Change
 pub mod KeyExpList
 pub mod Live
 pub mod Pairs
+pub mod Steps

@@ -1,12 +1,14 @@
 //! The containers of a sweep line: keys that expire, in a sorted list.
 //!
-//! A port of the Rust crate `i_tree`. Each call is proved to answer from a plain list of pairs.
+//! A port of the Rust crate `i_tree` 0.20.0, whose names and rules these are. Each call is proved to answer from a plain
+//! list of pairs.
 #![tactic(auto)]
 
 ghost use Rattle.std.specs.Prelude.{◌≡◌};
 ghost use Rattle.i_tree.specs.declared.Refusal.TheVariants.{OutOfMemory};
 
 pub mod key;
+pub mod steps;
 
 use std::alloc::AllocError;
 

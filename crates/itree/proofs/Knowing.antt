@@ -22,6 +22,14 @@ use Rattle.itree.proofs.Members.{Within, All-within, Contains-from_filter, Witho
 pub next_command : {X : Type 0} (commands : List X) (i : ℕ) (command : X) → i < length commands → command ≡ get_or commands i command → drop i commands ≡ command ∷ drop (i + 1) commands
 next_command commands i command within is = drop_more commands i command within ∙ ap (λ x. x ∷ drop (i + 1) commands) (sym is)
 
+-- what was stored is known, whatever joins it
+pub known_more : {X : Type 0} (x : X) (stored : List X) → All (Contains (x ∷ stored)) stored
+known_more x stored = All-weaker (Contains stored) (Contains (x ∷ stored)) (Contains-there x stored) stored (All-contains_itself stored)
+
+-- what is left of what was stored is known
+pub known_without : {X : Type 0} {MayGo : X → Type 0} (stored stored' : List X) → Without MayGo stored stored' → All (Contains stored) stored'
+known_without stored stored' without = All-within (Contains stored) stored stored' (Without-within without) (All-contains_itself stored)
+
 -- whatever an insertion replies, what is stored then is the pair and what was stored
 pub known_inserts : {K E V : Type 0} (expiration : K → E) (cmp_time : E → E → Ordering) (cmp_key : K → K → Ordering) (time : E) (key : K) (val : V) (stored stored' : List (K × V)) (reply : KeyReply V)
     → Inserts expiration cmp_time cmp_key time key val stored reply stored' → All (Contains ((key, val) ∷ stored)) stored'
@@ -31,7 +39,7 @@ known_inserts {K = K} {V = V} expiration cmp_time cmp_key time key val stored st
     Known pair = Contains ((key, val) ∷ stored) pair
 
     all_known : All Known stored
-    all_known = All-weaker (Contains stored) Known (Contains-there (key, val) stored) stored (All-contains_itself stored)
+    all_known = known_more (key, val) stored
 
     by_reply : (reply : KeyReply V) → Inserts expiration cmp_time cmp_key time key val stored reply stored' → All Known stored'
     by_reply Present (has, same) = All-same Known stored' stored same all_known
@@ -50,26 +58,13 @@ Within-live expiration cmp_time time stored known within x h =
     Contains-filter (λ pair. is_live expiration cmp_time time pair.0) known x found.1 (within x found.0)
 
 module _ {K E V P : Type 0} where
-  -- what is known stays known
-  Within-known_after : (command : KeyCommand K E V P) (known : List (K × V)) → Within known (known_after command known)
-  Within-known_after (Insert key val time) known x h = Contains-there (key, val) known x h
-  Within-known_after (Less time default key) known x h = h
-  Within-known_after (LessOrEqualBy time default probe) known x h = h
-  Within-known_after Clear known x h = h
-
   -- more that is known before a command is more that is known after it
   pub known_after-within : (command : KeyCommand K E V P) (stored known : List (K × V)) → Within stored known → Within (known_after command stored) (known_after command known)
   known_after-within (Insert key val time) stored known within x (zero, inside, is) = (0, omega arith, is)
   known_after-within (Insert key val time) stored known within x (suc k, inside, is) = Contains-there (key, val) known x (within x (k, omega arith, is))
   known_after-within (Less time default key) stored known within x h = within x h
   known_after-within (LessOrEqualBy time default probe) stored known within x h = within x h
-  known_after-within Clear stored known within x h = within x h
-
-  pub known_same : (command : KeyCommand K E V P) (stored : List (K × V)) → All (Contains (known_after command stored)) stored
-  known_same command stored = All-weaker (Contains stored) (Contains (known_after command stored)) (Within-known_after command stored) stored (All-contains_itself stored)
-
-  pub known_without : (command : KeyCommand K E V P) {MayGo : K × V → Type 0} (stored stored' : List (K × V)) → Without MayGo stored stored' → All (Contains (known_after command stored)) stored'
-  known_without command stored stored' without = All-within (Contains (known_after command stored)) stored stored' (Without-within without) (known_same command stored)
+  known_after-within Clear stored known within x h = h
 
   module _ (expiration : K → E) (cmp_time : E → E → Ordering) where
     pub CanProbe-within : (may_call : P → K → Type 0) (command : KeyCommand K E V P) (stored known : List (K × V)) → Within stored known
@@ -86,7 +81,7 @@ module _ {K E V P : Type 0} where
     CanProbeAll-always may_call always known (Insert key val time ∷ commands) = (tt, CanProbeAll-always may_call always ((key, val) ∷ known) commands)
     CanProbeAll-always may_call always known (Less time default key ∷ commands) = (tt, CanProbeAll-always may_call always known commands)
     CanProbeAll-always may_call always known (LessOrEqualBy time default probe ∷ commands) = (λ k d inside. always probe _, CanProbeAll-always may_call always known commands)
-    CanProbeAll-always may_call always known (Clear ∷ commands) = (tt, CanProbeAll-always may_call always known commands)
+    CanProbeAll-always may_call always known (Clear ∷ commands) = (tt, CanProbeAll-always may_call always [] commands)
 
     pub ProbesBy-within : (cmp_key : K → K → Ordering) (may_answer : P → K → Ordering → Type 0) (order : P → K → Ordering) (command : KeyCommand K E V P) (stored known : List (K × V)) → Within stored known
         → ProbesBy expiration cmp_time cmp_key may_answer order command known → ProbesBy expiration cmp_time cmp_key may_answer order command stored

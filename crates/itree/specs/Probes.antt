@@ -1,5 +1,5 @@
 -- Where the probes of commands are asked, and how they answer there. The known pairs are those stored at the start and
--- those that earlier commands insert, whatever became of them.
+-- those that earlier commands insert, whatever became of them, but none from before a `Clear`.
 use Rattle.std.specs.Prelude.{⊤, List, [], ◌∷◌, All}
 use Rattle.std.specs.declared.cmp.Ordering.{Ordering}
 use Rattle.i_tree.specs.Answer.{AnswersBy, IsMonotone}
@@ -12,7 +12,7 @@ abbrev pub known_after : {K E V P : Type 0} → KeyCommand K E V P → List (K �
 known_after (Insert key val time) known = (key, val) ∷ known
 known_after (Less time default key) known = known
 known_after (LessOrEqualBy time default probe) known = known
-known_after Clear known = known
+known_after Clear known = []
 
 module _ {K E V P : Type 0} (expiration : K → E) (cmp_time : E → E → Ordering) where
   -- the command's probe may be called on each key of the pairs that is live at its time

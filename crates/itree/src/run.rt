@@ -50,7 +50,7 @@ pub enum KeyReply<V> {
 /// time is answered `Late` and changes nothing; every other command with a time makes it the last one, whatever its
 /// reply. `probe` says how a key stands to what a `LessOrEqualBy` looks for: it is asked about live keys alone, and
 /// is to be monotone on these. Room for all replies is taken first: where it is refused, the answer is
-/// `OutOfMemory`, and `c` and `out` are as they were.
+/// `OutOfMemory`, and `c` and `out` are as they were. The runner is our own, and not of the Rust crate.
 pub fn run_keys<K, E, V, P, C, G, B>(
     c: &mut C,
     commands: &[KeyCommand<K, E, V, P>],

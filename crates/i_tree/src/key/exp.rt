@@ -12,14 +12,17 @@ use std::cmp::Ordering;
 ///
 /// A key is live at each time before its expiration. At the equal moment it is expired. A call removes expired
 /// keys only, and answers from the live ones. Each call stands for itself: times may go back.
+///
+/// The rules are those of the Rust crate `i_tree`, but for `contains_key`, which is our own, and for the condition of
+/// `insert`.
 pub trait KeyExpCollection<K: ExpiredKey<E>, E: Expiration, V: Copy> {
     /// The pairs that are stored, expired ones among them.
     ghost stored: { Self → List (K × V) };
 
     /// Stores the pair, whatever its expiration.
     ///
-    /// `contains_key` is the test of the condition: no key that is live at `time` compares Equal. A refusal leaves
-    /// what is stored as it was.
+    /// `contains_key` is the test of the condition: no key that is live at `time` compares Equal. It is refused where
+    /// the collection gets no room for the pair, and that leaves what is stored as it was.
     fn insert(&mut self, key: K, val: V, time: E) -> Result<(), Refusal>
         requires { NoKey K.cmp (live_pairs K.expiration E.cmp time (stored self.old)) key }
         ensures ok { OnOk result (Gains (IsExpired K.expiration E.cmp time) (key, val) (stored self.old) (stored self.new)) }
@@ -46,7 +49,7 @@ pub trait KeyExpCollection<K: ExpiredKey<E>, E: Expiration, V: Copy> {
         ensures kept { Without (IsExpired K.expiration E.cmp time) (stored self.old) (stored self.new) }
         ensures rising { IsRising K.cmp (stored self.new) };
 
-    /// Whether a key that is live at `time` compares Equal to `key`.
+    /// Whether a key that is live at `time` compares Equal to `key`. It removes nothing.
     fn contains_key(&self, time: E, key: K) -> bool
         ensures cases { MatchBool result (HasKey K.cmp (live_pairs K.expiration E.cmp time (stored self.now)) key) (NoKey K.cmp (live_pairs K.expiration E.cmp time (stored self.now)) key) }
         ensures rising { IsRising K.cmp (stored self.now) };

@@ -15,7 +15,8 @@ use std::marker::Model;
 
 /// A sorted vector of keys that expire, each with a value.
 ///
-/// Contracts see the stored pairs by rising key, and `spare`, for how many more there is room.
+/// Contracts see the stored pairs by rising key, and `spare`, for how many more there is room. As in the Rust crate
+/// `i_tree`, an insertion or a query first removes all that is expired at its time.
 #[derive(Drop)]
 pub struct KeyExpList<K: ExpiredKey<E>, E: Expiration, V: Copy, A: Allocator + Copy> {
     pairs: Vec<(K, V), A>,

@@ -1,15 +1,16 @@
 use Rattle.itree.proofs.Serving.{serves_less, serves_at_most, serves_insert}
-use Rattle.itree.proofs.Knowing.{known_inserts, known_same, known_without}
+use Rattle.std.proofs.lemmas.List.Elements.{All-contains_itself}
+use Rattle.itree.proofs.Knowing.{known_inserts, known_more, known_without}
 use Rattle.itree.proofs.run.serve.Goals as goal
 
 pub returns-then-not-advance-clause-known : goal.returns-then-not-advance-clause-known
-returns-then-not-advance-clause-known g c = known_same c.args.command (g.C.KeyExpCollection.stored c.args.c.now)
+returns-then-not-advance-clause-known g c = rw c.in-Insert.is (known_more (c.in-Insert.key, c.in-Insert.val) (g.C.KeyExpCollection.stored c.args.c.now))
 
 pub returns-then-not-advance-2-clause-known : goal.returns-then-not-advance-2-clause-known
-returns-then-not-advance-2-clause-known g c = known_same c.args.command (g.C.KeyExpCollection.stored c.args.c.now)
+returns-then-not-advance-2-clause-known g c = rw c.in-Less.is (All-contains_itself (g.C.KeyExpCollection.stored c.args.c.now))
 
 pub returns-then-not-advance-3-clause-known : goal.returns-then-not-advance-3-clause-known
-returns-then-not-advance-3-clause-known g c = known_same c.args.command (g.C.KeyExpCollection.stored c.args.c.now)
+returns-then-not-advance-3-clause-known g c = rw c.in-LessOrEqualBy.is (All-contains_itself (g.C.KeyExpCollection.stored c.args.c.now))
 
 pub returns-else-not-advance-clause-steps : goal.returns-else-not-advance-clause-steps
 returns-else-not-advance-clause-steps g c order probes =
@@ -33,7 +34,8 @@ returns-else-not-advance-2-clause-steps g c order probes =
 
 pub returns-else-not-advance-2-clause-known : goal.returns-else-not-advance-2-clause-known
 returns-else-not-advance-2-clause-known g c =
-    known_without c.args.command (g.C.KeyExpCollection.stored c.args.c.now) (g.C.KeyExpCollection.stored c.first_less.new.self) c.first_less.ensures.kept
+    rw c.in-Less.is
+    (known_without (g.C.KeyExpCollection.stored c.args.c.now) (g.C.KeyExpCollection.stored c.first_less.new.self) c.first_less.ensures.kept)
 
 pub returns-else-not-advance-3-clause-steps : goal.returns-else-not-advance-3-clause-steps
 returns-else-not-advance-3-clause-steps g c order probes =
@@ -46,4 +48,5 @@ returns-else-not-advance-3-clause-steps g c order probes =
 
 pub returns-else-not-advance-3-clause-known : goal.returns-else-not-advance-3-clause-known
 returns-else-not-advance-3-clause-known g c =
-    known_without c.args.command (g.C.KeyExpCollection.stored c.args.c.now) (g.C.KeyExpCollection.stored c.first_less_or_equal_by.new.self) c.first_less_or_equal_by.ensures.kept
+    rw c.in-LessOrEqualBy.is
+    (known_without (g.C.KeyExpCollection.stored c.args.c.now) (g.C.KeyExpCollection.stored c.first_less_or_equal_by.new.self) c.first_less_or_equal_by.ensures.kept)
