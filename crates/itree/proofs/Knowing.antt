@@ -113,4 +113,4 @@ module _ {K E V P : Type 0} where
       ProbesAllBy-always cmp_key may_answer order answers monotone known commands,
     )
     ProbesAllBy-always cmp_key may_answer order answers monotone known (Clear ∷ commands) =
-        (tt, ProbesAllBy-always cmp_key may_answer order answers monotone known commands)
+        (tt, ProbesAllBy-always cmp_key may_answer order answers monotone [] commands)
