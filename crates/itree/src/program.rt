@@ -148,7 +148,8 @@ fn run_commands<A: Allocator + Copy>(
     alloc: A,
     commands: &[LineCommand],
 ) -> Result<Vec<KeyReply<i32>, A>, Refusal>
-    ensures { IfOk result (λ replies. AreReplies commands.now replies.items) }
+    ensures run { IfOk result (λ replies. AreReplies commands.now replies.items) }
+    ensures refused { IfErr result (λ cause. cause ≡ Refusal.OutOfMemory) }
 {
     let mut list = KeyExpList::new(alloc, 0)?;
     let mut replies = Vec::new(alloc);

@@ -13,8 +13,8 @@ use Rattle.itree.proofs.program.run_commands.Goals as goal
 pub run_keys-requires : goal.run_keys-requires
 run_keys-requires g c = search (rules, CanProbeAll-always)
 
-pub returns : goal.returns
-returns g c =
+pub returns-clause-run : goal.returns-clause-run
+returns-clause-run g c =
     let (replies, are, run) = c.in_ok-run_keys.ensures.run in
     let expiration = λ (timed : TimedKey). timed.expiration in
     let (end, is_run, stands) = run cmp_sought
