@@ -1,6 +1,17 @@
 pub mod Answer
+pub mod ArenaLends
+pub mod Balance
 pub mod Change
+pub mod Context
 pub mod KeyExpList
 pub mod Live
+pub mod Mending
 pub mod Pairs
+pub mod RbTree
+pub mod RbTreeLends
+pub mod Room
+pub mod Shape
+pub mod ShapeCode
+pub mod Slots
 pub mod Steps
+pub mod Turns

@@ -1,5 +1,5 @@
 -- What contracts see of counted steps.
-use Rattle.std.specs.Prelude.{ℕ}
+use Rattle.std.specs.Prelude.{◌≡◌, ℕ, ◌+◌, ◌≤◌}
 
 -- how many comparisons of keys, tests of an expiration, removals and rotations were made
 pub record Counts : Type 0 where
@@ -7,3 +7,11 @@ pub record Counts : Type 0 where
   pub tests : ℕ
   pub removals : ℕ
   pub rotations : ℕ
+
+-- at most so many rotations were made, and nothing else that is counted
+pub record OnlyRotates (old new : Counts) (most : ℕ) : Type 0 where
+  pub comparisons : new.comparisons ≡ old.comparisons
+  pub tests : new.tests ≡ old.tests
+  pub removals : new.removals ≡ old.removals
+  pub no_fewer : old.rotations ≤ new.rotations
+  pub at_most : new.rotations ≤ old.rotations + most

@@ -8,6 +8,7 @@ ghost use Rattle.std.specs.Prelude.{◌≡◌};
 ghost use Rattle.i_tree.specs.declared.Refusal.TheVariants.{OutOfMemory};
 
 pub mod key;
+pub mod rb;
 pub mod steps;
 
 use std::alloc::AllocError;

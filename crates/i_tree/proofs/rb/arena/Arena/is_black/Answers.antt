@@ -1,0 +1,33 @@
+use Rattle.std.proofs.Common.{◌≡◌, ◌∙◌, sym, refl, eq-eqb}
+use Rattle.i_tree.specs.contracts.rb.links.Colour.{the_type}
+use denote.Enum.Bare.{sameb}
+use Rattle.i_tree.specs.declared.rb.links.Colour.{Colour}
+use Rattle.i_tree.specs.declared.rb.links.Colour.TheVariants.{Red, Black}
+use Rattle.i_tree.specs.Balance.{is_black_colour}
+use Rattle.i_tree.proofs.Placed.{AreHandles-sound}
+use Rattle.i_tree.proofs.TurningReads.{IsSound-view, IsUsed-sound, black_at, black_at_none}
+use Rattle.i_tree.proofs.rb.arena.Arena.is_black.Goals as goal
+
+same_as_black : (colour : Colour) → sameb the_type colour Black ≡ is_black_colour colour
+same_as_black Red = refl
+same_as_black Black = refl
+
+pub links_at-requires : goal.links_at-requires
+links_at-requires g c =
+    let sound = IsSound-view _ _ _ _ _ c.args.self.now c.self.invariant c.self.view_is in
+    rw c.deref.ensures.value (IsUsed-sound _ _ _ _ c.args.handle c.args.self.now.shape sound (c.requires c.if-handle-eq-EMPTY_REF.false))
+
+pub returns-then-handle-eq-EMPTY_REF-clause-value :
+    goal.returns-then-handle-eq-EMPTY_REF-clause-value
+returns-then-handle-eq-EMPTY_REF-clause-value g c = λ around part is here.
+    let sound = IsSound-view _ _ _ _ _ c.args.self.now c.self.invariant c.self.view_is in
+    eq-eqb c.args.handle 4294967295 c.if-handle-eq-EMPTY_REF.true
+    ∙ sym (black_at_none c.args.self.now.shape around part c.args.handle (AreHandles-sound _ _ _ _ _ sound) c.if-handle-eq-EMPTY_REF.true is here)
+
+pub returns-else-handle-eq-EMPTY_REF-clause-value :
+    goal.returns-else-handle-eq-EMPTY_REF-clause-value
+returns-else-handle-eq-EMPTY_REF-clause-value g c = λ around part is here.
+    let sound = IsSound-view _ _ _ _ _ c.args.self.now c.self.invariant c.self.view_is in
+    c.eq.ensures ∙ same_as_black c.links_at.result.colour
+    ∙ black_at _ _ _ _ c.args.handle c.args.self.now.shape c.links_at.result around part sound (c.requires c.if-handle-eq-EMPTY_REF.false)
+    (rw c.deref.ensures.value at c.links_at.ensures) is here

@@ -1,0 +1,109 @@
+ghost use Rattle.std.specs.Prelude.{◌≡◌, Some, IsSome};
+ghost use Rattle.std.specs.Borrow.{sem, Lends};
+ghost use Rattle.i_tree.specs.Context.{other_side};
+ghost use Rattle.i_tree.specs.Slots.{IsUsed, Relinks, child_link, with_child_link, links_of, slot_links, slot_item, with_slot_item};
+
+/// The colour of a node, by which the tree keeps its balance.
+#[derive(Clone, Copy, PartialEq, Eq)]
+pub enum Colour {
+    Red,
+    Black,
+}
+
+/// One of the two sides of a node.
+#[derive(Clone, Copy, PartialEq, Eq)]
+pub enum Side {
+    Left,
+    Right,
+}
+
+impl Side {
+    pub fn other(self) -> Side
+        ensures { result ≡ other_side self }
+    {
+        match self {
+            Side::Left => Side::Right,
+            Side::Right => Side::Left,
+        }
+    }
+}
+
+/// What a node is tied to: the handles of its parent and of the tops of its parts, or `EMPTY_REF`, and its colour.
+#[derive(Clone, Copy)]
+pub struct Links {
+    pub parent: u32,
+    pub left: u32,
+    pub right: u32,
+    pub colour: Colour,
+}
+
+impl Links {
+    pub fn child(self, side: Side) -> u32
+        ensures { result ≡ child_link side self }
+    {
+        match side {
+            Side::Left => self.left,
+            Side::Right => self.right,
+        }
+    }
+
+    pub fn with_child(self, side: Side, child: u32) -> Links
+        ensures { result ≡ with_child_link side child self }
+    {
+        match side {
+            Side::Left => Links {
+                left: child,
+                ..self
+            },
+            Side::Right => Links {
+                right: child,
+                ..self
+            },
+        }
+    }
+}
+
+/// A slot of the arena: free, with the number of the next free one, or in use by a node.
+#[derive(Drop)]
+pub enum Slot<T> {
+    Free(u32),
+    Used(Links, T),
+}
+
+impl<T> Slot<T> {
+    ghost use Rattle.i_tree.specs.contracts.rb.links.Slot.{the_row};
+
+    /// The item of the node in the slot, to change it.
+    pub fn item_mut(&mut self) -> &mut T
+        requires { IsSome (slot_links (Some self.old)) }
+        ensures* lends { sem 𝓛 (Lends (the_row T.row) T.row self.entry result (with_slot_item self.entry.now)) }
+        ensures value { slot_item self.old ≡ Some result.now }
+    {
+        match self {
+            Slot::Used(_, item) => item,
+            Slot::Free(_) => unreachable!(),
+        }
+    }
+}
+
+/// The links of the node in this slot.
+pub fn links_at<T>(slots: &[Slot<T>], handle: u32) -> Links
+    requires { IsUsed slots.now handle }
+    ensures { links_of slots.now handle ≡ Some result }
+{
+    match &slots[handle as usize] {
+        Slot::Used(links, _) => *links,
+        Slot::Free(_) => unreachable!(),
+    }
+}
+
+/// Gives the node in this slot other links.
+pub fn set_links<T>(slots: &mut [Slot<T>], handle: u32, links: Links)
+    requires { IsUsed slots.old handle }
+    ensures { Relinks slots.old slots.new handle links }
+{
+    match &mut slots[handle as usize] {
+        Slot::Used(old, _) => *old = links,
+        Slot::Free(_) => {}
+    }
+}

@@ -1,0 +1,8 @@
+//! The core of both trees: a red-black tree whose nodes have handles that stay.
+
+mod arena;
+mod links;
+mod mending;
+mod tree;
+
+pub use tree::RbTree;
