@@ -11,9 +11,17 @@ pub mod Lists
 pub mod Monotone
 pub mod Parts
 pub mod Placed
+pub mod RemovalLoop
+pub mod RemovalStep
 pub mod Room
 pub mod RoomGrown
 pub mod Searching
+pub mod TakingFirst
+pub mod TakingFrames
+pub mod TakingItems
+pub mod TakingRemoved
+pub mod TakingShapes
+pub mod TakingSides
 pub mod Times
 pub mod Turning
 pub mod TurningItems

@@ -9,9 +9,12 @@ pub mod Mending
 pub mod Pairs
 pub mod RbTree
 pub mod RbTreeLends
+pub mod Removal
+pub mod Rising
 pub mod Room
 pub mod Shape
 pub mod ShapeCode
 pub mod Slots
 pub mod Steps
+pub mod Taking
 pub mod Turns

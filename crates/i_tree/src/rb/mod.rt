@@ -3,6 +3,8 @@
 mod arena;
 mod links;
 mod mending;
+mod removal;
+mod taking;
 mod tree;
 
 pub use tree::RbTree;
