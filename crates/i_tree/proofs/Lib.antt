@@ -16,6 +16,15 @@ pub mod RemovalStep
 pub mod Room
 pub mod RoomGrown
 pub mod Searching
+pub mod SetCounts
+pub mod SetDescent
+pub mod SetHandles
+pub mod SetInsertion
+pub mod SetLists
+pub mod SetOrdered
+pub mod SetParts
+pub mod SetPositions
+pub mod SetSearch
 pub mod TakingFirst
 pub mod TakingFrames
 pub mod TakingItems

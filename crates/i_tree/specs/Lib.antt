@@ -2,6 +2,7 @@ pub mod Answer
 pub mod ArenaLends
 pub mod Balance
 pub mod Change
+pub mod Compared
 pub mod Context
 pub mod KeyExpList
 pub mod Live
@@ -12,6 +13,12 @@ pub mod RbTreeLends
 pub mod Removal
 pub mod Rising
 pub mod Room
+pub mod Set
+pub mod SetList
+pub mod SetListLends
+pub mod SetListPairs
+pub mod SetPairs
+pub mod SetPlace
 pub mod Shape
 pub mod ShapeCode
 pub mod Slots

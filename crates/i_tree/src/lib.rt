@@ -9,6 +9,7 @@ ghost use Rattle.i_tree.specs.declared.Refusal.TheVariants.{OutOfMemory};
 
 pub mod key;
 pub mod rb;
+pub mod set;
 pub mod steps;
 
 use std::alloc::AllocError;

@@ -1,0 +1,45 @@
+use Rattle.std.proofs.Common.{◌≡◌, ◌≤◌, length, sym, ap, ◌∙◌, subst, arith}
+use Rattle.std.specs.List.{insert}
+use Rattle.std.proofs.lemmas.List.Edits.{length-insert}
+use Rattle.i_tree.specs.Set.{IsOrdered}
+use Rattle.i_tree.specs.SetList.{numbered, IsPlaceFor}
+use Rattle.i_tree.proofs.SetPositions.{AreApart-numbered, AreApart-viewed, joins_numbered, ordered-insert, same_contents}
+use Rattle.i_tree.proofs.set.list.SetListSetCollection.insert.Goals as goal
+
+pub returns-then-len-clause-handles : goal.returns-then-len-clause-handles
+returns-then-len-clause-handles g c = AreApart-viewed c.self.view_is c.self.invariant
+
+pub returns-in-Err-clause-err : goal.returns-in-Err-clause-err
+returns-in-Err-clause-err g c =
+    let e = c.in-Err.ensures in
+    same_contents (e.items ∙ ap (λ list. list.values) c.self.view_is)
+    (omega (arith, ap (λ list. list.spare) c.self.view_is, e.err, e.full, e.len))
+
+pub returns-in-Err-clause-handles : goal.returns-in-Err-clause-handles
+returns-in-Err-clause-handles g c = AreApart-numbered c.reserve.new.self.items (omega (arith, c.self.invariant, ap length (c.in-Err.ensures).items))
+
+-- what an insertion that has room leaves: the value has joined the others at its place
+old_items : (g : _) (c : goal.After-unwrap g) → c.reserve.new.self.items ≡ c.args.self.now.values
+old_items g c = c.reserve.ensures.items ∙ ap (λ list. list.values) c.self.view_is
+
+within : (g : _) (c : goal.After-unwrap g) → c.place_of-place.result ≤ length c.args.self.now.values
+within g c = omega (arith, c.place_of-place.ensures.within, ap length (c.deref.ensures.value ∙ old_items g c))
+
+inserted : (g : _) (c : goal.After-unwrap g) → c.insert.new.self.items ≡ insert c.args.self.now.values c.place_of-place.result c.args.val
+inserted g c = (rw c.unwrap.ensures at c.insert.ensures.items) ∙ ap (λ values. insert values c.place_of-place.result c.args.val) (old_items g c)
+
+pub returns-clause-ok : goal.returns-clause-ok
+returns-clause-ok g c = joins_numbered c.args.self.now.values c.insert.new.self.items c.place_of-place.result c.args.val (within g c) (inserted g c)
+
+pub returns-clause-in_order : goal.returns-clause-in_order
+returns-clause-in_order g c =
+    let key_of = g.V.KeyValue.key_of in
+    let at_place = subst (λ values. IsPlaceFor key_of g.K.Ord.cmp c.key.result.now values c.place_of-place.result) (c.deref.ensures.value ∙ old_items g c) c.place_of-place.ensures.splits in
+    subst (λ values. IsOrdered key_of g.K.Ord.cmp (numbered values)) (sym (inserted g c))
+    (ordered-insert key_of g.met.K.Ord.total c.args.self.now.values c.args.val c.place_of-place.result c.requires.in_order c.requires.absent
+    (subst (λ key. IsPlaceFor key_of g.K.Ord.cmp key c.args.self.now.values c.place_of-place.result) c.key.ensures at_place) (within g c))
+
+pub returns-clause-handles : goal.returns-clause-handles
+returns-clause-handles g c =
+    AreApart-numbered c.insert.new.self.items
+    (omega (arith, c.if-len.false, c.len.ensures, c.self.inside.values.ok.0, ap (λ list. length list.values) c.self.view_is, ap length (inserted g c), length-insert c.args.self.now.values c.place_of-place.result c.args.val (within g c)))

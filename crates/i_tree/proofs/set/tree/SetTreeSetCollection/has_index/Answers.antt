@@ -1,0 +1,17 @@
+use Rattle.std.proofs.Common.{◌≡◌, subst}
+use Rattle.std.specs.Bool.{MatchBool}
+use Rattle.i_tree.proofs.SetParts.{HasHandle-live, LacksHandle-absent, MatchBool-weaker}
+use Rattle.i_tree.proofs.SetHandles.{AreApart-from_handles}
+use Rattle.i_tree.specs.RbTree.{Contents}
+use Rattle.i_tree.specs.Set.{HasHandle, LacksHandle}
+use Rattle.i_tree.specs.Shape.{entries, IsLive, occurs}
+use Rattle.i_tree.proofs.set.tree.SetTreeSetCollection.has_index.Goals as goal
+
+pub returns-clause-cases : goal.returns-clause-cases
+returns-clause-cases g c =
+    subst (λ (contents : Contents g.row.V.Denot). MatchBool c.has.result (HasHandle (entries contents.shape) c.args.index) (LacksHandle (entries contents.shape) c.args.index)) c.self.view_is
+    (MatchBool-weaker c.has.result (IsLive c.self.inside.core.shape c.args.index) (occurs c.args.index c.self.inside.core.shape ≡ 0) _ _
+    (HasHandle-live c.args.index c.self.inside.core.shape) (LacksHandle-absent c.args.index c.self.inside.core.shape) c.has.ensures.value)
+
+pub returns-clause-handles : goal.returns-clause-handles
+returns-clause-handles g c = rw (← c.self.view_is) (AreApart-from_handles c.self.inside.core.shape c.has.ensures.core.handles)

@@ -1,0 +1,232 @@
+ghost use Rattle.std.specs.Prelude.{◌≡◌, ◌≤◌, ◌<◌, ◌-◌, ◌+◌, ◌++◌, ◌∷◌, ℕ, List, [], length, Bool, true, false, not, IsOk, OnOk, OnErr, IfOk, IfErr, IsErrAnd, MatchBool};
+ghost use Rattle.std.specs.Borrow.{Bor, sem};
+ghost use Rattle.std.specs.Fn.{FnReturnsAt};
+ghost use Rattle.std.specs.Ordering.{is_gt, is_lt};
+ghost use Rattle.std.specs.List.{insert, remove};
+ghost use Rattle.std.specs.List.Sorted.{IsPartitionPoint, IsPartitionedBy};
+ghost use Rattle.std.specs.declared.cmp.Ordering.{Ordering};
+ghost use Rattle.i_tree.specs.Answer.{AnswersBy, IsMonotone};
+ghost use Rattle.i_tree.specs.Change.{Joins};
+ghost use Rattle.i_tree.specs.Set.{AreApart, values, by_key, HasHandle, LacksHandle, IsOrdered, LacksKey, IsFoundBy, TakesKeys};
+ghost use Rattle.i_tree.specs.SetList.{numbered, IsPlaceFor, TakesValues, ValuesAnswer};
+ghost use Rattle.i_tree.specs.Shape.{last_handle};
+
+use super::sort::{KeyValue, SetCollection};
+use crate::{EMPTY_REF, Refusal, Refused};
+use std::alloc::Allocator;
+use std::cmp::Ordering;
+use std::marker::Model;
+
+/// Values in the order of their keys, in a vector. The handle of a value is its position, so it changes as others come
+/// and go in front.
+///
+/// Contracts see the values in order, and `spare`, for how many more there is room. No more than `EMPTY_REF` are stored,
+/// so each position is a handle. It is the `SetList` of the Rust crate `i_tree`.
+#[derive(Drop)]
+pub struct SetList<V, A: Allocator + Copy> {
+    values: Vec<V, A>,
+}
+
+impl<V, A: Allocator + Copy> Model for SetList<V, A> {
+    ghost use Rattle.std.specs.Prelude.{◌-◌, ◌≤◌, length, vec_len, vec_capacity};
+    ghost use Rattle.i_tree.specs.SetList.{Contents};
+    ghost use Rattle.i_tree.specs.declared.TheConstants.{EMPTY_REF};
+
+    ghost Value = { Contents V };
+
+    ghost view = { λ list. record {
+      values = list.values.items;
+      spare = vec_capacity list.values - vec_len list.values;
+    } };
+
+    ghost invariant = { λ list. length list.values.items ≤ EMPTY_REF };
+}
+
+// How many values at the front pass, where none that passes stands after one that fails.
+//
+// Each turn tests one value and halves what is left. The step that a test allows is added one turn later, as a product,
+// so that nothing branches on the test: the processor would guess it wrongly half of the time.
+fn count_passing<V, P: Fn(&V) -> bool>(values: &[V], passes: P) -> usize
+    requires { TakesValues (λ value. P.pre passes value) values.now }
+    ensures within { result ≤ length values.now }
+    ensures splits { (test : V → Bool) → ValuesAnswer (λ value answer. FnReturnsAt P.Fn passes value answer) test values.now → IsPartitionedBy test values.now
+        → IsPartitionPoint (λ value. test value ≡ true) (λ value. test value ≡ false) values.now result }
+{
+    let mut start = 0;
+    let mut left = values.len();
+    let mut step = 0;
+    let mut passed = 0;
+    while left > 0 {
+        start += step * passed;
+        step = left - left / 2;
+        passed = usize::from(passes(&values[start + (step - 1)]));
+        left /= 2;
+    }
+    start + step * passed
+}
+
+// The place of `key`: the values before it have keys below it, and no others.
+fn place_of<K: Ord, V: KeyValue<K>>(values: &[V], key: &K) -> usize
+    requires { IsOrdered V.key_of K.cmp (numbered values.now) }
+    ensures within { result ≤ length values.now }
+    ensures splits { IsPlaceFor V.key_of K.cmp key.now values.now result }
+{
+    let is_below = |value: &V| -> bool
+        ensures { result ≡ is_lt (K.cmp (V.key_of value.entry.now) key.entry.now) }
+    { *value.key() < *key };
+    count_passing(values, is_below)
+}
+
+// The position before this one, or `EMPTY_REF` where it is the first.
+fn position_before(position: u32) -> u32
+    ensures first { position ≡ 0 → result ≡ EMPTY_REF }
+    ensures later { 0 < position → result ≡ position - 1 }
+{
+    position.checked_sub(1).unwrap_or(EMPTY_REF)
+}
+
+// Whether the keys rise from each value to the next.
+fn keys_rise<K: Ord, V: KeyValue<K>>(values: &[V]) -> bool
+    ensures { MatchBool result (IsOrdered V.key_of K.cmp (numbered values.now)) (¬ (IsOrdered V.key_of K.cmp (numbered values.now))) }
+{
+    for next in 1..values.len() {
+        if *values[next - 1].key() >= *values[next].key() {
+            return false;
+        }
+    }
+    true
+}
+
+impl<V, A: Allocator + Copy> SetList<V, A> {
+    /// An empty list with room for at least `capacity` values, refused where the allocator refuses that room.
+    ///
+    /// That it takes an allocator and may be refused is our own.
+    pub fn new(alloc: A, capacity: usize) -> Result<Self, Refusal>
+        ensures empty { IfOk result (λ list. list.values ≡ []) }
+        ensures room { IfOk result (λ list. capacity ≤ list.spare) }
+        ensures refused { IfErr result (λ cause. cause ≡ Refusal.OutOfMemory) }
+        ensures takes_none { capacity ≡ 0 → IsOk result }
+        ensures handles { IfOk result (λ list. AreApart (numbered list.values)) }
+    {
+        Ok(SetList {
+            values: Vec::with_capacity(alloc, capacity)?,
+        })
+    }
+
+    /// For how many more values there is room. It is our own.
+    pub fn spare(&self) -> usize
+        ensures value { result ≡ self.now.spare }
+        ensures handles { AreApart (numbered self.now.values) }
+    {
+        self.values.capacity() - self.values.len()
+    }
+}
+
+impl<K: Ord, V: KeyValue<K> + Drop, A: Allocator + Copy> SetCollection<K, V> for SetList<V, A> {
+    ghost use Rattle.i_tree.specs.SetList.{numbered, value_put};
+    ghost use Rattle.i_tree.specs.SetListPairs.{with_value-numbered};
+    ghost use Rattle.i_tree.specs.SetListLends.{lends_value};
+
+    ghost pairs = { λ list. numbered list.values };
+
+    ghost put = { λ list handle value. value_put list handle value };
+
+    ghost put_pairs = { λ list handle value. with_value-numbered handle value list.values };
+
+    /// Puts the value at the place of its key. The handles of those behind it rise by one.
+    ///
+    /// It is refused with `NoHandle` exactly where `EMPTY_REF` values are stored, before memory is asked for, and with
+    /// `OutOfMemory` only where there was no room and the growth was refused. A refusal changes nothing and hands the
+    /// value back. The place is that of the Rust crate `i_tree`, and the refusals are our own.
+    fn insert(&mut self, val: V) -> Result<(), Refused<V>>
+        requires in_order { IsOrdered V.key_of K.cmp (numbered self.old.values) }
+        requires absent { LacksKey V.key_of K.cmp (numbered self.old.values) (V.key_of val) }
+        ensures ok { OnOk result (Joins val (values (numbered self.old.values)) (values (numbered self.new.values))) }
+        ensures joins { OnOk result ((place : ℕ) × (place ≤ length self.old.values) × IsPlaceFor V.key_of K.cmp (V.key_of val) self.old.values place × (self.new.values ≡ insert self.old.values place val)) }
+        ensures in_order { IsOrdered V.key_of K.cmp (numbered self.new.values) }
+        ensures with_spare { length self.old.values < EMPTY_REF → 0 < self.old.spare → IsOk result }
+        ensures err { OnErr result (self.new ≡ self.old) }
+        ensures handed { IfErr result (λ refused. refused.value ≡ val) }
+        ensures no_handle { length self.old.values ≡ EMPTY_REF → IsErrAnd result (λ refused. refused.cause ≡ Refusal.NoHandle) }
+        ensures refused { length self.old.values < EMPTY_REF → IfErr result (λ refused. refused.cause ≡ Refusal.OutOfMemory) }
+        ensures room { length self.old.values + self.old.spare ≤ length self.new.values + self.new.spare }
+        ensures handles { AreApart (numbered self.new.values) }
+    {
+        if self.values.len() >= EMPTY_REF as usize {
+            return Err(Refused {
+                value: val,
+                cause: Refusal::NoHandle,
+            });
+        }
+        if let Err(refused) = self.values.reserve(1) {
+            return Err(Refused {
+                value: val,
+                cause: refused.into(),
+            });
+        }
+        let place = place_of(&self.values, val.key());
+        self.values.insert(place, val).unwrap();
+        Ok(())
+    }
+
+    /// The position before, or `EMPTY_REF` where the index is 0.
+    ///
+    /// The Rust crate goes wrong at 0. The answer there is our own.
+    fn index_before(&self, index: u32) -> u32
+        requires { HasHandle (numbered self.now.values) index }
+        ensures value { (front : List (ℕ × V)) (value : V) (back : List (ℕ × V)) → numbered self.now.values ≡ front ++ (index, value) ∷ back → result ≡ last_handle front }
+        ensures handles { AreApart (numbered self.now.values) }
+    {
+        // That the list is short enough for its handles is known once a field is read.
+        let _values = &self.values;
+        position_before(index)
+    }
+
+    /// The position of a value whose key `f` calls Equal; where there is none, of the last whose key it calls Less; where
+    /// there is none of these either, `EMPTY_REF`.
+    fn first_index_less_by<F: Fn(&K) -> Ordering>(&self, f: F) -> u32
+        requires in_order { IsOrdered V.key_of K.cmp (numbered self.now.values) }
+        requires callable { TakesKeys V.key_of (λ key. F.pre f key) (numbered self.now.values) }
+        ensures value { (order : K → Ordering) → AnswersBy (λ key answer. FnReturnsAt F.Fn f key answer) order (by_key V.key_of (numbered self.now.values))
+            → IsMonotone K.cmp order (by_key V.key_of (numbered self.now.values))
+            → IsFoundBy V.key_of K.cmp order (numbered self.now.values) result }
+        ensures handles { AreApart (numbered self.now.values) }
+    {
+        let is_at_most = |value: &V| -> bool
+            requires { (key : Bor K) → key.now ≡ V.key_of value.now → F.pre f key }
+            ensures { (answer : Ordering) × FnReturnsAt F.Fn f (V.key_of value.now) answer × (result ≡ not (is_gt answer)) }
+        { f(value.key()) != Ordering::Greater };
+        position_before(count_passing(&self.values, is_at_most) as u32)
+    }
+
+    fn value_by_index(&self, index: u32) -> &V
+        requires { HasHandle (numbered self.now.values) index }
+        ensures value { (front : List (ℕ × V)) (value : V) (back : List (ℕ × V)) → numbered self.now.values ≡ front ++ (index, value) ∷ back → result.now ≡ value }
+        ensures handles { AreApart (numbered self.now.values) }
+    {
+        &self.values[index as usize]
+    }
+
+    fn value_by_index_mut(&mut self, index: u32) -> &mut V
+        requires { HasHandle (numbered self.old.values) index }
+        ensures* writes_back { sem 𝓛 (lends_value V.row A.row A.Allocator self.entry index result) }
+        ensures value { (front : List (ℕ × V)) (value : V) (back : List (ℕ × V)) → numbered self.old.values ≡ front ++ (index, value) ∷ back → result.now ≡ value }
+        ensures handles { AreApart (numbered self.old.values) }
+    {
+        &mut self.values[index as usize]
+    }
+
+    fn has_index(&self, index: u32) -> bool
+        ensures cases { MatchBool result (HasHandle (numbered self.now.values) index) (LacksHandle (numbered self.now.values) index) }
+        ensures handles { AreApart (numbered self.now.values) }
+    {
+        (index as usize) < self.values.len()
+    }
+
+    fn is_ordered(&self) -> bool
+        ensures cases { MatchBool result (IsOrdered V.key_of K.cmp (numbered self.now.values)) (¬ (IsOrdered V.key_of K.cmp (numbered self.now.values))) }
+        ensures handles { AreApart (numbered self.now.values) }
+    {
+        keys_rise(&self.values)
+    }
+}

@@ -1,0 +1,5 @@
+//! Values in the order of their keys.
+
+pub mod list;
+pub mod sort;
+pub mod tree;

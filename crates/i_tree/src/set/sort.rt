@@ -1,0 +1,99 @@
+ghost use Rattle.std.specs.Prelude.{◌≡◌, ◌++◌, ◌∷◌, ℕ, List, IfErr, MatchBool, OnErr, OnOk};
+ghost use Rattle.std.specs.Borrow.{Lends, sem};
+ghost use Rattle.std.specs.Fn.{FnReturnsAt};
+ghost use Rattle.std.specs.declared.cmp.Ordering.{Ordering};
+ghost use Rattle.i_tree.specs.Answer.{AnswersBy, IsMonotone};
+ghost use Rattle.i_tree.specs.Change.{Joins};
+ghost use Rattle.i_tree.specs.Set.{values, AreApart, HasHandle, LacksHandle, with_value, by_key, IsOrdered, LacksKey, IsFoundBy, TakesKeys};
+ghost use Rattle.i_tree.specs.Shape.{last_handle};
+
+use crate::Refused;
+use std::cmp::Ordering;
+
+/// A value that has a key. The name is that of the Rust crate `i_tree`.
+pub trait KeyValue<K> {
+    /// The key of the value. It depends on the value alone.
+    ghost key_of: { Self → K };
+
+    /// The key of the value. It depends on the value alone.
+    fn key(&self) -> &K
+        ensures { result.now ≡ key_of self.now };
+}
+
+/// Values in the order of their keys, each with a handle of its own, which is never `EMPTY_REF`. No two of them have keys
+/// that compare Equal.
+///
+/// A value may be changed in its place by `value_by_index_mut`, its key too. Where that leaves the keys in another order,
+/// or two of them Equal, `insert` and `first_index_less_by` may not be called until they are in order again:
+/// `is_ordered` is the test.
+///
+/// The names and rules are those of the Rust crate `i_tree`, but for `has_index` and `is_ordered`, which are our own, and
+/// for the conditions, which are not tested there.
+pub trait SetCollection<K: Ord, V: KeyValue<K> + Drop> {
+    /// The values in order, each behind its handle.
+    ghost pairs: { Self → List (ℕ × V) };
+
+    /// The collection with this value at the handle.
+    ghost put: { Self → ℕ → V → Self };
+
+    /// Puts the value at the place of its key. No key of the collection may compare Equal to it.
+    ///
+    /// Which handles the values then have is said by each collection. It is refused where the collection gets no room
+    /// for one value more. That leaves all as it was, and hands the value back.
+    fn insert(&mut self, val: V) -> Result<(), Refused<V>>
+        requires in_order { IsOrdered V.key_of K.cmp (pairs self.old) }
+        requires absent { LacksKey V.key_of K.cmp (pairs self.old) (V.key_of val) }
+        ensures ok { OnOk result (Joins val (values (pairs self.old)) (values (pairs self.new))) }
+        ensures err { OnErr result (pairs self.new ≡ pairs self.old) }
+        ensures handed { IfErr result (λ refused. refused.value ≡ val) }
+        ensures in_order { IsOrdered V.key_of K.cmp (pairs self.new) }
+        ensures handles { AreApart (pairs self.new) };
+
+    /// The handle of the value before this one, or `EMPTY_REF` where it is the first.
+    ///
+    /// The Rust crate goes wrong at the first one. The answer there is our own.
+    fn index_before(&self, index: u32) -> u32
+        requires { HasHandle (pairs self.now) index }
+        ensures value { (front : List (ℕ × V)) (value : V) (back : List (ℕ × V)) → pairs self.now ≡ front ++ (index, value) ∷ back → result ≡ last_handle front }
+        ensures handles { AreApart (pairs self.now) };
+
+    /// The handle of a value whose key `f` calls Equal; where there is none, of the last whose key it calls Less; where
+    /// there is none of these either, `EMPTY_REF`.
+    ///
+    /// `f` says how a key stands to what is looked for. It is asked about keys of the collection alone, and on these it is
+    /// to be monotone: it never answers a lower key by a later of Less, Equal, Greater than a higher one. Which of several
+    /// Equal keys is answered is open.
+    fn first_index_less_by<F: Fn(&K) -> Ordering>(&self, f: F) -> u32
+        requires in_order { IsOrdered V.key_of K.cmp (pairs self.now) }
+        requires callable { TakesKeys V.key_of (λ key. F.pre f key) (pairs self.now) }
+        ensures value { (order : K → Ordering) → AnswersBy (λ key answer. FnReturnsAt F.Fn f key answer) order (by_key V.key_of (pairs self.now))
+            → IsMonotone K.cmp order (by_key V.key_of (pairs self.now))
+            → IsFoundBy V.key_of K.cmp order (pairs self.now) result }
+        ensures handles { AreApart (pairs self.now) };
+
+    /// The value at the handle.
+    fn value_by_index(&self, index: u32) -> &V
+        requires { HasHandle (pairs self.now) index }
+        ensures value { (front : List (ℕ × V)) (value : V) (back : List (ℕ × V)) → pairs self.now ≡ front ++ (index, value) ∷ back → result.now ≡ value }
+        ensures handles { AreApart (pairs self.now) };
+
+    /// The value at the handle, for writing. No other value changes, and no handle does.
+    fn value_by_index_mut(&mut self, index: u32) -> &mut V
+        requires { HasHandle (pairs self.old) index }
+        ensures* writes_back { sem 𝓛 (Lends Self.row V.row self.entry result (put self.old index)) }
+        ensures value { (front : List (ℕ × V)) (value : V) (back : List (ℕ × V)) → pairs self.old ≡ front ++ (index, value) ∷ back → result.now ≡ value }
+        ensures handles { AreApart (pairs self.old) };
+
+    /// Whether a value has the handle.
+    fn has_index(&self, index: u32) -> bool
+        ensures cases { MatchBool result (HasHandle (pairs self.now) index) (LacksHandle (pairs self.now) index) }
+        ensures handles { AreApart (pairs self.now) };
+
+    /// Whether the keys rise from each value to the next.
+    fn is_ordered(&self) -> bool
+        ensures cases { MatchBool result (IsOrdered V.key_of K.cmp (pairs self.now)) (¬ (IsOrdered V.key_of K.cmp (pairs self.now))) }
+        ensures handles { AreApart (pairs self.now) };
+
+    /// A value that is put at a handle takes the place of the one there.
+    ghost put_pairs: { (collection : Self) (handle : ℕ) (value : V) → pairs (put collection handle value) ≡ with_value handle value (pairs collection) };
+}

@@ -1,0 +1,345 @@
+ghost use Rattle.std.specs.Prelude.{◌≡◌, ◌≢◌, ◌≤◌, ◌<◌, ◌+◌, ◌++◌, ◌∷◌, ℕ, List, All, length, IsOk, OnOk, OnErr, IfOk, IfErr, IsErrAnd, max};
+ghost use Rattle.std.specs.Borrow.{Bor};
+ghost use Rattle.std.specs.Fn.{FnReturnsAt};
+ghost use Rattle.std.specs.declared.cmp.Ordering.{Ordering};
+ghost use Rattle.std.specs.declared.cmp.Ordering.TheVariants.{Less};
+ghost use Rattle.i_tree.specs.Answer.{AnswersBy, IsMonotone};
+ghost use Rattle.i_tree.specs.Compared.{ComparesWithin, OnlyCompares, RotatesWithin};
+ghost use Rattle.i_tree.specs.RbTree.{slots, slots_with_room};
+ghost use Rattle.i_tree.specs.Set.{by_key, IsOrdered, LacksKey, IsFoundBy, TakesKeys};
+ghost use Rattle.i_tree.specs.SetPlace.{IsPlaceBetween};
+ghost use Rattle.i_tree.specs.Shape.{leaf, entries, occurs, IsCore, IsLive, last_handle};
+ghost use Rattle.i_tree.specs.Steps.{OnlyRotates};
+
+use super::sort::{KeyValue, SetCollection};
+use crate::rb::RbTree;
+use crate::steps::Steps;
+use crate::{EMPTY_REF, Refusal, Refused};
+use std::alloc::Allocator;
+use std::cmp::Ordering;
+use std::marker::{Brand, Model, PhantomData};
+use std::sync::ledger::{Blank, Ledger};
+
+/// Values in the order of their keys, in a red-black tree. Each value keeps its handle until it is removed.
+///
+/// Contracts see it as its core: the shape of the tree and the free slots. It is the `SetTree` of the Rust crate `i_tree`.
+#[derive(Drop)]
+pub struct SetTree<K, V, A: Allocator + Copy> {
+    core: RbTree<V, A>,
+    keys: PhantomData<K>,
+}
+
+impl<K, V, A: Allocator + Copy> Model for SetTree<K, V, A> {
+    ghost use Rattle.i_tree.specs.RbTree.{Contents, contents_code};
+
+    ghost Value = { Contents V };
+
+    ghost coded = { contents_code V.code };
+
+    ghost view = { λ set. set.core };
+}
+
+// Where a new value goes: into the empty tree, or on a side of a handle where there is no part.
+#[derive(Clone, Copy)]
+enum Place {
+    Root,
+    Left(u32),
+    Right(u32),
+}
+
+// Asks `f` once how the value's key stands, and counts that.
+fn compare<K, V: KeyValue<K>, L: Ledger, F: Fn(&K) -> Ordering>(
+    steps: &mut Steps<L>,
+    value: &V,
+    f: &F,
+) -> Ordering
+    requires { (key : Bor K) → key.now ≡ V.key_of value.now → F.pre f.now key }
+    ensures answer { FnReturnsAt F.Fn f.now (V.key_of value.now) result }
+    ensures comparisons { steps.new.comparisons ≡ steps.old.comparisons + 1 }
+    ensures others { OnlyCompares steps.old steps.new }
+{
+    steps.add_comparison();
+    f(value.key())
+}
+
+impl<K: Ord, V: KeyValue<K> + Drop, A: Allocator + Copy> SetTree<K, V, A> {
+    /// An empty set of exactly `max(capacity, 8)` slots, one of them reserved.
+    ///
+    /// It is refused with `NoHandle` exactly where `capacity` is above `EMPTY_REF`, before memory is asked for, and else
+    /// only where the allocator refuses the slots. That it takes an allocator and may be refused is our own.
+    pub fn new(alloc: A, capacity: usize) -> Result<Self, Refusal>
+        ensures empty { IfOk result (λ set. set.shape ≡ leaf) }
+        ensures slots { IfOk result (λ set. slots set ≡ max capacity 8) }
+        ensures no_handle { EMPTY_REF < capacity → IsErrAnd result (λ cause. cause ≡ Refusal.NoHandle) }
+        ensures refused { capacity ≤ EMPTY_REF → IfErr result (λ cause. cause ≡ Refusal.OutOfMemory) }
+        ensures core { IfOk result (λ set. IsCore set.shape) }
+    {
+        Ok(SetTree {
+            core: RbTree::new(alloc, capacity)?,
+            keys: PhantomData,
+        })
+    }
+
+    /// How many slots are free: for so many insertions there is room. It is our own.
+    pub fn spare(&self) -> usize
+        ensures value { result ≡ self.now.spare }
+        ensures core { IsCore self.now.shape }
+    {
+        self.core.spare()
+    }
+
+    /// The tree that holds the values. It is our own.
+    pub fn core(&self) -> &RbTree<V, A>
+        ensures { result.now ≡ self.now }
+    {
+        &self.core
+    }
+
+    /// `insert`, with its steps counted.
+    ///
+    /// The value joins the others directly at the place of its key, with a handle that no value had, and all handles
+    /// stay. Where a slot is free it succeeds. Else the slots double, up to `EMPTY_REF` of them: it is refused with
+    /// `NoHandle` exactly where all of these are in use, and with `OutOfMemory` only where the growth was refused. A
+    /// refusal changes nothing and hands the value back; the comparisons were made. The counts and the refusals are our
+    /// own.
+    pub fn insert_counted<L: Ledger>(
+        &mut self,
+        steps: &mut Steps<L>,
+        val: V,
+    ) -> Result<(), Refused<V>>
+        requires in_order { IsOrdered V.key_of K.cmp (entries self.old.shape) }
+        requires absent { LacksKey V.key_of K.cmp (entries self.old.shape) (V.key_of val) }
+        ensures joins { OnOk result ((front : List (ℕ × V)) × (handle : ℕ) × (back : List (ℕ × V)) × (entries self.old.shape ≡ front ++ back) × (entries self.new.shape ≡ front ++ (handle, val) ∷ back) × (occurs handle self.old.shape ≡ 0)) }
+        ensures in_order { IsOrdered V.key_of K.cmp (entries self.new.shape) }
+        ensures slots { OnOk result (slots self.new ≡ slots_with_room self.old) }
+        ensures with_spare { 0 < self.old.spare → IsOk result }
+        ensures err { OnErr result (self.new ≡ self.old) }
+        ensures err_steps { OnErr result (OnlyCompares steps.old steps.new) }
+        ensures handed { IfErr result (λ refused. refused.value ≡ val) }
+        ensures no_handle { self.old.spare ≡ 0 → slots self.old ≡ EMPTY_REF → IsErrAnd result (λ refused. refused.cause ≡ Refusal.NoHandle) }
+        ensures refused { slots self.old < EMPTY_REF → IfErr result (λ refused. refused.cause ≡ Refusal.OutOfMemory) }
+        ensures comparisons { ComparesWithin steps.old steps.new (length (entries self.old.shape)) }
+        ensures rotations { RotatesWithin steps.old steps.new 2 }
+        ensures core { IsCore self.new.shape }
+    {
+        let place = self.place_of(steps, val.key());
+        match self.insert_at(steps, place, val) {
+            Ok(_) => Ok(()),
+            Err(refused) => Err(refused),
+        }
+    }
+
+    // Goes down the tree to the place of the key, which no value of the set has.
+    fn place_of<L: Ledger>(&self, steps: &mut Steps<L>, key: &K) -> Place
+        requires in_order { IsOrdered V.key_of K.cmp (entries self.now.shape) }
+        requires absent { LacksKey V.key_of K.cmp (entries self.now.shape) key.now }
+        ensures place { (front : List (ℕ × V)) × (back : List (ℕ × V)) × IsPlaceBetween self.now.shape front back result
+            × All (λ pair. K.cmp (V.key_of pair.1) key.now ≡ Less) front × All (λ pair. K.cmp key.now (V.key_of pair.1) ≡ Less) back }
+        ensures comparisons { ComparesWithin steps.old steps.new (length (entries self.now.shape)) }
+        ensures others { OnlyCompares steps.old steps.new }
+    {
+        let stands = |other: &K| -> Ordering
+            ensures { result ≡ K.cmp other.entry.now key.entry.now }
+        { other.cmp(key) };
+        let mut place = Place::Root;
+        let mut here = self.core.root();
+        while here != EMPTY_REF {
+            match compare(steps, self.core.item(here), &stands) {
+                Ordering::Less => {
+                    place = Place::Right(here);
+                    here = self.core.right(here);
+                }
+                _ => {
+                    place = Place::Left(here);
+                    here = self.core.left(here);
+                }
+            }
+        }
+        place
+    }
+
+    // Puts the value at the place, and answers its handle.
+    fn insert_at<L: Ledger>(
+        &mut self,
+        steps: &mut Steps<L>,
+        place: Place,
+        val: V,
+    ) -> Result<u32, Refused<V>>
+        requires { (front : List (ℕ × V)) × (back : List (ℕ × V)) × IsPlaceBetween self.old.shape front back place }
+        ensures joins { IfOk result (λ handle. (front : List (ℕ × V)) (back : List (ℕ × V)) → IsPlaceBetween self.old.shape front back place → entries self.new.shape ≡ front ++ (handle, val) ∷ back) }
+        ensures fresh { IfOk result (λ handle. occurs handle self.old.shape ≡ 0) }
+        ensures slots { OnOk result (slots self.new ≡ slots_with_room self.old) }
+        ensures with_spare { 0 < self.old.spare → IsOk result }
+        ensures err { OnErr result (self.new ≡ self.old) }
+        ensures err_steps { OnErr result (steps.new ≡ steps.old) }
+        ensures handed { IfErr result (λ refused. refused.value ≡ val) }
+        ensures no_handle { self.old.spare ≡ 0 → slots self.old ≡ EMPTY_REF → IsErrAnd result (λ refused. refused.cause ≡ Refusal.NoHandle) }
+        ensures refused { slots self.old < EMPTY_REF → IfErr result (λ refused. refused.cause ≡ Refusal.OutOfMemory) }
+        ensures steps { OnlyRotates steps.old steps.new 2 }
+        ensures core { IsCore self.new.shape }
+    {
+        match place {
+            Place::Root => self.core.insert_root(steps, val),
+            Place::Left(handle) => self.core.insert_left(steps, handle, val),
+            Place::Right(handle) => self.core.insert_right(steps, handle, val),
+        }
+    }
+
+    /// `first_index_less_by`, with its steps counted: each comparison is one call of `f`. The counts are our own.
+    pub fn first_index_less_by_counted<L: Ledger, F: Fn(&K) -> Ordering>(
+        &self,
+        steps: &mut Steps<L>,
+        f: F,
+    ) -> u32
+        requires in_order { IsOrdered V.key_of K.cmp (entries self.now.shape) }
+        requires callable { TakesKeys V.key_of (λ key. F.pre f key) (entries self.now.shape) }
+        ensures value { (order : K → Ordering) → AnswersBy (λ key answer. FnReturnsAt F.Fn f key answer) order (by_key V.key_of (entries self.now.shape))
+            → IsMonotone K.cmp order (by_key V.key_of (entries self.now.shape))
+            → IsFoundBy V.key_of K.cmp order (entries self.now.shape) result }
+        ensures core { IsCore self.now.shape }
+        ensures comparisons { ComparesWithin steps.old steps.new (length (entries self.now.shape)) }
+        ensures others { OnlyCompares steps.old steps.new }
+    {
+        let mut found = EMPTY_REF;
+        let mut here = self.core.root();
+        while here != EMPTY_REF {
+            match compare(steps, self.core.item(here), &f) {
+                Ordering::Less => {
+                    found = here;
+                    here = self.core.right(here);
+                }
+                Ordering::Equal => return here,
+                Ordering::Greater => here = self.core.left(here),
+            }
+        }
+        found
+    }
+
+    // The counted insertion, over a ledger of its own.
+    fn insert_over<L: Ledger>(&mut self, blank: Blank, val: V) -> Result<(), Refused<V>>
+        requires name { blank.name ≡ L.name }
+        requires parts { blank.parts ≡ L.parts }
+        requires four { blank.parts ≡ 4 }
+        requires in_order { IsOrdered V.key_of K.cmp (entries self.old.shape) }
+        requires absent { LacksKey V.key_of K.cmp (entries self.old.shape) (V.key_of val) }
+        ensures joins { OnOk result ((front : List (ℕ × V)) × (handle : ℕ) × (back : List (ℕ × V)) × (entries self.old.shape ≡ front ++ back) × (entries self.new.shape ≡ front ++ (handle, val) ∷ back) × (occurs handle self.old.shape ≡ 0)) }
+        ensures in_order { IsOrdered V.key_of K.cmp (entries self.new.shape) }
+        ensures slots { OnOk result (slots self.new ≡ slots_with_room self.old) }
+        ensures with_spare { 0 < self.old.spare → IsOk result }
+        ensures err { OnErr result (self.new ≡ self.old) }
+        ensures handed { IfErr result (λ refused. refused.value ≡ val) }
+        ensures no_handle { self.old.spare ≡ 0 → slots self.old ≡ EMPTY_REF → IsErrAnd result (λ refused. refused.cause ≡ Refusal.NoHandle) }
+        ensures refused { slots self.old < EMPTY_REF → IfErr result (λ refused. refused.cause ≡ Refusal.OutOfMemory) }
+        ensures core { IsCore self.new.shape }
+    {
+        let mut steps = Steps::<L>::new(blank);
+        self.insert_counted(&mut steps, val)
+    }
+
+    // The counted search, over a ledger of its own.
+    fn search_over<L: Ledger, F: Fn(&K) -> Ordering>(&self, blank: Blank, f: F) -> u32
+        requires name { blank.name ≡ L.name }
+        requires parts { blank.parts ≡ L.parts }
+        requires four { blank.parts ≡ 4 }
+        requires in_order { IsOrdered V.key_of K.cmp (entries self.now.shape) }
+        requires callable { TakesKeys V.key_of (λ key. F.pre f key) (entries self.now.shape) }
+        ensures value { (order : K → Ordering) → AnswersBy (λ key answer. FnReturnsAt F.Fn f key answer) order (by_key V.key_of (entries self.now.shape))
+            → IsMonotone K.cmp order (by_key V.key_of (entries self.now.shape))
+            → IsFoundBy V.key_of K.cmp order (entries self.now.shape) result }
+        ensures core { IsCore self.now.shape }
+    {
+        let mut steps = Steps::<L>::new(blank);
+        self.first_index_less_by_counted(&mut steps, f)
+    }
+
+    // The key of the value at the handle.
+    fn key_at(&self, handle: u32) -> &K
+        requires { IsLive self.now.shape handle }
+        ensures { (front : List (ℕ × V)) (value : V) (back : List (ℕ × V)) → entries self.now.shape ≡ front ++ (handle, value) ∷ back → result.now ≡ V.key_of value }
+    {
+        self.core.item(handle).key()
+    }
+
+    // The handle of the last value, or `EMPTY_REF` where there is none.
+    fn last(&self) -> u32
+        ensures { result ≡ last_handle (entries self.now.shape) }
+    {
+        let mut last = EMPTY_REF;
+        let mut here = self.core.root();
+        while here != EMPTY_REF {
+            last = here;
+            here = self.core.right(here);
+        }
+        last
+    }
+}
+
+impl<K: Ord, V: KeyValue<K> + Drop, A: Allocator + Copy> SetCollection<K, V> for SetTree<K, V, A> {
+    ghost use Rattle.std.specs.Prelude.{◌≡◌, ◌++◌, ◌∷◌, ◌≤◌, ◌<◌, ℕ, List, OnOk, OnErr, IfErr, IsOk, IsErrAnd};
+    ghost use Rattle.i_tree.specs.Shape.{entries, with_item, occurs, IsCore};
+    ghost use Rattle.i_tree.specs.RbTree.{slots, slots_with_room};
+    ghost use Rattle.i_tree.specs.Change.{Joins};
+    ghost use Rattle.i_tree.specs.Set.{values, AreApart, IsOrdered, LacksKey};
+    ghost use Rattle.i_tree.specs.SetPairs.{with_value-entries};
+
+    ghost pairs = { λ set. entries set.shape };
+
+    ghost put = { λ set handle value. record set { shape = with_item handle value set.shape } };
+
+    ghost put_pairs = { λ set handle value. with_value-entries handle value set.shape };
+
+    /// Puts the value at the place of its key, with a handle that no value had. All handles stay.
+    ///
+    /// Where a slot is free it succeeds. Else the slots double, up to `EMPTY_REF` of them: it is refused with `NoHandle`
+    /// exactly where all of these are in use, and with `OutOfMemory` only where the growth was refused. A refusal changes
+    /// nothing and hands the value back. The rule is that of the Rust crate `i_tree`, and the refusals are our own.
+    fn insert(&mut self, val: V) -> Result<(), Refused<V>>
+        requires in_order { IsOrdered V.key_of K.cmp (entries self.old.shape) }
+        requires absent { LacksKey V.key_of K.cmp (entries self.old.shape) (V.key_of val) }
+        ensures ok { OnOk result (Joins val (values (entries self.old.shape)) (values (entries self.new.shape))) }
+        ensures joins { OnOk result ((front : List (ℕ × V)) × (handle : ℕ) × (back : List (ℕ × V)) × (entries self.old.shape ≡ front ++ back) × (entries self.new.shape ≡ front ++ (handle, val) ∷ back) × (occurs handle self.old.shape ≡ 0)) }
+        ensures in_order { IsOrdered V.key_of K.cmp (entries self.new.shape) }
+        ensures handles { AreApart (entries self.new.shape) }
+        ensures slots { OnOk result (slots self.new ≡ slots_with_room self.old) }
+        ensures with_spare { 0 < self.old.spare → IsOk result }
+        ensures err { OnErr result (self.new ≡ self.old) }
+        ensures handed { IfErr result (λ refused. refused.value ≡ val) }
+        ensures no_handle { self.old.spare ≡ 0 → slots self.old ≡ EMPTY_REF → IsErrAnd result (λ refused. refused.cause ≡ Refusal.NoHandle) }
+        ensures refused { slots self.old < EMPTY_REF → IfErr result (λ refused. refused.cause ≡ Refusal.OutOfMemory) }
+        ensures core { IsCore self.new.shape }
+    {
+        self.insert_over::<Brand>(Blank::new(4), val)
+    }
+
+    fn index_before(&self, index: u32) -> u32 {
+        self.core.before(index)
+    }
+
+    fn first_index_less_by<F: Fn(&K) -> Ordering>(&self, f: F) -> u32 {
+        self.search_over::<Brand, F>(Blank::new(4), f)
+    }
+
+    fn value_by_index(&self, index: u32) -> &V {
+        self.core.item(index)
+    }
+
+    fn value_by_index_mut(&mut self, index: u32) -> &mut V {
+        self.core.item_mut(index)
+    }
+
+    fn has_index(&self, index: u32) -> bool {
+        self.core.has(index)
+    }
+
+    fn is_ordered(&self) -> bool {
+        let mut here = self.last();
+        for _ in 1..self.core.len() {
+            let before = self.core.before(here);
+            match self.key_at(before).cmp(self.key_at(here)) {
+                Ordering::Less => here = before,
+                _ => return false,
+            }
+        }
+        true
+    }
+}
