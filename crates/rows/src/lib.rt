@@ -2,10 +2,20 @@
 #![tactic(auto)]
 
 #[cfg(test)]
+mod cores;
+#[cfg(test)]
 mod counts;
 #[cfg(test)]
 mod key_lists;
 #[cfg(test)]
 mod live_closures;
+#[cfg(test)]
+mod numbered;
+#[cfg(test)]
+mod set_lists;
+#[cfg(test)]
+mod set_trees;
+#[cfg(test)]
+mod sets;
 #[cfg(test)]
 mod timed_key;

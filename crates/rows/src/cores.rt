@@ -1,0 +1,419 @@
+//! Worked trees of the core: shapes, handles, growth and refusals.
+
+ghost use Rattle.std.specs.Prelude.{◌≡◌};
+
+use i_tree::rb::RbTree;
+use i_tree::steps::Steps;
+use i_tree::{EMPTY_REF, Refusal, Refused};
+use refusing::Refusing;
+use std::alloc::{Allocator, Global};
+use std::marker::Brand;
+use std::process::Abort;
+use std::sync::ledger::{Blank, Ledger};
+use std::test::Fail;
+
+// The calls of the core, each after a test of its conditions. Nothing is done with what they count.
+fn insert_root_over<L: Ledger, A: Allocator + Copy>(
+    rt: &impl Abort,
+    blank: Blank,
+    tree: &mut RbTree<i32, A>,
+    item: i32,
+) -> Result<u32, Refused<i32>>
+    requires name { blank.name ≡ L.name }
+    requires parts { blank.parts ≡ L.parts }
+    requires four { blank.parts ≡ 4 }
+{
+    assert!(rt; tree.root() == EMPTY_REF);
+    tree.insert_root(&mut Steps::<L>::new(blank), item)
+}
+
+fn insert_left_over<L: Ledger, A: Allocator + Copy>(
+    rt: &impl Abort,
+    blank: Blank,
+    tree: &mut RbTree<i32, A>,
+    parent: u32,
+    item: i32,
+) -> Result<u32, Refused<i32>>
+    requires name { blank.name ≡ L.name }
+    requires parts { blank.parts ≡ L.parts }
+    requires four { blank.parts ≡ 4 }
+{
+    assert!(rt; tree.has(parent));
+    assert!(rt; tree.left(parent) == EMPTY_REF);
+    tree.insert_left(&mut Steps::<L>::new(blank), parent, item)
+}
+
+fn insert_right_over<L: Ledger, A: Allocator + Copy>(
+    rt: &impl Abort,
+    blank: Blank,
+    tree: &mut RbTree<i32, A>,
+    parent: u32,
+    item: i32,
+) -> Result<u32, Refused<i32>>
+    requires name { blank.name ≡ L.name }
+    requires parts { blank.parts ≡ L.parts }
+    requires four { blank.parts ≡ 4 }
+{
+    assert!(rt; tree.has(parent));
+    assert!(rt; tree.right(parent) == EMPTY_REF);
+    tree.insert_right(&mut Steps::<L>::new(blank), parent, item)
+}
+
+fn insert_root<A: Allocator + Copy>(
+    rt: &impl Abort,
+    tree: &mut RbTree<i32, A>,
+    item: i32,
+) -> Result<u32, Refused<i32>> {
+    insert_root_over::<Brand, A>(rt, Blank::new(4), tree, item)
+}
+
+fn insert_left<A: Allocator + Copy>(
+    rt: &impl Abort,
+    tree: &mut RbTree<i32, A>,
+    parent: u32,
+    item: i32,
+) -> Result<u32, Refused<i32>> {
+    insert_left_over::<Brand, A>(rt, Blank::new(4), tree, parent, item)
+}
+
+fn insert_right<A: Allocator + Copy>(
+    rt: &impl Abort,
+    tree: &mut RbTree<i32, A>,
+    parent: u32,
+    item: i32,
+) -> Result<u32, Refused<i32>> {
+    insert_right_over::<Brand, A>(rt, Blank::new(4), tree, parent, item)
+}
+
+fn remove_over<L: Ledger, A: Allocator + Copy>(
+    rt: &impl Abort,
+    blank: Blank,
+    tree: &mut RbTree<i32, A>,
+    handle: u32,
+) -> i32
+    requires name { blank.name ≡ L.name }
+    requires parts { blank.parts ≡ L.parts }
+    requires four { blank.parts ≡ 4 }
+{
+    assert!(rt; tree.has(handle));
+    tree.remove(&mut Steps::<L>::new(blank), handle)
+}
+
+fn remove<A: Allocator + Copy>(rt: &impl Abort, tree: &mut RbTree<i32, A>, handle: u32) -> i32 {
+    remove_over::<Brand, A>(rt, Blank::new(4), tree, handle)
+}
+
+fn left<A: Allocator + Copy>(rt: &impl Abort, tree: &RbTree<i32, A>, handle: u32) -> u32 {
+    assert!(rt; tree.has(handle));
+    tree.left(handle)
+}
+
+fn right<A: Allocator + Copy>(rt: &impl Abort, tree: &RbTree<i32, A>, handle: u32) -> u32 {
+    assert!(rt; tree.has(handle));
+    tree.right(handle)
+}
+
+fn before<A: Allocator + Copy>(rt: &impl Abort, tree: &RbTree<i32, A>, handle: u32) -> u32 {
+    assert!(rt; tree.has(handle));
+    tree.before(handle)
+}
+
+fn item<A: Allocator + Copy>(rt: &impl Abort, tree: &RbTree<i32, A>, handle: u32) -> i32 {
+    assert!(rt; tree.has(handle));
+    *tree.item(handle)
+}
+
+// The item at the handle, and the handles below it.
+fn node<A: Allocator + Copy>(
+    rt: &impl Abort,
+    tree: &RbTree<i32, A>,
+    handle: u32,
+) -> (u32, i32, u32) {
+    (
+        left(rt, tree, handle),
+        item(rt, tree, handle),
+        right(rt, tree, handle),
+    )
+}
+
+// Puts `count` items that rise from 1 on into the empty tree, each behind the last, and answers their handles.
+fn insert_rising<A: Allocator + Copy>(
+    rt: &impl Abort,
+    tree: &mut RbTree<i32, A>,
+    count: i32,
+    handles: &mut Vec<u32>,
+) -> Result<(), Fail> {
+    let mut last = insert_root(rt, tree, 1)?;
+    handles.push(last)?;
+    for number in 2..=count {
+        last = insert_right(rt, tree, last, number)?;
+        handles.push(last)?;
+    }
+    Ok(())
+}
+
+// Whether the tree has exactly these handles in order, with items that rise from 1 on.
+fn has_rising<A: Allocator + Copy>(
+    rt: &impl Abort,
+    tree: &RbTree<i32, A>,
+    handles: &[u32],
+) -> bool {
+    if tree.len() != handles.len() {
+        return false;
+    }
+    let mut previous = EMPTY_REF;
+    let mut number = 1;
+    for handle in handles {
+        if before(rt, tree, *handle) != previous || item(rt, tree, *handle) != number {
+            return false;
+        }
+        previous = *handle;
+        number = number.saturating_add(1);
+    }
+    true
+}
+
+#[test]
+fn answers_the_handle_before(rt: HostRuntime) -> Result<(), Fail> {
+    let mut tree = RbTree::new(rt.alloc(), 0)?;
+    let two = insert_root(&rt, &mut tree, 2)?;
+    let three = insert_right(&rt, &mut tree, two, 3)?;
+    let one = insert_left(&rt, &mut tree, two, 1)?;
+    assert_eq!(rt; before(&rt, &tree, three), two);
+    assert_eq!(rt; before(&rt, &tree, one), EMPTY_REF);
+    assert_eq!(rt; tree.spare(), 4);
+    Ok(())
+}
+
+#[test]
+fn keeps_its_balance(rt: HostRuntime) -> Result<(), Fail> {
+    let mut tree = RbTree::new(rt.alloc(), 0)?;
+    let one = insert_root(&rt, &mut tree, 1)?;
+    assert_eq!(rt; tree.root(), one);
+    assert_eq!(rt; node(&rt, &tree, one), (EMPTY_REF, 1, EMPTY_REF));
+    let two = insert_right(&rt, &mut tree, one, 2)?;
+    assert_eq!(rt; tree.root(), one);
+    assert_eq!(rt; node(&rt, &tree, one), (EMPTY_REF, 1, two));
+    assert_eq!(rt; node(&rt, &tree, two), (EMPTY_REF, 2, EMPTY_REF));
+    let three = insert_right(&rt, &mut tree, two, 3)?;
+    assert_eq!(rt; tree.root(), two);
+    assert_eq!(rt; node(&rt, &tree, two), (one, 2, three));
+    assert_eq!(rt; node(&rt, &tree, one), (EMPTY_REF, 1, EMPTY_REF));
+    assert_eq!(rt; node(&rt, &tree, three), (EMPTY_REF, 3, EMPTY_REF));
+    let four = insert_right(&rt, &mut tree, three, 4)?;
+    assert_eq!(rt; tree.root(), two);
+    assert_eq!(rt; node(&rt, &tree, two), (one, 2, three));
+    assert_eq!(rt; node(&rt, &tree, one), (EMPTY_REF, 1, EMPTY_REF));
+    assert_eq!(rt; node(&rt, &tree, three), (EMPTY_REF, 3, four));
+    assert_eq!(rt; node(&rt, &tree, four), (EMPTY_REF, 4, EMPTY_REF));
+    Ok(())
+}
+
+#[test]
+fn turns_nothing_where_colours_mend(rt: HostRuntime) -> Result<(), Fail> {
+    let mut tree = RbTree::new(rt.alloc(), 0)?;
+    let four = insert_root(&rt, &mut tree, 4)?;
+    let two = insert_left(&rt, &mut tree, four, 2)?;
+    let five = insert_right(&rt, &mut tree, four, 5)?;
+    let one = insert_left(&rt, &mut tree, two, 1)?;
+    assert_eq!(rt; tree.root(), four);
+    assert_eq!(rt; node(&rt, &tree, four), (two, 4, five));
+    assert_eq!(rt; node(&rt, &tree, two), (one, 2, EMPTY_REF));
+    assert_eq!(rt; before(&rt, &tree, four), two);
+    assert_eq!(rt; before(&rt, &tree, two), one);
+    assert_eq!(rt; before(&rt, &tree, one), EMPTY_REF);
+    assert_eq!(rt; before(&rt, &tree, five), four);
+    Ok(())
+}
+
+#[test]
+fn turns_where_a_black_leaf_is_removed(rt: HostRuntime) -> Result<(), Fail> {
+    let mut tree = RbTree::new(rt.alloc(), 0)?;
+    let four = insert_root(&rt, &mut tree, 4)?;
+    let two = insert_left(&rt, &mut tree, four, 2)?;
+    let five = insert_right(&rt, &mut tree, four, 5)?;
+    let one = insert_left(&rt, &mut tree, two, 1)?;
+    assert_eq!(rt; remove(&rt, &mut tree, five), 5);
+    assert_eq!(rt; tree.root(), two);
+    assert_eq!(rt; node(&rt, &tree, two), (one, 2, four));
+    assert_eq!(rt; node(&rt, &tree, four), (EMPTY_REF, 4, EMPTY_REF));
+    assert!(rt; !tree.has(five));
+    assert_eq!(rt; (tree.len(), tree.spare()), (3, 4));
+    Ok(())
+}
+
+#[test]
+fn moves_the_next_item_where_both_parts_are_there(rt: HostRuntime) -> Result<(), Fail> {
+    let mut tree = RbTree::new(rt.alloc(), 0)?;
+    let four = insert_root(&rt, &mut tree, 4)?;
+    let one = insert_left(&rt, &mut tree, four, 1)?;
+    let eight = insert_right(&rt, &mut tree, four, 8)?;
+    assert_eq!(rt; remove(&rt, &mut tree, four), 4);
+    assert_eq!(rt; node(&rt, &tree, four), (one, 8, EMPTY_REF));
+    assert!(rt; !tree.has(eight));
+    assert_eq!(rt; before(&rt, &tree, four), one);
+    Ok(())
+}
+
+#[test]
+fn removes_from_the_front_until_nothing_is_left(rt: HostRuntime) -> Result<(), Fail> {
+    let mut tree = RbTree::new(rt.alloc(), 0)?;
+    let mut handles = Vec::new(rt.alloc());
+    insert_rising(&rt, &mut tree, 100, &mut handles)?;
+    let mut last = handles.last().copied().unwrap_or(EMPTY_REF);
+    for number in 1..=100 {
+        assert_eq!(rt; item(&rt, &tree, last), 100);
+        let mut first = last;
+        for _ in 0..100 {
+            let previous = before(&rt, &tree, first);
+            if previous == EMPTY_REF {
+                break;
+            }
+            first = previous;
+        }
+        let next_to_last = before(&rt, &tree, last);
+        assert_eq!(rt; remove(&rt, &mut tree, first), number);
+        if next_to_last == first {
+            last = if tree.has(last) { last } else { first };
+        }
+    }
+    assert_eq!(rt;
+        (tree.len(), tree.spare(), tree.root()),
+        (0, 127, EMPTY_REF)
+    );
+    Ok(())
+}
+
+#[test]
+fn has_the_handles_that_it_gave(rt: HostRuntime) -> Result<(), Fail> {
+    let mut tree = RbTree::new(rt.alloc(), 0)?;
+    assert_eq!(rt; tree.root(), EMPTY_REF);
+    let one = insert_root(&rt, &mut tree, 1)?;
+    let mut live = 0usize;
+    for handle in 0..20 {
+        if tree.has(handle) {
+            live = live.saturating_add(1);
+            assert_eq!(rt; handle, one);
+        }
+    }
+    assert_eq!(rt; live, 1);
+    assert!(rt; !tree.has(0));
+    assert!(rt; !tree.has(EMPTY_REF));
+    Ok(())
+}
+
+#[test]
+fn writes_an_item_in_place(rt: HostRuntime) -> Result<(), Fail> {
+    let mut tree = RbTree::new(rt.alloc(), 0)?;
+    let mut handles = Vec::new(rt.alloc());
+    insert_rising(&rt, &mut tree, 5, &mut handles)?;
+    let third = handles.get(2).copied().unwrap_or(EMPTY_REF);
+    assert!(rt; tree.has(third));
+    *tree.item_mut(third) = 30;
+    assert_eq!(rt; item(&rt, &tree, third), 30);
+    assert!(rt; tree.has(third));
+    *tree.item_mut(third) = 3;
+    assert!(rt; has_rising(&rt, &tree, &handles));
+    Ok(())
+}
+
+#[test]
+fn gives_no_more_handles_than_there_are(rt: HostRuntime) {
+    let tree: Result<RbTree<i32, Global>, Refusal> = RbTree::new(rt.alloc(), 4294967296);
+    assert_eq!(rt; tree.err(), Some(Refusal::NoHandle));
+}
+
+#[test]
+fn takes_its_slots_in_one_request(rt: HostRuntime) -> Result<(), Fail> {
+    let memory = Refusing::new(rt.alloc());
+    memory.refuse_nth(2);
+    let tree: RbTree<i32, &Refusing<Global>> = RbTree::new(&memory, 0)?;
+    assert_eq!(rt; tree.spare(), 7);
+    assert_eq!(rt; memory.requests(), 1);
+    Ok(())
+}
+
+#[test]
+fn keeps_a_hundred_thousand_handles(rt: HostRuntime) -> Result<(), Fail> {
+    let mut tree = RbTree::new(rt.alloc(), 0)?;
+    let mut handles = Vec::new(rt.alloc());
+    insert_rising(&rt, &mut tree, 100000, &mut handles)?;
+    assert_eq!(rt; tree.len(), 100000);
+    assert_eq!(rt; tree.spare(), 31071);
+    assert!(rt; has_rising(&rt, &tree, &handles));
+    Ok(())
+}
+
+#[test]
+fn is_refused_new_and_then_made(rt: HostRuntime) -> Result<(), Fail> {
+    let memory = Refusing::new(rt.alloc());
+    memory.refuse_nth(1);
+    let refused: Result<RbTree<i32, &Refusing<Global>>, Refusal> = RbTree::new(&memory, 20);
+    assert_eq!(rt; refused.err(), Some(Refusal::OutOfMemory));
+    let tree: RbTree<i32, &Refusing<Global>> = RbTree::new(&memory, 20)?;
+    assert_eq!(rt; tree.spare(), 19);
+    Ok(())
+}
+
+#[test]
+fn keeps_its_slots_where_more_are_refused(rt: HostRuntime) -> Result<(), Fail> {
+    let memory = Refusing::new(rt.alloc());
+    let mut tree: RbTree<i32, &Refusing<Global>> = RbTree::new(&memory, 0)?;
+    let mut handles = Vec::new(rt.alloc());
+    insert_rising(&rt, &mut tree, 5, &mut handles)?;
+    memory.refuse_nth(1);
+    assert_eq!(rt; tree.reserve(20), Err(Refusal::OutOfMemory));
+    assert_eq!(rt; tree.spare(), 2);
+    assert!(rt; has_rising(&rt, &tree, &handles));
+    tree.reserve(20)?;
+    assert_eq!(rt; tree.spare(), 14);
+    tree.reserve(10)?;
+    assert_eq!(rt; tree.spare(), 14);
+    assert_eq!(rt; tree.reserve(4294967296), Err(Refusal::NoHandle));
+    assert!(rt; has_rising(&rt, &tree, &handles));
+    Ok(())
+}
+
+// Puts a further item behind the last, first with every request refused and then with memory.
+fn insert_refused_then_taken(
+    rt: &impl Abort,
+    memory: &Refusing<Global>,
+    tree: &mut RbTree<i32, &Refusing<Global>>,
+    handles: &mut Vec<u32>,
+    number: i32,
+) -> Result<(), Fail> {
+    let last = handles.last().copied().unwrap_or(EMPTY_REF);
+    let spare = tree.spare();
+    memory.refuse_all();
+    match insert_right(rt, tree, last, number) {
+        Ok(handle) => {
+            assert!(rt; spare > 0);
+            handles.push(handle)?;
+        }
+        Err(refused) => {
+            assert_eq!(rt; spare, 0);
+            assert_eq!(rt;
+                (refused.value, refused.cause),
+                (number, Refusal::OutOfMemory)
+            );
+            assert!(rt; has_rising(rt, tree, handles));
+            memory.refuse_none();
+            handles.push(insert_right(rt, tree, last, number)?)?;
+        }
+    }
+    memory.refuse_none();
+    Ok(())
+}
+
+#[test]
+fn keeps_its_entries_where_an_insertion_is_refused(rt: HostRuntime) -> Result<(), Fail> {
+    let memory = Refusing::new(rt.alloc());
+    let mut tree: RbTree<i32, &Refusing<Global>> = RbTree::new(&memory, 0)?;
+    let mut handles = Vec::new(rt.alloc());
+    insert_rising(&rt, &mut tree, 1, &mut handles)?;
+    for number in 2..40 {
+        insert_refused_then_taken(&rt, &memory, &mut tree, &mut handles, number)?;
+    }
+    assert!(rt; has_rising(&rt, &tree, &handles));
+    Ok(())
+}

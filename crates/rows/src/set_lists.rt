@@ -1,0 +1,101 @@
+//! Worked sets in a sorted vector: searches, writes in place, and refusals.
+
+use crate::numbered::{Item, number};
+use crate::sets::{before, find, insert, item_at};
+use i_tree::set::list::SetList;
+use i_tree::set::sort::SetCollection;
+use i_tree::{EMPTY_REF, Refusal};
+use refusing::Refusing;
+use std::alloc::{Allocator, Global};
+use std::process::Abort;
+use std::test::Fail;
+
+type List<A> = SetList<Item, A>;
+
+// The keys 1, 4 and 8.
+fn three_keys<A: Allocator + Copy>(rt: &impl Abort, alloc: A) -> Result<List<A>, Fail> {
+    let mut set = SetList::new(alloc, 0)?;
+    for key in [1, 4, 8] {
+        insert(rt, &mut set, number(key))?;
+    }
+    Ok(set)
+}
+
+#[test]
+fn answers_the_greatest_key_at_most(rt: HostRuntime) -> Result<(), Fail> {
+    let set = three_keys(&rt, rt.alloc())?;
+    assert_eq!(rt;
+        [find(&rt, &set, 1), find(&rt, &set, 4), find(&rt, &set, 8)],
+        [0, 1, 2]
+    );
+    assert_eq!(rt; find(&rt, &set, 0), EMPTY_REF);
+    assert_eq!(rt; find(&rt, &set, 5), 1);
+    assert_eq!(rt; before(&rt, &set, 2), 1);
+    assert_eq!(rt; before(&rt, &set, 1), 0);
+    assert_eq!(rt; before(&rt, &set, 0), EMPTY_REF);
+    Ok(())
+}
+
+#[test]
+fn writes_a_value_in_its_place(rt: HostRuntime) -> Result<(), Fail> {
+    let mut set = three_keys(&rt, rt.alloc())?;
+    assert!(rt; set.has_index(1));
+    set.value_by_index_mut(1).value = 40;
+    assert!(rt; set.is_ordered());
+    assert!(rt; set.has_index(1));
+    set.value_by_index_mut(1).key = 100;
+    assert!(rt; !set.is_ordered());
+    assert!(rt; set.has_index(1));
+    set.value_by_index_mut(1).key = 4;
+    assert!(rt; set.is_ordered());
+    assert_eq!(rt; item_at(&rt, &set, 1).value, 40);
+    Ok(())
+}
+
+#[test]
+fn keeps_its_values_where_an_insertion_is_refused(rt: HostRuntime) -> Result<(), Fail> {
+    let memory = Refusing::new(rt.alloc());
+    for nth in 1..20 {
+        memory.refuse_none();
+        let mut set: List<&Refusing<Global>> = SetList::new(&memory, 0)?;
+        memory.refuse_nth(nth);
+        for key in 1..=20 {
+            if let Err(refused) = insert(&rt, &mut set, number(key)) {
+                assert_eq!(rt;
+                    (refused.value, refused.cause),
+                    (number(key), Refusal::OutOfMemory)
+                );
+                assert_eq!(rt; find(&rt, &set, 30), before_last(key));
+                insert(&rt, &mut set, number(key))?;
+            }
+        }
+        assert_eq!(rt; find(&rt, &set, 30), 19);
+        if memory.requests() < nth {
+            return Ok(());
+        }
+    }
+    Err(Fail::from("more requests than insertions"))
+}
+
+// The position of the greatest key, where the next one is `key` and the first is 1.
+fn before_last(key: i32) -> u32 {
+    if key <= 1 {
+        EMPTY_REF
+    } else {
+        (key as u32).saturating_sub(2)
+    }
+}
+
+#[test]
+fn is_refused_new_and_then_made(rt: HostRuntime) -> Result<(), Fail> {
+    let memory = Refusing::new(rt.alloc());
+    memory.refuse_nth(1);
+    let refused: Result<List<&Refusing<Global>>, Refusal> = SetList::new(&memory, 3);
+    assert_eq!(rt; refused.err(), Some(Refusal::OutOfMemory));
+    let mut set: List<&Refusing<Global>> = SetList::new(&memory, 3)?;
+    memory.refuse_all();
+    for key in 1..=3 {
+        assert!(rt; insert(&rt, &mut set, number(key)).is_ok());
+    }
+    Ok(())
+}

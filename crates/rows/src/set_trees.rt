@@ -1,0 +1,214 @@
+//! Worked sets in a tree: searches, writes in place, bounds on comparisons, and refusals.
+
+ghost use Rattle.std.specs.Prelude.{◌≡◌, IsTrue};
+ghost use Rattle.std.specs.Ordering.{int_cmp, on};
+ghost use Rattle.i_tree.specs.Set.{IsOrdered, LacksKey};
+ghost use Rattle.i_tree.specs.Shape.{entries};
+ghost use Rattle.rows.specs.declared.numbered.Ticking.{Ticking};
+
+use crate::numbered::{Item, Ticking, number};
+use crate::sets::{before, find, insert, item_at};
+use i_tree::set::sort::SetCollection;
+use i_tree::set::tree::SetTree;
+use i_tree::{EMPTY_REF, Refusal};
+use refusing::Refusing;
+use std::alloc::{Allocator, Global};
+use std::cell::Cell;
+use std::cmp::Ordering;
+use std::process::Abort;
+use std::test::Fail;
+
+type Set<A> = SetTree<i32, Item, A>;
+
+// The keys 1, 4 and 8.
+fn three_keys<A: Allocator + Copy>(rt: &impl Abort, alloc: A) -> Result<Set<A>, Fail> {
+    let mut set = SetTree::new(alloc, 0)?;
+    for key in [1, 4, 8] {
+        insert(rt, &mut set, number(key))?;
+    }
+    Ok(set)
+}
+
+#[test]
+fn answers_the_greatest_key_at_most(rt: HostRuntime) -> Result<(), Fail> {
+    let set = three_keys(&rt, rt.alloc())?;
+    let (one, four, eight) = (find(&rt, &set, 1), find(&rt, &set, 4), find(&rt, &set, 8));
+    assert_eq!(rt;
+        [
+            item_at(&rt, &set, one).key,
+            item_at(&rt, &set, four).key,
+            item_at(&rt, &set, eight).key
+        ],
+        [1, 4, 8]
+    );
+    assert_eq!(rt; find(&rt, &set, 0), EMPTY_REF);
+    assert_eq!(rt; find(&rt, &set, 5), four);
+    assert_eq!(rt; before(&rt, &set, eight), four);
+    assert_eq!(rt; before(&rt, &set, four), one);
+    assert_eq!(rt; before(&rt, &set, one), EMPTY_REF);
+    Ok(())
+}
+
+#[test]
+fn writes_a_value_in_its_place(rt: HostRuntime) -> Result<(), Fail> {
+    let mut set = three_keys(&rt, rt.alloc())?;
+    let four = find(&rt, &set, 4);
+    assert!(rt; set.has_index(four));
+    set.value_by_index_mut(four).value = 40;
+    assert!(rt; set.is_ordered());
+    assert!(rt; set.has_index(four));
+    set.value_by_index_mut(four).key = 100;
+    assert!(rt; !set.is_ordered());
+    assert!(rt; set.has_index(four));
+    set.value_by_index_mut(four).key = 4;
+    assert!(rt; set.is_ordered());
+    assert_eq!(rt; item_at(&rt, &set, four).value, 40);
+    Ok(())
+}
+
+#[test]
+fn compares_within_its_bound(rt: HostRuntime) -> Result<(), Fail> {
+    let ticks = Cell::new(0u64);
+    let mut set: SetTree<Ticking, Ticking, Global> = SetTree::new(rt.alloc(), 0)?;
+    for number in 1..=1000 {
+        insert_ticking(&rt, &mut set, &ticks, number)?;
+    }
+    for sought in 0..=1001 {
+        let asked = Cell::new(0u64);
+        assert!(rt; set.is_ordered());
+        let found = set.first_index_less_by(|key| {
+            asked.set(asked.get().saturating_add(1));
+            key.number.cmp(&sought)
+        });
+        assert!(rt; asked.get() <= 18, "{sought}");
+        let answer = if sought == 0 {
+            None
+        } else {
+            Some(sought.min(1000))
+        };
+        assert_eq!(rt; number_at(&set, found), answer);
+    }
+    let calls = insert_ticking(&rt, &mut set, &ticks, 1001)?;
+    assert!(rt; calls <= 18);
+    Ok(())
+}
+
+// The number at the handle, if it has one.
+fn number_at<'a, A: Allocator + Copy>(
+    set: &SetTree<Ticking<'a>, Ticking<'a>, A>,
+    handle: u32,
+) -> Option<i32> {
+    if set.has_index(handle) {
+        Some(set.value_by_index(handle).number)
+    } else {
+        None
+    }
+}
+
+// Whether no number of the set is this one.
+fn lacks_number<'a, A: Allocator + Copy>(
+    set: &SetTree<Ticking<'a>, Ticking<'a>, A>,
+    sought: &i32,
+) -> bool
+    requires { IsOrdered (λ (ticking : Ticking). ticking) (on (λ (ticking : Ticking). ticking.number) int_cmp) (entries set.now.shape) }
+    ensures { IsTrue result → (ticking : Ticking) → ticking.number ≡ sought.now → LacksKey (λ (held : Ticking). held) (on (λ (held : Ticking). held.number) int_cmp) (entries set.now.shape) ticking }
+{
+    let stands = |key: &Ticking| -> Ordering
+        ensures { result ≡ int_cmp key.entry.now.number sought.entry.now }
+    { key.number.cmp(sought) };
+    let found = set.first_index_less_by(stands);
+    if !set.has_index(found) {
+        return true;
+    }
+    match set.value_by_index(found).number.cmp(sought) {
+        Ordering::Equal => false,
+        _ => true,
+    }
+}
+
+// Inserts the number, after tests of the conditions, and answers how often numbers were compared in the insertion.
+fn insert_ticking<'a, A: Allocator + Copy>(
+    rt: &impl Abort,
+    set: &mut SetTree<Ticking<'a>, Ticking<'a>, A>,
+    ticks: &'a Cell<u64>,
+    number: i32,
+) -> Result<u64, Fail> {
+    assert!(rt; set.is_ordered());
+    assert!(rt; lacks_number(set, &number));
+    ticks.set(0);
+    if set.insert(Ticking { number, ticks }).is_err() {
+        return Err(Fail::from("refused"));
+    }
+    Ok(ticks.get())
+}
+
+// The keys that the set finds from 0 to 20.
+fn has_keys_up_to<A: Allocator + Copy>(rt: &impl Abort, set: &Set<A>, last: i32) -> bool {
+    (1..=20).all(|key: i32| {
+        let found = find(rt, set, key);
+        found != EMPTY_REF && item_at(rt, set, found).key == key.min(last)
+    })
+}
+
+#[test]
+fn takes_as_many_as_it_has_slots_for(rt: HostRuntime) -> Result<(), Fail> {
+    let memory = Refusing::new(rt.alloc());
+    let mut set: Set<&Refusing<Global>> = SetTree::new(&memory, 0)?;
+    memory.refuse_all();
+    let mut handles = Vec::new(rt.alloc());
+    for key in 1..=7 {
+        assert!(rt; insert(&rt, &mut set, number(key)).is_ok());
+        handles.push(find(&rt, &set, key))?;
+    }
+    let refused = insert(&rt, &mut set, number(8)).err();
+    assert_eq!(rt;
+        refused.map(|refused| (refused.value, refused.cause)),
+        Some((number(8), Refusal::OutOfMemory))
+    );
+    let mut key = 0i32;
+    for handle in &handles {
+        key = key.saturating_add(1);
+        assert_eq!(rt; find(&rt, &set, key), *handle);
+    }
+    assert_eq!(rt; key, 7);
+    Ok(())
+}
+
+#[test]
+fn keeps_its_values_where_an_insertion_is_refused(rt: HostRuntime) -> Result<(), Fail> {
+    let memory = Refusing::new(rt.alloc());
+    for nth in 1..20 {
+        memory.refuse_none();
+        let mut set: Set<&Refusing<Global>> = SetTree::new(&memory, 0)?;
+        memory.refuse_nth(nth);
+        for key in 1..=20 {
+            if let Err(refused) = insert(&rt, &mut set, number(key)) {
+                assert_eq!(rt;
+                    (refused.value, refused.cause),
+                    (number(key), Refusal::OutOfMemory)
+                );
+                assert_eq!(rt; memory.requests(), nth);
+                assert!(rt; has_keys_up_to(&rt, &set, key.saturating_sub(1)));
+                insert(&rt, &mut set, number(key))?;
+            }
+        }
+        assert!(rt; has_keys_up_to(&rt, &set, 20));
+        if memory.requests() < nth {
+            return Ok(());
+        }
+    }
+    Err(Fail::from("more requests than insertions"))
+}
+
+#[test]
+fn is_refused_new_and_then_made(rt: HostRuntime) -> Result<(), Fail> {
+    let memory = Refusing::new(rt.alloc());
+    memory.refuse_nth(1);
+    let refused: Result<Set<&Refusing<Global>>, Refusal> = SetTree::new(&memory, 0);
+    assert_eq!(rt; refused.err(), Some(Refusal::OutOfMemory));
+    let set: Set<&Refusing<Global>> = SetTree::new(&memory, 0)?;
+    assert_eq!(rt; set.spare(), 7);
+    let beyond: Result<Set<&Refusing<Global>>, Refusal> = SetTree::new(&memory, 4294967296);
+    assert_eq!(rt; beyond.err(), Some(Refusal::NoHandle));
+    Ok(())
+}
