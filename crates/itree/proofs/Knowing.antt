@@ -12,10 +12,10 @@ use Rattle.i_tree.specs.Live.{is_live, live_pairs}
 use Rattle.i_tree.proofs.Lists.{All-insert, Contains-filter, Contains-here, Contains-there}
 use Rattle.itree.specs.KeyMachine.{Inserts}
 use Rattle.itree.specs.Probes.{CanProbe, CanProbeAll, ProbesBy, ProbesAllBy, known_after}
-use Rattle.itree.specs.declared.run.KeyCommand.{KeyCommand}
-use Rattle.itree.specs.declared.run.KeyCommand.TheVariants.{Insert, Less, LessOrEqualBy, Clear}
-use Rattle.itree.specs.declared.run.KeyReply.{KeyReply}
-use Rattle.itree.specs.declared.run.KeyReply.TheVariants.{Inserted, Present, Late, Refused, Value, Cleared}
+use Rattle.itree.specs.declared.run.keys.KeyCommand.{KeyCommand}
+use Rattle.itree.specs.declared.run.keys.KeyCommand.TheVariants.{Insert, Less, LessOrEqualBy, Clear}
+use Rattle.itree.specs.declared.run.keys.KeyReply.{KeyReply}
+use Rattle.itree.specs.declared.run.keys.KeyReply.TheVariants.{Inserted, Present, Late, Refused, Value, Cleared}
 use Rattle.itree.proofs.Members.{Within, All-within, Contains-from_filter, Without-within}
 
 -- the commands to come are the next one and those after it

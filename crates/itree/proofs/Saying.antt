@@ -1,7 +1,7 @@
 -- Which words are not read as three numbers, and which say no command.
 use Rattle.std.proofs.Common.{◌≡◌, ◌≢◌, ℕ, ℤ, List, [], ◌∷◌, length, map, codes, get_or, Bor, arith}
 use Rattle.itree.specs.Grammar.{ReadsAll, SaysNoCommand}
-use Rattle.itree.specs.declared.run.KeyCommand.TheVariants.{Insert, Less, LessOrEqualBy, Clear}
+use Rattle.itree.specs.declared.run.keys.KeyCommand.TheVariants.{Insert, Less, LessOrEqualBy, Clear}
 use Rattle.itree.specs.Words.{Reads}
 
 -- other than three words are not read as three numbers

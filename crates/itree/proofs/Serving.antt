@@ -11,10 +11,10 @@ use Rattle.i_tree.specs.Live.{live_pairs, IsExpired}
 use Rattle.i_tree.specs.Pairs.{HasKey, NoKey}
 use Rattle.itree.specs.KeyMachine.{State, is_late, Step, Run, Serves, Inserts}
 use Rattle.itree.specs.StandsFor.{StandsFor}
-use Rattle.itree.specs.declared.run.KeyCommand.{KeyCommand}
-use Rattle.itree.specs.declared.run.KeyCommand.TheVariants.{Insert, Less, LessOrEqualBy}
-use Rattle.itree.specs.declared.run.KeyReply.{KeyReply}
-use Rattle.itree.specs.declared.run.KeyReply.TheVariants.{Inserted, Present, Late, Refused, Value, Cleared}
+use Rattle.itree.specs.declared.run.keys.KeyCommand.{KeyCommand}
+use Rattle.itree.specs.declared.run.keys.KeyCommand.TheVariants.{Insert, Less, LessOrEqualBy}
+use Rattle.itree.specs.declared.run.keys.KeyReply.{KeyReply}
+use Rattle.itree.specs.declared.run.keys.KeyReply.TheVariants.{Inserted, Present, Late, Refused, Value, Cleared}
 use Rattle.itree.proofs.Members.{Within, HasKey-members, NoKey-members, GreatestOr-members, AtMost-members, Without-all}
 use Rattle.itree.proofs.Standing.{StandsFor-later, StandsFor-without, StandsFor-joins, live_accepted, live_stored}
 

@@ -5,8 +5,8 @@ use Rattle.std.specs.Char.{is_ascii_whitespace}
 use Rattle.std.specs.List.{slice_split, cons_option}
 use Rattle.std.specs.Str.{IsAscii}
 use Rattle.itree.specs.Words.{Reads}
-use Rattle.itree.specs.declared.run.KeyCommand.{KeyCommand}
-use Rattle.itree.specs.declared.run.KeyCommand.TheVariants.{Insert, Less, LessOrEqualBy, Clear}
+use Rattle.itree.specs.declared.run.keys.KeyCommand.{KeyCommand}
+use Rattle.itree.specs.declared.run.keys.KeyCommand.TheVariants.{Insert, Less, LessOrEqualBy, Clear}
 use Rattle.itree.specs.declared.timed_key.TimedKey.{TimedKey}
 
 -- a command of a line

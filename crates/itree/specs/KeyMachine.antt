@@ -7,10 +7,10 @@ use Rattle.i_tree.specs.Change.{Gains}
 use Rattle.i_tree.specs.Live.{live_pairs, IsExpired}
 use Rattle.i_tree.specs.Pairs.{HasKey, NoKey}
 use Rattle.itree.specs.StandsFor.{StandsFor}
-use Rattle.itree.specs.declared.run.KeyCommand.{KeyCommand}
-use Rattle.itree.specs.declared.run.KeyCommand.TheVariants.{Insert, Less, LessOrEqualBy, Clear}
-use Rattle.itree.specs.declared.run.KeyReply.{KeyReply}
-use Rattle.itree.specs.declared.run.KeyReply.TheVariants.{Inserted, Present, Late, Refused, Value, Cleared}
+use Rattle.itree.specs.declared.run.keys.KeyCommand.{KeyCommand}
+use Rattle.itree.specs.declared.run.keys.KeyCommand.TheVariants.{Insert, Less, LessOrEqualBy, Clear}
+use Rattle.itree.specs.declared.run.keys.KeyReply.{KeyReply}
+use Rattle.itree.specs.declared.run.keys.KeyReply.TheVariants.{Inserted, Present, Late, Refused, Value, Cleared}
 
 -- the accepted pairs, in any order, and the last time
 pub record State (K E V : Type 0) : Type 0 where

@@ -4,8 +4,8 @@ use Rattle.std.specs.Prelude.{⊤, List, [], ◌∷◌, All}
 use Rattle.std.specs.declared.cmp.Ordering.{Ordering}
 use Rattle.i_tree.specs.Answer.{AnswersBy, IsMonotone}
 use Rattle.i_tree.specs.Live.{live_pairs}
-use Rattle.itree.specs.declared.run.KeyCommand.{KeyCommand}
-use Rattle.itree.specs.declared.run.KeyCommand.TheVariants.{Insert, Less, LessOrEqualBy, Clear}
+use Rattle.itree.specs.declared.run.keys.KeyCommand.{KeyCommand}
+use Rattle.itree.specs.declared.run.keys.KeyCommand.TheVariants.{Insert, Less, LessOrEqualBy, Clear}
 
 -- what is known after a command
 abbrev pub known_after : {K E V P : Type 0} → KeyCommand K E V P → List (K × V) → List (K × V)

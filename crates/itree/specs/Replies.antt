@@ -1,8 +1,8 @@
 -- The text of replies.
 use Rattle.std.specs.Prelude.{ℕ, ℤ, List, [], ◌∷◌, ◌++◌, codes}
 use Rattle.std.specs.Fmt.{signed_decimal}
-use Rattle.itree.specs.declared.run.KeyReply.{KeyReply}
-use Rattle.itree.specs.declared.run.KeyReply.TheVariants.{Inserted, Present, Late, Refused, Value, Cleared}
+use Rattle.itree.specs.declared.run.keys.KeyReply.{KeyReply}
+use Rattle.itree.specs.declared.run.keys.KeyReply.TheVariants.{Inserted, Present, Late, Refused, Value, Cleared}
 
 -- the words of a reply
 abbrev pub reply_words : KeyReply ℤ → List ℕ

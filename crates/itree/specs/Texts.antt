@@ -5,7 +5,7 @@ use Rattle.std.specs.declared.cmp.Ordering.{Ordering}
 use Rattle.itree.specs.Grammar.{TextCommand, lines_of, LinesSay, IsFirstFaulty}
 use Rattle.itree.specs.KeyMachine.{State, beginning, Run}
 use Rattle.itree.specs.Replies.{reply_line}
-use Rattle.itree.specs.declared.run.KeyReply.{KeyReply}
+use Rattle.itree.specs.declared.run.keys.KeyReply.{KeyReply}
 use Rattle.itree.specs.declared.timed_key.TimedKey.{TimedKey}
 
 -- keys are compared by `key` alone

@@ -5,7 +5,7 @@ use Rattle.std.specs.Ordering.{int_cmp}
 use Rattle.i_tree.proofs.Monotone.{IsMonotone-compare}
 use Rattle.itree.specs.KeyMachine.{beginning, Run}
 use Rattle.itree.specs.Texts.{cmp_keys, cmp_sought}
-use Rattle.itree.specs.declared.run.KeyReply.{KeyReply}
+use Rattle.itree.specs.declared.run.keys.KeyReply.{KeyReply}
 use Rattle.itree.specs.declared.timed_key.TimedKey.{TimedKey}
 use Rattle.itree.proofs.Knowing.{CanProbeAll-always, ProbesAllBy-always}
 use Rattle.itree.proofs.program.run_commands.Goals as goal

@@ -1,4 +1,4 @@
-//! Runs of commands over a collection.
+//! Runs of commands over a collection of keys that expire.
 
 ghost use Rattle.std.specs.Prelude.{◌≡◌, ◌≤◌, ◌+◌, ◌++◌, true, false, Option, List, All, Contains, length, vec_len, vec_capacity, IsOk, OnOk, OnErr, IfErr, MatchBool};
 ghost use Rattle.std.specs.declared.cmp.Ordering.{Ordering};

@@ -1,10 +1,10 @@
 use Rattle.std.proofs.Common.{◌≡◌, ◌≤◌, ◌+◌, ◌++◌, Ordering, List, length, take, drop, vec_len, vec_capacity}
-use Rattle.itree.specs.declared.run.KeyReply.{KeyReply}
+use Rattle.itree.specs.declared.run.keys.KeyReply.{KeyReply}
 use Rattle.itree.specs.KeyMachine.{beginning, Run}
 use Rattle.itree.specs.Probes.{CanProbeAll, ProbesAllBy}
 use Rattle.itree.specs.StandsFor.{StandsFor}
 use Rattle.itree.proofs.Members.{Within}
-use Rattle.itree.proofs.run.run_keys.Given as goal
+use Rattle.itree.proofs.run.keys.run_keys.Given as goal
 
 -- There is room for the replies to come. What is stored is among the known pairs, at which the probes to come may be
 -- called; and by each order by which they answer, the replies so far are a run over the commands so far.

@@ -6,8 +6,8 @@ use Rattle.std.proofs.lemmas.List.Elements.{filter_passes}
 use Rattle.std.proofs.lemmas.Result.{on_ok_weaker}
 use Rattle.i_tree.specs.Live.{is_live, live_pairs}
 use Rattle.i_tree.proofs.Monotone.{IsMonotone-compare}
-use Rattle.itree.specs.declared.run.tests.Numbered.{Numbered}
-use Rattle.itree.proofs.run.tests.insert_and_probe.Goals as goal
+use Rattle.itree.specs.declared.run.keys.tests.Numbered.{Numbered}
+use Rattle.itree.proofs.run.keys.tests.insert_and_probe.Goals as goal
 
 pub run_keys-requires : goal.run_keys-requires
 run_keys-requires g c =

@@ -1,7 +1,7 @@
 use Rattle.itree.proofs.Serving.{serves_less, serves_at_most, serves_insert}
 use Rattle.std.proofs.lemmas.List.Elements.{All-contains_itself}
 use Rattle.itree.proofs.Knowing.{known_inserts, known_more, known_without}
-use Rattle.itree.proofs.run.serve.Goals as goal
+use Rattle.itree.proofs.run.keys.serve.Goals as goal
 
 pub returns-then-not-advance-clause-known : goal.returns-then-not-advance-clause-known
 returns-then-not-advance-clause-known g c = rw c.in-Insert.is (known_more (c.in-Insert.key, c.in-Insert.val) (g.C.KeyExpCollection.stored c.args.c.now))

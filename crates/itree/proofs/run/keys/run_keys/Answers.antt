@@ -6,7 +6,7 @@ use Rattle.itree.specs.KeyMachine.{State, beginning, Run}
 use Rattle.itree.specs.Probes.{CanProbeAll, ProbesAllBy, known_after}
 use Rattle.itree.proofs.Knowing.{CanProbe-within, ProbesBy-within, known_after-within, next_command}
 use Rattle.itree.proofs.Serving.{Run-push, StandsFor-itself}
-use Rattle.itree.proofs.run.run_keys.Goals as goal
+use Rattle.itree.proofs.run.keys.run_keys.Goals as goal
 
 pub loop-command-init : goal.loop-command-init
 loop-command-init g c =

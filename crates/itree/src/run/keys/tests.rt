@@ -4,8 +4,8 @@ ghost use Rattle.std.specs.Prelude.{◌≡◌, ◌++◌, ◌∷◌, [], ℕ, tru
 ghost use Rattle.std.specs.Ordering.{nat_cmp};
 ghost use Rattle.i_tree.specs.Live.{is_live};
 ghost use Rattle.itree.specs.KeyMachine.{State, beginning, Run};
-ghost use Rattle.itree.specs.declared.run.KeyReply.{KeyReply};
-ghost use Rattle.itree.specs.declared.run.tests.Numbered.{Numbered};
+ghost use Rattle.itree.specs.declared.run.keys.KeyReply.{KeyReply};
+ghost use Rattle.itree.specs.declared.run.keys.tests.Numbered.{Numbered};
 
 use super::*;
 use crate::timed_key::TimedKey;
