@@ -2,14 +2,15 @@
 use Rattle.std.proofs.Common.{◌≡◌, ◌≢◌, ℕ, zero, suc, ◌+◌, ◌-◌, ◌<◌, ◌≤◌, Bool, true, false, not, List, [], ◌∷◌, ◌++◌, length, get_or, Some, refl, sym, ap, ◌∙◌, subst, ⊎_elim, arith, append_assoc, length-append, length-drop}
 use Rattle.std.specs.Borrow.{Bor}
 use Rattle.std.specs.Cmp.{IsTotalOrder}
-use Rattle.std.specs.List.{All, AllPairs, insert, enumerate_from}
+use Rattle.std.specs.List.{All, AllPairs, insert, remove, enumerate_from}
 use Rattle.std.specs.List.Sorted.{IsPartitionPoint, IsPartitionedBy}
 use Rattle.std.specs.Ordering.{is_ge, is_gt, is_lt, ordering_reverse}
 use Rattle.std.specs.declared.cmp.Ordering.{Ordering}
 use Rattle.std.specs.declared.cmp.Ordering.TheVariants.{Less, Equal, Greater}
 use Rattle.std.proofs.Math.Seq.{get_or-append_seam}
 use Rattle.std.proofs.lemmas.Bool.{both_ways, cases_eq}
-use Rattle.std.proofs.lemmas.List.{get_or_default, get_or-map, length-map, length-take-le, get_or-take, get_or-drop}
+use Rattle.std.proofs.lemmas.List.{get_or_default, get_or-map, length-map, length-take-le, get_or-take, get_or-drop, map-append}
+use Rattle.std.proofs.lemmas.List.Edits.{remove-append_right}
 use Rattle.std.proofs.lemmas.List.FromFn.{length-enumerate_from, get_or-enumerate_from}
 use Rattle.std.proofs.lemmas.Option.{slice_get-get_or}
 use Rattle.i_tree.proofs.Keys.{AtMost-at_count, IsPartitionedBy-monotone, IsPartitionedBy-rising}
@@ -84,6 +85,20 @@ module _ {V : Type 0} where
 
     pub value_is : (d : V) → get_or xs handle d ≡ value
     value_is d = ap (λ n. get_or xs n d) handle_is ∙ ap (λ (pair : ℕ × V). pair.1) (pair_is d)
+
+  -- the values without the one at a position are those in front and those behind
+  pub values-remove : (xs : List V) (front : List (ℕ × V)) (handle : ℕ) (value : V) (back : List (ℕ × V)) → numbered xs ≡ front ++ (handle, value) ∷ back
+      → values (numbered (remove xs handle)) ≡ values front ++ values back
+  values-remove xs front handle value back cut =
+      let here : List V = value ∷ values back in
+      let long : length (values front) ≡ length front = length-map front (λ (pair : ℕ × V). pair.1) in
+      let xs_are : xs ≡ values front ++ here = sym (values-numbered xs) ∙ ap values cut ∙ map-append (λ (pair : ℕ × V). pair.1) front ((handle, value) ∷ back) in
+      let none : length front - length front ≡ 0 = omega arith in
+      values-numbered (remove xs handle)
+      ∙ ap (λ k. remove xs k) (handle_is xs front handle value back cut)
+      ∙ ap (λ ys. remove ys (length front)) xs_are
+      ∙ remove-append_right (values front) here (length front) (length front) long (omega arith)
+      ∙ ap (λ k. values front ++ remove here k) none
 
   -- the last handle in front of a position is the position before
   pub last_handle_is : (xs : List V) (front : List (ℕ × V)) (handle : ℕ) (value : V) (back : List (ℕ × V)) (result : ℕ) → numbered xs ≡ front ++ (handle, value) ∷ back

@@ -169,6 +169,19 @@ impl<K: Ord, V: KeyValue<K> + Drop, A: Allocator + Copy> SetCollection<K, V> for
         Ok(())
     }
 
+    /// Removes the value at the position, and drops it. The handles of those behind it fall by one.
+    ///
+    /// It takes no memory. The rule is that of the Rust crate `i_tree`.
+    fn delete_by_index(&mut self, index: u32)
+        requires { HasHandle (numbered self.old.values) index }
+        ensures value { (front : List (ℕ × V)) (value : V) (back : List (ℕ × V)) → numbered self.old.values ≡ front ++ (index, value) ∷ back → values (numbered self.new.values) ≡ values front ++ values back }
+        ensures removed { self.new.values ≡ remove self.old.values index }
+        ensures spare { self.new.spare ≡ self.old.spare + 1 }
+        ensures handles { AreApart (numbered self.new.values) }
+    {
+        self.values.remove(index as usize);
+    }
+
     /// The position before, or `EMPTY_REF` where the index is 0.
     ///
     /// The Rust crate goes wrong at 0. The answer there is our own.

@@ -49,6 +49,14 @@ pub trait SetCollection<K: Ord, V: KeyValue<K> + Drop> {
         ensures in_order { IsOrdered V.key_of K.cmp (pairs self.new) }
         ensures handles { AreApart (pairs self.new) };
 
+    /// Removes the value at the handle, and drops it.
+    ///
+    /// Which handles the others then have is said by each collection. It takes no memory.
+    fn delete_by_index(&mut self, index: u32)
+        requires { HasHandle (pairs self.old) index }
+        ensures value { (front : List (ℕ × V)) (value : V) (back : List (ℕ × V)) → pairs self.old ≡ front ++ (index, value) ∷ back → values (pairs self.new) ≡ values front ++ values back }
+        ensures handles { AreApart (pairs self.new) };
+
     /// The handle of the value before this one, or `EMPTY_REF` where it is the first.
     ///
     /// The Rust crate goes wrong at the first one. The answer there is our own.

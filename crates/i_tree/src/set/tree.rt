@@ -6,6 +6,7 @@ ghost use Rattle.std.specs.declared.cmp.Ordering.TheVariants.{Less};
 ghost use Rattle.i_tree.specs.Answer.{AnswersBy, IsMonotone};
 ghost use Rattle.i_tree.specs.Compared.{ComparesWithin, OnlyCompares, RotatesWithin};
 ghost use Rattle.i_tree.specs.RbTree.{slots, slots_with_room};
+ghost use Rattle.i_tree.specs.Removal.{LosesAt};
 ghost use Rattle.i_tree.specs.Set.{by_key, IsOrdered, LacksKey, IsFoundBy, TakesKeys};
 ghost use Rattle.i_tree.specs.SetPlace.{IsPlaceBetween};
 ghost use Rattle.i_tree.specs.Shape.{leaf, entries, occurs, IsCore, IsLive, last_handle};
@@ -252,6 +253,20 @@ impl<K: Ord, V: KeyValue<K> + Drop, A: Allocator + Copy> SetTree<K, V, A> {
         self.first_index_less_by_counted(&mut steps, f)
     }
 
+    // The removal from the core, over a ledger of its own.
+    fn delete_over<L: Ledger>(&mut self, blank: Blank, index: u32)
+        requires name { blank.name ≡ L.name }
+        requires parts { blank.parts ≡ L.parts }
+        requires four { blank.parts ≡ 4 }
+        requires live { IsLive self.old.shape index }
+        ensures loses { (front : List (ℕ × V)) (value : V) (back : List (ℕ × V)) → entries self.old.shape ≡ front ++ (index, value) ∷ back → LosesAt index front back (entries self.new.shape) }
+        ensures spare { self.new.spare ≡ self.old.spare + 1 }
+        ensures core { IsCore self.new.shape }
+    {
+        let mut steps = Steps::<L>::new(blank);
+        self.core.remove(&mut steps, index);
+    }
+
     // The key of the value at the handle.
     fn key_at(&self, handle: u32) -> &K
         requires { IsLive self.now.shape handle }
@@ -279,7 +294,8 @@ impl<K: Ord, V: KeyValue<K> + Drop, A: Allocator + Copy> SetCollection<K, V> for
     ghost use Rattle.i_tree.specs.Shape.{entries, with_item, occurs, IsCore};
     ghost use Rattle.i_tree.specs.RbTree.{slots, slots_with_room};
     ghost use Rattle.i_tree.specs.Change.{Joins};
-    ghost use Rattle.i_tree.specs.Set.{values, AreApart, IsOrdered, LacksKey};
+    ghost use Rattle.i_tree.specs.Removal.{LosesAt};
+    ghost use Rattle.i_tree.specs.Set.{values, AreApart, HasHandle, IsOrdered, LacksKey};
     ghost use Rattle.i_tree.specs.SetPairs.{with_value-entries};
 
     ghost pairs = { λ set. entries set.shape };
@@ -309,6 +325,22 @@ impl<K: Ord, V: KeyValue<K> + Drop, A: Allocator + Copy> SetCollection<K, V> for
         ensures core { IsCore self.new.shape }
     {
         self.insert_over::<Brand>(Blank::new(4), val)
+    }
+
+    /// Removes the value at the handle, and drops it. Every other value keeps its handle, or the next one alone has this
+    /// handle now.
+    ///
+    /// It takes no memory: the slot is free for an insertion. Where the Rust crate `i_tree` clones the next value into its
+    /// place, this one moves it.
+    fn delete_by_index(&mut self, index: u32)
+        requires { HasHandle (entries self.old.shape) index }
+        ensures value { (front : List (ℕ × V)) (value : V) (back : List (ℕ × V)) → entries self.old.shape ≡ front ++ (index, value) ∷ back → values (entries self.new.shape) ≡ values front ++ values back }
+        ensures loses { (front : List (ℕ × V)) (value : V) (back : List (ℕ × V)) → entries self.old.shape ≡ front ++ (index, value) ∷ back → LosesAt index front back (entries self.new.shape) }
+        ensures spare { self.new.spare ≡ self.old.spare + 1 }
+        ensures handles { AreApart (entries self.new.shape) }
+        ensures core { IsCore self.new.shape }
+    {
+        self.delete_over::<Brand>(Blank::new(4), index)
     }
 
     fn index_before(&self, index: u32) -> u32 {

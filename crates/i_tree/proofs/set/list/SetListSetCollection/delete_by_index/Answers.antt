@@ -1,0 +1,19 @@
+use Rattle.std.proofs.Common.{length, ap, ◌∙◌, arith}
+use Rattle.std.proofs.lemmas.List.Edits.{length-remove}
+use Rattle.std.specs.List.{remove}
+use Rattle.i_tree.proofs.SetPositions.{AreApart-numbered, inside_from_HasHandle, values-remove}
+use Rattle.i_tree.specs.Set.{values}
+use Rattle.i_tree.specs.SetList.{numbered}
+use Rattle.i_tree.proofs.set.list.SetListSetCollection.delete_by_index.Goals as goal
+
+pub remove-requires : goal.remove-requires
+remove-requires g c =
+    omega (arith, inside_from_HasHandle c.args.self.now.values c.args.index c.requires, c.self.inside.values.ok.0, ap (λ list. length list.values) c.self.view_is)
+
+pub returns-clause-value : goal.returns-clause-value
+returns-clause-value g c front value back cut =
+    ap (λ items. values (numbered items)) (c.remove.ensures.items ∙ ap (λ list. remove list.values c.args.index) c.self.view_is)
+    ∙ values-remove c.args.self.now.values front c.args.index value back cut
+
+pub returns-clause-handles : goal.returns-clause-handles
+returns-clause-handles g c = AreApart-numbered c.remove.new.self.items (omega (arith, c.remove.ensures.len, c.self.invariant))

@@ -1,0 +1,14 @@
+use Rattle.i_tree.proofs.SetHandles.{AreApart-from_handles, values-LosesAt}
+use Rattle.i_tree.proofs.SetParts.{live-HasHandle}
+use Rattle.i_tree.specs.Shape.{entries}
+use Rattle.i_tree.proofs.set.tree.SetTreeSetCollection.delete_by_index.Goals as goal
+
+pub delete_over-requires-clause-live : goal.delete_over-requires-clause-live
+delete_over-requires-clause-live g c = live-HasHandle c.args.index c.args.self.now.shape c.requires
+
+pub returns-clause-value : goal.returns-clause-value
+returns-clause-value g c front value back is =
+    values-LosesAt c.args.index front back (entries c.delete_over.new.self.shape) (c.delete_over.ensures.loses front value back is)
+
+pub returns-clause-handles : goal.returns-clause-handles
+returns-clause-handles g c = AreApart-from_handles c.delete_over.new.self.shape c.delete_over.ensures.core.handles
