@@ -68,7 +68,6 @@ module _ {T : Type 0} where
     pub far : Shape T
     pub is : tree ≡ plug around (fork_on side colour leaf handle item far)
 
-module _ {T : Type 0} where
   -- the node has an empty part on some side
   pub record HasOnePart (tree : Shape T) (handle : ℕ) : Type 0 where
     pub around : List (Frame T)

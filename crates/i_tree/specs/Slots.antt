@@ -42,7 +42,6 @@ module _ {T : Type 0} where
   abbrev pub links_of : List (Slot T) → ℕ → Option Links
   links_of slots handle = slot_links (slice_get slots handle)
 
-  -- the item of the node in a slot, and the slot with another one
   -- a node is in the slot
   abbrev pub IsUsed : List (Slot T) → ℕ → Type 0
   IsUsed slots handle = IsSome (links_of slots handle)

@@ -232,7 +232,7 @@ impl<T, A: Allocator + Copy> Arena<T, A> {
         ensures err { OnErr result (self.new ≡ self.old) }
         ensures with_spare { 0 < self.old.spare → IsOk result }
         ensures no_handle { self.old.spare ≡ 0 → slots self.old ≡ EMPTY_REF → IsErrAnd result (λ cause. cause ≡ Refusal.NoHandle) }
-        ensures refused { slots self.old < EMPTY_REF → IfErr result (λ cause. cause ≡ Refusal.OutOfMemory) }
+        ensures refused { slots self.old ≢ EMPTY_REF → IfErr result (λ cause. cause ≡ Refusal.OutOfMemory) }
     {
         if self.free > 0 {
             return Ok(());

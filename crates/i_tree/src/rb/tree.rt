@@ -220,7 +220,7 @@ impl<T, A: Allocator + Copy> RbTree<T, A> {
         ensures err { OnErr result (self.new ≡ self.old) }
         ensures handed { IfErr result (λ refused. refused.value ≡ item) }
         ensures no_handle { self.old.spare ≡ 0 → slots self.old ≡ EMPTY_REF → IsErrAnd result (λ refused. refused.cause ≡ Refusal.NoHandle) }
-        ensures refused { slots self.old < EMPTY_REF → IfErr result (λ refused. refused.cause ≡ Refusal.OutOfMemory) }
+        ensures refused { slots self.old ≢ EMPTY_REF → IfErr result (λ refused. refused.cause ≡ Refusal.OutOfMemory) }
         ensures steps { _steps.new ≡ _steps.old }
         ensures core { IsCore self.new.shape }
     {
@@ -249,7 +249,7 @@ impl<T, A: Allocator + Copy> RbTree<T, A> {
         ensures err_steps { OnErr result (steps.new ≡ steps.old) }
         ensures handed { IfErr result (λ refused. refused.value ≡ item) }
         ensures no_handle { self.old.spare ≡ 0 → slots self.old ≡ EMPTY_REF → IsErrAnd result (λ refused. refused.cause ≡ Refusal.NoHandle) }
-        ensures refused { slots self.old < EMPTY_REF → IfErr result (λ refused. refused.cause ≡ Refusal.OutOfMemory) }
+        ensures refused { slots self.old ≢ EMPTY_REF → IfErr result (λ refused. refused.cause ≡ Refusal.OutOfMemory) }
         ensures steps { OnlyRotates steps.old steps.new 2 }
         ensures core { IsCore self.new.shape }
     {
@@ -275,7 +275,7 @@ impl<T, A: Allocator + Copy> RbTree<T, A> {
         ensures err_steps { OnErr result (steps.new ≡ steps.old) }
         ensures handed { IfErr result (λ refused. refused.value ≡ item) }
         ensures no_handle { self.old.spare ≡ 0 → slots self.old ≡ EMPTY_REF → IsErrAnd result (λ refused. refused.cause ≡ Refusal.NoHandle) }
-        ensures refused { slots self.old < EMPTY_REF → IfErr result (λ refused. refused.cause ≡ Refusal.OutOfMemory) }
+        ensures refused { slots self.old ≢ EMPTY_REF → IfErr result (λ refused. refused.cause ≡ Refusal.OutOfMemory) }
         ensures steps { OnlyRotates steps.old steps.new 2 }
         ensures core { IsCore self.new.shape }
     {
@@ -300,7 +300,7 @@ impl<T, A: Allocator + Copy> RbTree<T, A> {
         ensures err_steps { OnErr result (steps.new ≡ steps.old) }
         ensures handed { IfErr result (λ refused. refused.value ≡ item) }
         ensures no_handle { self.old.spare ≡ 0 → slots self.old ≡ EMPTY_REF → IsErrAnd result (λ refused. refused.cause ≡ Refusal.NoHandle) }
-        ensures refused { slots self.old < EMPTY_REF → IfErr result (λ refused. refused.cause ≡ Refusal.OutOfMemory) }
+        ensures refused { slots self.old ≢ EMPTY_REF → IfErr result (λ refused. refused.cause ≡ Refusal.OutOfMemory) }
         ensures steps { OnlyRotates steps.old steps.new 2 }
         ensures core { IsCore self.new.shape }
     {

@@ -1,4 +1,4 @@
-ghost use Rattle.std.specs.Prelude.{◌≡◌, ◌≤◌, ◌<◌, ◌-◌, ◌+◌, ◌++◌, ◌∷◌, ℕ, List, [], length, Bool, true, false, not, IsOk, OnOk, OnErr, IfOk, IfErr, IsErrAnd, MatchBool};
+ghost use Rattle.std.specs.Prelude.{◌≡◌, ◌≢◌, ◌≤◌, ◌<◌, ◌-◌, ◌+◌, ◌++◌, ◌∷◌, ℕ, List, [], length, Bool, true, false, not, IsOk, OnOk, OnErr, IfOk, IfErr, IsErrAnd, MatchBool};
 ghost use Rattle.std.specs.Borrow.{Bor, sem};
 ghost use Rattle.std.specs.Fn.{FnReturnsAt};
 ghost use Rattle.std.specs.Ordering.{is_gt, is_lt};
@@ -148,7 +148,7 @@ impl<K: Ord, V: KeyValue<K> + Drop, A: Allocator + Copy> SetCollection<K, V> for
         ensures err { OnErr result (self.new ≡ self.old) }
         ensures handed { IfErr result (λ refused. refused.value ≡ val) }
         ensures no_handle { length self.old.values ≡ EMPTY_REF → IsErrAnd result (λ refused. refused.cause ≡ Refusal.NoHandle) }
-        ensures refused { length self.old.values < EMPTY_REF → IfErr result (λ refused. refused.cause ≡ Refusal.OutOfMemory) }
+        ensures refused { length self.old.values ≢ EMPTY_REF → IfErr result (λ refused. refused.cause ≡ Refusal.OutOfMemory) }
         ensures room { length self.old.values + self.old.spare ≤ length self.new.values + self.new.spare }
         ensures handles { AreApart (numbered self.new.values) }
     {

@@ -118,7 +118,7 @@ impl<K: Ord, V: KeyValue<K> + Drop, A: Allocator + Copy> SetTree<K, V, A> {
         ensures err_steps { OnErr result (OnlyCompares steps.old steps.new) }
         ensures handed { IfErr result (λ refused. refused.value ≡ val) }
         ensures no_handle { self.old.spare ≡ 0 → slots self.old ≡ EMPTY_REF → IsErrAnd result (λ refused. refused.cause ≡ Refusal.NoHandle) }
-        ensures refused { slots self.old < EMPTY_REF → IfErr result (λ refused. refused.cause ≡ Refusal.OutOfMemory) }
+        ensures refused { slots self.old ≢ EMPTY_REF → IfErr result (λ refused. refused.cause ≡ Refusal.OutOfMemory) }
         ensures comparisons { ComparesWithin steps.old steps.new (length (entries self.old.shape)) }
         ensures rotations { RotatesWithin steps.old steps.new 2 }
         ensures core { IsCore self.new.shape }
@@ -175,7 +175,7 @@ impl<K: Ord, V: KeyValue<K> + Drop, A: Allocator + Copy> SetTree<K, V, A> {
         ensures err_steps { OnErr result (steps.new ≡ steps.old) }
         ensures handed { IfErr result (λ refused. refused.value ≡ val) }
         ensures no_handle { self.old.spare ≡ 0 → slots self.old ≡ EMPTY_REF → IsErrAnd result (λ refused. refused.cause ≡ Refusal.NoHandle) }
-        ensures refused { slots self.old < EMPTY_REF → IfErr result (λ refused. refused.cause ≡ Refusal.OutOfMemory) }
+        ensures refused { slots self.old ≢ EMPTY_REF → IfErr result (λ refused. refused.cause ≡ Refusal.OutOfMemory) }
         ensures steps { OnlyRotates steps.old steps.new 2 }
         ensures core { IsCore self.new.shape }
     {
@@ -230,7 +230,7 @@ impl<K: Ord, V: KeyValue<K> + Drop, A: Allocator + Copy> SetTree<K, V, A> {
         ensures err { OnErr result (self.new ≡ self.old) }
         ensures handed { IfErr result (λ refused. refused.value ≡ val) }
         ensures no_handle { self.old.spare ≡ 0 → slots self.old ≡ EMPTY_REF → IsErrAnd result (λ refused. refused.cause ≡ Refusal.NoHandle) }
-        ensures refused { slots self.old < EMPTY_REF → IfErr result (λ refused. refused.cause ≡ Refusal.OutOfMemory) }
+        ensures refused { slots self.old ≢ EMPTY_REF → IfErr result (λ refused. refused.cause ≡ Refusal.OutOfMemory) }
         ensures core { IsCore self.new.shape }
     {
         let mut steps = Steps::<L>::new(blank);
@@ -290,7 +290,7 @@ impl<K: Ord, V: KeyValue<K> + Drop, A: Allocator + Copy> SetTree<K, V, A> {
 }
 
 impl<K: Ord, V: KeyValue<K> + Drop, A: Allocator + Copy> SetCollection<K, V> for SetTree<K, V, A> {
-    ghost use Rattle.std.specs.Prelude.{◌≡◌, ◌++◌, ◌∷◌, ◌≤◌, ◌<◌, ℕ, List, OnOk, OnErr, IfErr, IsOk, IsErrAnd};
+    ghost use Rattle.std.specs.Prelude.{◌≡◌, ◌≢◌, ◌++◌, ◌∷◌, ◌≤◌, ◌<◌, ℕ, List, OnOk, OnErr, IfErr, IsOk, IsErrAnd};
     ghost use Rattle.i_tree.specs.Shape.{entries, with_item, occurs, IsCore};
     ghost use Rattle.i_tree.specs.RbTree.{slots, slots_with_room};
     ghost use Rattle.i_tree.specs.Change.{Joins};
@@ -321,7 +321,7 @@ impl<K: Ord, V: KeyValue<K> + Drop, A: Allocator + Copy> SetCollection<K, V> for
         ensures err { OnErr result (self.new ≡ self.old) }
         ensures handed { IfErr result (λ refused. refused.value ≡ val) }
         ensures no_handle { self.old.spare ≡ 0 → slots self.old ≡ EMPTY_REF → IsErrAnd result (λ refused. refused.cause ≡ Refusal.NoHandle) }
-        ensures refused { slots self.old < EMPTY_REF → IfErr result (λ refused. refused.cause ≡ Refusal.OutOfMemory) }
+        ensures refused { slots self.old ≢ EMPTY_REF → IfErr result (λ refused. refused.cause ≡ Refusal.OutOfMemory) }
         ensures core { IsCore self.new.shape }
     {
         self.insert_over::<Brand>(Blank::new(4), val)
