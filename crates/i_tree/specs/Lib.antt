@@ -4,6 +4,7 @@ pub mod Balance
 pub mod Change
 pub mod Compared
 pub mod Context
+pub mod Halving
 pub mod KeyExpList
 pub mod Live
 pub mod Mending

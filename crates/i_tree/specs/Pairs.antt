@@ -1,5 +1,5 @@
 -- Lists of pairs of a key and a value. `cmp` compares keys, and keys that it calls `Equal` are one place.
-use Rattle.std.specs.Prelude.{◌≡◌, ◌≢◌, Bool, List, All, Any, AllPairs}
+use Rattle.std.specs.Prelude.{◌≡◌, ◌≢◌, List, All, Any, AllPairs}
 use Rattle.std.specs.declared.cmp.Ordering.{Ordering}
 use Rattle.std.specs.declared.cmp.Ordering.TheVariants.{Less, Equal}
 
@@ -15,7 +15,3 @@ module _ {K V : Type 0} (cmp : K → K → Ordering) where
   -- each key is below all later ones
   abbrev pub IsRising : List (K × V) → Type 0
   IsRising pairs = AllPairs (λ earlier later. cmp earlier.0 later.0 ≡ Less) pairs
-
--- at each key of the list, whatever a closure may answer is what the test says
-abbrev pub AllAnswer : {K V : Type 0} → (K → Bool → Type 0) → (K → Bool) → List (K × V) → Type 0
-AllAnswer may_answer test pairs = All (λ pair. (answer : Bool) → may_answer pair.0 answer → answer ≡ test pair.0) pairs

@@ -1,6 +1,5 @@
 -- What contracts see of a `SetList`, and of its handles.
-use Rattle.std.specs.Prelude.{◌≡◌, ◌≢◌, ℕ, Bool, List, All, slice_set}
-use Rattle.std.specs.Borrow.{Bor}
+use Rattle.std.specs.Prelude.{◌≡◌, ◌≢◌, ℕ, List, slice_set}
 use Rattle.std.specs.List.{enumerate_from}
 use Rattle.std.specs.List.Sorted.{IsPartitionPoint}
 use Rattle.std.specs.declared.cmp.Ordering.{Ordering}
@@ -19,14 +18,6 @@ module _ {V : Type 0} where
   -- the contents with this value at the position
   abbrev pub value_put : Contents V → ℕ → V → Contents V
   value_put contents position value = record contents { values = slice_set contents.values position value }
-
-  -- what may be asked about a reference may be asked about each value
-  abbrev pub TakesValues : (Bor V → Type 0) → List V → Type 0
-  TakesValues MayAsk values = All (λ value. (reference : Bor V) → reference.now ≡ value → MayAsk reference) values
-
-  -- at each value, whatever a closure may answer is what the test says
-  abbrev pub ValuesAnswer : (V → Bool → Type 0) → (V → Bool) → List V → Type 0
-  ValuesAnswer may_answer test values = All (λ value. (answer : Bool) → may_answer value answer → answer ≡ test value) values
 
 -- the values in front of the place have keys below this one, and no others
 abbrev pub IsPlaceFor : {K V : Type 0} → (V → K) → (K → K → Ordering) → K → List V → ℕ → Type 0

@@ -1,4 +1,5 @@
-//! The containers of a sweep line: keys that expire, in a sorted list.
+//! The containers of a sweep line: keys that expire, in a sorted vector, and ordered sets, in a red-black tree and in a
+//! sorted vector.
 //!
 //! A port of the Rust crate `i_tree` 0.20.0, whose names and rules these are. Each call is proved to answer from a plain
 //! list of pairs.
@@ -7,6 +8,7 @@
 ghost use Rattle.std.specs.Prelude.{◌≡◌};
 ghost use Rattle.i_tree.specs.declared.Refusal.TheVariants.{OutOfMemory};
 
+mod halving;
 pub mod key;
 pub mod rb;
 pub mod set;

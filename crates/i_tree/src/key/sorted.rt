@@ -1,40 +1,18 @@
 //! Searches in pairs that stand by rising key.
 
-ghost use Rattle.std.specs.Prelude.{◌≡◌, ◌≢◌, ◌≤◌, ◌<◌, ◌-◌, true, false, not, Bool, All, length, slice_get, MatchBool};
-ghost use Rattle.std.specs.Ordering.{is_gt};
-ghost use Rattle.std.specs.List.Sorted.{IsPartitionPoint, IsPartitionedBy};
+ghost use Rattle.std.specs.Prelude.{◌≡◌, ◌≢◌, ◌≤◌, ◌<◌, ◌-◌, not, All, length, slice_get, MatchBool};
+ghost use Rattle.std.specs.Ordering.{is_gt, is_lt};
+ghost use Rattle.std.specs.List.Sorted.{IsPartitionPoint};
 ghost use Rattle.std.specs.declared.cmp.Ordering.{Ordering};
 ghost use Rattle.std.specs.declared.cmp.Ordering.TheVariants.{Less};
 ghost use Rattle.i_tree.specs.Answer.{Below, AtMost, AnswersBy, IsMonotone};
 ghost use Rattle.i_tree.specs.Live.{live_pairs};
-ghost use Rattle.i_tree.specs.Pairs.{HasKey, NoKey, IsRising, AllAnswer};
+ghost use Rattle.i_tree.specs.Pairs.{HasKey, NoKey, IsRising};
 
 use super::live::is_live;
+use crate::halving::count_passing;
 use crate::{Expiration, ExpiredKey};
 use std::cmp::Ordering;
-
-// How many keys at the front pass, where none that passes stands after one that fails.
-//
-// Each turn tests one key and halves what is left. The step that a test allows is added one turn later, as a product,
-// so that nothing branches on the test: the processor would guess it wrongly half of the time.
-fn count_passing<K: Copy, V, P: Fn(K) -> bool>(pairs: &[(K, V)], passes: P) -> usize
-    requires { All (λ pair. P.pre passes pair.0) pairs.now }
-    ensures within { result ≤ length pairs.now }
-    ensures splits { (test : K → Bool) → AllAnswer (P.post passes) test pairs.now → IsPartitionedBy (λ pair. test pair.0) pairs.now
-        → IsPartitionPoint (λ pair. test pair.0 ≡ true) (λ pair. test pair.0 ≡ false) pairs.now result }
-{
-    let mut start = 0;
-    let mut left = pairs.len();
-    let mut step = 0;
-    let mut passed = 0;
-    while left > 0 {
-        start += step * passed;
-        step = left - left / 2;
-        passed = usize::from(passes(pairs[start + (step - 1)].0));
-        left /= 2;
-    }
-    start + step * passed
-}
 
 // The place of `key`: the keys before it are below `key`, and no others.
 pub(super) fn place_of<K: Ord + Copy, V>(pairs: &[(K, V)], key: &K) -> usize
@@ -42,7 +20,10 @@ pub(super) fn place_of<K: Ord + Copy, V>(pairs: &[(K, V)], key: &K) -> usize
     ensures within { result ≤ length pairs.now }
     ensures splits { IsPartitionPoint (λ pair. K.cmp pair.0 key.now ≡ Less) (λ pair. K.cmp pair.0 key.now ≢ Less) pairs.now result }
 {
-    count_passing(pairs, |other| other < *key)
+    let is_below = |pair: &(K, V)| -> bool
+        ensures { result ≡ is_lt (K.cmp pair.entry.now.0 key.entry.now) }
+    { pair.0 < *key };
+    count_passing(pairs, is_below)
 }
 
 // The value of the last of the first `count` pairs, or `default` where there is none.
@@ -75,10 +56,10 @@ pub(super) fn value_at_most<K: Ord + Copy, V: Copy, F: Fn(K) -> Ordering>(
     requires callable { All (λ pair. F.pre f pair.0) pairs.now }
     ensures { (order : K → Ordering) → AnswersBy (F.post f) order pairs.now → IsMonotone K.cmp order pairs.now → AtMost K.cmp pairs.now order default result }
 {
-    let is_at_most = |key: K| -> bool
-        requires { F.pre f key }
-        ensures { (answer : Ordering) × F.post f key answer × (result ≡ not (is_gt answer)) }
-    { f(key) != Ordering::Greater };
+    let is_at_most = |pair: &(K, V)| -> bool
+        requires { F.pre f pair.now.0 }
+        ensures { (answer : Ordering) × F.post f pair.now.0 answer × (result ≡ not (is_gt answer)) }
+    { f(pair.0) != Ordering::Greater };
     last_value(pairs, count_passing(pairs, is_at_most), default)
 }
 

@@ -1,17 +1,17 @@
-ghost use Rattle.std.specs.Prelude.{◌≡◌, ◌≢◌, ◌≤◌, ◌<◌, ◌-◌, ◌+◌, ◌++◌, ◌∷◌, ℕ, List, [], length, Bool, true, false, not, IsOk, OnOk, OnErr, IfOk, IfErr, IsErrAnd, MatchBool};
+ghost use Rattle.std.specs.Prelude.{◌≡◌, ◌≢◌, ◌≤◌, ◌<◌, ◌-◌, ◌+◌, ◌++◌, ◌∷◌, ℕ, List, [], length, not, IsOk, OnOk, OnErr, IfOk, IfErr, IsErrAnd, MatchBool};
 ghost use Rattle.std.specs.Borrow.{Bor, sem};
 ghost use Rattle.std.specs.Fn.{FnReturnsAt};
 ghost use Rattle.std.specs.Ordering.{is_gt, is_lt};
 ghost use Rattle.std.specs.List.{insert, remove};
-ghost use Rattle.std.specs.List.Sorted.{IsPartitionPoint, IsPartitionedBy};
 ghost use Rattle.std.specs.declared.cmp.Ordering.{Ordering};
 ghost use Rattle.i_tree.specs.Answer.{AnswersBy, IsMonotone};
 ghost use Rattle.i_tree.specs.Change.{Joins};
 ghost use Rattle.i_tree.specs.Set.{AreApart, values, by_key, HasHandle, LacksHandle, IsOrdered, LacksKey, IsFoundBy, TakesKeys};
-ghost use Rattle.i_tree.specs.SetList.{numbered, IsPlaceFor, TakesValues, ValuesAnswer};
+ghost use Rattle.i_tree.specs.SetList.{numbered, IsPlaceFor};
 ghost use Rattle.i_tree.specs.Shape.{last_handle};
 
 use super::sort::{KeyValue, SetCollection};
+use crate::halving::count_passing;
 use crate::{EMPTY_REF, Refusal, Refused};
 use std::alloc::Allocator;
 use std::cmp::Ordering;
@@ -40,29 +40,6 @@ impl<V, A: Allocator + Copy> Model for SetList<V, A> {
     } };
 
     ghost invariant = { λ list. length list.values.items ≤ EMPTY_REF };
-}
-
-// How many values at the front pass, where none that passes stands after one that fails.
-//
-// Each turn tests one value and halves what is left. The step that a test allows is added one turn later, as a product,
-// so that nothing branches on the test: the processor would guess it wrongly half of the time.
-fn count_passing<V, P: Fn(&V) -> bool>(values: &[V], passes: P) -> usize
-    requires { TakesValues (λ value. P.pre passes value) values.now }
-    ensures within { result ≤ length values.now }
-    ensures splits { (test : V → Bool) → ValuesAnswer (λ value answer. FnReturnsAt P.Fn passes value answer) test values.now → IsPartitionedBy test values.now
-        → IsPartitionPoint (λ value. test value ≡ true) (λ value. test value ≡ false) values.now result }
-{
-    let mut start = 0;
-    let mut left = values.len();
-    let mut step = 0;
-    let mut passed = 0;
-    while left > 0 {
-        start += step * passed;
-        step = left - left / 2;
-        passed = usize::from(passes(&values[start + (step - 1)]));
-        left /= 2;
-    }
-    start + step * passed
 }
 
 // The place of `key`: the values before it have keys below it, and no others.

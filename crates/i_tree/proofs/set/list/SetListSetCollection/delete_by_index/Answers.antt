@@ -1,5 +1,4 @@
 use Rattle.std.proofs.Common.{length, ap, ◌∙◌, arith}
-use Rattle.std.proofs.lemmas.List.Edits.{length-remove}
 use Rattle.std.specs.List.{remove}
 use Rattle.i_tree.proofs.SetPositions.{AreApart-numbered, inside_from_HasHandle, values-remove}
 use Rattle.i_tree.specs.Set.{values}
