@@ -1,6 +1,7 @@
 pub mod Balance
 pub mod BalanceFrames
 pub mod BalanceMending
+pub mod Clearing
 pub mod Climb
 pub mod Contexts
 pub mod Detaching

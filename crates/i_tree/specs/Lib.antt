@@ -2,6 +2,7 @@ pub mod Answer
 pub mod ArenaLends
 pub mod Balance
 pub mod Change
+pub mod Clearing
 pub mod Compared
 pub mod Context
 pub mod Halving

@@ -13,12 +13,12 @@ use std::sync::ledger::{Blank, Ledger};
 use std::test::Fail;
 
 // The calls of the core, each after a test of its conditions. Nothing is done with what they count.
-fn insert_root_over<L: Ledger, A: Allocator + Copy>(
+fn insert_root_over<T, L: Ledger, A: Allocator + Copy>(
     rt: &impl Abort,
     blank: Blank,
-    tree: &mut RbTree<i32, A>,
-    item: i32,
-) -> Result<u32, Refused<i32>>
+    tree: &mut RbTree<T, A>,
+    item: T,
+) -> Result<u32, Refused<T>>
     requires name { blank.name ≡ L.name }
     requires parts { blank.parts ≡ L.parts }
     requires four { blank.parts ≡ 4 }
@@ -27,13 +27,13 @@ fn insert_root_over<L: Ledger, A: Allocator + Copy>(
     tree.insert_root(&mut Steps::<L>::new(blank), item)
 }
 
-fn insert_left_over<L: Ledger, A: Allocator + Copy>(
+fn insert_left_over<T, L: Ledger, A: Allocator + Copy>(
     rt: &impl Abort,
     blank: Blank,
-    tree: &mut RbTree<i32, A>,
+    tree: &mut RbTree<T, A>,
     parent: u32,
-    item: i32,
-) -> Result<u32, Refused<i32>>
+    item: T,
+) -> Result<u32, Refused<T>>
     requires name { blank.name ≡ L.name }
     requires parts { blank.parts ≡ L.parts }
     requires four { blank.parts ≡ 4 }
@@ -43,13 +43,13 @@ fn insert_left_over<L: Ledger, A: Allocator + Copy>(
     tree.insert_left(&mut Steps::<L>::new(blank), parent, item)
 }
 
-fn insert_right_over<L: Ledger, A: Allocator + Copy>(
+fn insert_right_over<T, L: Ledger, A: Allocator + Copy>(
     rt: &impl Abort,
     blank: Blank,
-    tree: &mut RbTree<i32, A>,
+    tree: &mut RbTree<T, A>,
     parent: u32,
-    item: i32,
-) -> Result<u32, Refused<i32>>
+    item: T,
+) -> Result<u32, Refused<T>>
     requires name { blank.name ≡ L.name }
     requires parts { blank.parts ≡ L.parts }
     requires four { blank.parts ≡ 4 }
@@ -59,38 +59,40 @@ fn insert_right_over<L: Ledger, A: Allocator + Copy>(
     tree.insert_right(&mut Steps::<L>::new(blank), parent, item)
 }
 
-fn insert_root<A: Allocator + Copy>(
+/// Puts the first item in, after a test that the tree is empty.
+pub fn insert_root<T, A: Allocator + Copy>(
     rt: &impl Abort,
-    tree: &mut RbTree<i32, A>,
-    item: i32,
-) -> Result<u32, Refused<i32>> {
-    insert_root_over::<Brand, A>(rt, Blank::new(4), tree, item)
+    tree: &mut RbTree<T, A>,
+    item: T,
+) -> Result<u32, Refused<T>> {
+    insert_root_over::<T, Brand, A>(rt, Blank::new(4), tree, item)
 }
 
-fn insert_left<A: Allocator + Copy>(
+fn insert_left<T, A: Allocator + Copy>(
     rt: &impl Abort,
-    tree: &mut RbTree<i32, A>,
+    tree: &mut RbTree<T, A>,
     parent: u32,
-    item: i32,
-) -> Result<u32, Refused<i32>> {
-    insert_left_over::<Brand, A>(rt, Blank::new(4), tree, parent, item)
+    item: T,
+) -> Result<u32, Refused<T>> {
+    insert_left_over::<T, Brand, A>(rt, Blank::new(4), tree, parent, item)
 }
 
-fn insert_right<A: Allocator + Copy>(
+/// Puts an item after the parent's, after a test that there is room on its right.
+pub fn insert_right<T, A: Allocator + Copy>(
     rt: &impl Abort,
-    tree: &mut RbTree<i32, A>,
+    tree: &mut RbTree<T, A>,
     parent: u32,
-    item: i32,
-) -> Result<u32, Refused<i32>> {
-    insert_right_over::<Brand, A>(rt, Blank::new(4), tree, parent, item)
+    item: T,
+) -> Result<u32, Refused<T>> {
+    insert_right_over::<T, Brand, A>(rt, Blank::new(4), tree, parent, item)
 }
 
-fn remove_over<L: Ledger, A: Allocator + Copy>(
+fn remove_over<T, L: Ledger, A: Allocator + Copy>(
     rt: &impl Abort,
     blank: Blank,
-    tree: &mut RbTree<i32, A>,
+    tree: &mut RbTree<T, A>,
     handle: u32,
-) -> i32
+) -> T
     requires name { blank.name ≡ L.name }
     requires parts { blank.parts ≡ L.parts }
     requires four { blank.parts ≡ 4 }
@@ -99,8 +101,9 @@ fn remove_over<L: Ledger, A: Allocator + Copy>(
     tree.remove(&mut Steps::<L>::new(blank), handle)
 }
 
-fn remove<A: Allocator + Copy>(rt: &impl Abort, tree: &mut RbTree<i32, A>, handle: u32) -> i32 {
-    remove_over::<Brand, A>(rt, Blank::new(4), tree, handle)
+/// Takes the entry out, after a test that it is there.
+pub fn remove<T, A: Allocator + Copy>(rt: &impl Abort, tree: &mut RbTree<T, A>, handle: u32) -> T {
+    remove_over::<T, Brand, A>(rt, Blank::new(4), tree, handle)
 }
 
 fn left<A: Allocator + Copy>(rt: &impl Abort, tree: &RbTree<i32, A>, handle: u32) -> u32 {
@@ -136,8 +139,8 @@ fn node<A: Allocator + Copy>(
     )
 }
 
-// Puts `count` items that rise from 1 on into the empty tree, each behind the last, and answers their handles.
-fn insert_rising<A: Allocator + Copy>(
+/// Puts `count` items that rise from 1 on into the empty tree, each behind the last, and answers their handles.
+pub fn insert_rising<A: Allocator + Copy>(
     rt: &impl Abort,
     tree: &mut RbTree<i32, A>,
     count: i32,
@@ -152,8 +155,8 @@ fn insert_rising<A: Allocator + Copy>(
     Ok(())
 }
 
-// Whether the tree has exactly these handles in order, with items that rise from 1 on.
-fn has_rising<A: Allocator + Copy>(
+/// Whether the tree has exactly these handles in order, with items that rise from 1 on.
+pub fn has_rising<A: Allocator + Copy>(
     rt: &impl Abort,
     tree: &RbTree<i32, A>,
     handles: &[u32],

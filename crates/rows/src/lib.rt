@@ -2,6 +2,8 @@
 #![tactic(auto)]
 
 #[cfg(test)]
+mod clears;
+#[cfg(test)]
 mod cores;
 #[cfg(test)]
 mod counts;
