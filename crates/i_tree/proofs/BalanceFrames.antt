@@ -7,7 +7,8 @@ use Rattle.i_tree.specs.declared.rb.links.Side.{Side}
 use Rattle.i_tree.specs.declared.rb.links.Side.TheVariants.{Left, Right}
 use Rattle.i_tree.specs.Shape.{Shape, leaf, fork, top, entries, occurs, one_if_same, IsLive, AreHandles}
 use Rattle.i_tree.specs.Balance.{is_black, is_black_colour, is_black_around, level_of, IsRedBlack, MayStand, Fits}
-use Rattle.i_tree.specs.Context.{Frame, fork_on, fill, plug, Replaces, CanTurn}
+use Rattle.i_tree.specs.Context.{Frame, fork_on, fill, plug, Replaces}
+use Rattle.i_tree.specs.Turns.{Turn, unturned, turned, CanTurn}
 use Rattle.i_tree.specs.Mending.{one_if_red, red_nodes, IsPart, IsBlackPart}
 use Rattle.i_tree.proofs.Contexts.{one_if_same-same, occurs-fork_on, occurs-plug, before_hole, after_hole, entries-plug, cut_at}
 
@@ -158,11 +159,7 @@ module _ {T : Type 0} where
 
   -- the tree with the node turned down to the side
   abbrev pub Turns : ℕ → Side → Shape T → Shape T → Type 0
-  Turns handle side old new =
-      (colour : Colour) (outer : Shape T) (item : T) (raised_colour : Colour) (inner : Shape T) (raised : ℕ) (raised_item : T) (far : Shape T)
-      → Replaces old new
-      (fork_on side colour outer handle item (fork_on side raised_colour inner raised raised_item far))
-      (fork_on side colour (fork_on side raised_colour outer handle item inner) raised raised_item far)
+  Turns handle side old new = (turn : Turn T handle side) → old ≡ plug turn.around (unturned turn) → new ≡ plug turn.around (turned turn)
 
   entries-turned_part : (side : Side) (colour raised_colour : Colour) (outer : Shape T) (handle : ℕ) (item : T) (inner : Shape T) (raised : ℕ) (raised_item : T) (far : Shape T)
       → entries (fork_on side colour (fork_on side raised_colour outer handle item inner) raised raised_item far)
@@ -172,9 +169,8 @@ module _ {T : Type 0} where
 
   pub entries-turned : (handle : ℕ) (side : Side) (old new : Shape T) → CanTurn old handle side → Turns handle side old new → entries new ≡ entries old
   entries-turned handle side old new can turns =
-      ap entries (turns can.colour can.outer can.item can.raised_colour can.inner can.raised can.raised_item can.far can.around can.is)
-      ∙ entries-replaced can.around
-      (fork_on side can.colour (fork_on side can.raised_colour can.outer handle can.item can.inner) can.raised can.raised_item can.far)
-      (fork_on side can.colour can.outer handle can.item (fork_on side can.raised_colour can.inner can.raised can.raised_item can.far))
-      (entries-turned_part side can.colour can.raised_colour can.outer handle can.item can.inner can.raised can.raised_item can.far)
+      let turn = can.turn in
+      ap entries (turns turn can.is)
+      ∙ entries-replaced turn.around (turned turn) (unturned turn)
+      (entries-turned_part side turn.colour turn.raised_colour turn.outer handle turn.item turn.inner turn.raised turn.raised_item turn.far)
       ∙ sym (ap entries can.is)

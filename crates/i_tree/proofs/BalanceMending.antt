@@ -7,7 +7,8 @@ use Rattle.i_tree.specs.declared.rb.links.Side.{Side}
 use Rattle.i_tree.specs.declared.rb.links.Side.TheVariants.{Left, Right}
 use Rattle.i_tree.specs.Shape.{Shape, leaf, fork, top, entries, occurs, black_levels, IsLive, AreHandles}
 use Rattle.i_tree.specs.Balance.{is_black, is_black_colour, is_black_around, level_of, IsRedBlack, MayStand, Fits, IsRaised}
-use Rattle.i_tree.specs.Context.{Frame, fork_on, fill, plug, other_side, hole_parent, CanTurn}
+use Rattle.i_tree.specs.Context.{Frame, fork_on, fill, plug, other_side, hole_parent}
+use Rattle.i_tree.specs.Turns.{CanTurn}
 use Rattle.i_tree.specs.Steps.{Counts, OnlyRotates}
 use Rattle.i_tree.specs.Mending.{red_nodes, IsPart, IsBlackPart, IsUnderRed}
 use Rattle.i_tree.proofs.Contexts.{one_if_same-same, fork_on-other}
@@ -272,21 +273,25 @@ module _ {T : Type 0} where
   pub CanTurn-leaning : {tree : Shape T} {above : ℕ} {side way : Side} → way ≡ other_side side → IsLeaning tree above side → CanTurn tree above way
   CanTurn-leaning {tree} {above} {side} {way} is_other lean =
       record {
-        around = lean.around;
-        colour = Black;
-        outer = lean.far;
-        item = lean.item;
-        raised_colour = Red;
-        inner = lean.inner;
-        raised = lean.raised;
-        raised_item = lean.raised_item;
-        far = lean.outer;
+        turn = record {
+          around = lean.around;
+          colour = Black;
+          outer = lean.far;
+          item = lean.item;
+          raised_colour = Red;
+          inner = lean.inner;
+          raised = lean.raised;
+          raised_item = lean.raised_item;
+          far = lean.outer;
+        };
         is = leaning_other is_other lean;
       }
 
   pub balanced-lifted : {tree : Shape T} {above : ℕ} {side way : Side} → way ≡ other_side side → IsLeaning tree above side → (new : Shape T) → Turns above way tree new → IsRedBlack new
+  unfolding CanTurn-leaning
   balanced-lifted {tree} {above} {side} {way} is_other lean new turns =
-      let turned = turns Black lean.far lean.item Red lean.inner lean.raised lean.raised_item lean.outer lean.around (leaning_other is_other lean) in
+      let can = CanTurn-leaning is_other lean in
+      let turned = turns can.turn can.is in
       let lowered = IsPart-red way above lean.item lean.far_part lean.inner_part in
       let whole = IsBlackPart-black way lean.raised lean.raised_item lowered lean.outer_part in
       subst IsRedBlack (sym turned)
@@ -375,19 +380,22 @@ module _ {T : Type 0} where
       pub CanTurn-inner : AreHandles tree → child ≡ node → CanTurn tree parent side
       CanTurn-inner handles same =
           record {
-            around = around_parent;
-            colour = Red;
-            outer = under.sibling;
-            item = under.parent_item;
-            raised_colour = Red;
-            inner = under.near;
-            raised = node;
-            raised_item = under.item;
-            far = under.far;
+            turn = record {
+              around = around_parent;
+              colour = Red;
+              outer = under.sibling;
+              item = under.parent_item;
+              raised_colour = Red;
+              inner = under.near;
+              raised = node;
+              raised_item = under.item;
+              far = under.far;
+            };
             is = other_turn side (turned handles same);
           }
 
       IsLeaning-turned : AreHandles tree → is_black under.uncle ≡ true → child ≡ node → (new : Shape T) → Turns parent side tree new → IsLeaning new above side
+      unfolding CanTurn-inner
       IsLeaning-turned handles black same new turns =
           record {
             around = under.around;
@@ -398,7 +406,7 @@ module _ {T : Type 0} where
             inner = under.far;
             item = under.grandparent_item;
             far = under.uncle;
-            is = turns Red under.sibling under.parent_item Red under.near node under.item under.far around_parent (other_turn side (turned handles same));
+            is = turns (CanTurn-inner handles same).turn (CanTurn-inner handles same).is;
             outer_part = IsPart-red side parent under.parent_item under.sibling_part under.near_part;
             inner_part = under.far_part;
             far_part = IsBlackPart-from under.uncle_part black;

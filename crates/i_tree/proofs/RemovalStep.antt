@@ -7,7 +7,8 @@ use Rattle.i_tree.specs.declared.rb.links.Colour.TheVariants.{Red, Black}
 use Rattle.i_tree.specs.declared.rb.links.Side.{Side}
 use Rattle.i_tree.specs.declared.rb.links.Side.TheVariants.{Left, Right}
 use Rattle.i_tree.specs.Balance.{is_black, is_black_colour, level_of, IsRedBlack, MayStand, Fits, IsShort}
-use Rattle.i_tree.specs.Context.{Frame, fork_on, fill, plug, other_side, CanTurn}
+use Rattle.i_tree.specs.Context.{Frame, fork_on, fill, plug, other_side}
+use Rattle.i_tree.specs.Turns.{CanTurn}
 use Rattle.i_tree.specs.Mending.{red_nodes, IsPart, IsBlackPart}
 use Rattle.i_tree.specs.Removal.{KeepsPart}
 use Rattle.i_tree.specs.Rising.{IsEnded, IsRisen, HasBlackSibling}
@@ -172,21 +173,24 @@ module _ {T : Type 0} where
     pub CanTurn-short : (sibling : ℕ) (colour : Colour) → Parts side colour cut.far sibling → CanTurn tree node side
     CanTurn-short sibling colour parts =
         record {
-          around = cut.around;
-          colour = cut.colour;
-          outer = cut.near;
-          item = cut.item;
-          raised_colour = colour;
-          inner = parts.inner;
-          raised = sibling;
-          raised_item = parts.item;
-          far = parts.outer;
+          turn = record {
+            around = cut.around;
+            colour = cut.colour;
+            outer = cut.near;
+            item = cut.item;
+            raised_colour = colour;
+            inner = parts.inner;
+            raised = sibling;
+            raised_item = parts.item;
+            far = parts.outer;
+          };
           is = at sibling colour parts;
         }
 
     turned : (sibling : ℕ) (colour : Colour) (parts : Parts side colour cut.far sibling) (one : Shape T) → Turns node side tree one
         → one ≡ plug cut.around (fork_on side cut.colour (fork_on side colour cut.near node cut.item parts.inner) sibling parts.item parts.outer)
-    turned sibling colour parts one turns = turns cut.colour cut.near cut.item colour parts.inner sibling parts.item parts.outer cut.around (at sibling colour parts)
+    unfolding CanTurn-short
+    turned sibling colour parts one turns = turns (CanTurn-short sibling colour parts).turn (at sibling colour parts)
 
     module _ (sibling : ℕ) (parts : Parts side Black cut.far sibling) where
       below : IsPart (black_levels cut.near) parts.inner × IsPart (black_levels cut.near) parts.outer
@@ -324,24 +328,26 @@ module _ {T : Type 0} where
         pub CanTurn-sibling : (away : Side) → away ≡ other_side side → CanTurn tree sibling away
         CanTurn-sibling away away_is =
             record {
-              around = far_frames;
-              colour = Black;
-              outer = parts.outer;
-              item = parts.item;
-              raised_colour = Red;
-              inner = inner_parts.outer;
-              raised = inner;
-              raised_item = inner_parts.item;
-              far = inner_parts.inner;
+              turn = record {
+                around = far_frames;
+                colour = Black;
+                outer = parts.outer;
+                item = parts.item;
+                raised_colour = Red;
+                inner = inner_parts.outer;
+                raised = inner;
+                raised_item = inner_parts.item;
+                far = inner_parts.inner;
+              };
               is = at_between away away_is;
             }
 
         module _ (away : Side) (away_is : away ≡ other_side side) (one : Shape T) (turns : Turns sibling away tree one) where
           straightened : one ≡ plug cut.around (fork_on side cut.colour cut.near node cut.item (fork_on side Black inner_parts.inner inner inner_parts.item (fork_on side Red inner_parts.outer sibling parts.item parts.outer)))
-          unfolding far_frames
+          unfolding far_frames CanTurn-sibling
           straightened =
               let turned_there : one ≡ plug far_frames (fork_on away Black (fork_on away Red parts.outer sibling parts.item inner_parts.outer) inner inner_parts.item inner_parts.inner) =
-              turns Black parts.outer parts.item Red inner_parts.outer inner inner_parts.item inner_parts.inner far_frames (at_between away away_is) in
+              turns (CanTurn-sibling away away_is).turn (at_between away away_is) in
               let P : Side → Type 0 = λ way. one ≡ plug far_frames (fork_on way Black (fork_on way Red parts.outer sibling parts.item inner_parts.outer) inner inner_parts.item inner_parts.inner) in
               subst P away_is turned_there
               ∙ ap (λ (part : Shape T). plug far_frames (fork_on (other_side side) Black part inner inner_parts.item inner_parts.inner)) (sym (fork_on-other side Red inner_parts.outer sibling parts.item parts.outer))
@@ -351,15 +357,17 @@ module _ {T : Type 0} where
           pub CanTurn-straightened : CanTurn one node side
           CanTurn-straightened =
               record {
-                around = cut.around;
-                colour = cut.colour;
-                outer = cut.near;
-                item = cut.item;
-                raised_colour = Black;
-                inner = inner_parts.inner;
-                raised = inner;
-                raised_item = inner_parts.item;
-                far = fork_on side Red inner_parts.outer sibling parts.item parts.outer;
+                turn = record {
+                  around = cut.around;
+                  colour = cut.colour;
+                  outer = cut.near;
+                  item = cut.item;
+                  raised_colour = Black;
+                  inner = inner_parts.inner;
+                  raised = inner;
+                  raised_item = inner_parts.item;
+                  far = fork_on side Red inner_parts.outer sibling parts.item parts.outer;
+                };
                 is = straightened;
               }
 
@@ -374,9 +382,9 @@ module _ {T : Type 0} where
             high_frames = record { side = other_side side; colour = cut.colour; handle = inner; item = inner_parts.item; sibling = low } ∷ cut.around
 
             at_high : two ≡ plug high_frames (high Red)
-            unfolding low high high_frames
+            unfolding low high high_frames CanTurn-straightened
             at_high =
-                turns_again cut.colour cut.near cut.item Black inner_parts.inner inner inner_parts.item (high Red) cut.around straightened
+                turns_again CanTurn-straightened.turn straightened
                 ∙ ap (plug cut.around) (fork_on-other side cut.colour low inner inner_parts.item (high Red))
 
             pub IsLive-high : IsLive two sibling

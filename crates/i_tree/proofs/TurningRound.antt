@@ -7,7 +7,7 @@ use Rattle.i_tree.specs.declared.rb.links.Side.{Side}
 use Rattle.i_tree.specs.declared.rb.links.Side.TheVariants.{Left, Right}
 use Rattle.i_tree.specs.declared.rb.links.Slot.{Slot}
 use Rattle.i_tree.specs.declared.rb.links.Slot.TheVariants.{Used}
-use Rattle.i_tree.specs.Context.{Frame, fork_on, plug, other_side, hole_parent, CanTurn}
+use Rattle.i_tree.specs.Context.{Frame, fork_on, plug, other_side, hole_parent}
 use Rattle.i_tree.specs.Shape.{Shape, leaf, fork, top, entries, occurs, one_if_same}
 use Rattle.i_tree.specs.Slots.{child_link, with_child_link, slot_links, links_of, IsUsed, Relinks, IsAt, IsSound}
 use Rattle.i_tree.specs.Turns.{Turn, unturned, turned, Rehangs, Reparents}
@@ -360,16 +360,3 @@ module _ {T : Type 0} {handle : ℕ} {side : Side} where
       let parent_is = ap (λ (l : Links). l.parent) values.links_are ∙ parent-on side (hole_parent turn.around) (top turn.outer) turn.raised turn.colour in
       let Used_at : ℕ → Type 0 = λ other. IsUsed slots other in
       subst Used_at (sym parent_is) (IsUsed-hole slots turn.around handle lies.around (λ same. some (parent_is ∙ same)))
-
-  abbrev pub turn_of : (tree : Shape T) → CanTurn tree handle side → Turn T handle side
-  turn_of tree can = record {
-    around = can.around;
-    colour = can.colour;
-    outer = can.outer;
-    item = can.item;
-    raised_colour = can.raised_colour;
-    inner = can.inner;
-    raised = can.raised;
-    raised_item = can.raised_item;
-    far = can.far;
-  }

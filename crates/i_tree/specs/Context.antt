@@ -47,19 +47,6 @@ module _ {T : Type 0} where
   abbrev pub Replaces : Shape T → Shape T → Shape T → Shape T → Type 0
   Replaces old_tree new_tree old new = (around : List (Frame T)) → old_tree ≡ plug around old → new_tree ≡ plug around new
 
-  -- the node has a part on the other side
-  pub record CanTurn (tree : Shape T) (handle : ℕ) (side : Side) : Type 0 where
-    pub around : List (Frame T)
-    pub colour : Colour
-    pub outer : Shape T
-    pub item : T
-    pub raised_colour : Colour
-    pub inner : Shape T
-    pub raised : ℕ
-    pub raised_item : T
-    pub far : Shape T
-    pub is : tree ≡ plug around (fork_on side colour outer handle item (fork_on side raised_colour inner raised raised_item far))
-
   -- the node has no part on the side
   pub record HasRoomOn (tree : Shape T) (handle : ℕ) (side : Side) : Type 0 where
     pub around : List (Frame T)

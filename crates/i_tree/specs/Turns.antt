@@ -1,4 +1,4 @@
--- How a node of a tree in slots is turned down. No public clause cites this module.
+-- How a node of a tree is turned down, in the tree and in its slots. No public clause cites this module.
 use Rattle.std.specs.Prelude.{◌≡◌, ◌≢◌, ℕ, List, Some}
 use Rattle.i_tree.specs.declared.TheConstants.{EMPTY_REF}
 use Rattle.i_tree.specs.declared.rb.links.Colour.{Colour}
@@ -32,6 +32,11 @@ module _ {T : Type 0} {handle : ℕ} {side : Side} where
   turned turn = fork_on side turn.colour (fork_on side turn.raised_colour turn.outer handle turn.item turn.inner) turn.raised turn.raised_item turn.far
 
 module _ {T : Type 0} where
+  -- the node has a part on the other side
+  pub record CanTurn (tree : Shape T) (handle : ℕ) (side : Side) : Type 0 where
+    pub turn : Turn T handle side
+    pub is : tree ≡ plug turn.around (unturned turn)
+
   -- the slots hold a tree in which the node can turn
   pub record HoldsTurn (slots : List (Slot T)) (root handle : ℕ) (side : Side) : Type 0 where
     pub turn : Turn T handle side

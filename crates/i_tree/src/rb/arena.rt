@@ -1,14 +1,14 @@
 ghost use Rattle.std.specs.Prelude.{◌≡◌, ◌≢◌, ◌≤◌, ◌<◌, ◌+◌, ◌-◌, ℕ, List, length, Some, slice_get, IsOk, OnOk, OnErr, IfOk, IfErr, IsErrAnd, MatchBool, IsTrue, max, vec_len, vec_capacity};
 ghost use Rattle.std.specs.Borrow.{sem};
 ghost use Rattle.i_tree.specs.Balance.{is_black};
-ghost use Rattle.i_tree.specs.Context.{Frame, fork_on, plug, hole_parent, Replaces, CanTurn, HasOnePart, HasRoomOn};
+ghost use Rattle.i_tree.specs.Context.{Frame, fork_on, plug, hole_parent, Replaces, HasOnePart, HasRoomOn};
 ghost use Rattle.i_tree.specs.ArenaLends.{lends_item};
 ghost use Rattle.i_tree.specs.RbTree.{slots, slots_with_room};
 ghost use Rattle.i_tree.specs.Room.{IsFree, Keeps, with_numbers};
 ghost use Rattle.i_tree.specs.Shape.{Shape, leaf, fork, top, entries, IsLive, AreHandles, occurs};
 ghost use Rattle.i_tree.specs.Slots.{IsChain, IsSound, IsUsed};
 ghost use Rattle.i_tree.specs.Steps.{OnlyRotates};
-ghost use Rattle.i_tree.specs.Turns.{Turn, unturned, turned, HoldsTurn, Rehangs, Reparents};
+ghost use Rattle.i_tree.specs.Turns.{Turn, unturned, turned, CanTurn, HoldsTurn, Rehangs, Reparents};
 
 use super::links::{Colour, Links, Side, Slot, links_at, set_links};
 use crate::steps::Steps;
@@ -337,10 +337,7 @@ impl<T, A: Allocator + Copy> Arena<T, A> {
     /// Turns the node down to the side, and its part's top on the other side up to its place. The two change colours.
     pub fn rotate<L: Ledger>(&mut self, steps: &mut Steps<L>, handle: u32, side: Side)
         requires { CanTurn self.old.shape handle side }
-        ensures shape { (colour : Colour) (outer : Shape T) (item : T) (raised_colour : Colour) (inner : Shape T) (raised : ℕ) (raised_item : T) (far : Shape T) →
-            Replaces self.old.shape self.new.shape
-            (fork_on side colour outer handle item (fork_on side raised_colour inner raised raised_item far))
-            (fork_on side colour (fork_on side raised_colour outer handle item inner) raised raised_item far) }
+        ensures shape { (turn : Turn T handle side) → self.old.shape ≡ plug turn.around (unturned turn) → self.new.shape ≡ plug turn.around (turned turn) }
         ensures spare { self.new.spare ≡ self.old.spare }
         ensures handles { AreHandles self.new.shape }
         ensures rotations { steps.new.rotations ≡ steps.old.rotations + 1 }

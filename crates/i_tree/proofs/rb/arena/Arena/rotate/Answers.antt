@@ -3,14 +3,13 @@ use Rattle.std.proofs.lemmas.List.{take_at}
 use Rattle.i_tree.proofs.Placed.{AreHandles-sound, read_sound}
 use Rattle.i_tree.proofs.Turning.{IsSound-read}
 use Rattle.i_tree.proofs.TurningReads.{IsSound-view, IsSound-as}
-use Rattle.i_tree.proofs.TurningRound.{turn_of}
 use Rattle.i_tree.proofs.rb.arena.Arena.rotate.Goals as goal
 
 pub turn-requires : goal.turn-requires
 turn-requires g c =
     let sound = IsSound-view _ _ _ _ _ c.args.self.now c.self.invariant c.self.view_is in
     rw c.deref_mut.ensures.value (record {
-      turn = turn_of c.args.self.now.shape c.requires;
+      turn = c.requires.turn;
       first_free = c.self.inside.first_free;
       free = c.self.inside.free;
       sound = IsSound-as _ _ _ _ _ _ c.requires.is sound;
@@ -19,29 +18,19 @@ turn-requires g c =
 pub invariant_of-self : goal.invariant_of-self
 invariant_of-self g c =
     let sound = IsSound-view _ _ _ _ _ c.args.self.now c.self.invariant c.self.view_is in
-    let round = c.turn.ensures (turn_of c.args.self.now.shape c.requires) c.self.inside.first_free c.self.inside.free
+    let round = c.turn.ensures c.requires.turn c.self.inside.first_free c.self.inside.free
     (rw c.deref_mut.ensures.value (IsSound-as _ _ _ _ _ _ c.requires.is sound)) in
     rw (take_at c.turn.new.slots _ c.self.inside.slots.len (c.turn.auto.slots ∙ c.deref_mut.ensures.len)) (IsSound-read _ _ _ _ _ round)
 
 pub returns-clause-shape : goal.returns-clause-shape
-returns-clause-shape g c = λ colour outer item raised_colour inner raised raised_item far around is.
+returns-clause-shape g c = λ turn is.
     let sound = IsSound-view _ _ _ _ _ c.args.self.now c.self.invariant c.self.view_is in
-    let round = c.turn.ensures (record {
-      around = around;
-      colour = colour;
-      outer = outer;
-      item = item;
-      raised_colour = raised_colour;
-      inner = inner;
-      raised = raised;
-      raised_item = raised_item;
-      far = far;
-    }) c.self.inside.first_free c.self.inside.free (rw c.deref_mut.ensures.value (IsSound-as _ _ _ _ _ _ is sound)) in
+    let round = c.turn.ensures turn c.self.inside.first_free c.self.inside.free (rw c.deref_mut.ensures.value (IsSound-as _ _ _ _ _ _ is sound)) in
     rw (take_at c.turn.new.slots _ c.self.inside.slots.len (c.turn.auto.slots ∙ c.deref_mut.ensures.len)) (read_sound _ _ _ _ _ round)
 
 pub returns-clause-handles : goal.returns-clause-handles
 returns-clause-handles g c =
     let sound = IsSound-view _ _ _ _ _ c.args.self.now c.self.invariant c.self.view_is in
-    let round = c.turn.ensures (turn_of c.args.self.now.shape c.requires) c.self.inside.first_free c.self.inside.free
+    let round = c.turn.ensures c.requires.turn c.self.inside.first_free c.self.inside.free
     (rw c.deref_mut.ensures.value (IsSound-as _ _ _ _ _ _ c.requires.is sound)) in
     rw (take_at c.turn.new.slots _ c.self.inside.slots.len (c.turn.auto.slots ∙ c.deref_mut.ensures.len)) (AreHandles-sound _ _ _ _ _ (IsSound-read _ _ _ _ _ round))
