@@ -3,6 +3,7 @@ pub mod KeyMachine
 pub mod Modes
 pub mod Probes
 pub mod Replies
+pub mod SetMachine
 pub mod StandsFor
 pub mod Texts
 pub mod Words

@@ -4,4 +4,4 @@ mod keys;
 mod sets;
 
 pub use keys::{KeyCommand, KeyReply, run_keys};
-pub use sets::{SetCommand, SetReply};
+pub use sets::{SetCommand, SetReply, run_sets};

@@ -1,0 +1,14 @@
+use Rattle.itree.proofs.SetServing.{HasHandle-at_most, find_step, find_none_step}
+use Rattle.itree.proofs.run.sets.find.Goals as goal
+
+pub key_at-requires : goal.key_at-requires
+key_at-requires g c =
+    HasHandle-at_most g.V.KeyValue.key_of g.met.K.Ord.total (g.C.SetCollection.pairs c.args.c.now) c.args.key c.handle_at_most.result c.handle_at_most.ensures.value
+
+pub returns-in-Some : goal.returns-in-Some
+returns-in-Some g c =
+    find_step g.V.KeyValue.key_of g.met.K.Ord.total (g.C.SetCollection.pairs c.args.c.now) c.args.key c.handle_at_most.result c.handle_at_most.ensures.value c.in-Some.ensures.0 c.in-Some.found c.in-Some.ensures.1
+
+pub returns-in-None : goal.returns-in-None
+returns-in-None g c =
+    find_none_step g.V.KeyValue.key_of g.met.K.Ord.total (g.C.SetCollection.pairs c.args.c.now) c.args.key c.handle_at_most.result c.handle_at_most.ensures.value c.handle_at_most.ensures.handles c.in-None.ensures
