@@ -1,9 +1,10 @@
 -- Facts on the parts of a tree and on its handles.
-use Rattle.std.proofs.Common.{◌≡◌, ◌≢◌, ◌==◌, ℕ, ◌+◌, ◌<◌, ◌≤◌, Bool, true, false, List, [], ◌∷◌, ◌++◌, refl, sym, ap, ◌∙◌, ⊎_elim, arith, append_assoc}
+use Rattle.std.proofs.Common.{◌≡◌, ◌≢◌, ◌==◌, ℕ, ◌<◌, ◌≤◌, Bool, true, false, List, [], ◌∷◌, ◌++◌, refl, sym, ap, ◌∙◌, ⊎_elim, arith, append_assoc}
 use Rattle.std.specs.Bool.{MatchBool}
 use Rattle.std.proofs.lemmas.Bool.{cond_both, eqb-true, eq-eqb, cases_lt}
 use Rattle.std.proofs.lemmas.List.{append-nil}
 use Rattle.std.proofs.lemmas.List.Elements.{All-nil, All-cons}
+use Rattle.i_tree.proofs.Contexts.{occurs_among, occurs_among-append, occurs_among-entries, part_at-none}
 use Rattle.i_tree.proofs.SetLists.{Any-here, Any-there}
 use Rattle.i_tree.specs.declared.rb.links.Colour.{Colour}
 use Rattle.i_tree.specs.Set.{HasHandle, LacksHandle}
@@ -23,15 +24,6 @@ module _ {V : Type 0} where
     pub front : List (ℕ × V)
     pub back : List (ℕ × V)
     pub cut : entries tree ≡ front ++ (entries (part_at wanted tree) ++ back)
-
-  pub part_at-absent : (wanted : ℕ) (tree : Shape V) → occurs wanted tree ≡ 0 → part_at wanted tree ≡ leaf
-  part_at-absent wanted leaf none = refl
-  part_at-absent wanted (fork colour before handle item after) none =
-      let in_before : part_at wanted before ≡ leaf = part_at-absent wanted before (omega (arith, none)) in
-      let in_after : part_at wanted after ≡ leaf = part_at-absent wanted after (omega (arith, none)) in
-      cond_both (wanted == handle) (fork colour before handle item after) (or_else (part_at wanted before) (part_at wanted after)) (λ part. part ≡ leaf)
-      (λ same. absurd (omega (arith, none, one_from_same wanted handle (eqb-true wanted handle same))))
-      (λ _. rw (in_before, in_after) refl)
 
   or_else-fork : (first second : Shape V) (colour : Colour) (before : Shape V) (handle : ℕ) (item : V) (after : Shape V) → first ≡ fork colour before handle item after → or_else first second ≡ first
   or_else-fork first second colour before handle item after is = rw is refl
@@ -90,7 +82,7 @@ module _ {V : Type 0} where
           let absent : occurs wanted before ≡ 0 = omega arith in
           let apart : one_if_same wanted handle ≡ 0 = rw differs refl in
           let part = in_after (omega (arith, live, absent, apart)) in
-          let is : part_at wanted tree ≡ part_at wanted after = below ∙ or_else-leaf (part_at wanted before) (part_at wanted after) (part_at-absent wanted before absent) in
+          let is : part_at wanted tree ≡ part_at wanted after = below ∙ or_else-leaf (part_at wanted before) (part_at wanted after) (part_at-none wanted before absent) in
           record {
             colour = part.colour;
             before = part.before;
@@ -124,46 +116,33 @@ module _ {V : Type 0} where
   ranks_below leaf (first ∷ rest) pair back falls is = absurd (cc)
   ranks_below (fork colour before handle item after) front pair back falls is = (falls.0, falls.1)
 
-  -- how often a handle stands in the pairs
-  abbrev pub times : ℕ → List (ℕ × V) → ℕ
-  times wanted [] = 0
-  times wanted (pair ∷ rest) = one_if_same wanted pair.0 + times wanted rest
-
-  pub times-append : (wanted : ℕ) (first second : List (ℕ × V)) → times wanted (first ++ second) ≡ times wanted first + times wanted second
-  times-append wanted [] second = omega arith
-  times-append wanted (pair ∷ first) second = omega (arith, times-append wanted first second)
-
-  pub times-entries : (wanted : ℕ) (tree : Shape V) → times wanted (entries tree) ≡ occurs wanted tree
-  times-entries wanted leaf = refl
-  times-entries wanted (fork colour before handle item after) =
-      omega (arith, times-append wanted (entries before) ((handle, item) ∷ entries after), times-entries wanted before, times-entries wanted after)
-
-  HasHandle-times : (wanted : ℕ) (pairs : List (ℕ × V)) → 0 < times wanted pairs → HasHandle pairs wanted
-  HasHandle-times wanted [] some = absurd (omega (arith, some))
-  HasHandle-times wanted (pair ∷ rest) some = by_test (wanted == pair.0) refl (HasHandle-times wanted rest)
+  -- a handle that stands in the pairs has a value there, and one that does not has none
+  HasHandle-among : (wanted : ℕ) (pairs : List (ℕ × V)) → 0 < occurs_among wanted pairs → HasHandle pairs wanted
+  HasHandle-among wanted [] some = absurd (omega (arith, some))
+  HasHandle-among wanted (pair ∷ rest) some = by_test (wanted == pair.0) refl (HasHandle-among wanted rest)
     where
-      by_test : (b : Bool) → wanted == pair.0 ≡ b → (0 < times wanted rest → HasHandle rest wanted) → HasHandle (pair ∷ rest) wanted
+      by_test : (b : Bool) → wanted == pair.0 ≡ b → (0 < occurs_among wanted rest → HasHandle rest wanted) → HasHandle (pair ∷ rest) wanted
       by_test true same in_rest = Any-here (λ other. other.0 ≡ wanted) pair rest (sym (eqb-true wanted pair.0 same))
       by_test false differs in_rest =
           let apart : one_if_same wanted pair.0 ≡ 0 = rw differs refl in
           Any-there (λ other. other.0 ≡ wanted) pair rest (in_rest (omega (arith, some, apart)))
 
-  times_above-none : (wanted : ℕ) (pairs : List (ℕ × V)) → times wanted pairs ≡ 0 → LacksHandle pairs wanted
-  times_above-none wanted [] none = All-nil (λ pair. pair.0 ≢ wanted)
-  times_above-none wanted (pair ∷ rest) none =
+  LacksHandle-none : (wanted : ℕ) (pairs : List (ℕ × V)) → occurs_among wanted pairs ≡ 0 → LacksHandle pairs wanted
+  LacksHandle-none wanted [] none = All-nil (λ pair. pair.0 ≢ wanted)
+  LacksHandle-none wanted (pair ∷ rest) none =
       All-cons (λ other. other.0 ≢ wanted) pair rest
       (λ same. absurd (omega (arith, none, one_from_same wanted pair.0 (sym same))))
-      (times_above-none wanted rest (omega (arith, none)))
+      (LacksHandle-none wanted rest (omega (arith, none)))
 
-  pub times-middle : (wanted : ℕ) (front : List (ℕ × V)) (value : V) (back : List (ℕ × V)) → 0 < times wanted (front ++ (wanted, value) ∷ back)
-  times-middle wanted front value back =
-      omega (arith, times-append wanted front ((wanted, value) ∷ back), one_from_same wanted wanted refl)
+  pub occurs_among-middle : (wanted : ℕ) (front : List (ℕ × V)) (value : V) (back : List (ℕ × V)) → 0 < occurs_among wanted (front ++ (wanted, value) ∷ back)
+  occurs_among-middle wanted front value back =
+      omega (arith, occurs_among-append wanted front ((wanted, value) ∷ back), one_from_same wanted wanted refl)
 
   pub HasHandle-live : (wanted : ℕ) (tree : Shape V) → 0 < occurs wanted tree → HasHandle (entries tree) wanted
-  HasHandle-live wanted tree live = HasHandle-times wanted (entries tree) (omega (arith, times-entries wanted tree, live))
+  HasHandle-live wanted tree live = HasHandle-among wanted (entries tree) (omega (arith, occurs_among-entries wanted tree, live))
 
   pub LacksHandle-absent : (wanted : ℕ) (tree : Shape V) → occurs wanted tree ≡ 0 → LacksHandle (entries tree) wanted
-  LacksHandle-absent wanted tree none = times_above-none wanted (entries tree) (times-entries wanted tree ∙ none)
+  LacksHandle-absent wanted tree none = LacksHandle-none wanted (entries tree) (occurs_among-entries wanted tree ∙ none)
 
   live_from-lacks : (wanted : ℕ) (pairs : List (ℕ × V)) → HasHandle pairs wanted → LacksHandle pairs wanted → ⊥
   live_from-lacks wanted pairs (k, pair, within, is, same) none = none k pair within (ap (λ (other : ℕ × V). other.0) is ∙ same)
@@ -174,16 +153,16 @@ module _ {V : Type 0} where
 
   -- a handle that stands once has one value
   pub same_value : (wanted : ℕ) (front : List (ℕ × V)) (value : V) (back : List (ℕ × V)) (front_too : List (ℕ × V)) (value_too : V) (back_too : List (ℕ × V))
-      → times wanted (front ++ (wanted, value) ∷ back) ≤ 1 → front ++ (wanted, value) ∷ back ≡ front_too ++ (wanted, value_too) ∷ back_too → value ≡ value_too
+      → occurs_among wanted (front ++ (wanted, value) ∷ back) ≤ 1 → front ++ (wanted, value) ∷ back ≡ front_too ++ (wanted, value_too) ∷ back_too → value ≡ value_too
   same_value wanted [] value back [] value_too back_too once same =
       let first : (wanted, value) ≡ (wanted, value_too) = cc in ap (λ (pair : ℕ × V). pair.1) first
   same_value wanted [] value back (pair ∷ front_too) value_too back_too once same =
       let rest : back ≡ front_too ++ (wanted, value_too) ∷ back_too = cc in
-      absurd (omega (arith, once, one_from_same wanted wanted refl, ap (times wanted) rest, times-middle wanted front_too value_too back_too))
+      absurd (omega (arith, once, one_from_same wanted wanted refl, ap (occurs_among wanted) rest, occurs_among-middle wanted front_too value_too back_too))
   same_value wanted (pair ∷ front) value back [] value_too back_too once same =
       let rest : front ++ (wanted, value) ∷ back ≡ back_too = cc in
       let first : pair ≡ (wanted, value_too) = cc in
-      absurd (omega (arith, once, one_from_same wanted pair.0 (sym (ap (λ (other : ℕ × V). other.0) first)), times-middle wanted front value back))
+      absurd (omega (arith, once, one_from_same wanted pair.0 (sym (ap (λ (other : ℕ × V). other.0) first)), occurs_among-middle wanted front value back))
   same_value wanted (pair ∷ front) value back (other ∷ front_too) value_too back_too once same =
       let rest : front ++ (wanted, value) ∷ back ≡ front_too ++ (wanted, value_too) ∷ back_too = cc in
       same_value wanted front value back front_too value_too back_too (omega (arith, once)) rest
@@ -201,7 +180,7 @@ module _ {V : Type 0} where
       ∙ ap (λ pairs. part.front ++ pairs) (append_assoc before ((wanted, read) ∷ after) part.back)
       ∙ sym (append_assoc part.front before ((wanted, read) ∷ (after ++ part.back))) in
       same_value wanted (part.front ++ before) read (after ++ part.back) front value back
-      (omega (arith, ap (times wanted) cut, times-entries wanted tree, once))
+      (omega (arith, ap (occurs_among wanted) cut, occurs_among-entries wanted tree, once))
       (sym cut ∙ is)
 
   -- the pairs of the part that a handle has
@@ -209,7 +188,7 @@ module _ {V : Type 0} where
   parts_live wanted tree live = let part = PartAt-live wanted tree live in (part.item, rw part.is refl)
 
   pub live_from_cut : (wanted : ℕ) (tree : Shape V) (front : List (ℕ × V)) (value : V) (back : List (ℕ × V)) → entries tree ≡ front ++ (wanted, value) ∷ back → 0 < occurs wanted tree
-  live_from_cut wanted tree front value back is = omega (arith, times-entries wanted tree, ap (times wanted) is, times-middle wanted front value back)
+  live_from_cut wanted tree front value back is = omega (arith, occurs_among-entries wanted tree, ap (occurs_among wanted) is, occurs_among-middle wanted front value back)
 
 -- a weaker fact for each answer of a test
 pub MatchBool-weaker : (b : Bool) (P Q P' Q' : Type 0) → (P → P') → (Q → Q') → MatchBool b P Q → MatchBool b P' Q'

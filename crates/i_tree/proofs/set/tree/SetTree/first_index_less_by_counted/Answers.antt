@@ -2,7 +2,7 @@ use Rattle.std.proofs.Common.{[], ◌∷◌, ◌++◌, refl, sym, ap, ◌∙◌,
 use Rattle.std.specs.Fn.{FnReturnsAt}
 use Rattle.i_tree.proofs.SetCounts.{OnlyCompares-none, OnlyCompares-more, ComparesWithin-rank}
 use Rattle.i_tree.proofs.SetDescent.{IsCutAt-top, cut_here, cut_at_end, goes_left, goes_right, falls_left, falls_right, some_rank}
-use Rattle.i_tree.proofs.SetParts.{part_at-absent}
+use Rattle.i_tree.proofs.Contexts.{part_at-none}
 use Rattle.i_tree.proofs.SetSearch.{search_finds, search_misses, takes_key, last_handle-end}
 use Rattle.i_tree.specs.RbTree.{Contents}
 use Rattle.i_tree.specs.Set.{IsFoundBy}
@@ -97,7 +97,7 @@ pub returns-clause-value : goal.returns-clause-value
 returns-clause-value g c order answers monotone =
     let tree = c.self.inside.core.shape in
     let place = c.loop-here.invariant.place in
-    let empty = part_at-absent c.loop-here.here tree (ap (λ handle. occurs handle tree) c.loop-here-test.false ∙ c.root-here.ensures.core.handles.none_empty) in
+    let empty = part_at-none c.loop-here.here tree (ap (λ handle. occurs handle tree) c.loop-here-test.false ∙ c.root-here.ensures.core.handles.none_empty) in
     subst (IsFoundBy g.V.KeyValue.key_of g.K.Ord.cmp order (entries c.args.self.now.shape)) (sym place.3)
     (search_misses g.V.KeyValue.key_of g.met.K.Ord.total order (λ key answer. FnReturnsAt g.F.Fn c.args.f key answer) (entries c.args.self.now.shape) place.0 place.1
     (ap (λ (contents : Contents g.row.V.Denot). entries contents.shape) (sym c.self.view_is) ∙ cut_at_end place.2 empty)

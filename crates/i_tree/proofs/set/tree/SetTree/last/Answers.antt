@@ -1,7 +1,8 @@
 use Rattle.std.proofs.Common.{[], ◌∷◌, ◌++◌, refl, sym, ap, ◌∙◌}
 use Rattle.std.proofs.lemmas.List.{append-nil}
 use Rattle.i_tree.proofs.SetDescent.{IsCutAt-top, cut_at_end, goes_right, falls_right}
-use Rattle.i_tree.proofs.SetParts.{part_at-absent, parts_live}
+use Rattle.i_tree.proofs.Contexts.{part_at-none}
+use Rattle.i_tree.proofs.SetParts.{parts_live}
 use Rattle.i_tree.proofs.SetSearch.{last_handle-end}
 use Rattle.i_tree.specs.RbTree.{Contents}
 use Rattle.i_tree.specs.Shape.{entries, left_at, occurs, last_handle}
@@ -34,6 +35,6 @@ pub returns : goal.returns
 returns g c =
     let tree = c.self.inside.core.shape in
     let front = c.loop-here.invariant.0 in
-    let empty = part_at-absent c.loop-here.here tree (ap (λ handle. occurs handle tree) c.loop-here-test.false ∙ c.root-here.ensures.core.handles.none_empty) in
+    let empty = part_at-none c.loop-here.here tree (ap (λ handle. occurs handle tree) c.loop-here-test.false ∙ c.root-here.ensures.core.handles.none_empty) in
     c.loop-here.invariant.2
     ∙ ap last_handle (sym (ap (λ (contents : Contents g.row.V.Denot). entries contents.shape) (sym c.self.view_is) ∙ cut_at_end c.loop-here.invariant.1 empty ∙ append-nil front))

@@ -1,7 +1,7 @@
 use Rattle.std.proofs.Common.{of_calls, rules, ◌≡◌, [], ◌∷◌, ◌++◌, refl, sym, ap, ◌∙◌, subst, arith}
 use Rattle.i_tree.proofs.SetCounts.{OnlyCompares-none, OnlyCompares-more, ComparesWithin-rank}
 use Rattle.i_tree.proofs.SetDescent.{IsCutAt-top, cut_at_end, goes_left, goes_right, falls_left, falls_right}
-use Rattle.i_tree.proofs.SetParts.{part_at-absent}
+use Rattle.i_tree.proofs.Contexts.{part_at-none}
 use Rattle.i_tree.specs.RbTree.{Contents}
 use Rattle.i_tree.proofs.SetInsertion.{place_between}
 use Rattle.i_tree.specs.SetPlace.{IsPlaceOf}
@@ -72,7 +72,7 @@ pub returns-clause-place : goal.returns-clause-place
 returns-clause-place g c =
     let tree = c.self.inside.core.shape in
     let place = c.loop-here.invariant.place in
-    let empty = part_at-absent c.loop-here.here tree (ap (λ handle. occurs handle tree) c.loop-here-test.false ∙ c.root-here.ensures.core.handles.none_empty) in
+    let empty = part_at-none c.loop-here.here tree (ap (λ handle. occurs handle tree) c.loop-here-test.false ∙ c.root-here.ensures.core.handles.none_empty) in
     let cut = ap (λ (contents : Contents g.row.V.Denot). entries contents.shape) (sym c.self.view_is) ∙ cut_at_end place.2 empty in
     let free = subst (λ (part : Shape g.row.V.Denot). IsPlaceOf tree part place.0 place.1 c.loop-here.place) empty place.3 in
     let free_too = subst (λ (contents : Contents g.row.V.Denot). IsPlaceOf contents.shape leaf place.0 place.1 c.loop-here.place) c.self.view_is free in
