@@ -1,6 +1,7 @@
 -- Which words are not read as three numbers, and which say no command.
 use Rattle.std.proofs.Common.{◌≡◌, ◌≢◌, ℕ, ℤ, List, [], ◌∷◌, length, map, codes, get_or, Bor, arith}
-use Rattle.itree.specs.Grammar.{ReadsAll, SaysNoCommand}
+use Rattle.itree.specs.Grammar.{ReadsAll}
+use Rattle.itree.specs.KeyLines.{SaysNoKeyCommand}
 use Rattle.itree.specs.declared.run.keys.KeyCommand.TheVariants.{Insert, Less, LessOrEqualBy, Clear}
 use Rattle.itree.specs.Words.{Reads}
 
@@ -20,7 +21,7 @@ third_read (x ∷ y ∷ []) word first second third read = absurd read.1.1
 third_read (x ∷ y ∷ z ∷ words) word first second third read = read.1.1.0
 
 -- no word follows `clear`
-pub clear_alone : (words : List (Bor (List ℕ))) → length words ≢ 0 → SaysNoCommand (codes "clear" ∷ map (λ word. word.now) words)
+pub clear_alone : (words : List (Bor (List ℕ))) → length words ≢ 0 → SaysNoKeyCommand (codes "clear" ∷ map (λ word. word.now) words)
 clear_alone words more (Insert key val time) said = let name : codes "clear" ≡ codes "insert" = said.0 in cc
 clear_alone words more (Less time default key) said = let name : codes "clear" ≡ codes "less" = said.0.0 in cc
 clear_alone words more (LessOrEqualBy time default probe) said = let name : codes "clear" ≡ codes "leq" = said.0 in cc

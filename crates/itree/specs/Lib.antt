@@ -1,4 +1,5 @@
 pub mod Grammar
+pub mod KeyLines
 pub mod KeyMachine
 pub mod Modes
 pub mod Probes

@@ -4,11 +4,12 @@ ghost use Rattle.std.specs.Prelude.{◌≡◌, ◌≢◌, ◌≤◌, ◌↔◌, 
 ghost use Rattle.std.specs.Io.KnownBytes.{Appends};
 ghost use Rattle.std.specs.Ordering.{int_cmp};
 ghost use Rattle.itree.specs.Grammar.{lines_of, IsFirstFaulty};
+ghost use Rattle.itree.specs.KeyLines.{SaysKeyCommand};
 ghost use Rattle.itree.specs.Modes.{NamesMode};
 ghost use Rattle.itree.specs.Texts.{AreReplies, Answers, HasFaultyLine};
 
 use crate::fault::Fault;
-use crate::lines::{LineCommand, parse_commands, reply_text};
+use crate::lines::{KeyLine, parse_commands, reply_text};
 use crate::run::{KeyReply, run_keys};
 use crate::timed_key::TimedKey;
 use i_tree::Refusal;
@@ -104,7 +105,7 @@ fn serve<A: Allocator + Copy, I: Read, O: Write>(
     ensures unwritten { IfErr result (λ fault. fault ≢ Fault.Stopped → output.new ≡ output.old) }
     ensures faulty_words { (result ≡ Err Fault.Arguments) ↔ ¬ (NamesMode words.now) }
     ensures faulty_line { (number : ℕ) → result ≡ Err (Fault.Line number) →
-        IfSome (I.remaining input.old) (λ text. IsFirstFaulty (lines_of text) number) }
+        IfSome (I.remaining input.old) (λ text. IsFirstFaulty SaysKeyCommand (lines_of text) number) }
     ensures unread { ¬ (NamesMode words.now) → input.new ≡ input.old }
 {
     let replies = answer(alloc, words, input)?;
@@ -130,7 +131,7 @@ fn answer<A: Allocator + Copy, I: Read>(
         IfSome (I.remaining input.old) (λ text. Answers text (string_bytes replies))) }
     ensures faulty_words { (result ≡ Err Fault.Arguments) ↔ ¬ (NamesMode words.now) }
     ensures faulty_line { (number : ℕ) → result ≡ Err (Fault.Line number) →
-        IfSome (I.remaining input.old) (λ text. IsFirstFaulty (lines_of text) number) }
+        IfSome (I.remaining input.old) (λ text. IsFirstFaulty SaysKeyCommand (lines_of text) number) }
     ensures unread { ¬ (NamesMode words.now) → input.new ≡ input.old }
 {
     if !is_keylist(words) {
@@ -146,7 +147,7 @@ fn answer<A: Allocator + Copy, I: Read>(
 // The replies to the commands, from an empty list on.
 fn run_commands<A: Allocator + Copy>(
     alloc: A,
-    commands: &[LineCommand],
+    commands: &[KeyLine],
 ) -> Result<Vec<KeyReply<i32>, A>, Refusal>
     ensures run { IfOk result (λ replies. AreReplies commands.now replies.items) }
     ensures refused { IfErr result (λ cause. cause ≡ Refusal.OutOfMemory) }

@@ -1,10 +1,11 @@
 use Rattle.std.proofs.Common.{ℕ, List, Option, Some, None, IfSome, Err, ap}
 use Rattle.itree.specs.Grammar.{lines_of, IsFirstFaulty}
+use Rattle.itree.specs.KeyLines.{SaysKeyCommand}
 use Rattle.itree.specs.Texts.{HasFaultyLine}
 use Rattle.itree.proofs.program.run_over.Goals as goal
 
 -- a text with a first faulty line has a faulty line
-has_faulty : (known : Option (List ℕ)) (number : ℕ) → IfSome known (λ text. IsFirstFaulty (lines_of text) number) → IfSome known HasFaultyLine
+has_faulty : (known : Option (List ℕ)) (number : ℕ) → IfSome known (λ text. IsFirstFaulty SaysKeyCommand (lines_of text) number) → IfSome known HasFaultyLine
 has_faulty None number first = tt
 has_faulty (Some text) number first = (number, first)
 
