@@ -4,6 +4,7 @@ pub mod KeyMachine
 pub mod Modes
 pub mod Probes
 pub mod Replies
+pub mod SetLines
 pub mod SetMachine
 pub mod StandsFor
 pub mod Texts

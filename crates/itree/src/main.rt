@@ -5,6 +5,7 @@ mod fault;
 mod lines;
 mod program;
 mod run;
+mod set_key;
 mod timed_key;
 
 use program::run_itree;

@@ -12,8 +12,10 @@ use std::fmt::Display;
 use std::str;
 
 mod keys;
+mod sets;
 
 pub use keys::KeyLine;
+pub use sets::SetLine;
 
 /// A command that the words of a line may say.
 pub trait LineCommand: Sized {
