@@ -1,8 +1,10 @@
 //! The program `itree`: reads commands as lines and prints one reply for each.
 #![tactic(auto)]
 
+mod answers;
 mod fault;
 mod lines;
+mod mode;
 mod program;
 mod run;
 mod set_key;
