@@ -3,45 +3,47 @@ use Rattle.std.proofs.Common.{◌≡◌, ◌+◌, ℕ, List, [], ◌∷◌, ◌+
 use Rattle.std.proofs.lemmas.List.Elements.{All-nil, All-cons}
 use Rattle.std.specs.List.{All, cons_option}
 use Rattle.std.specs.Option.{option_to_list}
-use Rattle.itree.specs.Grammar.{TextCommand, LineSays, LinesSay, IsFaulty, IsFirstFaulty}
-
--- a line that says something is not faulty
-LineSays-sound : (line : List ℕ) (said : Option TextCommand) → LineSays line said → ¬ (IsFaulty line)
-LineSays-sound line said says faulty = faulty said says
-
--- where lines say commands, none is faulty
-LinesSay-sound : (lines : List (List ℕ)) (commands : List TextCommand) → LinesSay lines commands → All (λ line. ¬ (IsFaulty line)) lines
-LinesSay-sound [] commands says = All-nil (λ line. ¬ (IsFaulty line))
-LinesSay-sound (line ∷ lines) commands says =
-    let (said, others, here, there, are) = says in
-    All-cons (λ line. ¬ (IsFaulty line)) line lines (LineSays-sound line said here) (LinesSay-sound lines others there)
+use Rattle.itree.specs.Grammar.{LineSays, LinesSay, IsFaulty, IsFirstFaulty}
 
 -- one option before a list, and the rest after it
 cons_option-append : {X : Type 0} (o : Option X) (xs ys : List X) → cons_option o xs ++ ys ≡ cons_option o (xs ++ ys)
 cons_option-append None xs ys = refl
 cons_option-append (Some x) xs ys = refl
 
--- one more line says its command after the others
-pub LinesSay-push : (lines : List (List ℕ)) (commands : List TextCommand) (line : List ℕ) (said : Option TextCommand) → LinesSay lines commands → LineSays line said → LinesSay (lines ++ line ∷ []) (commands ++ option_to_list said)
-LinesSay-push [] commands line None says here = (None, [], here, refl, append-nil commands ∙ says)
-LinesSay-push [] commands line (Some command) says here = (Some command, [], here, refl, ap (λ cs. cs ++ command ∷ []) says)
-LinesSay-push (first ∷ lines) commands line said says here =
-    let (earlier, others, at_first, there, are) = says in
-    (earlier, others ++ option_to_list said, at_first, LinesSay-push lines others line said there here, ap (λ cs. cs ++ option_to_list said) are ∙ cons_option-append earlier others (option_to_list said))
-
 -- after a line, the lines so far and those that are left are still all lines
 pub next_line : {X : Type 0} (all before left : List X) (line : X) (after : List X) → all ≡ before ++ left → left ≡ line ∷ after → all ≡ (before ++ line ∷ []) ++ after
 next_line all before left line after together cut = together ∙ ap (λ xs. before ++ xs) cut ∙ sym (append_assoc before (line ∷ []) after)
 
--- where the lines before it say commands, a faulty line is the first
-pub IsFirstFaulty-next : (all before left : List (List ℕ)) (line : List ℕ) (after : List (List ℕ)) (number : ℕ) (commands : List TextCommand)
-    → all ≡ before ++ left → left ≡ line ∷ after → number ≡ length before → LinesSay before commands → IsFaulty line → IsFirstFaulty all (number + 1)
-IsFirstFaulty-next all before left line after number commands together cut counted says faulty = record {
-  before = before;
-  line = line;
-  after = after;
-  together = together ∙ ap (λ xs. before ++ xs) cut;
-  counted = ap (λ n. n + 1) counted;
-  sound = LinesSay-sound before commands says;
-  faulty = faulty;
-}
+module _ {Command : Type 0} (SaysCommand : List (List ℕ) → Command → Type 0) where
+  -- a line that says something is not faulty
+  LineSays-sound : (line : List ℕ) (said : Option Command) → LineSays SaysCommand line said → ¬ (IsFaulty SaysCommand line)
+  LineSays-sound line said says faulty = faulty said says
+
+  -- where lines say commands, none is faulty
+  LinesSay-sound : (lines : List (List ℕ)) (commands : List Command) → LinesSay SaysCommand lines commands → All (λ line. ¬ (IsFaulty SaysCommand line)) lines
+  LinesSay-sound [] commands says = All-nil (λ line. ¬ (IsFaulty SaysCommand line))
+  LinesSay-sound (line ∷ lines) commands says =
+      let (said, others, here, there, are) = says in
+      All-cons (λ line. ¬ (IsFaulty SaysCommand line)) line lines (LineSays-sound line said here) (LinesSay-sound lines others there)
+
+  -- one more line says its command after the others
+  pub LinesSay-push : (lines : List (List ℕ)) (commands : List Command) (line : List ℕ) (said : Option Command) → LinesSay SaysCommand lines commands → LineSays SaysCommand line said
+      → LinesSay SaysCommand (lines ++ line ∷ []) (commands ++ option_to_list said)
+  LinesSay-push [] commands line None says here = (None, [], here, refl, append-nil commands ∙ says)
+  LinesSay-push [] commands line (Some command) says here = (Some command, [], here, refl, ap (λ cs. cs ++ command ∷ []) says)
+  LinesSay-push (first ∷ lines) commands line said says here =
+      let (earlier, others, at_first, there, are) = says in
+      (earlier, others ++ option_to_list said, at_first, LinesSay-push lines others line said there here, ap (λ cs. cs ++ option_to_list said) are ∙ cons_option-append earlier others (option_to_list said))
+
+  -- where the lines before it say commands, a faulty line is the first
+  pub IsFirstFaulty-next : (all before left : List (List ℕ)) (line : List ℕ) (after : List (List ℕ)) (number : ℕ) (commands : List Command)
+      → all ≡ before ++ left → left ≡ line ∷ after → number ≡ length before → LinesSay SaysCommand before commands → IsFaulty SaysCommand line → IsFirstFaulty SaysCommand all (number + 1)
+  IsFirstFaulty-next all before left line after number commands together cut counted says faulty = record {
+    before = before;
+    line = line;
+    after = after;
+    together = together ∙ ap (λ xs. before ++ xs) cut;
+    counted = ap (λ n. n + 1) counted;
+    sound = LinesSay-sound before commands says;
+    faulty = faulty;
+  }

@@ -1,17 +1,10 @@
--- The grammar of a text: which words say which command, what each line says, and which line is the first faulty one.
-use Rattle.std.specs.Prelude.{◌≡◌, ◌==◌, ℕ, ℤ, pos, ◌+◌, nat_lt, ⊤, List, [], ◌∷◌, ◌++◌, Option, Some, None, All, filter, length, codes}
+-- The grammar of a text: its lines and their words, what each line says, and which line is the first faulty one.
+use Rattle.std.specs.Prelude.{◌≡◌, ◌==◌, ℕ, ℤ, ◌+◌, nat_lt, ⊤, List, [], ◌∷◌, ◌++◌, Option, Some, None, All, filter, length}
 use Rattle.std.specs.Borrow.{Bor}
 use Rattle.std.specs.Char.{is_ascii_whitespace}
 use Rattle.std.specs.List.{slice_split, cons_option}
 use Rattle.std.specs.Str.{IsAscii}
 use Rattle.itree.specs.Words.{Reads}
-use Rattle.itree.specs.declared.run.keys.KeyCommand.{KeyCommand}
-use Rattle.itree.specs.declared.run.keys.KeyCommand.TheVariants.{Insert, Less, LessOrEqualBy, Clear}
-use Rattle.itree.specs.declared.timed_key.TimedKey.{TimedKey}
-
--- a command of a line
-abbrev pub TextCommand : Type 0
-TextCommand = KeyCommand TimedKey ℤ ℤ ℤ
 
 -- the words are read as the numbers, one for one
 abbrev pub ReadsAll : List (List ℕ) → List ℤ → Type 0
@@ -25,29 +18,9 @@ abbrev pub Says : List (List ℕ) → List ℕ → List ℤ → Type 0
 Says [] name numbers = ⊥
 Says (word ∷ words) name numbers = (word ≡ name) × ReadsAll words numbers
 
--- The words say the command. A key that is only sought lasts as long as a key can.
-abbrev pub SaysCommand : List (List ℕ) → TextCommand → Type 0
-SaysCommand words (Insert key val time) = Says words (codes "insert") (key.key ∷ key.expiration ∷ val ∷ time ∷ [])
-SaysCommand words (Less time default key) = Says words (codes "less") (time ∷ default ∷ key.key ∷ []) × (key.expiration ≡ pos 0x7fff_ffff)
-SaysCommand words (LessOrEqualBy time default probe) = Says words (codes "leq") (time ∷ default ∷ probe ∷ [])
-SaysCommand words Clear = Says words (codes "clear") []
-
--- the words say no command
-abbrev pub SaysNoCommand : List (List ℕ) → Type 0
-SaysNoCommand words = (command : TextCommand) → ¬ (SaysCommand words command)
-
 -- the words of a line: what stands between ASCII white space
 abbrev pub words_of : List ℕ → List (List ℕ)
 words_of line = filter (λ word. nat_lt 0 (length word)) (slice_split is_ascii_whitespace line)
-
--- the line is ASCII, and it says this command, or none where it has no words
-abbrev pub LineSays : List ℕ → Option TextCommand → Type 0
-LineSays line None = IsAscii line × (words_of line ≡ [])
-LineSays line (Some command) = IsAscii line × SaysCommand (words_of line) command
-
--- the line is not ASCII, or it has words that say no command
-abbrev pub IsFaulty : List ℕ → Type 0
-IsFaulty line = (said : Option TextCommand) → ¬ (LineSays line said)
 
 -- the lines of a text, each ended by a line feed or by the end of the text
 abbrev pub lines_of : List ℕ → List (List ℕ)
@@ -58,19 +31,30 @@ abbrev pub lines_left : Option (Bor (List ℕ)) → List (List ℕ)
 lines_left None = []
 lines_left (Some text) = lines_of text.now
 
--- the lines say the commands, in order
-abbrev pub LinesSay : List (List ℕ) → List TextCommand → Type 0
-LinesSay [] commands = commands ≡ []
-LinesSay (line ∷ lines) commands =
-    (said : Option TextCommand) × (others : List TextCommand)
-    × LineSays line said × LinesSay lines others × (commands ≡ cons_option said others)
+-- `SaysCommand` tells which words say which command
+module _ {Command : Type 0} (SaysCommand : List (List ℕ) → Command → Type 0) where
+  -- the line is ASCII, and it says this command, or none where it has no words
+  abbrev pub LineSays : List ℕ → Option Command → Type 0
+  LineSays line None = IsAscii line × (words_of line ≡ [])
+  LineSays line (Some command) = IsAscii line × SaysCommand (words_of line) command
 
--- the line of this number, counted from 1, is faulty, and no line before it is
-pub record IsFirstFaulty (lines : List (List ℕ)) (number : ℕ) : Type 0 where
-  pub before : List (List ℕ)
-  pub line : List ℕ
-  pub after : List (List ℕ)
-  pub together : lines ≡ before ++ line ∷ after
-  pub counted : number ≡ length before + 1
-  pub sound : All (λ earlier. ¬ (IsFaulty earlier)) before
-  pub faulty : IsFaulty line
+  -- the line is not ASCII, or it has words that say no command
+  abbrev pub IsFaulty : List ℕ → Type 0
+  IsFaulty line = (said : Option Command) → ¬ (LineSays line said)
+
+  -- the lines say the commands, in order
+  abbrev pub LinesSay : List (List ℕ) → List Command → Type 0
+  LinesSay [] commands = commands ≡ []
+  LinesSay (line ∷ lines) commands =
+      (said : Option Command) × (others : List Command)
+      × LineSays line said × LinesSay lines others × (commands ≡ cons_option said others)
+
+  -- the line of this number, counted from 1, is faulty, and no line before it is
+  pub record IsFirstFaulty (lines : List (List ℕ)) (number : ℕ) : Type 0 where
+    pub before : List (List ℕ)
+    pub line : List ℕ
+    pub after : List (List ℕ)
+    pub together : lines ≡ before ++ line ∷ after
+    pub counted : number ≡ length before + 1
+    pub sound : All (λ earlier. ¬ (IsFaulty earlier)) before
+    pub faulty : IsFaulty line

@@ -1,8 +1,10 @@
 pub mod Grammar
+pub mod KeyLines
 pub mod KeyMachine
 pub mod Modes
 pub mod Probes
 pub mod Replies
+pub mod SetLines
 pub mod SetMachine
 pub mod StandsFor
 pub mod Texts

@@ -1,18 +1,31 @@
 -- The text of replies.
-use Rattle.std.specs.Prelude.{ℕ, ℤ, List, [], ◌∷◌, ◌++◌, codes}
+use Rattle.std.specs.Prelude.{ℕ, ℤ, List, [], ◌∷◌, ◌++◌, codes, flat_map}
 use Rattle.std.specs.Fmt.{signed_decimal}
 use Rattle.itree.specs.declared.run.keys.KeyReply.{KeyReply}
-use Rattle.itree.specs.declared.run.keys.KeyReply.TheVariants.{Inserted, Present, Late, Refused, Value, Cleared}
+use Rattle.itree.specs.declared.run.keys.KeyReply.TheVariants as key_reply
+use Rattle.itree.specs.declared.run.sets.SetReply.{SetReply}
+use Rattle.itree.specs.declared.run.sets.SetReply.TheVariants as set_reply
+use Rattle.itree.specs.declared.set_key.SetKey.{SetKey}
 
--- the words of a reply
-abbrev pub reply_words : KeyReply ℤ → List ℕ
-reply_words Inserted = codes "inserted"
-reply_words Present = codes "present"
-reply_words Late = codes "late"
-reply_words (Refused cause) = codes "refused"
-reply_words Cleared = codes "cleared"
-reply_words (Value val) = codes "value " ++ signed_decimal val
+-- the words of a reply to a command of keys that expire
+abbrev pub key_reply_words : KeyReply ℤ → List ℕ
+key_reply_words key_reply.Inserted = codes "inserted"
+key_reply_words key_reply.Present = codes "present"
+key_reply_words key_reply.Late = codes "late"
+key_reply_words (key_reply.Refused cause) = codes "refused"
+key_reply_words key_reply.Cleared = codes "cleared"
+key_reply_words (key_reply.Value val) = codes "value " ++ signed_decimal val
 
--- the line of a reply, which ends with a line feed
-abbrev pub reply_line : KeyReply ℤ → List ℕ
-reply_line reply = reply_words reply ++ 10 ∷ []
+-- the words of a reply to a command of a set
+abbrev pub set_reply_words : SetReply ℤ SetKey → List ℕ
+set_reply_words set_reply.Inserted = codes "inserted"
+set_reply_words (set_reply.Present value) = codes "present"
+set_reply_words (set_reply.Refused value cause) = codes "refused"
+set_reply_words set_reply.Deleted = codes "deleted"
+set_reply_words set_reply.Absent = codes "absent"
+set_reply_words (set_reply.Key key) = codes "key " ++ signed_decimal key
+set_reply_words set_reply.None = codes "none"
+
+-- the lines of the replies, each of which ends with a line feed
+abbrev pub reply_lines : {Reply : Type 0} → (Reply → List ℕ) → List Reply → List ℕ
+reply_lines words replies = flat_map (λ reply. words reply ++ 10 ∷ []) replies

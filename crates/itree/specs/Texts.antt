@@ -1,11 +1,18 @@
--- What the program answers to a text.
-use Rattle.std.specs.Prelude.{◌≡◌, ℕ, ℤ, List, [], flat_map}
+-- What the program answers to a text, in each of its modes.
+use Rattle.std.specs.Prelude.{◌≡◌, ℕ, ℤ, List, []}
 use Rattle.std.specs.Ordering.{int_cmp}
 use Rattle.std.specs.declared.cmp.Ordering.{Ordering}
-use Rattle.itree.specs.Grammar.{TextCommand, lines_of, LinesSay, IsFirstFaulty}
-use Rattle.itree.specs.KeyMachine.{State, beginning, Run}
-use Rattle.itree.specs.Replies.{reply_line}
+use Rattle.itree.specs.Grammar.{lines_of, LinesSay, IsFirstFaulty}
+use Rattle.itree.specs.KeyLines.{KeyLine, SaysKeyCommand}
+use Rattle.itree.specs.KeyMachine as keys
+use Rattle.itree.specs.Replies.{key_reply_words, set_reply_words, reply_lines}
+use Rattle.itree.specs.SetLines.{SetLine, SaysSetCommand}
+use Rattle.itree.specs.SetMachine as sets
+use Rattle.itree.specs.declared.mode.Mode.{Mode}
+use Rattle.itree.specs.declared.mode.Mode.TheVariants.{KeyList, SetTree, SetList}
 use Rattle.itree.specs.declared.run.keys.KeyReply.{KeyReply}
+use Rattle.itree.specs.declared.run.sets.SetReply.{SetReply}
+use Rattle.itree.specs.declared.set_key.SetKey.{SetKey}
 use Rattle.itree.specs.declared.timed_key.TimedKey.{TimedKey}
 
 -- keys are compared by `key` alone
@@ -16,19 +23,32 @@ cmp_keys left right = int_cmp left.key right.key
 abbrev pub cmp_sought : ℤ → TimedKey → Ordering
 cmp_sought sought timed = int_cmp timed.key sought
 
--- the replies are a run of the machine over the commands, from no pairs and no last time on
-abbrev pub AreReplies : List TextCommand → List (KeyReply ℤ) → Type 0
-AreReplies commands replies =
-    (end : State TimedKey ℤ ℤ) × Run (λ timed. timed.expiration) int_cmp cmp_keys cmp_sought (beginning []) commands replies end
-
--- the output is the lines of replies to the commands that the lines of the text say
-pub record Answers (text output : List ℕ) : Type 0 where
-  pub commands : List TextCommand
+-- the output is the lines of replies that are a run of the key machine over the commands, from these pairs and no last time on
+pub record AnswersKeys (stored : List (TimedKey × ℤ)) (commands : List KeyLine) (output : List ℕ) : Type 0 where
   pub replies : List (KeyReply ℤ)
-  pub said : LinesSay (lines_of text) commands
-  pub run : AreReplies commands replies
-  pub written : output ≡ flat_map reply_line replies
+  pub end : keys.State TimedKey ℤ ℤ
+  pub run : keys.Run (λ timed. timed.expiration) int_cmp cmp_keys cmp_sought (keys.beginning stored) commands replies end
+  pub written : output ≡ reply_lines key_reply_words replies
 
--- a line of the text is faulty
-abbrev pub HasFaultyLine : List ℕ → Type 0
-HasFaultyLine text = (number : ℕ) × IsFirstFaulty (lines_of text) number
+-- the output is the lines of replies that are a run of the set machine over the commands, from these values on
+pub record AnswersSet (values : List SetKey) (commands : List SetLine) (output : List ℕ) : Type 0 where
+  pub replies : List (SetReply ℤ SetKey)
+  pub end : List SetKey
+  pub run : sets.Run (λ value. value.key) int_cmp values commands replies end
+  pub written : output ≡ reply_lines set_reply_words replies
+
+-- the output answers the commands that the lines of the text say, in each mode from nothing on
+abbrev pub Answers : Mode → List ℕ → List ℕ → Type 0
+Answers KeyList text output = (commands : List KeyLine) × LinesSay SaysKeyCommand (lines_of text) commands × AnswersKeys [] commands output
+Answers SetTree text output = (commands : List SetLine) × LinesSay SaysSetCommand (lines_of text) commands × AnswersSet [] commands output
+Answers SetList text output = (commands : List SetLine) × LinesSay SaysSetCommand (lines_of text) commands × AnswersSet [] commands output
+
+-- the line of this number is the first one that is faulty in the mode
+abbrev pub HasFirstFaulty : Mode → List ℕ → ℕ → Type 0
+HasFirstFaulty KeyList text number = IsFirstFaulty SaysKeyCommand (lines_of text) number
+HasFirstFaulty SetTree text number = IsFirstFaulty SaysSetCommand (lines_of text) number
+HasFirstFaulty SetList text number = IsFirstFaulty SaysSetCommand (lines_of text) number
+
+-- a line of the text is faulty in the mode
+abbrev pub HasFaultyLine : Mode → List ℕ → Type 0
+HasFaultyLine mode text = (number : ℕ) × HasFirstFaulty mode text number

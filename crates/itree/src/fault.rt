@@ -3,7 +3,7 @@
 ghost use Rattle.std.specs.Prelude.{◌≡◌};
 ghost use Rattle.itree.specs.declared.fault.Fault.TheVariants.{Stopped};
 
-use i_tree::Refusal;
+use i_tree::{Refusal, Refused};
 use std::alloc::{AllocError, AllocFailed};
 use std::io;
 
@@ -38,6 +38,14 @@ impl From<Refusal> for Fault {
     ghost from_gives = { λ _ fault. fault ≡ Stopped };
 
     fn from(_refused: Refusal) -> Fault {
+        Fault::Stopped
+    }
+}
+
+impl<T: Drop> From<Refused<T>> for Fault {
+    ghost from_gives = { λ _ fault. fault ≡ Stopped };
+
+    fn from(_refused: Refused<T>) -> Fault {
         Fault::Stopped
     }
 }

@@ -1,10 +1,13 @@
 //! The program `itree`: reads commands as lines and prints one reply for each.
 #![tactic(auto)]
 
+mod answers;
 mod fault;
 mod lines;
+mod mode;
 mod program;
 mod run;
+mod set_key;
 mod timed_key;
 
 use program::run_itree;

@@ -10,6 +10,8 @@ const COMMANDS: &str = "insert 0 10 0 0\ninsert 3 10 3 0\nless 0 -1 4\nless 0 -1
 
 const REPLIES: &str = "inserted\ninserted\nvalue 3\nvalue -1\n";
 
+const SETS: [&str; 2] = ["settree", "setlist"];
+
 // What a run over memory gave.
 #[derive(Drop)]
 struct Outcome {
@@ -97,6 +99,31 @@ fn answers_each_command_by_a_line(rt: HostRuntime) {
 }
 
 #[test]
+fn answers_the_commands_of_a_set(rt: HostRuntime) {
+    for mode in SETS {
+        for (input, replies) in [
+            (
+                "insert 4\ninsert +4\ninsert -1\nfind 3\nbefore 4\nbefore -1\ndelete 4\nbefore 4\n",
+                "inserted\npresent\ninserted\nkey -1\nkey -1\nnone\ndeleted\nabsent\n",
+            ),
+            (
+                "\n find\t-2147483648\r\ndelete 0\n\ninsert 2147483647\ninsert -2147483648\nbefore 2147483647\nfind 007",
+                "none\nabsent\ninserted\ninserted\nkey -2147483648\nkey -2147483648\n",
+            ),
+        ] {
+            let outcome = outcome_of(rt.alloc(), &[mode], &mut input.as_bytes());
+            assert_eq!(rt; outcome.status, 0, "{mode} at {input:?}");
+            assert_eq!(rt;
+                outcome.output.as_slice(),
+                replies.as_bytes(),
+                "{mode} at {input:?}"
+            );
+            assert!(rt; outcome.faults.is_empty(), "{mode} at {input:?}");
+        }
+    }
+}
+
+#[test]
 fn names_the_first_faulty_line_and_runs_nothing(rt: HostRuntime) {
     for (input, fault) in [
         (
@@ -118,12 +145,38 @@ fn names_the_first_faulty_line_and_runs_nothing(rt: HostRuntime) {
         (b"less 0 -1 4\n\xc2\xa0\n", "itree: line 2\n"),
         (b"less 0 -1 \xff4\n", "itree: line 1\n"),
         (b"less\x0b0 -1 4\n", "itree: line 1\n"),
+        (b"delete 4\n", "itree: line 1\n"),
+        (b"before 4\n", "itree: line 1\n"),
     ] {
-        let outcome = outcome_of(rt.alloc(), &["keylist"], &mut { input });
-        assert_eq!(rt; outcome.status, 2, "at {input:?}");
-        assert_eq!(rt; outcome.faults.as_slice(), fault.as_bytes(), "at {input:?}");
-        assert!(rt; outcome.output.is_empty(), "at {input:?}");
+        assert_faulty(&rt, rt.alloc(), "keylist", input, fault);
     }
+    for mode in SETS {
+        for (input, fault) in [
+            (b"insert 4\n\nless 0 -1 4\n".as_slice(), "itree: line 3\n"),
+            (b"insert 4 1 40 0\n", "itree: line 1\n"),
+            (b"clear\n", "itree: line 1\n"),
+            (b"delete 4\nInsert 4\n", "itree: line 2\n"),
+            (b"insert\n", "itree: line 1\n"),
+            (b"delete 4 4\n", "itree: line 1\n"),
+            (b"find 2147483648\n", "itree: line 1\n"),
+            (b"before -2147483649", "itree: line 1\n"),
+            (b"find \xff\n", "itree: line 1\n"),
+        ] {
+            assert_faulty(&rt, rt.alloc(), mode, input, fault);
+        }
+    }
+}
+
+fn assert_faulty(rt: &impl Abort, alloc: Global, mode: &str, mut input: &[u8], fault: &str) {
+    let text = input;
+    let outcome = outcome_of(alloc, &[mode], &mut input);
+    assert_eq!(rt; outcome.status, 2, "{mode} at {text:?}");
+    assert_eq!(rt;
+        outcome.faults.as_slice(),
+        fault.as_bytes(),
+        "{mode} at {text:?}"
+    );
+    assert!(rt; outcome.output.is_empty(), "{mode} at {text:?}");
 }
 
 #[test]
@@ -136,6 +189,10 @@ fn refuses_other_arguments_before_it_reads(rt: HostRuntime) {
         &["keytree"],
         &["Keylist"],
         &["keylist "],
+        &["settree", "setlist"],
+        &["setlist", "4"],
+        &["set"],
+        &["set", "tree"],
     ] {
         let mut input = BrokenReader {
             bytes: b"",
@@ -214,47 +271,63 @@ fn stops_where_a_stream_fails(rt: HostRuntime) {
 
 #[test]
 fn survives_each_refused_request_for_memory(rt: HostRuntime) {
-    // The keys are more than a small vector holds, and the answer is the same whichever of them is refused.
-    let commands =
-        "insert 1 9 1 0\ninsert 2 9 2 0\ninsert 3 9 3 0\ninsert 4 9 4 0\ninsert 5 9 5 0\n\
-        insert 6 9 6 0\ninsert 7 9 7 0\ninsert 8 9 8 0\ninsert 9 9 9 0\nless 0 -1 1\n";
-    let replies =
-        "inserted\ninserted\ninserted\ninserted\ninserted\ninserted\ninserted\ninserted\ninserted\nvalue -1\n";
-    let memory = Refusing::new(rt.alloc());
-    let (mut has_stopped, mut has_refused, mut asked) = (false, false, 0);
-    for nth in 1..100 {
-        memory.refuse_nth(nth);
-        let outcome = outcome_over(&memory, rt.alloc(), commands);
-        asked = memory.requests();
-        assert!(rt; outcome.faults.is_empty(), "at request {nth}");
-        if outcome.status == 1 {
-            assert!(rt; outcome.output.is_empty(), "at request {nth}");
-            has_stopped = true;
-        } else {
-            assert_eq!(rt; outcome.status, 0, "at request {nth}");
-            has_refused |= refuses_an_insertion(&rt, &outcome.output, replies);
+    // The keys are more than a small collection holds, and the last answer is the same whichever of them is refused. A
+    // tree begins with room for seven.
+    for (mode, commands, replies, first_refused) in [
+        (
+            "keylist",
+            "insert 1 9 1 0\ninsert 2 9 2 0\ninsert 3 9 3 0\ninsert 4 9 4 0\ninsert 5 9 5 0\n\
+            insert 6 9 6 0\ninsert 7 9 7 0\ninsert 8 9 8 0\ninsert 9 9 9 0\nless 0 -1 1\n",
+            "inserted\ninserted\ninserted\ninserted\ninserted\ninserted\ninserted\ninserted\ninserted\nvalue -1\n",
+            0,
+        ),
+        ("settree", SET_COMMANDS, SET_REPLIES, 7),
+        ("setlist", SET_COMMANDS, SET_REPLIES, 0),
+    ] {
+        let memory = Refusing::new(rt.alloc());
+        let (mut has_stopped, mut refused, mut asked) = (false, None, 0);
+        for nth in 1..100 {
+            memory.refuse_nth(nth);
+            let outcome = outcome_over(&memory, rt.alloc(), mode, commands);
+            asked = memory.requests();
+            assert!(rt; outcome.faults.is_empty(), "{mode} at request {nth}");
+            if outcome.status == 1 {
+                assert!(rt; outcome.output.is_empty(), "{mode} at request {nth}");
+                has_stopped = true;
+            } else {
+                assert_eq!(rt; outcome.status, 0, "{mode} at request {nth}");
+                refused = refused.or(refused_line(&rt, &outcome.output, replies));
+            }
+            memory.refuse_none();
+            let again = outcome_over(&memory, rt.alloc(), mode, commands);
+            assert_eq!(rt;
+                again.output.as_slice(),
+                replies.as_bytes(),
+                "{mode} after request {nth}"
+            );
+            if asked < nth {
+                break;
+            }
         }
-        memory.refuse_none();
-        let again = outcome_over(&memory, rt.alloc(), commands);
-        assert_eq!(rt;
-            again.output.as_slice(),
-            replies.as_bytes(),
-            "after request {nth}"
-        );
-        if asked < nth {
-            break;
-        }
+        assert!(rt; asked > 0 && asked < 99, "in {mode}");
+        assert!(rt; has_stopped, "in {mode}");
+        assert_eq!(rt; refused, Some(first_refused), "in {mode}");
     }
-    assert!(rt; asked > 0 && asked < 99);
-    assert!(rt; has_stopped && has_refused);
 }
 
-fn outcome_over(memory: &Refusing<Global>, alloc: Global, input: &str) -> Outcome {
+const SET_COMMANDS: &str =
+    "insert 1\ninsert 2\ninsert 3\ninsert 4\ninsert 5\ninsert 6\ninsert 7\ninsert 8\n\
+    insert 9\nfind 0\n";
+
+const SET_REPLIES: &str =
+    "inserted\ninserted\ninserted\ninserted\ninserted\ninserted\ninserted\ninserted\ninserted\nnone\n";
+
+fn outcome_over(memory: &Refusing<Global>, alloc: Global, mode: &str, input: &str) -> Outcome {
     let mut output = Vec::new(alloc);
     let mut faults = Vec::new(alloc);
     let status = run_over(
         memory,
-        &["keylist"],
+        &[mode],
         &mut input.as_bytes(),
         &mut output,
         &mut faults,
@@ -266,18 +339,18 @@ fn outcome_over(memory: &Refusing<Global>, alloc: Global, input: &str) -> Outcom
     }
 }
 
-// Whether the output has `refused` in place of one `inserted` of the replies. All else is the same.
-fn refuses_an_insertion(rt: &impl Abort, output: &[u8], replies: &str) -> bool {
+// Which line of the output is `refused` in place of `inserted`, if one is. All others are the replies.
+fn refused_line(rt: &impl Abort, output: &[u8], replies: &str) -> Option<usize> {
     let text = str::from_utf8(output).expect(rt, "the output is text");
     assert_eq!(rt; text.lines().count(), replies.lines().count());
-    let mut is_refused = false;
-    for (line, reply) in text.lines().zip(replies.lines()) {
+    let mut refused = None;
+    for (place, (line, reply)) in text.lines().zip(replies.lines()).enumerate() {
         if line != reply {
-            assert!(rt; !is_refused && line == "refused" && reply == "inserted");
-            is_refused = true;
+            assert!(rt; refused.is_none() && line == "refused" && reply == "inserted");
+            refused = Some(place);
         }
     }
-    is_refused
+    refused
 }
 
 // Lines, each with the reply of the original crate's containers.

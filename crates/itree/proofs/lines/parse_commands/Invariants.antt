@@ -6,7 +6,7 @@ use Rattle.itree.proofs.lines.parse_commands.Given as goal
 abbrev pub invariant-lines : goal.invariant-lines
 invariant-lines g l = record {
   in_range : IfSome l.rest (λ left. l.number + length left.now ≤ length l.text);
-  so_far : (before : List (List ℕ)) × (lines_of l.text ≡ before ++ lines_left l.rest) × (l.number ≡ length before) × LinesSay before l.commands.items;
+  so_far : (before : List (List ℕ)) × (lines_of l.text ≡ before ++ lines_left l.rest) × (l.number ≡ length before) × LinesSay g.C.LineCommand.says before l.commands.items;
 }
 
 -- how many lines are left

@@ -1,0 +1,88 @@
+//! What the program answers to a text, in each of its modes.
+
+ghost use Rattle.std.specs.Prelude.{◌≡◌, ◌≢◌, ℕ, IfErr, IfOk, string_bytes};
+ghost use Rattle.std.specs.Ordering.{int_cmp};
+ghost use Rattle.i_tree.specs.Set.{values, IsOrdered};
+ghost use Rattle.itree.specs.Texts.{AnswersKeys, AnswersSet, Answers, HasFirstFaulty};
+
+use crate::fault::Fault;
+use crate::lines::{KeyLine, SetLine, parse_commands, reply_text};
+use crate::mode::Mode;
+use crate::run::{run_keys, run_sets};
+use crate::set_key::SetKey;
+use crate::timed_key::TimedKey;
+use i_tree::key::exp::KeyExpCollection;
+use i_tree::key::list::KeyExpList;
+use i_tree::set::list::SetList;
+use i_tree::set::sort::SetCollection;
+use i_tree::set::tree::SetTree;
+use std::alloc::Allocator;
+use std::cmp::Ordering;
+
+/// The text of the replies to the commands of a text, from an empty collection of the mode on.
+///
+/// The answer is `Fault::Line` with the number of the first faulty line, before any command is run, or `Fault::Stopped`
+/// where memory was refused.
+pub fn answer_text<A: Allocator + Copy>(
+    alloc: A,
+    mode: Mode,
+    text: &[u8],
+) -> Result<String<A>, Fault>
+    ensures answered { IfOk result (λ output. Answers mode text.now (string_bytes output)) }
+    ensures faulty { (number : ℕ) → result ≡ Err (Fault.Line number) → HasFirstFaulty mode text.now number }
+    ensures err { IfErr result (λ fault. fault ≢ Fault.Arguments) }
+{
+    match mode {
+        Mode::KeyList => {
+            let commands = parse_commands(alloc, text)?;
+            let mut list = KeyExpList::new(alloc, 0)?;
+            answer_keys(alloc, &mut list, &commands)
+        }
+        Mode::SetTree => {
+            let commands = parse_commands(alloc, text)?;
+            let mut tree = SetTree::new(alloc, 0)?;
+            answer_set(alloc, &mut tree, commands)
+        }
+        Mode::SetList => {
+            let commands = parse_commands(alloc, text)?;
+            let mut list = SetList::new(alloc, 0)?;
+            answer_set(alloc, &mut list, commands)
+        }
+    }
+}
+
+// How a key stands to the one that is sought.
+fn compare_key(sought: i32, timed: TimedKey) -> Ordering
+    ensures { result ≡ int_cmp timed.key sought }
+{
+    timed.key.cmp(&sought)
+}
+
+// The text of the replies to the commands, from what is stored on.
+fn answer_keys<A: Allocator + Copy, C: KeyExpCollection<TimedKey, i32, i32>>(
+    alloc: A,
+    collection: &mut C,
+    commands: &[KeyLine],
+) -> Result<String<A>, Fault>
+    ensures answered { IfOk result (λ output. AnswersKeys (C.stored collection.old) commands.now (string_bytes output)) }
+    ensures err { IfErr result (λ fault. fault ≡ Fault.Stopped) }
+{
+    let mut replies = Vec::new(alloc);
+    run_keys(collection, commands, compare_key, &mut replies)?;
+    Ok(reply_text(alloc, &replies)?)
+}
+
+// The text of the replies to the commands, from the values of the set on.
+fn answer_set<A: Allocator + Copy, C: SetCollection<i32, SetKey>>(
+    alloc: A,
+    set: &mut C,
+    commands: Vec<SetLine, A>,
+) -> Result<String<A>, Fault>
+    requires { IsOrdered (λ value. value.key) int_cmp (C.pairs set.old) }
+    ensures answered { IfOk result (λ output. AnswersSet (values (C.pairs set.old)) commands.items (string_bytes output)) }
+    ensures err { IfErr result (λ fault. fault ≡ Fault.Stopped) }
+{
+    let mut replies = Vec::new(alloc);
+    run_sets(set, commands, &mut replies)?;
+    Ok(reply_text(alloc, &replies)?)
+}

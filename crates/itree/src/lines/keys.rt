@@ -1,0 +1,108 @@
+//! The commands of keys that expire, as lines.
+
+ghost use Rattle.std.specs.Prelude.{◌∷◌, [], ℤ, Some, codes, map, IfSome, IsNone};
+ghost use Rattle.itree.specs.Grammar.{ReadsAll};
+ghost use Rattle.itree.specs.KeyLines.{SaysKeyCommand, SaysNoKeyCommand};
+ghost use Rattle.itree.specs.Replies.{key_reply_words};
+
+use super::{LineCommand, number};
+use crate::run::{KeyCommand, KeyReply};
+use crate::timed_key::TimedKey;
+use std::fmt::{self, Display, Formatter};
+
+/// A command of a line: keys, expirations, values and times are whole numbers, and a probe is the key that is sought.
+pub type KeyLine = KeyCommand<TimedKey, i32, i32, i32>;
+
+impl LineCommand for KeyCommand<TimedKey, i32, i32, i32> {
+    ghost says = { SaysKeyCommand };
+
+    fn from_words(words: &[&str]) -> Option<Self> {
+        let (name, rest) = words.split_first()?;
+        match *name {
+            "insert" => parse_insert(rest),
+            "less" => parse_less(rest),
+            "leq" => parse_at_most(rest),
+            "clear" => parse_clear(rest),
+            _ => None,
+        }
+    }
+}
+
+// The insertion whose words follow its name.
+fn parse_insert(words: &[&str]) -> Option<KeyLine>
+    ensures said { IfSome result (SaysKeyCommand (codes "insert" ∷ map (λ word. word.now) words.now)) }
+    ensures unsaid { IsNone result → SaysNoKeyCommand (codes "insert" ∷ map (λ word. word.now) words.now) }
+{
+    let (first, rest) = words.split_first()?;
+    let key = number(first)?;
+    let (expiration, val, time) = three_numbers(rest)?;
+    let key = TimedKey { key, expiration };
+    Some(KeyCommand::Insert { key, val, time })
+}
+
+// The query below a key whose words follow its name.
+fn parse_less(words: &[&str]) -> Option<KeyLine>
+    ensures said { IfSome result (SaysKeyCommand (codes "less" ∷ map (λ word. word.now) words.now)) }
+    ensures unsaid { IsNone result → SaysNoKeyCommand (codes "less" ∷ map (λ word. word.now) words.now) }
+{
+    let (time, default, key) = three_numbers(words)?;
+    let expiration = i32::MAX;
+    let key = TimedKey { key, expiration };
+    Some(KeyCommand::Less { time, default, key })
+}
+
+// The query up to a key whose words follow its name.
+fn parse_at_most(words: &[&str]) -> Option<KeyLine>
+    ensures said { IfSome result (SaysKeyCommand (codes "leq" ∷ map (λ word. word.now) words.now)) }
+    ensures unsaid { IsNone result → SaysNoKeyCommand (codes "leq" ∷ map (λ word. word.now) words.now) }
+{
+    let (time, default, probe) = three_numbers(words)?;
+    Some(KeyCommand::LessOrEqualBy {
+        time,
+        default,
+        probe,
+    })
+}
+
+// The command to clear, whose name no word follows.
+fn parse_clear(words: &[&str]) -> Option<KeyLine>
+    ensures said { IfSome result (SaysKeyCommand (codes "clear" ∷ map (λ word. word.now) words.now)) }
+    ensures unsaid { IsNone result → SaysNoKeyCommand (codes "clear" ∷ map (λ word. word.now) words.now) }
+{
+    if !words.is_empty() {
+        return None;
+    }
+    Some(KeyCommand::Clear)
+}
+
+// The numbers that three words are read as.
+fn three_numbers(words: &[&str]) -> Option<(i32, i32, i32)>
+    ensures read { IfSome result (λ numbers.
+        ReadsAll (map (λ word. word.now) words.now) (numbers.0 ∷ numbers.1 ∷ numbers.2 ∷ [])) }
+    ensures unread { IsNone result → (first second third : ℤ) →
+        ¬ (ReadsAll (map (λ word. word.now) words.now) (first ∷ second ∷ third ∷ [])) }
+{
+    let [first, second, third] = words else {
+        return None;
+    };
+    let first = number(first)?;
+    let second = number(second)?;
+    let third = number(third)?;
+    Some((first, second, third))
+}
+
+/// The words of the reply's line. A refusal is `refused`, whatever its cause.
+impl Display for KeyReply<i32> {
+    ghost output = { λ reply. Some (key_reply_words reply) };
+
+    fn fmt<W: fmt::Write>(&self, f: &mut Formatter<W>) -> fmt::Result {
+        match self {
+            KeyReply::Inserted => write!(f, "inserted"),
+            KeyReply::Present => write!(f, "present"),
+            KeyReply::Late => write!(f, "late"),
+            KeyReply::Refused(_) => write!(f, "refused"),
+            KeyReply::Cleared => write!(f, "cleared"),
+            KeyReply::Value(val) => write!(f, "value {val}"),
+        }
+    }
+}
