@@ -11,6 +11,9 @@ use i_tree::{EMPTY_REF, Refusal, Refused};
 use std::alloc::Allocator;
 use std::cmp::Ordering;
 
+#[cfg(test)]
+mod tests;
+
 /// A command to an ordered set, which names values by their keys.
 #[derive(Debug, PartialEq, Eq, Drop)]
 pub enum SetCommand<K, V> {
