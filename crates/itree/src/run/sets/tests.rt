@@ -1,6 +1,7 @@
 //! Tests of the runner with values from outside, over both kinds of set, and with memory refused.
 
 use super::*;
+use crate::set_key::SetKey;
 use i_tree::set::list::SetList;
 use i_tree::set::tree::SetTree;
 use refusing::Refusing;
@@ -8,32 +9,18 @@ use std::alloc::Global;
 use std::process::Abort;
 use std::test::Fail;
 
-/// A value that is its own key.
-#[derive(Clone, Copy, Debug, PartialEq, Eq)]
-struct Item {
-    key: i32,
-}
+type Command = SetCommand<i32, SetKey>;
 
-impl KeyValue<i32> for Item {
-    ghost key_of = { λ item. item.key };
-
-    fn key(&self) -> &i32 {
-        &self.key
-    }
-}
-
-type Command = SetCommand<i32, Item>;
-
-type Reply = SetReply<i32, Item>;
+type Reply = SetReply<i32, SetKey>;
 
 type Memory<'a> = &'a Refusing<Global>;
 
-fn number(key: i32) -> Item {
-    Item { key }
+fn number(key: i32) -> SetKey {
+    SetKey { key }
 }
 
 // Runs the commands, after a test that the keys are in order.
-fn run<C: SetCollection<i32, Item>, B: Allocator>(
+fn run<C: SetCollection<i32, SetKey>, B: Allocator>(
     rt: &impl Abort,
     set: &mut C,
     commands: Vec<Command>,
@@ -44,7 +31,7 @@ fn run<C: SetCollection<i32, Item>, B: Allocator>(
 }
 
 // Runs the worked commands over an empty set.
-fn replies_of_an_empty_set<C: SetCollection<i32, Item>>(
+fn replies_of_an_empty_set<C: SetCollection<i32, SetKey>>(
     rt: &impl Abort,
     alloc: Global,
     set: &mut C,
@@ -80,14 +67,14 @@ fn replies_of_an_empty_set<C: SetCollection<i32, Item>>(
 
 #[test]
 fn replies_of_both_kinds(rt: HostRuntime) -> Result<(), Fail> {
-    let mut tree: SetTree<i32, Item, Global> = SetTree::new(rt.alloc(), 0)?;
+    let mut tree: SetTree<i32, SetKey, Global> = SetTree::new(rt.alloc(), 0)?;
     replies_of_an_empty_set(&rt, rt.alloc(), &mut tree)?;
-    let mut list: SetList<Item, Global> = SetList::new(rt.alloc(), 0)?;
+    let mut list: SetList<SetKey, Global> = SetList::new(rt.alloc(), 0)?;
     replies_of_an_empty_set(&rt, rt.alloc(), &mut list)
 }
 
 // Three commands over the set of 1, the first time without room for the replies.
-fn hands_three_commands_back<C: SetCollection<i32, Item>>(
+fn hands_three_commands_back<C: SetCollection<i32, SetKey>>(
     rt: &impl Abort,
     alloc: Global,
     set: &mut C,
@@ -133,9 +120,9 @@ fn hands_three_commands_back<C: SetCollection<i32, Item>>(
 
 #[test]
 fn hands_the_commands_back_without_room_for_the_replies(rt: HostRuntime) -> Result<(), Fail> {
-    let mut tree: SetTree<i32, Item, Global> = SetTree::new(rt.alloc(), 0)?;
+    let mut tree: SetTree<i32, SetKey, Global> = SetTree::new(rt.alloc(), 0)?;
     hands_three_commands_back(&rt, rt.alloc(), &mut tree)?;
-    let mut list: SetList<Item, Global> = SetList::new(rt.alloc(), 0)?;
+    let mut list: SetList<SetKey, Global> = SetList::new(rt.alloc(), 0)?;
     hands_three_commands_back(&rt, rt.alloc(), &mut list)
 }
 
@@ -213,7 +200,7 @@ fn refused_key(replies: &[Reply]) -> i32 {
 
 // Runs the commands over an empty set with the `nth` request refused, and then once more. Answers whether there were
 // as many requests.
-fn survives<C: SetCollection<i32, Item>>(
+fn survives<C: SetCollection<i32, SetKey>>(
     rt: &impl Abort,
     alloc: Global,
     memory: Memory<'_>,
@@ -252,8 +239,8 @@ fn goes_on_after_each_refused_request(rt: HostRuntime) -> Result<(), Fail> {
     let memory = Refusing::new(rt.alloc());
     for nth in 1..10 {
         memory.refuse_none();
-        let mut tree: SetTree<i32, Item, Memory<'_>> = SetTree::new(&memory, 0)?;
-        let mut list: SetList<Item, Memory<'_>> = SetList::new(&memory, 0)?;
+        let mut tree: SetTree<i32, SetKey, Memory<'_>> = SetTree::new(&memory, 0)?;
+        let mut list: SetList<SetKey, Memory<'_>> = SetList::new(&memory, 0)?;
         let in_tree = survives(&rt, rt.alloc(), &memory, &mut tree, nth)?;
         let in_list = survives(&rt, rt.alloc(), &memory, &mut list, nth)?;
         if !in_tree && !in_list {
