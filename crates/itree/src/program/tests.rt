@@ -4,7 +4,8 @@ use super::*;
 use refusing::Refusing;
 use std::io::{self, ErrorKind};
 use std::process::Abort;
-use std::test::Fail;
+
+mod sample;
 
 const COMMANDS: &str = "insert 0 10 0 0\ninsert 3 10 3 0\nless 0 -1 4\nless 0 -1 0\n";
 
@@ -351,87 +352,4 @@ fn refused_line(rt: &impl Abort, output: &[u8], replies: &str) -> Option<usize> 
         }
     }
     refused
-}
-
-// Lines, each with the reply of the original crate's containers.
-const SAMPLE: [(&str, &str); 62] = [
-    ("insert 5 3 50 0", "inserted"),
-    ("insert 1 3 10 0", "inserted"),
-    ("insert 9 3 90 0", "inserted"),
-    ("less 0 -1 9", "value 50"),
-    ("insert 5 8 51 1", "present"),
-    ("insert 4 2 40 1", "inserted"),
-    ("", ""),
-    ("less 1 -1 5", "value 40"),
-    ("less 2 -1 5", "value 10"),
-    ("insert 4 9 41 2", "inserted"),
-    ("\tless  2 -1   +5 ", "value 41"),
-    ("insert 5 8 52 3", "inserted"),
-    ("less 3 -7 5", "value 41"),
-    ("less 3 -7 4", "value -7"),
-    ("less 3 -7 10", "value 52"),
-    ("less 2 0 10", "late"),
-    ("insert 7 9 70 2", "late"),
-    ("insert 7 5 70 5", "inserted"),
-    ("less 5 0 8", "value 52"),
-    ("insert 7 9 71 5", "inserted"),
-    ("less 5 0 8", "value 71"),
-    ("insert -2147483648 2147483647 -2147483648 5", "inserted"),
-    ("less 5 0 -2147483648", "value 0"),
-    ("less 5 0 -2147483647", "value -2147483648"),
-    ("insert 2147483647 2147483647 2147483647 5", "inserted"),
-    ("less 5 0 2147483647", "value 71"),
-    ("less 8 0 2147483647", "value 71"),
-    ("less 8 6 7", "value 41"),
-    ("insert 3 9 +30 8", "inserted"),
-    ("insert 3 10 31 8", "present"),
-    ("less 9 1 3", "value -2147483648"),
-    ("less 9 1 4", "value -2147483648"),
-    ("less 9 1 2147483647", "value -2147483648"),
-    ("insert 3 10 32 9", "inserted"),
-    ("less 9 -0 4", "value 32"),
-    ("insert 0 9 -5 9", "inserted"),
-    ("less 9 1 1", "value -2147483648"),
-    ("insert 0 007 -6 9", "inserted"),
-    ("less 2147483646 1 2147483647", "value -2147483648"),
-    ("insert 0 2147483647 7 2147483647", "inserted"),
-    ("less 2147483647 1 2147483647", "value 1"),
-    ("less 9 1 4", "late"),
-    ("leq 9 -1 5", "late"),
-    ("leq 9 -1 0", "late"),
-    ("clear", "cleared"),
-    ("leq 0 -7 100", "value -7"),
-    ("insert 3 4 30 0", "inserted"),
-    ("insert 6 9 60 0", "inserted"),
-    ("insert 8 2 80 1", "inserted"),
-    ("leq 1 -1 7", "value 60"),
-    ("leq 1 -1 8", "value 80"),
-    ("leq 2 -1 8", "value 60"),
-    ("less 3 -1 6", "value 30"),
-    ("leq 4 -1 5", "value -1"),
-    ("leq 3 -1 6", "late"),
-    ("insert 3 8 31 4", "inserted"),
-    ("leq 4 -1 3", "value 31"),
-    ("clear", "cleared"),
-    ("less -5 -2 9", "value -2"),
-    ("insert -1 0 10 -5", "inserted"),
-    ("leq -5 -2 -1", "value 10"),
-    ("leq 0 -2 -1", "value -2"),
-];
-
-#[test]
-fn answers_a_sample_as_the_original_does(rt: HostRuntime) -> Result<(), Fail> {
-    let mut input = String::new(rt.alloc());
-    let mut replies = String::new(rt.alloc());
-    for (line, reply) in SAMPLE {
-        writeln!(&mut input, "{line}")?;
-        if !reply.is_empty() {
-            writeln!(&mut replies, "{reply}")?;
-        }
-    }
-    let outcome = outcome_of(rt.alloc(), &["keylist"], &mut input.as_bytes());
-    assert_eq!(rt; outcome.status, 0);
-    assert_eq!(rt; outcome.output.as_slice(), replies.as_bytes());
-    assert!(rt; outcome.faults.is_empty());
-    Ok(())
 }
