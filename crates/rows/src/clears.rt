@@ -1,6 +1,6 @@
 //! Cores that are cleared: what is dropped, and what memory is asked for.
 
-use crate::cores::{has_rising, insert_right, insert_rising, insert_root, remove};
+use crate::trees::{has_rising, insert_right, insert_rising, insert_root, remove};
 use i_tree::rb::RbTree;
 use i_tree::{EMPTY_REF, Refusal};
 use refusing::Refusing;

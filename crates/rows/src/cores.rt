@@ -1,180 +1,15 @@
 //! Worked trees of the core: shapes, handles, growth and refusals.
 
-ghost use Rattle.std.specs.Prelude.{◌≡◌};
-
+use crate::trees::{
+    before, first_before, has_nodes, has_rising, insert_left, insert_right, insert_rising,
+    insert_root, item, last, remove,
+};
 use i_tree::rb::RbTree;
-use i_tree::steps::Steps;
-use i_tree::{EMPTY_REF, Refusal, Refused};
+use i_tree::{EMPTY_REF, Refusal};
 use refusing::Refusing;
-use std::alloc::{Allocator, Global};
-use std::marker::Brand;
+use std::alloc::Global;
 use std::process::Abort;
-use std::sync::ledger::{Blank, Ledger};
 use std::test::Fail;
-
-// The calls of the core, each after a test of its conditions. Nothing is done with what they count.
-fn insert_root_over<T, L: Ledger, A: Allocator + Copy>(
-    rt: &impl Abort,
-    blank: Blank,
-    tree: &mut RbTree<T, A>,
-    item: T,
-) -> Result<u32, Refused<T>>
-    requires name { blank.name ≡ L.name }
-    requires parts { blank.parts ≡ L.parts }
-    requires four { blank.parts ≡ 4 }
-{
-    assert!(rt; tree.root() == EMPTY_REF);
-    tree.insert_root(&mut Steps::<L>::new(blank), item)
-}
-
-fn insert_left_over<T, L: Ledger, A: Allocator + Copy>(
-    rt: &impl Abort,
-    blank: Blank,
-    tree: &mut RbTree<T, A>,
-    parent: u32,
-    item: T,
-) -> Result<u32, Refused<T>>
-    requires name { blank.name ≡ L.name }
-    requires parts { blank.parts ≡ L.parts }
-    requires four { blank.parts ≡ 4 }
-{
-    assert!(rt; tree.has(parent));
-    assert!(rt; tree.left(parent) == EMPTY_REF);
-    tree.insert_left(&mut Steps::<L>::new(blank), parent, item)
-}
-
-fn insert_right_over<T, L: Ledger, A: Allocator + Copy>(
-    rt: &impl Abort,
-    blank: Blank,
-    tree: &mut RbTree<T, A>,
-    parent: u32,
-    item: T,
-) -> Result<u32, Refused<T>>
-    requires name { blank.name ≡ L.name }
-    requires parts { blank.parts ≡ L.parts }
-    requires four { blank.parts ≡ 4 }
-{
-    assert!(rt; tree.has(parent));
-    assert!(rt; tree.right(parent) == EMPTY_REF);
-    tree.insert_right(&mut Steps::<L>::new(blank), parent, item)
-}
-
-/// Puts the first item in, after a test that the tree is empty.
-pub fn insert_root<T, A: Allocator + Copy>(
-    rt: &impl Abort,
-    tree: &mut RbTree<T, A>,
-    item: T,
-) -> Result<u32, Refused<T>> {
-    insert_root_over::<T, Brand, A>(rt, Blank::new(4), tree, item)
-}
-
-fn insert_left<T, A: Allocator + Copy>(
-    rt: &impl Abort,
-    tree: &mut RbTree<T, A>,
-    parent: u32,
-    item: T,
-) -> Result<u32, Refused<T>> {
-    insert_left_over::<T, Brand, A>(rt, Blank::new(4), tree, parent, item)
-}
-
-/// Puts an item after the parent's, after a test that there is room on its right.
-pub fn insert_right<T, A: Allocator + Copy>(
-    rt: &impl Abort,
-    tree: &mut RbTree<T, A>,
-    parent: u32,
-    item: T,
-) -> Result<u32, Refused<T>> {
-    insert_right_over::<T, Brand, A>(rt, Blank::new(4), tree, parent, item)
-}
-
-fn remove_over<T, L: Ledger, A: Allocator + Copy>(
-    rt: &impl Abort,
-    blank: Blank,
-    tree: &mut RbTree<T, A>,
-    handle: u32,
-) -> T
-    requires name { blank.name ≡ L.name }
-    requires parts { blank.parts ≡ L.parts }
-    requires four { blank.parts ≡ 4 }
-{
-    assert!(rt; tree.has(handle));
-    tree.remove(&mut Steps::<L>::new(blank), handle)
-}
-
-/// Takes the entry out, after a test that it is there.
-pub fn remove<T, A: Allocator + Copy>(rt: &impl Abort, tree: &mut RbTree<T, A>, handle: u32) -> T {
-    remove_over::<T, Brand, A>(rt, Blank::new(4), tree, handle)
-}
-
-fn left<A: Allocator + Copy>(rt: &impl Abort, tree: &RbTree<i32, A>, handle: u32) -> u32 {
-    assert!(rt; tree.has(handle));
-    tree.left(handle)
-}
-
-fn right<A: Allocator + Copy>(rt: &impl Abort, tree: &RbTree<i32, A>, handle: u32) -> u32 {
-    assert!(rt; tree.has(handle));
-    tree.right(handle)
-}
-
-fn before<A: Allocator + Copy>(rt: &impl Abort, tree: &RbTree<i32, A>, handle: u32) -> u32 {
-    assert!(rt; tree.has(handle));
-    tree.before(handle)
-}
-
-fn item<A: Allocator + Copy>(rt: &impl Abort, tree: &RbTree<i32, A>, handle: u32) -> i32 {
-    assert!(rt; tree.has(handle));
-    *tree.item(handle)
-}
-
-// The item at the handle, and the handles below it.
-fn node<A: Allocator + Copy>(
-    rt: &impl Abort,
-    tree: &RbTree<i32, A>,
-    handle: u32,
-) -> (u32, i32, u32) {
-    (
-        left(rt, tree, handle),
-        item(rt, tree, handle),
-        right(rt, tree, handle),
-    )
-}
-
-/// Puts `count` items that rise from 1 on into the empty tree, each behind the last, and answers their handles.
-pub fn insert_rising<A: Allocator + Copy>(
-    rt: &impl Abort,
-    tree: &mut RbTree<i32, A>,
-    count: i32,
-    handles: &mut Vec<u32>,
-) -> Result<(), Fail> {
-    let mut last = insert_root(rt, tree, 1)?;
-    handles.push(last)?;
-    for number in 2..=count {
-        last = insert_right(rt, tree, last, number)?;
-        handles.push(last)?;
-    }
-    Ok(())
-}
-
-/// Whether the tree has exactly these handles in order, with items that rise from 1 on.
-pub fn has_rising<A: Allocator + Copy>(
-    rt: &impl Abort,
-    tree: &RbTree<i32, A>,
-    handles: &[u32],
-) -> bool {
-    if tree.len() != handles.len() {
-        return false;
-    }
-    let mut previous = EMPTY_REF;
-    let mut number = 1;
-    for handle in handles {
-        if before(rt, tree, *handle) != previous || item(rt, tree, *handle) != number {
-            return false;
-        }
-        previous = *handle;
-        number = number.saturating_add(1);
-    }
-    true
-}
 
 #[test]
 fn answers_the_handle_before(rt: HostRuntime) -> Result<(), Fail> {
@@ -192,23 +27,26 @@ fn answers_the_handle_before(rt: HostRuntime) -> Result<(), Fail> {
 fn keeps_its_balance(rt: HostRuntime) -> Result<(), Fail> {
     let mut tree = RbTree::new(rt.alloc(), 0)?;
     let one = insert_root(&rt, &mut tree, 1)?;
-    assert_eq!(rt; tree.root(), one);
-    assert_eq!(rt; node(&rt, &tree, one), (EMPTY_REF, 1, EMPTY_REF));
+    let nodes = [(one, EMPTY_REF, 1, EMPTY_REF)];
+    assert!(rt; has_nodes(&rt, &tree, one, &nodes));
     let two = insert_right(&rt, &mut tree, one, 2)?;
-    assert_eq!(rt; tree.root(), one);
-    assert_eq!(rt; node(&rt, &tree, one), (EMPTY_REF, 1, two));
-    assert_eq!(rt; node(&rt, &tree, two), (EMPTY_REF, 2, EMPTY_REF));
+    let nodes = [(one, EMPTY_REF, 1, two), (two, EMPTY_REF, 2, EMPTY_REF)];
+    assert!(rt; has_nodes(&rt, &tree, one, &nodes));
     let three = insert_right(&rt, &mut tree, two, 3)?;
-    assert_eq!(rt; tree.root(), two);
-    assert_eq!(rt; node(&rt, &tree, two), (one, 2, three));
-    assert_eq!(rt; node(&rt, &tree, one), (EMPTY_REF, 1, EMPTY_REF));
-    assert_eq!(rt; node(&rt, &tree, three), (EMPTY_REF, 3, EMPTY_REF));
+    let nodes = [
+        (one, EMPTY_REF, 1, EMPTY_REF),
+        (two, one, 2, three),
+        (three, EMPTY_REF, 3, EMPTY_REF),
+    ];
+    assert!(rt; has_nodes(&rt, &tree, two, &nodes));
     let four = insert_right(&rt, &mut tree, three, 4)?;
-    assert_eq!(rt; tree.root(), two);
-    assert_eq!(rt; node(&rt, &tree, two), (one, 2, three));
-    assert_eq!(rt; node(&rt, &tree, one), (EMPTY_REF, 1, EMPTY_REF));
-    assert_eq!(rt; node(&rt, &tree, three), (EMPTY_REF, 3, four));
-    assert_eq!(rt; node(&rt, &tree, four), (EMPTY_REF, 4, EMPTY_REF));
+    let nodes = [
+        (one, EMPTY_REF, 1, EMPTY_REF),
+        (two, one, 2, three),
+        (three, EMPTY_REF, 3, four),
+        (four, EMPTY_REF, 4, EMPTY_REF),
+    ];
+    assert!(rt; has_nodes(&rt, &tree, two, &nodes));
     Ok(())
 }
 
@@ -219,13 +57,13 @@ fn turns_nothing_where_colours_mend(rt: HostRuntime) -> Result<(), Fail> {
     let two = insert_left(&rt, &mut tree, four, 2)?;
     let five = insert_right(&rt, &mut tree, four, 5)?;
     let one = insert_left(&rt, &mut tree, two, 1)?;
-    assert_eq!(rt; tree.root(), four);
-    assert_eq!(rt; node(&rt, &tree, four), (two, 4, five));
-    assert_eq!(rt; node(&rt, &tree, two), (one, 2, EMPTY_REF));
-    assert_eq!(rt; before(&rt, &tree, four), two);
-    assert_eq!(rt; before(&rt, &tree, two), one);
-    assert_eq!(rt; before(&rt, &tree, one), EMPTY_REF);
-    assert_eq!(rt; before(&rt, &tree, five), four);
+    let nodes = [
+        (one, EMPTY_REF, 1, EMPTY_REF),
+        (two, one, 2, EMPTY_REF),
+        (four, two, 4, five),
+        (five, EMPTY_REF, 5, EMPTY_REF),
+    ];
+    assert!(rt; has_nodes(&rt, &tree, four, &nodes));
     Ok(())
 }
 
@@ -237,11 +75,14 @@ fn turns_where_a_black_leaf_is_removed(rt: HostRuntime) -> Result<(), Fail> {
     let five = insert_right(&rt, &mut tree, four, 5)?;
     let one = insert_left(&rt, &mut tree, two, 1)?;
     assert_eq!(rt; remove(&rt, &mut tree, five), 5);
-    assert_eq!(rt; tree.root(), two);
-    assert_eq!(rt; node(&rt, &tree, two), (one, 2, four));
-    assert_eq!(rt; node(&rt, &tree, four), (EMPTY_REF, 4, EMPTY_REF));
+    let nodes = [
+        (one, EMPTY_REF, 1, EMPTY_REF),
+        (two, one, 2, four),
+        (four, EMPTY_REF, 4, EMPTY_REF),
+    ];
+    assert!(rt; has_nodes(&rt, &tree, two, &nodes));
     assert!(rt; !tree.has(five));
-    assert_eq!(rt; (tree.len(), tree.spare()), (3, 4));
+    assert_eq!(rt; tree.spare(), 4);
     Ok(())
 }
 
@@ -252,9 +93,9 @@ fn moves_the_next_item_where_both_parts_are_there(rt: HostRuntime) -> Result<(),
     let one = insert_left(&rt, &mut tree, four, 1)?;
     let eight = insert_right(&rt, &mut tree, four, 8)?;
     assert_eq!(rt; remove(&rt, &mut tree, four), 4);
-    assert_eq!(rt; node(&rt, &tree, four), (one, 8, EMPTY_REF));
+    let nodes = [(one, EMPTY_REF, 1, EMPTY_REF), (four, one, 8, EMPTY_REF)];
+    assert!(rt; has_nodes(&rt, &tree, four, &nodes));
     assert!(rt; !tree.has(eight));
-    assert_eq!(rt; before(&rt, &tree, four), one);
     Ok(())
 }
 
@@ -263,22 +104,11 @@ fn removes_from_the_front_until_nothing_is_left(rt: HostRuntime) -> Result<(), F
     let mut tree = RbTree::new(rt.alloc(), 0)?;
     let mut handles = Vec::new(rt.alloc());
     insert_rising(&rt, &mut tree, 100, &mut handles)?;
-    let mut last = handles.last().copied().unwrap_or(EMPTY_REF);
     for number in 1..=100 {
+        let last = last(&rt, &tree);
         assert_eq!(rt; item(&rt, &tree, last), 100);
-        let mut first = last;
-        for _ in 0..100 {
-            let previous = before(&rt, &tree, first);
-            if previous == EMPTY_REF {
-                break;
-            }
-            first = previous;
-        }
-        let next_to_last = before(&rt, &tree, last);
+        let first = first_before(&rt, &tree, last);
         assert_eq!(rt; remove(&rt, &mut tree, first), number);
-        if next_to_last == first {
-            last = if tree.has(last) { last } else { first };
-        }
     }
     assert_eq!(rt;
         (tree.len(), tree.spare(), tree.root()),

@@ -14,6 +14,8 @@ mod live_closures;
 #[cfg(test)]
 mod numbered;
 #[cfg(test)]
+mod removals;
+#[cfg(test)]
 mod set_lists;
 #[cfg(test)]
 mod set_trees;
@@ -21,3 +23,5 @@ mod set_trees;
 mod sets;
 #[cfg(test)]
 mod timed_key;
+#[cfg(test)]
+mod trees;

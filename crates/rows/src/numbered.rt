@@ -29,6 +29,27 @@ pub fn number(key: i32) -> Item {
     Item { key, value: key }
 }
 
+/// A value under a key, that counts when it is dropped.
+pub struct Dropping<'a> {
+    pub key: i32,
+    pub drops: &'a Cell<u64>,
+}
+
+impl Drop for Dropping<'_> {
+    fn drop(self) {
+        let Dropping { key: _, drops } = self;
+        drops.set(drops.get().saturating_add(1));
+    }
+}
+
+impl KeyValue<i32> for Dropping<'_> {
+    ghost key_of = { λ dropping. dropping.key };
+
+    fn key(&self) -> &i32 {
+        &self.key
+    }
+}
+
 /// A number that counts how often it is compared.
 #[derive(Clone, Copy)]
 pub struct Ticking<'a> {

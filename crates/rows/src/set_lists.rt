@@ -1,12 +1,17 @@
 //! Worked sets in a sorted vector: searches, writes in place, and refusals.
 
-use crate::numbered::{Item, number};
-use crate::sets::{before, find, insert, item_at};
+use crate::numbered::{Dropping, Item, number};
+use crate::sets::{
+    before, deletes_a_key_between, deletes_from_the_front, deletes_the_key_before,
+    drops_what_it_deletes, find, insert, insert_keys, item_at,
+    keeps_its_values_where_the_nth_is_refused,
+};
 use i_tree::set::list::SetList;
 use i_tree::set::sort::SetCollection;
 use i_tree::{EMPTY_REF, Refusal};
 use refusing::Refusing;
 use std::alloc::{Allocator, Global};
+use std::cell::Cell;
 use std::process::Abort;
 use std::test::Fail;
 
@@ -15,9 +20,7 @@ type List<A> = SetList<Item, A>;
 // The keys 1, 4 and 8.
 fn three_keys<A: Allocator + Copy>(rt: &impl Abort, alloc: A) -> Result<List<A>, Fail> {
     let mut set = SetList::new(alloc, 0)?;
-    for key in [1, 4, 8] {
-        insert(rt, &mut set, number(key))?;
-    }
+    insert_keys(rt, &mut set, &[1, 4, 8])?;
     Ok(set)
 }
 
@@ -58,32 +61,13 @@ fn keeps_its_values_where_an_insertion_is_refused(rt: HostRuntime) -> Result<(),
     for nth in 1..20 {
         memory.refuse_none();
         let mut set: List<&Refusing<Global>> = SetList::new(&memory, 0)?;
-        memory.refuse_nth(nth);
-        for key in 1..=20 {
-            if let Err(refused) = insert(&rt, &mut set, number(key)) {
-                assert_eq!(rt;
-                    (refused.value, refused.cause),
-                    (number(key), Refusal::OutOfMemory)
-                );
-                assert_eq!(rt; find(&rt, &set, 30), before_last(key));
-                insert(&rt, &mut set, number(key))?;
-            }
-        }
+        keeps_its_values_where_the_nth_is_refused(&rt, &memory, &mut set, nth)?;
         assert_eq!(rt; find(&rt, &set, 30), 19);
         if memory.requests() < nth {
             return Ok(());
         }
     }
     Err(Fail::from("more requests than insertions"))
-}
-
-// The position of the greatest key, where the next one is `key` and the first is 1.
-fn before_last(key: i32) -> u32 {
-    if key <= 1 {
-        EMPTY_REF
-    } else {
-        (key as u32).saturating_sub(2)
-    }
 }
 
 #[test]
@@ -97,5 +81,25 @@ fn is_refused_new_and_then_made(rt: HostRuntime) -> Result<(), Fail> {
     for key in 1..=3 {
         assert!(rt; insert(&rt, &mut set, number(key)).is_ok());
     }
+    Ok(())
+}
+
+#[test]
+fn deletes_by_its_handles(rt: HostRuntime) -> Result<(), Fail> {
+    let mut set: List<Global> = SetList::new(rt.alloc(), 0)?;
+    deletes_a_key_between(&rt, &mut set)?;
+    let mut set: List<Global> = SetList::new(rt.alloc(), 0)?;
+    deletes_from_the_front(&rt, &mut set)?;
+    let mut set: List<Global> = SetList::new(rt.alloc(), 0)?;
+    deletes_the_key_before(&rt, &mut set)
+}
+
+#[test]
+fn drops_what_is_deleted(rt: HostRuntime) -> Result<(), Fail> {
+    let drops = Cell::new(0u64);
+    let mut set: SetList<Dropping, Global> = SetList::new(rt.alloc(), 0)?;
+    drops_what_it_deletes(&rt, &mut set, &drops)?;
+    drop(set);
+    assert_eq!(rt; drops.get(), 3);
     Ok(())
 }

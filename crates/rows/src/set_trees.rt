@@ -6,8 +6,12 @@ ghost use Rattle.i_tree.specs.Set.{IsOrdered, LacksKey};
 ghost use Rattle.i_tree.specs.Shape.{entries};
 ghost use Rattle.rows.specs.declared.numbered.Ticking.{Ticking};
 
-use crate::numbered::{Item, Ticking, number};
-use crate::sets::{before, find, insert, item_at};
+use crate::numbered::{Dropping, Item, Ticking, number};
+use crate::sets::{
+    before, deletes_a_key_between, deletes_from_the_front, deletes_the_key_before,
+    drops_what_it_deletes, find, insert, insert_keys, item_at,
+    keeps_its_values_where_the_nth_is_refused,
+};
 use i_tree::set::sort::SetCollection;
 use i_tree::set::tree::SetTree;
 use i_tree::{EMPTY_REF, Refusal};
@@ -23,9 +27,7 @@ type Set<A> = SetTree<i32, Item, A>;
 // The keys 1, 4 and 8.
 fn three_keys<A: Allocator + Copy>(rt: &impl Abort, alloc: A) -> Result<Set<A>, Fail> {
     let mut set = SetTree::new(alloc, 0)?;
-    for key in [1, 4, 8] {
-        insert(rt, &mut set, number(key))?;
-    }
+    insert_keys(rt, &mut set, &[1, 4, 8])?;
     Ok(set)
 }
 
@@ -142,14 +144,6 @@ fn insert_ticking<'a, A: Allocator + Copy>(
     Ok(ticks.get())
 }
 
-// The keys that the set finds from 0 to 20.
-fn has_keys_up_to<A: Allocator + Copy>(rt: &impl Abort, set: &Set<A>, last: i32) -> bool {
-    (1..=20).all(|key: i32| {
-        let found = find(rt, set, key);
-        found != EMPTY_REF && item_at(rt, set, found).key == key.min(last)
-    })
-}
-
 #[test]
 fn takes_as_many_as_it_has_slots_for(rt: HostRuntime) -> Result<(), Fail> {
     let memory = Refusing::new(rt.alloc());
@@ -180,19 +174,7 @@ fn keeps_its_values_where_an_insertion_is_refused(rt: HostRuntime) -> Result<(),
     for nth in 1..20 {
         memory.refuse_none();
         let mut set: Set<&Refusing<Global>> = SetTree::new(&memory, 0)?;
-        memory.refuse_nth(nth);
-        for key in 1..=20 {
-            if let Err(refused) = insert(&rt, &mut set, number(key)) {
-                assert_eq!(rt;
-                    (refused.value, refused.cause),
-                    (number(key), Refusal::OutOfMemory)
-                );
-                assert_eq!(rt; memory.requests(), nth);
-                assert!(rt; has_keys_up_to(&rt, &set, key.saturating_sub(1)));
-                insert(&rt, &mut set, number(key))?;
-            }
-        }
-        assert!(rt; has_keys_up_to(&rt, &set, 20));
+        keeps_its_values_where_the_nth_is_refused(&rt, &memory, &mut set, nth)?;
         if memory.requests() < nth {
             return Ok(());
         }
@@ -210,5 +192,25 @@ fn is_refused_new_and_then_made(rt: HostRuntime) -> Result<(), Fail> {
     assert_eq!(rt; set.spare(), 7);
     let beyond: Result<Set<&Refusing<Global>>, Refusal> = SetTree::new(&memory, 4294967296);
     assert_eq!(rt; beyond.err(), Some(Refusal::NoHandle));
+    Ok(())
+}
+
+#[test]
+fn deletes_by_its_handles(rt: HostRuntime) -> Result<(), Fail> {
+    let mut set: Set<Global> = SetTree::new(rt.alloc(), 0)?;
+    deletes_a_key_between(&rt, &mut set)?;
+    let mut set: Set<Global> = SetTree::new(rt.alloc(), 0)?;
+    deletes_from_the_front(&rt, &mut set)?;
+    let mut set: Set<Global> = SetTree::new(rt.alloc(), 0)?;
+    deletes_the_key_before(&rt, &mut set)
+}
+
+#[test]
+fn drops_what_is_deleted(rt: HostRuntime) -> Result<(), Fail> {
+    let drops = Cell::new(0u64);
+    let mut set: SetTree<i32, Dropping, Global> = SetTree::new(rt.alloc(), 0)?;
+    drops_what_it_deletes(&rt, &mut set, &drops)?;
+    drop(set);
+    assert_eq!(rt; drops.get(), 3);
     Ok(())
 }

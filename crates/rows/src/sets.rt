@@ -1,31 +1,34 @@
-//! For every kind of set: calls after a test of their conditions.
+//! For every kind of set: calls after a test of their conditions, and tests that hold of each kind.
 
 ghost use Rattle.std.specs.Prelude.{◌≡◌, IsTrue};
 ghost use Rattle.std.specs.Ordering.{int_cmp};
 ghost use Rattle.i_tree.specs.Set.{IsOrdered, LacksKey};
-ghost use Rattle.rows.specs.declared.numbered.Item.{Item};
 
-use crate::numbered::Item;
-use i_tree::Refused;
-use i_tree::set::sort::SetCollection;
+use crate::numbered::{Dropping, Item, number};
+use i_tree::set::sort::{KeyValue, SetCollection};
+use i_tree::{EMPTY_REF, Refusal, Refused};
+use refusing::Refusing;
+use std::alloc::Global;
+use std::cell::Cell;
 use std::cmp::Ordering;
 use std::process::Abort;
+use std::test::Fail;
 
-/// Inserts the item, after a test that the keys are in order and none compares Equal.
-pub fn insert<C: SetCollection<i32, Item>>(
+/// Inserts the value, after a test that the keys are in order and none compares Equal.
+pub fn insert<V: KeyValue<i32> + Drop, C: SetCollection<i32, V>>(
     rt: &impl Abort,
     set: &mut C,
-    item: Item,
-) -> Result<(), Refused<Item>> {
+    value: V,
+) -> Result<(), Refused<V>> {
     assert!(rt; set.is_ordered());
-    assert!(rt; lacks(set, &item.key));
-    set.insert(item)
+    assert!(rt; lacks::<V, C>(set, value.key()));
+    set.insert(value)
 }
 
 // Whether no key of the set compares Equal to this one.
-fn lacks<C: SetCollection<i32, Item>>(set: &C, sought: &i32) -> bool
-    requires { IsOrdered (λ (item : Item). item.key) int_cmp (C.pairs set.now) }
-    ensures { IsTrue result → LacksKey (λ (item : Item). item.key) int_cmp (C.pairs set.now) sought.now }
+fn lacks<V: KeyValue<i32> + Drop, C: SetCollection<i32, V>>(set: &C, sought: &i32) -> bool
+    requires { IsOrdered V.key_of int_cmp (C.pairs set.now) }
+    ensures { IsTrue result → LacksKey V.key_of int_cmp (C.pairs set.now) sought.now }
 {
     let stands = |key: &i32| -> Ordering
         ensures { result ≡ int_cmp key.entry.now sought.entry.now }
@@ -34,10 +37,22 @@ fn lacks<C: SetCollection<i32, Item>>(set: &C, sought: &i32) -> bool
     if !set.has_index(found) {
         return true;
     }
-    match set.value_by_index(found).key.cmp(sought) {
+    match set.value_by_index(found).key().cmp(sought) {
         Ordering::Equal => false,
         _ => true,
     }
+}
+
+/// Inserts items with these keys.
+pub fn insert_keys<C: SetCollection<i32, Item>>(
+    rt: &impl Abort,
+    set: &mut C,
+    keys: &[i32],
+) -> Result<(), Fail> {
+    for key in keys {
+        insert(rt, set, number(*key))?;
+    }
+    Ok(())
 }
 
 /// The handle of the greatest key at most this one, or `EMPTY_REF`.
@@ -56,4 +71,118 @@ pub fn item_at<C: SetCollection<i32, Item>>(rt: &impl Abort, set: &C, handle: u3
 pub fn before<C: SetCollection<i32, Item>>(rt: &impl Abort, set: &C, handle: u32) -> u32 {
     assert!(rt; set.has_index(handle));
     set.index_before(handle)
+}
+
+/// Deletes the item at the handle.
+pub fn delete<C: SetCollection<i32, Item>>(rt: &impl Abort, set: &mut C, handle: u32) {
+    assert!(rt; set.has_index(handle));
+    set.delete_by_index(handle);
+}
+
+/// Whether the keys are those from `first` to `last`, by searches and by `index_before`.
+pub fn has_keys<C: SetCollection<i32, Item>>(
+    rt: &impl Abort,
+    set: &C,
+    first: i32,
+    last: i32,
+) -> bool {
+    let mut handle = find(rt, set, i32::MAX);
+    for key in (first..=last).rev() {
+        if handle == EMPTY_REF
+            || item_at(rt, set, handle).key != key
+            || find(rt, set, key) != handle
+        {
+            return false;
+        }
+        handle = before(rt, set, handle);
+    }
+    handle == EMPTY_REF
+}
+
+/// Deletes a key between two others, which are found as before.
+pub fn deletes_a_key_between<C: SetCollection<i32, Item>>(
+    rt: &impl Abort,
+    set: &mut C,
+) -> Result<(), Fail> {
+    insert_keys(rt, set, &[1, 4, 8])?;
+    let (one, four) = (find(rt, set, 1), find(rt, set, 4));
+    delete(rt, set, four);
+    assert_eq!(rt; find(rt, set, 5), one);
+    assert_eq!(rt; item_at(rt, set, find(rt, set, 9)).key, 8);
+    Ok(())
+}
+
+/// Deletes the least key until nothing is left.
+pub fn deletes_from_the_front<C: SetCollection<i32, Item>>(
+    rt: &impl Abort,
+    set: &mut C,
+) -> Result<(), Fail> {
+    insert_keys(rt, set, &[1, 2, 3, 4, 5, 6, 7])?;
+    for least in 1..=7 {
+        assert!(rt; has_keys(rt, set, least, 7), "at {least}");
+        let handle = find(rt, set, least);
+        delete(rt, set, handle);
+    }
+    assert_eq!(rt; find(rt, set, i32::MAX), EMPTY_REF);
+    Ok(())
+}
+
+/// Deletes by a handle that `index_before` gave.
+pub fn deletes_the_key_before<C: SetCollection<i32, Item>>(
+    rt: &impl Abort,
+    set: &mut C,
+) -> Result<(), Fail> {
+    insert_keys(rt, set, &[1, 4, 8])?;
+    let (one, four) = (find(rt, set, 1), find(rt, set, 4));
+    let previous = before(rt, set, find(rt, set, 9));
+    assert_eq!(rt; previous, four);
+    delete(rt, set, previous);
+    assert_eq!(rt; find(rt, set, 5), one);
+    assert_eq!(rt; before(rt, set, one), EMPTY_REF);
+    Ok(())
+}
+
+/// Deletes one of three values, which alone is dropped.
+pub fn drops_what_it_deletes<'a, C: SetCollection<i32, Dropping<'a>>>(
+    rt: &impl Abort,
+    set: &mut C,
+    drops: &'a Cell<u64>,
+) -> Result<(), Fail> {
+    for key in [1, 4, 8] {
+        if insert(rt, set, Dropping { key, drops }).is_err() {
+            return Err(Fail::from("refused"));
+        }
+    }
+    assert!(rt; set.is_ordered());
+    let four = set.first_index_less_by(|key| key.cmp(&4));
+    assert!(rt; set.has_index(four));
+    assert_eq!(rt; drops.get(), 0);
+    set.delete_by_index(four);
+    assert_eq!(rt; drops.get(), 1);
+    Ok(())
+}
+
+/// Inserts the keys 1 to 20 where the nth request for memory is refused, and again what was refused with it.
+pub fn keeps_its_values_where_the_nth_is_refused<C: SetCollection<i32, Item>>(
+    rt: &impl Abort,
+    memory: &Refusing<Global>,
+    set: &mut C,
+    nth: u64,
+) -> Result<(), Fail> {
+    memory.refuse_nth(nth);
+    for key in 1..=20 {
+        let last = find(rt, set, i32::MAX);
+        if let Err(refused) = insert(rt, set, number(key)) {
+            assert_eq!(rt;
+                (refused.value, refused.cause),
+                (number(key), Refusal::OutOfMemory)
+            );
+            assert_eq!(rt; memory.requests(), nth);
+            assert_eq!(rt; find(rt, set, i32::MAX), last);
+            assert!(rt; has_keys(rt, set, 1, key.saturating_sub(1)));
+            insert(rt, set, number(key))?;
+        }
+    }
+    assert!(rt; has_keys(rt, set, 1, 20));
+    Ok(())
 }

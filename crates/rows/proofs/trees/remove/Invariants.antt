@@ -1,4 +1,4 @@
-use Rattle.rows.proofs.cores.remove.Given as goal
+use Rattle.rows.proofs.trees.remove.Given as goal
 
 -- the ledger is the blank one
 abbrev pub ghosts-remove_over : goal.ghosts-remove_over
