@@ -18,7 +18,7 @@ pub use keys::KeyLine;
 pub use sets::SetLine;
 
 /// A command that the words of a line may say.
-pub trait LineCommand: Sized {
+pub trait LineCommand: Sized + Drop {
     /// Whether the words say the command.
     ghost says: { List (List ℕ) → Self → Type 0 };
 
@@ -32,7 +32,7 @@ pub trait LineCommand: Sized {
 ///
 /// A line without words has no command, and counts in the numbers of the lines. The answer is `Fault::Line` with the
 /// number of the first faulty line, or `Fault::Stopped` where memory was refused before that line.
-pub fn parse_commands<A: Allocator + Copy, C: LineCommand + Drop>(
+pub fn parse_commands<A: Allocator + Copy, C: LineCommand>(
     alloc: A,
     text: &[u8],
 ) -> Result<Vec<C, A>, Fault>
