@@ -1,5 +1,6 @@
 //! Cores that are cleared: what is dropped, and what memory is asked for.
 
+use crate::numbered::Dropping;
 use crate::trees::{has_rising, insert_right, insert_rising, insert_root, remove};
 use i_tree::rb::RbTree;
 use i_tree::{EMPTY_REF, Refusal};
@@ -9,28 +10,16 @@ use std::cell::Cell;
 use std::process::Abort;
 use std::test::Fail;
 
-// An item that counts when it is dropped.
-struct Counted<'a> {
-    drops: &'a Cell<u64>,
-}
-
-impl Drop for Counted<'_> {
-    fn drop(self) {
-        let Counted { drops } = self;
-        drops.set(drops.get().saturating_add(1));
-    }
-}
-
 // Puts `count` items into the empty tree, each behind the last.
 fn insert_many<'a, A: Allocator + Copy>(
     rt: &impl Abort,
-    tree: &mut RbTree<Counted<'a>, A>,
+    tree: &mut RbTree<Dropping<'a>, A>,
     drops: &'a Cell<u64>,
-    count: u32,
+    count: i32,
 ) -> Result<(), Fail> {
     let mut last = EMPTY_REF;
-    for _ in 0..count {
-        let item = Counted { drops };
+    for key in 0..count {
+        let item = Dropping { key, drops };
         let added = if last == EMPTY_REF {
             insert_root(rt, tree, item)
         } else {
@@ -47,7 +36,7 @@ fn insert_many<'a, A: Allocator + Copy>(
 #[test]
 fn drops_each_item_once(rt: HostRuntime) -> Result<(), Fail> {
     let drops = Cell::new(0u64);
-    let mut tree: RbTree<Counted, Global> = RbTree::new(rt.alloc(), 0)?;
+    let mut tree: RbTree<Dropping, Global> = RbTree::new(rt.alloc(), 0)?;
     insert_many(&rt, &mut tree, &drops, 100)?;
     let mut kept = Vec::new(rt.alloc());
     for _ in 0..40 {

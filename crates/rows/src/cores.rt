@@ -1,7 +1,7 @@
 //! Worked trees of the core: shapes, handles, growth and refusals.
 
 use crate::trees::{
-    before, first_before, has_nodes, has_rising, insert_left, insert_right, insert_rising,
+    before, first_by_before, has_nodes, has_rising, insert_left, insert_right, insert_rising,
     insert_root, item, last, remove,
 };
 use i_tree::rb::RbTree;
@@ -107,7 +107,7 @@ fn removes_from_the_front_until_nothing_is_left(rt: HostRuntime) -> Result<(), F
     for number in 1..=100 {
         let last = last(&rt, &tree);
         assert_eq!(rt; item(&rt, &tree, last), 100);
-        let first = first_before(&rt, &tree, last);
+        let first = first_by_before(&rt, &tree, last);
         assert_eq!(rt; remove(&rt, &mut tree, first), number);
     }
     assert_eq!(rt;
@@ -188,6 +188,16 @@ fn is_refused_new_and_then_made(rt: HostRuntime) -> Result<(), Fail> {
     Ok(())
 }
 
+// Whether a reservation is answered so, and leaves so many slots free.
+fn reserves(
+    tree: &mut RbTree<i32, &Refusing<Global>>,
+    capacity: usize,
+    answer: Result<(), Refusal>,
+    spare: usize,
+) -> bool {
+    tree.reserve(capacity) == answer && tree.spare() == spare
+}
+
 #[test]
 fn keeps_its_slots_where_more_are_refused(rt: HostRuntime) -> Result<(), Fail> {
     let memory = Refusing::new(rt.alloc());
@@ -195,14 +205,11 @@ fn keeps_its_slots_where_more_are_refused(rt: HostRuntime) -> Result<(), Fail> {
     let mut handles = Vec::new(rt.alloc());
     insert_rising(&rt, &mut tree, 5, &mut handles)?;
     memory.refuse_nth(1);
-    assert_eq!(rt; tree.reserve(20), Err(Refusal::OutOfMemory));
-    assert_eq!(rt; tree.spare(), 2);
+    assert!(rt; reserves(&mut tree, 20, Err(Refusal::OutOfMemory), 2));
     assert!(rt; has_rising(&rt, &tree, &handles));
-    tree.reserve(20)?;
-    assert_eq!(rt; tree.spare(), 14);
-    tree.reserve(10)?;
-    assert_eq!(rt; tree.spare(), 14);
-    assert_eq!(rt; tree.reserve(4294967296), Err(Refusal::NoHandle));
+    assert!(rt; reserves(&mut tree, 20, Ok(()), 14));
+    assert!(rt; reserves(&mut tree, 10, Ok(()), 14));
+    assert!(rt; reserves(&mut tree, 4294967296, Err(Refusal::NoHandle), 14));
     assert!(rt; has_rising(&rt, &tree, &handles));
     Ok(())
 }

@@ -141,19 +141,20 @@ fn walk(rt: &impl Abort, tree: &RbTree<usize, Global>, alloc: Global) -> Result<
     Ok(Passed { handles, height })
 }
 
-// Takes all entries out, one after another. The digits of the order, in the factorial number system, are their places.
-fn removes_all(rt: &impl Abort, mirrored: &mut Mirrored, order: usize) -> Result<bool, Fail> {
+// Takes all entries out, one after another, and answers whether the tree agrees before and after each. The digits of the
+// order, in the factorial number system, are the places.
+fn agrees_as_all_go(rt: &impl Abort, mirrored: &mut Mirrored, order: usize) -> Result<bool, Fail> {
     let mut digits = order;
     let count = mirrored.entries.len();
     for gone in 0..count {
-        let remaining = count - gone;
-        mirrored.remove(rt, digits % remaining);
-        digits /= remaining;
         if !mirrored.agrees(rt)? {
             return Ok(false);
         }
+        let remaining = count - gone;
+        mirrored.remove(rt, digits % remaining);
+        digits /= remaining;
     }
-    Ok(true)
+    mirrored.agrees(rt)
 }
 
 #[test]
@@ -167,7 +168,7 @@ fn removes_in_every_order(rt: HostRuntime) -> Result<(), Fail> {
                 mirrored.insert(&rt, place, place)?;
             }
             assert!(rt;
-                removes_all(&rt, &mut mirrored, order)?,
+                agrees_as_all_go(&rt, &mut mirrored, order)?,
                 "{count} entries, order {order}"
             );
         }
@@ -184,13 +185,13 @@ fn next_random(state: &mut usize) -> usize {
     *state >> 33
 }
 
-// Inserts or removes an entry, by chance: of eight times it inserts so many, but where there is nothing to remove, or
-// 300 entries, or the entry.
+// Inserts or removes an entry by chance, so many insertions in eight changes. It inserts where there is no entry, and
+// removes where there are 300, or the number is there.
 fn change(
     rt: &impl Abort,
     mirrored: &mut Mirrored,
     state: &mut usize,
-    of_eight: usize,
+    insertions: usize,
 ) -> Result<(), Fail> {
     let count = mirrored.entries.len();
     let number = next_random(state) % 1000;
@@ -199,7 +200,7 @@ fn change(
         Some(entry) => entry.number == number,
         None => false,
     };
-    let inserts = next_random(state) % 8 < of_eight;
+    let inserts = next_random(state) % 8 < insertions;
     if count > 0 && (!inserts || is_there || count >= 300) {
         mirrored.remove(rt, next_random(state) % count);
         return Ok(());
@@ -211,12 +212,14 @@ fn change(
 fn agrees_with_a_sorted_vector_through_many_changes(rt: HostRuntime) -> Result<(), Fail> {
     let mut mirrored = Mirrored::new(rt.alloc())?;
     let mut state = 1;
-    for number in 1..=200000 {
-        let of_eight = if number % 2300 < 1150 { 6 } else { 2 };
-        change(&rt, &mut mirrored, &mut state, of_eight)?;
-        if number % 1000 == 0 {
-            assert!(rt; mirrored.agrees(&rt)?, "after {number} changes");
+    for turn in 1..=200000 {
+        let insertions = if turn % 2300 < 1150 { 6 } else { 2 };
+        change(&rt, &mut mirrored, &mut state, insertions)?;
+        if turn % 1000 == 0 {
+            assert!(rt; mirrored.agrees(&rt)?, "after {turn} changes");
         }
     }
+    // There were more than 255 entries at once.
+    assert_eq!(rt; mirrored.slots, 512);
     Ok(())
 }

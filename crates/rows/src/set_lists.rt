@@ -2,13 +2,13 @@
 
 use crate::numbered::{Dropping, Item, number};
 use crate::sets::{
-    before, deletes_a_key_between, deletes_from_the_front, deletes_the_key_before,
-    drops_what_it_deletes, find, insert, insert_keys, item_at,
+    deletes_a_key_between, deletes_from_the_front, deletes_the_key_before, drops_what_it_deletes,
+    find, finds_the_greatest_key_at_most, insert, insert_keys, item_at,
     keeps_its_values_where_the_nth_is_refused,
 };
+use i_tree::Refusal;
 use i_tree::set::list::SetList;
 use i_tree::set::sort::SetCollection;
-use i_tree::{EMPTY_REF, Refusal};
 use refusing::Refusing;
 use std::alloc::{Allocator, Global};
 use std::cell::Cell;
@@ -26,16 +26,12 @@ fn three_keys<A: Allocator + Copy>(rt: &impl Abort, alloc: A) -> Result<List<A>,
 
 #[test]
 fn answers_the_greatest_key_at_most(rt: HostRuntime) -> Result<(), Fail> {
-    let set = three_keys(&rt, rt.alloc())?;
+    let mut set: List<Global> = SetList::new(rt.alloc(), 0)?;
+    finds_the_greatest_key_at_most(&rt, &mut set)?;
     assert_eq!(rt;
         [find(&rt, &set, 1), find(&rt, &set, 4), find(&rt, &set, 8)],
         [0, 1, 2]
     );
-    assert_eq!(rt; find(&rt, &set, 0), EMPTY_REF);
-    assert_eq!(rt; find(&rt, &set, 5), 1);
-    assert_eq!(rt; before(&rt, &set, 2), 1);
-    assert_eq!(rt; before(&rt, &set, 1), 0);
-    assert_eq!(rt; before(&rt, &set, 0), EMPTY_REF);
     Ok(())
 }
 

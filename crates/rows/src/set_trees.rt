@@ -8,13 +8,13 @@ ghost use Rattle.rows.specs.declared.numbered.Ticking.{Ticking};
 
 use crate::numbered::{Dropping, Item, Ticking, number};
 use crate::sets::{
-    before, deletes_a_key_between, deletes_from_the_front, deletes_the_key_before,
-    drops_what_it_deletes, find, insert, insert_keys, item_at,
+    deletes_a_key_between, deletes_from_the_front, deletes_the_key_before, drops_what_it_deletes,
+    find, finds_the_greatest_key_at_most, insert, insert_keys, item_at,
     keeps_its_values_where_the_nth_is_refused,
 };
+use i_tree::Refusal;
 use i_tree::set::sort::SetCollection;
 use i_tree::set::tree::SetTree;
-use i_tree::{EMPTY_REF, Refusal};
 use refusing::Refusing;
 use std::alloc::{Allocator, Global};
 use std::cell::Cell;
@@ -33,22 +33,8 @@ fn three_keys<A: Allocator + Copy>(rt: &impl Abort, alloc: A) -> Result<Set<A>, 
 
 #[test]
 fn answers_the_greatest_key_at_most(rt: HostRuntime) -> Result<(), Fail> {
-    let set = three_keys(&rt, rt.alloc())?;
-    let (one, four, eight) = (find(&rt, &set, 1), find(&rt, &set, 4), find(&rt, &set, 8));
-    assert_eq!(rt;
-        [
-            item_at(&rt, &set, one).key,
-            item_at(&rt, &set, four).key,
-            item_at(&rt, &set, eight).key
-        ],
-        [1, 4, 8]
-    );
-    assert_eq!(rt; find(&rt, &set, 0), EMPTY_REF);
-    assert_eq!(rt; find(&rt, &set, 5), four);
-    assert_eq!(rt; before(&rt, &set, eight), four);
-    assert_eq!(rt; before(&rt, &set, four), one);
-    assert_eq!(rt; before(&rt, &set, one), EMPTY_REF);
-    Ok(())
+    let mut set: Set<Global> = SetTree::new(rt.alloc(), 0)?;
+    finds_the_greatest_key_at_most(&rt, &mut set)
 }
 
 #[test]

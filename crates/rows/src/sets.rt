@@ -99,6 +99,24 @@ pub fn has_keys<C: SetCollection<i32, Item>>(
     handle == EMPTY_REF
 }
 
+/// Searches for keys that are there and for others, and goes back from each handle that is found.
+pub fn finds_the_greatest_key_at_most<C: SetCollection<i32, Item>>(
+    rt: &impl Abort,
+    set: &mut C,
+) -> Result<(), Fail> {
+    insert_keys(rt, set, &[1, 4, 8])?;
+    let mut previous = EMPTY_REF;
+    assert_eq!(rt; find(rt, set, 0), previous);
+    for (key, next) in [(1, 3), (4, 7), (8, 20)] {
+        let found = find(rt, set, key);
+        assert_eq!(rt; item_at(rt, set, found).key, key);
+        assert_eq!(rt; find(rt, set, next), found);
+        assert_eq!(rt; before(rt, set, found), previous);
+        previous = found;
+    }
+    Ok(())
+}
+
 /// Deletes a key between two others, which are found as before.
 pub fn deletes_a_key_between<C: SetCollection<i32, Item>>(
     rt: &impl Abort,

@@ -147,8 +147,8 @@ pub fn last<T, A: Allocator + Copy>(rt: &impl Abort, tree: &RbTree<T, A>) -> u32
     last
 }
 
-/// The handle at which `before` ends that begins at this one.
-pub fn first_before<T, A: Allocator + Copy>(
+/// The first handle in order, by `before` from this one on.
+pub fn first_by_before<T, A: Allocator + Copy>(
     rt: &impl Abort,
     tree: &RbTree<T, A>,
     handle: u32,
