@@ -6,9 +6,9 @@ use crate::sets::{
     find, finds_the_greatest_key_at_most, insert, insert_keys, item_at,
     keeps_its_values_where_the_nth_is_refused,
 };
-use i_tree::Refusal;
 use i_tree::set::list::SetList;
 use i_tree::set::sort::SetCollection;
+use i_tree::{EMPTY_REF, Refusal};
 use refusing::Refusing;
 use std::alloc::{Allocator, Global};
 use std::cell::Cell;
@@ -57,13 +57,25 @@ fn keeps_its_values_where_an_insertion_is_refused(rt: HostRuntime) -> Result<(),
     for nth in 1..20 {
         memory.refuse_none();
         let mut set: List<&Refusing<Global>> = SetList::new(&memory, 0)?;
-        keeps_its_values_where_the_nth_is_refused(&rt, &memory, &mut set, nth)?;
+        let refused = keeps_its_values_where_the_nth_is_refused(&rt, &memory, &mut set, nth)?;
+        if let Some((key, found)) = refused {
+            assert_eq!(rt; found, before_last(key));
+        }
         assert_eq!(rt; find(&rt, &set, 30), 19);
         if memory.requests() < nth {
             return Ok(());
         }
     }
     Err(Fail::from("more requests than insertions"))
+}
+
+// The position of the greatest key, where the next one is `key` and the first is 1.
+fn before_last(key: i32) -> u32 {
+    if key <= 1 {
+        EMPTY_REF
+    } else {
+        (key as u32).saturating_sub(2)
+    }
 }
 
 #[test]

@@ -107,7 +107,7 @@ pub fn finds_the_greatest_key_at_most<C: SetCollection<i32, Item>>(
     insert_keys(rt, set, &[1, 4, 8])?;
     let mut previous = EMPTY_REF;
     assert_eq!(rt; find(rt, set, 0), previous);
-    for (key, next) in [(1, 3), (4, 7), (8, 20)] {
+    for (key, next) in [(1, 3), (4, 5), (8, 20)] {
         let found = find(rt, set, key);
         assert_eq!(rt; item_at(rt, set, found).key, key);
         assert_eq!(rt; find(rt, set, next), found);
@@ -180,13 +180,15 @@ pub fn drops_what_it_deletes<'a, C: SetCollection<i32, Dropping<'a>>>(
     Ok(())
 }
 
-/// Inserts the keys 1 to 20 where the nth request for memory is refused, and again what was refused with it.
+/// Inserts the keys 1 to 20 where the nth request for memory is refused, and again what was refused with it. Answers the
+/// key that was refused, if one was, and the handle that a search for it found then.
 pub fn keeps_its_values_where_the_nth_is_refused<C: SetCollection<i32, Item>>(
     rt: &impl Abort,
     memory: &Refusing<Global>,
     set: &mut C,
     nth: u64,
-) -> Result<(), Fail> {
+) -> Result<Option<(i32, u32)>, Fail> {
+    let mut at_refusal = None;
     memory.refuse_nth(nth);
     for key in 1..=20 {
         let last = find(rt, set, i32::MAX);
@@ -197,10 +199,12 @@ pub fn keeps_its_values_where_the_nth_is_refused<C: SetCollection<i32, Item>>(
             );
             assert_eq!(rt; memory.requests(), nth);
             assert_eq!(rt; find(rt, set, i32::MAX), last);
+            assert_eq!(rt; find(rt, set, key), last);
             assert!(rt; has_keys(rt, set, 1, key.saturating_sub(1)));
             insert(rt, set, number(key))?;
+            at_refusal = Some((key, last));
         }
     }
     assert!(rt; has_keys(rt, set, 1, 20));
-    Ok(())
+    Ok(at_refusal)
 }
