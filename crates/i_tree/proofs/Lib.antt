@@ -7,6 +7,10 @@ pub mod Contexts
 pub mod Detaching
 pub mod Growth
 pub mod Items
+pub mod KeyInsertion
+pub mod KeyLooking
+pub mod KeySearch
+pub mod KeyWays
 pub mod Keys
 pub mod Lists
 pub mod Monotone
@@ -37,3 +41,4 @@ pub mod Turning
 pub mod TurningItems
 pub mod TurningReads
 pub mod TurningRound
+pub mod Withouts

@@ -1,8 +1,9 @@
 -- A way down a tree: what stands in front of the part that it has come to, and what stands behind it.
 use Rattle.std.proofs.Common.{◌≡◌, ◌≢◌, ℕ, ◌<◌, List, [], ◌∷◌, ◌++◌, sym, ap, ◌∙◌, append_assoc, arith}
 use Rattle.std.proofs.lemmas.List.{append-nil}
-use Rattle.i_tree.proofs.SetLists.{EndsIn, StartsIn, EndsIn-end}
+use Rattle.i_tree.proofs.SetLists.{EndsIn-end}
 use Rattle.i_tree.proofs.SetParts.{RanksFall-part, ranks_below}
+use Rattle.i_tree.specs.Ends.{EndsIn, StartsIn}
 use Rattle.i_tree.specs.Shape.{Shape, leaf, entries, part_at, left_at, right_at, rank, RanksFall, IsLive}
 use Rattle.i_tree.specs.declared.TheConstants.{EMPTY_REF}
 

@@ -9,17 +9,18 @@ use Rattle.std.specs.declared.cmp.Ordering.TheVariants.{Less, Equal, Greater}
 use Rattle.std.proofs.lemmas.List.{map-append}
 use Rattle.std.proofs.lemmas.List.Elements.{All-cons}
 use Rattle.std.proofs.lemmas.List.Kept.{AllPairs-cons}
-use Rattle.i_tree.proofs.SetLists.{All-behind, All-of_map, EndsIn, StartsIn, AllPairs-front, AllPairs-behind, AllPairs-across, AllPairs-append, All-from_end, All-from_start}
+use Rattle.i_tree.proofs.SetLists.{All-behind, All-of_map, AllPairs-front, AllPairs-behind, AllPairs-across, AllPairs-append, All-from_end, All-from_start}
 use Rattle.i_tree.proofs.SetSearch.{StartsIn-with, below_from_ordered, ordered_from_below}
+use Rattle.i_tree.specs.Ends.{EndsIn, StartsIn}
 use Rattle.i_tree.specs.Change.{Joins}
 use Rattle.i_tree.specs.Set.{values, IsOrdered, LacksKey}
-use Rattle.i_tree.specs.SetPlace.{IsPlaceOf, IsPlaceBetween}
+use Rattle.i_tree.specs.Place.{IsPlaceOf, IsPlaceBetween}
 use Rattle.i_tree.specs.Shape.{Shape, leaf, entries}
-use Rattle.i_tree.specs.declared.set.tree.Place.{Place}
-use Rattle.i_tree.specs.declared.set.tree.Place.TheVariants.{Root, Left, Right}
+use Rattle.i_tree.specs.declared.place.Place.{Place}
+use Rattle.i_tree.specs.declared.place.Place.TheVariants.{Root, Left, Right}
 
 module _ {K V : Type 0} (key_of : V → K) {cmp : K → K → Ordering} (o : IsTotalOrder cmp) where
-  above : (x y : K) → cmp x y ≢ Less → cmp x y ≢ Equal → cmp y x ≡ Less
+  pub above : (x y : K) → cmp x y ≢ Less → cmp x y ≢ Equal → cmp y x ≡ Less
   above x y not_less not_equal = turned (cmp x y) (cmp y x) (o.antisymm y x) not_less not_equal
     where
       turned : (r s : Ordering) → s ≡ ordering_reverse r → r ≢ Less → r ≢ Equal → s ≡ Less

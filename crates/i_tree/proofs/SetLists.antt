@@ -4,6 +4,7 @@ use Rattle.std.specs.List.{All, AllPairs, Any, Contains}
 use Rattle.std.proofs.lemmas.List.Elements.{All-nil, All-cons, All-head, All-tail, All-append}
 use Rattle.std.proofs.lemmas.List.Kept.{AllPairs-cons}
 use Rattle.i_tree.proofs.Lists.{AllPairs-head, AllPairs-tail, Contains-here, Contains-there}
+use Rattle.i_tree.specs.Ends.{EndsIn, StartsIn}
 
 module _ {X : Type 0} where
   module _ (P : X → Type 0) where
@@ -29,21 +30,15 @@ module _ {X : Type 0} where
     All-of_map {Y} f [] h = All-nil (λ y. P (f y))
     All-of_map {Y} f (y ∷ ys) h = All-cons (λ z. P (f z)) y ys (All-head P (f y) (map f ys) h) (All-of_map f ys (All-tail P (f y) (map f ys) h))
 
-    -- the last element, if there is one, meets P
-    abbrev pub EndsIn : List X → Type 0
-    EndsIn [] = Unit {0}
-    EndsIn (x ∷ []) = P x
-    EndsIn (x ∷ y ∷ ys) = EndsIn (y ∷ ys)
-
-    -- the first element, if there is one, meets P
-    abbrev pub StartsIn : List X → Type 0
-    StartsIn [] = Unit {0}
-    StartsIn (x ∷ xs) = P x
-
-    pub EndsIn-end : (xs : List X) (x : X) → P x → EndsIn (xs ++ x ∷ [])
+    pub EndsIn-end : (xs : List X) (x : X) → P x → EndsIn P (xs ++ x ∷ [])
     EndsIn-end [] x h = h
     EndsIn-end (y ∷ []) x h = h
     EndsIn-end (y ∷ z ∷ zs) x h = EndsIn-end (z ∷ zs) x h
+
+    pub EndsIn-last : (xs : List X) (x : X) → EndsIn P (xs ++ x ∷ []) → P x
+    EndsIn-last [] x h = h
+    EndsIn-last (y ∷ []) x h = h
+    EndsIn-last (y ∷ z ∷ zs) x h = EndsIn-last (z ∷ zs) x h
 
   pub Contains-behind : (xs ys : List X) (x : X) → Contains ys x → Contains (xs ++ ys) x
   Contains-behind [] ys x h = h
@@ -107,13 +102,13 @@ module _ {X : Type 0} where
         later [] h = All-nil P
         later (y ∷ ys) h = All-cons P y ys (up x y (All-head (R x) y ys h) starts) (later ys (All-tail (R x) y ys h))
 
-module _ {X Y : Type 0} (R : X → X → Type 0) (f : Y → X) where
-  All-to_map : (P : X → Type 0) (ys : List Y) → All (λ y. P (f y)) ys → All P (map f ys)
-  All-to_map P [] h = All-nil P
-  All-to_map P (y ∷ ys) h = All-cons P (f y) (map f ys) (All-head (λ z. P (f z)) y ys h) (All-to_map P ys (All-tail (λ z. P (f z)) y ys h))
+pub All-to_map : {X Y : Type 0} (P : X → Type 0) (f : Y → X) (ys : List Y) → All (λ y. P (f y)) ys → All P (map f ys)
+All-to_map P f [] h = All-nil P
+All-to_map P f (y ∷ ys) h = All-cons P (f y) (map f ys) (All-head (λ z. P (f z)) y ys h) (All-to_map P f ys (All-tail (λ z. P (f z)) y ys h))
 
+module _ {X Y : Type 0} (R : X → X → Type 0) (f : Y → X) where
   pub AllPairs-to_map : (ys : List Y) → AllPairs (λ y z. R (f y) (f z)) ys → AllPairs R (map f ys)
   AllPairs-to_map [] h = AllPairs-nil R
   AllPairs-to_map (y ∷ ys) h =
       let S : Y → Y → Type 0 = λ a b. R (f a) (f b) in
-      AllPairs-cons R (f y) (map f ys) (All-to_map (R (f y)) ys (AllPairs-head S y ys h)) (AllPairs-to_map ys (AllPairs-tail S y ys h))
+      AllPairs-cons R (f y) (map f ys) (All-to_map (R (f y)) f ys (AllPairs-head S y ys h)) (AllPairs-to_map ys (AllPairs-tail S y ys h))

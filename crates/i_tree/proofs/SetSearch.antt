@@ -8,7 +8,8 @@ use Rattle.std.specs.declared.cmp.Ordering.{Ordering}
 use Rattle.std.specs.declared.cmp.Ordering.TheVariants.{Less, Equal, Greater}
 use Rattle.std.proofs.lemmas.List.{map-append}
 use Rattle.std.proofs.lemmas.List.Elements.{All-nil, All-cons, All-head, All-tail, All-append, All-map, All-weaker}
-use Rattle.i_tree.proofs.SetLists.{Any-here, Any-behind, All-front, All-behind, All-of_map, EndsIn, StartsIn, Contains-middle, last_cut, AllPairs-front, AllPairs-behind, AllPairs-across, AllPairs-of_map, AllPairs-to_map, All-from_end, All-from_start}
+use Rattle.i_tree.proofs.SetLists.{Any-here, Any-behind, All-front, All-behind, All-of_map, Contains-middle, last_cut, AllPairs-front, AllPairs-behind, AllPairs-across, AllPairs-of_map, AllPairs-to_map, All-from_end, All-from_start}
+use Rattle.i_tree.specs.Ends.{EndsIn, StartsIn}
 use Rattle.i_tree.specs.Answer.{AnswersBy, IsMonotone}
 use Rattle.i_tree.specs.Set.{by_key, IsOrdered, IsFoundBy, TakesKeys}
 use Rattle.i_tree.specs.Shape.{last_handle}
@@ -29,12 +30,12 @@ last_handle-end [] last = refl
 last_handle-end (x ∷ []) last = refl
 last_handle-end (x ∷ y ∷ ys) last = last_handle-end (y ∷ ys) last
 
-to_less : (r : Ordering) → ordering_index r ≤ 0 → r ≡ Less
+pub to_less : (r : Ordering) → ordering_index r ≤ 0 → r ≡ Less
 to_less Less h = refl
 to_less Equal h = absurd (omega (arith, h))
 to_less Greater h = absurd (omega (arith, h))
 
-to_greater : (r : Ordering) → 2 ≤ ordering_index r → r ≡ Greater
+pub to_greater : (r : Ordering) → 2 ≤ ordering_index r → r ≡ Greater
 to_greater Less h = absurd (omega (arith, h))
 to_greater Equal h = absurd (omega (arith, h))
 to_greater Greater h = refl

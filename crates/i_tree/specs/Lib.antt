@@ -5,11 +5,16 @@ pub mod Change
 pub mod Clearing
 pub mod Compared
 pub mod Context
+pub mod Descent
+pub mod Ends
 pub mod Halving
+pub mod KeyDescent
 pub mod KeyExpList
+pub mod KeyExpTree
 pub mod Live
 pub mod Mending
 pub mod Pairs
+pub mod Place
 pub mod RbTree
 pub mod RbTreeLends
 pub mod Removal
@@ -20,7 +25,6 @@ pub mod SetList
 pub mod SetListLends
 pub mod SetListPairs
 pub mod SetPairs
-pub mod SetPlace
 pub mod Shape
 pub mod ShapeCode
 pub mod Slots

@@ -10,6 +10,7 @@ ghost use Rattle.i_tree.specs.declared.Refusal.TheVariants.{OutOfMemory};
 
 mod halving;
 pub mod key;
+mod place;
 pub mod rb;
 pub mod set;
 pub mod steps;

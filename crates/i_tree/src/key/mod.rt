@@ -4,3 +4,4 @@ pub mod exp;
 pub mod list;
 mod live;
 mod sorted;
+pub mod tree;

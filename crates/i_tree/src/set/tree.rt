@@ -8,11 +8,12 @@ ghost use Rattle.i_tree.specs.Compared.{ComparesWithin, OnlyCompares, RotatesWit
 ghost use Rattle.i_tree.specs.RbTree.{slots, slots_with_room};
 ghost use Rattle.i_tree.specs.Removal.{LosesAt};
 ghost use Rattle.i_tree.specs.Set.{by_key, IsOrdered, LacksKey, IsFoundBy, TakesKeys};
-ghost use Rattle.i_tree.specs.SetPlace.{IsPlaceBetween};
+ghost use Rattle.i_tree.specs.Place.{IsPlaceBetween};
 ghost use Rattle.i_tree.specs.Shape.{leaf, entries, occurs, IsCore, IsLive, last_handle};
 ghost use Rattle.i_tree.specs.Steps.{OnlyRotates};
 
 use super::sort::{KeyValue, SetCollection};
+use crate::place::{Place, insert_at};
 use crate::rb::RbTree;
 use crate::steps::Steps;
 use crate::{EMPTY_REF, Refusal, Refused};
@@ -38,14 +39,6 @@ impl<K, V, A: Allocator + Copy> Model for SetTree<K, V, A> {
     ghost coded = { contents_code V.code };
 
     ghost view = { λ set. set.core };
-}
-
-// Where a new value goes: into the empty tree, or on a side of a handle where there is no part.
-#[derive(Clone, Copy)]
-enum Place {
-    Root,
-    Left(u32),
-    Right(u32),
 }
 
 // Asks `f` once how the value's key stands, and counts that.
@@ -124,10 +117,8 @@ impl<K: Ord, V: KeyValue<K> + Drop, A: Allocator + Copy> SetTree<K, V, A> {
         ensures core { IsCore self.new.shape }
     {
         let place = self.place_of(steps, val.key());
-        match self.insert_at(steps, place, val) {
-            Ok(_) => Ok(()),
-            Err(refused) => Err(refused),
-        }
+        insert_at(&mut self.core, steps, place, val)?;
+        Ok(())
     }
 
     // Goes down the tree to the place of the key, which no value of the set has.
@@ -157,33 +148,6 @@ impl<K: Ord, V: KeyValue<K> + Drop, A: Allocator + Copy> SetTree<K, V, A> {
             }
         }
         place
-    }
-
-    // Puts the value at the place, and answers its handle.
-    fn insert_at<L: Ledger>(
-        &mut self,
-        steps: &mut Steps<L>,
-        place: Place,
-        val: V,
-    ) -> Result<u32, Refused<V>>
-        requires { (front : List (ℕ × V)) × (back : List (ℕ × V)) × IsPlaceBetween self.old.shape front back place }
-        ensures joins { IfOk result (λ handle. (front : List (ℕ × V)) (back : List (ℕ × V)) → IsPlaceBetween self.old.shape front back place → entries self.new.shape ≡ front ++ (handle, val) ∷ back) }
-        ensures fresh { IfOk result (λ handle. occurs handle self.old.shape ≡ 0) }
-        ensures slots { OnOk result (slots self.new ≡ slots_with_room self.old) }
-        ensures with_spare { 0 < self.old.spare → IsOk result }
-        ensures err { OnErr result (self.new ≡ self.old) }
-        ensures err_steps { OnErr result (steps.new ≡ steps.old) }
-        ensures handed { IfErr result (λ refused. refused.value ≡ val) }
-        ensures no_handle { self.old.spare ≡ 0 → slots self.old ≡ EMPTY_REF → IsErrAnd result (λ refused. refused.cause ≡ Refusal.NoHandle) }
-        ensures refused { slots self.old ≢ EMPTY_REF → IfErr result (λ refused. refused.cause ≡ Refusal.OutOfMemory) }
-        ensures steps { OnlyRotates steps.old steps.new 2 }
-        ensures core { IsCore self.new.shape }
-    {
-        match place {
-            Place::Root => self.core.insert_root(steps, val),
-            Place::Left(handle) => self.core.insert_left(steps, handle, val),
-            Place::Right(handle) => self.core.insert_right(steps, handle, val),
-        }
     }
 
     /// `first_index_less_by`, with its steps counted: each comparison is one call of `f`. The counts are our own.

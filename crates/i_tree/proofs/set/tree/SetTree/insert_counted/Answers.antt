@@ -1,11 +1,13 @@
 use Rattle.std.proofs.Common.{sym, subst}
 use Rattle.std.specs.List.{All}
 use Rattle.i_tree.proofs.SetInsertion.{IsLower, IsHigher, ordered_joined}
+use Rattle.i_tree.specs.Place.{IsPlaceBetween}
+use Rattle.i_tree.specs.RbTree.{Contents}
 use Rattle.i_tree.specs.Set.{IsOrdered}
 use Rattle.i_tree.proofs.set.tree.SetTree.insert_counted.Goals as goal
 
-pub returns-in-Ok-clause-in_order : goal.returns-in-Ok-clause-in_order
-returns-in-Ok-clause-in_order g c =
+pub returns-clause-in_order : goal.returns-clause-in_order
+returns-clause-in_order g c =
     let total = g.met.K.Ord.total in
     let key_of = g.V.KeyValue.key_of in
     let cmp = g.K.Ord.cmp in
@@ -13,4 +15,5 @@ returns-in-Ok-clause-in_order g c =
     let lows = subst (λ key. All (IsLower key_of total key) found.0) c.key.ensures found.3 in
     let highs = subst (λ key. All (IsHigher key_of total key) found.1) c.key.ensures found.4 in
     let before = subst (IsOrdered key_of cmp) found.2.cut c.requires.in_order in
-    subst (IsOrdered key_of cmp) (sym (c.in-Ok.ensures.joins found.0 found.1 found.2)) (ordered_joined key_of total found.0 c.in-Ok.field-0 c.args.val found.1 before lows highs)
+    let between = subst (λ (contents : Contents g.row.V.Denot). IsPlaceBetween contents.shape found.0 found.1 c.place_of-place.result) (sym c.self.view_is) found.2 in
+    subst (IsOrdered key_of cmp) (sym (c.in_ok-insert_at.ensures.joins found.0 found.1 between)) (ordered_joined key_of total found.0 c.in_ok-insert_at.field-0 c.args.val found.1 before lows highs)

@@ -4,7 +4,7 @@ use Rattle.i_tree.proofs.SetDescent.{IsCutAt-top, cut_at_end, goes_left, goes_ri
 use Rattle.i_tree.proofs.Contexts.{part_at-none}
 use Rattle.i_tree.specs.RbTree.{Contents}
 use Rattle.i_tree.proofs.SetInsertion.{place_between}
-use Rattle.i_tree.specs.SetPlace.{IsPlaceOf}
+use Rattle.i_tree.specs.Place.{IsPlaceOf}
 use Rattle.i_tree.specs.Shape.{Shape, leaf, entries, rank, left_at, right_at, occurs}
 use Rattle.i_tree.proofs.set.tree.SetTree.place_of.Goals as goal
 

@@ -2,7 +2,7 @@ use Rattle.std.proofs.Common.{◌≡◌, ◌≢◌, ◌≤◌, ◌+◌, ℕ, Lis
 use Rattle.std.specs.declared.cmp.Ordering.TheVariants.{Less}
 use Rattle.i_tree.proofs.SetDescent.{IsCutAt}
 use Rattle.i_tree.specs.Compared.{OnlyCompares}
-use Rattle.i_tree.specs.SetPlace.{IsPlaceOf}
+use Rattle.i_tree.specs.Place.{IsPlaceOf}
 use Rattle.i_tree.specs.Shape.{rank, part_at}
 use Rattle.i_tree.proofs.set.tree.SetTree.place_of.Given as goal
 

@@ -1,10 +1,22 @@
--- A place in a set's tree where a new pair goes. For the private contracts of the set.
-use Rattle.std.specs.Prelude.{◌≡◌, ℕ, List, [], ◌∷◌, ◌++◌}
+-- Places of a tree where a part hangs, and where a new pair goes. For the private contracts of both trees.
+use Rattle.std.specs.Prelude.{⊤, ◌≡◌, ℕ, List, [], ◌∷◌, ◌++◌}
 use Rattle.i_tree.specs.Shape.{Shape, leaf, entries, IsLive, left_at, right_at}
-use Rattle.i_tree.specs.declared.set.tree.Place.{Place}
-use Rattle.i_tree.specs.declared.set.tree.Place.TheVariants.{Root, Left, Right}
+use Rattle.i_tree.specs.declared.place.Place.{Place}
+use Rattle.i_tree.specs.declared.place.Place.TheVariants.{Root, Left, Right}
 
 module _ {V : Type 0} where
+  -- the place is that of the root, or below a live handle
+  abbrev pub IsPlace : Shape V → Place → Type 0
+  IsPlace tree Root = ⊤
+  IsPlace tree (Left handle) = IsLive tree handle
+  IsPlace tree (Right handle) = IsLive tree handle
+
+  -- the part at the place
+  abbrev pub part_of : Place → Shape V → Shape V
+  part_of Root tree = tree
+  part_of (Left handle) tree = left_at handle tree
+  part_of (Right handle) tree = right_at handle tree
+
   -- the place is that of a part of the tree, where the pairs in front of the part and those behind it are these
   abbrev pub IsPlaceOf : Shape V → Shape V → List (ℕ × V) → List (ℕ × V) → Place → Type 0
   IsPlaceOf tree part front back Root = (tree ≡ part) × (front ≡ []) × (back ≡ [])

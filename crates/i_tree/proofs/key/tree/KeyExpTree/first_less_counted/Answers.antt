@@ -1,0 +1,24 @@
+use Rattle.std.proofs.Common.{◌≡◌, subst}
+use Rattle.std.specs.declared.cmp.Ordering.TheVariants.{Less}
+use Rattle.std.specs.Option.{unwrap_or}
+use Rattle.i_tree.proofs.Withouts.{AllPairs-without}
+use Rattle.i_tree.proofs.KeySearch.{answer_below}
+use Rattle.i_tree.specs.Answer.{Below}
+use Rattle.i_tree.specs.KeyExpTree.{items}
+use Rattle.i_tree.specs.Live.{is_live, live_pairs}
+use Rattle.i_tree.specs.RbTree.{Contents}
+use Rattle.i_tree.proofs.key.tree.KeyExpTree.first_less_counted.Goals as goal
+
+pub returns-clause-value : goal.returns-clause-value
+returns-clause-value g c =
+    rw c.unwrap_or.ensures
+    (subst (λ (contents : Contents (g.row.K.Denot × g.row.V.Denot)). Below g.K.Ord.cmp (live_pairs g.K.ExpiredKey.expiration g.E.Ord.cmp c.args.time (items contents.shape)) c.args.key c.args.default (unwrap_or c.descend_to.result.value c.args.default))
+    c.self.view_is
+    (answer_below g.met.K.Ord.total c.args.key (is_live g.K.ExpiredKey.expiration g.E.Ord.cmp c.args.time) (items c.self.inside.core.shape) c.descend_to.new.core.shape c.descend_to.result.place c.descend_to.result.value c.args.default
+    c.descend_to.ensures.end c.self.invariant c.descend_to.ensures.kept))
+
+pub invariant_of-self : goal.invariant_of-self
+invariant_of-self g c = AllPairs-without (λ (earlier : g.row.K.Denot × g.row.V.Denot) later. g.K.Ord.cmp earlier.0 later.0 ≡ Less) c.descend_to.ensures.kept c.self.invariant
+
+pub returns-clause-rising : goal.returns-clause-rising
+returns-clause-rising g c = AllPairs-without (λ (earlier : g.row.K.Denot × g.row.V.Denot) later. g.K.Ord.cmp earlier.0 later.0 ≡ Less) c.descend_to.ensures.kept c.self.invariant

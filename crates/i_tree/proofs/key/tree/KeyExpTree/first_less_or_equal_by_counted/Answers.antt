@@ -1,0 +1,25 @@
+use Rattle.std.proofs.Common.{◌≡◌, subst}
+use Rattle.std.specs.declared.cmp.Ordering.TheVariants.{Less}
+use Rattle.std.specs.Option.{unwrap_or}
+use Rattle.i_tree.proofs.Withouts.{AllPairs-without}
+use Rattle.i_tree.proofs.KeySearch.{answer_at_most}
+use Rattle.i_tree.specs.Answer.{AtMost, AnswersBy, IsMonotone}
+use Rattle.i_tree.specs.KeyExpTree.{items}
+use Rattle.i_tree.specs.Live.{is_live, live_pairs}
+use Rattle.i_tree.specs.RbTree.{Contents}
+use Rattle.i_tree.proofs.key.tree.KeyExpTree.first_less_or_equal_by_counted.Goals as goal
+
+pub returns-clause-value : goal.returns-clause-value
+returns-clause-value g c order =
+    let live = live_pairs g.K.ExpiredKey.expiration g.E.Ord.cmp {V = g.row.V.Denot} c.args.time in
+    rw c.unwrap_or.ensures
+    (subst (λ (contents : Contents (g.row.K.Denot × g.row.V.Denot)). AnswersBy (goal.F-post g c.args.f) order (live (items contents.shape)) → IsMonotone g.K.Ord.cmp order (live (items contents.shape)) → AtMost g.K.Ord.cmp (live (items contents.shape)) order c.args.default (unwrap_or c.descend.result.value c.args.default))
+    c.self.view_is
+    (answer_at_most g.met.K.Ord.total (goal.F-post g c.args.f) (is_live g.K.ExpiredKey.expiration g.E.Ord.cmp c.args.time) (items c.self.inside.core.shape) c.descend.new.core.shape c.descend.result.place c.descend.result.value c.args.default
+    c.descend.ensures.end c.self.invariant c.descend.ensures.kept order))
+
+pub invariant_of-self : goal.invariant_of-self
+invariant_of-self g c = AllPairs-without (λ (earlier : g.row.K.Denot × g.row.V.Denot) later. g.K.Ord.cmp earlier.0 later.0 ≡ Less) c.descend.ensures.kept c.self.invariant
+
+pub returns-clause-rising : goal.returns-clause-rising
+returns-clause-rising g c = AllPairs-without (λ (earlier : g.row.K.Denot × g.row.V.Denot) later. g.K.Ord.cmp earlier.0 later.0 ≡ Less) c.descend.ensures.kept c.self.invariant

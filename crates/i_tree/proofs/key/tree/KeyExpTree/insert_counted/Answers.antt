@@ -1,0 +1,61 @@
+use Rattle.std.proofs.Common.{◌≡◌, ℕ, length, sym, subst}
+use Rattle.std.specs.declared.cmp.Ordering.TheVariants.{Less}
+use Rattle.std.proofs.lemmas.List.{length-map}
+use Rattle.i_tree.proofs.KeyInsertion.{gains_key, rising_with_key, one_more, slots_joined, counted_join}
+use Rattle.i_tree.proofs.Withouts.{AllPairs-without}
+use Rattle.i_tree.specs.Change.{Gains}
+use Rattle.i_tree.specs.Descent.{Descends}
+use Rattle.i_tree.specs.KeyExpTree.{items, slots_for}
+use Rattle.i_tree.specs.Live.{is_live, live_pairs, IsExpired}
+use Rattle.i_tree.specs.Pairs.{IsRising, NoKey}
+use Rattle.i_tree.specs.RbTree.{Contents, slots}
+use Rattle.i_tree.specs.Shape.{entries}
+use Rattle.i_tree.proofs.key.tree.KeyExpTree.insert_counted.Goals as goal
+
+-- nothing has joined
+pub invariant_of-self : goal.invariant_of-self
+invariant_of-self g c =
+    subst (λ (contents : Contents (g.row.K.Denot × g.row.V.Denot)). IsRising g.K.Ord.cmp (items contents.shape)) (sym (c.in-Err.ensures).err)
+    (AllPairs-without (λ (earlier : g.row.K.Denot × g.row.V.Denot) later. g.K.Ord.cmp earlier.0 later.0 ≡ Less) c.descend_to-end.ensures.kept c.self.invariant)
+
+pub returns-clause-slots : goal.returns-clause-slots
+returns-clause-slots g c =
+    let end = c.descend_to-end.ensures.end in
+    let joins = (c.in_default.ensures).joins end.front end.back end.between in
+    let more = one_more g.met.K.Ord.total c.args.key c.args.val (is_live g.K.ExpiredKey.expiration g.E.Ord.cmp c.args.time) (items c.self.inside.core.shape) c.descend_to-end.new.core.shape c.insert_at.new.core.shape c.descend_to-end.result.place c.descend_to-end.result.value c.in_default.field-0
+    end c.descend_to-end.ensures.kept joins in
+    subst (λ (contents : Contents (g.row.K.Denot × g.row.V.Denot)). slots c.insert_at.new.core ≡ slots_for contents (length (items c.insert_at.new.core.shape))) c.self.view_is
+    (slots_joined c.self.inside.core c.descend_to-end.new.core c.insert_at.new.core c.descend_to-end.ensures.slots (c.in_default.ensures).slots more)
+
+pub returns-clause-steps : goal.returns-clause-steps
+returns-clause-steps g c =
+    let end = c.descend_to-end.ensures.end in
+    let joins = (c.in_default.ensures).joins end.front end.back end.between in
+    let more = one_more g.met.K.Ord.total c.args.key c.args.val (is_live g.K.ExpiredKey.expiration g.E.Ord.cmp c.args.time) (items c.self.inside.core.shape) c.descend_to-end.new.core.shape c.insert_at.new.core.shape c.descend_to-end.result.place c.descend_to-end.result.value c.in_default.field-0
+    end c.descend_to-end.ensures.kept joins in
+    let steps = counted_join c.args.steps.now c.descend_to-end.new.steps c.insert_at.new.steps (length (entries c.self.inside.core.shape)) (length (entries c.descend_to-end.new.core.shape)) (length (entries c.insert_at.new.core.shape)) c.descend_to-end.ensures.steps (c.in_default.ensures).steps more in
+    subst (λ (contents : Contents (g.row.K.Denot × g.row.V.Denot)). Descends c.args.steps.now c.insert_at.new.steps (length (items contents.shape)) (length (items c.insert_at.new.core.shape)) 1) c.self.view_is
+    (rw (length-map (entries c.self.inside.core.shape) (λ (entry : ℕ × (g.row.K.Denot × g.row.V.Denot)). entry.1), length-map (entries c.insert_at.new.core.shape) (λ (entry : ℕ × (g.row.K.Denot × g.row.V.Denot)). entry.1)) steps)
+
+pub returns-clause-ok : goal.returns-clause-ok
+returns-clause-ok g c =
+    let end = c.descend_to-end.ensures.end in
+    let joins = (c.in_default.ensures).joins end.front end.back end.between in
+    subst (λ (contents : Contents (g.row.K.Denot × g.row.V.Denot)). Gains (IsExpired g.K.ExpiredKey.expiration g.E.Ord.cmp c.args.time) (c.args.key, c.args.val) (items contents.shape) (items c.insert_at.new.core.shape)) c.self.view_is
+    (gains_key g.met.K.Ord.total c.args.key c.args.val (is_live g.K.ExpiredKey.expiration g.E.Ord.cmp c.args.time) (items c.self.inside.core.shape) c.descend_to-end.new.core.shape c.insert_at.new.core.shape c.descend_to-end.result.place c.descend_to-end.result.value c.in_default.field-0
+    end c.descend_to-end.ensures.kept joins)
+
+-- the key has its place among those that rise
+rising : (g : _) (c : goal.In_default g) → IsRising g.K.Ord.cmp (items c.insert_at.new.core.shape)
+rising g c =
+    let end = c.descend_to-end.ensures.end in
+    let joins = (c.in_default.ensures).joins end.front end.back end.between in
+    let absent = subst (λ (contents : Contents (g.row.K.Denot × g.row.V.Denot)). NoKey g.K.Ord.cmp (live_pairs g.K.ExpiredKey.expiration g.E.Ord.cmp c.args.time (items contents.shape)) c.args.key) (sym c.self.view_is) c.requires in
+    rising_with_key g.met.K.Ord.total c.args.key c.args.val (is_live g.K.ExpiredKey.expiration g.E.Ord.cmp c.args.time) (items c.self.inside.core.shape) c.descend_to-end.new.core.shape c.insert_at.new.core.shape c.descend_to-end.result.place c.descend_to-end.result.value c.in_default.field-0
+    end c.descend_to-end.ensures.kept joins c.self.invariant absent
+
+pub invariant_of-self-2 : goal.invariant_of-self-2
+invariant_of-self-2 g c = rising g c
+
+pub returns-clause-rising : goal.returns-clause-rising
+returns-clause-rising g c = rising g c
