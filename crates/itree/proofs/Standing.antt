@@ -29,7 +29,7 @@ Without-parts {MayGo = MayGo} (loses {before = before} {after = after} x goes re
 
 module _ {K E V : Type 0} (expiration : K → E) {cmp : E → E → Ordering} (o : IsTotalOrder cmp) where
   -- what is expired stays expired
-  IsExpired-later : (last time : E) (pair : K × V) → is_lt (cmp time last) ≡ false → IsExpired expiration cmp last pair → IsExpired expiration cmp time pair
+  pub IsExpired-later : (last time : E) (pair : K × V) → is_lt (cmp time last) ≡ false → IsExpired expiration cmp last pair → IsExpired expiration cmp time pair
   IsExpired-later last time pair not_late expired =
       upto o (expiration pair.0) last time expired (subst (λ r. is_gt r ≡ false) (sym (o.antisymm last time)) (turned (cmp time last) not_late))
     where

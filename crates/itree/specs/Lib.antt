@@ -1,3 +1,4 @@
+pub mod Agreeing
 pub mod Grammar
 pub mod KeyLines
 pub mod KeyMachine
