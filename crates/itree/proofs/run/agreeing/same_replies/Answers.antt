@@ -1,4 +1,4 @@
-use Rattle.std.proofs.Common.{rules, ◌≡◌, ◌∙◌, refl, true}
+use Rattle.std.proofs.Common.{rules, ◌≡◌, ◌∙◌, refl, true, arith}
 use Rattle.itree.proofs.Agreeing.{replies_themselves, runs_agree_from_nothing, length-run}
 use Rattle.itree.proofs.run.agreeing.same_replies.Goals as goal
 
@@ -11,4 +11,5 @@ returns-then-first-commands-clause-agree g c order each end end' run run' taken 
 
 pub returns-else-first-commands-clause-agree : goal.returns-else-first-commands-clause-agree
 returns-else-first-commands-clause-agree g c order each end end' run run' taken taken' =
-    absurd (c.if-first-commands.false (length-run g.K.ExpiredKey.expiration g.met.E.Ord.total g.met.K.Ord.total order _ end c.args.commands.now c.args.first.now run))
+    let long = length-run g.K.ExpiredKey.expiration g.met.E.Ord.total g.met.K.Ord.total order _ end c.args.commands.now c.args.first.now run in
+    absurd (omega (arith, long, c.if-first-commands.false))
