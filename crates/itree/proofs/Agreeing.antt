@@ -23,7 +23,7 @@ use Rattle.itree.specs.declared.run.keys.KeyReply.TheVariants.{Inserted, Present
 use Rattle.itree.proofs.Members.{Within, All-within, Contains-from_filter}
 use Rattle.itree.proofs.Standing.{IsExpired-later}
 
--- where each element stands in the relation to all later ones, two members of which neither stands in it to the other are one
+-- where each element stands in R to all later ones, two members are one if neither stands in R to the other
 same_member : {X : Type 0} (R : X → X → Type 0) (xs : List X) → AllPairs R xs → (x y : X) → Contains xs x → Contains xs y → ¬ (R x y) → ¬ (R y x) → x ≡ y
 same_member R [] pairs x y (k, inside, is) here not_before not_after = absurd (omega arith)
 same_member R (z ∷ zs) pairs x y (zero, inside, is) (zero, inside', is') not_before not_after = sym is ∙ is'
@@ -234,7 +234,7 @@ module _ {K E V : Type 0} (expiration : K → E) {cmp_time : E → E → Orderin
         let more = runs_agree middle end end' cs rs ss apart' (each r middle step taken_first) rest from_middle (All-tail Taken r rs taken) (All-tail Taken s ss taken') in
         λ i. same i ∷ more i
 
-    -- from nothing, where no two keys are accepted yet
+    -- from nothing, where no key is accepted yet
     pub runs_agree_from_nothing : (end end' : State K E V) (commands : List (KeyCommand K E V P)) (first second : List (KeyReply V)) → OneEqualEach expiration cmp_time cmp_key order (beginning []) commands
         → Run expiration cmp_time cmp_key order (beginning []) commands first end → Run expiration cmp_time cmp_key order (beginning []) commands second end'
         → NoneRefused first → NoneRefused second → first ≡ second
