@@ -1,4 +1,5 @@
 pub mod Agreeing
+pub mod Counted
 pub mod Counting
 pub mod Knowing
 pub mod Members

@@ -10,6 +10,7 @@ use Rattle.i_tree.specs.Change.{Without, Gains}
 use Rattle.i_tree.specs.Live.{live_pairs, IsExpired}
 use Rattle.i_tree.specs.Pairs.{HasKey, NoKey}
 use Rattle.itree.specs.KeyMachine.{State, is_late, Step, Run, Serves, Inserts}
+use Rattle.itree.specs.Serving.{DoesAll, IsReplyTo, RepliesTo}
 use Rattle.itree.specs.StandsFor.{StandsFor}
 use Rattle.itree.specs.declared.run.keys.KeyCommand.{KeyCommand}
 use Rattle.itree.specs.declared.run.keys.KeyCommand.TheVariants.{Insert, Less, LessOrEqualBy}
@@ -84,3 +85,19 @@ module _ {K E V P : Type 0} (expiration : K → E) {cmp_time : E → E → Order
   Run-push old middle new (c ∷ cs) [] command reply run step = absurd run
   Run-push old middle new (c ∷ cs) (r ∷ rs) command reply (between, first, rest) step =
       (between, first, Run-push between middle new cs rs command reply rest step)
+
+-- one more reply to one more command
+pub RepliesTo-push : {K E V P : Type 0} (commands : List (KeyCommand K E V P)) (replies : List (KeyReply V)) (command : KeyCommand K E V P) (reply : KeyReply V)
+    → RepliesTo commands replies → IsReplyTo command reply → RepliesTo (commands ++ command ∷ []) (replies ++ reply ∷ [])
+RepliesTo-push [] [] command reply each last = (last, tt)
+RepliesTo-push [] (r ∷ rs) command reply each last = absurd each
+RepliesTo-push (c ∷ cs) [] command reply each last = absurd each
+RepliesTo-push (c ∷ cs) (r ∷ rs) command reply each last = (each.0, RepliesTo-push cs rs command reply each.1 last)
+
+-- one more reply, and what it does
+pub DoesAll-push : {S C V : Type 0} (does : KeyReply V → S → C → S → C → Type 0) (replies : List (KeyReply V)) (reply : KeyReply V) (calls : S) (c : C) (calls' : S) (c' : C) (calls'' : S) (c'' : C)
+    → DoesAll does replies calls c calls' c' → does reply calls' c' calls'' c'' → DoesAll does (replies ++ reply ∷ []) calls c calls'' c''
+DoesAll-push {S} {C} does [] reply calls c calls' c' calls'' c'' done last =
+    (calls'', c'', subst (λ (between : S). does reply between c calls'' c'') done.0 (subst (λ (between : C). does reply calls' between calls'' c'') done.1 last), (refl, refl))
+DoesAll-push does (r ∷ rs) reply calls c calls' c' calls'' c'' (between, c-between, first, rest) last =
+    (between, c-between, first, DoesAll-push does rs reply between c-between calls' c' calls'' c'' rest last)

@@ -2,15 +2,19 @@
 
 ghost use Rattle.std.specs.Prelude.{◌≡◌, ◌≤◌, ◌+◌, ◌++◌, true, false, Option, List, All, Contains, length, vec_len, vec_capacity, IsOk, OnOk, OnErr, IfErr, MatchBool};
 ghost use Rattle.std.specs.declared.cmp.Ordering.{Ordering};
-ghost use Rattle.itree.specs.KeyMachine.{State, beginning, is_late, Run, Serves, Inserts};
+ghost use Rattle.itree.specs.KeyMachine.{State, beginning, is_late, Run, Serves};
+ghost use Rattle.itree.specs.Serving.{DoesAll, IsReplyTo, RepliesTo};
 ghost use Rattle.itree.specs.Probes.{CanProbe, CanProbeAll, ProbesBy, ProbesAllBy, known_after};
 ghost use Rattle.itree.specs.StandsFor.{StandsFor};
 
+pub use calls::KeyCalls;
+use calls::Plainly;
 use i_tree::key::exp::KeyExpCollection;
 use i_tree::{Expiration, ExpiredKey, Refusal};
 use std::alloc::Allocator;
 use std::cmp::Ordering;
 
+mod calls;
 #[cfg(test)]
 mod tests;
 
@@ -79,17 +83,51 @@ where
     ensures err { OnErr result ((c.new ≡ c.old) × (out.new.items ≡ out.old.items)) }
     ensures with_room { vec_len out.old + length commands.now ≤ vec_capacity out.old → IsOk result }
 {
+    run_by(&mut Plainly, c, commands, probe, out)
+}
+
+// Runs the commands by these calls, and appends one reply for each to `out`.
+pub fn run_by<K, E, V, P, C, S, G, B>(
+    calls: &mut S,
+    c: &mut C,
+    commands: &[KeyCommand<K, E, V, P>],
+    probe: G,
+    out: &mut Vec<KeyReply<V>, B>,
+) -> Result<(), Refusal>
+where
+    K: ExpiredKey<E>,
+    E: Expiration,
+    V: Copy,
+    P: Copy,
+    C: KeyExpCollection<K, E, V>,
+    S: KeyCalls<K, E, V, C>,
+    G: Fn(P, K) -> Ordering,
+    B: Allocator,
+    requires { CanProbeAll K.expiration E.cmp (G.pre probe) (C.stored c.old) commands.now }
+    ensures run { OnOk result (
+        (replies : List (KeyReply V)) × (out.new.items ≡ out.old.items ++ replies)
+        × RepliesTo commands.now replies
+        × DoesAll S.does replies calls.old c.old calls.new c.new
+        × ((order : P → K → Ordering) → ProbesAllBy K.expiration E.cmp K.cmp (G.post probe) order (C.stored c.old) commands.now
+        → (end : State K E V)
+        × Run K.expiration E.cmp K.cmp order (beginning (C.stored c.old)) commands.now replies end
+        × StandsFor K.expiration E.cmp (C.stored c.new) end.accepted end.last)) }
+    ensures refused { IfErr result (λ cause. cause ≡ Refusal.OutOfMemory) }
+    ensures err { OnErr result ((calls.new ≡ calls.old) × (c.new ≡ c.old) × (out.new.items ≡ out.old.items)) }
+    ensures with_room { vec_len out.old + length commands.now ≤ vec_capacity out.old → IsOk result }
+{
     out.reserve(commands.len())?;
     let mut last = None;
     for command in commands {
-        let reply = serve(c, *command, &probe, &mut last);
+        let reply = serve(calls, c, *command, &probe, &mut last);
         out.push_reserved(reply);
     }
     Ok(())
 }
 
 // Serves one command, and moves the last time on.
-fn serve<K, E, V, P, C, G>(
+fn serve<K, E, V, P, C, S, G>(
+    calls: &mut S,
     c: &mut C,
     command: KeyCommand<K, E, V, P>,
     probe: &G,
@@ -101,24 +139,27 @@ where
     V: Copy,
     P: Copy,
     C: KeyExpCollection<K, E, V>,
+    S: KeyCalls<K, E, V, C>,
     G: Fn(P, K) -> Ordering,
     requires { CanProbe K.expiration E.cmp (G.pre probe.now) command (C.stored c.old) }
     ensures steps { (order : P → K → Ordering) → ProbesBy K.expiration E.cmp K.cmp (G.post probe.now) order command (C.stored c.old)
         → Serves K.expiration E.cmp K.cmp order (C.stored c.old) last.old command result (C.stored c.new) last.new }
     ensures known { All (Contains (known_after command (C.stored c.old))) (C.stored c.new) }
+    ensures does { S.does result calls.old c.old calls.new c.new }
+    ensures replies { IsReplyTo command result }
 {
     match command {
         KeyCommand::Insert { key, val, time } => {
             if !advance(last, time) {
                 return KeyReply::Late;
             }
-            insert(c, key, val, time)
+            calls.insert(c, key, val, time)
         }
         KeyCommand::Less { time, default, key } => {
             if !advance(last, time) {
                 return KeyReply::Late;
             }
-            KeyReply::Value(c.first_less(time, default, key))
+            KeyReply::Value(calls.first_less(c, time, default, key))
         }
         KeyCommand::LessOrEqualBy {
             time,
@@ -132,10 +173,10 @@ where
                 requires { G.pre probe.now sought key }
                 ensures { G.post probe.entry.now sought key result }
             { probe(sought, key) };
-            KeyReply::Value(c.first_less_or_equal_by(time, default, asked))
+            KeyReply::Value(calls.first_less_or_equal_by(c, time, default, asked))
         }
         KeyCommand::Clear => {
-            c.clear();
+            calls.clear(c);
             *last = None;
             KeyReply::Cleared
         }
@@ -153,22 +194,4 @@ fn advance<E: Expiration>(last: &mut Option<E>, time: E) -> bool
     }
     *last = Some(time);
     true
-}
-
-// Inserts the pair, unless a live key compares Equal.
-fn insert<K, E, V, C>(c: &mut C, key: K, val: V, time: E) -> KeyReply<V>
-where
-    K: ExpiredKey<E>,
-    E: Expiration,
-    V: Copy,
-    C: KeyExpCollection<K, E, V>,
-    ensures { Inserts K.expiration E.cmp K.cmp time key val (C.stored c.old) result (C.stored c.new) }
-{
-    if c.contains_key(time, key) {
-        return KeyReply::Present;
-    }
-    match c.insert(key, val, time) {
-        Ok(()) => KeyReply::Inserted,
-        Err(cause) => KeyReply::Refused(cause),
-    }
 }

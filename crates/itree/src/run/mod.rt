@@ -1,9 +1,11 @@
 //! Runs of commands over a collection.
 
 mod agreeing;
+mod key_tree;
 mod keys;
 mod sets;
 
 pub use agreeing::same_replies;
+pub use key_tree::run_key_tree_counted;
 pub use keys::{KeyCommand, KeyReply, run_keys};
 pub use sets::{SetCommand, SetReply, run_sets};

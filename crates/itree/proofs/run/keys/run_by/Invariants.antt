@@ -2,11 +2,12 @@ use Rattle.std.proofs.Common.{◌≡◌, ◌≤◌, ◌+◌, ◌++◌, Ordering,
 use Rattle.itree.specs.declared.run.keys.KeyReply.{KeyReply}
 use Rattle.itree.specs.KeyMachine.{beginning, Run}
 use Rattle.itree.specs.Probes.{CanProbeAll, ProbesAllBy}
+use Rattle.itree.specs.Serving.{DoesAll, RepliesTo}
 use Rattle.itree.specs.StandsFor.{StandsFor}
 use Rattle.itree.proofs.Members.{Within}
-use Rattle.itree.proofs.run.keys.run_keys.Given as goal
+use Rattle.itree.proofs.run.keys.run_by.Given as goal
 
--- There is room for the replies to come. What is stored is among the known pairs, at which the probes to come may be
+-- There is room for the replies to come, and those so far reply to the commands so far. What is stored is among the known pairs, at which the probes to come may be
 -- called; and by each order by which they answer, the replies so far are a run over the commands so far.
 abbrev pub invariant-loop-command : goal.invariant-loop-command
 invariant-loop-command g l =
@@ -20,6 +21,8 @@ invariant-loop-command g l =
           (replies : List (KeyReply g.row.V.Denot))
           × (known : List (g.row.K.Denot × g.row.V.Denot))
           × (l.out.items ≡ l.fn.out.items ++ replies)
+          × RepliesTo (take l.command-index l.commands) replies
+          × DoesAll g.S.KeyCalls.does replies l.fn.calls l.fn.c l.calls l.c
           × Within (stored l.c) known
           × CanProbeAll expiration cmp_time (goal.G-pre g l.probe) known (drop l.command-index l.commands)
           × ((order : g.row.P.Denot → g.row.K.Denot → Ordering)
