@@ -23,7 +23,7 @@ use Rattle.itree.specs.declared.run.keys.KeyReply.TheVariants.{Inserted, Present
 use Rattle.itree.proofs.Members.{Within, All-within, Contains-from_filter}
 use Rattle.itree.proofs.Standing.{IsExpired-later}
 
--- where each element stands in R to all later ones, two members are one if neither stands in R to the other
+-- where each element stands in the relation to all later ones, two members of which neither stands in it to the other are one
 same_member : {X : Type 0} (R : X → X → Type 0) (xs : List X) → AllPairs R xs → (x y : X) → Contains xs x → Contains xs y → ¬ (R x y) → ¬ (R y x) → x ≡ y
 same_member R [] pairs x y (k, inside, is) here not_before not_after = absurd (omega arith)
 same_member R (z ∷ zs) pairs x y (zero, inside, is) (zero, inside', is') not_before not_after = sym is ∙ is'
@@ -234,7 +234,7 @@ module _ {K E V : Type 0} (expiration : K → E) {cmp_time : E → E → Orderin
         let more = runs_agree middle end end' cs rs ss apart' (each r middle step taken_first) rest from_middle (All-tail Taken r rs taken) (All-tail Taken s ss taken') in
         λ i. same i ∷ more i
 
-    -- from nothing, where no key is accepted yet
+    -- from nothing, where no two keys are accepted yet
     pub runs_agree_from_nothing : (end end' : State K E V) (commands : List (KeyCommand K E V P)) (first second : List (KeyReply V)) → OneEqualEach expiration cmp_time cmp_key order (beginning []) commands
         → Run expiration cmp_time cmp_key order (beginning []) commands first end → Run expiration cmp_time cmp_key order (beginning []) commands second end'
         → NoneRefused first → NoneRefused second → first ≡ second
@@ -247,3 +247,14 @@ module _ {K E V : Type 0} (expiration : K → E) {cmp_time : E → E → Orderin
     length-run old end [] (r ∷ rs) run = absurd run
     length-run old end (c ∷ cs) [] run = absurd run
     length-run old end (c ∷ cs) (r ∷ rs) (middle, step, rest) = ap suc (length-run middle end cs rs rest)
+
+-- a probe whose Equal keys compare Equal asks for one
+pub OneEqualEach-always : {K E V P : Type 0} (expiration : K → E) (cmp_time : E → E → Ordering) (cmp_key : K → K → Ordering) (order : P → K → Ordering)
+    → ((probe : P) (one other : K) → order probe one ≡ ordering.Equal → order probe other ≡ ordering.Equal → cmp_key one other ≡ ordering.Equal)
+    → (old : State K E V) (commands : List (KeyCommand K E V P)) → OneEqualEach expiration cmp_time cmp_key order old commands
+OneEqualEach-always expiration cmp_time cmp_key order alike old [] = tt
+OneEqualEach-always expiration cmp_time cmp_key order alike old (Insert key val time ∷ commands) = (tt, λ reply new step taken. OneEqualEach-always expiration cmp_time cmp_key order alike new commands)
+OneEqualEach-always expiration cmp_time cmp_key order alike old (Less time default key ∷ commands) = (tt, λ reply new step taken. OneEqualEach-always expiration cmp_time cmp_key order alike new commands)
+OneEqualEach-always expiration cmp_time cmp_key order alike old (LessOrEqualBy time default probe ∷ commands) =
+    ((λ not_late i j d below inside. alike probe _ _), λ reply new step taken. OneEqualEach-always expiration cmp_time cmp_key order alike new commands)
+OneEqualEach-always expiration cmp_time cmp_key order alike old (Clear ∷ commands) = (tt, λ reply new step taken. OneEqualEach-always expiration cmp_time cmp_key order alike new commands)

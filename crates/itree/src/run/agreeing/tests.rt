@@ -1,12 +1,77 @@
 //! Tests of the comparison of replies.
 
+ghost use Rattle.std.specs.Prelude.{◌≡◌, [], IfOk, IsTrue, List, ℤ};
+ghost use Rattle.std.specs.Ordering.{int_cmp};
+ghost use Rattle.itree.specs.Agreeing.{NoneRefused};
+ghost use Rattle.itree.specs.KeyMachine.{State, beginning, Run};
+ghost use Rattle.itree.specs.Texts.{cmp_keys, cmp_sought};
+ghost use Rattle.itree.specs.declared.run.keys.KeyReply.{KeyReply};
+ghost use Rattle.itree.specs.declared.timed_key.TimedKey.{TimedKey};
+
 use super::*;
+use crate::run::run_keys;
 use crate::timed_key::TimedKey;
 use i_tree::Refusal;
+use i_tree::key::exp::KeyExpCollection;
+use i_tree::key::list::KeyExpList;
+use refusing::Refusing;
+use std::alloc::Global;
+use std::cmp::Ordering;
 use std::test::Fail;
 
+type Command = KeyCommand<TimedKey, i32, i32, i32>;
+
+// How a key stands to the one that is sought.
+fn compare_key(sought: i32, timed: TimedKey) -> Ordering
+    ensures { result ≡ int_cmp timed.key sought }
+{
+    timed.key.cmp(&sought)
+}
+
+// Runs the commands over two empty collections, and says whether they replied alike. They do, where neither refused.
+fn replied_alike<C, D>(
+    alloc: Global,
+    c: &mut C,
+    d: &mut D,
+    commands: &[Command],
+) -> Result<bool, Refusal>
+where
+    C: KeyExpCollection<TimedKey, i32, i32>,
+    D: KeyExpCollection<TimedKey, i32, i32>,
+    requires first_empty { C.stored c.old ≡ [] }
+    requires second_empty { D.stored d.old ≡ [] }
+    ensures alike { IfOk result (λ alike.
+        (first second : List (KeyReply ℤ)) × (end end' : State TimedKey ℤ ℤ)
+        × Run (λ (timed : TimedKey). timed.expiration) int_cmp cmp_keys cmp_sought (beginning []) commands.now first end
+        × Run (λ (timed : TimedKey). timed.expiration) int_cmp cmp_keys cmp_sought (beginning []) commands.now second end'
+        × (NoneRefused first → NoneRefused second → IsTrue alike)) }
+{
+    let mut first = Vec::new(alloc);
+    run_keys(c, commands, compare_key, &mut first)?;
+    let mut second = Vec::new(alloc);
+    run_keys(d, commands, compare_key, &mut second)?;
+    Ok(same_replies(commands, &first, &second))
+}
+
+#[test]
+fn runs_agree_unless_one_is_refused(rt: HostRuntime) -> Result<(), Fail> {
+    let commands = three_commands();
+    let memory = Refusing::new(rt.alloc());
+    for (nth, wanted) in [(1, false), (2, true)] {
+        let mut roomy: KeyExpList<TimedKey, i32, i32, Global> = KeyExpList::new(rt.alloc(), 16)?;
+        let mut tight: KeyExpList<TimedKey, i32, i32, &Refusing<Global>> = KeyExpList::new(
+            &memory, 0,
+        )?;
+        memory.refuse_nth(nth);
+        let alike = replied_alike(rt.alloc(), &mut roomy, &mut tight, &commands)?;
+        memory.refuse_none();
+        assert_eq!(rt; alike, wanted);
+    }
+    Ok(())
+}
+
 // An insertion, a query and a clear.
-fn three_commands() -> [KeyCommand<TimedKey, i32, i32, i32>; 3] {
+fn three_commands() -> [Command; 3] {
     let key = TimedKey {
         key: 5,
         expiration: 10,
