@@ -17,6 +17,9 @@ use std::alloc::Allocator;
 use std::cmp::Ordering;
 use std::sync::ledger::Ledger;
 
+#[cfg(test)]
+mod tests;
+
 // The counted calls of a tree, which count here.
 impl<K: ExpiredKey<E>, E: Expiration, V: Copy, A: Allocator + Copy, L: Ledger> KeyCalls<
     K,

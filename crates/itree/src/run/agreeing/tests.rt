@@ -14,6 +14,7 @@ use crate::timed_key::TimedKey;
 use i_tree::Refusal;
 use i_tree::key::exp::KeyExpCollection;
 use i_tree::key::list::KeyExpList;
+use i_tree::key::tree::KeyExpTree;
 use refusing::Refusing;
 use std::alloc::Global;
 use std::cmp::Ordering;
@@ -67,6 +68,36 @@ fn runs_agree_unless_one_is_refused(rt: HostRuntime) -> Result<(), Fail> {
         memory.refuse_none();
         assert_eq!(rt; alike, wanted);
     }
+    Ok(())
+}
+
+#[test]
+fn a_tree_and_a_list_agree(rt: HostRuntime) -> Result<(), Fail> {
+    let mut commands = Vec::new(rt.alloc());
+    for number in 0..40_i32 {
+        let key = number.wrapping_mul(7) % 11;
+        commands.push(KeyCommand::Insert {
+            key: TimedKey {
+                key,
+                expiration: number + 3 + key % 5,
+            },
+            val: number,
+            time: number,
+        })?;
+        commands.push(KeyCommand::LessOrEqualBy {
+            time: number,
+            default: -1,
+            probe: 20,
+        })?;
+        commands.push(KeyCommand::Less {
+            time: number - number % 3,
+            default: -1,
+            key: TimedKey { key, expiration: 0 },
+        })?;
+    }
+    let mut tree: KeyExpTree<TimedKey, i32, i32, Global> = KeyExpTree::new(rt.alloc(), 0)?;
+    let mut list: KeyExpList<TimedKey, i32, i32, Global> = KeyExpList::new(rt.alloc(), 0)?;
+    assert!(rt; replied_alike(rt.alloc(), &mut tree, &mut list, &commands)?);
     Ok(())
 }
 

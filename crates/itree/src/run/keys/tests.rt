@@ -10,8 +10,10 @@ ghost use Rattle.itree.specs.declared.run.keys.tests.Numbered.{Numbered};
 use super::*;
 use crate::timed_key::TimedKey;
 use i_tree::key::list::KeyExpList;
+use i_tree::key::tree::KeyExpTree;
 use refusing::Refusing;
 use std::alloc::Global;
+use std::process::Abort;
 use std::test::Fail;
 
 type Command = KeyCommand<TimedKey, i32, i32, i32>;
@@ -62,7 +64,17 @@ fn less_at(time: i32, default: i32, key: i32) -> Command {
 #[test]
 fn replies_present_late_and_values(rt: HostRuntime) -> Result<(), Fail> {
     let mut list: KeyExpList<TimedKey, i32, i32, Global> = KeyExpList::new(rt.alloc(), 0)?;
-    let mut replies = Vec::new(rt.alloc());
+    let mut tree: KeyExpTree<TimedKey, i32, i32, Global> = KeyExpTree::new(rt.alloc(), 0)?;
+    replies_present_late_and_values_in(&rt, rt.alloc(), &mut list)?;
+    replies_present_late_and_values_in(&rt, rt.alloc(), &mut tree)
+}
+
+fn replies_present_late_and_values_in<C: KeyExpCollection<TimedKey, i32, i32>>(
+    rt: &impl Abort,
+    alloc: Global,
+    c: &mut C,
+) -> Result<(), Fail> {
+    let mut replies = Vec::new(alloc);
     let commands = [
         insert_at(0, 5, 3, 5),
         insert_at(2, 5, 9, 5),
@@ -70,7 +82,7 @@ fn replies_present_late_and_values(rt: HostRuntime) -> Result<(), Fail> {
         insert_at(3, 5, 9, 50),
         less_at(3, -1, 6),
     ];
-    run_keys(&mut list, &commands, compare_key, &mut replies)?;
+    run_keys(c, &commands, compare_key, &mut replies)?;
     assert_eq!(rt;
         replies.as_slice(),
         [
@@ -88,7 +100,17 @@ fn replies_present_late_and_values(rt: HostRuntime) -> Result<(), Fail> {
 #[test]
 fn forgets_the_last_time_at_a_clear(rt: HostRuntime) -> Result<(), Fail> {
     let mut list: KeyExpList<TimedKey, i32, i32, Global> = KeyExpList::new(rt.alloc(), 0)?;
-    let mut replies = Vec::new(rt.alloc());
+    let mut tree: KeyExpTree<TimedKey, i32, i32, Global> = KeyExpTree::new(rt.alloc(), 0)?;
+    forgets_the_last_time_at_a_clear_in(&rt, rt.alloc(), &mut list)?;
+    forgets_the_last_time_at_a_clear_in(&rt, rt.alloc(), &mut tree)
+}
+
+fn forgets_the_last_time_at_a_clear_in<C: KeyExpCollection<TimedKey, i32, i32>>(
+    rt: &impl Abort,
+    alloc: Global,
+    c: &mut C,
+) -> Result<(), Fail> {
+    let mut replies = Vec::new(alloc);
     let commands = [
         insert_at(0, 5, 10, 5),
         insert_at(0, 5, 10, 5),
@@ -98,7 +120,7 @@ fn forgets_the_last_time_at_a_clear(rt: HostRuntime) -> Result<(), Fail> {
         KeyCommand::Clear,
         less_at(0, -1, 9),
     ];
-    run_keys(&mut list, &commands, compare_key, &mut replies)?;
+    run_keys(c, &commands, compare_key, &mut replies)?;
     assert_eq!(rt;
         replies.as_slice(),
         [
