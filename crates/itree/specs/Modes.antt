@@ -2,10 +2,11 @@
 use Rattle.std.specs.Prelude.{◌≡◌, ℕ, List, [], ◌∷◌, map, codes}
 use Rattle.std.specs.Borrow.{Bor}
 use Rattle.itree.specs.declared.mode.Mode.{Mode}
-use Rattle.itree.specs.declared.mode.Mode.TheVariants.{KeyList, SetTree, SetList}
+use Rattle.itree.specs.declared.mode.Mode.TheVariants.{KeyTree, KeyList, SetTree, SetList}
 
 -- the word that names a mode
 abbrev pub mode_word : Mode → List ℕ
+mode_word KeyTree = codes "keytree"
 mode_word KeyList = codes "keylist"
 mode_word SetTree = codes "settree"
 mode_word SetList = codes "setlist"

@@ -9,7 +9,7 @@ use Rattle.itree.specs.Replies.{key_reply_words, set_reply_words, reply_lines}
 use Rattle.itree.specs.SetLines.{SetLine, SaysSetCommand}
 use Rattle.itree.specs.SetMachine as sets
 use Rattle.itree.specs.declared.mode.Mode.{Mode}
-use Rattle.itree.specs.declared.mode.Mode.TheVariants.{KeyList, SetTree, SetList}
+use Rattle.itree.specs.declared.mode.Mode.TheVariants.{KeyTree, KeyList, SetTree, SetList}
 use Rattle.itree.specs.declared.run.keys.KeyReply.{KeyReply}
 use Rattle.itree.specs.declared.run.sets.SetReply.{SetReply}
 use Rattle.itree.specs.declared.set_key.SetKey.{SetKey}
@@ -37,14 +37,24 @@ pub record AnswersSet (values : List SetKey) (commands : List SetLine) (output :
   pub run : sets.Run (λ value. value.key) int_cmp values commands replies end
   pub written : output ≡ reply_lines set_reply_words replies
 
--- the output answers the commands that the lines of the text say, in each mode from nothing on
+-- the output answers the key commands that the lines of the text say, from nothing on
+abbrev pub AnswersKeyLines : List ℕ → List ℕ → Type 0
+AnswersKeyLines text output = (commands : List KeyLine) × LinesSay SaysKeyCommand (lines_of text) commands × AnswersKeys [] commands output
+
+-- the output answers the set commands that the lines of the text say, from nothing on
+abbrev pub AnswersSetLines : List ℕ → List ℕ → Type 0
+AnswersSetLines text output = (commands : List SetLine) × LinesSay SaysSetCommand (lines_of text) commands × AnswersSet [] commands output
+
+-- the output answers the text in the mode; whether a tree or a list is kept makes no difference
 abbrev pub Answers : Mode → List ℕ → List ℕ → Type 0
-Answers KeyList text output = (commands : List KeyLine) × LinesSay SaysKeyCommand (lines_of text) commands × AnswersKeys [] commands output
-Answers SetTree text output = (commands : List SetLine) × LinesSay SaysSetCommand (lines_of text) commands × AnswersSet [] commands output
-Answers SetList text output = (commands : List SetLine) × LinesSay SaysSetCommand (lines_of text) commands × AnswersSet [] commands output
+Answers KeyTree = AnswersKeyLines
+Answers KeyList = AnswersKeyLines
+Answers SetTree = AnswersSetLines
+Answers SetList = AnswersSetLines
 
 -- the line of this number is the first one that is faulty in the mode
 abbrev pub HasFirstFaulty : Mode → List ℕ → ℕ → Type 0
+HasFirstFaulty KeyTree text number = IsFirstFaulty SaysKeyCommand (lines_of text) number
 HasFirstFaulty KeyList text number = IsFirstFaulty SaysKeyCommand (lines_of text) number
 HasFirstFaulty SetTree text number = IsFirstFaulty SaysSetCommand (lines_of text) number
 HasFirstFaulty SetList text number = IsFirstFaulty SaysSetCommand (lines_of text) number

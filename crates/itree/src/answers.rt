@@ -13,6 +13,7 @@ use crate::set_key::SetKey;
 use crate::timed_key::TimedKey;
 use i_tree::key::exp::KeyExpCollection;
 use i_tree::key::list::KeyExpList;
+use i_tree::key::tree::KeyExpTree;
 use i_tree::set::list::SetList;
 use i_tree::set::sort::SetCollection;
 use i_tree::set::tree::SetTree;
@@ -33,6 +34,11 @@ pub fn answer_text<A: Allocator + Copy>(
     ensures err { IfErr result (λ fault. fault ≢ Fault.Arguments) }
 {
     match mode {
+        Mode::KeyTree => {
+            let commands = parse_commands(alloc, text)?;
+            let mut tree = KeyExpTree::new(alloc, 0)?;
+            answer_keys(alloc, &mut tree, &commands)
+        }
         Mode::KeyList => {
             let commands = parse_commands(alloc, text)?;
             let mut list = KeyExpList::new(alloc, 0)?;

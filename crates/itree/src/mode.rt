@@ -6,6 +6,8 @@ ghost use Rattle.itree.specs.Modes.{Names, NamesMode};
 /// What the program runs its commands over.
 #[derive(Clone, Copy, Debug, PartialEq, Eq)]
 pub enum Mode {
+    /// Keys that expire, in a tree.
+    KeyTree,
     /// Keys that expire, in a sorted list.
     KeyList,
     /// An ordered set in a tree.
@@ -21,6 +23,7 @@ impl Mode {
         ensures unnamed { IsNone result → ¬ (NamesMode words.now) }
     {
         match words {
+            ["keytree"] => Some(Mode::KeyTree),
             ["keylist"] => Some(Mode::KeyList),
             ["settree"] => Some(Mode::SetTree),
             ["setlist"] => Some(Mode::SetList),
