@@ -11,6 +11,8 @@ const COMMANDS: &str = "insert 0 10 0 0\ninsert 3 10 3 0\nless 0 -1 4\nless 0 -1
 
 const REPLIES: &str = "inserted\ninserted\nvalue 3\nvalue -1\n";
 
+const KEYS: [&str; 2] = ["keytree", "keylist"];
+
 const SETS: [&str; 2] = ["settree", "setlist"];
 
 // What a run over memory gave.
@@ -67,35 +69,30 @@ impl Write for Unflushed {
 
 #[test]
 fn answers_each_command_by_a_line(rt: HostRuntime) {
-    for (input, replies) in [
-        (COMMANDS, REPLIES),
-        ("", ""),
-        ("\n \t\r\n\n", ""),
-        (
-            "insert 4 1 40 0\n\ninsert 4 9 41 1\nless 1 -1 5\n",
-            "inserted\ninserted\nvalue 41\n",
-        ),
-        (
-            "insert 5 10 5 0\ninsert 5 10 6 0\nleq 3 -1 5\nless 2 -1 9\nclear\nless 0 -1 9\n",
-            "inserted\npresent\nvalue 5\nlate\ncleared\nvalue -1\n",
-        ),
-        (
-            "\tinsert  +4 9\x0c-40 -0\r\nless 0 007 5",
-            "inserted\nvalue -40\n",
-        ),
-        (
-            "insert 2147483647 2147483647 -2147483648 -2147483648\nless 2147483646 0 2147483647\nless 0 1 2\n",
-            "inserted\nvalue 0\nlate\n",
-        ),
-    ] {
-        let outcome = outcome_of(rt.alloc(), &["keylist"], &mut input.as_bytes());
-        assert_eq!(rt; outcome.status, 0, "at {input:?}");
-        assert_eq!(rt;
-            outcome.output.as_slice(),
-            replies.as_bytes(),
-            "at {input:?}"
-        );
-        assert!(rt; outcome.faults.is_empty(), "at {input:?}");
+    for mode in KEYS {
+        for (input, replies) in [
+            (COMMANDS, REPLIES),
+            ("", ""),
+            ("\n \t\r\n\n", ""),
+            (
+                "insert 4 1 40 0\n\ninsert 4 9 41 1\nless 1 -1 5\n",
+                "inserted\ninserted\nvalue 41\n",
+            ),
+            (
+                "insert 5 10 5 0\ninsert 5 10 6 0\nleq 3 -1 5\nless 2 -1 9\nclear\nless 0 -1 9\n",
+                "inserted\npresent\nvalue 5\nlate\ncleared\nvalue -1\n",
+            ),
+            (
+                "\tinsert  +4 9\x0c-40 -0\r\nless 0 007 5",
+                "inserted\nvalue -40\n",
+            ),
+            (
+                "insert 2147483647 2147483647 -2147483648 -2147483648\nless 2147483646 0 2147483647\nless 0 1 2\n",
+                "inserted\nvalue 0\nlate\n",
+            ),
+        ] {
+            assert_answered(&rt, rt.alloc(), mode, input, replies);
+        }
     }
 }
 
@@ -112,45 +109,55 @@ fn answers_the_commands_of_a_set(rt: HostRuntime) {
                 "none\nabsent\ninserted\ninserted\nkey -2147483648\nkey -2147483648\n",
             ),
         ] {
-            let outcome = outcome_of(rt.alloc(), &[mode], &mut input.as_bytes());
-            assert_eq!(rt; outcome.status, 0, "{mode} at {input:?}");
-            assert_eq!(rt;
-                outcome.output.as_slice(),
-                replies.as_bytes(),
-                "{mode} at {input:?}"
-            );
-            assert!(rt; outcome.faults.is_empty(), "{mode} at {input:?}");
+            assert_answered(&rt, rt.alloc(), mode, input, replies);
+        }
+    }
+}
+
+fn assert_answered(rt: &impl Abort, alloc: Global, mode: &str, input: &str, replies: &str) {
+    let outcome = outcome_of(alloc, &[mode], &mut input.as_bytes());
+    assert_eq!(rt; outcome.status, 0, "{mode} at {input:?}");
+    assert_eq!(rt;
+        outcome.output.as_slice(),
+        replies.as_bytes(),
+        "{mode} at {input:?}"
+    );
+    assert!(rt; outcome.faults.is_empty(), "{mode} at {input:?}");
+}
+
+#[test]
+fn names_the_first_faulty_line_and_runs_nothing(rt: HostRuntime) {
+    for mode in KEYS {
+        for (input, fault) in [
+            (
+                b"insert 0 10 0 0\nless 0 -1\n".as_slice(),
+                "itree: line 2\n",
+            ),
+            (b"less 0 -1 4\n\nless 0 -1 2147483648\n", "itree: line 3\n"),
+            (b"less 0 -2147483649 4\n", "itree: line 1\n"),
+            (b"\n\nfind 4\nless\n", "itree: line 3\n"),
+            (b"Insert 0 10 0 0\n", "itree: line 1\n"),
+            (b"insert 0 10 0\n", "itree: line 1\n"),
+            (b"insert 0 10 0 0 0\n", "itree: line 1\n"),
+            (b"less 0 -1 4 4\n", "itree: line 1\n"),
+            (b"leq 0 -1\n", "itree: line 1\n"),
+            (b"clear\nclear 0\n", "itree: line 2\n"),
+            (b"less 0 - 4\n", "itree: line 1\n"),
+            (b"less 0 1.5 4\n", "itree: line 1\n"),
+            (b"less 0 x 4", "itree: line 1\n"),
+            (b"less 0 -1 4\n\xc2\xa0\n", "itree: line 2\n"),
+            (b"less 0 -1 \xff4\n", "itree: line 1\n"),
+            (b"less\x0b0 -1 4\n", "itree: line 1\n"),
+            (b"delete 4\n", "itree: line 1\n"),
+            (b"before 4\n", "itree: line 1\n"),
+        ] {
+            assert_faulty(&rt, rt.alloc(), mode, input, fault);
         }
     }
 }
 
 #[test]
-fn names_the_first_faulty_line_and_runs_nothing(rt: HostRuntime) {
-    for (input, fault) in [
-        (
-            b"insert 0 10 0 0\nless 0 -1\n".as_slice(),
-            "itree: line 2\n",
-        ),
-        (b"less 0 -1 4\n\nless 0 -1 2147483648\n", "itree: line 3\n"),
-        (b"less 0 -2147483649 4\n", "itree: line 1\n"),
-        (b"\n\nfind 4\nless\n", "itree: line 3\n"),
-        (b"Insert 0 10 0 0\n", "itree: line 1\n"),
-        (b"insert 0 10 0\n", "itree: line 1\n"),
-        (b"insert 0 10 0 0 0\n", "itree: line 1\n"),
-        (b"less 0 -1 4 4\n", "itree: line 1\n"),
-        (b"leq 0 -1\n", "itree: line 1\n"),
-        (b"clear\nclear 0\n", "itree: line 2\n"),
-        (b"less 0 - 4\n", "itree: line 1\n"),
-        (b"less 0 1.5 4\n", "itree: line 1\n"),
-        (b"less 0 x 4", "itree: line 1\n"),
-        (b"less 0 -1 4\n\xc2\xa0\n", "itree: line 2\n"),
-        (b"less 0 -1 \xff4\n", "itree: line 1\n"),
-        (b"less\x0b0 -1 4\n", "itree: line 1\n"),
-        (b"delete 4\n", "itree: line 1\n"),
-        (b"before 4\n", "itree: line 1\n"),
-    ] {
-        assert_faulty(&rt, rt.alloc(), "keylist", input, fault);
-    }
+fn names_the_first_faulty_line_of_a_set(rt: HostRuntime) {
     for mode in SETS {
         for (input, fault) in [
             (b"insert 4\n\nless 0 -1 4\n".as_slice(), "itree: line 3\n"),
@@ -187,7 +194,9 @@ fn refuses_other_arguments_before_it_reads(rt: HostRuntime) {
         &["keylist", "keylist"],
         &["keylist", ""],
         &[""],
-        &["keytree"],
+        &["key"],
+        &["keytree", "keylist"],
+        &["keytree", "extra"],
         &["Keylist"],
         &["keylist "],
         &["settree", "setlist"],
@@ -212,61 +221,72 @@ fn refuses_other_arguments_before_it_reads(rt: HostRuntime) {
 }
 
 #[test]
-fn stops_where_a_stream_fails(rt: HostRuntime) {
-    // A reader that fails after some lines, a faulty one among them.
-    let mut input = BrokenReader {
-        bytes: b"insert 0 10 0 0\nless\n",
-        reads: 0,
-    };
-    let outcome = outcome_of(rt.alloc(), &["keylist"], &mut input);
-    assert_eq!(rt; outcome.status, 1);
-    assert!(rt; outcome.output.is_empty() && outcome.faults.is_empty());
-    assert!(rt; input.reads > 1);
+fn stops_where_a_reader_fails(rt: HostRuntime) {
+    for mode in KEYS {
+        // It fails after some lines, a faulty one among them.
+        let mut input = BrokenReader {
+            bytes: b"insert 0 10 0 0\nless\n",
+            reads: 0,
+        };
+        let outcome = outcome_of(rt.alloc(), &[mode], &mut input);
+        assert_eq!(rt; outcome.status, 1, "in {mode}");
+        assert!(rt;
+            outcome.output.is_empty() && outcome.faults.is_empty(),
+            "in {mode}"
+        );
+        assert!(rt; input.reads > 1, "in {mode}");
+    }
+}
 
-    // A writer with room for a part.
-    let mut room = *b"........";
-    let mut faults = Vec::new(rt.alloc());
-    let words = ["keylist"];
-    let status = run_itree(
-        rt.alloc(),
-        &words,
-        &mut COMMANDS.as_bytes(),
-        &mut &mut room[..5],
-        &mut faults,
-    );
-    assert_eq!(rt; status, 1);
-    assert_eq!(rt; room, *b"inser...");
-    assert!(rt; faults.is_empty());
+#[test]
+fn stops_where_a_writer_fails(rt: HostRuntime) {
+    for mode in KEYS {
+        // Room for a part.
+        let mut room = *b"........";
+        let mut faults = Vec::new(rt.alloc());
+        let status = run_itree(
+            rt.alloc(),
+            &[mode],
+            &mut COMMANDS.as_bytes(),
+            &mut &mut room[..5],
+            &mut faults,
+        );
+        assert_eq!(rt; status, 1, "in {mode}");
+        assert_eq!(rt; room, *b"inser...", "in {mode}");
+        assert!(rt; faults.is_empty(), "in {mode}");
 
-    // A flush that fails.
-    let mut output = Unflushed {
-        taken: Vec::new(rt.alloc()),
-    };
-    let status = run_itree(
-        rt.alloc(),
-        &words,
-        &mut COMMANDS.as_bytes(),
-        &mut output,
-        &mut faults,
-    );
-    assert_eq!(rt; status, 1);
-    assert_eq!(rt; output.taken.as_slice(), REPLIES.as_bytes());
-    assert!(rt; faults.is_empty());
+        // A flush that fails.
+        let mut output = Unflushed {
+            taken: Vec::new(rt.alloc()),
+        };
+        let status = run_itree(
+            rt.alloc(),
+            &[mode],
+            &mut COMMANDS.as_bytes(),
+            &mut output,
+            &mut faults,
+        );
+        assert_eq!(rt; status, 1, "in {mode}");
+        assert_eq!(rt; output.taken.as_slice(), REPLIES.as_bytes(), "in {mode}");
+        assert!(rt; faults.is_empty(), "in {mode}");
+    }
+}
 
-    // Standard error that takes only a part.
-    for words in [["keylist"], ["keytree"]] {
+#[test]
+fn ends_as_ever_where_the_faults_are_taken_in_part(rt: HostRuntime) {
+    for word in ["keytree", "keylist", "key"] {
         let mut taken = *b"........";
         let mut output = Vec::new(rt.alloc());
         let status = run_itree(
             rt.alloc(),
-            &words,
+            &[word],
             &mut b"less".as_slice(),
             &mut output,
             &mut &mut taken[..5],
         );
-        assert_eq!(rt; status, 2, "at {words:?}");
-        assert_eq!(rt; taken, *b"itree...", "at {words:?}");
-        assert!(rt; output.is_empty(), "at {words:?}");
+        assert_eq!(rt; status, 2, "at {word}");
+        assert_eq!(rt; taken, *b"itree...", "at {word}");
+        assert!(rt; output.is_empty(), "at {word}");
     }
 }
 
@@ -275,13 +295,8 @@ fn survives_each_refused_request_for_memory(rt: HostRuntime) {
     // The keys are more than a small collection holds, and the last answer is the same whichever of them is refused. A
     // tree begins with room for seven.
     for (mode, commands, replies, first_refused) in [
-        (
-            "keylist",
-            "insert 1 9 1 0\ninsert 2 9 2 0\ninsert 3 9 3 0\ninsert 4 9 4 0\ninsert 5 9 5 0\n\
-            insert 6 9 6 0\ninsert 7 9 7 0\ninsert 8 9 8 0\ninsert 9 9 9 0\nless 0 -1 1\n",
-            "inserted\ninserted\ninserted\ninserted\ninserted\ninserted\ninserted\ninserted\ninserted\nvalue -1\n",
-            0,
-        ),
+        ("keytree", KEY_COMMANDS, KEY_REPLIES, 7),
+        ("keylist", KEY_COMMANDS, KEY_REPLIES, 0),
         ("settree", SET_COMMANDS, SET_REPLIES, 7),
         ("setlist", SET_COMMANDS, SET_REPLIES, 0),
     ] {
@@ -315,6 +330,13 @@ fn survives_each_refused_request_for_memory(rt: HostRuntime) {
         assert_eq!(rt; refused, Some(first_refused), "in {mode}");
     }
 }
+
+const KEY_COMMANDS: &str =
+    "insert 1 9 1 0\ninsert 2 9 2 0\ninsert 3 9 3 0\ninsert 4 9 4 0\ninsert 5 9 5 0\n\
+    insert 6 9 6 0\ninsert 7 9 7 0\ninsert 8 9 8 0\ninsert 9 9 9 0\nless 0 -1 1\n";
+
+const KEY_REPLIES: &str =
+    "inserted\ninserted\ninserted\ninserted\ninserted\ninserted\ninserted\ninserted\ninserted\nvalue -1\n";
 
 const SET_COMMANDS: &str =
     "insert 1\ninsert 2\ninsert 3\ninsert 4\ninsert 5\ninsert 6\ninsert 7\ninsert 8\n\

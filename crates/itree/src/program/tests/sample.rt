@@ -3,7 +3,7 @@
 use super::*;
 use std::test::Fail;
 
-// Lines, each with the reply of the original crate's containers.
+// Lines, each with the reply of the original crate's containers of keys.
 const SAMPLE: [(&str, &str); 62] = [
     ("insert 5 3 50 0", "inserted"),
     ("insert 1 3 10 0", "inserted"),
@@ -79,9 +79,8 @@ fn answers_a_sample_as_the_original_does(rt: HostRuntime) -> Result<(), Fail> {
             writeln!(&mut replies, "{reply}")?;
         }
     }
-    let outcome = outcome_of(rt.alloc(), &["keylist"], &mut input.as_bytes());
-    assert_eq!(rt; outcome.status, 0);
-    assert_eq!(rt; outcome.output.as_slice(), replies.as_bytes());
-    assert!(rt; outcome.faults.is_empty());
+    for mode in KEYS {
+        assert_answered(&rt, rt.alloc(), mode, input.as_str(), replies.as_str());
+    }
     Ok(())
 }
