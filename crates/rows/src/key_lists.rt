@@ -1,117 +1,81 @@
+//! Worked lists of keys that expire: what every kind of collection answers, room, clones and refusals.
+
+use crate::key_histories;
+use crate::keys::{self, KeyStore, insert, insert_all, insert_four};
 use crate::timed_key::{TimedKey, expiring, key};
 use i_tree::key::exp::KeyExpCollection;
 use i_tree::key::list::KeyExpList;
 use i_tree::{Expiration, Refusal};
 use refusing::Refusing;
 use std::alloc::{AllocError, Allocator, Global};
-use std::cell::Cell;
-use std::cmp::Ordering;
 use std::process::Abort;
 use std::test::Fail;
 
 type KeyList<A> = KeyExpList<TimedKey, i32, i32, A>;
 
-// Inserts the pair, after a test that no live key compares Equal.
-fn insert_pair<A: Allocator + Copy>(
-    rt: &impl Abort,
-    list: &mut KeyList<A>,
-    key: TimedKey,
-    val: i32,
-    time: i32,
-) -> Result<(), Refusal> {
-    assert!(rt; !list.contains_key(time, key));
-    list.insert(key, val, time)
-}
+impl<A: Allocator + Copy> KeyStore for KeyExpList<TimedKey, i32, i32, A> {
+    fn count(&self) -> usize {
+        self.stored()
+    }
 
-// Inserts the key with a value equal to it.
-fn insert<A: Allocator + Copy>(
-    rt: &impl Abort,
-    list: &mut KeyList<A>,
-    key: TimedKey,
-    time: i32,
-) -> Result<(), Refusal> {
-    insert_pair(rt, list, key, key.key, time)
+    fn room(&self) -> usize {
+        self.spare()
+    }
 }
 
 // The keys 0, 3, 5 and 8, inserted at time 0.
 fn four_keys<A: Allocator + Copy>(rt: &impl Abort, alloc: A) -> Result<KeyList<A>, Refusal> {
     let mut list = KeyExpList::new(alloc, 0)?;
-    for number in [0, 3, 5, 8] {
-        insert(rt, &mut list, key(number), 0)?;
-    }
+    insert_four(rt, &mut list)?;
     Ok(list)
 }
 
 #[test]
 fn answers_the_greatest_lower_key(rt: HostRuntime) -> Result<(), Fail> {
-    let mut list = four_keys(&rt, rt.alloc())?;
-    assert_eq!(rt; list.first_less(0, -1, key(4)), 3);
-    assert_eq!(rt; list.first_less(0, -1, key(0)), -1);
-    Ok(())
+    let mut list: KeyList<Global> = KeyExpList::new(rt.alloc(), 0)?;
+    keys::answers_the_greatest_lower_key(&rt, &mut list)
 }
 
 #[test]
 fn is_expired_at_the_equal_moment(rt: HostRuntime) -> Result<(), Fail> {
-    let mut list = four_keys(&rt, rt.alloc())?;
-    insert(&rt, &mut list, expiring(4, 1), 0)?;
-    assert_eq!(rt; list.first_less(0, -1, key(5)), 4);
-    assert_eq!(rt; list.first_less(1, -1, key(5)), 3);
-    Ok(())
+    let mut list: KeyList<Global> = KeyExpList::new(rt.alloc(), 0)?;
+    keys::is_expired_at_the_equal_moment(&rt, &mut list)
 }
 
 #[test]
 fn never_answers_a_key_that_comes_expired(rt: HostRuntime) -> Result<(), Fail> {
-    let mut list = four_keys(&rt, rt.alloc())?;
-    insert(&rt, &mut list, expiring(6, 2), 2)?;
-    assert_eq!(rt; list.first_less(2, -1, key(7)), 5);
-    Ok(())
+    let mut list: KeyList<Global> = KeyExpList::new(rt.alloc(), 0)?;
+    keys::never_answers_a_key_that_comes_expired(&rt, &mut list)
 }
 
 #[test]
 fn takes_an_expired_key_again(rt: HostRuntime) -> Result<(), Fail> {
     let mut list: KeyList<Global> = KeyExpList::new(rt.alloc(), 0)?;
-    insert_pair(&rt, &mut list, expiring(4, 1), 40, 0)?;
-    assert!(rt; list.contains_key(0, key(4)));
-    assert!(rt; !list.contains_key(1, key(4)));
-    insert_pair(&rt, &mut list, key(4), 41, 1)?;
-    assert_eq!(rt; list.first_less(1, -1, key(5)), 41);
-    Ok(())
+    keys::takes_an_expired_key_again(&rt, &mut list)
 }
 
 #[test]
 fn answers_at_most_what_a_closure_compares_with(rt: HostRuntime) -> Result<(), Fail> {
-    let mut list = four_keys(&rt, rt.alloc())?;
-    for (sought, answer) in [(5, 5), (7, 5), (0, 0), (-1, -1), (9, 8)] {
-        let found = list.first_less_or_equal_by(0, -1, |timed| timed.key.cmp(&sought));
-        assert_eq!(rt; found, answer, "at {sought}");
-    }
-    insert(&rt, &mut list, expiring(4, 1), 0)?;
-    let found = list.first_less_or_equal_by(2, -1, |timed| timed.key.cmp(&5));
-    assert_eq!(rt; found, 5);
-    Ok(())
+    let mut list: KeyList<Global> = KeyExpList::new(rt.alloc(), 0)?;
+    keys::answers_at_most_what_a_closure_compares_with(&rt, &mut list)
 }
 
 #[test]
 fn asks_a_closure_about_live_keys_alone(rt: HostRuntime) -> Result<(), Fail> {
-    let mut list = four_keys(&rt, rt.alloc())?;
-    insert(&rt, &mut list, expiring(4, 1), 0)?;
-    let asked = Cell::new(0u64);
-    let asked_of_expired = Cell::new(0u64);
-    let found = list.first_less_or_equal_by(1, -1, |timed| {
-        asked.set(asked.get().saturating_add(1));
-        if timed.key == 4 {
-            asked_of_expired.set(asked_of_expired.get().saturating_add(1));
-        }
-        if timed.key == 4 || timed.key == 8 {
-            Ordering::Greater
-        } else {
-            Ordering::Less
-        }
-    });
-    assert_eq!(rt; found, 5);
-    assert!(rt; asked.get() > 0);
-    assert_eq!(rt; asked_of_expired.get(), 0);
-    Ok(())
+    let mut list: KeyList<Global> = KeyExpList::new(rt.alloc(), 0)?;
+    keys::asks_a_closure_about_live_keys_alone(&rt, &mut list)
+}
+
+#[test]
+fn takes_the_ends_of_the_type(rt: HostRuntime) -> Result<(), Fail> {
+    let mut list: KeyList<Global> = KeyExpList::new(rt.alloc(), 0)?;
+    keys::takes_the_ends_of_the_type(&rt, &mut list)
+}
+
+#[test]
+fn agrees_with_a_plain_vector(rt: HostRuntime) -> Result<(), Fail> {
+    let mut list: KeyList<Global> = KeyExpList::new(rt.alloc(), 0)?;
+    key_histories::agrees_with_a_plain_vector(&rt, &mut list, rt.alloc())
 }
 
 #[test]
@@ -224,31 +188,28 @@ fn is_refused_new_and_then_made(rt: HostRuntime) -> Result<(), Fail> {
     Ok(())
 }
 
-// Whether the list has the keys below `end` at time 0, and no other up to 20.
-fn has_keys_below<A: Allocator + Copy>(list: &KeyList<A>, end: i32) -> bool {
-    (0..20).all(|number| list.contains_key(0, key(number)) == (number < end))
-}
-
 #[test]
 fn keeps_what_is_stored_where_an_insertion_is_refused(rt: HostRuntime) -> Result<(), Fail> {
     let memory = Refusing::new(rt.alloc());
     for nth in 1..20 {
+        memory.refuse_none();
         let mut list: KeyList<&Refusing<Global>> = KeyExpList::new(&memory, 0)?;
-        memory.refuse_nth(nth);
-        for number in 0..20 {
-            if let Err(refusal) = insert(&rt, &mut list, key(number), 0) {
-                assert_eq!(rt; refusal, Refusal::OutOfMemory);
-                assert_eq!(rt; memory.requests(), nth);
-                assert!(rt; has_keys_below(&list, number), "after refusal {nth}");
-                insert(&rt, &mut list, key(number), 0)?;
-            }
-        }
-        assert!(rt; has_keys_below(&list, 20));
-        assert_eq!(rt; list.first_less(0, -1, key(30)), 19);
+        keys::keeps_its_pairs_where_the_nth_is_refused(&rt, &memory, &mut list, nth)?;
         if memory.requests() < nth {
             return Ok(());
         }
-        memory.refuse_none();
     }
     Err(Fail::from("more requests than insertions"))
+}
+
+#[test]
+fn forgets_each_expired_key_at_once(rt: HostRuntime) -> Result<(), Fail> {
+    let mut list: KeyList<Global> = KeyExpList::new(rt.alloc(), 0)?;
+    insert_all(&rt, &mut list, &[key(4), expiring(2, 1), expiring(6, 1)])?;
+    assert_eq!(rt; list.first_less(1, -1, key(9)), 4);
+    assert_eq!(rt; list.stored(), 1);
+    // At an earlier time, what is still stored answers.
+    assert_eq!(rt; list.first_less(0, -1, key(3)), -1);
+    assert_eq!(rt; list.first_less(0, -1, key(9)), 4);
+    Ok(())
 }

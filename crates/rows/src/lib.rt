@@ -8,11 +8,21 @@ mod cores;
 #[cfg(test)]
 mod counts;
 #[cfg(test)]
+mod key_counts;
+#[cfg(test)]
+mod key_histories;
+#[cfg(test)]
 mod key_lists;
+#[cfg(test)]
+mod key_trees;
+#[cfg(test)]
+mod keys;
 #[cfg(test)]
 mod live_closures;
 #[cfg(test)]
 mod numbered;
+#[cfg(test)]
+mod random;
 #[cfg(test)]
 mod removals;
 #[cfg(test)]

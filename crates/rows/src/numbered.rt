@@ -3,8 +3,10 @@
 ghost use Rattle.std.proofs.Common.{rules};
 ghost use Rattle.std.specs.Cmp.{partial_order_from_own_ties};
 ghost use Rattle.std.specs.Cmp.Rules.{comparing};
+ghost use Rattle.std.specs.Prelude.{pos};
 ghost use Rattle.std.specs.Ordering.{int_cmp, int_eq, on, as_partial_cmp};
 
+use i_tree::ExpiredKey;
 use i_tree::set::sort::KeyValue;
 use std::cell::Cell;
 use std::cmp::Ordering;
@@ -50,7 +52,7 @@ impl KeyValue<i32> for Dropping<'_> {
     }
 }
 
-/// A number that counts how often it is compared.
+/// A number that counts how often it is compared. As a key it expires at 10.
 #[derive(Clone, Copy)]
 pub struct Ticking<'a> {
     pub number: i32,
@@ -101,5 +103,13 @@ impl<'a> KeyValue<Ticking<'a>> for Ticking<'a> {
 
     fn key(&self) -> &Ticking<'a> {
         self
+    }
+}
+
+impl ExpiredKey<i32> for Ticking<'_> {
+    ghost expiration = { λ _. pos 10 };
+
+    fn expiration(&self) -> i32 {
+        10
     }
 }

@@ -1,5 +1,6 @@
 //! Removals from the core, beside a sorted vector: in every order from small trees, and many among insertions.
 
+use crate::random::next_random;
 use crate::trees::{Place, insert_at, left, remove, right};
 use i_tree::EMPTY_REF;
 use i_tree::rb::RbTree;
@@ -175,14 +176,6 @@ fn removes_in_every_order(rt: HostRuntime) -> Result<(), Fail> {
     }
     assert_eq!(rt; orders, 5040);
     Ok(())
-}
-
-// The next number of a sequence without visible order.
-fn next_random(state: &mut usize) -> usize {
-    *state = state
-        .wrapping_mul(6364136223846793005)
-        .wrapping_add(1442695040888963407);
-    *state >> 33
 }
 
 // Inserts or removes an entry by chance, so many insertions in eight changes. It inserts where there is no entry, and
