@@ -9,13 +9,16 @@ pub record Adds (old made new : Counts) : Type 0 where
   pub removals : new.removals ≡ old.removals + made.removals
   pub rotations : new.rotations ≡ old.rotations + made.rotations
 
--- A way down a tree of so many entries, after which so many are stored, where one may have joined. It compares at most
--- twice as often as the entries have levels (n entries have k levels where 2^k <= n + 1 < 2^(k + 1)), tests what it
--- compares and what it removes, and turns at most three times a removal, and twice where an entry joined.
+-- so many comparisons are at most twice the levels of so many entries (n entries have k levels where 2^k <= n + 1 < 2^(k + 1))
+abbrev pub TwiceLevels : ℕ → ℕ → Type 0
+TwiceLevels entries comparisons = (levels : ℕ) → entries + 1 < 2 ^ (levels + 1) → comparisons ≤ 2 * levels
+
+-- A way down a tree of so many entries, after which so many are stored, where one may have joined. It tests what it compares
+-- and what it removes, and turns at most three times a removal, and twice where an entry joined.
 pub record Descends (old new : Counts) (entries stored joined : ℕ) : Type 0 where
   pub made : Counts
   pub adds : Adds old made new
-  pub compares : (levels : ℕ) → entries + 1 < 2 ^ (levels + 1) → made.comparisons ≤ 2 * levels
+  pub compares : TwiceLevels entries made.comparisons
   pub tests : made.tests ≡ made.comparisons + made.removals
   pub turns : made.rotations ≤ 3 * made.removals + 2 * joined
   pub stores : stored + made.removals ≡ entries + joined
@@ -24,7 +27,7 @@ pub record Descends (old new : Counts) (entries stored joined : ℕ) : Type 0 wh
 pub record LooksFor (old new : Counts) (entries : ℕ) : Type 0 where
   pub made : Counts
   pub adds : Adds old made new
-  pub compares : (levels : ℕ) → entries + 1 < 2 ^ (levels + 1) → made.comparisons ≤ 2 * levels
+  pub compares : TwiceLevels entries made.comparisons
   pub tests : made.tests ≤ 1
   pub removes_none : made.removals ≡ 0
   pub turns_none : made.rotations ≡ 0
