@@ -1,10 +1,10 @@
 -- A new key among live and expired ones that rise.
-use Rattle.std.proofs.Common.{◌≡◌, ◌≢◌, ℕ, ◌+◌, ◌-◌, Bool, true, false, Option, List, [], ◌∷◌, ◌++◌, get_or, length, refl, sym, ap, ◌∙◌, subst, arith, length-append}
+use Rattle.std.proofs.Common.{◌≡◌, ◌≢◌, ℕ, ◌+◌, ◌-◌, ◌<◌, zero, suc, Bool, true, false, Option, List, [], ◌∷◌, ◌++◌, get_or, length, refl, sym, ap, ◌∙◌, subst, arith, length-append}
 use Rattle.std.specs.Cmp.{IsTotalOrder}
 use Rattle.std.specs.List.{All, AllPairs, filter}
 use Rattle.std.specs.declared.cmp.Ordering.{Ordering}
 use Rattle.std.specs.declared.cmp.Ordering.TheVariants.{Less, Equal, Greater}
-use Rattle.std.proofs.lemmas.Bool.{both_ways}
+use Rattle.std.proofs.lemmas.Bool.{both_ways, false≢true}
 use Rattle.std.proofs.lemmas.List.{length-map}
 use Rattle.std.proofs.lemmas.List.Elements.{All-nil, All-cons, All-head, All-tail}
 use Rattle.std.proofs.lemmas.List.Kept.{AllPairs-cons}
@@ -115,3 +115,14 @@ counted_join old mid new entries stored stored' way rotates more =
       turns = omega (arith, way.turns, rotates.at_most, rotates.no_fewer);
       stores = omega (arith, way.stores, more);
     }
+
+-- a way down after which no slot is free has removed nothing
+pub none_removed : {T : Type 0} (first mid : Contents T) (old new : Counts) → slots mid ≡ slots first → (0 < mid.spare → false ≡ true) → Descends old new (length (entries first.shape)) (length (entries mid.shape)) 0
+    → (mid.spare ≡ 0) × (length (entries mid.shape) ≡ length (entries first.shape))
+none_removed first mid old new same spare way =
+    let none : mid.spare ≡ 0 = by_spare mid.spare spare in
+    (none, omega (arith, none, same, way.stores))
+  where
+    by_spare : (n : ℕ) → (0 < n → false ≡ true) → n ≡ 0
+    by_spare zero _ = refl
+    by_spare (suc n) h = absurd (false≢true (h (omega arith)))

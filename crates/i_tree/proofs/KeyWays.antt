@@ -1,8 +1,11 @@
 -- A way down a tree whose entries go: the place that it has come to, and what it has counted.
-use Rattle.std.proofs.Common.{Some, Bool, true, false, ◌≡◌, ◌≢◌, ℕ, ◌+◌, ◌-◌, ◌*◌, ◌<◌, ◌≤◌, List, [], ◌∷◌, ◌++◌, length, refl, sym, ap, ◌∙◌, arith, length-append}
+use Rattle.std.proofs.Common.{Option, Some, Bool, true, false, ◌≡◌, ◌≢◌, ℕ, ◌+◌, ◌-◌, ◌*◌, ◌<◌, ◌≤◌, List, [], ◌∷◌, ◌++◌, length, refl, sym, ap, ◌∙◌, arith, length-append}
+use Rattle.std.specs.declared.cmp.Ordering.{Ordering}
+use Rattle.std.specs.declared.cmp.Ordering.TheVariants.{Less, Greater}
 use Rattle.std.proofs.lemmas.List.{length-map, map-append}
 use Rattle.std.proofs.lemmas.List.Elements.{All-contains}
 use Rattle.std.specs.List.{All, Contains, filter}
+use Rattle.i_tree.proofs.KeyFollowing.{IsFollowed}
 use Rattle.i_tree.proofs.Lists.{Contains-filter}
 use Rattle.i_tree.proofs.SetDescent.{IsCutAt, IsCutAt-top}
 use Rattle.i_tree.proofs.SetHandles.{values-LosesAt}
@@ -11,9 +14,10 @@ use Rattle.i_tree.proofs.SetParts.{PartAt-live}
 use Rattle.i_tree.proofs.Withouts.{Without-middle, filter-without}
 use Rattle.i_tree.specs.Change.{Without}
 use Rattle.i_tree.specs.Descent.{Adds, Descends}
-use Rattle.i_tree.specs.KeyDescent.{last_value}
+use Rattle.i_tree.specs.KeyDescent.{IsCalled, last_value}
 use Rattle.i_tree.specs.KeyExpTree.{items}
 use Rattle.i_tree.specs.Place.{IsPlace, IsPlaceOf, part_of}
+use Rattle.i_tree.specs.RbTree.{Contents, slots}
 use Rattle.i_tree.specs.Removal.{ChangesSide, LosesAt, RemovesOne}
 use Rattle.i_tree.specs.Set.{values}
 use Rattle.i_tree.specs.Shape.{Shape, top, entries, rank, part_at, left_at, right_at, IsCore, IsLive}
@@ -193,3 +197,18 @@ pub asked_here : {T : Type 0} (p : T → Bool) (P : T → Type 0) (old : List T)
 asked_here {T} p P old tree front here item back kept cut all live =
     let contained : Contains (items tree) item = rw (ap values cut ∙ map-append (λ (entry : ℕ × T). entry.1) front ((here, item) ∷ back)) (Contains-middle (values front) item (values back)) in
     All-contains P (filter p old) item all (rw (filter-without p (λ x fails. fails) kept) (Contains-filter p (items tree) item live contained))
+
+-- A way down that has come to a place. The entry in front of it is live and was called Less, the one behind it is live and was
+-- called Greater. What is gone was not live, and as long as nothing is gone all on the way are live.
+pub record IsDescent {K V : Type 0} (is_live : K → Bool) (MayAnswer : K → Ordering → Type 0) (before now : Contents (K × V)) (old new : Counts) (here : ℕ) (place : Place) (value : Option V) : Type 0 where
+  pub way :
+      (front : List (ℕ × (K × V))) × (back : List (ℕ × (K × V)))
+      × IsWay (IsCalled is_live MayAnswer Less) (IsCalled is_live MayAnswer Greater) now.shape here place front back
+      × (value ≡ last_value front)
+  pub kept : Without (λ (pair : K × V). is_live pair.0 ≡ false) (items before.shape) (items now.shape)
+  pub slots : slots now ≡ slots before
+  pub same : length (entries now.shape) ≡ length (entries before.shape) → now ≡ before
+  pub follows : IsFollowed is_live MayAnswer before now here
+  pub counted : IsCounted old new (rank before.shape) (rank (part_at here now.shape)) (length (entries before.shape)) (length (entries now.shape))
+  pub core : IsCore now.shape
+  pub first : IsCore before.shape

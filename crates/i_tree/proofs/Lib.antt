@@ -7,6 +7,7 @@ pub mod Contexts
 pub mod Detaching
 pub mod Growth
 pub mod Items
+pub mod KeyFollowing
 pub mod KeyInsertion
 pub mod KeyLooking
 pub mod KeySearch
@@ -26,6 +27,7 @@ pub mod SetDescent
 pub mod SetHandles
 pub mod SetInsertion
 pub mod SetLists
+pub mod SetLive
 pub mod SetOrdered
 pub mod SetParts
 pub mod SetPositions

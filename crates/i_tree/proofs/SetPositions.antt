@@ -62,6 +62,13 @@ module _ {V : Type 0} where
       let within : handle < length (numbered xs) = omega (arith, inside, length-numbered xs) in
       (handle, pair, within, get_or_default (numbered xs) handle pair d within, handle_at xs handle d inside)
 
+  -- the position before a count of values is a handle
+  pub HasHandle-counted : (xs : List V) (count before : ℕ) → count ≤ length xs → (count ≡ 0 → before ≡ EMPTY_REF) → (0 < count → before ≡ count - 1) → before ≢ EMPTY_REF → HasHandle (numbered xs) before
+  HasHandle-counted xs zero before within first later some = absurd (some (first refl))
+  HasHandle-counted xs (suc k) before within first later some =
+      let is : before ≡ suc k - 1 = later (omega arith) in
+      HasHandle-inside xs before (omega (arith, is, within))
+
   pub inside_from_HasHandle : (xs : List V) (handle : ℕ) → HasHandle (numbered xs) handle → handle < length xs
   inside_from_HasHandle xs handle (k, pair, within, at, is) =
       let same = length-numbered xs in

@@ -1,9 +1,11 @@
 -- Where a way down a tree of keys that expire ends. For the private contracts of `KeyExpTree`.
-use Rattle.std.specs.Prelude.{◌≡◌, ℕ, Bool, true, List, [], ◌∷◌, ◌++◌, Option, Some, None}
+use Rattle.std.specs.Prelude.{◌≡◌, ℕ, Bool, true, false, List, [], ◌∷◌, ◌++◌, Option, Some, None, All, length}
 use Rattle.std.specs.declared.cmp.Ordering.{Ordering}
 use Rattle.std.specs.declared.cmp.Ordering.TheVariants.{Less, Equal, Greater}
 use Rattle.i_tree.specs.Ends.{EndsIn, StartsIn}
+use Rattle.i_tree.specs.KeyWay.{way_by}
 use Rattle.i_tree.specs.Place.{IsPlaceBetween}
+use Rattle.i_tree.specs.RbTree.{Contents}
 use Rattle.i_tree.specs.Shape.{Shape, entries}
 use Rattle.i_tree.specs.declared.place.Place.{Place}
 
@@ -12,6 +14,15 @@ abbrev pub below_or_not : Ordering → Ordering
 below_or_not Less = Less
 below_or_not Equal = Greater
 below_or_not Greater = Greater
+
+-- how a key is called by a test that it passes or doesn't
+abbrev pub less_if : Bool → Ordering
+less_if true = Less
+less_if false = Greater
+
+-- a key that passes the test is called Less, and any other Greater
+abbrev pub AnswersAs : {K : Type 0} → (K → Ordering → Type 0) → (K → Bool) → Type 0
+AnswersAs {K} may_answer passes = (key : K) (answer : Ordering) → may_answer key answer → answer ≡ less_if (passes key)
 
 -- the value of the last entry
 abbrev pub last_value : {K V : Type 0} → List (ℕ × (K × V)) → Option V
@@ -42,3 +53,8 @@ module _ {K V : Type 0} (is_live : K → Bool) (MayAnswer : K → Ordering → T
     pub before : EndsIn (IsCalled Less) front
     pub after : StartsIn (IsCalled Greater) back
     pub value_is : value ≡ last_value front
+
+  -- where a test says what is answered, nothing has gone exactly where all pairs on the way by the test are live
+  pub record FollowsWay (old new : Contents (K × V)) : Type 0 where
+    pub all_live : (passes : K → Bool) → AnswersAs MayAnswer passes → length (entries new.shape) ≡ length (entries old.shape) → All (λ pair. is_live pair.0 ≡ true) (way_by passes old.shape)
+    pub none_gone : (passes : K → Bool) → AnswersAs MayAnswer passes → All (λ pair. is_live pair.0 ≡ true) (way_by passes old.shape) → new ≡ old

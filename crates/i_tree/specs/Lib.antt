@@ -11,6 +11,7 @@ pub mod Halving
 pub mod KeyDescent
 pub mod KeyExpList
 pub mod KeyExpTree
+pub mod KeyWay
 pub mod Live
 pub mod Mending
 pub mod Pairs

@@ -1,5 +1,5 @@
 -- When a key is live. `expiration` gives a key's expiration, and `cmp` compares expirations.
-use Rattle.std.specs.Prelude.{◌≡◌, Bool, false, List, All, filter}
+use Rattle.std.specs.Prelude.{◌≡◌, Bool, true, false, List, All, filter}
 use Rattle.std.specs.Ordering.{is_gt}
 use Rattle.std.specs.declared.cmp.Ordering.{Ordering}
 
@@ -11,6 +11,10 @@ module _ {K E : Type 0} (expiration : K → E) (cmp : E → E → Ordering) wher
   -- the pairs whose keys are live at a time, in their order
   abbrev pub live_pairs : {V : Type 0} → E → List (K × V) → List (K × V)
   live_pairs time pairs = filter (λ pair. is_live time pair.0) pairs
+
+  -- the key of each pair is live at a time
+  abbrev pub AllLive : {V : Type 0} → E → List (K × V) → Type 0
+  AllLive time pairs = All (λ pair. is_live time pair.0 ≡ true) pairs
 
   -- the pair's key is not live at a time
   abbrev pub IsExpired : {V : Type 0} → E → K × V → Type 0

@@ -3,7 +3,7 @@ use Rattle.std.specs.Prelude.{◌≡◌, ◌≢◌, ◌==◌, ℕ, List, All, Al
 use Rattle.std.specs.Borrow.{Bor}
 use Rattle.std.specs.declared.cmp.Ordering.{Ordering}
 use Rattle.i_tree.specs.Answer.{AtMost}
-use Rattle.i_tree.specs.Pairs.{IsRising, NoKey}
+use Rattle.i_tree.specs.Pairs.{HasKey, IsRising, NoKey}
 use Rattle.i_tree.specs.declared.TheConstants.{EMPTY_REF}
 
 module _ {V : Type 0} where
@@ -36,6 +36,10 @@ module _ {K V : Type 0} (key_of : V → K) where
     -- each value's key is below the keys of all later ones
     abbrev pub IsOrdered : List (ℕ × V) → Type 0
     IsOrdered pairs = IsRising cmp (by_key pairs)
+
+    -- some value's key compares Equal to the key
+    abbrev pub HoldsKey : List (ℕ × V) → K → Type 0
+    HoldsKey pairs key = HasKey cmp (by_key pairs) key
 
     -- no value's key compares Equal to the key
     abbrev pub LacksKey : List (ℕ × V) → K → Type 0

@@ -1,5 +1,4 @@
-//! The containers of a sweep line: keys that expire, in a sorted vector, and ordered sets, in a red-black tree and in a
-//! sorted vector.
+//! The containers of a sweep line: keys that expire and ordered sets, each in a red-black tree and in a sorted vector.
 //!
 //! A port of the Rust crate `i_tree` 0.20.0, whose names and rules these are. Each call is proved to answer from a plain
 //! list of pairs.
@@ -15,7 +14,9 @@ pub mod rb;
 pub mod set;
 pub mod steps;
 
-use std::alloc::AllocError;
+use std::alloc::{AllocError, AllocFailed};
+use std::error::Error;
+use std::fmt::{self, Debug, Display, Formatter};
 
 /// The handle that stands for no entry. It is never the handle of one.
 pub const EMPTY_REF: u32 = u32::MAX;
@@ -37,7 +38,27 @@ impl From<AllocError> for Refusal {
     }
 }
 
-/// A refusal that hands the refused value back.
+impl<T: Drop> From<AllocFailed<T>> for Refusal {
+    ghost from_gives = { λ _ refusal. refusal ≡ OutOfMemory };
+
+    fn from(_refused: AllocFailed<T>) -> Refusal {
+        Refusal::OutOfMemory
+    }
+}
+
+/// Says which of the two it is, in a program's own error.
+impl Display for Refusal {
+    fn fmt<W: fmt::Write>(&self, f: &mut Formatter<W>) -> fmt::Result {
+        match self {
+            Refusal::OutOfMemory => write!(f, "memory was refused"),
+            Refusal::NoHandle => write!(f, "every handle is in use"),
+        }
+    }
+}
+
+impl Error for Refusal {}
+
+/// A refusal that hands the refused value back. Where the value is not wanted, `?` makes a `Refusal` of it.
 #[derive(Debug, Drop)]
 pub struct Refused<V> {
     /// The value that was not taken.
@@ -45,6 +66,24 @@ pub struct Refused<V> {
     /// Why it was not taken.
     pub cause: Refusal,
 }
+
+/// The cause; the value is dropped.
+impl<V: Drop> From<Refused<V>> for Refusal {
+    ghost from_gives = { λ refused refusal. refusal ≡ refused.cause };
+
+    fn from(refused: Refused<V>) -> Refusal {
+        refused.cause
+    }
+}
+
+/// Says why, and nothing of the value.
+impl<V> Display for Refused<V> {
+    fn fmt<W: fmt::Write>(&self, f: &mut Formatter<W>) -> fmt::Result {
+        write!(f, "{}", self.cause)
+    }
+}
+
+impl<V: Debug + Drop> Error for Refused<V> {}
 
 /// A type of times, in the order of `Ord`.
 pub trait Expiration: Copy + Ord {

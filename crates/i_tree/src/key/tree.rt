@@ -1,11 +1,12 @@
-ghost use Rattle.std.specs.Prelude.{◌≡◌, ◌≢◌, ◌≤◌, ◌<◌, ◌+◌, ◌⊎◌, true, false, All, length, IsOk, OnOk, OnErr, IfOk, IfErr, IsErrAnd, MatchBool, MatchOption, max};
+ghost use Rattle.std.specs.Prelude.{◌≡◌, ◌≢◌, ◌≤◌, ◌<◌, ◌+◌, ◌⊎◌, true, false, All, length, IsOk, OnOk, OnErr, IfOk, IfErr, IsErr, IsErrAnd, MatchBool, MatchOption, max};
 ghost use Rattle.std.specs.declared.cmp.Ordering.{Ordering};
 ghost use Rattle.i_tree.specs.Answer.{Below, AtMost, AnswersBy, IsMonotone};
 ghost use Rattle.i_tree.specs.Change.{Gains, Without};
 ghost use Rattle.i_tree.specs.Descent.{Descends, LooksFor};
-ghost use Rattle.i_tree.specs.KeyDescent.{EndsAt, EndsBetween, below_or_not};
+ghost use Rattle.i_tree.specs.KeyDescent.{EndsAt, EndsBetween, FollowsWay, below_or_not};
 ghost use Rattle.i_tree.specs.KeyExpTree.{items, slots_for};
-ghost use Rattle.i_tree.specs.Live.{is_live, live_pairs, IsExpired};
+ghost use Rattle.i_tree.specs.KeyWay.{way_to};
+ghost use Rattle.i_tree.specs.Live.{is_live, live_pairs, AllLive, IsExpired};
 ghost use Rattle.i_tree.specs.Pairs.{HasKey, NoKey, IsRising};
 ghost use Rattle.i_tree.specs.RbTree.{slots};
 ghost use Rattle.i_tree.specs.Shape.{leaf, entries, IsCore};
@@ -98,6 +99,7 @@ where
     ensures kept { Without (IsExpired K.expiration E.cmp time) (items core.old.shape) (items core.new.shape) }
     ensures slots { slots core.new ≡ slots core.old }
     ensures same { length (entries core.new.shape) ≡ length (entries core.old.shape) → core.new ≡ core.old }
+    ensures follows { FollowsWay (is_live K.expiration E.cmp time) (F.post f.now) core.old core.new }
     ensures steps { Descends steps.old steps.new (length (entries core.old.shape)) (length (entries core.new.shape)) 0 }
     ensures core { IsCore core.new.shape }
 {
@@ -146,6 +148,8 @@ where
     ensures kept { Without (IsExpired K.expiration E.cmp time) (items core.old.shape) (items core.new.shape) }
     ensures slots { slots core.new ≡ slots core.old }
     ensures same { length (entries core.new.shape) ≡ length (entries core.old.shape) → core.new ≡ core.old }
+    ensures all_live { length (entries core.new.shape) ≡ length (entries core.old.shape) → AllLive K.expiration E.cmp time (way_to K.cmp key core.old.shape) }
+    ensures none_gone { AllLive K.expiration E.cmp time (way_to K.cmp key core.old.shape) → core.new ≡ core.old }
     ensures steps { Descends steps.old steps.new (length (entries core.old.shape)) (length (entries core.new.shape)) 0 }
     ensures core { IsCore core.new.shape }
 {
@@ -222,8 +226,9 @@ impl<K: ExpiredKey<E>, E: Expiration, V: Copy, A: Allocator + Copy> KeyExpTree<K
     ///
     /// It goes down to the place of the key, and removes each expired entry that it meets on its way. Only then, where no
     /// slot is free, are the slots doubled, up to `EMPTY_REF` of them: it is refused with `NoHandle` exactly where all of
-    /// these are in use then, and with `OutOfMemory` only where the growth was refused. So a refusal means that nothing was
-    /// removed, and it changes nothing; the comparisons and tests were made. The counts and the refusals are our own.
+    /// these are in use then, and with `OutOfMemory` only where the growth was refused. So a refusal means that each entry on
+    /// the way to the key's place is live and no slot was free, and it changes nothing; the comparisons and tests were made.
+    /// The counts and the refusals are our own.
     pub fn insert_counted<L: Ledger>(
         &mut self,
         steps: &mut Steps<L>,
@@ -237,6 +242,8 @@ impl<K: ExpiredKey<E>, E: Expiration, V: Copy, A: Allocator + Copy> KeyExpTree<K
         ensures rising { IsRising K.cmp (items self.new.shape) }
         ensures slots { OnOk result (slots self.new ≡ slots_for self.old (length (items self.new.shape))) }
         ensures with_spare { 0 < self.old.spare → IsOk result }
+        ensures err_way { OnErr result (AllLive K.expiration E.cmp time (way_to K.cmp key self.old.shape)) }
+        ensures full { self.old.spare ≡ 0 → slots self.old ≡ EMPTY_REF → AllLive K.expiration E.cmp time (way_to K.cmp key self.old.shape) → IsErr result }
         ensures no_handle { slots self.old ≡ EMPTY_REF → IfErr result (λ cause. cause ≡ Refusal.NoHandle) }
         ensures refused { slots self.old ≢ EMPTY_REF → IfErr result (λ cause. cause ≡ Refusal.OutOfMemory) }
         ensures steps { OnOk result (Descends steps.old steps.new (length (items self.old.shape)) (length (items self.new.shape)) 1) }
@@ -334,6 +341,8 @@ impl<K: ExpiredKey<E>, E: Expiration, V: Copy, A: Allocator + Copy> KeyExpTree<K
         ensures rising { IsRising K.cmp (items self.new.shape) }
         ensures slots { OnOk result (slots self.new ≡ slots_for self.old (length (items self.new.shape))) }
         ensures with_spare { 0 < self.old.spare → IsOk result }
+        ensures err_way { OnErr result (AllLive K.expiration E.cmp time (way_to K.cmp key self.old.shape)) }
+        ensures full { self.old.spare ≡ 0 → slots self.old ≡ EMPTY_REF → AllLive K.expiration E.cmp time (way_to K.cmp key self.old.shape) → IsErr result }
         ensures no_handle { slots self.old ≡ EMPTY_REF → IfErr result (λ cause. cause ≡ Refusal.NoHandle) }
         ensures refused { slots self.old ≢ EMPTY_REF → IfErr result (λ cause. cause ≡ Refusal.OutOfMemory) }
         ensures core { IsCore self.new.shape }
@@ -410,6 +419,8 @@ impl<K: ExpiredKey<E>, E: Expiration, V: Copy, A: Allocator + Copy> KeyExpCollec
         ensures rising { IsRising K.cmp (items self.new.shape) }
         ensures slots { OnOk result (slots self.new ≡ slots_for self.old (length (items self.new.shape))) }
         ensures with_spare { 0 < self.old.spare → IsOk result }
+        ensures err_way { OnErr result (AllLive K.expiration E.cmp time (way_to K.cmp key self.old.shape)) }
+        ensures full { self.old.spare ≡ 0 → slots self.old ≡ EMPTY_REF → AllLive K.expiration E.cmp time (way_to K.cmp key self.old.shape) → IsErr result }
         ensures no_handle { slots self.old ≡ EMPTY_REF → IfErr result (λ cause. cause ≡ Refusal.NoHandle) }
         ensures refused { slots self.old ≢ EMPTY_REF → IfErr result (λ cause. cause ≡ Refusal.OutOfMemory) }
         ensures core { IsCore self.new.shape }

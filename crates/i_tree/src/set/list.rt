@@ -154,6 +154,7 @@ impl<K: Ord, V: KeyValue<K> + Drop, A: Allocator + Copy> SetCollection<K, V> for
         ensures value { (front : List (ℕ × V)) (value : V) (back : List (ℕ × V)) → numbered self.old.values ≡ front ++ (index, value) ∷ back → values (numbered self.new.values) ≡ values front ++ values back }
         ensures removed { self.new.values ≡ remove self.old.values index }
         ensures spare { self.new.spare ≡ self.old.spare + 1 }
+        ensures in_order { IsOrdered V.key_of K.cmp (numbered self.old.values) → IsOrdered V.key_of K.cmp (numbered self.new.values) }
         ensures handles { AreApart (numbered self.new.values) }
     {
         self.values.remove(index as usize);
@@ -165,6 +166,7 @@ impl<K: Ord, V: KeyValue<K> + Drop, A: Allocator + Copy> SetCollection<K, V> for
     fn index_before(&self, index: u32) -> u32
         requires { HasHandle (numbered self.now.values) index }
         ensures value { (front : List (ℕ × V)) (value : V) (back : List (ℕ × V)) → numbered self.now.values ≡ front ++ (index, value) ∷ back → result ≡ last_handle front }
+        ensures live { result ≢ EMPTY_REF → HasHandle (numbered self.now.values) result }
         ensures handles { AreApart (numbered self.now.values) }
     {
         // That the list is short enough for its handles is known once a field is read.
@@ -180,6 +182,7 @@ impl<K: Ord, V: KeyValue<K> + Drop, A: Allocator + Copy> SetCollection<K, V> for
         ensures value { (order : K → Ordering) → AnswersBy (λ key answer. FnReturnsAt F.Fn f key answer) order (by_key V.key_of (numbered self.now.values))
             → IsMonotone K.cmp order (by_key V.key_of (numbered self.now.values))
             → IsFoundBy V.key_of K.cmp order (numbered self.now.values) result }
+        ensures live { result ≢ EMPTY_REF → HasHandle (numbered self.now.values) result }
         ensures handles { AreApart (numbered self.now.values) }
     {
         let is_at_most = |value: &V| -> bool

@@ -1,13 +1,13 @@
-ghost use Rattle.std.specs.Prelude.{◌≡◌, ◌++◌, ◌∷◌, ℕ, List, IfErr, MatchBool, OnErr, OnOk};
+ghost use Rattle.std.specs.Prelude.{◌≡◌, ◌≢◌, ◌++◌, ◌∷◌, ℕ, List, IfErr, MatchBool, OnErr, OnOk};
 ghost use Rattle.std.specs.Borrow.{Lends, sem};
 ghost use Rattle.std.specs.Fn.{FnReturnsAt};
 ghost use Rattle.std.specs.declared.cmp.Ordering.{Ordering};
 ghost use Rattle.i_tree.specs.Answer.{AnswersBy, IsMonotone};
 ghost use Rattle.i_tree.specs.Change.{Joins};
-ghost use Rattle.i_tree.specs.Set.{values, AreApart, HasHandle, LacksHandle, with_value, by_key, IsOrdered, LacksKey, IsFoundBy, TakesKeys};
+ghost use Rattle.i_tree.specs.Set.{values, AreApart, HasHandle, LacksHandle, with_value, by_key, IsOrdered, HoldsKey, LacksKey, IsFoundBy, TakesKeys};
 ghost use Rattle.i_tree.specs.Shape.{last_handle};
 
-use crate::Refused;
+use crate::{EMPTY_REF, Refused};
 use std::cmp::Ordering;
 
 /// A value that has a key. The name is that of the Rust crate `i_tree`.
@@ -27,8 +27,8 @@ pub trait KeyValue<K> {
 /// or two of them Equal, `insert` and `first_index_less_by` may not be called until they are in order again:
 /// `is_ordered` is the test.
 ///
-/// The names and rules are those of the Rust crate `i_tree`, but for `has_index` and `is_ordered`, which are our own, and
-/// for the conditions, which are not tested there.
+/// Each condition has a test: `contains_key`, `has_index` and `is_ordered`. These three are our own; the other names and
+/// rules are those of the Rust crate `i_tree`, which does not test its conditions.
 pub trait SetCollection<K: Ord, V: KeyValue<K> + Drop> {
     /// The values in order, each behind its handle.
     ghost pairs: { Self → List (ℕ × V) };
@@ -36,7 +36,7 @@ pub trait SetCollection<K: Ord, V: KeyValue<K> + Drop> {
     /// The collection with this value at the handle.
     ghost put: { Self → ℕ → V → Self };
 
-    /// Puts the value at the place of its key. No key of the collection may compare Equal to it.
+    /// Puts the value at the place of its key. No key of the collection may compare Equal to it: `contains_key` is the test.
     ///
     /// Which handles the values then have is said by each collection. It is refused where the collection gets no room
     /// for one value more. That leaves all as it was, and hands the value back.
@@ -55,6 +55,7 @@ pub trait SetCollection<K: Ord, V: KeyValue<K> + Drop> {
     fn delete_by_index(&mut self, index: u32)
         requires { HasHandle (pairs self.old) index }
         ensures value { (front : List (ℕ × V)) (value : V) (back : List (ℕ × V)) → pairs self.old ≡ front ++ (index, value) ∷ back → values (pairs self.new) ≡ values front ++ values back }
+        ensures in_order { IsOrdered V.key_of K.cmp (pairs self.old) → IsOrdered V.key_of K.cmp (pairs self.new) }
         ensures handles { AreApart (pairs self.new) };
 
     /// The handle of the value before this one, or `EMPTY_REF` where it is the first.
@@ -63,6 +64,7 @@ pub trait SetCollection<K: Ord, V: KeyValue<K> + Drop> {
     fn index_before(&self, index: u32) -> u32
         requires { HasHandle (pairs self.now) index }
         ensures value { (front : List (ℕ × V)) (value : V) (back : List (ℕ × V)) → pairs self.now ≡ front ++ (index, value) ∷ back → result ≡ last_handle front }
+        ensures live { result ≢ EMPTY_REF → HasHandle (pairs self.now) result }
         ensures handles { AreApart (pairs self.now) };
 
     /// The handle of a value whose key `f` calls Equal; where there is none, of the last whose key it calls Less; where
@@ -77,6 +79,7 @@ pub trait SetCollection<K: Ord, V: KeyValue<K> + Drop> {
         ensures value { (order : K → Ordering) → AnswersBy (λ key answer. FnReturnsAt F.Fn f key answer) order (by_key V.key_of (pairs self.now))
             → IsMonotone K.cmp order (by_key V.key_of (pairs self.now))
             → IsFoundBy V.key_of K.cmp order (pairs self.now) result }
+        ensures live { result ≢ EMPTY_REF → HasHandle (pairs self.now) result }
         ensures handles { AreApart (pairs self.now) };
 
     /// The value at the handle.
@@ -91,6 +94,22 @@ pub trait SetCollection<K: Ord, V: KeyValue<K> + Drop> {
         ensures* writes_back { sem 𝓛 (Lends Self.row V.row self.entry result (put self.old index)) }
         ensures value { (front : List (ℕ × V)) (value : V) (back : List (ℕ × V)) → pairs self.old ≡ front ++ (index, value) ∷ back → result.now ≡ value }
         ensures handles { AreApart (pairs self.old) };
+
+    /// Whether a value's key compares Equal to `key`. It is our own.
+    fn contains_key(&self, key: &K) -> bool
+        requires in_order { IsOrdered V.key_of K.cmp (pairs self.now) }
+        ensures cases { MatchBool result (HoldsKey V.key_of K.cmp (pairs self.now) key.now) (LacksKey V.key_of K.cmp (pairs self.now) key.now) }
+        ensures handles { AreApart (pairs self.now) }
+    {
+        let stands = |other: &K| -> Ordering
+            ensures { result ≡ K.cmp other.entry.now key.entry.now }
+        { other.cmp(key) };
+        let found = self.first_index_less_by(stands);
+        if found == EMPTY_REF {
+            return false;
+        }
+        self.value_by_index(found).key().cmp(key).is_eq()
+    }
 
     /// Whether a value has the handle.
     fn has_index(&self, index: u32) -> bool

@@ -7,7 +7,7 @@ ghost use Rattle.i_tree.specs.Answer.{AnswersBy, IsMonotone};
 ghost use Rattle.i_tree.specs.Compared.{ComparesWithin, OnlyCompares, RotatesWithin};
 ghost use Rattle.i_tree.specs.RbTree.{slots, slots_with_room};
 ghost use Rattle.i_tree.specs.Removal.{LosesAt};
-ghost use Rattle.i_tree.specs.Set.{by_key, IsOrdered, LacksKey, IsFoundBy, TakesKeys};
+ghost use Rattle.i_tree.specs.Set.{by_key, HasHandle, IsOrdered, LacksKey, IsFoundBy, TakesKeys};
 ghost use Rattle.i_tree.specs.Place.{IsPlaceBetween};
 ghost use Rattle.i_tree.specs.Shape.{leaf, entries, occurs, IsCore, IsLive, last_handle};
 ghost use Rattle.i_tree.specs.Steps.{OnlyRotates};
@@ -104,6 +104,7 @@ impl<K: Ord, V: KeyValue<K> + Drop, A: Allocator + Copy> SetTree<K, V, A> {
         requires in_order { IsOrdered V.key_of K.cmp (entries self.old.shape) }
         requires absent { LacksKey V.key_of K.cmp (entries self.old.shape) (V.key_of val) }
         ensures joins { OnOk result ((front : List (ℕ × V)) × (handle : ℕ) × (back : List (ℕ × V)) × (entries self.old.shape ≡ front ++ back) × (entries self.new.shape ≡ front ++ (handle, val) ∷ back) × (occurs handle self.old.shape ≡ 0)) }
+        ensures keeps { (handle : ℕ) → HasHandle (entries self.old.shape) handle → HasHandle (entries self.new.shape) handle }
         ensures in_order { IsOrdered V.key_of K.cmp (entries self.new.shape) }
         ensures slots { OnOk result (slots self.new ≡ slots_with_room self.old) }
         ensures with_spare { 0 < self.old.spare → IsOk result }
@@ -161,6 +162,7 @@ impl<K: Ord, V: KeyValue<K> + Drop, A: Allocator + Copy> SetTree<K, V, A> {
         ensures value { (order : K → Ordering) → AnswersBy (λ key answer. FnReturnsAt F.Fn f key answer) order (by_key V.key_of (entries self.now.shape))
             → IsMonotone K.cmp order (by_key V.key_of (entries self.now.shape))
             → IsFoundBy V.key_of K.cmp order (entries self.now.shape) result }
+        ensures live { result ≢ EMPTY_REF → HasHandle (entries self.now.shape) result }
         ensures core { IsCore self.now.shape }
         ensures comparisons { ComparesWithin steps.old steps.new (length (entries self.now.shape)) }
         ensures others { OnlyCompares steps.old steps.new }
@@ -188,6 +190,7 @@ impl<K: Ord, V: KeyValue<K> + Drop, A: Allocator + Copy> SetTree<K, V, A> {
         requires in_order { IsOrdered V.key_of K.cmp (entries self.old.shape) }
         requires absent { LacksKey V.key_of K.cmp (entries self.old.shape) (V.key_of val) }
         ensures joins { OnOk result ((front : List (ℕ × V)) × (handle : ℕ) × (back : List (ℕ × V)) × (entries self.old.shape ≡ front ++ back) × (entries self.new.shape ≡ front ++ (handle, val) ∷ back) × (occurs handle self.old.shape ≡ 0)) }
+        ensures keeps { (handle : ℕ) → HasHandle (entries self.old.shape) handle → HasHandle (entries self.new.shape) handle }
         ensures in_order { IsOrdered V.key_of K.cmp (entries self.new.shape) }
         ensures slots { OnOk result (slots self.new ≡ slots_with_room self.old) }
         ensures with_spare { 0 < self.old.spare → IsOk result }
@@ -211,6 +214,7 @@ impl<K: Ord, V: KeyValue<K> + Drop, A: Allocator + Copy> SetTree<K, V, A> {
         ensures value { (order : K → Ordering) → AnswersBy (λ key answer. FnReturnsAt F.Fn f key answer) order (by_key V.key_of (entries self.now.shape))
             → IsMonotone K.cmp order (by_key V.key_of (entries self.now.shape))
             → IsFoundBy V.key_of K.cmp order (entries self.now.shape) result }
+        ensures live { result ≢ EMPTY_REF → HasHandle (entries self.now.shape) result }
         ensures core { IsCore self.now.shape }
     {
         let mut steps = Steps::<L>::new(blank);
@@ -278,6 +282,7 @@ impl<K: Ord, V: KeyValue<K> + Drop, A: Allocator + Copy> SetCollection<K, V> for
         requires absent { LacksKey V.key_of K.cmp (entries self.old.shape) (V.key_of val) }
         ensures ok { OnOk result (Joins val (values (entries self.old.shape)) (values (entries self.new.shape))) }
         ensures joins { OnOk result ((front : List (ℕ × V)) × (handle : ℕ) × (back : List (ℕ × V)) × (entries self.old.shape ≡ front ++ back) × (entries self.new.shape ≡ front ++ (handle, val) ∷ back) × (occurs handle self.old.shape ≡ 0)) }
+        ensures keeps { (handle : ℕ) → HasHandle (entries self.old.shape) handle → HasHandle (entries self.new.shape) handle }
         ensures in_order { IsOrdered V.key_of K.cmp (entries self.new.shape) }
         ensures handles { AreApart (entries self.new.shape) }
         ensures slots { OnOk result (slots self.new ≡ slots_with_room self.old) }
@@ -301,6 +306,7 @@ impl<K: Ord, V: KeyValue<K> + Drop, A: Allocator + Copy> SetCollection<K, V> for
         ensures value { (front : List (ℕ × V)) (value : V) (back : List (ℕ × V)) → entries self.old.shape ≡ front ++ (index, value) ∷ back → values (entries self.new.shape) ≡ values front ++ values back }
         ensures loses { (front : List (ℕ × V)) (value : V) (back : List (ℕ × V)) → entries self.old.shape ≡ front ++ (index, value) ∷ back → LosesAt index front back (entries self.new.shape) }
         ensures spare { self.new.spare ≡ self.old.spare + 1 }
+        ensures in_order { IsOrdered V.key_of K.cmp (entries self.old.shape) → IsOrdered V.key_of K.cmp (entries self.new.shape) }
         ensures handles { AreApart (entries self.new.shape) }
         ensures core { IsCore self.new.shape }
     {

@@ -1,5 +1,7 @@
 use Rattle.std.proofs.Common.{[], ◌∷◌, ◌++◌, length, refl, sym, ap, ◌∙◌, inl, inr, subst, arith}
+use Rattle.std.specs.declared.cmp.Ordering.TheVariants.{Less, Equal, Greater}
 use Rattle.i_tree.proofs.Contexts.{part_at-none}
+use Rattle.i_tree.proofs.KeyFollowing.{followed_top, followed_end, followed_right, followed_left, followed_gone, followed_equal}
 use Rattle.i_tree.proofs.KeyWays.{IsRemoved, counted_none, counted_compare, counted_removal, counted_all, place_stays, way_stays, rank_stays, items_without, one_less, last_value-end, asked_here}
 use Rattle.i_tree.proofs.SetDescent.{IsCutAt-top, cut_here, cut_at_end, goes_left, goes_right, falls_left, falls_right, some_rank}
 use Rattle.i_tree.proofs.Withouts.{Without-refl, Without-trans}
@@ -18,6 +20,7 @@ loop-here-init g c =
       kept = Without-refl (items tree);
       slots = refl;
       same = λ _. refl;
+      follows = followed_top (is_live g.K.ExpiredKey.expiration g.E.Ord.cmp c.args.time) (goal.F-post g c.args.f.now) c.args.core.now c.root-here.result c.root-here.ensures.part;
       counted = counted_none c.args.steps.now (rank tree) _ _ (omega (arith, ap rank c.root-here.ensures.part));
       core = c.root-here.ensures.core;
       first = c.root-here.ensures.core;
@@ -73,6 +76,7 @@ loop-here-preserved-in-None g c =
       kept = Without-trans c.loop-here.invariant.kept (items_without (IsExpired g.K.ExpiredKey.expiration g.E.Ord.cmp c.args.time) tree tree' front here c.item.result.now back cut loses c.in-None.ensures.cases);
       slots = omega (arith, c.loop-here.invariant.slots, c.remove.ensures.spare, less);
       same = λ all. absurd (omega (arith, all, less, c.loop-here.invariant.counted.stores));
+      follows = followed_gone (is_live g.K.ExpiredKey.expiration g.E.Ord.cmp c.args.time) (goal.F-post g c.args.f.now) c.args.core.now c.loop-here.core here c.item.result.now c.item.ensures.value c.loop-here.invariant.follows c.remove.new.self next c.in-None.ensures.cases (omega (arith, less, c.loop-here.invariant.counted.stores));
       counted = counted_removal _ c.loop-here.steps c.visit.new.steps c.remove.new.steps _ (rank (part_at here tree)) (rank (part_at next tree')) _ (length (entries tree)) (length (entries tree')) c.loop-here.invariant.counted lower less
           c.in-None.ensures.comparisons c.visit.ensures.tests c.visit.ensures.removals c.visit.ensures.rotations c.remove.ensures.steps;
       core = c.remove.ensures.core;
@@ -93,12 +97,13 @@ loop-here-preserved-in-Some-Less g c =
     let way = c.loop-here.invariant.way in
     let front = way.0 ++ entries (left_at here tree) in
     let lower = falls_right tree here pair c.item.ensures.value next c.item.ensures.core.falls c.right-here.ensures.part in
+    let called : IsCalled (is_live g.K.ExpiredKey.expiration g.E.Ord.cmp c.args.time) (goal.F-post g c.args.f.now) Less (here, pair) = subst (λ answer. IsCalled (is_live g.K.ExpiredKey.expiration g.E.Ord.cmp c.args.time) (goal.F-post g c.args.f.now) answer (here, pair)) c.in-Some-Less.field-0-is c.in-Some-Less.ensures.cases in
     record {
       way = (
         front ++ (here, pair) ∷ [],
         way.1,
         record {
-          at = goes_right tree here pair c.item.ensures.value way.2.at next c.right-here.ensures.live c.right-here.ensures.part (subst (λ answer. IsCalled (is_live g.K.ExpiredKey.expiration g.E.Ord.cmp c.args.time) (goal.F-post g c.args.f.now) answer (here, pair)) c.in-Some-Less.field-0-is c.in-Some-Less.ensures.cases);
+          at = goes_right tree here pair c.item.ensures.value way.2.at next c.right-here.ensures.live c.right-here.ensures.part called;
           of = (way.2.at.live c.loop-here-test.true, sym c.right-here.ensures.part, (front, pair, refl));
         },
         sym (last_value-end front (here, pair)),
@@ -106,6 +111,7 @@ loop-here-preserved-in-Some-Less g c =
       kept = c.loop-here.invariant.kept;
       slots = c.loop-here.invariant.slots;
       same = c.loop-here.invariant.same;
+      follows = followed_right (is_live g.K.ExpiredKey.expiration g.E.Ord.cmp c.args.time) (goal.F-post g c.args.f.now) c.args.core.now c.loop-here.core here pair c.item.ensures.value c.loop-here.invariant.follows next called.0 called.1 c.right-here.ensures.part;
       counted = counted_compare _ c.loop-here.steps c.visit.new.steps _ (rank (part_at here tree)) (rank (part_at next tree)) _ _ c.loop-here.invariant.counted lower
           c.in-Some-Less.ensures.comparisons c.visit.ensures.tests c.visit.ensures.removals c.visit.ensures.rotations;
       core = c.loop-here.invariant.core;
@@ -149,12 +155,13 @@ loop-here-preserved g c =
     let way = c.loop-here.invariant.way in
     let back = entries (right_at here tree) ++ way.1 in
     let lower = falls_left tree here pair c.item.ensures.value next c.item.ensures.core.falls c.left-here.ensures.part in
+    let called : IsCalled (is_live g.K.ExpiredKey.expiration g.E.Ord.cmp c.args.time) (goal.F-post g c.args.f.now) Greater (here, pair) = subst (λ answer. IsCalled (is_live g.K.ExpiredKey.expiration g.E.Ord.cmp c.args.time) (goal.F-post g c.args.f.now) answer (here, pair)) c.in-Some-Greater.field-0-is c.in-Some-Greater.ensures.cases in
     record {
       way = (
         way.0,
         (here, pair) ∷ back,
         record {
-          at = goes_left tree here pair c.item.ensures.value way.2.at next c.left-here.ensures.live c.left-here.ensures.part (subst (λ answer. IsCalled (is_live g.K.ExpiredKey.expiration g.E.Ord.cmp c.args.time) (goal.F-post g c.args.f.now) answer (here, pair)) c.in-Some-Greater.field-0-is c.in-Some-Greater.ensures.cases);
+          at = goes_left tree here pair c.item.ensures.value way.2.at next c.left-here.ensures.live c.left-here.ensures.part called;
           of = (way.2.at.live c.loop-here-test.true, sym c.left-here.ensures.part, (pair, back, refl));
         },
         way.3,
@@ -162,6 +169,7 @@ loop-here-preserved g c =
       kept = c.loop-here.invariant.kept;
       slots = c.loop-here.invariant.slots;
       same = c.loop-here.invariant.same;
+      follows = followed_left (is_live g.K.ExpiredKey.expiration g.E.Ord.cmp c.args.time) (goal.F-post g c.args.f.now) c.args.core.now c.loop-here.core here pair c.item.ensures.value c.loop-here.invariant.follows next called.0 called.1 c.left-here.ensures.part;
       counted = counted_compare _ c.loop-here.steps c.visit.new.steps _ (rank (part_at here tree)) (rank (part_at next tree)) _ _ c.loop-here.invariant.counted lower
           c.in-Some-Greater.ensures.comparisons c.visit.ensures.tests c.visit.ensures.removals c.visit.ensures.rotations;
       core = c.loop-here.invariant.core;
@@ -184,3 +192,15 @@ returns-clause-end g c =
 
 pub returns-clause-steps : goal.returns-clause-steps
 returns-clause-steps g c = counted_all c.args.core.now.shape c.args.steps.now c.loop-here.steps _ _ c.loop-here.invariant.first c.loop-here.invariant.counted
+
+pub returns-in-Some-Equal-clause-follows : goal.returns-in-Some-Equal-clause-follows
+returns-in-Some-Equal-clause-follows g c =
+    let pair = c.item.result.now in
+    let called : IsCalled (is_live g.K.ExpiredKey.expiration g.E.Ord.cmp c.args.time) (goal.F-post g c.args.f.now) Equal (c.loop-here.here, pair) = subst (λ answer. IsCalled (is_live g.K.ExpiredKey.expiration g.E.Ord.cmp c.args.time) (goal.F-post g c.args.f.now) answer (c.loop-here.here, pair)) c.in-Some-Equal.field-0-is c.in-Some-Equal.ensures.cases in
+    followed_equal (is_live g.K.ExpiredKey.expiration g.E.Ord.cmp c.args.time) (goal.F-post g c.args.f.now) c.args.core.now c.loop-here.core c.loop-here.here pair c.item.ensures.value c.loop-here.invariant.follows c.loop-here.core called.1
+
+pub returns-clause-follows : goal.returns-clause-follows
+returns-clause-follows g c =
+    let tree = c.loop-here.core.shape in
+    let empty = part_at-none c.loop-here.here tree (ap (λ handle. occurs handle tree) c.loop-here-test.false ∙ c.loop-here.invariant.core.handles.none_empty) in
+    followed_end (is_live g.K.ExpiredKey.expiration g.E.Ord.cmp c.args.time) (goal.F-post g c.args.f.now) c.args.core.now c.loop-here.core c.loop-here.here empty c.loop-here.invariant.follows

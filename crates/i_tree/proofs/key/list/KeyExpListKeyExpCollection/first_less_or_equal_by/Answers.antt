@@ -1,5 +1,7 @@
-use Rattle.std.proofs.Common.{subst, ap, ◌∙◌}
+use Rattle.std.proofs.Common.{sym, subst, ap, ◌∙◌}
+use Rattle.std.specs.List.{All}
 use Rattle.i_tree.specs.Answer.{AtMost, AnswersBy, IsMonotone}
+use Rattle.i_tree.specs.Pairs.{IsRising}
 use Rattle.i_tree.proofs.key.list.KeyExpListKeyExpCollection.first_less_or_equal_by.Goals as goal
 
 -- what is searched is what is live
@@ -8,3 +10,22 @@ returns-clause-value g c order =
     subst (λ pairs. AnswersBy (goal.F-post g c.args.f) order pairs → IsMonotone g.K.Ord.cmp order pairs → AtMost g.K.Ord.cmp pairs order c.args.default c.value_at_most.result)
     (c.deref.ensures.value ∙ ap (λ list. list.pairs) c.self.view_is ∙ c.remove_expired.ensures.live)
     (c.value_at_most.ensures order)
+
+pub value_at_most-requires-clause-rising : goal.value_at_most-requires-clause-rising
+value_at_most-requires-clause-rising g c = subst (IsRising g.K.Ord.cmp) (sym c.deref.ensures.value) c.self.invariant.0
+
+pub value_at_most-requires-clause-callable : goal.value_at_most-requires-clause-callable
+value_at_most-requires-clause-callable g c =
+    subst (All (λ (pair : g.row.K.Denot × g.row.V.Denot). goal.F-pre g c.args.f pair.0)) (sym (c.deref.ensures.value ∙ ap (λ list. list.pairs) c.self.view_is ∙ c.remove_expired.ensures.live)) c.requires
+
+pub returns-clause-kept : goal.returns-clause-kept
+returns-clause-kept g c = c.remove_expired.ensures.kept
+
+pub returns-clause-keeps_live : goal.returns-clause-keeps_live
+returns-clause-keeps_live g c = c.remove_expired.ensures.live
+
+pub returns-clause-rising : goal.returns-clause-rising
+returns-clause-rising g c = c.remove_expired.ensures.rising
+
+pub returns-clause-room : goal.returns-clause-room
+returns-clause-room g c = c.remove_expired.ensures.room

@@ -1,9 +1,9 @@
-use Rattle.std.proofs.Common.{◌≡◌, ◌≢◌, length, sym, subst, ap, ◌∙◌, arith}
+use Rattle.std.proofs.Common.{◌≡◌, ◌≢◌, ◌+◌, ◌-◌, ◌<◌, ◌≤◌, ℕ, length, sym, subst, ap, ◌∙◌, arith}
 use Rattle.std.specs.List.{insert}
 use Rattle.std.specs.declared.cmp.Ordering.TheVariants.{Less}
 use Rattle.std.specs.List.Sorted.{IsPartitionPoint}
-use Rattle.std.proofs.lemmas.Result.{MatchResult-from_err}
-use Rattle.i_tree.specs.Live.{is_live, live_pairs}
+use Rattle.std.proofs.lemmas.Result.{MatchResult-from_err, err_from_is_err_and}
+use Rattle.i_tree.specs.Live.{is_live, live_pairs, NoneExpiresBefore}
 use Rattle.i_tree.specs.Pairs.{IsRising, NoKey}
 use Rattle.i_tree.proofs.Keys.{IsRising-insert, same_contents}
 use Rattle.i_tree.proofs.Lists.{filter_same_length, length-filter_le, length-filter_lt, Without-filter}
@@ -72,3 +72,56 @@ invariant_of-self-2 g c = (
   rw (inserted g c, c.min-self-inside.ensures, c.expiration.ensures)
       (NoneExpiresBefore-insert g.met.E.Ord.total g.K.ExpiredKey.expiration c.self.inside.earliest c.self.inside.pairs.items c.place_of-place.result (c.args.key, c.args.val) c.self.invariant.1),
 )
+
+-- a refusal leaves the list that is left as it is
+pub invariant_of-self : goal.invariant_of-self
+invariant_of-self g c =
+    subst (λ pairs. IsRising g.K.Ord.cmp pairs × NoneExpiresBefore g.K.ExpiredKey.expiration g.E.Ord.cmp c.self.inside.earliest pairs) (sym (c.in_err-reserve.ensures).items) c.self.invariant
+
+pub returns-in_err-reserve-clause-ok : goal.returns-in_err-reserve-clause-ok
+returns-in_err-reserve-clause-ok g c = MatchResult-from_err c.from_residual.result _ _ c.from_residual.ensures.0 (λ _. tt)
+
+pub returns-in_err-reserve-clause-joins_live : goal.returns-in_err-reserve-clause-joins_live
+returns-in_err-reserve-clause-joins_live g c = MatchResult-from_err c.from_residual.result _ _ c.from_residual.ensures.0 (λ _. tt)
+
+pub returns-in_err-reserve-clause-rising : goal.returns-in_err-reserve-clause-rising
+returns-in_err-reserve-clause-rising g c = (invariant_of-self g c).0
+
+pub returns-in_err-reserve-clause-refused : goal.returns-in_err-reserve-clause-refused
+returns-in_err-reserve-clause-refused g c = let p = err_from_is_err_and c.from_residual.result c.from_residual.ensures.1 in rw p.1 p.2
+
+pub place_of-place-requires : goal.place_of-place-requires
+place_of-place-requires g c =
+    subst (IsRising g.K.Ord.cmp) (sym (c.deref.ensures.value ∙ (c.in_ok-reserve.ensures).items)) c.self.invariant.0
+
+-- the room, by the list's length and its capacity
+all_room : (pairs spare kept left items len cap : ℕ) → kept + left ≡ pairs + spare → items ≡ kept → len ≡ items → len ≤ cap → cap - len ≡ left → pairs + spare ≡ cap
+all_room pairs spare kept left items len cap room same is fits left_is = omega arith
+
+of_capacity : (room cap len cap' items : ℕ) → room ≡ cap → cap ≤ cap' → len ≡ items → len ≤ cap' → room ≤ items + (cap' - len)
+of_capacity room cap len cap' items is more len_is fits = omega arith
+
+never_less : (first mid last : ℕ) → first ≤ mid → mid ≤ last → first ≤ last
+never_less first mid last less less' = omega arith
+
+at_most : (place count items len : ℕ) → place ≤ count → count ≡ items → len ≡ items → place ≤ len
+at_most place count items len within same is = omega arith
+
+has_one : (len cap : ℕ) → len + 1 ≤ cap → len < cap
+has_one len cap fits = omega arith
+
+pub returns-in_err-reserve-clause-room : goal.returns-in_err-reserve-clause-room
+returns-in_err-reserve-clause-room g c =
+    let room = all_room _ _ _ _ _ _ _ c.remove_expired.ensures.room (ap (λ list. length list.pairs) c.self.view_is) c.self.inside.pairs.ok.0 c.self.inside.pairs.ok.1 (ap (λ list. list.spare) c.self.view_is) in
+    of_capacity _ _ _ _ _ room c.reserve.ensures.capacity c.reserve.new.self.ok.0 c.reserve.new.self.ok.1
+
+pub returns-clause-room : goal.returns-clause-room
+returns-clause-room g c =
+    let room = all_room _ _ _ _ _ _ _ c.remove_expired.ensures.room (ap (λ list. length list.pairs) c.self.view_is) c.self.inside.pairs.ok.0 c.self.inside.pairs.ok.1 (ap (λ list. list.spare) c.self.view_is) in
+    of_capacity _ _ _ _ _ room (never_less _ _ _ c.reserve.ensures.capacity c.insert.ensures.capacity) c.insert.new.self.ok.0 c.insert.new.self.ok.1
+
+pub insert-requires : goal.insert-requires
+insert-requires g c = at_most _ _ _ _ c.place_of-place.ensures.within (ap length c.deref.ensures.value) c.reserve.new.self.ok.0
+
+pub unwrap-requires : goal.unwrap-requires
+unwrap-requires g c = c.insert.ensures.succeeds (has_one _ _ (c.in_ok-reserve.ensures).ok)

@@ -8,7 +8,7 @@ use Rattle.i_tree.proofs.SetDescent.{IsCutAt-top, cut_here, cut_at_end, goes_lef
 use Rattle.i_tree.specs.Descent.{LooksFor}
 use Rattle.i_tree.specs.KeyExpTree.{items}
 use Rattle.i_tree.specs.Live.{is_live, live_pairs}
-use Rattle.i_tree.specs.Pairs.{HasKey, NoKey}
+use Rattle.i_tree.specs.Pairs.{HasKey, NoKey, IsRising}
 use Rattle.i_tree.specs.RbTree.{Contents}
 use Rattle.i_tree.specs.Shape.{entries, rank, left_at, right_at, occurs}
 use Rattle.i_tree.proofs.key.tree.KeyExpTree.contains_key_counted.Goals as goal
@@ -103,3 +103,21 @@ returns-clause-steps g c =
     (rw (length-map (entries tree) (λ (entry : ℕ × (g.row.K.Denot × g.row.V.Denot)). entry.1))
     (counted_look tree c.args.steps.now c.loop-here.steps c.root-here.ensures.core c.loop-here.invariant.no_fewer (omega (arith, c.loop-here.invariant.comparisons))
     (omega (arith, c.loop-here.invariant.others.tests)) (omega (arith, c.loop-here.invariant.others.tests)) c.loop-here.invariant.others.removals c.loop-here.invariant.others.rotations))
+
+pub item-requires : goal.item-requires
+item-requires g c = c.loop-here.invariant.place.2.live c.loop-here-test.true
+
+pub right-here-requires : goal.right-here-requires
+right-here-requires g c = c.loop-here.invariant.place.2.live c.loop-here-test.true
+
+pub left-here-requires : goal.left-here-requires
+left-here-requires g c = c.loop-here.invariant.place.2.live c.loop-here-test.true
+
+pub returns-in-Equal-clause-rising : goal.returns-in-Equal-clause-rising
+returns-in-Equal-clause-rising g c = subst (λ (contents : Contents (g.row.K.Denot × g.row.V.Denot)). IsRising g.K.Ord.cmp (items contents.shape)) c.self.view_is c.self.invariant
+
+pub returns-clause-rising : goal.returns-clause-rising
+returns-clause-rising g c = subst (λ (contents : Contents (g.row.K.Denot × g.row.V.Denot)). IsRising g.K.Ord.cmp (items contents.shape)) c.self.view_is c.self.invariant
+
+pub returns-clause-core : goal.returns-clause-core
+returns-clause-core g c = rw (← c.self.view_is) c.root-here.ensures.core

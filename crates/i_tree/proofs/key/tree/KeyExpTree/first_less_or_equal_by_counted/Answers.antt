@@ -1,12 +1,16 @@
-use Rattle.std.proofs.Common.{◌≡◌, subst}
+use Rattle.std.proofs.Common.{◌≡◌, ℕ, length, ap, ◌∙◌, subst}
+use Rattle.std.proofs.lemmas.List.{length-map}
 use Rattle.std.specs.declared.cmp.Ordering.TheVariants.{Less}
 use Rattle.std.specs.Option.{unwrap_or}
 use Rattle.i_tree.proofs.Withouts.{AllPairs-without}
 use Rattle.i_tree.proofs.KeySearch.{answer_at_most}
 use Rattle.i_tree.specs.Answer.{AtMost, AnswersBy, IsMonotone}
+use Rattle.i_tree.specs.Change.{Without}
+use Rattle.i_tree.specs.Descent.{Descends}
 use Rattle.i_tree.specs.KeyExpTree.{items}
-use Rattle.i_tree.specs.Live.{is_live, live_pairs}
-use Rattle.i_tree.specs.RbTree.{Contents}
+use Rattle.i_tree.specs.Live.{is_live, live_pairs, IsExpired}
+use Rattle.i_tree.specs.RbTree.{Contents, slots}
+use Rattle.i_tree.specs.Shape.{entries}
 use Rattle.i_tree.proofs.key.tree.KeyExpTree.first_less_or_equal_by_counted.Goals as goal
 
 pub returns-clause-value : goal.returns-clause-value
@@ -23,3 +27,19 @@ invariant_of-self g c = AllPairs-without (λ (earlier : g.row.K.Denot × g.row.V
 
 pub returns-clause-rising : goal.returns-clause-rising
 returns-clause-rising g c = AllPairs-without (λ (earlier : g.row.K.Denot × g.row.V.Denot) later. g.K.Ord.cmp earlier.0 later.0 ≡ Less) c.descend.ensures.kept c.self.invariant
+
+pub returns-clause-kept : goal.returns-clause-kept
+returns-clause-kept g c =
+    subst (λ (contents : Contents (g.row.K.Denot × g.row.V.Denot)). Without (IsExpired g.K.ExpiredKey.expiration g.E.Ord.cmp {V = g.row.V.Denot} c.args.time) (items contents.shape) (items c.descend.new.core.shape)) c.self.view_is c.descend.ensures.kept
+
+pub returns-clause-slots : goal.returns-clause-slots
+returns-clause-slots g c = c.descend.ensures.slots ∙ ap slots c.self.view_is
+
+pub returns-clause-steps : goal.returns-clause-steps
+returns-clause-steps g c =
+    subst (λ (contents : Contents (g.row.K.Denot × g.row.V.Denot)). Descends c.args.steps.now c.descend.new.steps (length (items contents.shape)) (length (items c.descend.new.core.shape)) 0) c.self.view_is
+    (rw (length-map (entries c.self.inside.core.shape) (λ (entry : ℕ × (g.row.K.Denot × g.row.V.Denot)). entry.1), length-map (entries c.descend.new.core.shape) (λ (entry : ℕ × (g.row.K.Denot × g.row.V.Denot)). entry.1))
+    c.descend.ensures.steps)
+
+pub returns-clause-core : goal.returns-clause-core
+returns-clause-core g c = c.descend.ensures.core

@@ -1,7 +1,7 @@
-use Rattle.std.proofs.Common.{◌≡◌, ℕ, length, sym, subst}
+use Rattle.std.proofs.Common.{◌≡◌, ℕ, length, sym, subst, ap, ◌∙◌, arith}
 use Rattle.std.specs.declared.cmp.Ordering.TheVariants.{Less}
 use Rattle.std.proofs.lemmas.List.{length-map}
-use Rattle.i_tree.proofs.KeyInsertion.{gains_key, rising_with_key, one_more, slots_joined, counted_join}
+use Rattle.i_tree.proofs.KeyInsertion.{gains_key, rising_with_key, one_more, slots_joined, counted_join, none_removed}
 use Rattle.i_tree.proofs.Withouts.{AllPairs-without}
 use Rattle.i_tree.specs.Change.{Gains}
 use Rattle.i_tree.specs.Descent.{Descends}
@@ -12,11 +12,49 @@ use Rattle.i_tree.specs.RbTree.{Contents, slots}
 use Rattle.i_tree.specs.Shape.{entries}
 use Rattle.i_tree.proofs.key.tree.KeyExpTree.insert_counted.Goals as goal
 
+pub insert_at-requires : goal.insert_at-requires
+insert_at-requires g c =
+    let end = c.descend_to-end.ensures.end in
+    (end.front, end.back, end.between)
+
 -- nothing has joined
 pub invariant_of-self : goal.invariant_of-self
 invariant_of-self g c =
     subst (λ (contents : Contents (g.row.K.Denot × g.row.V.Denot)). IsRising g.K.Ord.cmp (items contents.shape)) (sym (c.in-Err.ensures).err)
     (AllPairs-without (λ (earlier : g.row.K.Denot × g.row.V.Denot) later. g.K.Ord.cmp earlier.0 later.0 ≡ Less) c.descend_to-end.ensures.kept c.self.invariant)
+
+pub returns-in-Err-clause-rising : goal.returns-in-Err-clause-rising
+returns-in-Err-clause-rising g c = invariant_of-self g c
+
+-- nor was anything removed
+none_spare : (g : _) (c : goal.In-Err g) → c.descend_to-end.new.core.spare ≡ 0
+none_spare g c = (none_removed c.self.inside.core c.descend_to-end.new.core c.args.steps.now c.descend_to-end.new.steps c.descend_to-end.ensures.slots (c.in-Err.ensures).with_spare c.descend_to-end.ensures.steps).0
+
+held : (g : _) (c : goal.In-Err g) → c.descend_to-end.new.core ≡ c.args.self.now
+held g c =
+    c.descend_to-end.ensures.same (none_removed c.self.inside.core c.descend_to-end.new.core c.args.steps.now c.descend_to-end.new.steps c.descend_to-end.ensures.slots (c.in-Err.ensures).with_spare c.descend_to-end.ensures.steps).1
+    ∙ c.self.view_is
+
+pub returns-in-Err-clause-err : goal.returns-in-Err-clause-err
+returns-in-Err-clause-err g c = (c.in-Err.ensures).err ∙ held g c
+
+pub returns-in-Err-clause-with_spare : goal.returns-in-Err-clause-with_spare
+returns-in-Err-clause-with_spare g c spare = absurd (omega (arith, spare, none_spare g c, ap (λ contents. contents.spare) (held g c)))
+
+pub returns-in-Err-clause-no_handle : goal.returns-in-Err-clause-no_handle
+returns-in-Err-clause-no_handle g c full = (c.in-Err.ensures).no_handle (none_spare g c) (ap slots (held g c) ∙ full)
+
+pub returns-in-Err-clause-refused : goal.returns-in-Err-clause-refused
+returns-in-Err-clause-refused g c more = (c.in-Err.ensures).refused (λ full. more (ap slots (sym (held g c)) ∙ full))
+
+pub returns-in-Err-clause-err_steps : goal.returns-in-Err-clause-err_steps
+returns-in-Err-clause-err_steps g c =
+    subst (λ (contents : Contents (g.row.K.Denot × g.row.V.Denot)). Descends c.args.steps.now c.insert_at.new.steps (length (items contents.shape)) (length (items c.insert_at.new.core.shape)) 0) c.self.view_is
+    (rw ((c.in-Err.ensures).err, (c.in-Err.ensures).err_steps, length-map (entries c.self.inside.core.shape) (λ (entry : ℕ × (g.row.K.Denot × g.row.V.Denot)). entry.1), length-map (entries c.descend_to-end.new.core.shape) (λ (entry : ℕ × (g.row.K.Denot × g.row.V.Denot)). entry.1))
+    c.descend_to-end.ensures.steps)
+
+pub returns-in-Err-clause-core : goal.returns-in-Err-clause-core
+returns-in-Err-clause-core g c = c.insert_at.ensures.core
 
 pub returns-clause-slots : goal.returns-clause-slots
 returns-clause-slots g c =
@@ -59,3 +97,6 @@ invariant_of-self-2 g c = rising g c
 
 pub returns-clause-rising : goal.returns-clause-rising
 returns-clause-rising g c = rising g c
+
+pub returns-clause-core : goal.returns-clause-core
+returns-clause-core g c = c.insert_at.ensures.core

@@ -1,8 +1,9 @@
-use Rattle.std.proofs.Common.{◌≡◌, ◌+◌, ◌-◌, ℕ, List, sym, ap, ◌∙◌, subst, refl, arith}
+use Rattle.std.proofs.Common.{◌≡◌, ◌+◌, ◌-◌, ℕ, List, length, sym, ap, ◌∙◌, subst, refl, arith}
+use Rattle.std.proofs.lemmas.Result.{MatchResult-from_err, err_from_is_err_and}
 use Rattle.i_tree.specs.declared.rb.links.Slot.{Slot}
-use Rattle.i_tree.specs.RbTree.{slots}
+use Rattle.i_tree.specs.RbTree.{Contents, slots}
 use Rattle.i_tree.specs.Shape.{Shape}
-use Rattle.i_tree.specs.Slots.{IsSound}
+use Rattle.i_tree.specs.Slots.{IsSound, read_tree}
 use Rattle.i_tree.proofs.Room.{read_back, sound_back}
 use Rattle.i_tree.proofs.RoomGrown.{sound-grown}
 use Rattle.i_tree.proofs.rb.arena.Arena.reserve.Goals as goal
@@ -39,3 +40,19 @@ returns-in_ok-reserve_exact-clause-slots g c =
     let added = c.add_slots-self-inside in
     let as_seen = ap (λ contents. slots contents) c.self.view_is in
     (invariant_of-self-then-capacity-before g c).total ∙ sym added.new.slots.ok.0 ∙ omega (arith, c.self.invariant.total, added.ensures.len)
+
+-- a refusal leaves the slots as they are
+pub invariant_of-self : goal.invariant_of-self
+invariant_of-self g c =
+    let inside = c.self.inside in
+    subst (λ (list : List (Slot g.row.T.Denot)). IsSound list inside.root inside.first_free inside.free (read_tree list (length list) inside.root)) (sym (c.in_err-reserve_exact.ensures).items) c.self.invariant
+
+pub returns-in_err-reserve_exact-clause-shape : goal.returns-in_err-reserve_exact-clause-shape
+returns-in_err-reserve_exact-clause-shape g c =
+    ap (λ (list : List (Slot g.row.T.Denot)). read_tree list (length list) c.self.inside.root) (c.in_err-reserve_exact.ensures).items ∙ ap (λ (contents : Contents g.row.T.Denot). contents.shape) c.self.view_is
+
+pub returns-in_err-reserve_exact-clause-slots : goal.returns-in_err-reserve_exact-clause-slots
+returns-in_err-reserve_exact-clause-slots g c = MatchResult-from_err c.from_residual.result _ _ c.from_residual.ensures.0 (λ _. tt)
+
+pub returns-in_err-reserve_exact-clause-refused : goal.returns-in_err-reserve_exact-clause-refused
+returns-in_err-reserve_exact-clause-refused g c _ = let p = err_from_is_err_and c.from_residual.result c.from_residual.ensures.1 in rw p.1 p.2

@@ -1,6 +1,6 @@
-use Rattle.std.proofs.Common.{◌≡◌, ap, ◌∙◌, length, arith}
+use Rattle.std.proofs.Common.{◌≡◌, ◌<◌, sym, ap, ◌∙◌, subst, length, arith}
 use Rattle.i_tree.specs.RbTree.{Contents, slots, slots_with_room}
-use Rattle.i_tree.specs.Shape.{Shape, entries, AreHandles}
+use Rattle.i_tree.specs.Shape.{Shape, entries, occurs, AreHandles}
 use Rattle.i_tree.specs.Balance.{IsRedBlack}
 use Rattle.i_tree.proofs.Balance.{IsCore-from_red_black}
 use Rattle.i_tree.proofs.Growth.{HasRoomOn-kept, IsRaised-joined, entries-joined, length-joined}
@@ -48,3 +48,36 @@ returns-clause-slots g c =
 
 pub returns-clause-core : goal.returns-clause-core
 returns-clause-core g c = IsCore-from_red_black c.mend_insertion.new.arena.shape c.mend_insertion.ensures.handles c.mend_insertion.ensures.balanced
+
+pub invariant_of-self : goal.invariant_of-self
+invariant_of-self g c = subst (λ (tree : Shape g.row.T.Denot). IsRedBlack tree × AreHandles tree) (sym c.make_room.ensures.shape) c.self.invariant
+
+pub returns-in-Err-clause-with_spare : goal.returns-in-Err-clause-with_spare
+returns-in-Err-clause-with_spare g c spare = (c.in-Err.ensures).with_spare (subst (λ (contents : Contents g.row.T.Denot). 0 < contents.spare) (sym c.self.view_is) spare)
+
+pub returns-in-Err-clause-err : goal.returns-in-Err-clause-err
+returns-in-Err-clause-err g c = (c.in-Err.ensures).err ∙ c.self.view_is
+
+pub returns-in-Err-clause-no_handle : goal.returns-in-Err-clause-no_handle
+returns-in-Err-clause-no_handle g c spare full =
+    (c.in-Err.ensures).no_handle (ap (λ (contents : Contents g.row.T.Denot). contents.spare) c.self.view_is ∙ spare) (ap (λ (contents : Contents g.row.T.Denot). slots contents) c.self.view_is ∙ full)
+
+pub returns-in-Err-clause-refused : goal.returns-in-Err-clause-refused
+returns-in-Err-clause-refused g c more = (c.in-Err.ensures).refused (λ full. more (ap (λ (contents : Contents g.row.T.Denot). slots contents) (sym c.self.view_is) ∙ full))
+
+pub returns-clause-no_handle : goal.returns-clause-no_handle
+returns-clause-no_handle g c spare full =
+    (c.in_default.ensures).no_handle (ap (λ (contents : Contents g.row.T.Denot). contents.spare) c.self.view_is ∙ spare) (ap (λ (contents : Contents g.row.T.Denot). slots contents) c.self.view_is ∙ full)
+
+pub attach-handle-requires-clause-spare : goal.attach-handle-requires-clause-spare
+attach-handle-requires-clause-spare g c = (c.in_default.ensures).room
+
+pub invariant_of-self-2 : goal.invariant_of-self-2
+invariant_of-self-2 g c = (c.mend_insertion.ensures.balanced, c.mend_insertion.ensures.handles)
+
+pub returns-clause-fresh : goal.returns-clause-fresh
+returns-clause-fresh g c =
+    ap (λ (tree : Shape g.row.T.Denot). occurs c.attach-handle.result tree) (sym (c.make_room.ensures.shape ∙ ap (λ (contents : Contents g.row.T.Denot). contents.shape) c.self.view_is)) ∙ c.attach-handle.ensures.fresh
+
+pub returns-clause-steps : goal.returns-clause-steps
+returns-clause-steps g c = c.mend_insertion.ensures.steps

@@ -1,5 +1,6 @@
 use Rattle.std.proofs.Common.{length, ap, ◌∙◌, arith}
 use Rattle.std.specs.List.{remove}
+use Rattle.i_tree.proofs.SetLive.{IsOrdered-loses}
 use Rattle.i_tree.proofs.SetPositions.{AreApart-numbered, inside_from_HasHandle, values-remove}
 use Rattle.i_tree.specs.Set.{values}
 use Rattle.i_tree.specs.SetList.{numbered}
@@ -13,6 +14,10 @@ pub returns-clause-value : goal.returns-clause-value
 returns-clause-value g c front value back cut =
     ap (λ items. values (numbered items)) (c.remove.ensures.items ∙ ap (λ list. remove list.values c.args.index) c.self.view_is)
     ∙ values-remove c.args.self.now.values front c.args.index value back cut
+
+pub returns-clause-in_order : goal.returns-clause-in_order
+returns-clause-in_order g c =
+    IsOrdered-loses g.V.KeyValue.key_of g.K.Ord.cmp g.met.K.Ord.total (numbered c.args.self.now.values) (numbered c.remove.new.self.items) c.args.index c.requires (returns-clause-value g c)
 
 pub returns-clause-handles : goal.returns-clause-handles
 returns-clause-handles g c = AreApart-numbered c.remove.new.self.items (omega (arith, c.remove.ensures.len, c.self.invariant))

@@ -3,7 +3,7 @@ use Rattle.std.specs.Fn.{FnReturnsAt}
 use Rattle.std.specs.List.Sorted.{IsPartitionPoint, IsPartitionedBy}
 use Rattle.std.specs.Ordering.{is_gt}
 use Rattle.std.specs.declared.cmp.Ordering.{Ordering}
-use Rattle.i_tree.proofs.SetPositions.{AreApart-viewed, IsFoundBy-at_count, IsPartitionedBy-at_most, takes_values, values_answer}
+use Rattle.i_tree.proofs.SetPositions.{AreApart-viewed, HasHandle-counted, IsFoundBy-at_count, IsPartitionedBy-at_most, takes_values, values_answer}
 use Rattle.i_tree.proofs.set.list.SetListSetCollection.first_index_less_by.Goals as goal
 
 pub count_passing-requires : goal.count_passing-requires
@@ -25,6 +25,11 @@ returns-clause-value g c order answers monotone =
     IsFoundBy-at_count key_of g.met.K.Ord.total order values c.count_passing.result c.position_before.result c.requires.in_order monotone
     (subst (λ xs. IsPartitionPoint (λ value. test value ≡ true) (λ value. test value ≡ false) xs c.count_passing.result) same point)
     (omega (arith, c.count_passing.ensures.within, ap length same)) c.position_before.ensures.first c.position_before.ensures.later
+
+pub returns-clause-live : goal.returns-clause-live
+returns-clause-live g c some =
+    HasHandle-counted c.args.self.now.values c.count_passing.result c.position_before.result
+    (omega (arith, c.count_passing.ensures.within, ap length (c.deref.ensures.value ∙ ap (λ list. list.values) c.self.view_is))) c.position_before.ensures.first c.position_before.ensures.later some
 
 pub returns-clause-handles : goal.returns-clause-handles
 returns-clause-handles g c = AreApart-viewed c.self.view_is c.self.invariant

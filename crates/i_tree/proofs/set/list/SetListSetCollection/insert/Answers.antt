@@ -43,3 +43,12 @@ pub returns-clause-handles : goal.returns-clause-handles
 returns-clause-handles g c =
     AreApart-numbered c.insert.new.self.items
     (omega (arith, c.if-len.false, c.len.ensures, c.self.inside.values.ok.0, ap (λ list. length list.values) c.self.view_is, ap length (inserted g c), length-insert c.args.self.now.values c.place_of-place.result c.args.val (within g c)))
+
+pub returns-clause-joins : goal.returns-clause-joins
+returns-clause-joins g c =
+    let at_place = subst (λ values. IsPlaceFor g.V.KeyValue.key_of g.K.Ord.cmp c.key.result.now values c.place_of-place.result) (c.deref.ensures.value ∙ old_items g c) c.place_of-place.ensures.splits in
+    (c.place_of-place.result, within g c, subst (λ key. IsPlaceFor g.V.KeyValue.key_of g.K.Ord.cmp key c.args.self.now.values c.place_of-place.result) c.key.ensures at_place, inserted g c)
+
+pub returns-in-Err-clause-in_order : goal.returns-in-Err-clause-in_order
+returns-in-Err-clause-in_order g c =
+    subst (λ values. IsOrdered g.V.KeyValue.key_of g.K.Ord.cmp (numbered values)) (sym ((c.in-Err.ensures).items ∙ ap (λ list. list.values) c.self.view_is)) c.requires.in_order

@@ -3,6 +3,8 @@ use Rattle.std.specs.Fn.{FnReturnsAt}
 use Rattle.i_tree.proofs.SetCounts.{OnlyCompares-none, OnlyCompares-more, ComparesWithin-rank}
 use Rattle.i_tree.proofs.SetDescent.{IsCutAt-top, cut_here, cut_at_end, goes_left, goes_right, falls_left, falls_right, some_rank}
 use Rattle.i_tree.proofs.Contexts.{part_at-none}
+use Rattle.i_tree.proofs.SetLive.{HasHandle-last}
+use Rattle.i_tree.proofs.SetParts.{HasHandle-live}
 use Rattle.i_tree.proofs.SetSearch.{search_finds, search_misses, takes_key, last_handle-end}
 use Rattle.i_tree.specs.RbTree.{Contents}
 use Rattle.i_tree.specs.Set.{IsFoundBy}
@@ -58,6 +60,10 @@ returns-in-Equal-clause-value g c order answers monotone =
     (ap (λ (contents : Contents g.row.V.Denot). entries contents.shape) (sym c.self.view_is) ∙ cut)
     c.in-Equal.ensures.answer answers
 
+pub returns-in-Equal-clause-live : goal.returns-in-Equal-clause-live
+returns-in-Equal-clause-live g c some =
+    rw (← c.self.view_is) (HasHandle-live c.loop-here.here c.self.inside.core.shape (c.loop-here.invariant.place.2.live c.loop-here-test.true))
+
 pub returns-in-Equal-clause-comparisons : goal.returns-in-Equal-clause-comparisons
 returns-in-Equal-clause-comparisons g c =
     let tree = c.self.inside.core.shape in
@@ -102,6 +108,14 @@ returns-clause-value g c order answers monotone =
     (search_misses g.V.KeyValue.key_of g.met.K.Ord.total order (λ key answer. FnReturnsAt g.F.Fn c.args.f key answer) (entries c.args.self.now.shape) place.0 place.1
     (ap (λ (contents : Contents g.row.V.Denot). entries contents.shape) (sym c.self.view_is) ∙ cut_at_end place.2 empty)
     c.requires.in_order place.2.before place.2.after answers monotone)
+
+pub returns-clause-live : goal.returns-clause-live
+returns-clause-live g c some =
+    let tree = c.self.inside.core.shape in
+    let place = c.loop-here.invariant.place in
+    let empty = part_at-none c.loop-here.here tree (ap (λ handle. occurs handle tree) c.loop-here-test.false ∙ c.root-here.ensures.core.handles.none_empty) in
+    HasHandle-last (entries c.args.self.now.shape) place.0 place.1 c.loop-here.found
+    (ap (λ (contents : Contents g.row.V.Denot). entries contents.shape) (sym c.self.view_is) ∙ cut_at_end place.2 empty) place.3 some
 
 pub returns-clause-comparisons : goal.returns-clause-comparisons
 returns-clause-comparisons g c =

@@ -1,9 +1,11 @@
-use Rattle.std.proofs.Common.{sym, subst}
+use Rattle.std.proofs.Common.{sym, subst, ◌∙◌}
 use Rattle.std.specs.List.{All}
 use Rattle.i_tree.proofs.SetInsertion.{IsLower, IsHigher, ordered_joined}
+use Rattle.i_tree.proofs.SetLive.{HasHandle-joined}
 use Rattle.i_tree.specs.Place.{IsPlaceBetween}
 use Rattle.i_tree.specs.RbTree.{Contents}
-use Rattle.i_tree.specs.Set.{IsOrdered}
+use Rattle.i_tree.specs.Set.{HasHandle, IsOrdered}
+use Rattle.i_tree.specs.Shape.{entries}
 use Rattle.i_tree.proofs.set.tree.SetTree.insert_counted.Goals as goal
 
 pub returns-clause-in_order : goal.returns-clause-in_order
@@ -17,3 +19,13 @@ returns-clause-in_order g c =
     let before = subst (IsOrdered key_of cmp) found.2.cut c.requires.in_order in
     let between = subst (λ (contents : Contents g.row.V.Denot). IsPlaceBetween contents.shape found.0 found.1 c.place_of-place.result) (sym c.self.view_is) found.2 in
     subst (IsOrdered key_of cmp) (sym (c.in_ok-insert_at.ensures.joins found.0 found.1 between)) (ordered_joined key_of total found.0 c.in_ok-insert_at.field-0 c.args.val found.1 before lows highs)
+
+pub returns-clause-keeps : goal.returns-clause-keeps
+returns-clause-keeps g c =
+    let found = c.place_of-place.ensures.place in
+    let between = subst (λ (contents : Contents g.row.V.Denot). IsPlaceBetween contents.shape found.0 found.1 c.place_of-place.result) (sym c.self.view_is) found.2 in
+    HasHandle-joined (entries c.args.self.now.shape) (entries c.insert_at.new.core.shape) found.0 found.1 (c.in_ok-insert_at.field-0, c.args.val) found.2.cut (c.in_ok-insert_at.ensures.joins found.0 found.1 between)
+
+pub returns-in_err-insert_at-clause-keeps : goal.returns-in_err-insert_at-clause-keeps
+returns-in_err-insert_at-clause-keeps g c handle has =
+    subst (λ (contents : Contents g.row.V.Denot). HasHandle (entries contents.shape) handle) (sym (c.in_err-insert_at.ensures.err ∙ c.self.view_is)) has

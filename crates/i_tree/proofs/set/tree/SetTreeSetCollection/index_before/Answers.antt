@@ -1,6 +1,7 @@
 use Rattle.std.proofs.Common.{ap, sym, ◌∙◌, subst}
 use Rattle.i_tree.proofs.SetParts.{live-HasHandle}
 use Rattle.i_tree.proofs.SetHandles.{AreApart-from_handles}
+use Rattle.i_tree.proofs.SetLive.{HasHandle-before}
 use Rattle.i_tree.specs.RbTree.{Contents}
 use Rattle.i_tree.specs.Shape.{entries, IsLive}
 use Rattle.i_tree.proofs.set.tree.SetTreeSetCollection.index_before.Goals as goal
@@ -12,6 +13,9 @@ before-requires g c =
 pub returns-clause-value : goal.returns-clause-value
 returns-clause-value g c front value back is =
     c.before-2.ensures.value front value back (ap (λ (contents : Contents g.row.V.Denot). entries contents.shape) c.self.view_is ∙ is)
+
+pub returns-clause-live : goal.returns-clause-live
+returns-clause-live g c = HasHandle-before (entries c.args.self.now.shape) c.args.index c.before-2.result c.requires (returns-clause-value g c)
 
 pub returns-clause-handles : goal.returns-clause-handles
 returns-clause-handles g c = rw (← c.self.view_is) (AreApart-from_handles c.self.inside.core.shape c.before-2.ensures.core.handles)
