@@ -1,10 +1,3 @@
-pub mod Agreeing
-pub mod Counted
 pub mod Counting
-pub mod Knowing
-pub mod Members
 pub mod Saying
-pub mod Serving
-pub mod SetServing
 pub mod Splitting
-pub mod Standing

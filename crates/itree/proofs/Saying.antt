@@ -2,7 +2,7 @@
 use Rattle.std.proofs.Common.{◌≡◌, ◌≢◌, ℕ, suc, ℤ, List, [], ◌∷◌, length, map, codes, get_or, refl, ap, Bor}
 use Rattle.itree.specs.Grammar.{ReadsAll}
 use Rattle.itree.specs.KeyLines.{SaysNoKeyCommand}
-use Rattle.itree.specs.declared.run.keys.KeyCommand.TheVariants.{Insert, Less, LessOrEqualBy, Clear}
+use Rattle.itree_lib.specs.declared.run.keys.KeyCommand.TheVariants.{Insert, Less, LessOrEqualBy, Clear}
 use Rattle.itree.specs.Words.{Reads}
 
 -- as many words are read as numbers

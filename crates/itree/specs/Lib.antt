@@ -1,15 +1,7 @@
-pub mod Agreeing
-pub mod CountedRun
-pub mod CountsLate
 pub mod Grammar
 pub mod KeyLines
-pub mod KeyMachine
 pub mod Modes
-pub mod Probes
 pub mod Replies
-pub mod Serving
 pub mod SetLines
-pub mod SetMachine
-pub mod StandsFor
 pub mod Texts
 pub mod Words

@@ -1,10 +1,10 @@
 -- The text of replies.
 use Rattle.std.specs.Prelude.{ℕ, ℤ, List, [], ◌∷◌, ◌++◌, codes, flat_map}
 use Rattle.std.specs.Fmt.{signed_decimal}
-use Rattle.itree.specs.declared.run.keys.KeyReply.{KeyReply}
-use Rattle.itree.specs.declared.run.keys.KeyReply.TheVariants as key_reply
-use Rattle.itree.specs.declared.run.sets.SetReply.{SetReply}
-use Rattle.itree.specs.declared.run.sets.SetReply.TheVariants as set_reply
+use Rattle.itree_lib.specs.declared.run.keys.KeyReply.{KeyReply}
+use Rattle.itree_lib.specs.declared.run.keys.KeyReply.TheVariants as key_reply
+use Rattle.itree_lib.specs.declared.run.sets.SetReply.{SetReply}
+use Rattle.itree_lib.specs.declared.run.sets.SetReply.TheVariants as set_reply
 use Rattle.itree.specs.declared.set_key.SetKey.{SetKey}
 
 -- the words of a reply to a command of keys that expire

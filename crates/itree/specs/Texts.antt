@@ -4,14 +4,14 @@ use Rattle.std.specs.Ordering.{int_cmp}
 use Rattle.std.specs.declared.cmp.Ordering.{Ordering}
 use Rattle.itree.specs.Grammar.{lines_of, LinesSay, IsFirstFaulty}
 use Rattle.itree.specs.KeyLines.{KeyLine, SaysKeyCommand}
-use Rattle.itree.specs.KeyMachine as keys
+use Rattle.itree_lib.specs.KeyMachine as keys
 use Rattle.itree.specs.Replies.{key_reply_words, set_reply_words, reply_lines}
 use Rattle.itree.specs.SetLines.{SetLine, SaysSetCommand}
-use Rattle.itree.specs.SetMachine as sets
+use Rattle.itree_lib.specs.SetMachine as sets
 use Rattle.itree.specs.declared.mode.Mode.{Mode}
 use Rattle.itree.specs.declared.mode.Mode.TheVariants.{KeyTree, KeyList, SetTree, SetList}
-use Rattle.itree.specs.declared.run.keys.KeyReply.{KeyReply}
-use Rattle.itree.specs.declared.run.sets.SetReply.{SetReply}
+use Rattle.itree_lib.specs.declared.run.keys.KeyReply.{KeyReply}
+use Rattle.itree_lib.specs.declared.run.sets.SetReply.{SetReply}
 use Rattle.itree.specs.declared.set_key.SetKey.{SetKey}
 use Rattle.itree.specs.declared.timed_key.TimedKey.{TimedKey}
 

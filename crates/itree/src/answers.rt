@@ -8,7 +8,6 @@ ghost use Rattle.itree.specs.Texts.{AnswersKeys, AnswersSet, Answers, HasFirstFa
 use crate::fault::Fault;
 use crate::lines::{KeyLine, SetLine, parse_commands, reply_text};
 use crate::mode::Mode;
-use crate::run::{run_keys, run_sets};
 use crate::set_key::SetKey;
 use crate::timed_key::TimedKey;
 use i_tree::key::exp::KeyExpCollection;
@@ -17,6 +16,7 @@ use i_tree::key::tree::KeyExpTree;
 use i_tree::set::list::SetList;
 use i_tree::set::sort::SetCollection;
 use i_tree::set::tree::SetTree;
+use itree_lib::run::{run_keys, run_sets};
 use std::alloc::Allocator;
 use std::cmp::Ordering;
 

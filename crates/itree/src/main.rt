@@ -1,12 +1,14 @@
 //! The program `itree`: reads commands as lines and prints one reply for each.
 #![tactic(auto)]
 
+ghost use Rattle.std.specs.Prelude.{◌≡◌, MatchResult};
+ghost use Rattle.std.specs.Process.{exit_status};
+
 mod answers;
 mod fault;
 mod lines;
 mod mode;
 mod program;
-mod run;
 mod set_key;
 mod timed_key;
 
@@ -16,7 +18,14 @@ use std::io::{self, ErrorKind};
 use std::process::ExitCode;
 
 fn main(rt: HostRuntime) -> ExitCode {
-    match run_process(&rt) {
+    exit_code(run_process(&rt))
+}
+
+// What the process ends with: the status, or 1 where there is none.
+fn exit_code(outcome: io::Result<u8>) -> ExitCode
+    ensures { MatchResult outcome (λ status. exit_status result ≡ status) (λ error. exit_status result ≡ 1) }
+{
+    match outcome {
         Ok(status) => ExitCode::from(status),
         Err(_) => ExitCode::FAILURE,
     }

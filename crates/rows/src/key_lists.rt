@@ -105,6 +105,13 @@ fn takes_as_many_keys_as_it_has_room_for(rt: HostRuntime) -> Result<(), Fail> {
 }
 
 #[test]
+fn removes_without_memory(rt: HostRuntime) -> Result<(), Fail> {
+    let memory = Refusing::new(rt.alloc());
+    let mut list: KeyList<&Refusing<Global>> = KeyExpList::new(&memory, 0)?;
+    keys::removes_without_memory(&rt, &memory, &mut list)
+}
+
+#[test]
 fn reserves_room_for_all_pairs(rt: HostRuntime) -> Result<(), Fail> {
     let memory = Refusing::new(rt.alloc());
     let mut list = four_keys(&rt, &memory)?;
@@ -153,6 +160,8 @@ fn clones_the_pairs(rt: HostRuntime) -> Result<(), Fail> {
     memory.refuse_nth(1);
     assert_eq!(rt; list.clone().err(), Some(AllocError));
     assert_eq!(rt; list.stored(), 4);
+    assert_eq!(rt; list.first_less(0, -1, key(4)), 3);
+    assert_eq!(rt; list.first_less(0, -1, key(0)), -1);
     let mut copy = list.clone()?;
     list.clear();
     assert_eq!(rt; list.first_less(0, -1, key(4)), -1);

@@ -1,15 +1,12 @@
-//! Worked trees of keys that expire: what every kind of collection answers, the way down, slots and refusals.
+//! Worked trees of keys that expire: what every kind of collection answers, slots, refusals and orders.
 
-use crate::key_counts::below_nine_counted;
 use crate::key_histories;
-use crate::keys::{self, KeyStore, at_most, insert, insert_all, insert_rising};
+use crate::keys::{self, KeyStore, insert, insert_rising};
 use crate::numbered::Ticking;
 use crate::timed_key::{Backward, TimedKey, backward_key, expiring, key};
-use crate::trees::{before, item, last, left, right};
+use i_tree::Refusal;
 use i_tree::key::exp::KeyExpCollection;
 use i_tree::key::tree::KeyExpTree;
-use i_tree::rb::RbTree;
-use i_tree::{EMPTY_REF, Refusal};
 use refusing::Refusing;
 use std::alloc::{Allocator, Global};
 use std::cell::Cell;
@@ -26,17 +23,6 @@ impl<A: Allocator + Copy> KeyStore for KeyExpTree<TimedKey, i32, i32, A> {
     fn room(&self) -> usize {
         self.spare()
     }
-}
-
-// A tree of these keys, inserted in this order at time 0.
-fn tree_of<A: Allocator + Copy>(
-    rt: &impl Abort,
-    alloc: A,
-    keys: &[TimedKey],
-) -> Result<KeyTree<A>, Refusal> {
-    let mut tree = KeyExpTree::new(alloc, 0)?;
-    insert_all(rt, &mut tree, keys)?;
-    Ok(tree)
 }
 
 #[test]
@@ -101,55 +87,6 @@ fn keeps_what_is_stored_where_an_insertion_is_refused(rt: HostRuntime) -> Result
     Err(Fail::from("more requests than insertions"))
 }
 
-// Looks below 9 at time 1 in three trees of these keys: by key, by a closure, and with the steps counted. Each is to give
-// the answer, to keep so many pairs and, as the closure tells, to compare so often.
-fn goes_down_below_nine(
-    rt: &impl Abort,
-    alloc: Global,
-    keys: &[TimedKey],
-    answer: i32,
-    kept: usize,
-    comparisons: u64,
-) -> Result<(), Fail> {
-    let mut tree = tree_of(rt, alloc, keys)?;
-    assert_eq!(rt; tree.stored(), keys.len());
-    assert_eq!(rt; tree.first_less(1, -1, key(9)), answer);
-    assert_eq!(rt; tree.stored(), kept);
-    let mut tree = tree_of(rt, alloc, keys)?;
-    assert_eq!(rt; at_most(&mut tree, 1, 9), (answer, comparisons));
-    assert_eq!(rt; tree.stored(), kept);
-    let mut tree: KeyTree<Global> = KeyExpTree::new(alloc, 0)?;
-    assert_eq!(rt; below_nine_counted(rt, &mut tree, keys)?, answer);
-    assert_eq!(rt; tree.stored(), kept);
-    Ok(())
-}
-
-#[test]
-fn removes_the_root_until_nothing_is_left(rt: HostRuntime) -> Result<(), Fail> {
-    let keys = [1, 2, 3, 4, 5, 6, 7].map(|number| expiring(number, 1));
-    goes_down_below_nine(&rt, rt.alloc(), &keys, -1, 0, 0)
-}
-
-#[test]
-fn goes_on_at_what_takes_the_place_of_an_expired_key(rt: HostRuntime) -> Result<(), Fail> {
-    let keys = [key(1), key(2), expiring(3, 1), key(4)];
-    goes_down_below_nine(&rt, rt.alloc(), &keys, 4, 3, 2)
-}
-
-#[test]
-fn goes_on_from_its_node_where_a_removal_turns_the_tree(rt: HostRuntime) -> Result<(), Fail> {
-    let keys = [key(4), key(2), expiring(5, 1), key(1)];
-    goes_down_below_nine(&rt, rt.alloc(), &keys, 4, 3, 1)?;
-    let mut tree = tree_of(&rt, rt.alloc(), &keys)?;
-    assert_eq!(rt; tree.first_less(1, -1, key(9)), 4);
-    let core = tree.core();
-    let root = core.root();
-    assert_eq!(rt; item(&rt, core, root), (key(2), 2));
-    let on_right = right(&rt, core, root);
-    assert_eq!(rt; item(&rt, core, on_right), (key(4), 4));
-    Ok(())
-}
-
 #[test]
 fn takes_as_many_keys_as_it_has_slots_for(rt: HostRuntime) -> Result<(), Fail> {
     let memory = Refusing::new(rt.alloc());
@@ -165,6 +102,13 @@ fn takes_as_many_keys_as_it_has_slots_for(rt: HostRuntime) -> Result<(), Fail> {
     assert_eq!(rt; memory.requests(), 1);
     assert_eq!(rt; tree.first_less(0, -1, key(9)), 7);
     Ok(())
+}
+
+#[test]
+fn removes_without_memory(rt: HostRuntime) -> Result<(), Fail> {
+    let memory = Refusing::new(rt.alloc());
+    let mut tree: KeyTree<&Refusing<Global>> = KeyExpTree::new(&memory, 0)?;
+    keys::removes_without_memory(&rt, &memory, &mut tree)
 }
 
 #[test]
@@ -236,64 +180,6 @@ fn takes_the_slot_that_an_expired_key_on_its_way_leaves(rt: HostRuntime) -> Resu
     Ok(())
 }
 
-#[test]
-fn asks_a_closure_about_live_keys_on_its_way_alone(rt: HostRuntime) -> Result<(), Fail> {
-    let mut tree: KeyTree<Global> = KeyExpTree::new(rt.alloc(), 0)?;
-    for number in 1..=15 {
-        let expiration = if number % 2 == 0 { 1 } else { 10 };
-        insert(&rt, &mut tree, expiring(number, expiration), 0)?;
-    }
-    let calls = Cell::new(0u64);
-    let even_calls = Cell::new(0u64);
-    let found = tree.first_less_or_equal_by(1, -1, |timed| {
-        calls.set(calls.get().saturating_add(1));
-        if timed.key % 2 == 0 {
-            even_calls.set(even_calls.get().saturating_add(1));
-        }
-        timed.key.cmp(&8)
-    });
-    assert_eq!(rt; found, 7);
-    assert!(rt; calls.get() <= 8);
-    assert_eq!(rt; even_calls.get(), 0);
-    Ok(())
-}
-
-// The handle of the key, or `EMPTY_REF` where it isn't stored, by `before` from the last handle on.
-fn handle_of<A: Allocator + Copy>(
-    rt: &impl Abort,
-    core: &RbTree<(TimedKey, i32), A>,
-    sought: i32,
-) -> u32 {
-    let mut handle = last(rt, core);
-    for _ in 0..core.len() {
-        if handle == EMPTY_REF || item(rt, core, handle).0.key == sought {
-            break;
-        }
-        handle = before(rt, core, handle);
-    }
-    handle
-}
-
-#[test]
-fn keeps_its_balance_where_the_inner_nephew_is_red(rt: HostRuntime) -> Result<(), Fail> {
-    let keys = [20, 10, 40, 50, 30, 60, 25].map(|number| expiring(
-        number,
-        if number == 10 { 1 } else { 10 },
-    ));
-    let mut tree = tree_of(&rt, rt.alloc(), &keys)?;
-    assert_eq!(rt; tree.first_less(1, -1, key(15)), -1);
-    assert_eq!(rt; tree.stored(), 6);
-    let core = tree.core();
-    let twenty = handle_of(&rt, core, 20);
-    assert_eq!(rt; left(&rt, core, twenty), EMPTY_REF);
-    for sought in [20, 25, 30, 40, 50, 60] {
-        let (answer, calls) = at_most(&mut tree, 1, sought);
-        assert_eq!(rt; answer, sought);
-        assert!(rt; calls <= 4, "{sought}");
-    }
-    Ok(())
-}
-
 // Inserts the number at time 0, and answers how often numbers were compared in the insertion.
 fn insert_ticking<'a>(
     rt: &impl Abort,
@@ -358,19 +244,6 @@ fn keeps_its_slots_and_asks_for_no_memory_when_it_is_cleared(rt: HostRuntime) ->
     );
     assert_eq!(rt; (tree.stored(), tree.spare()), (1023, 0));
     assert_eq!(rt; tree.first_less(0, -1, key(2000)), 1023);
-    Ok(())
-}
-
-#[test]
-fn keeps_an_expired_key_off_its_way(rt: HostRuntime) -> Result<(), Fail> {
-    let keys = [key(4), expiring(2, 1), expiring(6, 1)];
-    let mut tree = tree_of(&rt, rt.alloc(), &keys)?;
-    assert_eq!(rt; tree.first_less(1, -1, key(9)), 4);
-    assert_eq!(rt; tree.stored(), 2);
-    // At an earlier time, what is still stored answers.
-    assert_eq!(rt; tree.first_less(0, -1, key(3)), 2);
-    assert_eq!(rt; tree.first_less(0, -1, key(9)), 4);
-    assert_eq!(rt; tree.stored(), 2);
     Ok(())
 }
 

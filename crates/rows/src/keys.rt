@@ -186,6 +186,31 @@ pub fn takes_the_ends_of_the_type<C: KeyStore>(rt: &impl Abort, keys: &mut C) ->
     Ok(())
 }
 
+/// Asks at times at which keys have expired, where every request for memory is refused. The first query finds 20 among
+/// them, and the second 10.
+pub fn removes_without_memory<C: KeyStore>(
+    rt: &impl Abort,
+    memory: &Refusing<Global>,
+    keys: &mut C,
+) -> Result<(), Fail> {
+    for number in 1..=20 {
+        let expiration = match number % 4 {
+            0 => 1,
+            2 => 2,
+            _ => 10,
+        };
+        insert(rt, keys, expiring(number, expiration), 0)?;
+    }
+    memory.refuse_all();
+    assert_eq!(rt; keys.first_less(1, -1, key(21)), 19);
+    let kept = keys.count();
+    assert!(rt; kept < 20);
+    assert_eq!(rt; at_most(keys, 2, 10).0, 9);
+    assert!(rt; keys.count() < kept);
+    assert_eq!(rt; memory.requests(), 0);
+    Ok(())
+}
+
 /// Inserts the keys 1 to 40 where the nth request for memory is refused, and again what was refused with it.
 pub fn keeps_its_pairs_where_the_nth_is_refused<C: KeyStore>(
     rt: &impl Abort,

@@ -1,12 +1,20 @@
-//! For tests alone: worked examples of the public calls of `i_tree`.
+//! For tests alone: worked examples of the public calls of `i_tree` and of `itree_lib`.
 #![tactic(auto)]
 
+#[cfg(test)]
+mod alike_runs;
 #[cfg(test)]
 mod clears;
 #[cfg(test)]
 mod cores;
 #[cfg(test)]
+mod counted_runs;
+#[cfg(test)]
 mod counts;
+#[cfg(test)]
+mod few_keys;
+#[cfg(test)]
+mod key_commands;
 #[cfg(test)]
 mod key_counts;
 #[cfg(test)]
@@ -14,7 +22,11 @@ mod key_histories;
 #[cfg(test)]
 mod key_lists;
 #[cfg(test)]
+mod key_runs;
+#[cfg(test)]
 mod key_trees;
+#[cfg(test)]
+mod key_ways;
 #[cfg(test)]
 mod keys;
 #[cfg(test)]
@@ -27,6 +39,8 @@ mod random;
 mod removals;
 #[cfg(test)]
 mod set_lists;
+#[cfg(test)]
+mod set_runs;
 #[cfg(test)]
 mod set_trees;
 #[cfg(test)]

@@ -1,20 +1,14 @@
 //! Worked sets in a tree: searches, writes in place, bounds on comparisons, and refusals.
 
-ghost use Rattle.std.specs.Prelude.{◌≡◌, IsTrue};
-ghost use Rattle.std.specs.Ordering.{int_cmp, on};
-ghost use Rattle.i_tree.specs.Set.{IsOrdered, LacksKey};
-ghost use Rattle.i_tree.specs.Shape.{entries};
-ghost use Rattle.rows.specs.declared.numbered.Ticking.{Ticking};
-
 use crate::numbered::{Dropping, Item, Ticking, number};
 use crate::sets::{
     deletes_a_key_between, deletes_from_the_front, deletes_the_key_before, drops_what_it_deletes,
     find, finds_the_greatest_key_at_most, insert, insert_keys, item_at,
     keeps_its_values_where_the_nth_is_refused,
 };
-use i_tree::Refusal;
 use i_tree::set::sort::SetCollection;
 use i_tree::set::tree::SetTree;
+use i_tree::{EMPTY_REF, Refusal};
 use refusing::Refusing;
 use std::alloc::{Allocator, Global};
 use std::cell::Cell;
@@ -61,23 +55,41 @@ fn compares_within_its_bound(rt: HostRuntime) -> Result<(), Fail> {
     for number in 1..=1000 {
         insert_ticking(&rt, &mut set, &ticks, number)?;
     }
-    for sought in 0..=1001 {
-        let asked = Cell::new(0u64);
+    for number in 0..=1001 {
         assert!(rt; set.is_ordered());
-        let found = set.first_index_less_by(|key| {
-            asked.set(asked.get().saturating_add(1));
-            key.number.cmp(&sought)
-        });
-        assert!(rt; asked.get() <= 18, "{sought}");
-        let answer = if sought == 0 {
-            None
-        } else {
-            Some(sought.min(1000))
+        let sought = Ticking {
+            number,
+            ticks: &ticks,
         };
-        assert_eq!(rt; number_at(&set, found), answer);
+        ticks.set(0);
+        let found = set.first_index_less_by(|key| key.cmp(&sought));
+        assert!(rt; 0 < ticks.get() && ticks.get() <= 18, "{number}");
+        if number == 0 {
+            assert_eq!(rt; found, EMPTY_REF);
+        } else {
+            assert_eq!(rt; number_at(&set, found), Some(number.min(1000)));
+        }
     }
     let calls = insert_ticking(&rt, &mut set, &ticks, 1001)?;
-    assert!(rt; calls <= 18);
+    assert!(rt; 0 < calls && calls <= 18);
+    Ok(())
+}
+
+#[test]
+fn deletes_without_a_comparison(rt: HostRuntime) -> Result<(), Fail> {
+    let ticks = Cell::new(0u64);
+    let mut set: SetTree<Ticking, Ticking, Global> = SetTree::new(rt.alloc(), 0)?;
+    for number in 1..=100 {
+        insert_ticking(&rt, &mut set, &ticks, number)?;
+    }
+    for left in (0..100).rev() {
+        let root = set.core().root();
+        assert!(rt; set.has_index(root));
+        ticks.set(0);
+        set.delete_by_index(root);
+        assert_eq!(rt; ticks.get(), 0);
+        assert_eq!(rt; set.core().len(), left);
+    }
     Ok(())
 }
 
@@ -93,27 +105,6 @@ fn number_at<'a, A: Allocator + Copy>(
     }
 }
 
-// Whether no number of the set is this one.
-fn lacks_number<'a, A: Allocator + Copy>(
-    set: &SetTree<Ticking<'a>, Ticking<'a>, A>,
-    sought: &i32,
-) -> bool
-    requires { IsOrdered (λ (ticking : Ticking). ticking) (on (λ (ticking : Ticking). ticking.number) int_cmp) (entries set.now.shape) }
-    ensures { IsTrue result → (ticking : Ticking) → ticking.number ≡ sought.now → LacksKey (λ (held : Ticking). held) (on (λ (held : Ticking). held.number) int_cmp) (entries set.now.shape) ticking }
-{
-    let stands = |key: &Ticking| -> Ordering
-        ensures { result ≡ int_cmp key.entry.now.number sought.entry.now }
-    { key.number.cmp(sought) };
-    let found = set.first_index_less_by(stands);
-    if !set.has_index(found) {
-        return true;
-    }
-    match set.value_by_index(found).number.cmp(sought) {
-        Ordering::Equal => false,
-        _ => true,
-    }
-}
-
 // Inserts the number, after tests of the conditions, and answers how often numbers were compared in the insertion.
 fn insert_ticking<'a, A: Allocator + Copy>(
     rt: &impl Abort,
@@ -122,9 +113,10 @@ fn insert_ticking<'a, A: Allocator + Copy>(
     number: i32,
 ) -> Result<u64, Fail> {
     assert!(rt; set.is_ordered());
-    assert!(rt; lacks_number(set, &number));
+    let ticking = Ticking { number, ticks };
+    assert!(rt; !set.contains_key(&ticking));
     ticks.set(0);
-    if set.insert(Ticking { number, ticks }).is_err() {
+    if set.insert(ticking).is_err() {
         return Err(Fail::from("refused"));
     }
     Ok(ticks.get())

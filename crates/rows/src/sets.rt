@@ -1,9 +1,5 @@
 //! For every kind of set: calls after a test of their conditions, and tests that hold of each kind.
 
-ghost use Rattle.std.specs.Prelude.{◌≡◌, IsTrue};
-ghost use Rattle.std.specs.Ordering.{int_cmp};
-ghost use Rattle.i_tree.specs.Set.{IsOrdered, LacksKey};
-
 use crate::numbered::{Dropping, Item, number};
 use i_tree::set::sort::{KeyValue, SetCollection};
 use i_tree::{EMPTY_REF, Refusal, Refused};
@@ -21,26 +17,8 @@ pub fn insert<V: KeyValue<i32> + Drop, C: SetCollection<i32, V>>(
     value: V,
 ) -> Result<(), Refused<V>> {
     assert!(rt; set.is_ordered());
-    assert!(rt; lacks::<V, C>(set, value.key()));
+    assert!(rt; !set.contains_key(value.key()));
     set.insert(value)
-}
-
-// Whether no key of the set compares Equal to this one.
-fn lacks<V: KeyValue<i32> + Drop, C: SetCollection<i32, V>>(set: &C, sought: &i32) -> bool
-    requires { IsOrdered V.key_of int_cmp (C.pairs set.now) }
-    ensures { IsTrue result → LacksKey V.key_of int_cmp (C.pairs set.now) sought.now }
-{
-    let stands = |key: &i32| -> Ordering
-        ensures { result ≡ int_cmp key.entry.now sought.entry.now }
-    { key.cmp(sought) };
-    let found = set.first_index_less_by(stands);
-    if !set.has_index(found) {
-        return true;
-    }
-    match set.value_by_index(found).key().cmp(sought) {
-        Ordering::Equal => false,
-        _ => true,
-    }
 }
 
 /// Inserts items with these keys.

@@ -1,14 +1,14 @@
 //! The commands of keys that expire, as lines.
 
-ghost use Rattle.std.specs.Prelude.{◌∷◌, [], ℤ, Some, codes, map, IfSome, IsNone};
+ghost use Rattle.std.specs.Prelude.{◌∷◌, [], ℤ, codes, map, IfSome, IsNone};
 ghost use Rattle.itree.specs.Grammar.{ReadsAll};
 ghost use Rattle.itree.specs.KeyLines.{SaysKeyCommand, SaysNoKeyCommand};
 ghost use Rattle.itree.specs.Replies.{key_reply_words};
 
-use super::{LineCommand, number};
-use crate::run::{KeyCommand, KeyReply};
+use super::{LineCommand, LineReply, number};
 use crate::timed_key::TimedKey;
-use std::fmt::{self, Display, Formatter};
+use itree_lib::run::{KeyCommand, KeyReply};
+use std::alloc::{AllocError, Allocator};
 
 /// A command of a line: keys, expirations, values and times are whole numbers, and a probe is the key that is sought.
 pub type KeyLine = KeyCommand<TimedKey, i32, i32, i32>;
@@ -92,17 +92,17 @@ fn three_numbers(words: &[&str]) -> Option<(i32, i32, i32)>
 }
 
 /// The words of the reply's line. A refusal is `refused`, whatever its cause.
-impl Display for KeyReply<i32> {
-    ghost output = { λ reply. Some (key_reply_words reply) };
+impl LineReply for KeyReply<i32> {
+    ghost words = { key_reply_words };
 
-    fn fmt<W: fmt::Write>(&self, f: &mut Formatter<W>) -> fmt::Result {
+    fn push_words<A: Allocator>(&self, text: &mut String<A>) -> Result<(), AllocError> {
         match self {
-            KeyReply::Inserted => write!(f, "inserted"),
-            KeyReply::Present => write!(f, "present"),
-            KeyReply::Late => write!(f, "late"),
-            KeyReply::Refused(_) => write!(f, "refused"),
-            KeyReply::Cleared => write!(f, "cleared"),
-            KeyReply::Value(val) => write!(f, "value {val}"),
+            KeyReply::Inserted => text.push_str("inserted"),
+            KeyReply::Present => text.push_str("present"),
+            KeyReply::Late => text.push_str("late"),
+            KeyReply::Refused(_) => text.push_str("refused"),
+            KeyReply::Cleared => text.push_str("cleared"),
+            KeyReply::Value(val) => write!(text, "value {val}"),
         }
     }
 }

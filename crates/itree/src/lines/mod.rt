@@ -1,6 +1,6 @@
 //! Lines of text, as commands and as replies.
 
-ghost use Rattle.std.specs.Prelude.{◌≡◌, ◌==◌, ◌≢◌, ◌∷◌, ◌<◌, ◌⊎◌, ℕ, ℤ, List, Some, length, map, IfErr, IfOk, IfSome, IsNone, position, string_bytes};
+ghost use Rattle.std.specs.Prelude.{◌≡◌, ◌==◌, ◌≢◌, ◌∷◌, ◌++◌, ◌<◌, ◌⊎◌, ℕ, ℤ, List, length, map, IfErr, IfOk, IfSome, IsNone, OnOk, position, string_bytes};
 ghost use Rattle.std.specs.Str.{IsAscii};
 ghost use Rattle.itree.specs.Grammar.{words_of, LineSays, IsFaulty, lines_of, lines_left, LinesSay, IsFirstFaulty};
 ghost use Rattle.itree.specs.Replies.{reply_lines};
@@ -8,7 +8,6 @@ ghost use Rattle.itree.specs.Words.{Reads};
 
 use crate::fault::Fault;
 use std::alloc::{AllocError, Allocator};
-use std::fmt::Display;
 use std::str;
 
 mod keys;
@@ -26,6 +25,16 @@ pub trait LineCommand: Sized + Drop {
     fn from_words(words: &[&str]) -> Option<Self>
         ensures said { IfSome result (says (map (λ word. word.now) words.now)) }
         ensures unsaid { IsNone result → (command : Self) → ¬ (says (map (λ word. word.now) words.now) command) };
+}
+
+/// A reply that has a line.
+pub trait LineReply {
+    /// The words of the reply's line.
+    ghost words: { Self → List ℕ };
+
+    /// Appends the words of the reply's line.
+    fn push_words<A: Allocator>(&self, text: &mut String<A>) -> Result<(), AllocError>
+        ensures { OnOk result (string_bytes text.new ≡ string_bytes text.old ++ words self.now) };
 }
 
 /// The commands of a text, in order. A line feed ends a line, and the last line may lack it.
@@ -118,17 +127,17 @@ fn number(word: &str) -> Option<i32>
     word.parse().ok()
 }
 
-/// One line for each reply, in order: what the reply is displayed as, and a line feed.
-pub fn reply_text<A: Allocator, R: Display>(
+/// One line for each reply, in order: its words, and a line feed.
+pub fn reply_text<A: Allocator, R: LineReply>(
     alloc: A,
     replies: &[R],
 ) -> Result<String<A>, AllocError>
-    ensures { (words : R → List ℕ) → ((reply : R) → R.output reply ≡ Some (words reply))
-        → IfOk result (λ text. string_bytes text ≡ reply_lines words replies.now) }
+    ensures { IfOk result (λ text. string_bytes text ≡ reply_lines R.words replies.now) }
 {
     let mut text = String::new(alloc);
     for reply in replies {
-        writeln!(text, "{reply}")?;
+        reply.push_words(&mut text)?;
+        text.push_str("\n")?;
     }
     Ok(text)
 }

@@ -1,14 +1,14 @@
 //! The commands of an ordered set, as lines.
 
-ghost use Rattle.std.specs.Prelude.{◌∷◌, [], ℤ, Some, map, IfSome, IsNone};
+ghost use Rattle.std.specs.Prelude.{◌∷◌, [], ℤ, map, IfSome, IsNone};
 ghost use Rattle.itree.specs.Grammar.{ReadsAll};
 ghost use Rattle.itree.specs.Replies.{set_reply_words};
 ghost use Rattle.itree.specs.SetLines.{SaysSetCommand};
 
-use super::{LineCommand, number};
-use crate::run::{SetCommand, SetReply};
+use super::{LineCommand, LineReply, number};
 use crate::set_key::SetKey;
-use std::fmt::{self, Display, Formatter};
+use itree_lib::run::{SetCommand, SetReply};
+use std::alloc::{AllocError, Allocator};
 
 /// A command of a line: a key is a whole number, and a value is its key.
 pub type SetLine = SetCommand<i32, SetKey>;
@@ -41,18 +41,18 @@ fn one_number(words: &[&str]) -> Option<i32>
 }
 
 /// The words of the reply's line. A refusal is `refused`, whatever its cause; a value that comes back isn't shown.
-impl Display for SetReply<i32, SetKey> {
-    ghost output = { λ reply. Some (set_reply_words reply) };
+impl LineReply for SetReply<i32, SetKey> {
+    ghost words = { set_reply_words };
 
-    fn fmt<W: fmt::Write>(&self, f: &mut Formatter<W>) -> fmt::Result {
+    fn push_words<A: Allocator>(&self, text: &mut String<A>) -> Result<(), AllocError> {
         match self {
-            SetReply::Inserted => write!(f, "inserted"),
-            SetReply::Present(_) => write!(f, "present"),
-            SetReply::Refused(..) => write!(f, "refused"),
-            SetReply::Deleted => write!(f, "deleted"),
-            SetReply::Absent => write!(f, "absent"),
-            SetReply::Key(key) => write!(f, "key {key}"),
-            SetReply::None => write!(f, "none"),
+            SetReply::Inserted => text.push_str("inserted"),
+            SetReply::Present(_) => text.push_str("present"),
+            SetReply::Refused(..) => text.push_str("refused"),
+            SetReply::Deleted => text.push_str("deleted"),
+            SetReply::Absent => text.push_str("absent"),
+            SetReply::Key(key) => write!(text, "key {key}"),
+            SetReply::None => text.push_str("none"),
         }
     }
 }

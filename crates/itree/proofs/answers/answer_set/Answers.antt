@@ -1,7 +1,7 @@
-use Rattle.std.proofs.Common.{List, ◌++◌, ℤ, refl, ap, ◌∙◌}
+use Rattle.std.proofs.Common.{List, ◌++◌, ℤ, ap, ◌∙◌}
 use Rattle.i_tree.specs.Set.{values}
 use Rattle.itree.specs.Replies.{set_reply_words, reply_lines}
-use Rattle.itree.specs.declared.run.sets.SetReply.{SetReply}
+use Rattle.itree_lib.specs.declared.run.sets.SetReply.{SetReply}
 use Rattle.itree.specs.declared.set_key.SetKey.{SetKey}
 use Rattle.itree.proofs.answers.answer_set.Goals as goal
 
@@ -13,5 +13,5 @@ returns-clause-answered g c =
       replies = replies;
       end = values (g.C.SetCollection.pairs c.run_sets.new.c);
       run = run;
-      written = c.in_ok-reply_text.ensures set_reply_words (λ reply. refl) ∙ ap (reply_lines set_reply_words) items;
+      written = c.in_ok-reply_text.ensures ∙ ap (reply_lines set_reply_words) items;
     }

@@ -1,0 +1,7 @@
+pub mod Agreeing
+pub mod Counted
+pub mod Knowing
+pub mod Members
+pub mod Serving
+pub mod SetServing
+pub mod Standing

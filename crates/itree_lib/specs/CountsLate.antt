@@ -1,0 +1,19 @@
+-- A late command counts nothing.
+use Rattle.std.proofs.Common.{arith}
+use Rattle.i_tree.specs.RbTree.{Contents}
+use Rattle.i_tree.specs.Steps.{Counts}
+use Rattle.itree_lib.specs.CountedRun.{CountsOne}
+use Rattle.itree_lib.specs.declared.run.keys.KeyReply.TheVariants.{Late}
+
+pub counts_late : {K V : Type 0} (steps : Counts) (tree : Contents (K × V)) → CountsOne Late steps tree steps tree
+counts_late steps tree =
+    record {
+      made = record { comparisons = 0; tests = 0; removals = 0; rotations = 0 };
+      adds = record { comparisons = omega arith; tests = omega arith; removals = omega arith; rotations = omega arith };
+      compares = λ levels small. omega arith;
+      turns = omega arith;
+      stores = λ _. omega arith;
+      clears = λ is. absurd (cc (is));
+      slots_stay = omega arith;
+      refused = λ cause is. absurd (cc (is));
+    }

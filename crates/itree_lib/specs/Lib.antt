@@ -1,0 +1,9 @@
+pub mod Agreeing
+pub mod CountedRun
+pub mod CountsLate
+pub mod KeyMachine
+pub mod KeyReplies
+pub mod Probes
+pub mod Serving
+pub mod SetMachine
+pub mod StandsFor
