@@ -1,0 +1,48 @@
+use i_tree::key::exp::KeyExpCollection;
+use i_tree::key::tree::KeyExpTree;
+use i_tree::{ExpiredKey, Refusal};
+use std::alloc::Global;
+
+#[derive(Clone, Copy, PartialEq, Eq, PartialOrd, Ord)]
+pub struct Level {
+    pub height: i32,
+    pub end: i32,
+}
+
+impl ExpiredKey<i32> for Level {
+    ghost expiration = { λ level. level.end };
+
+    fn expiration(&self) -> i32 {
+        self.end
+    }
+}
+
+/// The height of the level at `height`, or next below it, that is live at `at`; else -1.
+pub fn below(alloc: Global, levels: &[Level], at: i32, height: i32) -> Result<i32, Refusal> {
+    let mut active = KeyExpTree::new(alloc, 16)?;
+    for level in levels {
+        if !active.contains_key(0, *level) {
+            active.insert(*level, level.height, 0)?;
+        }
+    }
+    Ok(active.first_less_or_equal_by(at, -1, |level| level.height.cmp(&height)))
+}
+
+#[cfg(test)]
+mod tests {
+    use super::*;
+    use std::test::Fail;
+
+    #[test]
+    fn answers_the_live_level_below(rt: HostRuntime) -> Result<(), Fail> {
+        let levels = [
+            Level { height: 3, end: 10 },
+            Level { height: 5, end: 4 },
+            Level { height: 3, end: 10 },
+        ];
+        for (at, height, wanted) in [(2, 6, 5), (4, 6, 3), (4, 3, 3), (4, 2, -1), (10, 6, -1)] {
+            assert_eq!(rt; below(rt.alloc(), &levels, at, height)?, wanted);
+        }
+        Ok(())
+    }
+}

@@ -1,0 +1,169 @@
+//! The events of a sweep over levels, one after another: over a tree, and over a list by one changed line.
+
+ghost use Rattle.std.specs.Prelude.{◌≡◌};
+ghost use Rattle.std.specs.Ordering.{int_cmp};
+
+use i_tree::key::exp::KeyExpCollection;
+use i_tree::key::list::KeyExpList;
+use i_tree::key::tree::KeyExpTree;
+use i_tree::{ExpiredKey, Refusal};
+use std::alloc::Allocator;
+use std::cmp::Ordering;
+
+/// A level is compared by its height alone, so that two of one height are one place. It is live at each place before its
+/// end.
+#[derive(Clone, Copy, Debug)]
+#[derive_where(PartialEq, Eq, PartialOrd, Ord)]
+pub struct Level {
+    pub height: i32,
+    #[derive_where(skip(EqHashOrd))]
+    pub end: i32,
+}
+
+impl ExpiredKey<i32> for Level {
+    ghost expiration = { λ level. level.end };
+
+    fn expiration(&self) -> i32 {
+        self.end
+    }
+}
+
+/// What happens at a place.
+#[derive(Clone, Copy, Debug)]
+pub enum Event {
+    /// A level of this name begins.
+    Begin { level: Level, name: u32 },
+    /// Which level is at this height, or next below it?
+    Ask { height: i32 },
+}
+
+/// What came of an event.
+#[derive(Clone, Copy, Debug, PartialEq, Eq)]
+pub enum Outcome {
+    /// The level is live from here on.
+    Began,
+    /// A level of its height is live here.
+    Taken,
+    /// There was no room for the level. All is as it was.
+    NoRoom,
+    /// The name of the level that was asked for; 0 where there is none.
+    Below(u32),
+}
+
+/// What comes of an event at a place, over any collection.
+pub fn serve<C: KeyExpCollection<Level, i32, u32>>(
+    active: &mut C,
+    place: i32,
+    event: Event,
+) -> Outcome {
+    match event {
+        Event::Begin { level, name } => {
+            if active.contains_key(place, level) {
+                return Outcome::Taken;
+            }
+            match active.insert(level, name, place) {
+                Ok(()) => Outcome::Began,
+                Err(Refusal::OutOfMemory | Refusal::NoHandle) => Outcome::NoRoom,
+            }
+        }
+        Event::Ask { height } => {
+            let stands = |level: Level| -> Ordering
+                ensures { result ≡ int_cmp level.height height }
+            { level.height.cmp(&height) };
+            Outcome::Below(active.first_less_or_equal_by(place, 0, stands))
+        }
+    }
+}
+
+/// The outcomes of events, each at its place, over a tree.
+pub fn outcomes_by_tree<A: Allocator + Copy>(
+    alloc: A,
+    events: &[(i32, Event)],
+) -> Result<Vec<Outcome, A>, Refusal> {
+    let mut outcomes = Vec::with_capacity(alloc, events.len())?;
+    let mut active = KeyExpTree::new(alloc, 16)?;
+    for (place, event) in events {
+        outcomes.push(serve(&mut active, *place, *event))?;
+    }
+    Ok(outcomes)
+}
+
+/// The outcomes of events, each at its place, over a list.
+pub fn outcomes_by_list<A: Allocator + Copy>(
+    alloc: A,
+    events: &[(i32, Event)],
+) -> Result<Vec<Outcome, A>, Refusal> {
+    let mut outcomes = Vec::with_capacity(alloc, events.len())?;
+    let mut active = KeyExpList::new(alloc, 16)?;
+    for (place, event) in events {
+        outcomes.push(serve(&mut active, *place, *event))?;
+    }
+    Ok(outcomes)
+}
+
+#[cfg(test)]
+mod tests {
+    use super::*;
+    use refusing::Refusing;
+    use std::test::Fail;
+
+    fn begin(place: i32, height: i32, end: i32, name: u32) -> (i32, Event) {
+        let level = Level { height, end };
+        (place, Event::Begin { level, name })
+    }
+
+    fn ask(place: i32, height: i32) -> (i32, Event) {
+        (place, Event::Ask { height })
+    }
+
+    #[test]
+    fn a_tree_and_a_list_answer_alike(rt: HostRuntime) -> Result<(), Fail> {
+        let events = [
+            begin(0, 3, 10, 1),
+            begin(0, 5, 4, 2),
+            begin(1, 5, 9, 3),
+            ask(2, 6),
+            ask(4, 6),
+            begin(4, 5, 9, 4),
+            ask(5, 5),
+            ask(9, 9),
+            ask(10, 9),
+        ];
+        let wanted = [
+            Outcome::Began,
+            Outcome::Began,
+            Outcome::Taken,
+            Outcome::Below(2),
+            Outcome::Below(1),
+            Outcome::Began,
+            Outcome::Below(4),
+            Outcome::Below(1),
+            Outcome::Below(0),
+        ];
+        assert_eq!(rt;
+            outcomes_by_tree(rt.alloc(), &events)?.as_slice(),
+            wanted.as_slice()
+        );
+        assert_eq!(rt;
+            outcomes_by_list(rt.alloc(), &events)?.as_slice(),
+            wanted.as_slice()
+        );
+        Ok(())
+    }
+
+    #[test]
+    fn a_level_without_room_changes_nothing(rt: HostRuntime) -> Result<(), Fail> {
+        let memory = Refusing::new(rt.alloc());
+        let mut active = KeyExpTree::new(&memory, 0)?;
+        memory.refuse_all();
+        for height in 1..=7 {
+            let (place, event) = begin(0, height, 10, 1);
+            assert_eq!(rt; serve(&mut active, place, event), Outcome::Began);
+        }
+        let (place, event) = begin(0, 8, 10, 9);
+        assert_eq!(rt; serve(&mut active, place, event), Outcome::NoRoom);
+        let (place, event) = ask(0, 9);
+        assert_eq!(rt; serve(&mut active, place, event), Outcome::Below(1));
+        Ok(())
+    }
+}
