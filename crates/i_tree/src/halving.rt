@@ -3,7 +3,7 @@
 ghost use Rattle.std.specs.Prelude.{◌≡◌, ◌≤◌, Bool, true, false, length};
 ghost use Rattle.std.specs.Fn.{FnReturnsAt};
 ghost use Rattle.std.specs.List.Sorted.{IsPartitionPoint, IsPartitionedBy};
-ghost use Rattle.i_tree.specs.Halving.{TakesItems, ItemsAnswer};
+ghost use Rattle.i_tree.specs.Root.Halving.{TakesItems, ItemsAnswer};
 
 /// How many items at the front pass, where none that passes stands after one that fails.
 ///

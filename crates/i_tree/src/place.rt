@@ -1,10 +1,11 @@
 //! Places of a core where a part hangs. Both trees go down from place to place.
 
 ghost use Rattle.std.specs.Prelude.{◌≡◌, ◌≢◌, ◌<◌, ◌++◌, ◌∷◌, ℕ, List, IsOk, OnOk, OnErr, IfOk, IfErr, IsErrAnd};
-ghost use Rattle.i_tree.specs.Place.{IsPlace, IsPlaceBetween, part_of};
-ghost use Rattle.i_tree.specs.RbTree.{slots, slots_with_room};
-ghost use Rattle.i_tree.specs.Shape.{leaf, top, entries, occurs, part_at, IsCore, IsLive};
-ghost use Rattle.i_tree.specs.Steps.{OnlyRotates};
+ghost use Rattle.i_tree.specs.Core.Place.{IsPlace, IsPlaceBetween, part_of};
+ghost use Rattle.i_tree.specs.Core.RbTree.{slots, slots_with_room};
+ghost use Rattle.i_tree.specs.Core.Balance.{IsCore};
+ghost use Rattle.i_tree.specs.Core.Shape.{leaf, top, entries, occurs, part_at, IsLive};
+ghost use Rattle.i_tree.specs.Root.Steps.{OnlyRotates};
 
 use crate::rb::RbTree;
 use crate::steps::Steps;

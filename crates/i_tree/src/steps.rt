@@ -1,7 +1,7 @@
 //! Counts of what a call does, for contracts alone.
 
 ghost use Rattle.std.specs.Prelude.{◌≡◌, ◌<◌, ◌+◌};
-ghost use Rattle.i_tree.specs.Steps.{Counts};
+ghost use Rattle.i_tree.specs.Root.Steps.{Counts};
 
 use std::marker::Model;
 use std::sync::ledger::{Blank, Book, Ledger, Share};

@@ -2,7 +2,7 @@
 
 ghost use Rattle.std.specs.Prelude.{◌≡◌, ◌≢◌, ℕ, IfErr, IfOk, string_bytes};
 ghost use Rattle.std.specs.Ordering.{int_cmp};
-ghost use Rattle.i_tree.specs.Set.{values, IsOrdered};
+ghost use Rattle.i_tree.specs.Set.Pairs.{values, IsOrdered};
 ghost use Rattle.itree.specs.Texts.{AnswersKeys, AnswersSet, Answers, HasFirstFaulty};
 
 use crate::fault::Fault;

@@ -9,11 +9,11 @@ use Rattle.std.specs.List.{AllPairs, Contains}
 use Rattle.std.proofs.lemmas.Bool.{both_ways, cond_both, true_from_ne_false}
 use Rattle.std.proofs.lemmas.List.Elements.{All-contains, All-head, All-tail, All-weaker}
 use Rattle.std.proofs.lemmas.List.Kept.{AllPairs-cons}
-use Rattle.i_tree.proofs.Lists.{AllPairs-head, AllPairs-tail, Contains-filter}
+use Rattle.i_tree.proofs.RootLemmas.Lists.{AllPairs-head, AllPairs-tail, Contains-filter}
 use Rattle.i_tree.specs.declared.Refusal.TheVariants.{OutOfMemory, NoHandle}
-use Rattle.i_tree.specs.Answer.{GreatestOr, Below, AtMost}
-use Rattle.i_tree.specs.Live.{is_live, live_pairs}
-use Rattle.i_tree.specs.Pairs.{HasKey, NoKey}
+use Rattle.i_tree.specs.Root.Answer.{GreatestOr, Below, AtMost}
+use Rattle.i_tree.specs.Key.Live.{is_live, live_pairs}
+use Rattle.i_tree.specs.Root.Pairs.{HasKey, NoKey}
 use Rattle.itree_lib.specs.Agreeing.{IsRefused, NoneRefused, OneEqual, OneEqualEach}
 use Rattle.itree_lib.specs.KeyMachine.{State, beginning, is_late, IsLate, Step, Run}
 use Rattle.itree_lib.specs.declared.run.keys.KeyCommand.{KeyCommand}

@@ -3,11 +3,11 @@ use Rattle.std.proofs.Common.{◌≡◌, ◌≢◌, ◌⊎◌, ⊎_elim, inl, in
 use Rattle.std.proofs.Math.Nat.{mul-suc}
 use Rattle.std.proofs.lemmas.List.{length-map}
 use Rattle.std.proofs.lemmas.List.Elements.{All-head, All-tail}
-use Rattle.i_tree.specs.Descent.{Adds, Descends, LooksFor}
-use Rattle.i_tree.specs.KeyExpTree.{items, slots_for}
-use Rattle.i_tree.specs.RbTree.{Contents, slots, slots_grown}
-use Rattle.i_tree.specs.Shape.{entries}
-use Rattle.i_tree.specs.Steps.{Counts}
+use Rattle.i_tree.specs.Root.Descent.{Adds, Descends, LooksFor}
+use Rattle.i_tree.specs.Key.KeyExpTree.{items, slots_for}
+use Rattle.i_tree.specs.Core.RbTree.{Contents, slots, slots_grown}
+use Rattle.i_tree.specs.Core.Shape.{entries}
+use Rattle.i_tree.specs.Root.Steps.{Counts}
 use Rattle.i_tree.specs.declared.Refusal.{Refusal}
 use Rattle.itree_lib.specs.CountedRun.{one_if_inserted, CountsOne, CountsRun, RefusedOnlyWhereFull}
 use Rattle.itree_lib.specs.KeyReplies.{IsReplyTo, RepliesTo}

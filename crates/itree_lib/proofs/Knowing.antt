@@ -6,10 +6,10 @@ use Rattle.std.specs.declared.cmp.Ordering.{Ordering}
 use Rattle.std.specs.declared.cmp.Ordering.TheVariants as ordering
 use Rattle.std.specs.List.{All, Contains}
 use Rattle.std.proofs.lemmas.List.Elements.{All-contains_itself, All-weaker, All-same}
-use Rattle.i_tree.specs.Answer.{IsMonotone}
-use Rattle.i_tree.specs.Change.{Without}
-use Rattle.i_tree.specs.Live.{is_live, live_pairs}
-use Rattle.i_tree.proofs.Lists.{All-insert, Contains-filter, Contains-here, Contains-there}
+use Rattle.i_tree.specs.Root.Answer.{IsMonotone}
+use Rattle.i_tree.specs.Root.Change.{Without}
+use Rattle.i_tree.specs.Key.Live.{is_live, live_pairs}
+use Rattle.i_tree.proofs.RootLemmas.Lists.{All-insert, Contains-filter, Contains-here, Contains-there}
 use Rattle.itree_lib.specs.KeyMachine.{Inserts}
 use Rattle.itree_lib.specs.Probes.{CanProbe, CanProbeAll, ProbesBy, ProbesAllBy, known_after}
 use Rattle.itree_lib.specs.declared.run.keys.KeyCommand.{KeyCommand}

@@ -5,11 +5,11 @@ use Rattle.std.specs.declared.cmp.Ordering.TheVariants.{Less, Equal, Greater}
 use Rattle.std.specs.List.{All, Any, Contains, filter}
 use Rattle.std.proofs.lemmas.Bool.{cond_both}
 use Rattle.std.proofs.lemmas.List.Elements.{All-contains, Contains-get_or}
-use Rattle.i_tree.specs.Answer.{GreatestOr, AtMost}
-use Rattle.i_tree.specs.Change.{Without}
-use Rattle.i_tree.specs.Change.Without.{none, keeps, loses}
-use Rattle.i_tree.specs.Pairs.{HasKey, NoKey}
-use Rattle.i_tree.proofs.Lists.{Contains-there}
+use Rattle.i_tree.specs.Root.Answer.{GreatestOr, AtMost}
+use Rattle.i_tree.specs.Root.Change.{Without}
+use Rattle.i_tree.specs.Root.Change.Without.{none, keeps, loses}
+use Rattle.i_tree.specs.Root.Pairs.{HasKey, NoKey}
+use Rattle.i_tree.proofs.RootLemmas.Lists.{Contains-there}
 
 module _ {X : Type 0} where
   -- each member of the first list is one of the second

@@ -5,10 +5,10 @@ use Rattle.std.specs.declared.cmp.Ordering.{Ordering}
 use Rattle.std.specs.List.Sorted.{IsPermutation}
 use Rattle.std.proofs.lemmas.List.Sorted.{IsPermutation-refl}
 use Rattle.i_tree.specs.declared.Refusal.{Refusal}
-use Rattle.i_tree.specs.Answer.{Below, AtMost}
-use Rattle.i_tree.specs.Change.{Without, Gains}
-use Rattle.i_tree.specs.Live.{live_pairs, IsExpired}
-use Rattle.i_tree.specs.Pairs.{HasKey, NoKey}
+use Rattle.i_tree.specs.Root.Answer.{Below, AtMost}
+use Rattle.i_tree.specs.Root.Change.{Without, Gains}
+use Rattle.i_tree.specs.Key.Live.{live_pairs, IsExpired}
+use Rattle.i_tree.specs.Root.Pairs.{HasKey, NoKey}
 use Rattle.itree_lib.specs.KeyMachine.{State, is_late, Step, Run, Serves, Inserts}
 use Rattle.itree_lib.specs.KeyReplies.{IsReplyTo, RepliesTo}
 use Rattle.itree_lib.specs.Serving.{DoesAll}

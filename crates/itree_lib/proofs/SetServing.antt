@@ -9,15 +9,15 @@ use Rattle.std.specs.List.{All, AllPairs, Contains}
 use Rattle.std.proofs.lemmas.Bool.{both_ways}
 use Rattle.std.proofs.lemmas.List.{map-append}
 use Rattle.std.proofs.lemmas.List.Elements.{All-contains, All-map, All-weaker}
-use Rattle.i_tree.specs.Answer.{IsGreatest, GreatestOr}
-use Rattle.i_tree.specs.Pairs.{HasKey, NoKey, IsRising}
-use Rattle.i_tree.specs.Set.{AreApart, values, by_key, HasHandle, IsOrdered, LacksKey, IsFoundBy}
-use Rattle.i_tree.specs.Shape.{last_handle}
+use Rattle.i_tree.specs.Root.Answer.{IsGreatest, GreatestOr}
+use Rattle.i_tree.specs.Root.Pairs.{HasKey, NoKey, IsRising}
+use Rattle.i_tree.specs.Set.Pairs.{AreApart, values, by_key, HasHandle, IsOrdered, LacksKey, IsFoundBy}
+use Rattle.i_tree.specs.Core.Shape.{last_handle}
 use Rattle.i_tree.specs.declared.TheConstants.{EMPTY_REF}
-use Rattle.i_tree.proofs.Lists.{Contains-here, Contains-there}
-use Rattle.i_tree.proofs.SetLists.{All-of_map, AllPairs-of_map, AllPairs-to_map, Contains-middle, last_cut}
-use Rattle.i_tree.proofs.SetLive.{cut_at_item}
-use Rattle.i_tree.proofs.SetSearch.{last_handle-end}
+use Rattle.i_tree.proofs.RootLemmas.Lists.{Contains-here, Contains-there}
+use Rattle.i_tree.proofs.RootLemmas.Joined.{All-of_map, AllPairs-of_map, AllPairs-to_map, Contains-middle, last_cut}
+use Rattle.i_tree.proofs.SetLemmas.Live.{cut_at_item}
+use Rattle.i_tree.proofs.SetLemmas.Search.{last_handle-end}
 use Rattle.itree_lib.specs.SetMachine.{keyed, Step, Run}
 use Rattle.itree_lib.specs.declared.run.sets.SetCommand.{SetCommand}
 use Rattle.itree_lib.specs.declared.run.sets.SetCommand.TheVariants.{Delete, Find, Before}

@@ -9,10 +9,10 @@ use Rattle.std.specs.List.Sorted.{IsPermutation}
 use Rattle.std.proofs.lemmas.Bool.{both_ways}
 use Rattle.std.proofs.lemmas.List.Elements.{All-nil, All-cons, All-append, All-contains, All-weaker, Contains-append_left, Contains-append_cases}
 use Rattle.std.proofs.lemmas.List.Sorted.{IsPermutation-refl, IsPermutation-sym, IsPermutation-trans, IsPermutation-cons, IsPermutation-middle, IsPermutation-append_left, IsPermutation-insert, Contains-permutation}
-use Rattle.i_tree.specs.Change.{Without, Joins}
-use Rattle.i_tree.specs.Change.Without.{none, keeps, loses}
-use Rattle.i_tree.specs.Live.{is_live, live_pairs, IsExpired}
-use Rattle.i_tree.proofs.Lists.{Contains-filter}
+use Rattle.i_tree.specs.Root.Change.{Without, Joins}
+use Rattle.i_tree.specs.Root.Change.Without.{none, keeps, loses}
+use Rattle.i_tree.specs.Key.Live.{is_live, live_pairs, IsExpired}
+use Rattle.i_tree.proofs.RootLemmas.Lists.{Contains-filter}
 use Rattle.itree_lib.specs.KeyMachine.{is_late}
 use Rattle.itree_lib.specs.StandsFor.{StandsFor}
 use Rattle.itree_lib.proofs.Members.{Within, Contains-from_filter}

@@ -1,9 +1,9 @@
 -- What a run of commands over a tree of expiring keys has counted, and what is stored then.
 use Rattle.std.specs.Prelude.{◌≡◌, ◌≢◌, ℕ, ◌+◌, ◌*◌, ◌^◌, ◌<◌, ◌≤◌, List, [], ◌∷◌, ◌++◌, All, length}
-use Rattle.i_tree.specs.Descent.{Adds}
-use Rattle.i_tree.specs.KeyExpTree.{items}
-use Rattle.i_tree.specs.RbTree.{Contents, slots}
-use Rattle.i_tree.specs.Steps.{Counts}
+use Rattle.i_tree.specs.Root.Descent.{Adds}
+use Rattle.i_tree.specs.Key.KeyExpTree.{items}
+use Rattle.i_tree.specs.Core.RbTree.{Contents, slots}
+use Rattle.i_tree.specs.Root.Steps.{Counts}
 use Rattle.i_tree.specs.declared.Refusal.{Refusal}
 use Rattle.itree_lib.specs.declared.run.keys.KeyCommand.{KeyCommand}
 use Rattle.itree_lib.specs.declared.run.keys.KeyCommand.TheVariants.{Clear}

@@ -1,7 +1,7 @@
 -- A late command counts nothing.
 use Rattle.std.proofs.Common.{arith}
-use Rattle.i_tree.specs.RbTree.{Contents}
-use Rattle.i_tree.specs.Steps.{Counts}
+use Rattle.i_tree.specs.Core.RbTree.{Contents}
+use Rattle.i_tree.specs.Root.Steps.{Counts}
 use Rattle.itree_lib.specs.CountedRun.{CountsOne}
 use Rattle.itree_lib.specs.declared.run.keys.KeyReply.TheVariants.{Late}
 

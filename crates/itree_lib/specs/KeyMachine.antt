@@ -2,10 +2,10 @@
 use Rattle.std.specs.Prelude.{◌≡◌, Bool, true, false, List, [], ◌∷◌, Option, Some, None}
 use Rattle.std.specs.Ordering.{is_lt}
 use Rattle.std.specs.declared.cmp.Ordering.{Ordering}
-use Rattle.i_tree.specs.Answer.{Below, AtMost}
-use Rattle.i_tree.specs.Change.{Gains}
-use Rattle.i_tree.specs.Live.{live_pairs, IsExpired}
-use Rattle.i_tree.specs.Pairs.{HasKey, NoKey}
+use Rattle.i_tree.specs.Root.Answer.{Below, AtMost}
+use Rattle.i_tree.specs.Root.Change.{Gains}
+use Rattle.i_tree.specs.Key.Live.{live_pairs, IsExpired}
+use Rattle.i_tree.specs.Root.Pairs.{HasKey, NoKey}
 use Rattle.itree_lib.specs.StandsFor.{StandsFor}
 use Rattle.itree_lib.specs.declared.run.keys.KeyCommand.{KeyCommand}
 use Rattle.itree_lib.specs.declared.run.keys.KeyCommand.TheVariants.{Insert, Less, LessOrEqualBy, Clear}

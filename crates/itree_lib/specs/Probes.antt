@@ -2,8 +2,8 @@
 -- those that earlier commands insert, whatever became of them, but none from before a `Clear`.
 use Rattle.std.specs.Prelude.{⊤, List, [], ◌∷◌, All}
 use Rattle.std.specs.declared.cmp.Ordering.{Ordering}
-use Rattle.i_tree.specs.Answer.{AnswersBy, IsMonotone}
-use Rattle.i_tree.specs.Live.{live_pairs}
+use Rattle.i_tree.specs.Root.Answer.{AnswersBy, IsMonotone}
+use Rattle.i_tree.specs.Key.Live.{live_pairs}
 use Rattle.itree_lib.specs.declared.run.keys.KeyCommand.{KeyCommand}
 use Rattle.itree_lib.specs.declared.run.keys.KeyCommand.TheVariants.{Insert, Less, LessOrEqualBy, Clear}
 

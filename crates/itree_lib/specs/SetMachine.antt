@@ -2,9 +2,9 @@
 use Rattle.std.specs.Prelude.{◌≡◌, ◌≢◌, List, [], ◌∷◌, ◌++◌, All, map}
 use Rattle.std.specs.declared.cmp.Ordering.{Ordering}
 use Rattle.std.specs.declared.cmp.Ordering.TheVariants.{Equal, Greater}
-use Rattle.i_tree.specs.Answer.{IsGreatest}
-use Rattle.i_tree.specs.Change.{Joins}
-use Rattle.i_tree.specs.Pairs.{HasKey, NoKey, IsRising}
+use Rattle.i_tree.specs.Root.Answer.{IsGreatest}
+use Rattle.i_tree.specs.Root.Change.{Joins}
+use Rattle.i_tree.specs.Root.Pairs.{HasKey, NoKey, IsRising}
 use Rattle.itree_lib.specs.declared.run.sets.SetCommand.{SetCommand}
 use Rattle.itree_lib.specs.declared.run.sets.SetCommand.TheVariants.{Insert, Delete, Find, Before}
 use Rattle.itree_lib.specs.declared.run.sets.SetReply.{SetReply}

@@ -1,8 +1,8 @@
 //! Counted runs of commands over a tree of keys that expire.
 
 ghost use Rattle.std.specs.Prelude.{◌≡◌, ◌≤◌, ◌<◌, ◌+◌, ◌*◌, ◌^◌, ◌++◌, ℕ, ℤ, List, length, OnOk};
-ghost use Rattle.i_tree.specs.KeyExpTree.{items};
-ghost use Rattle.i_tree.specs.Shape.{leaf};
+ghost use Rattle.i_tree.specs.Key.KeyExpTree.{items};
+ghost use Rattle.i_tree.specs.Core.Shape.{leaf};
 ghost use Rattle.itree_lib.specs.CountedRun.{accepted};
 ghost use Rattle.itree_lib.specs.declared.run.keys.KeyReply.{KeyReply};
 

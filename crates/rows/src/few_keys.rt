@@ -1,6 +1,6 @@
 //! A collection of keys that expire that takes few of them, as one does that runs out of handles.
 
-ghost use Rattle.i_tree.specs.Pairs.{IsRising};
+ghost use Rattle.i_tree.specs.Root.Pairs.{IsRising};
 
 use i_tree::key::exp::KeyExpCollection;
 use i_tree::key::list::KeyExpList;

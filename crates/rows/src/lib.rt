@@ -45,7 +45,6 @@ mod set_runs;
 mod set_trees;
 #[cfg(test)]
 mod sets;
-#[cfg(test)]
-mod timed_key;
+pub mod timed_key;
 #[cfg(test)]
 mod trees;

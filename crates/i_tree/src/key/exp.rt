@@ -1,9 +1,9 @@
 ghost use Rattle.std.specs.Prelude.{◌≡◌, List, [], All, OnOk, OnErr, MatchBool};
 ghost use Rattle.std.specs.declared.cmp.Ordering.{Ordering};
-ghost use Rattle.i_tree.specs.Live.{live_pairs, IsExpired};
-ghost use Rattle.i_tree.specs.Pairs.{HasKey, NoKey, IsRising};
-ghost use Rattle.i_tree.specs.Answer.{Below, AtMost, AnswersBy, IsMonotone};
-ghost use Rattle.i_tree.specs.Change.{Without, Gains};
+ghost use Rattle.i_tree.specs.Key.Live.{live_pairs, IsExpired};
+ghost use Rattle.i_tree.specs.Root.Pairs.{HasKey, NoKey, IsRising};
+ghost use Rattle.i_tree.specs.Root.Answer.{Below, AtMostBy};
+ghost use Rattle.i_tree.specs.Root.Change.{Without, Gains};
 
 use crate::{Expiration, ExpiredKey, Refusal};
 use std::cmp::Ordering;
@@ -43,9 +43,7 @@ pub trait KeyExpCollection<K: ExpiredKey<E>, E: Expiration, V: Copy> {
     /// Equal keys is answered is open.
     fn first_less_or_equal_by<F: Fn(K) -> Ordering>(&mut self, time: E, default: V, f: F) -> V
         requires { All (λ pair. F.pre f pair.0) (live_pairs K.expiration E.cmp time (stored self.old)) }
-        ensures value { (order : K → Ordering) → AnswersBy (F.post f) order (live_pairs K.expiration E.cmp time (stored self.old))
-            → IsMonotone K.cmp order (live_pairs K.expiration E.cmp time (stored self.old))
-            → AtMost K.cmp (live_pairs K.expiration E.cmp time (stored self.old)) order default result }
+        ensures value { AtMostBy K.cmp (F.post f) (live_pairs K.expiration E.cmp time (stored self.old)) default result }
         ensures kept { Without (IsExpired K.expiration E.cmp time) (stored self.old) (stored self.new) }
         ensures rising { IsRising K.cmp (stored self.new) };
 

@@ -1,9 +1,9 @@
 ghost use Rattle.std.specs.Prelude.{◌≡◌, ◌≤◌, ◌<◌, ◌+◌, ℕ, List, [], All, Any, length, IsOk, OnOk, OnErr, IfOk, IfErr, MatchBool};
 ghost use Rattle.std.specs.declared.cmp.Ordering.{Ordering};
-ghost use Rattle.i_tree.specs.Answer.{Below, AtMost, AnswersBy, IsMonotone};
-ghost use Rattle.i_tree.specs.Change.{Joins, Gains, Without};
-ghost use Rattle.i_tree.specs.Live.{live_pairs, IsExpired};
-ghost use Rattle.i_tree.specs.Pairs.{HasKey, NoKey, IsRising};
+ghost use Rattle.i_tree.specs.Root.Answer.{Below, AtMostBy};
+ghost use Rattle.i_tree.specs.Root.Change.{Joins, Gains, Without};
+ghost use Rattle.i_tree.specs.Key.Live.{live_pairs, IsExpired};
+ghost use Rattle.i_tree.specs.Root.Pairs.{HasKey, NoKey, IsRising};
 
 use super::exp::KeyExpCollection;
 use super::live::{earliest_expiration, keep_live};
@@ -27,9 +27,9 @@ pub struct KeyExpList<K: ExpiredKey<E>, E: Expiration, V: Copy, A: Allocator + C
 impl<K: ExpiredKey<E>, E: Expiration, V: Copy, A: Allocator + Copy> Model
     for KeyExpList<K, E, V, A> {
     ghost use Rattle.std.specs.Prelude.{◌-◌, vec_len, vec_capacity};
-    ghost use Rattle.i_tree.specs.KeyExpList.{Contents};
-    ghost use Rattle.i_tree.specs.Live.{NoneExpiresBefore};
-    ghost use Rattle.i_tree.specs.Pairs.{IsRising};
+    ghost use Rattle.i_tree.specs.Key.KeyExpList.{Contents};
+    ghost use Rattle.i_tree.specs.Key.Live.{NoneExpiresBefore};
+    ghost use Rattle.i_tree.specs.Root.Pairs.{IsRising};
 
     ghost Value = { Contents K V };
 
@@ -143,9 +143,7 @@ impl<K: ExpiredKey<E>, E: Expiration, V: Copy, A: Allocator + Copy> KeyExpCollec
     /// Removes what is expired at `time`, and answers by `f`, which is asked about what is left alone.
     fn first_less_or_equal_by<F: Fn(K) -> Ordering>(&mut self, time: E, default: V, f: F) -> V
         requires { All (λ pair. F.pre f pair.0) (live_pairs K.expiration E.cmp time self.old.pairs) }
-        ensures value { (order : K → Ordering) → AnswersBy (F.post f) order (live_pairs K.expiration E.cmp time self.old.pairs)
-            → IsMonotone K.cmp order (live_pairs K.expiration E.cmp time self.old.pairs)
-            → AtMost K.cmp (live_pairs K.expiration E.cmp time self.old.pairs) order default result }
+        ensures value { AtMostBy K.cmp (F.post f) (live_pairs K.expiration E.cmp time self.old.pairs) default result }
         ensures kept { Without (IsExpired K.expiration E.cmp time) self.old.pairs self.new.pairs }
         ensures keeps_live { self.new.pairs ≡ live_pairs K.expiration E.cmp time self.old.pairs }
         ensures rising { IsRising K.cmp self.new.pairs }

@@ -1,7 +1,7 @@
 //! Which keys are live at a time.
 
 ghost use Rattle.std.specs.Prelude.{◌≡◌, vec_capacity};
-ghost use Rattle.i_tree.specs.Live.{is_live, live_pairs, NoneExpiresBefore};
+ghost use Rattle.i_tree.specs.Key.Live.{is_live, live_pairs, NoneExpiresBefore};
 
 use crate::{Expiration, ExpiredKey};
 use std::alloc::Allocator;

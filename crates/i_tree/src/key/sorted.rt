@@ -5,9 +5,9 @@ ghost use Rattle.std.specs.Ordering.{is_gt, is_lt};
 ghost use Rattle.std.specs.List.Sorted.{IsPartitionPoint};
 ghost use Rattle.std.specs.declared.cmp.Ordering.{Ordering};
 ghost use Rattle.std.specs.declared.cmp.Ordering.TheVariants.{Less};
-ghost use Rattle.i_tree.specs.Answer.{Below, AtMost, AnswersBy, IsMonotone};
-ghost use Rattle.i_tree.specs.Live.{live_pairs};
-ghost use Rattle.i_tree.specs.Pairs.{HasKey, NoKey, IsRising};
+ghost use Rattle.i_tree.specs.Root.Answer.{Below, AtMostBy};
+ghost use Rattle.i_tree.specs.Key.Live.{live_pairs};
+ghost use Rattle.i_tree.specs.Root.Pairs.{HasKey, NoKey, IsRising};
 
 use super::live::is_live;
 use crate::halving::count_passing;
@@ -54,7 +54,7 @@ pub(super) fn value_at_most<K: Ord + Copy, V: Copy, F: Fn(K) -> Ordering>(
 ) -> V
     requires rising { IsRising K.cmp pairs.now }
     requires callable { All (λ pair. F.pre f pair.0) pairs.now }
-    ensures { (order : K → Ordering) → AnswersBy (F.post f) order pairs.now → IsMonotone K.cmp order pairs.now → AtMost K.cmp pairs.now order default result }
+    ensures { AtMostBy K.cmp (F.post f) pairs.now default result }
 {
     let is_at_most = |pair: &(K, V)| -> bool
         requires { F.pre f pair.now.0 }

@@ -1,15 +1,16 @@
 ghost use Rattle.std.specs.Prelude.{◌≡◌, ◌≢◌, ◌≤◌, ◌<◌, ◌+◌, ◌⊎◌, true, false, All, length, IsOk, OnOk, OnErr, IfOk, IfErr, IsErr, IsErrAnd, MatchBool, MatchOption, max};
 ghost use Rattle.std.specs.declared.cmp.Ordering.{Ordering};
-ghost use Rattle.i_tree.specs.Answer.{Below, AtMost, AnswersBy, IsMonotone};
-ghost use Rattle.i_tree.specs.Change.{Gains, Without};
-ghost use Rattle.i_tree.specs.Descent.{Descends, LooksFor};
-ghost use Rattle.i_tree.specs.KeyDescent.{EndsAt, EndsBetween, FollowsWay, below_or_not};
-ghost use Rattle.i_tree.specs.KeyExpTree.{items, slots_for};
-ghost use Rattle.i_tree.specs.KeyWay.{way_to};
-ghost use Rattle.i_tree.specs.Live.{is_live, live_pairs, AllLive, IsExpired};
-ghost use Rattle.i_tree.specs.Pairs.{HasKey, NoKey, IsRising};
-ghost use Rattle.i_tree.specs.RbTree.{slots};
-ghost use Rattle.i_tree.specs.Shape.{leaf, entries, IsCore};
+ghost use Rattle.i_tree.specs.Root.Answer.{Below, AtMostBy};
+ghost use Rattle.i_tree.specs.Root.Change.{Gains, Without};
+ghost use Rattle.i_tree.specs.Root.Descent.{Descends, LooksFor};
+ghost use Rattle.i_tree.specs.Key.Descent.{EndsAt, EndsBetween, FollowsWay, below_or_not};
+ghost use Rattle.i_tree.specs.Key.KeyExpTree.{items, slots_for};
+ghost use Rattle.i_tree.specs.Key.Way.{way_to};
+ghost use Rattle.i_tree.specs.Key.Live.{is_live, live_pairs, AllLive, IsExpired};
+ghost use Rattle.i_tree.specs.Root.Pairs.{HasKey, NoKey, IsRising};
+ghost use Rattle.i_tree.specs.Core.RbTree.{slots};
+ghost use Rattle.i_tree.specs.Core.Balance.{IsCore};
+ghost use Rattle.i_tree.specs.Core.Shape.{leaf, entries};
 
 use super::exp::KeyExpCollection;
 use super::live::is_live;
@@ -35,9 +36,9 @@ pub struct KeyExpTree<K: ExpiredKey<E>, E: Expiration, V: Copy, A: Allocator + C
 
 impl<K: ExpiredKey<E>, E: Expiration, V: Copy, A: Allocator + Copy> Model
     for KeyExpTree<K, E, V, A> {
-    ghost use Rattle.i_tree.specs.KeyExpTree.{items};
-    ghost use Rattle.i_tree.specs.Pairs.{IsRising};
-    ghost use Rattle.i_tree.specs.RbTree.{Contents, contents_code};
+    ghost use Rattle.i_tree.specs.Key.KeyExpTree.{items};
+    ghost use Rattle.i_tree.specs.Root.Pairs.{IsRising};
+    ghost use Rattle.i_tree.specs.Core.RbTree.{Contents, contents_code};
     ghost use Rattle.std.specs.Coded.{coded×};
 
     ghost Value = { Contents (K × V) };
@@ -286,9 +287,7 @@ impl<K: ExpiredKey<E>, E: Expiration, V: Copy, A: Allocator + Copy> KeyExpTree<K
         f: F,
     ) -> V
         requires { All (λ pair. F.pre f pair.0) (live_pairs K.expiration E.cmp time (items self.old.shape)) }
-        ensures value { (order : K → Ordering) → AnswersBy (F.post f) order (live_pairs K.expiration E.cmp time (items self.old.shape))
-            → IsMonotone K.cmp order (live_pairs K.expiration E.cmp time (items self.old.shape))
-            → AtMost K.cmp (live_pairs K.expiration E.cmp time (items self.old.shape)) order default result }
+        ensures value { AtMostBy K.cmp (F.post f) (live_pairs K.expiration E.cmp time (items self.old.shape)) default result }
         ensures kept { Without (IsExpired K.expiration E.cmp time) (items self.old.shape) (items self.new.shape) }
         ensures rising { IsRising K.cmp (items self.new.shape) }
         ensures slots { slots self.new ≡ slots self.old }
@@ -378,9 +377,7 @@ impl<K: ExpiredKey<E>, E: Expiration, V: Copy, A: Allocator + Copy> KeyExpTree<K
         requires parts { blank.parts ≡ L.parts }
         requires four { blank.parts ≡ 4 }
         requires callable { All (λ pair. F.pre f pair.0) (live_pairs K.expiration E.cmp time (items self.old.shape)) }
-        ensures value { (order : K → Ordering) → AnswersBy (F.post f) order (live_pairs K.expiration E.cmp time (items self.old.shape))
-            → IsMonotone K.cmp order (live_pairs K.expiration E.cmp time (items self.old.shape))
-            → AtMost K.cmp (live_pairs K.expiration E.cmp time (items self.old.shape)) order default result }
+        ensures value { AtMostBy K.cmp (F.post f) (live_pairs K.expiration E.cmp time (items self.old.shape)) default result }
         ensures kept { Without (IsExpired K.expiration E.cmp time) (items self.old.shape) (items self.new.shape) }
         ensures rising { IsRising K.cmp (items self.new.shape) }
         ensures slots { slots self.new ≡ slots self.old }
@@ -444,9 +441,7 @@ impl<K: ExpiredKey<E>, E: Expiration, V: Copy, A: Allocator + Copy> KeyExpCollec
     /// its slot is free.
     fn first_less_or_equal_by<F: Fn(K) -> Ordering>(&mut self, time: E, default: V, f: F) -> V
         requires { All (λ pair. F.pre f pair.0) (live_pairs K.expiration E.cmp time (items self.old.shape)) }
-        ensures value { (order : K → Ordering) → AnswersBy (F.post f) order (live_pairs K.expiration E.cmp time (items self.old.shape))
-            → IsMonotone K.cmp order (live_pairs K.expiration E.cmp time (items self.old.shape))
-            → AtMost K.cmp (live_pairs K.expiration E.cmp time (items self.old.shape)) order default result }
+        ensures value { AtMostBy K.cmp (F.post f) (live_pairs K.expiration E.cmp time (items self.old.shape)) default result }
         ensures kept { Without (IsExpired K.expiration E.cmp time) (items self.old.shape) (items self.new.shape) }
         ensures rising { IsRising K.cmp (items self.new.shape) }
         ensures slots { slots self.new ≡ slots self.old }

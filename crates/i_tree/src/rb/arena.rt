@@ -1,14 +1,14 @@
 ghost use Rattle.std.specs.Prelude.{◌≡◌, ◌≢◌, ◌≤◌, ◌<◌, ◌+◌, ◌-◌, ℕ, List, length, Some, slice_get, IsOk, OnOk, OnErr, IfOk, IfErr, IsErrAnd, MatchBool, IsTrue, max, vec_len, vec_capacity};
 ghost use Rattle.std.specs.Borrow.{sem};
-ghost use Rattle.i_tree.specs.Balance.{is_black};
-ghost use Rattle.i_tree.specs.Context.{Frame, fork_on, plug, hole_parent, Replaces, HasOnePart, HasRoomOn};
-ghost use Rattle.i_tree.specs.ArenaLends.{lends_item};
-ghost use Rattle.i_tree.specs.RbTree.{slots, slots_with_room};
-ghost use Rattle.i_tree.specs.Room.{IsFree, Keeps, with_numbers};
-ghost use Rattle.i_tree.specs.Shape.{Shape, leaf, fork, top, entries, IsLive, AreHandles, occurs};
-ghost use Rattle.i_tree.specs.Slots.{IsChain, IsSound, IsUsed};
-ghost use Rattle.i_tree.specs.Steps.{OnlyRotates};
-ghost use Rattle.i_tree.specs.Turns.{Turn, unturned, turned, CanTurn, HoldsTurn, Rehangs, Reparents};
+ghost use Rattle.i_tree.specs.Core.Balance.{is_black};
+ghost use Rattle.i_tree.specs.Core.Context.{Frame, fork_on, plug, hole_parent, Replaces, HasOnePart, HasRoomOn};
+ghost use Rattle.i_tree.specs.Core.ArenaLends.{lends_item};
+ghost use Rattle.i_tree.specs.Core.RbTree.{slots, slots_with_room};
+ghost use Rattle.i_tree.specs.Core.Room.{IsFree, Keeps, with_numbers};
+ghost use Rattle.i_tree.specs.Core.Shape.{Shape, leaf, fork, top, entries, IsLive, AreHandles, occurs};
+ghost use Rattle.i_tree.specs.Core.Slots.{IsChain, IsSound, IsUsed};
+ghost use Rattle.i_tree.specs.Root.Steps.{OnlyRotates};
+ghost use Rattle.i_tree.specs.Core.Turns.{Turn, unturned, turned, CanTurn, HoldsTurn, Rehangs, Reparents};
 
 use super::links::{Colour, Links, Side, Slot, links_at, set_links};
 use crate::steps::Steps;
@@ -35,13 +35,13 @@ pub struct Arena<T, A: Allocator + Copy> {
 
 impl<T, A: Allocator + Copy> Model for Arena<T, A> {
     ghost use Rattle.std.specs.Prelude.{length};
-    ghost use Rattle.i_tree.specs.RbTree.{Contents, contents_code};
+    ghost use Rattle.i_tree.specs.Core.RbTree.{Contents, contents_code};
 
     ghost Value = { Contents T };
 
     ghost coded = { contents_code T.code };
 
-    ghost use Rattle.i_tree.specs.Slots.{IsSound, read_tree};
+    ghost use Rattle.i_tree.specs.Core.Slots.{IsSound, read_tree};
 
     ghost view = { λ arena. record {
       shape = read_tree arena.slots.items (length arena.slots.items) arena.root;
@@ -179,7 +179,7 @@ fn turn<T>(slots: &mut [Slot<T>], root: &mut u32, handle: u32, side: Side)
 }
 
 impl<T, A: Allocator + Copy> Arena<T, A> {
-    ghost use Rattle.i_tree.specs.ArenaLends.{lends_item};
+    ghost use Rattle.i_tree.specs.Core.ArenaLends.{lends_item};
 
     /// No node, and `max(capacity, 8)` slots.
     pub fn new(alloc: A, capacity: usize) -> Result<Self, Refusal>

@@ -1,7 +1,8 @@
 ghost use Rattle.std.specs.Prelude.{◌≡◌, ◌≢◌, ◌<◌, length};
-ghost use Rattle.i_tree.specs.Clearing.{IsChildless};
-ghost use Rattle.i_tree.specs.RbTree.{slots};
-ghost use Rattle.i_tree.specs.Shape.{leaf, entries, IsLive, IsCore, AreHandles, part_at};
+ghost use Rattle.i_tree.specs.Core.Clearing.{IsChildless};
+ghost use Rattle.i_tree.specs.Core.RbTree.{slots};
+ghost use Rattle.i_tree.specs.Core.Balance.{IsCore};
+ghost use Rattle.i_tree.specs.Core.Shape.{leaf, entries, IsLive, AreHandles, part_at};
 
 use super::arena::Arena;
 use super::links::Side;

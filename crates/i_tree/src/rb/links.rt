@@ -1,7 +1,7 @@
 ghost use Rattle.std.specs.Prelude.{◌≡◌, Some, IsSome};
 ghost use Rattle.std.specs.Borrow.{sem, Lends};
-ghost use Rattle.i_tree.specs.Context.{other_side};
-ghost use Rattle.i_tree.specs.Slots.{IsUsed, Relinks, child_link, with_child_link, links_of, slot_links, slot_item, with_slot_item};
+ghost use Rattle.i_tree.specs.Core.Context.{other_side};
+ghost use Rattle.i_tree.specs.Core.Slots.{IsUsed, Relinks, child_link, with_child_link, links_of, slot_links, slot_item, with_slot_item};
 
 /// The colour of a node, by which the tree keeps its balance.
 #[derive(Clone, Copy, PartialEq, Eq)]

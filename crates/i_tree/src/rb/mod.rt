@@ -5,7 +5,6 @@ mod clearing;
 mod links;
 mod mending;
 mod removal;
-mod taking;
 mod tree;
 
 pub use tree::RbTree;

@@ -1,114 +1,82 @@
-ghost use Rattle.std.specs.Prelude.{◌≡◌, ◌≤◌, ◌+◌, ◌++◌, ◌∷◌, List, MatchBool, true};
-ghost use Rattle.i_tree.specs.Balance.{is_black, IsRedBlack, IsShort};
-ghost use Rattle.i_tree.specs.Context.{Frame, fork_on, plug};
-ghost use Rattle.i_tree.specs.Removal.{KeepsPart, MendsPart};
-ghost use Rattle.i_tree.specs.Rising.{IsEnded, IsRisen, HasBlackSibling};
-ghost use Rattle.i_tree.specs.Shape.{Shape, entries, black_levels, rank, AreHandles};
-ghost use Rattle.i_tree.specs.Steps.{OnlyRotates};
+ghost use Rattle.std.specs.Prelude.{◌≡◌, ◌≤◌, ◌+◌, ◌++◌, ◌∷◌, ℕ, List};
+ghost use Rattle.i_tree.specs.Core.Context.{Frame, plug, HasOnePart};
+ghost use Rattle.i_tree.specs.Core.Removal.{LosesAt, ChangesSide, RemovesOne};
+ghost use Rattle.i_tree.specs.Core.Balance.{IsCore};
+ghost use Rattle.i_tree.specs.Core.Shape.{Shape, fork, top, entries, rank, IsLive, part_at, left_at, right_at};
+ghost use Rattle.i_tree.specs.Root.Steps.{OnlyRotates};
+ghost use Rattle.i_tree.specs.Core.Taking.{IsFirst, TakesOut};
 
-use super::arena::Arena;
 use super::links::{Colour, Side};
-use super::mending::side_of;
+use super::mending::{mend_removal, side_of};
+use super::tree::RbTree;
 use crate::EMPTY_REF;
 use crate::steps::Steps;
 use std::alloc::Allocator;
+use std::mem;
 use std::sync::ledger::Ledger;
 
-/// Mends a tree one side of which, below this node, is a black level short.
-///
-/// The order and the handles stay. At most three rotations are made, all at the loop's last turn.
-pub fn mend_removal<T, A: Allocator + Copy, L: Ledger>(
-    arena: &mut Arena<T, A>,
-    steps: &mut Steps<L>,
-    parent: u32,
-    short: Side,
-)
-    requires { IsShort arena.old.shape parent short }
-    ensures balanced { IsRedBlack arena.new.shape }
-    ensures entries { entries arena.new.shape ≡ entries arena.old.shape }
-    ensures spare { arena.new.spare ≡ arena.old.spare }
-    ensures handles { AreHandles arena.new.shape }
-    ensures steps { OnlyRotates steps.old steps.new 3 }
-
-    // The short side itself is kept. Each part around it has the same entries, and its rank is at most what it is with a
-    // part one level higher in the place of the short side.
-    ensures own { (cut : IsShort arena.old.shape parent short) → KeepsPart arena.new.shape parent short cut.near cut.item }
-    ensures outer { (cut : IsShort arena.old.shape parent short) (inner : List (Frame T)) (frame : Frame T) (outer : List (Frame T)) (fuller : Shape T) →
-        cut.around ≡ inner ++ frame ∷ outer → black_levels fuller ≡ black_levels cut.near + 1 →
-        MendsPart arena.new.shape frame.handle frame.side frame.item (entries (plug inner (fork_on short cut.colour cut.near parent cut.item cut.far))) (rank (plug inner (fork_on short cut.colour fuller parent cut.item cut.far))) }
-    ensures whole { (cut : IsShort arena.old.shape parent short) (fuller : Shape T) → black_levels fuller ≡ black_levels cut.near + 1 →
-        rank arena.new.shape ≤ rank (plug cut.around (fork_on short cut.colour fuller parent cut.item cut.far)) }
-{
-    let mut node = parent;
-    let mut side = short;
-    loop {
-        if mend_short_side(arena, steps, node, side) {
-            return;
+impl<T, A: Allocator + Copy> RbTree<T, A> {
+    /// Takes the entry out, and answers its item.
+    ///
+    /// As in the Rust crate `i_tree`, a node with two parts stays: the next entry's item comes to its handle, and the next
+    /// entry's node goes. So every other entry keeps its handle, or the next one alone has this handle now. The clauses are
+    /// our own. Where the handle was the top of a side of the node `above`, that node stays live, the list changes on that
+    /// side alone, and the rank of that side doesn't rise: who walks down can go on from there. At most three rotations are
+    /// made.
+    pub fn remove<L: Ledger>(&mut self, steps: &mut Steps<L>, handle: u32) -> T
+        requires { IsLive self.old.shape handle }
+        ensures list { (front : List (ℕ × T)) (item : T) (back : List (ℕ × T)) → entries self.old.shape ≡ front ++ (handle, item) ∷ back → (result ≡ item) × LosesAt handle front back (entries self.new.shape) }
+        ensures left { (above : ℕ) → IsLive self.old.shape above → top (left_at above self.old.shape) ≡ handle → ChangesSide self.old.shape self.new.shape above (left_at above self.old.shape) (left_at above self.new.shape) }
+        ensures right { (above : ℕ) → IsLive self.old.shape above → top (right_at above self.old.shape) ≡ handle → ChangesSide self.old.shape self.new.shape above (right_at above self.old.shape) (right_at above self.new.shape) }
+        ensures rank { rank self.new.shape ≤ rank self.old.shape }
+        ensures spare { self.new.spare ≡ self.old.spare + 1 }
+        ensures steps { RemovesOne steps.old steps.new 3 }
+        ensures core { IsCore self.new.shape }
+    {
+        steps.add_removal();
+        let left = self.left(handle);
+        let right = self.right(handle);
+        if left == EMPTY_REF || right == EMPTY_REF {
+            return self.remove_at(steps, handle);
         }
-        let above = arena.parent(node);
-        if above == EMPTY_REF {
-            return;
+        let next = self.first_below(right);
+        let item = self.remove_at(steps, next);
+        mem::replace(self.item_mut(handle), item)
+    }
+
+    // The first handle of the part at this one.
+    fn first_below(&self, part: u32) -> u32
+        requires { IsLive self.now.shape part }
+        ensures { IsFirst (part_at part self.now.shape) result }
+    {
+        let mut first = part;
+        loop {
+            let left = self.left(first);
+            if left == EMPTY_REF {
+                return first;
+            }
+            first = left;
         }
-        side = side_of(arena, above, node);
-        node = above;
     }
-}
 
-// One step: the side of the node is a black level short. Answers whether the tree is mended; else the whole part of the
-// node, whose top is black, is a level short now.
-fn mend_short_side<T, A: Allocator + Copy, L: Ledger>(
-    arena: &mut Arena<T, A>,
-    steps: &mut Steps<L>,
-    node: u32,
-    short: Side,
-) -> bool
-    requires { IsShort arena.old.shape node short }
-    ensures mended { (cut : IsShort arena.old.shape node short) → MatchBool result (IsEnded arena.old.shape node short cut arena.new.shape) (IsRisen arena.old.shape node short cut arena.new.shape) }
-    ensures spare { arena.new.spare ≡ arena.old.spare }
-    ensures handles { AreHandles arena.new.shape }
-    ensures steps { MatchBool result (OnlyRotates steps.old steps.new 3) (OnlyRotates steps.old steps.new 0) }
-{
-    let sibling = arena.child(node, short.other());
-    if arena.is_black(sibling) {
-        return mend_beside_black(arena, steps, node, short);
+    // Takes out a node with an empty part on some side, and mends the tree: where the node is black, its place is a level
+    // short.
+    fn remove_at<L: Ledger>(&mut self, steps: &mut Steps<L>, gone: u32) -> T
+        requires { HasOnePart self.old.shape gone }
+        ensures item { (around : List (Frame T)) (colour : Colour) (before : Shape T) (item : T) (after : Shape T) → self.old.shape ≡ plug around (fork colour before gone item after) → result ≡ item }
+        ensures shape { TakesOut self.old.shape gone self.new.shape }
+        ensures spare { self.new.spare ≡ self.old.spare + 1 }
+        ensures steps { OnlyRotates steps.old steps.new 3 }
+        ensures core { IsCore self.new.shape }
+    {
+        let parent = self.arena.parent(gone);
+        let was_black = self.arena.is_black(gone);
+        if parent == EMPTY_REF || !was_black {
+            return self.arena.detach(gone);
+        }
+        let side = side_of(&self.arena, parent, gone);
+        let item = self.arena.detach(gone);
+        mend_removal(&mut self.arena, steps, parent, side);
+        item
     }
-    arena.rotate(steps, node, short);
-    mend_beside_black(arena, steps, node, short);
-    true
-}
-
-// The same where the sibling is black.
-fn mend_beside_black<T, A: Allocator + Copy, L: Ledger>(
-    arena: &mut Arena<T, A>,
-    steps: &mut Steps<L>,
-    node: u32,
-    side: Side,
-) -> bool
-    requires { HasBlackSibling arena.old.shape node side }
-    ensures mended { (cut : IsShort arena.old.shape node side) → is_black cut.far ≡ true → MatchBool result (IsEnded arena.old.shape node side cut arena.new.shape) (IsRisen arena.old.shape node side cut arena.new.shape) }
-    ensures spare { arena.new.spare ≡ arena.old.spare }
-    ensures handles { AreHandles arena.new.shape }
-    ensures steps { MatchBool result (OnlyRotates steps.old steps.new 2) (OnlyRotates steps.old steps.new 0) }
-{
-    let away = side.other();
-    let sibling = arena.child(node, away);
-    let outer = arena.child(sibling, away);
-    if !arena.is_black(outer) {
-        arena.rotate(steps, node, side);
-        arena.paint(outer, Colour::Black);
-        return true;
-    }
-    let inner = arena.child(sibling, side);
-    if !arena.is_black(inner) {
-        arena.rotate(steps, sibling, away);
-        arena.rotate(steps, node, side);
-        arena.paint(sibling, Colour::Black);
-        return true;
-    }
-    arena.paint(sibling, Colour::Red);
-    if arena.is_black(node) {
-        return false;
-    }
-    arena.paint(node, Colour::Black);
-    true
 }

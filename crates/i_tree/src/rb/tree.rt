@@ -1,13 +1,14 @@
 ghost use Rattle.std.specs.Prelude.{◌≡◌, ◌≢◌, ◌≤◌, ◌<◌, ◌+◌, ◌++◌, ◌∷◌, ℕ, List, [], length, IsOk, OnOk, OnErr, IfOk, IfErr, IsErrAnd, MatchBool, max};
 ghost use Rattle.std.specs.Borrow.{sem};
-ghost use Rattle.i_tree.specs.Context.{beside, part_on};
-ghost use Rattle.i_tree.specs.RbTree.{slots, slots_with_room};
-ghost use Rattle.i_tree.specs.RbTreeLends.{lends_item};
-ghost use Rattle.i_tree.specs.Shape.{Shape, leaf, top, entries, occurs, IsLive, IsCore, part_at, left_at, right_at, last_handle};
-ghost use Rattle.i_tree.specs.Steps.{OnlyRotates};
+ghost use Rattle.i_tree.specs.Core.Context.{beside, part_on};
+ghost use Rattle.i_tree.specs.Core.RbTree.{slots, slots_with_room};
+ghost use Rattle.i_tree.specs.Core.RbTreeLends.{lends_item};
+ghost use Rattle.i_tree.specs.Core.Balance.{IsCore};
+ghost use Rattle.i_tree.specs.Core.Shape.{Shape, leaf, fork, top, entries, occurs, IsLive, part_at, left_at, right_at, last_handle};
+ghost use Rattle.i_tree.specs.Root.Steps.{OnlyRotates};
 
 use super::arena::Arena;
-use super::links::Side;
+use super::links::{Colour, Side};
 use super::mending::mend_insertion;
 use crate::steps::Steps;
 use crate::{EMPTY_REF, Refusal, Refused};
@@ -26,14 +27,14 @@ pub struct RbTree<T, A: Allocator + Copy> {
 }
 
 impl<T, A: Allocator + Copy> Model for RbTree<T, A> {
-    ghost use Rattle.i_tree.specs.RbTree.{Contents, contents_code};
+    ghost use Rattle.i_tree.specs.Core.RbTree.{Contents, contents_code};
 
     ghost Value = { Contents T };
 
     ghost coded = { contents_code T.code };
 
-    ghost use Rattle.i_tree.specs.Balance.{IsRedBlack};
-    ghost use Rattle.i_tree.specs.Shape.{AreHandles};
+    ghost use Rattle.i_tree.specs.Core.Balance.{IsRedBlack};
+    ghost use Rattle.i_tree.specs.Core.Shape.{AreHandles};
 
     ghost view = { λ tree. tree.arena };
 
@@ -41,7 +42,7 @@ impl<T, A: Allocator + Copy> Model for RbTree<T, A> {
 }
 
 impl<T, A: Allocator + Copy> RbTree<T, A> {
-    ghost use Rattle.i_tree.specs.RbTreeLends.{lends_item};
+    ghost use Rattle.i_tree.specs.Core.RbTreeLends.{lends_item};
 
     /// An empty tree of exactly `max(capacity, 8)` slots, one of them reserved.
     ///
@@ -214,7 +215,7 @@ impl<T, A: Allocator + Copy> RbTree<T, A> {
         item: T,
     ) -> Result<u32, Refused<T>>
         requires { self.old.shape ≡ leaf }
-        ensures entries { IfOk result (λ handle. entries self.new.shape ≡ (handle, item) ∷ []) }
+        ensures shape { IfOk result (λ handle. self.new.shape ≡ fork Colour.Black leaf handle item leaf) }
         ensures slots { OnOk result (slots self.new ≡ slots_with_room self.old) }
         ensures with_spare { 0 < self.old.spare → IsOk result }
         ensures err { OnErr result (self.new ≡ self.old) }

@@ -4,11 +4,10 @@ ghost use Rattle.std.specs.Fn.{FnReturnsAt};
 ghost use Rattle.std.specs.Ordering.{is_gt, is_lt};
 ghost use Rattle.std.specs.List.{insert, remove};
 ghost use Rattle.std.specs.declared.cmp.Ordering.{Ordering};
-ghost use Rattle.i_tree.specs.Answer.{AnswersBy, IsMonotone};
-ghost use Rattle.i_tree.specs.Change.{Joins};
-ghost use Rattle.i_tree.specs.Set.{AreApart, values, by_key, HasHandle, LacksHandle, IsOrdered, LacksKey, IsFoundBy, TakesKeys};
-ghost use Rattle.i_tree.specs.SetList.{numbered, IsPlaceFor};
-ghost use Rattle.i_tree.specs.Shape.{last_handle};
+ghost use Rattle.i_tree.specs.Root.Change.{Joins};
+ghost use Rattle.i_tree.specs.Set.Pairs.{AreApart, values, HasHandle, LacksHandle, IsOrdered, LacksKey, TakesKeys, IsFound};
+ghost use Rattle.i_tree.specs.Set.SetList.{numbered, IsPlaceFor};
+ghost use Rattle.i_tree.specs.Core.Shape.{last_handle};
 
 use super::sort::{KeyValue, SetCollection};
 use crate::halving::count_passing;
@@ -29,7 +28,7 @@ pub struct SetList<V, A: Allocator + Copy> {
 
 impl<V, A: Allocator + Copy> Model for SetList<V, A> {
     ghost use Rattle.std.specs.Prelude.{◌-◌, ◌≤◌, length, vec_len, vec_capacity};
-    ghost use Rattle.i_tree.specs.SetList.{Contents};
+    ghost use Rattle.i_tree.specs.Set.SetList.{Contents};
     ghost use Rattle.i_tree.specs.declared.TheConstants.{EMPTY_REF};
 
     ghost Value = { Contents V };
@@ -100,9 +99,9 @@ impl<V, A: Allocator + Copy> SetList<V, A> {
 }
 
 impl<K: Ord, V: KeyValue<K> + Drop, A: Allocator + Copy> SetCollection<K, V> for SetList<V, A> {
-    ghost use Rattle.i_tree.specs.SetList.{numbered, value_put};
-    ghost use Rattle.i_tree.specs.SetListPairs.{with_value-numbered};
-    ghost use Rattle.i_tree.specs.SetListLends.{lends_value};
+    ghost use Rattle.i_tree.specs.Set.SetList.{numbered, value_put};
+    ghost use Rattle.i_tree.specs.Set.ListPairs.{with_value-numbered};
+    ghost use Rattle.i_tree.specs.Set.ListLends.{lends_value};
 
     ghost pairs = { λ list. numbered list.values };
 
@@ -179,9 +178,7 @@ impl<K: Ord, V: KeyValue<K> + Drop, A: Allocator + Copy> SetCollection<K, V> for
     fn first_index_less_by<F: Fn(&K) -> Ordering>(&self, f: F) -> u32
         requires in_order { IsOrdered V.key_of K.cmp (numbered self.now.values) }
         requires callable { TakesKeys V.key_of (λ key. F.pre f key) (numbered self.now.values) }
-        ensures value { (order : K → Ordering) → AnswersBy (λ key answer. FnReturnsAt F.Fn f key answer) order (by_key V.key_of (numbered self.now.values))
-            → IsMonotone K.cmp order (by_key V.key_of (numbered self.now.values))
-            → IsFoundBy V.key_of K.cmp order (numbered self.now.values) result }
+        ensures value { IsFound V.key_of K.cmp (λ key answer. FnReturnsAt F.Fn f key answer) (numbered self.now.values) result }
         ensures live { result ≢ EMPTY_REF → HasHandle (numbered self.now.values) result }
         ensures handles { AreApart (numbered self.now.values) }
     {

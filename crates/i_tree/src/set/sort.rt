@@ -2,10 +2,9 @@ ghost use Rattle.std.specs.Prelude.{◌≡◌, ◌≢◌, ◌++◌, ◌∷◌, �
 ghost use Rattle.std.specs.Borrow.{Lends, sem};
 ghost use Rattle.std.specs.Fn.{FnReturnsAt};
 ghost use Rattle.std.specs.declared.cmp.Ordering.{Ordering};
-ghost use Rattle.i_tree.specs.Answer.{AnswersBy, IsMonotone};
-ghost use Rattle.i_tree.specs.Change.{Joins};
-ghost use Rattle.i_tree.specs.Set.{values, AreApart, HasHandle, LacksHandle, with_value, by_key, IsOrdered, HoldsKey, LacksKey, IsFoundBy, TakesKeys};
-ghost use Rattle.i_tree.specs.Shape.{last_handle};
+ghost use Rattle.i_tree.specs.Root.Change.{Joins};
+ghost use Rattle.i_tree.specs.Set.Pairs.{values, AreApart, HasHandle, LacksHandle, with_value, IsOrdered, HoldsKey, LacksKey, TakesKeys, IsFound};
+ghost use Rattle.i_tree.specs.Core.Shape.{last_handle};
 
 use crate::{EMPTY_REF, Refused};
 use std::cmp::Ordering;
@@ -76,9 +75,7 @@ pub trait SetCollection<K: Ord, V: KeyValue<K> + Drop> {
     fn first_index_less_by<F: Fn(&K) -> Ordering>(&self, f: F) -> u32
         requires in_order { IsOrdered V.key_of K.cmp (pairs self.now) }
         requires callable { TakesKeys V.key_of (λ key. F.pre f key) (pairs self.now) }
-        ensures value { (order : K → Ordering) → AnswersBy (λ key answer. FnReturnsAt F.Fn f key answer) order (by_key V.key_of (pairs self.now))
-            → IsMonotone K.cmp order (by_key V.key_of (pairs self.now))
-            → IsFoundBy V.key_of K.cmp order (pairs self.now) result }
+        ensures value { IsFound V.key_of K.cmp (λ key answer. FnReturnsAt F.Fn f key answer) (pairs self.now) result }
         ensures live { result ≢ EMPTY_REF → HasHandle (pairs self.now) result }
         ensures handles { AreApart (pairs self.now) };
 

@@ -3,14 +3,14 @@ ghost use Rattle.std.specs.Borrow.{Bor};
 ghost use Rattle.std.specs.Fn.{FnReturnsAt};
 ghost use Rattle.std.specs.declared.cmp.Ordering.{Ordering};
 ghost use Rattle.std.specs.declared.cmp.Ordering.TheVariants.{Less};
-ghost use Rattle.i_tree.specs.Answer.{AnswersBy, IsMonotone};
-ghost use Rattle.i_tree.specs.Compared.{ComparesWithin, OnlyCompares, RotatesWithin};
-ghost use Rattle.i_tree.specs.RbTree.{slots, slots_with_room};
-ghost use Rattle.i_tree.specs.Removal.{LosesAt};
-ghost use Rattle.i_tree.specs.Set.{by_key, HasHandle, IsOrdered, LacksKey, IsFoundBy, TakesKeys};
-ghost use Rattle.i_tree.specs.Place.{IsPlaceBetween};
-ghost use Rattle.i_tree.specs.Shape.{leaf, entries, occurs, IsCore, IsLive, last_handle};
-ghost use Rattle.i_tree.specs.Steps.{OnlyRotates};
+ghost use Rattle.i_tree.specs.Root.Compared.{ComparesWithin, OnlyCompares, RotatesWithin};
+ghost use Rattle.i_tree.specs.Core.RbTree.{slots, slots_with_room};
+ghost use Rattle.i_tree.specs.Core.Removal.{LosesAt};
+ghost use Rattle.i_tree.specs.Set.Pairs.{HasHandle, IsOrdered, LacksKey, TakesKeys, IsFound};
+ghost use Rattle.i_tree.specs.Core.Place.{IsPlaceBetween};
+ghost use Rattle.i_tree.specs.Core.Balance.{IsCore};
+ghost use Rattle.i_tree.specs.Core.Shape.{leaf, entries, occurs, IsLive, last_handle};
+ghost use Rattle.i_tree.specs.Root.Steps.{OnlyRotates};
 
 use super::sort::{KeyValue, SetCollection};
 use crate::place::{Place, insert_at};
@@ -32,7 +32,7 @@ pub struct SetTree<K, V, A: Allocator + Copy> {
 }
 
 impl<K, V, A: Allocator + Copy> Model for SetTree<K, V, A> {
-    ghost use Rattle.i_tree.specs.RbTree.{Contents, contents_code};
+    ghost use Rattle.i_tree.specs.Core.RbTree.{Contents, contents_code};
 
     ghost Value = { Contents V };
 
@@ -159,9 +159,7 @@ impl<K: Ord, V: KeyValue<K> + Drop, A: Allocator + Copy> SetTree<K, V, A> {
     ) -> u32
         requires in_order { IsOrdered V.key_of K.cmp (entries self.now.shape) }
         requires callable { TakesKeys V.key_of (λ key. F.pre f key) (entries self.now.shape) }
-        ensures value { (order : K → Ordering) → AnswersBy (λ key answer. FnReturnsAt F.Fn f key answer) order (by_key V.key_of (entries self.now.shape))
-            → IsMonotone K.cmp order (by_key V.key_of (entries self.now.shape))
-            → IsFoundBy V.key_of K.cmp order (entries self.now.shape) result }
+        ensures value { IsFound V.key_of K.cmp (λ key answer. FnReturnsAt F.Fn f key answer) (entries self.now.shape) result }
         ensures live { result ≢ EMPTY_REF → HasHandle (entries self.now.shape) result }
         ensures core { IsCore self.now.shape }
         ensures comparisons { ComparesWithin steps.old steps.new (length (entries self.now.shape)) }
@@ -211,9 +209,7 @@ impl<K: Ord, V: KeyValue<K> + Drop, A: Allocator + Copy> SetTree<K, V, A> {
         requires four { blank.parts ≡ 4 }
         requires in_order { IsOrdered V.key_of K.cmp (entries self.now.shape) }
         requires callable { TakesKeys V.key_of (λ key. F.pre f key) (entries self.now.shape) }
-        ensures value { (order : K → Ordering) → AnswersBy (λ key answer. FnReturnsAt F.Fn f key answer) order (by_key V.key_of (entries self.now.shape))
-            → IsMonotone K.cmp order (by_key V.key_of (entries self.now.shape))
-            → IsFoundBy V.key_of K.cmp order (entries self.now.shape) result }
+        ensures value { IsFound V.key_of K.cmp (λ key answer. FnReturnsAt F.Fn f key answer) (entries self.now.shape) result }
         ensures live { result ≢ EMPTY_REF → HasHandle (entries self.now.shape) result }
         ensures core { IsCore self.now.shape }
     {
@@ -259,12 +255,13 @@ impl<K: Ord, V: KeyValue<K> + Drop, A: Allocator + Copy> SetTree<K, V, A> {
 
 impl<K: Ord, V: KeyValue<K> + Drop, A: Allocator + Copy> SetCollection<K, V> for SetTree<K, V, A> {
     ghost use Rattle.std.specs.Prelude.{◌≡◌, ◌≢◌, ◌++◌, ◌∷◌, ◌≤◌, ◌<◌, ℕ, List, OnOk, OnErr, IfErr, IsOk, IsErrAnd};
-    ghost use Rattle.i_tree.specs.Shape.{entries, with_item, occurs, IsCore};
-    ghost use Rattle.i_tree.specs.RbTree.{slots, slots_with_room};
-    ghost use Rattle.i_tree.specs.Change.{Joins};
-    ghost use Rattle.i_tree.specs.Removal.{LosesAt};
-    ghost use Rattle.i_tree.specs.Set.{values, AreApart, HasHandle, IsOrdered, LacksKey};
-    ghost use Rattle.i_tree.specs.SetPairs.{with_value-entries};
+    ghost use Rattle.i_tree.specs.Core.Balance.{IsCore};
+    ghost use Rattle.i_tree.specs.Core.Shape.{entries, with_item, occurs};
+    ghost use Rattle.i_tree.specs.Core.RbTree.{slots, slots_with_room};
+    ghost use Rattle.i_tree.specs.Root.Change.{Joins};
+    ghost use Rattle.i_tree.specs.Core.Removal.{LosesAt};
+    ghost use Rattle.i_tree.specs.Set.Pairs.{values, AreApart, HasHandle, IsOrdered, LacksKey};
+    ghost use Rattle.i_tree.specs.Set.TreePairs.{with_value-entries};
 
     ghost pairs = { λ set. entries set.shape };
 

@@ -2,8 +2,8 @@
 
 ghost use Rattle.std.specs.Prelude.{◌≡◌, ◌≢◌, ◌≤◌, ◌+◌, ◌++◌, ◌∷◌, ℕ, List, Contains, length, vec_len, vec_capacity, IsOk, IfErr, OnErr, OnOk, MatchOption};
 ghost use Rattle.std.specs.declared.cmp.Ordering.{Ordering};
-ghost use Rattle.i_tree.specs.Answer.{GreatestOr};
-ghost use Rattle.i_tree.specs.Set.{values, AreApart, HasHandle, by_key, IsOrdered, LacksKey};
+ghost use Rattle.i_tree.specs.Root.Answer.{GreatestOr};
+ghost use Rattle.i_tree.specs.Set.Pairs.{values, AreApart, HasHandle, by_key, IsOrdered, LacksKey};
 ghost use Rattle.itree_lib.specs.SetMachine.{Step, Run};
 
 use i_tree::set::sort::{KeyValue, SetCollection};

@@ -1,5 +1,5 @@
 use Rattle.std.proofs.Common.{◌≤◌, ◌+◌, ◌*◌, ◌-◌, ◌/◌, length, sym, ap, ◌∙◌, arith}
-use Rattle.i_tree.proofs.Searching.{search_more, step_taken}
+use Rattle.i_tree.proofs.RootLemmas.Halving.{search_more, step_taken}
 use Rattle.i_tree.proofs.halving.count_passing.Goals as goal
 
 pub loop-left-preserved : goal.loop-left-preserved

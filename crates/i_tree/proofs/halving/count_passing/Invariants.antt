@@ -2,7 +2,7 @@ use Rattle.std.proofs.Common.{◌≡◌, ◌≤◌, ◌+◌, ◌*◌, Bool, true
 use Rattle.std.specs.Fn.{FnReturnsAt}
 use Rattle.std.specs.List.{AllWithin}
 use Rattle.std.specs.List.Sorted.{IsPartitionedBy}
-use Rattle.i_tree.specs.Halving.{ItemsAnswer}
+use Rattle.i_tree.specs.Root.Halving.{ItemsAnswer}
 use Rattle.i_tree.proofs.halving.count_passing.Given as goal
 
 -- The items before the place pass, and those from what is left on fail.

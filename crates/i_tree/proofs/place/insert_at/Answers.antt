@@ -1,8 +1,8 @@
-use Rattle.std.proofs.Common.{◌≡◌, [], ◌∷◌, refl, ap, subst}
+use Rattle.std.proofs.Common.{◌≡◌, refl, ap, subst}
 use Rattle.std.proofs.lemmas.Result.{IfOk-weaker}
-use Rattle.i_tree.proofs.SetInsertion.{joined_left, joined_right, joined_root}
-use Rattle.i_tree.specs.Place.{IsPlaceOf}
-use Rattle.i_tree.specs.Shape.{leaf, entries, occurs}
+use Rattle.i_tree.proofs.CoreLemmas.Insertion.{joined_left, joined_right, joined_root}
+use Rattle.i_tree.specs.Core.Place.{IsPlaceOf}
+use Rattle.i_tree.specs.Core.Shape.{leaf, entries, occurs}
 use Rattle.i_tree.proofs.place.insert_at.Goals as goal
 
 pub returns-in-Left-clause-joins : goal.returns-in-Left-clause-joins
@@ -15,12 +15,12 @@ returns-in-Right-clause-joins g c =
 
 pub returns-in-Root-clause-joins : goal.returns-in-Root-clause-joins
 returns-in-Root-clause-joins g c =
-    IfOk-weaker c.insert_root.result _ _ (λ handle. joined_root c.args.core.now.shape 0 c.args.place (entries c.args.core.now.shape) (entries c.insert_root.new.self.shape) refl handle c.args.item c.in-Root.is) c.insert_root.ensures.entries
+    IfOk-weaker c.insert_root.result _ _ (λ handle is. joined_root c.args.core.now.shape 0 c.args.place (entries c.args.core.now.shape) (entries c.insert_root.new.self.shape) refl handle c.args.item c.in-Root.is (ap entries is)) c.insert_root.ensures.shape
 
 pub returns-in-Root-clause-fresh : goal.returns-in-Root-clause-fresh
 returns-in-Root-clause-fresh g c =
     let free = subst (IsPlaceOf c.args.core.now.shape leaf c.requires.0 c.requires.1) c.in-Root.is c.requires.2.free in
-    IfOk-weaker c.insert_root.result (λ handle. entries c.insert_root.new.self.shape ≡ (handle, c.args.item) ∷ []) _ (λ handle _. ap (occurs handle) free.0) c.insert_root.ensures.entries
+    IfOk-weaker c.insert_root.result _ _ (λ handle _. ap (occurs handle) free.0) c.insert_root.ensures.shape
 
 pub insert_left-requires : goal.insert_left-requires
 insert_left-requires g c =

@@ -2,7 +2,7 @@
 use Rattle.std.proofs.Common.{◌≡◌, List, ◌++◌, ℤ, ap, ◌∙◌, rules}
 use Rattle.std.specs.Cmp.{int_cmp_total}
 use Rattle.std.specs.Ordering.{int_cmp}
-use Rattle.i_tree.proofs.Monotone.{IsMonotone-compare}
+use Rattle.i_tree.proofs.RootLemmas.Monotone.{IsMonotone-compare}
 use Rattle.itree.specs.Replies.{key_reply_words, reply_lines}
 use Rattle.itree.specs.Texts.{cmp_keys, cmp_sought}
 use Rattle.itree_lib.specs.declared.run.keys.KeyReply.{KeyReply}

@@ -1,5 +1,5 @@
 use Rattle.std.proofs.Common.{List, ◌++◌, ℤ, ap, ◌∙◌}
-use Rattle.i_tree.specs.Set.{values}
+use Rattle.i_tree.specs.Set.Pairs.{values}
 use Rattle.itree.specs.Replies.{set_reply_words, reply_lines}
 use Rattle.itree_lib.specs.declared.run.sets.SetReply.{SetReply}
 use Rattle.itree.specs.declared.set_key.SetKey.{SetKey}

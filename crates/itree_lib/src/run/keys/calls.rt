@@ -2,9 +2,9 @@
 
 ghost use Rattle.std.specs.Prelude.{⊤, ◌≡◌, List, [], All};
 ghost use Rattle.std.specs.declared.cmp.Ordering.{Ordering};
-ghost use Rattle.i_tree.specs.Answer.{Below, AtMost, AnswersBy, IsMonotone};
-ghost use Rattle.i_tree.specs.Change.{Without};
-ghost use Rattle.i_tree.specs.Live.{live_pairs, IsExpired};
+ghost use Rattle.i_tree.specs.Root.Answer.{Below, AtMostBy};
+ghost use Rattle.i_tree.specs.Root.Change.{Without};
+ghost use Rattle.i_tree.specs.Key.Live.{live_pairs, IsExpired};
 ghost use Rattle.itree_lib.specs.KeyMachine.{Inserts};
 ghost use Rattle.itree_lib.specs.declared.run.keys.KeyReply.{KeyReply};
 ghost use Rattle.itree_lib.specs.declared.run.keys.KeyReply.TheVariants.{Late, Value, Cleared};
@@ -42,9 +42,7 @@ pub trait KeyCalls<K: ExpiredKey<E>, E: Expiration, V: Copy, C: KeyExpCollection
         f: F,
     ) -> V
         requires { All (λ pair. F.pre f pair.0) (live_pairs K.expiration E.cmp time (C.stored c.old)) }
-        ensures value { (order : K → Ordering) → AnswersBy (F.post f) order (live_pairs K.expiration E.cmp time (C.stored c.old))
-            → IsMonotone K.cmp order (live_pairs K.expiration E.cmp time (C.stored c.old))
-            → AtMost K.cmp (live_pairs K.expiration E.cmp time (C.stored c.old)) order default result }
+        ensures value { AtMostBy K.cmp (F.post f) (live_pairs K.expiration E.cmp time (C.stored c.old)) default result }
         ensures kept { Without (IsExpired K.expiration E.cmp time) (C.stored c.old) (C.stored c.new) }
         ensures does { does (Value result) self.old c.old self.new c.new };
 

@@ -2,7 +2,7 @@
 use Rattle.std.proofs.Common.{◌≡◌, List, [], ◌++◌, ℤ, sym, ap, subst, ◌∙◌, rules}
 use Rattle.std.specs.Cmp.{int_cmp_total, alike_right}
 use Rattle.std.specs.Ordering.{int_cmp}
-use Rattle.i_tree.proofs.Monotone.{IsMonotone-compare}
+use Rattle.i_tree.proofs.RootLemmas.Monotone.{IsMonotone-compare}
 use Rattle.itree_lib.specs.Agreeing.{NoneRefused}
 use Rattle.itree_lib.specs.KeyMachine.{beginning, Run}
 use Rattle.rows.specs.KeyOrder.{cmp_keys, cmp_sought}

@@ -1,6 +1,6 @@
 use Rattle.std.proofs.Common.{◌≡◌, length, rules, ap, arith}
 use Rattle.std.proofs.lemmas.Result.{on_ok_weaker}
-use Rattle.i_tree.specs.KeyExpTree.{items}
+use Rattle.i_tree.specs.Key.KeyExpTree.{items}
 use Rattle.itree_lib.proofs.Knowing.{CanProbeAll-always}
 use Rattle.rows.proofs.counted_runs.run_from_nothing.Goals as goal
 

@@ -1,9 +1,9 @@
 use Rattle.std.specs.Cmp.{nat_cmp_total}
 use Rattle.std.specs.Ordering.{nat_cmp}
 use Rattle.std.proofs.lemmas.List.Elements.{filter_passes}
-use Rattle.i_tree.specs.Live.{live_pairs}
+use Rattle.i_tree.specs.Key.Live.{live_pairs}
 use Rattle.rows.specs.declared.live_closures.Numbered.{Numbered}
-use Rattle.i_tree.proofs.Monotone.{IsMonotone-compare}
+use Rattle.i_tree.proofs.RootLemmas.Monotone.{IsMonotone-compare}
 use Rattle.rows.proofs.live_closures.value_at_most.Goals as goal
 
 -- what is kept of the stored pairs is live

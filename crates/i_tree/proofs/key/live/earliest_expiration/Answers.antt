@@ -1,7 +1,7 @@
 use Rattle.std.proofs.Common.{subst}
 use Rattle.std.proofs.lemmas.List.{take_all}
-use Rattle.i_tree.specs.Live.{NoneExpiresBefore}
-use Rattle.i_tree.proofs.Times.{NoneExpiresBefore-more}
+use Rattle.i_tree.specs.Key.Live.{NoneExpiresBefore}
+use Rattle.i_tree.proofs.KeyLemmas.Times.{NoneExpiresBefore-more}
 use Rattle.i_tree.proofs.key.live.earliest_expiration.Goals as goal
 
 pub loop-pair-preserved : goal.loop-pair-preserved

@@ -1,5 +1,5 @@
 use Rattle.std.proofs.Common.{take}
-use Rattle.i_tree.specs.Live.{NoneExpiresBefore}
+use Rattle.i_tree.specs.Key.Live.{NoneExpiresBefore}
 use Rattle.i_tree.proofs.key.live.earliest_expiration.Given as goal
 
 abbrev pub invariant-loop-pair : goal.invariant-loop-pair

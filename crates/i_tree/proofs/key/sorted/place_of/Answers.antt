@@ -1,6 +1,6 @@
 use Rattle.std.proofs.Common.{ap, ◌∙◌}
 use Rattle.std.specs.Ordering.{is_lt}
-use Rattle.i_tree.proofs.Keys.{IsPartitionedBy-rising, less_from_is_lt, not_less_from_is_lt}
+use Rattle.i_tree.proofs.RootLemmas.RisingKeys.{IsPartitionedBy-rising, less_from_is_lt, not_less_from_is_lt}
 use Rattle.i_tree.proofs.key.sorted.place_of.Goals as goal
 
 pub returns-clause-splits : goal.returns-clause-splits

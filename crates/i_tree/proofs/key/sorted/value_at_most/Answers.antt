@@ -1,7 +1,7 @@
 use Rattle.std.proofs.Common.{not, ◌∙◌, ap, subst, sym}
 use Rattle.std.specs.Ordering.{is_gt}
 use Rattle.std.specs.declared.cmp.Ordering.{Ordering}
-use Rattle.i_tree.proofs.Keys.{AtMost-at_count, IsPartitionedBy-monotone}
+use Rattle.i_tree.proofs.RootLemmas.RisingKeys.{AtMost-at_count, IsPartitionedBy-monotone}
 use Rattle.i_tree.proofs.key.sorted.value_at_most.Goals as goal
 
 pub count_passing-requires : goal.count_passing-requires

@@ -1,6 +1,6 @@
 use Rattle.std.specs.declared.cmp.Ordering.TheVariants.{Less}
 use Rattle.std.proofs.Common.{◌≡◌}
-use Rattle.i_tree.proofs.Keys.{GreatestOr-at_count}
+use Rattle.i_tree.proofs.RootLemmas.RisingKeys.{GreatestOr-at_count}
 use Rattle.i_tree.proofs.key.sorted.value_below.Goals as goal
 
 pub returns : goal.returns

@@ -1,15 +1,15 @@
 use Rattle.std.proofs.Common.{[], ◌∷◌, ◌++◌, length, refl, sym, ap, ◌∙◌, inl, inr, subst, arith}
 use Rattle.std.specs.declared.cmp.Ordering.TheVariants.{Less, Equal, Greater}
-use Rattle.i_tree.proofs.Contexts.{part_at-none}
-use Rattle.i_tree.proofs.KeyFollowing.{followed_top, followed_end, followed_right, followed_left, followed_gone, followed_equal}
-use Rattle.i_tree.proofs.KeyWays.{IsRemoved, counted_none, counted_compare, counted_removal, counted_all, place_stays, way_stays, rank_stays, items_without, one_less, last_value-end, asked_here}
-use Rattle.i_tree.proofs.SetDescent.{IsCutAt-top, cut_here, cut_at_end, goes_left, goes_right, falls_left, falls_right, some_rank}
-use Rattle.i_tree.proofs.Withouts.{Without-refl, Without-trans}
-use Rattle.i_tree.specs.KeyDescent.{IsCalled}
-use Rattle.i_tree.specs.KeyExpTree.{items}
-use Rattle.i_tree.specs.Place.{IsPlaceOf}
-use Rattle.i_tree.specs.Live.{is_live, IsExpired}
-use Rattle.i_tree.specs.Shape.{entries, rank, left_at, right_at, part_at, occurs}
+use Rattle.i_tree.proofs.CoreLemmas.Contexts.{part_at-none}
+use Rattle.i_tree.proofs.KeyLemmas.Following.{followed_top, followed_end, followed_right, followed_left, followed_gone, followed_equal}
+use Rattle.i_tree.proofs.KeyLemmas.Ways.{IsRemoved, counted_none, counted_compare, counted_removal, counted_all, place_stays, way_stays, rank_stays, items_without, one_less, last_value-end, asked_here}
+use Rattle.i_tree.proofs.CoreLemmas.Descent.{IsCutAt-top, cut_here, cut_at_end, goes_left, goes_right, falls_left, falls_right, some_rank}
+use Rattle.i_tree.proofs.RootLemmas.Withouts.{Without-refl, Without-trans}
+use Rattle.i_tree.specs.Key.Descent.{IsCalled}
+use Rattle.i_tree.specs.Key.KeyExpTree.{items}
+use Rattle.i_tree.specs.Core.Place.{IsPlaceOf}
+use Rattle.i_tree.specs.Key.Live.{is_live, IsExpired}
+use Rattle.i_tree.specs.Core.Shape.{entries, rank, left_at, right_at, part_at, occurs}
 use Rattle.i_tree.proofs.key.tree.descend.Goals as goal
 
 pub loop-here-init : goal.loop-here-init

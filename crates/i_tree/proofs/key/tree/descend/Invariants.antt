@@ -1,7 +1,7 @@
 use Rattle.std.proofs.Common.{◌+◌, length}
-use Rattle.i_tree.proofs.KeyWays.{IsDescent}
-use Rattle.i_tree.specs.Live.{is_live}
-use Rattle.i_tree.specs.Shape.{entries, rank, part_at}
+use Rattle.i_tree.proofs.KeyLemmas.Ways.{IsDescent}
+use Rattle.i_tree.specs.Key.Live.{is_live}
+use Rattle.i_tree.specs.Core.Shape.{entries, rank, part_at}
 use Rattle.i_tree.proofs.key.tree.descend.Given as goal
 
 -- The entry in front of the part is live and was called Less, the one behind it is live and was called Greater. What is gone

@@ -2,7 +2,7 @@ use Rattle.std.proofs.Common.{◌≡◌, refl, rules}
 use Rattle.std.specs.Ordering.{is_lt}
 use Rattle.std.specs.declared.cmp.Ordering.{Ordering}
 use Rattle.std.specs.declared.cmp.Ordering.TheVariants.{Less, Equal, Greater}
-use Rattle.i_tree.specs.KeyDescent.{below_or_not, less_if}
+use Rattle.i_tree.specs.Key.Descent.{below_or_not, less_if}
 use Rattle.i_tree.proofs.key.tree.descend_to.Goals as goal
 
 called_by_test : (r : Ordering) → below_or_not r ≡ less_if (is_lt r)

@@ -1,6 +1,6 @@
 use Rattle.std.proofs.Common.{◌∙◌, ap}
-use Rattle.i_tree.specs.Slots.{child_link, with_child_link}
-use Rattle.i_tree.proofs.TurningRound.{used_by, laid, up_found, found, hung_used, used_hung, used_lowered, used_lifted, sound-turned}
+use Rattle.i_tree.specs.Core.Slots.{child_link, with_child_link}
+use Rattle.i_tree.proofs.CoreLemmas.TurningRound.{used_by, laid, up_found, found, hung_used, used_hung, used_lowered, used_lifted, sound-turned}
 use Rattle.i_tree.proofs.rb.arena.turn.Goals as goal
 
 pub links_at-links-requires : goal.links_at-links-requires

@@ -1,6 +1,6 @@
 use Rattle.std.proofs.Common.{rules, Some, ◌∙◌, ap, ◌<◌, length}
 use Rattle.std.proofs.lemmas.Option.{slice_get-get_or}
-use Rattle.i_tree.proofs.Turning.{IsUsed-within, not_free, Relinks-set}
+use Rattle.i_tree.proofs.CoreLemmas.Turning.{IsUsed-within, not_free, Relinks-set}
 use Rattle.i_tree.proofs.rb.links.set_links.Goals as goal
 
 pub offset_bounds-slots-handle : goal.offset_bounds-slots-handle

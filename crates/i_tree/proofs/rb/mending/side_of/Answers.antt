@@ -1,4 +1,4 @@
-use Rattle.i_tree.proofs.BalanceMending.{side_left, side_right}
+use Rattle.i_tree.proofs.CoreLemmas.MendingInsertion.{side_left, side_right}
 use Rattle.i_tree.proofs.rb.mending.side_of.Goals as goal
 
 pub returns-then-child : goal.returns-then-child

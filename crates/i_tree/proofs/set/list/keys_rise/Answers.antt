@@ -1,7 +1,7 @@
 use Rattle.std.proofs.Common.{◌-◌, get_or, sym, ap, ◌∙◌, ⊎_elim, arith}
 use Rattle.std.specs.Ordering.{is_ge, is_some_and}
 use Rattle.std.proofs.lemmas.Bool.{cases_eq}
-use Rattle.i_tree.proofs.SetPositions.{neighbours_fall, neighbours_rise, ordered_from_neighbours}
+use Rattle.i_tree.proofs.SetLemmas.Positions.{neighbours_fall, neighbours_rise, ordered_from_neighbours}
 use Rattle.i_tree.proofs.set.list.keys_rise.Goals as goal
 
 pub loop-next-init : goal.loop-next-init

@@ -1,7 +1,7 @@
 use Rattle.std.proofs.Common.{ap, ◌∙◌}
 use Rattle.std.specs.Ordering.{is_lt}
-use Rattle.i_tree.proofs.Keys.{less_from_is_lt, not_less_from_is_lt}
-use Rattle.i_tree.proofs.SetPositions.{IsPartitionedBy-below}
+use Rattle.i_tree.proofs.RootLemmas.RisingKeys.{less_from_is_lt, not_less_from_is_lt}
+use Rattle.i_tree.proofs.SetLemmas.Positions.{IsPartitionedBy-below}
 use Rattle.i_tree.proofs.set.list.place_of.Goals as goal
 
 pub returns-clause-splits : goal.returns-clause-splits

@@ -1,5 +1,5 @@
 use Rattle.std.proofs.Common.{◌≡◌, refl, ap, sym, subst, ◌∙◌}
-use Rattle.i_tree.specs.Set.{values, LacksKey}
+use Rattle.i_tree.specs.Set.Pairs.{values, LacksKey}
 use Rattle.itree_lib.proofs.SetServing.{NoKey-values, HasKey-values, IsRising-values, from_is_some, from_is_none}
 use Rattle.itree_lib.proofs.run.sets.insert.Goals as goal
 

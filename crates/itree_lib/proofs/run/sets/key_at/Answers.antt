@@ -1,5 +1,5 @@
 use Rattle.std.proofs.Common.{ap, ◌∙◌}
-use Rattle.i_tree.proofs.SetLive.{cut_at_item}
+use Rattle.i_tree.proofs.SetLemmas.Live.{cut_at_item}
 use Rattle.itree_lib.proofs.run.sets.key_at.Goals as goal
 
 pub returns : goal.returns

@@ -1,6 +1,6 @@
 use Rattle.std.proofs.Common.{rules, ◌≡◌, ◌≤◌, ◌+◌, ◌++◌, [], ◌∷◌, refl, sym, ap, ◌∙◌, arith, append_assoc, append-nil, vec_len, vec_capacity}
 use Rattle.std.specs.Vec.Iter.{into_iter_items}
-use Rattle.i_tree.specs.Set.{values}
+use Rattle.i_tree.specs.Set.Pairs.{values}
 use Rattle.itree_lib.proofs.SetServing.{Run-push}
 use Rattle.itree_lib.proofs.run.sets.run_sets.Goals as goal
 

@@ -1,6 +1,6 @@
 use Rattle.std.proofs.Common.{◌≡◌, ◌≤◌, ◌+◌, ◌++◌, List, vec_len, vec_capacity}
 use Rattle.std.specs.Vec.Iter.{into_iter_items, into_iter_len}
-use Rattle.i_tree.specs.Set.{values, IsOrdered}
+use Rattle.i_tree.specs.Set.Pairs.{values, IsOrdered}
 use Rattle.itree_lib.specs.SetMachine.{Run}
 use Rattle.itree_lib.specs.declared.run.sets.SetReply.{SetReply}
 use Rattle.itree_lib.proofs.run.sets.run_sets.Given as goal

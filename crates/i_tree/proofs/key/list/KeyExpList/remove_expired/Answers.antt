@@ -1,11 +1,11 @@
 use Rattle.std.proofs.Common.{◌≡◌, sym, subst, ap, ◌∙◌, length, arith}
 use Rattle.std.specs.declared.cmp.Ordering.TheVariants.{Less}
 use Rattle.std.proofs.lemmas.List.Kept.{AllPairs-filter}
-use Rattle.i_tree.specs.Change.{Without}
-use Rattle.i_tree.specs.Live.{is_live, live_pairs, IsExpired, NoneExpiresBefore}
-use Rattle.i_tree.specs.Pairs.{IsRising}
-use Rattle.i_tree.proofs.Lists.{length-filter_le, Without-filter}
-use Rattle.i_tree.proofs.Times.{gt_from_cmp, live_pairs-early}
+use Rattle.i_tree.specs.Root.Change.{Without}
+use Rattle.i_tree.specs.Key.Live.{is_live, live_pairs, IsExpired, NoneExpiresBefore}
+use Rattle.i_tree.specs.Root.Pairs.{IsRising}
+use Rattle.i_tree.proofs.RootLemmas.Lists.{length-filter_le, Without-filter}
+use Rattle.i_tree.proofs.KeyLemmas.Times.{gt_from_cmp, live_pairs-early}
 use Rattle.i_tree.proofs.key.list.KeyExpList.remove_expired.Goals as goal
 
 all_live : (g : _) (c : goal.Then-gt g) → live_pairs g.K.ExpiredKey.expiration g.E.Ord.cmp c.args.time c.args.self.now.pairs ≡ c.args.self.now.pairs

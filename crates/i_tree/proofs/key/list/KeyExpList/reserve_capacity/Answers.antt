@@ -1,8 +1,8 @@
 use Rattle.std.proofs.Common.{◌≡◌, ◌+◌, ◌-◌, ◌<◌, ◌≤◌, ℕ, length, sym, subst, ap, ◌∙◌, arith}
 use Rattle.std.proofs.lemmas.Result.{MatchResult-from_err, err_from_is_err_and}
-use Rattle.i_tree.proofs.Keys.{same_contents}
-use Rattle.i_tree.specs.Live.{NoneExpiresBefore}
-use Rattle.i_tree.specs.Pairs.{IsRising}
+use Rattle.i_tree.proofs.RootLemmas.RisingKeys.{same_contents}
+use Rattle.i_tree.specs.Key.Live.{NoneExpiresBefore}
+use Rattle.i_tree.specs.Root.Pairs.{IsRising}
 use Rattle.i_tree.proofs.key.list.KeyExpList.reserve_capacity.Goals as goal
 
 -- the room of a list, by its length and its capacity

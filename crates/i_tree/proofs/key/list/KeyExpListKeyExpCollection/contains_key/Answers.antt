@@ -1,7 +1,7 @@
 use Rattle.std.proofs.Common.{sym, subst, ap, ◌∙◌}
 use Rattle.std.specs.Bool.{MatchBool}
-use Rattle.i_tree.specs.Live.{live_pairs}
-use Rattle.i_tree.specs.Pairs.{HasKey, NoKey, IsRising}
+use Rattle.i_tree.specs.Key.Live.{live_pairs}
+use Rattle.i_tree.specs.Root.Pairs.{HasKey, NoKey, IsRising}
 use Rattle.i_tree.proofs.key.list.KeyExpListKeyExpCollection.contains_key.Goals as goal
 
 pub returns-clause-cases : goal.returns-clause-cases

@@ -1,6 +1,6 @@
 use Rattle.std.proofs.Common.{sym, subst, ap, ◌∙◌}
-use Rattle.i_tree.specs.Answer.{Below}
-use Rattle.i_tree.specs.Pairs.{IsRising}
+use Rattle.i_tree.specs.Root.Answer.{Below}
+use Rattle.i_tree.specs.Root.Pairs.{IsRising}
 use Rattle.i_tree.proofs.key.list.KeyExpListKeyExpCollection.first_less.Goals as goal
 
 -- what is searched is what is live

@@ -1,7 +1,7 @@
 use Rattle.std.proofs.Common.{sym, subst, ap, ◌∙◌}
 use Rattle.std.specs.List.{All}
-use Rattle.i_tree.specs.Answer.{AtMost, AnswersBy, IsMonotone}
-use Rattle.i_tree.specs.Pairs.{IsRising}
+use Rattle.i_tree.specs.Root.Answer.{AtMost, AnswersBy, IsMonotone}
+use Rattle.i_tree.specs.Root.Pairs.{IsRising}
 use Rattle.i_tree.proofs.key.list.KeyExpListKeyExpCollection.first_less_or_equal_by.Goals as goal
 
 -- what is searched is what is live

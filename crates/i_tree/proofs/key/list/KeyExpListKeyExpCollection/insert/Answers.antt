@@ -3,11 +3,11 @@ use Rattle.std.specs.List.{insert}
 use Rattle.std.specs.declared.cmp.Ordering.TheVariants.{Less}
 use Rattle.std.specs.List.Sorted.{IsPartitionPoint}
 use Rattle.std.proofs.lemmas.Result.{MatchResult-from_err, err_from_is_err_and}
-use Rattle.i_tree.specs.Live.{is_live, live_pairs, NoneExpiresBefore}
-use Rattle.i_tree.specs.Pairs.{IsRising, NoKey}
-use Rattle.i_tree.proofs.Keys.{IsRising-insert, same_contents}
-use Rattle.i_tree.proofs.Lists.{filter_same_length, length-filter_le, length-filter_lt, Without-filter}
-use Rattle.i_tree.proofs.Times.{NoneExpiresBefore-insert}
+use Rattle.i_tree.specs.Key.Live.{is_live, live_pairs, NoneExpiresBefore}
+use Rattle.i_tree.specs.Root.Pairs.{IsRising, NoKey}
+use Rattle.i_tree.proofs.RootLemmas.RisingKeys.{IsRising-insert, same_contents}
+use Rattle.i_tree.proofs.RootLemmas.Lists.{filter_same_length, length-filter_le, length-filter_lt, Without-filter}
+use Rattle.i_tree.proofs.KeyLemmas.Times.{NoneExpiresBefore-insert}
 use Rattle.i_tree.proofs.key.list.KeyExpListKeyExpCollection.insert.Goals as goal
 
 -- what a refusal says: after the expired pairs went there was no room

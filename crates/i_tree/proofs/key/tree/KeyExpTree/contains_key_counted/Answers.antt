@@ -1,16 +1,16 @@
 use Rattle.std.proofs.Common.{ℕ, [], ◌∷◌, ◌++◌, sym, ap, ◌∙◌, subst, arith, length}
 use Rattle.std.specs.Bool.{MatchBool}
 use Rattle.std.proofs.lemmas.List.{length-map}
-use Rattle.i_tree.proofs.Contexts.{part_at-none}
-use Rattle.i_tree.proofs.KeyLooking.{below_from_above, absent_between, cases_equal, counted_look}
-use Rattle.i_tree.proofs.SetCounts.{OnlyCompares-none, OnlyCompares-more}
-use Rattle.i_tree.proofs.SetDescent.{IsCutAt-top, cut_here, cut_at_end, goes_left, goes_right, falls_left, falls_right, some_rank}
-use Rattle.i_tree.specs.Descent.{LooksFor}
-use Rattle.i_tree.specs.KeyExpTree.{items}
-use Rattle.i_tree.specs.Live.{is_live, live_pairs}
-use Rattle.i_tree.specs.Pairs.{HasKey, NoKey, IsRising}
-use Rattle.i_tree.specs.RbTree.{Contents}
-use Rattle.i_tree.specs.Shape.{entries, rank, left_at, right_at, occurs}
+use Rattle.i_tree.proofs.CoreLemmas.Contexts.{part_at-none}
+use Rattle.i_tree.proofs.KeyLemmas.Looking.{below_from_above, absent_between, cases_equal, counted_look}
+use Rattle.i_tree.proofs.RootLemmas.Counts.{OnlyCompares-none, OnlyCompares-more}
+use Rattle.i_tree.proofs.CoreLemmas.Descent.{IsCutAt-top, cut_here, cut_at_end, goes_left, goes_right, falls_left, falls_right, some_rank}
+use Rattle.i_tree.specs.Root.Descent.{LooksFor}
+use Rattle.i_tree.specs.Key.KeyExpTree.{items}
+use Rattle.i_tree.specs.Key.Live.{is_live, live_pairs}
+use Rattle.i_tree.specs.Root.Pairs.{HasKey, NoKey, IsRising}
+use Rattle.i_tree.specs.Core.RbTree.{Contents}
+use Rattle.i_tree.specs.Core.Shape.{entries, rank, left_at, right_at, occurs}
 use Rattle.i_tree.proofs.key.tree.KeyExpTree.contains_key_counted.Goals as goal
 
 pub loop-here-init : goal.loop-here-init

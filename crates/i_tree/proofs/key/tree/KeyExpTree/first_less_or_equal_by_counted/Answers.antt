@@ -2,15 +2,15 @@ use Rattle.std.proofs.Common.{◌≡◌, ℕ, length, ap, ◌∙◌, subst}
 use Rattle.std.proofs.lemmas.List.{length-map}
 use Rattle.std.specs.declared.cmp.Ordering.TheVariants.{Less}
 use Rattle.std.specs.Option.{unwrap_or}
-use Rattle.i_tree.proofs.Withouts.{AllPairs-without}
-use Rattle.i_tree.proofs.KeySearch.{answer_at_most}
-use Rattle.i_tree.specs.Answer.{AtMost, AnswersBy, IsMonotone}
-use Rattle.i_tree.specs.Change.{Without}
-use Rattle.i_tree.specs.Descent.{Descends}
-use Rattle.i_tree.specs.KeyExpTree.{items}
-use Rattle.i_tree.specs.Live.{is_live, live_pairs, IsExpired}
-use Rattle.i_tree.specs.RbTree.{Contents, slots}
-use Rattle.i_tree.specs.Shape.{entries}
+use Rattle.i_tree.proofs.RootLemmas.Withouts.{AllPairs-without}
+use Rattle.i_tree.proofs.KeyLemmas.Search.{answer_at_most}
+use Rattle.i_tree.specs.Root.Answer.{AtMost, AnswersBy, IsMonotone}
+use Rattle.i_tree.specs.Root.Change.{Without}
+use Rattle.i_tree.specs.Root.Descent.{Descends}
+use Rattle.i_tree.specs.Key.KeyExpTree.{items}
+use Rattle.i_tree.specs.Key.Live.{is_live, live_pairs, IsExpired}
+use Rattle.i_tree.specs.Core.RbTree.{Contents, slots}
+use Rattle.i_tree.specs.Core.Shape.{entries}
 use Rattle.i_tree.proofs.key.tree.KeyExpTree.first_less_or_equal_by_counted.Goals as goal
 
 pub returns-clause-value : goal.returns-clause-value

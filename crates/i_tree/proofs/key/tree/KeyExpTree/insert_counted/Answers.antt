@@ -1,15 +1,15 @@
 use Rattle.std.proofs.Common.{◌≡◌, ℕ, length, sym, subst, ap, ◌∙◌, arith}
 use Rattle.std.specs.declared.cmp.Ordering.TheVariants.{Less}
 use Rattle.std.proofs.lemmas.List.{length-map}
-use Rattle.i_tree.proofs.KeyInsertion.{gains_key, rising_with_key, one_more, slots_joined, counted_join, none_removed}
-use Rattle.i_tree.proofs.Withouts.{AllPairs-without}
-use Rattle.i_tree.specs.Change.{Gains}
-use Rattle.i_tree.specs.Descent.{Descends}
-use Rattle.i_tree.specs.KeyExpTree.{items, slots_for}
-use Rattle.i_tree.specs.Live.{is_live, live_pairs, IsExpired}
-use Rattle.i_tree.specs.Pairs.{IsRising, NoKey}
-use Rattle.i_tree.specs.RbTree.{Contents, slots}
-use Rattle.i_tree.specs.Shape.{entries}
+use Rattle.i_tree.proofs.KeyLemmas.Insertion.{gains_key, rising_with_key, one_more, slots_joined, counted_join, none_removed}
+use Rattle.i_tree.proofs.RootLemmas.Withouts.{AllPairs-without}
+use Rattle.i_tree.specs.Root.Change.{Gains}
+use Rattle.i_tree.specs.Root.Descent.{Descends}
+use Rattle.i_tree.specs.Key.KeyExpTree.{items, slots_for}
+use Rattle.i_tree.specs.Key.Live.{is_live, live_pairs, IsExpired}
+use Rattle.i_tree.specs.Root.Pairs.{IsRising, NoKey}
+use Rattle.i_tree.specs.Core.RbTree.{Contents, slots}
+use Rattle.i_tree.specs.Core.Shape.{entries}
 use Rattle.i_tree.proofs.key.tree.KeyExpTree.insert_counted.Goals as goal
 
 pub insert_at-requires : goal.insert_at-requires

@@ -1,5 +1,5 @@
 use Rattle.std.proofs.Common.{length}
-use Rattle.i_tree.specs.Shape.{entries, part_at, IsLive}
+use Rattle.i_tree.specs.Core.Shape.{entries, part_at, IsLive}
 use Rattle.i_tree.proofs.rb.arena.Arena.childless_below.Given as goal
 
 abbrev pub invariant-loop-part : goal.invariant-loop-part

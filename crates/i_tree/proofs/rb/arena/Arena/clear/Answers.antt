@@ -1,7 +1,7 @@
 use Rattle.std.proofs.Common.{arith}
 use Rattle.i_tree.specs.declared.rb.links.Side.TheVariants.{Left}
-use Rattle.i_tree.specs.Shape.{leaf}
-use Rattle.i_tree.proofs.Clearing.{IsLive-childless, HasLost-detached}
+use Rattle.i_tree.specs.Core.Shape.{leaf}
+use Rattle.i_tree.proofs.CoreLemmas.Clearing.{IsLive-childless, HasLost-detached}
 use Rattle.i_tree.proofs.rb.arena.Arena.clear.Goals as goal
 
 pub parent-here-requires : goal.parent-here-requires

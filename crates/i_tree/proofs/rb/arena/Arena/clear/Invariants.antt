@@ -1,7 +1,7 @@
 use Rattle.std.proofs.Common.{◌≡◌, ◌≢◌, length}
 use Rattle.i_tree.specs.declared.TheConstants.{EMPTY_REF}
-use Rattle.i_tree.specs.RbTree.{slots}
-use Rattle.i_tree.specs.Shape.{leaf, entries, IsLive, AreHandles}
+use Rattle.i_tree.specs.Core.RbTree.{slots}
+use Rattle.i_tree.specs.Core.Shape.{leaf, entries, IsLive, AreHandles}
 use Rattle.i_tree.proofs.rb.arena.Arena.clear.Given as goal
 
 -- The walk is at a node, or the tree is empty.

@@ -1,14 +1,14 @@
 use Rattle.std.proofs.Common.{◌≡◌, ◌+◌, List, length, slice_get, sym, ap, ◌∙◌}
 use Rattle.i_tree.specs.declared.rb.links.Colour.{Colour}
 use Rattle.i_tree.specs.declared.rb.links.Side.{Side}
-use Rattle.i_tree.specs.Context.{Frame, fork_on, plug}
-use Rattle.i_tree.specs.Shape.{Shape, leaf}
-use Rattle.i_tree.specs.Slots.{IsSound}
-use Rattle.i_tree.proofs.Placed.{AreHandles-sound}
-use Rattle.i_tree.proofs.Room.{written_back, read_back, sound_back}
-use Rattle.i_tree.proofs.TurningReads.{IsSound-view, IsSound-as, node_at}
-use Rattle.i_tree.proofs.TurningRound.{used_by}
-use Rattle.i_tree.proofs.Detaching.{OnlyPart, alone_in, lent_again, hung_used, part_used, own_kept, own_used, sound-left}
+use Rattle.i_tree.specs.Core.Context.{Frame, fork_on, plug}
+use Rattle.i_tree.specs.Core.Shape.{Shape, leaf}
+use Rattle.i_tree.specs.Core.Slots.{IsSound}
+use Rattle.i_tree.proofs.CoreLemmas.Placed.{AreHandles-sound}
+use Rattle.i_tree.proofs.CoreLemmas.Room.{written_back, read_back, sound_back}
+use Rattle.i_tree.proofs.CoreLemmas.TurningReads.{IsSound-view, IsSound-as, node_at}
+use Rattle.i_tree.proofs.CoreLemmas.TurningRound.{used_by}
+use Rattle.i_tree.proofs.CoreLemmas.Detaching.{OnlyPart, alone_in, lent_again, hung_used, part_used, own_kept, own_used, sound-left}
 use Rattle.i_tree.proofs.rb.arena.Arena.detach.Goals.{then-links, else-links}
 use Rattle.i_tree.proofs.rb.arena.Arena.detach.Goals as goal
 

@@ -3,9 +3,9 @@ use Rattle.i_tree.specs.contracts.rb.links.Colour.{the_type}
 use denote.Enum.Bare.{sameb}
 use Rattle.i_tree.specs.declared.rb.links.Colour.{Colour}
 use Rattle.i_tree.specs.declared.rb.links.Colour.TheVariants.{Red, Black}
-use Rattle.i_tree.specs.Balance.{is_black_colour}
-use Rattle.i_tree.proofs.Placed.{AreHandles-sound}
-use Rattle.i_tree.proofs.TurningReads.{IsSound-view, IsUsed-sound, black_at, black_at_none}
+use Rattle.i_tree.specs.Core.Balance.{is_black_colour}
+use Rattle.i_tree.proofs.CoreLemmas.Placed.{AreHandles-sound}
+use Rattle.i_tree.proofs.CoreLemmas.TurningReads.{IsSound-view, IsUsed-sound, black_at, black_at_none}
 use Rattle.i_tree.proofs.rb.arena.Arena.is_black.Goals as goal
 
 same_as_black : (colour : Colour) → sameb the_type colour Black ≡ is_black_colour colour

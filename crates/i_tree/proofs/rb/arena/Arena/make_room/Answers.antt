@@ -1,6 +1,6 @@
 use Rattle.std.proofs.Common.{◌≡◌, ◌*◌, ◌<◌, ℕ, zero, suc, min, max, refl, sym, ap, ◌∙◌, subst, arith}
 use Rattle.std.proofs.lemmas.Result.{on_ok_weaker}
-use Rattle.i_tree.specs.RbTree.{Contents, slots, slots_grown, slots_with_room}
+use Rattle.i_tree.specs.Core.RbTree.{Contents, slots, slots_grown, slots_with_room}
 use Rattle.i_tree.specs.declared.TheConstants.{EMPTY_REF}
 use Rattle.i_tree.proofs.rb.arena.Arena.make_room.Goals as goal
 

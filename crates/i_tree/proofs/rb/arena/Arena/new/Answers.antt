@@ -1,10 +1,10 @@
 use Rattle.std.proofs.Common.{◌-◌, [], ◌∷◌, ◌++◌, sym, ap, ◌∙◌, refl, arith}
 use Rattle.i_tree.specs.declared.TheConstants.{EMPTY_REF}
 use Rattle.i_tree.specs.declared.rb.links.Slot.TheVariants.{Free}
-use Rattle.i_tree.specs.Shape.{leaf}
-use Rattle.i_tree.specs.Slots.{IsSound}
-use Rattle.i_tree.proofs.Room.{read_back, sound_back}
-use Rattle.i_tree.proofs.RoomGrown.{sound-made}
+use Rattle.i_tree.specs.Core.Shape.{leaf}
+use Rattle.i_tree.specs.Core.Slots.{IsSound}
+use Rattle.i_tree.proofs.CoreLemmas.Room.{read_back, sound_back}
+use Rattle.i_tree.proofs.CoreLemmas.RoomGrown.{sound-made}
 use Rattle.i_tree.proofs.rb.arena.Arena.new.Goals as goal
 
 -- the slots hold the empty tree

@@ -1,5 +1,5 @@
-use Rattle.i_tree.proofs.Placed.{AreHandles-sound}
-use Rattle.i_tree.proofs.TurningReads.{IsSound-view, IsUsed-sound, parent_at}
+use Rattle.i_tree.proofs.CoreLemmas.Placed.{AreHandles-sound}
+use Rattle.i_tree.proofs.CoreLemmas.TurningReads.{IsSound-view, IsUsed-sound, parent_at}
 use Rattle.i_tree.proofs.rb.arena.Arena.parent.Goals as goal
 
 pub links_at-requires : goal.links_at-requires

@@ -1,11 +1,11 @@
 use Rattle.std.proofs.Common.{◌≡◌, ◌+◌, ◌-◌, ℕ, List, length, sym, ap, ◌∙◌, subst, refl, arith}
 use Rattle.std.proofs.lemmas.Result.{MatchResult-from_err, err_from_is_err_and}
 use Rattle.i_tree.specs.declared.rb.links.Slot.{Slot}
-use Rattle.i_tree.specs.RbTree.{Contents, slots}
-use Rattle.i_tree.specs.Shape.{Shape}
-use Rattle.i_tree.specs.Slots.{IsSound, read_tree}
-use Rattle.i_tree.proofs.Room.{read_back, sound_back}
-use Rattle.i_tree.proofs.RoomGrown.{sound-grown}
+use Rattle.i_tree.specs.Core.RbTree.{Contents, slots}
+use Rattle.i_tree.specs.Core.Shape.{Shape}
+use Rattle.i_tree.specs.Core.Slots.{IsSound, read_tree}
+use Rattle.i_tree.proofs.CoreLemmas.Room.{read_back, sound_back}
+use Rattle.i_tree.proofs.CoreLemmas.RoomGrown.{sound-grown}
 use Rattle.i_tree.proofs.rb.arena.Arena.reserve.Goals as goal
 
 pub returns-then-capacity-clause-with_slots : goal.returns-then-capacity-clause-with_slots

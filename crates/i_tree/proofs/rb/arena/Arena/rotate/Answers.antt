@@ -1,8 +1,8 @@
 use Rattle.std.proofs.Common.{◌∙◌}
 use Rattle.std.proofs.lemmas.List.{take_at}
-use Rattle.i_tree.proofs.Placed.{AreHandles-sound, read_sound}
-use Rattle.i_tree.proofs.Turning.{IsSound-read}
-use Rattle.i_tree.proofs.TurningReads.{IsSound-view, IsSound-as}
+use Rattle.i_tree.proofs.CoreLemmas.Placed.{AreHandles-sound, read_sound}
+use Rattle.i_tree.proofs.CoreLemmas.Turning.{IsSound-read}
+use Rattle.i_tree.proofs.CoreLemmas.TurningReads.{IsSound-view, IsSound-as}
 use Rattle.i_tree.proofs.rb.arena.Arena.rotate.Goals as goal
 
 pub turn-requires : goal.turn-requires

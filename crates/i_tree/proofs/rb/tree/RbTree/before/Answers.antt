@@ -1,6 +1,6 @@
 use Rattle.std.proofs.Common.{ap, sym, ◌∙◌}
-use Rattle.i_tree.specs.Shape.{entries, part_at, last_handle}
-use Rattle.i_tree.proofs.Parts.{part_at-empty, last_handle-to_left}
+use Rattle.i_tree.specs.Core.Shape.{entries, part_at, last_handle}
+use Rattle.i_tree.proofs.CoreLemmas.Parts.{part_at-empty, last_handle-to_left}
 use Rattle.i_tree.proofs.rb.tree.RbTree.before.Goals as goal
 
 pub parent_from_right-requires : goal.parent_from_right-requires

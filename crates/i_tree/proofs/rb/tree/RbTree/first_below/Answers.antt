@@ -1,7 +1,7 @@
 use Rattle.std.proofs.Common.{ap, sym, ◌∙◌}
-use Rattle.i_tree.specs.Shape.{part_at}
-use Rattle.i_tree.proofs.Parts.{part_at-empty}
-use Rattle.i_tree.proofs.TakingFirst.{StartsWith-self, StartsWith-left, IsFirst-here, fewer-to_left}
+use Rattle.i_tree.specs.Core.Shape.{part_at}
+use Rattle.i_tree.proofs.CoreLemmas.Parts.{part_at-empty}
+use Rattle.i_tree.proofs.CoreLemmas.RemovalFirst.{StartsWith-self, StartsWith-left, IsFirst-here, fewer-to_left}
 use Rattle.i_tree.proofs.rb.tree.RbTree.first_below.Goals as goal
 
 pub loop-part-init : goal.loop-part-init

@@ -1,6 +1,6 @@
 use Rattle.std.proofs.Common.{length}
-use Rattle.i_tree.specs.Shape.{IsLive, entries, part_at}
-use Rattle.i_tree.proofs.TakingFirst.{StartsWith}
+use Rattle.i_tree.specs.Core.Shape.{IsLive, entries, part_at}
+use Rattle.i_tree.proofs.CoreLemmas.RemovalFirst.{StartsWith}
 use Rattle.i_tree.proofs.rb.tree.RbTree.first_below.Given as goal
 
 -- The part that was reached stands at the left end of the part that was given.

@@ -1,9 +1,9 @@
 use Rattle.std.proofs.Common.{◌≡◌, ◌<◌, sym, ap, ◌∙◌, subst, length, arith}
-use Rattle.i_tree.specs.RbTree.{Contents, slots, slots_with_room}
-use Rattle.i_tree.specs.Shape.{Shape, entries, occurs, AreHandles}
-use Rattle.i_tree.specs.Balance.{IsRedBlack}
-use Rattle.i_tree.proofs.Balance.{IsCore-from_red_black}
-use Rattle.i_tree.proofs.Growth.{HasRoomOn-kept, IsRaised-joined, entries-joined, length-joined}
+use Rattle.i_tree.specs.Core.RbTree.{Contents, slots, slots_with_room}
+use Rattle.i_tree.specs.Core.Shape.{Shape, entries, occurs, AreHandles}
+use Rattle.i_tree.specs.Core.Balance.{IsRedBlack}
+use Rattle.i_tree.proofs.CoreLemmas.Balance.{IsCore-from_red_black}
+use Rattle.i_tree.proofs.CoreLemmas.Growth.{HasRoomOn-kept, IsRaised-joined, entries-joined, length-joined}
 use Rattle.i_tree.proofs.rb.tree.RbTree.insert_on.Goals as goal
 
 pub returns-in-Err-clause-core : goal.returns-in-Err-clause-core

@@ -1,5 +1,5 @@
-use Rattle.i_tree.proofs.Parts.{entries-part_at}
-use Rattle.i_tree.proofs.Balance.{IsCore-from_red_black}
+use Rattle.i_tree.proofs.CoreLemmas.Parts.{entries-part_at}
+use Rattle.i_tree.proofs.CoreLemmas.Balance.{IsCore-from_red_black}
 use Rattle.i_tree.proofs.rb.tree.RbTree.item.Goals as goal
 
 pub returns : goal.returns

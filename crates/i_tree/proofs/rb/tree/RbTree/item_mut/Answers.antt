@@ -1,8 +1,8 @@
 use Rattle.std.proofs.Common.{ap, refl}
-use Rattle.i_tree.specs.RbTree.{Contents, contents_with_item}
-use Rattle.i_tree.proofs.Parts.{entries-part_at}
-use Rattle.i_tree.proofs.Items.{IsRedBlack-with_item, AreHandles-with_item}
-use Rattle.i_tree.proofs.Balance.{IsCore-from_red_black}
+use Rattle.i_tree.specs.Core.RbTree.{Contents, contents_with_item}
+use Rattle.i_tree.proofs.CoreLemmas.Parts.{entries-part_at}
+use Rattle.i_tree.proofs.CoreLemmas.Items.{IsRedBlack-with_item, AreHandles-with_item}
+use Rattle.i_tree.proofs.CoreLemmas.Balance.{IsCore-from_red_black}
 use Rattle.i_tree.proofs.rb.tree.RbTree.item_mut.Goals as goal
 
 pub invariant_of-self-lent : goal.invariant_of-self-lent

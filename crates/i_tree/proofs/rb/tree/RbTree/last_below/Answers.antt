@@ -1,6 +1,6 @@
 use Rattle.std.proofs.Common.{ap, sym, ◌∙◌}
-use Rattle.i_tree.specs.Shape.{entries, part_at, last_handle}
-use Rattle.i_tree.proofs.Parts.{last_handle-here, last_handle-to_right, fewer-to_right, part_at-empty}
+use Rattle.i_tree.specs.Core.Shape.{entries, part_at, last_handle}
+use Rattle.i_tree.proofs.CoreLemmas.Parts.{last_handle-here, last_handle-to_right, fewer-to_right, part_at-empty}
 use Rattle.i_tree.proofs.rb.tree.RbTree.last_below.Goals as goal
 
 pub returns-then-right : goal.returns-then-right

@@ -1,5 +1,5 @@
 use Rattle.std.proofs.Common.{◌≡◌, length}
-use Rattle.i_tree.specs.Shape.{IsLive, entries, part_at, last_handle}
+use Rattle.i_tree.specs.Core.Shape.{IsLive, entries, part_at, last_handle}
 use Rattle.i_tree.proofs.rb.tree.RbTree.last_below.Given as goal
 
 -- The last handle is below the one that was reached.

@@ -1,5 +1,5 @@
-use Rattle.i_tree.proofs.Parts.{IsTopOf-left, IsTopOf-none}
-use Rattle.i_tree.proofs.Balance.{IsCore-from_red_black}
+use Rattle.i_tree.proofs.CoreLemmas.Parts.{IsTopOf-left, IsTopOf-none}
+use Rattle.i_tree.proofs.CoreLemmas.Balance.{IsCore-from_red_black}
 use Rattle.i_tree.proofs.rb.tree.RbTree.left.Goals as goal
 
 pub returns : goal.returns

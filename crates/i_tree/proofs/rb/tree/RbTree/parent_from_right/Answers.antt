@@ -1,5 +1,5 @@
 use Rattle.std.proofs.Common.{sym, ◌∙◌, arith}
-use Rattle.i_tree.proofs.Climb.{ComesBefore-first, nothing_before, IsParentOf-above}
+use Rattle.i_tree.proofs.CoreLemmas.Climb.{ComesBefore-first, nothing_before, IsParentOf-above}
 use Rattle.i_tree.proofs.rb.tree.RbTree.parent_from_right.Goals as goal
 
 pub loop-self-init : goal.loop-self-init

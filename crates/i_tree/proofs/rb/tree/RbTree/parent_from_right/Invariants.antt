@@ -1,6 +1,6 @@
 use Rattle.std.proofs.Common.{◌-◌, length}
-use Rattle.i_tree.specs.Shape.{entries, part_at}
-use Rattle.i_tree.proofs.Climb.{ComesBefore}
+use Rattle.i_tree.specs.Core.Shape.{entries, part_at}
+use Rattle.i_tree.proofs.CoreLemmas.Climb.{ComesBefore}
 use Rattle.i_tree.proofs.rb.tree.RbTree.parent_from_right.Given as goal
 
 -- What is before the part that was reached is before the handle.

@@ -1,7 +1,7 @@
 use Rattle.std.proofs.Common.{◌∙◌}
 use Rattle.i_tree.specs.declared.rb.links.Side.TheVariants.{Left, Right}
-use Rattle.i_tree.proofs.TakingItems.{IsCore-with_item}
-use Rattle.i_tree.proofs.TakingRemoved.{HasOnePart-either, HasNext-from, HasOnePart-next, IsLive-next, removed_one, removed_one_side, removed_two, removed_two_side, removed_two_rank}
+use Rattle.i_tree.proofs.CoreLemmas.RemovalItems.{IsCore-with_item}
+use Rattle.i_tree.proofs.CoreLemmas.Removed.{HasOnePart-either, HasNext-from, HasOnePart-next, IsLive-next, removed_one, removed_one_side, removed_two, removed_two_side, removed_two_rank}
 use Rattle.i_tree.proofs.rb.tree.RbTree.remove.Goals as goal
 
 pub remove_at-requires : goal.remove_at-requires

@@ -1,7 +1,7 @@
 use Rattle.std.proofs.Common.{sym, ◌∙◌}
-use Rattle.i_tree.specs.Context.{HasOnePart}
-use Rattle.i_tree.proofs.Balance.{IsCore-from_red_black}
-use Rattle.i_tree.proofs.TakingShapes.{TakesOut-plain, TakesOut-mended, IsRedBlack-unmended, LeavesShort, IsMended, IsShort-at, IsLive-gone, IsLive-parent}
+use Rattle.i_tree.specs.Core.Context.{HasOnePart}
+use Rattle.i_tree.proofs.CoreLemmas.Balance.{IsCore-from_red_black}
+use Rattle.i_tree.proofs.CoreLemmas.RemovalShapes.{TakesOut-plain, TakesOut-mended, IsRedBlack-unmended, LeavesShort, IsMended, IsShort-at, IsLive-gone, IsLive-parent}
 use Rattle.i_tree.proofs.rb.tree.RbTree.remove_at.Goals as goal
 
 pub parent-parent-requires : goal.parent-parent-requires

@@ -1,4 +1,4 @@
-use Rattle.i_tree.proofs.SetPositions.{AreApart-viewed}
+use Rattle.i_tree.proofs.SetLemmas.Positions.{AreApart-viewed}
 use Rattle.i_tree.proofs.set.list.SetList.spare.Goals as goal
 
 pub returns-clause-handles : goal.returns-clause-handles

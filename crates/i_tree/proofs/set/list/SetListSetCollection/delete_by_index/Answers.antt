@@ -1,9 +1,9 @@
 use Rattle.std.proofs.Common.{length, ap, ◌∙◌, arith}
 use Rattle.std.specs.List.{remove}
-use Rattle.i_tree.proofs.SetLive.{IsOrdered-loses}
-use Rattle.i_tree.proofs.SetPositions.{AreApart-numbered, inside_from_HasHandle, values-remove}
-use Rattle.i_tree.specs.Set.{values}
-use Rattle.i_tree.specs.SetList.{numbered}
+use Rattle.i_tree.proofs.SetLemmas.Live.{IsOrdered-loses}
+use Rattle.i_tree.proofs.SetLemmas.Positions.{AreApart-numbered, inside_from_HasHandle, values-remove}
+use Rattle.i_tree.specs.Set.Pairs.{values}
+use Rattle.i_tree.specs.Set.SetList.{numbered}
 use Rattle.i_tree.proofs.set.list.SetListSetCollection.delete_by_index.Goals as goal
 
 pub remove-requires : goal.remove-requires

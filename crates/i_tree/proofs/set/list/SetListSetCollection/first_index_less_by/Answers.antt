@@ -3,7 +3,7 @@ use Rattle.std.specs.Fn.{FnReturnsAt}
 use Rattle.std.specs.List.Sorted.{IsPartitionPoint, IsPartitionedBy}
 use Rattle.std.specs.Ordering.{is_gt}
 use Rattle.std.specs.declared.cmp.Ordering.{Ordering}
-use Rattle.i_tree.proofs.SetPositions.{AreApart-viewed, HasHandle-counted, IsFoundBy-at_count, IsPartitionedBy-at_most, takes_values, values_answer}
+use Rattle.i_tree.proofs.SetLemmas.Positions.{AreApart-viewed, HasHandle-counted, IsFoundBy-at_count, IsPartitionedBy-at_most, takes_values, values_answer}
 use Rattle.i_tree.proofs.set.list.SetListSetCollection.first_index_less_by.Goals as goal
 
 pub count_passing-requires : goal.count_passing-requires

@@ -1,7 +1,7 @@
 use Rattle.std.proofs.Common.{◌≡◌, length, ap, arith}
 use Rattle.std.proofs.lemmas.Bool.{ltb-true, ltb-false}
-use Rattle.i_tree.proofs.Lists.{MatchBool-by}
-use Rattle.i_tree.proofs.SetPositions.{AreApart-viewed, HasHandle-inside, LacksHandle-outside}
+use Rattle.i_tree.proofs.RootLemmas.Lists.{MatchBool-by}
+use Rattle.i_tree.proofs.SetLemmas.Positions.{AreApart-viewed, HasHandle-inside, LacksHandle-outside}
 use Rattle.i_tree.proofs.set.list.SetListSetCollection.has_index.Goals as goal
 
 pub returns-clause-cases : goal.returns-clause-cases

@@ -1,6 +1,6 @@
-use Rattle.i_tree.proofs.SetLive.{HasHandle-before}
-use Rattle.i_tree.proofs.SetPositions.{AreApart-viewed, last_handle_is}
-use Rattle.i_tree.specs.SetList.{numbered}
+use Rattle.i_tree.proofs.SetLemmas.Live.{HasHandle-before}
+use Rattle.i_tree.proofs.SetLemmas.Positions.{AreApart-viewed, last_handle_is}
+use Rattle.i_tree.specs.Set.SetList.{numbered}
 use Rattle.i_tree.proofs.set.list.SetListSetCollection.index_before.Goals as goal
 
 pub returns-clause-value : goal.returns-clause-value

@@ -1,9 +1,9 @@
 use Rattle.std.proofs.Common.{◌≡◌, ◌≤◌, length, sym, ap, ◌∙◌, subst, arith}
 use Rattle.std.specs.List.{insert}
 use Rattle.std.proofs.lemmas.List.Edits.{length-insert}
-use Rattle.i_tree.specs.Set.{IsOrdered}
-use Rattle.i_tree.specs.SetList.{numbered, IsPlaceFor}
-use Rattle.i_tree.proofs.SetPositions.{AreApart-numbered, AreApart-viewed, joins_numbered, ordered-insert, same_contents}
+use Rattle.i_tree.specs.Set.Pairs.{IsOrdered}
+use Rattle.i_tree.specs.Set.SetList.{numbered, IsPlaceFor}
+use Rattle.i_tree.proofs.SetLemmas.Positions.{AreApart-numbered, AreApart-viewed, joins_numbered, ordered-insert, same_contents}
 use Rattle.i_tree.proofs.set.list.SetListSetCollection.insert.Goals as goal
 
 pub returns-then-len-clause-handles : goal.returns-then-len-clause-handles

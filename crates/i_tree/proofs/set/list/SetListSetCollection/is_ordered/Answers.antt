@@ -1,8 +1,8 @@
 use Rattle.std.proofs.Common.{subst, ap, ◌∙◌}
 use Rattle.std.specs.Bool.{MatchBool}
-use Rattle.i_tree.specs.Set.{IsOrdered}
-use Rattle.i_tree.specs.SetList.{numbered}
-use Rattle.i_tree.proofs.SetPositions.{AreApart-viewed}
+use Rattle.i_tree.specs.Set.Pairs.{IsOrdered}
+use Rattle.i_tree.specs.Set.SetList.{numbered}
+use Rattle.i_tree.proofs.SetLemmas.Positions.{AreApart-viewed}
 use Rattle.i_tree.proofs.set.list.SetListSetCollection.is_ordered.Goals as goal
 
 pub returns-clause-cases : goal.returns-clause-cases

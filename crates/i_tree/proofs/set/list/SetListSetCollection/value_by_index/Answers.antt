@@ -1,6 +1,6 @@
 use Rattle.std.proofs.Common.{length, get_or, ap, ◌∙◌, arith}
 use Rattle.std.proofs.lemmas.List.{get_or_read}
-use Rattle.i_tree.proofs.SetPositions.{AreApart-viewed, inside_from_HasHandle, value_is}
+use Rattle.i_tree.proofs.SetLemmas.Positions.{AreApart-viewed, inside_from_HasHandle, value_is}
 use Rattle.i_tree.proofs.set.list.SetListSetCollection.value_by_index.Goals as goal
 
 pub index-requires : goal.index-requires

@@ -1,7 +1,7 @@
 use Rattle.std.proofs.Common.{length, get_or, refl, ap, ◌∙◌, arith}
 use Rattle.std.proofs.lemmas.List.{get_or_read}
-use Rattle.i_tree.proofs.SetPositions.{AreApart-viewed, inside_from_HasHandle, value_is}
-use Rattle.i_tree.specs.SetList.{value_put}
+use Rattle.i_tree.proofs.SetLemmas.Positions.{AreApart-viewed, inside_from_HasHandle, value_is}
+use Rattle.i_tree.specs.Set.SetList.{value_put}
 use Rattle.i_tree.proofs.set.list.SetListSetCollection.value_by_index_mut.Goals as goal
 
 pub index_mut-requires : goal.index_mut-requires

@@ -2,10 +2,10 @@ use Rattle.std.proofs.Common.{◌≡◌, refl, true, false, ap, sym, ◌∙◌, 
 use Rattle.std.specs.Ordering.{is_eq}
 use Rattle.std.specs.declared.cmp.Ordering.{Ordering}
 use Rattle.std.specs.declared.cmp.Ordering.TheVariants.{Less, Equal, Greater}
-use Rattle.i_tree.proofs.Lists.{MatchBool-by}
-use Rattle.i_tree.proofs.Monotone.{IsMonotone-compare}
-use Rattle.i_tree.proofs.SetLive.{HoldsKey-found, LacksKey-none, LacksKey-other}
-use Rattle.i_tree.specs.Set.{by_key}
+use Rattle.i_tree.proofs.RootLemmas.Lists.{MatchBool-by}
+use Rattle.i_tree.proofs.RootLemmas.Monotone.{IsMonotone-compare}
+use Rattle.i_tree.proofs.SetLemmas.Live.{HoldsKey-found, LacksKey-none, LacksKey-other}
+use Rattle.i_tree.specs.Set.Pairs.{by_key}
 use Rattle.i_tree.proofs.set.sort.SetCollection.contains_key.Goals as goal
 
 equal_from : (r : Ordering) → is_eq r ≡ true → r ≡ Equal

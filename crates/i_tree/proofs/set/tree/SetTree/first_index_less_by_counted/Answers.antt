@@ -1,14 +1,14 @@
 use Rattle.std.proofs.Common.{[], ◌∷◌, ◌++◌, refl, sym, ap, ◌∙◌, subst, arith}
 use Rattle.std.specs.Fn.{FnReturnsAt}
-use Rattle.i_tree.proofs.SetCounts.{OnlyCompares-none, OnlyCompares-more, ComparesWithin-rank}
-use Rattle.i_tree.proofs.SetDescent.{IsCutAt-top, cut_here, cut_at_end, goes_left, goes_right, falls_left, falls_right, some_rank}
-use Rattle.i_tree.proofs.Contexts.{part_at-none}
-use Rattle.i_tree.proofs.SetLive.{HasHandle-last}
-use Rattle.i_tree.proofs.SetParts.{HasHandle-live}
-use Rattle.i_tree.proofs.SetSearch.{search_finds, search_misses, takes_key, last_handle-end}
-use Rattle.i_tree.specs.RbTree.{Contents}
-use Rattle.i_tree.specs.Set.{IsFoundBy}
-use Rattle.i_tree.specs.Shape.{entries, rank, left_at, right_at, occurs}
+use Rattle.i_tree.proofs.RootLemmas.Counts.{OnlyCompares-none, OnlyCompares-more, ComparesWithin-rank}
+use Rattle.i_tree.proofs.CoreLemmas.Descent.{IsCutAt-top, cut_here, cut_at_end, goes_left, goes_right, falls_left, falls_right, some_rank}
+use Rattle.i_tree.proofs.CoreLemmas.Contexts.{part_at-none}
+use Rattle.i_tree.proofs.SetLemmas.Live.{HasHandle-last}
+use Rattle.i_tree.proofs.CoreLemmas.PartHandles.{HasHandle-live}
+use Rattle.i_tree.proofs.SetLemmas.Search.{search_finds, search_misses, takes_key, last_handle-end}
+use Rattle.i_tree.specs.Core.RbTree.{Contents}
+use Rattle.i_tree.specs.Set.Pairs.{IsFoundBy}
+use Rattle.i_tree.specs.Core.Shape.{entries, rank, left_at, right_at, occurs}
 use Rattle.i_tree.proofs.set.tree.SetTree.first_index_less_by_counted.Goals as goal
 
 pub loop-here-init : goal.loop-here-init

@@ -1,9 +1,9 @@
 use Rattle.std.proofs.Common.{◌≡◌, ◌≤◌, ◌+◌, ℕ, List}
 use Rattle.std.specs.Fn.{FnReturnsAt}
 use Rattle.std.specs.declared.cmp.Ordering.TheVariants.{Less, Greater}
-use Rattle.i_tree.proofs.SetDescent.{IsCutAt}
-use Rattle.i_tree.specs.Compared.{OnlyCompares}
-use Rattle.i_tree.specs.Shape.{rank, part_at, last_handle}
+use Rattle.i_tree.proofs.CoreLemmas.Descent.{IsCutAt}
+use Rattle.i_tree.specs.Root.Compared.{OnlyCompares}
+use Rattle.i_tree.specs.Core.Shape.{rank, part_at, last_handle}
 use Rattle.i_tree.proofs.set.tree.SetTree.first_index_less_by_counted.Given as goal
 
 -- The last key in front of the part was called Less, and the first behind it Greater.

@@ -1,11 +1,11 @@
 use Rattle.std.proofs.Common.{sym, subst, ◌∙◌}
 use Rattle.std.specs.List.{All}
-use Rattle.i_tree.proofs.SetInsertion.{IsLower, IsHigher, ordered_joined}
-use Rattle.i_tree.proofs.SetLive.{HasHandle-joined}
-use Rattle.i_tree.specs.Place.{IsPlaceBetween}
-use Rattle.i_tree.specs.RbTree.{Contents}
-use Rattle.i_tree.specs.Set.{HasHandle, IsOrdered}
-use Rattle.i_tree.specs.Shape.{entries}
+use Rattle.i_tree.proofs.CoreLemmas.Insertion.{IsLower, IsHigher, ordered_joined}
+use Rattle.i_tree.proofs.SetLemmas.Live.{HasHandle-joined}
+use Rattle.i_tree.specs.Core.Place.{IsPlaceBetween}
+use Rattle.i_tree.specs.Core.RbTree.{Contents}
+use Rattle.i_tree.specs.Set.Pairs.{HasHandle, IsOrdered}
+use Rattle.i_tree.specs.Core.Shape.{entries}
 use Rattle.i_tree.proofs.set.tree.SetTree.insert_counted.Goals as goal
 
 pub returns-clause-in_order : goal.returns-clause-in_order

@@ -1,7 +1,7 @@
 use Rattle.std.proofs.Common.{ap, sym, ◌∙◌, subst}
-use Rattle.i_tree.proofs.SetParts.{value_at}
-use Rattle.i_tree.specs.RbTree.{Contents}
-use Rattle.i_tree.specs.Shape.{entries, IsLive}
+use Rattle.i_tree.proofs.CoreLemmas.PartHandles.{value_at}
+use Rattle.i_tree.specs.Core.RbTree.{Contents}
+use Rattle.i_tree.specs.Core.Shape.{entries, IsLive}
 use Rattle.i_tree.proofs.set.tree.SetTree.key_at.Goals as goal
 
 pub returns : goal.returns

@@ -1,11 +1,11 @@
 use Rattle.std.proofs.Common.{[], ◌∷◌, ◌++◌, refl, sym, ap, ◌∙◌}
 use Rattle.std.proofs.lemmas.List.{append-nil}
-use Rattle.i_tree.proofs.SetDescent.{IsCutAt-top, cut_at_end, goes_right, falls_right}
-use Rattle.i_tree.proofs.Contexts.{part_at-none}
-use Rattle.i_tree.proofs.SetParts.{parts_live}
-use Rattle.i_tree.proofs.SetSearch.{last_handle-end}
-use Rattle.i_tree.specs.RbTree.{Contents}
-use Rattle.i_tree.specs.Shape.{entries, left_at, occurs, last_handle}
+use Rattle.i_tree.proofs.CoreLemmas.Descent.{IsCutAt-top, cut_at_end, goes_right, falls_right}
+use Rattle.i_tree.proofs.CoreLemmas.Contexts.{part_at-none}
+use Rattle.i_tree.proofs.CoreLemmas.PartHandles.{parts_live}
+use Rattle.i_tree.proofs.SetLemmas.Search.{last_handle-end}
+use Rattle.i_tree.specs.Core.RbTree.{Contents}
+use Rattle.i_tree.specs.Core.Shape.{entries, left_at, occurs, last_handle}
 use Rattle.i_tree.proofs.set.tree.SetTree.last.Goals as goal
 
 pub loop-here-init : goal.loop-here-init

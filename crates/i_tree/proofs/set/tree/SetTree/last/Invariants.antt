@@ -1,6 +1,6 @@
 use Rattle.std.proofs.Common.{◌≡◌, ℕ, List, []}
-use Rattle.i_tree.proofs.SetDescent.{IsCutAt}
-use Rattle.i_tree.specs.Shape.{rank, part_at, last_handle}
+use Rattle.i_tree.proofs.CoreLemmas.Descent.{IsCutAt}
+use Rattle.i_tree.specs.Core.Shape.{rank, part_at, last_handle}
 use Rattle.i_tree.proofs.set.tree.SetTree.last.Given as goal
 
 -- Nothing stands behind the part, and the last pair in front of it is the last so far.

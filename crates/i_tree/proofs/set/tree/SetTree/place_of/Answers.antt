@@ -1,11 +1,11 @@
 use Rattle.std.proofs.Common.{of_calls, rules, ◌≡◌, [], ◌∷◌, ◌++◌, refl, sym, ap, ◌∙◌, subst, arith}
-use Rattle.i_tree.proofs.SetCounts.{OnlyCompares-none, OnlyCompares-more, ComparesWithin-rank}
-use Rattle.i_tree.proofs.SetDescent.{IsCutAt-top, cut_at_end, goes_left, goes_right, falls_left, falls_right}
-use Rattle.i_tree.proofs.Contexts.{part_at-none}
-use Rattle.i_tree.specs.RbTree.{Contents}
-use Rattle.i_tree.proofs.SetInsertion.{place_between}
-use Rattle.i_tree.specs.Place.{IsPlaceOf}
-use Rattle.i_tree.specs.Shape.{Shape, leaf, entries, rank, left_at, right_at, occurs}
+use Rattle.i_tree.proofs.RootLemmas.Counts.{OnlyCompares-none, OnlyCompares-more, ComparesWithin-rank}
+use Rattle.i_tree.proofs.CoreLemmas.Descent.{IsCutAt-top, cut_at_end, goes_left, goes_right, falls_left, falls_right}
+use Rattle.i_tree.proofs.CoreLemmas.Contexts.{part_at-none}
+use Rattle.i_tree.specs.Core.RbTree.{Contents}
+use Rattle.i_tree.proofs.CoreLemmas.Insertion.{place_between}
+use Rattle.i_tree.specs.Core.Place.{IsPlaceOf}
+use Rattle.i_tree.specs.Core.Shape.{Shape, leaf, entries, rank, left_at, right_at, occurs}
 use Rattle.i_tree.proofs.set.tree.SetTree.place_of.Goals as goal
 
 pub loop-here-init : goal.loop-here-init

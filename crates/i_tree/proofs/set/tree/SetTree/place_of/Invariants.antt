@@ -1,9 +1,9 @@
 use Rattle.std.proofs.Common.{◌≡◌, ◌≢◌, ◌≤◌, ◌+◌, ℕ, List}
 use Rattle.std.specs.declared.cmp.Ordering.TheVariants.{Less}
-use Rattle.i_tree.proofs.SetDescent.{IsCutAt}
-use Rattle.i_tree.specs.Compared.{OnlyCompares}
-use Rattle.i_tree.specs.Place.{IsPlaceOf}
-use Rattle.i_tree.specs.Shape.{rank, part_at}
+use Rattle.i_tree.proofs.CoreLemmas.Descent.{IsCutAt}
+use Rattle.i_tree.specs.Root.Compared.{OnlyCompares}
+use Rattle.i_tree.specs.Core.Place.{IsPlaceOf}
+use Rattle.i_tree.specs.Core.Shape.{rank, part_at}
 use Rattle.i_tree.proofs.set.tree.SetTree.place_of.Given as goal
 
 -- The last key in front of the part is below the key, and the first behind it isn't. The place is that of the part.

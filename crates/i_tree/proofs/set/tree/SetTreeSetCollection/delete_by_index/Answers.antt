@@ -1,7 +1,7 @@
-use Rattle.i_tree.proofs.SetHandles.{AreApart-from_handles, values-LosesAt}
-use Rattle.i_tree.proofs.SetLive.{IsOrdered-loses}
-use Rattle.i_tree.proofs.SetParts.{live-HasHandle}
-use Rattle.i_tree.specs.Shape.{entries}
+use Rattle.i_tree.proofs.SetLemmas.Handles.{AreApart-from_handles, values-LosesAt}
+use Rattle.i_tree.proofs.SetLemmas.Live.{IsOrdered-loses}
+use Rattle.i_tree.proofs.CoreLemmas.PartHandles.{live-HasHandle}
+use Rattle.i_tree.specs.Core.Shape.{entries}
 use Rattle.i_tree.proofs.set.tree.SetTreeSetCollection.delete_by_index.Goals as goal
 
 pub delete_over-requires-clause-live : goal.delete_over-requires-clause-live

@@ -1,4 +1,4 @@
-use Rattle.i_tree.proofs.SetHandles.{AreApart-from_handles}
+use Rattle.i_tree.proofs.SetLemmas.Handles.{AreApart-from_handles}
 use Rattle.i_tree.proofs.set.tree.SetTreeSetCollection.first_index_less_by.Goals as goal
 
 pub returns-clause-handles : goal.returns-clause-handles

@@ -1,10 +1,10 @@
 use Rattle.std.proofs.Common.{◌≡◌, subst}
 use Rattle.std.specs.Bool.{MatchBool}
-use Rattle.i_tree.proofs.SetParts.{HasHandle-live, LacksHandle-absent, MatchBool-weaker}
-use Rattle.i_tree.proofs.SetHandles.{AreApart-from_handles}
-use Rattle.i_tree.specs.RbTree.{Contents}
-use Rattle.i_tree.specs.Set.{HasHandle, LacksHandle}
-use Rattle.i_tree.specs.Shape.{entries, IsLive, occurs}
+use Rattle.i_tree.proofs.CoreLemmas.PartHandles.{HasHandle-live, LacksHandle-absent, MatchBool-weaker}
+use Rattle.i_tree.proofs.SetLemmas.Handles.{AreApart-from_handles}
+use Rattle.i_tree.specs.Core.RbTree.{Contents}
+use Rattle.i_tree.specs.Set.Pairs.{HasHandle, LacksHandle}
+use Rattle.i_tree.specs.Core.Shape.{entries, IsLive, occurs}
 use Rattle.i_tree.proofs.set.tree.SetTreeSetCollection.has_index.Goals as goal
 
 pub returns-clause-cases : goal.returns-clause-cases

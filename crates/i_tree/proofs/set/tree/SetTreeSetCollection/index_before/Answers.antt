@@ -1,9 +1,9 @@
 use Rattle.std.proofs.Common.{ap, sym, ◌∙◌, subst}
-use Rattle.i_tree.proofs.SetParts.{live-HasHandle}
-use Rattle.i_tree.proofs.SetHandles.{AreApart-from_handles}
-use Rattle.i_tree.proofs.SetLive.{HasHandle-before}
-use Rattle.i_tree.specs.RbTree.{Contents}
-use Rattle.i_tree.specs.Shape.{entries, IsLive}
+use Rattle.i_tree.proofs.CoreLemmas.PartHandles.{live-HasHandle}
+use Rattle.i_tree.proofs.SetLemmas.Handles.{AreApart-from_handles}
+use Rattle.i_tree.proofs.SetLemmas.Live.{HasHandle-before}
+use Rattle.i_tree.specs.Core.RbTree.{Contents}
+use Rattle.i_tree.specs.Core.Shape.{entries, IsLive}
 use Rattle.i_tree.proofs.set.tree.SetTreeSetCollection.index_before.Goals as goal
 
 pub before-requires : goal.before-requires

@@ -1,10 +1,10 @@
 use Rattle.std.proofs.Common.{◌≡◌, length, ap, sym, ◌∙◌, ⊎_elim, arith}
 use Rattle.std.proofs.lemmas.Bool.{cases_lt}
-use Rattle.i_tree.proofs.SetOrdered.{rising_from_last, way_on, rising_more, not_ordered, ordered_all, ordered_none}
-use Rattle.i_tree.proofs.SetParts.{live_from_cut}
-use Rattle.i_tree.proofs.SetHandles.{AreApart-from_handles}
-use Rattle.i_tree.specs.RbTree.{Contents}
-use Rattle.i_tree.specs.Shape.{entries}
+use Rattle.i_tree.proofs.SetLemmas.Ordered.{rising_from_last, way_on, rising_more, not_ordered, ordered_all, ordered_none}
+use Rattle.i_tree.proofs.CoreLemmas.PartHandles.{live_from_cut}
+use Rattle.i_tree.proofs.SetLemmas.Handles.{AreApart-from_handles}
+use Rattle.i_tree.specs.Core.RbTree.{Contents}
+use Rattle.i_tree.specs.Core.Shape.{entries}
 use Rattle.i_tree.proofs.set.tree.SetTreeSetCollection.is_ordered.Goals as goal
 
 pub loop-init : goal.loop-init

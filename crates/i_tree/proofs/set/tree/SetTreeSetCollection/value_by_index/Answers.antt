@@ -1,8 +1,8 @@
 use Rattle.std.proofs.Common.{ap, sym, ◌∙◌, subst}
-use Rattle.i_tree.proofs.SetParts.{value_at, live-HasHandle}
-use Rattle.i_tree.proofs.SetHandles.{AreApart-from_handles}
-use Rattle.i_tree.specs.RbTree.{Contents}
-use Rattle.i_tree.specs.Shape.{entries, IsLive}
+use Rattle.i_tree.proofs.CoreLemmas.PartHandles.{value_at, live-HasHandle}
+use Rattle.i_tree.proofs.SetLemmas.Handles.{AreApart-from_handles}
+use Rattle.i_tree.specs.Core.RbTree.{Contents}
+use Rattle.i_tree.specs.Core.Shape.{entries, IsLive}
 use Rattle.i_tree.proofs.set.tree.SetTreeSetCollection.value_by_index.Goals as goal
 
 pub item-requires : goal.item-requires

@@ -1,0 +1,129 @@
+-- A red-black part inside its frames: what is known of it and of them, and how ranks grow with it.
+use Rattle.std.proofs.Common.{◌≡◌, ℕ, ◌+◌, ◌<◌, ◌≤◌, ◌⊎◌, inl, inr, Bool, true, List, [], ◌∷◌, ◌++◌, refl, sym, ap, subst, arith}
+use Rattle.i_tree.specs.declared.rb.links.Colour.{Colour}
+use Rattle.i_tree.specs.declared.rb.links.Colour.TheVariants.{Red, Black}
+use Rattle.i_tree.specs.declared.rb.links.Side.{Side}
+use Rattle.i_tree.specs.declared.rb.links.Side.TheVariants.{Left, Right}
+use Rattle.i_tree.specs.Core.Shape.{Shape, leaf, fork, black_levels, rank}
+use Rattle.i_tree.specs.Core.Balance.{is_black, is_black_colour, is_black_around, level_of, IsRedBlack, MayStand, Fits}
+use Rattle.i_tree.specs.Core.Context.{Frame, fork_on, fill, plug}
+use Rattle.i_tree.proofs.CoreLemmas.Balance.{RanksFall-from_red_black}
+
+module _ {T : Type 0} where
+  pub plug-append : (inner outer : List (Frame T)) (part : Shape T) → plug (inner ++ outer) part ≡ plug outer (plug inner part)
+  plug-append [] outer part = refl
+  plug-append (frame ∷ inner) outer part = plug-append inner outer (fill frame part)
+
+  -- the parts of a red-black node
+  pub record HasParts (colour : Colour) (near far : Shape T) : Type 0 where
+    pub near_balanced : IsRedBlack near
+    pub far_balanced : IsRedBlack far
+    pub even : black_levels far ≡ black_levels near
+    pub black_near : colour ≡ Red → is_black near ≡ true
+    pub black_far : colour ≡ Red → is_black far ≡ true
+
+  pub HasParts-from : (side : Side) (colour : Colour) (near : Shape T) (handle : ℕ) (item : T) (far : Shape T)
+      → IsRedBlack (fork_on side colour near handle item far) → HasParts colour near far
+  HasParts-from Left Red near handle item far balanced =
+      record { near_balanced = balanced.0; far_balanced = balanced.1; even = sym balanced.2; black_near = λ _. balanced.3.0; black_far = λ _. balanced.3.1 }
+  HasParts-from Left Black near handle item far balanced =
+      record { near_balanced = balanced.0; far_balanced = balanced.1; even = sym balanced.2; black_near = λ red. cc; black_far = λ red. cc }
+  HasParts-from Right Red near handle item far balanced =
+      record { near_balanced = balanced.1; far_balanced = balanced.0; even = balanced.2; black_near = λ _. balanced.3.1; black_far = λ _. balanced.3.0 }
+  HasParts-from Right Black near handle item far balanced =
+      record { near_balanced = balanced.1; far_balanced = balanced.0; even = balanced.2; black_near = λ red. cc; black_far = λ red. cc }
+
+  -- how many levels a node has, along its near side
+  pub levels-fork_on : (side : Side) (colour : Colour) (near : Shape T) (handle : ℕ) (item : T) (far : Shape T)
+      → black_levels far ≡ black_levels near → black_levels (fork_on side colour near handle item far) ≡ black_levels near + level_of colour
+  levels-fork_on Left Red near handle item far even = omega arith
+  levels-fork_on Left Black near handle item far even = refl
+  levels-fork_on Right Red near handle item far even = omega arith
+  levels-fork_on Right Black near handle item far even = ap (λ (levels : ℕ). levels + 1) even
+
+  pub is_black-fork_on : (side : Side) (colour : Colour) (near : Shape T) (handle : ℕ) (item : T) (far : Shape T)
+      → is_black (fork_on side colour near handle item far) ≡ is_black_colour colour
+  is_black-fork_on Left colour near handle item far = refl
+  is_black-fork_on Right colour near handle item far = refl
+
+  -- what frames and their part are, where they make a red-black tree
+  pub record IsSplit (around : List (Frame T)) (part : Shape T) : Type 0 where
+    pub balanced : IsRedBlack part
+    pub fits : Fits around (black_levels part)
+    pub either : (is_black part ≡ true) ⊎ (is_black_around around ≡ true)
+
+  stands : (colour : Colour) (sibling : Shape T) (around : List (Frame T)) (black : Bool) → (colour ≡ Red → is_black sibling ≡ true)
+      → black ≡ is_black_colour colour → (black ≡ true) ⊎ (is_black_around around ≡ true) → MayStand colour sibling around
+  stands Red sibling around black black_far is (inl raised) = cc
+  stands Red sibling around black black_far is (inr around_black) = (black_far refl, around_black)
+  stands Black sibling around black black_far is either = tt
+
+  one_black : (colour : Colour) (part : Shape T) → (colour ≡ Red → is_black part ≡ true) → (is_black part ≡ true) ⊎ (is_black_colour colour ≡ true)
+  one_black Red part black_near = inl (black_near refl)
+  one_black Black part black_near = inr refl
+
+  pub IsSplit-from : (around : List (Frame T)) (part : Shape T) → IsRedBlack (plug around part) → IsSplit around part
+  IsSplit-from [] part balanced = record { balanced = balanced; fits = tt; either = inr refl }
+  IsSplit-from (frame ∷ around) part balanced =
+      let outer = IsSplit-from around (fill frame part) balanced in
+      let parts = HasParts-from frame.side frame.colour part frame.handle frame.item frame.sibling outer.balanced in
+      let levels = levels-fork_on frame.side frame.colour part frame.handle frame.item frame.sibling parts.even in
+      let P : ℕ → Type 0 = λ count. Fits around count in
+      record {
+        balanced = parts.near_balanced;
+        fits = (
+          parts.far_balanced,
+          parts.even,
+          stands frame.colour frame.sibling around (is_black (fill frame part)) parts.black_far (is_black-fork_on frame.side frame.colour part frame.handle frame.item frame.sibling) outer.either,
+          subst P levels outer.fits,
+        );
+        either = one_black frame.colour part parts.black_near;
+      }
+
+  pub IsSplit-of : (tree : Shape T) (around : List (Frame T)) (part : Shape T) → tree ≡ plug around part → IsRedBlack tree → IsSplit around part
+  IsSplit-of tree around part is balanced = IsSplit-from around part (subst IsRedBlack is balanced)
+
+  -- the levels and the rank of one part are at most those of the other
+  pub record IsLower (one other : Shape T) : Type 0 where
+    pub levels : black_levels one ≤ black_levels other
+    pub ranks : rank one ≤ rank other
+
+  lower_fill : (side : Side) (colour : Colour) (one other : Shape T) (handle : ℕ) (item : T) (far : Shape T) → IsLower one other
+      → IsLower (fork_on side colour one handle item far) (fork_on side colour other handle item far)
+  lower_fill Left Red one other handle item far lower = let levels = lower.levels in record { levels = levels; ranks = omega arith }
+  lower_fill Left Black one other handle item far lower = let levels = lower.levels in record { levels = omega arith; ranks = omega arith }
+  lower_fill Right Red one other handle item far lower = record { levels = omega arith; ranks = omega arith }
+  lower_fill Right Black one other handle item far lower = record { levels = omega arith; ranks = omega arith }
+
+  pub IsLower-plug : (around : List (Frame T)) (one other : Shape T) → IsLower one other → IsLower (plug around one) (plug around other)
+  IsLower-plug [] one other lower = lower
+  IsLower-plug (frame ∷ around) one other lower =
+      IsLower-plug around (fill frame one) (fill frame other) (lower_fill frame.side frame.colour one other frame.handle frame.item frame.sibling lower)
+
+  -- a node with an empty part, and its other part
+  pub record IsGone (colour : Colour) (part node : Shape T) : Type 0 where
+    pub part_balanced : IsRedBlack part
+    pub none : black_levels part ≡ 0
+    pub levels : black_levels node ≡ black_levels part + level_of colour
+    pub lower : IsLower part node
+    pub red : colour ≡ Red → is_black part ≡ true
+
+  falls_on : (side : Side) (colour : Colour) (near : Shape T) (handle : ℕ) (item : T) (far : Shape T) → IsRedBlack (fork_on side colour near handle item far)
+      → rank near < rank (fork_on side colour near handle item far)
+  falls_on Left colour near handle item far balanced = (RanksFall-from_red_black (fork colour near handle item far) balanced).0
+  falls_on Right colour near handle item far balanced = (RanksFall-from_red_black (fork colour far handle item near) balanced).1
+
+  pub IsGone-from : (side : Side) (colour : Colour) (part : Shape T) (handle : ℕ) (item : T)
+      → IsRedBlack (fork_on side colour part handle item leaf) → IsGone colour part (fork_on side colour part handle item leaf)
+  IsGone-from side colour part handle item balanced =
+      let parts = HasParts-from side colour part handle item leaf balanced in
+      let even = parts.even in
+      let levels = levels-fork_on side colour part handle item leaf even in
+      let falls = falls_on side colour part handle item leaf balanced in
+      record {
+        part_balanced = parts.near_balanced;
+        none = sym even;
+        levels = levels;
+        lower = record { levels = omega arith; ranks = omega arith };
+        red = parts.black_near;
+      }

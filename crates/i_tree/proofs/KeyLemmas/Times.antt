@@ -1,0 +1,72 @@
+-- Facts on times and on what is live at them.
+use Rattle.std.proofs.Common.{◌≡◌, ℕ, ◌+◌, ◌<◌, true, false, Option, Some, List, length, get_or, take, refl, ap, ◌∙◌, subst}
+use Rattle.std.specs.Cmp.{IsTotalOrder, upto, tied_itself}
+use Rattle.std.specs.Ordering.{is_gt, is_lt, is_some_and, ord_min, ordering_reverse, partial_gt}
+use Rattle.std.specs.declared.cmp.Ordering.{Ordering}
+use Rattle.std.specs.declared.cmp.Ordering.TheVariants.{Less, Equal, Greater}
+use Rattle.std.specs.List.{insert}
+use Rattle.std.proofs.lemmas.Bool.{cond_both, both_ways, true_from_ne_false}
+use Rattle.std.proofs.lemmas.List.Elements.{All-more, All-weaker}
+use Rattle.i_tree.specs.Key.Live.{is_live, live_pairs, NoneExpiresBefore}
+use Rattle.i_tree.proofs.RootLemmas.Lists.{All-insert, filter_all}
+
+-- what `>` answers, by `cmp`
+pub gt_from_cmp : {E : Type 0} (partial-cmp : E → E → Option Ordering) (cmp : E → E → Ordering) → ((x y : E) → partial-cmp x y ≡ Some (cmp x y)) → (x y : E) → partial_gt partial-cmp x y ≡ is_gt (cmp x y)
+gt_from_cmp partial-cmp cmp same x y = ap (is_some_and is_gt) (same x y)
+
+module _ {E : Type 0} {cmp : E → E → Ordering} (o : IsTotalOrder cmp) where
+  -- the lesser of two times is after nothing that the first is not after
+  pub not_after-min : (a b x : E) → is_gt (cmp a x) ≡ false → is_gt (cmp (ord_min cmp a b) x) ≡ false
+  not_after-min a b x h =
+      cond_both (is_lt (cmp b a)) b a (λ m. is_gt (cmp m x) ≡ false)
+      (λ below. upto o b a x (not_gt (cmp b a) below) h)
+      (λ _. h)
+    where
+      not_gt : (r : Ordering) → is_lt r ≡ true → is_gt r ≡ false
+      not_gt Less h = refl
+      not_gt Equal h = refl
+      not_gt Greater h = absurd (both_ways false refl h)
+
+  -- nor is it after the second
+  pub not_after-min_second : (a b : E) → is_gt (cmp (ord_min cmp a b) b) ≡ false
+  not_after-min_second a b =
+      cond_both (is_lt (cmp b a)) b a (λ m. is_gt (cmp m b) ≡ false)
+      (λ _. ap is_gt (tied_itself o b))
+      (λ level. ap is_gt (o.antisymm a b) ∙ turned (cmp b a) level)
+    where
+      turned : (r : Ordering) → is_lt r ≡ false → is_gt (ordering_reverse r) ≡ false
+      turned Less h = absurd (both_ways true h refl)
+      turned Equal h = refl
+      turned Greater h = refl
+
+  module _ {K V : Type 0} (expiration : K → E) where
+    -- none expires before a bound, and so none before the lesser of it and another time
+    NoneExpiresBefore-min : (bound other : E) (pairs : List (K × V)) → NoneExpiresBefore expiration cmp bound pairs → NoneExpiresBefore expiration cmp (ord_min cmp bound other) pairs
+    NoneExpiresBefore-min bound other pairs =
+        All-weaker (λ pair. is_gt (cmp bound (expiration pair.0)) ≡ false) (λ pair. is_gt (cmp (ord_min cmp bound other) (expiration pair.0)) ≡ false)
+        (λ pair. not_after-min bound other (expiration pair.0))
+        pairs
+
+    -- a loop's step, which takes the lesser of the bound and the next expiration
+    pub NoneExpiresBefore-more : (bound : E) (pairs : List (K × V)) (i : ℕ) (pair : K × V) → i < length pairs → pair ≡ get_or pairs i pair → NoneExpiresBefore expiration cmp bound (take i pairs) → NoneExpiresBefore expiration cmp (ord_min cmp bound (expiration pair.0)) (take (i + 1) pairs)
+    NoneExpiresBefore-more bound pairs i pair within is h =
+        let least = ord_min cmp bound (expiration pair.0) in
+        let NotBefore : K × V → Type 0 = λ other. is_gt (cmp least (expiration other.0)) ≡ false in
+        All-more NotBefore pairs i pair within
+        (NoneExpiresBefore-min bound (expiration pair.0) (take i pairs) h)
+        (subst NotBefore is (not_after-min_second bound (expiration pair.0)))
+
+    -- a pair joins, and the bound becomes the lesser of it and the pair's expiration
+    pub NoneExpiresBefore-insert : (bound : E) (pairs : List (K × V)) (place : ℕ) (pair : K × V) → NoneExpiresBefore expiration cmp bound pairs → NoneExpiresBefore expiration cmp (ord_min cmp bound (expiration pair.0)) (insert pairs place pair)
+    NoneExpiresBefore-insert bound pairs place pair h =
+        All-insert (λ other. is_gt (cmp (ord_min cmp bound (expiration pair.0)) (expiration other.0)) ≡ false) pairs place pair
+        (NoneExpiresBefore-min bound (expiration pair.0) pairs h)
+        (not_after-min_second bound (expiration pair.0))
+
+    -- before a time before which nothing expires all are live
+    pub live_pairs-early : (bound time : E) (pairs : List (K × V)) → is_gt (cmp bound time) ≡ true → NoneExpiresBefore expiration cmp bound pairs → live_pairs expiration cmp time pairs ≡ pairs
+    live_pairs-early bound time pairs early h =
+        filter_all (λ pair. is_live expiration cmp time pair.0) pairs
+        (All-weaker (λ pair. is_gt (cmp bound (expiration pair.0)) ≡ false) (λ pair. is_live expiration cmp time pair.0 ≡ true)
+        (λ pair not_after. true_from_ne_false (is_live expiration cmp time pair.0) (λ expired. both_ways (is_gt (cmp bound time)) (upto o bound (expiration pair.0) time not_after expired) early))
+        pairs h)

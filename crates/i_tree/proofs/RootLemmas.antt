@@ -1,0 +1,8 @@
+-- Lemmas on lists, rising keys, halving and counts.
+pub mod Counts
+pub mod Halving
+pub mod Joined
+pub mod Lists
+pub mod Monotone
+pub mod RisingKeys
+pub mod Withouts

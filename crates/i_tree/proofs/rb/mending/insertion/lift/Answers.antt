@@ -1,0 +1,40 @@
+use Rattle.std.proofs.Common.{inl, inr, sym, ap, ◌∙◌, subst, rules}
+use Rattle.i_tree.specs.Core.RbTree.{Contents}
+use Rattle.i_tree.proofs.CoreLemmas.BalanceFrames.{Turns, entries-turned}
+use Rattle.i_tree.proofs.CoreLemmas.MendingInsertion.{IsStraightened, IsLeaning-joined, IsLive-under_parent, CanTurn-inner, CanTurn-leaning, balanced-lifted}
+use Rattle.i_tree.proofs.rb.mending.insertion.lift.Goals as goal
+use Rattle.i_tree.proofs.rb.mending.insertion.lift.Goals.{then-child-node, else-child-node}
+
+pub child-requires : goal.child-requires
+child-requires g c = IsLive-under_parent c.requires.uncle.0
+
+pub rotate-requires : goal.rotate-requires
+rotate-requires g c = CanTurn-inner c.requires.uncle.0 c.other.result c.other.ensures c.child.result c.child.ensures c.requires.handles c.if-child-node.true
+
+pub rotate-requires-2 : goal.rotate-requires-2
+rotate-requires-2 g c =
+    let tree = c.args.arena.now.shape in
+    let new = c.if-child-node.arena.shape in
+    let straightened : IsStraightened tree new c.args.node c.args.parent c.args.side c.child.result = elim c.if-child-node.branch [
+      | then-child-node w ↦ inl (w.if-child-node.true, subst (λ (contents : Contents g.row.T.Denot). Turns c.args.parent c.args.side tree contents.shape) (sym w.arena-is) w.rotate.ensures.shape)
+      | else-child-node w ↦ inr (w.if-child-node.false, ap (λ (contents : Contents g.row.T.Denot). contents.shape) w.arena-is)
+    ] in
+    let (lean, kept) = IsLeaning-joined c.requires.uncle.0 c.other.result c.other.ensures c.child.result c.child.ensures c.requires.handles c.requires.uncle.1 new straightened in
+    CanTurn-leaning c.other-2.ensures lean
+
+pub returns : goal.returns
+returns g c =
+    let tree = c.args.arena.now.shape in
+    let new = c.if-child-node.arena.shape in
+    let straightened : IsStraightened tree new c.args.node c.args.parent c.args.side c.child.result = elim c.if-child-node.branch [
+      | then-child-node w ↦ inl (w.if-child-node.true, subst (λ (contents : Contents g.row.T.Denot). Turns c.args.parent c.args.side tree contents.shape) (sym w.arena-is) w.rotate.ensures.shape)
+      | else-child-node w ↦ inr (w.if-child-node.false, ap (λ (contents : Contents g.row.T.Denot). contents.shape) w.arena-is)
+    ] in
+    let (lean, kept) = IsLeaning-joined c.requires.uncle.0 c.other.result c.other.ensures c.child.result c.child.ensures c.requires.handles c.requires.uncle.1 new straightened in
+    record {
+      balanced = balanced-lifted c.other-2.ensures lean c.rotate-2.new.self.shape c.rotate-2.ensures.shape;
+      entries = entries-turned c.args.grandparent c.other-2.result new c.rotate-2.new.self.shape (CanTurn-leaning c.other-2.ensures lean) c.rotate-2.ensures.shape ∙ kept;
+      spare = search rules;
+      handles = c.rotate-2.ensures.handles;
+      steps = search rules;
+    }

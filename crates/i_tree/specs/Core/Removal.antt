@@ -1,0 +1,46 @@
+-- How a removal changes the core.
+use Rattle.std.specs.Prelude.{◌≡◌, ◌⊎◌, ℕ, ◌+◌, ◌≤◌, List, ◌∷◌, ◌++◌}
+use Rattle.i_tree.specs.declared.rb.links.Colour.{Colour}
+use Rattle.i_tree.specs.declared.rb.links.Side.{Side}
+use Rattle.i_tree.specs.Core.Context.{Frame, fork_on, plug}
+use Rattle.i_tree.specs.Core.Shape.{Shape, entries, rank, IsLive}
+use Rattle.i_tree.specs.Root.Steps.{Counts}
+
+module _ {T : Type 0} where
+  -- a list that was cut at the handle's pair has lost that pair; all others have their handles, or the next one alone
+  -- has this handle now
+  abbrev pub LosesAt : ℕ → List (ℕ × T) → List (ℕ × T) → List (ℕ × T) → Type 0
+  LosesAt handle front back after =
+      (after ≡ front ++ back)
+      ⊎ ((next : ℕ) × (item : T) × (rest : List (ℕ × T)) × (back ≡ (next, item) ∷ rest) × (after ≡ front ++ (handle, item) ∷ rest))
+
+  -- the node above is live, the list has changed on its side alone, and the rank of that side hasn't risen
+  pub record ChangesSide (old new : Shape T) (above : ℕ) (old_side new_side : Shape T) : Type 0 where
+    pub live : IsLive new above
+    pub rest : (front back : List (ℕ × T)) → entries old ≡ front ++ (entries old_side ++ back) → entries new ≡ front ++ (entries new_side ++ back)
+    pub rank : rank new_side ≤ rank old_side
+
+  -- the node has its item and this part on the side
+  pub record KeepsPart (tree : Shape T) (handle : ℕ) (side : Side) (near : Shape T) (item : T) : Type 0 where
+    pub around : List (Frame T)
+    pub colour : Colour
+    pub far : Shape T
+    pub is : tree ≡ plug around (fork_on side colour near handle item far)
+
+  -- the node has its item, and on the side a part with these entries, whose rank is at most so much
+  pub record MendsPart (tree : Shape T) (handle : ℕ) (side : Side) (item : T) (list : List (ℕ × T)) (most : ℕ) : Type 0 where
+    pub around : List (Frame T)
+    pub colour : Colour
+    pub part : Shape T
+    pub far : Shape T
+    pub is : tree ≡ plug around (fork_on side colour part handle item far)
+    pub entries_are : entries part ≡ list
+    pub ranks : rank part ≤ most
+
+-- one removal and at most so many rotations were made, and nothing else that is counted
+pub record RemovesOne (old new : Counts) (most : ℕ) : Type 0 where
+  pub comparisons : new.comparisons ≡ old.comparisons
+  pub tests : new.tests ≡ old.tests
+  pub removals : new.removals ≡ old.removals + 1
+  pub no_fewer : old.rotations ≤ new.rotations
+  pub at_most : new.rotations ≤ old.rotations + most

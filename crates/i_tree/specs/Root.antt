@@ -1,0 +1,10 @@
+-- Definitions that all containers share: lists of keys and values, what a query answers, and counts.
+pub mod Answer
+pub mod Change
+pub mod Compared
+pub mod Descent
+pub mod Ends
+pub mod Halving
+pub mod Levels
+pub mod Pairs
+pub mod Steps

@@ -1,0 +1,77 @@
+ghost use Rattle.std.specs.Prelude.{◌≡◌, ◌≢◌, true, List};
+ghost use Rattle.i_tree.specs.Core.Balance.{is_black, IsRedBlack, IsRaised};
+ghost use Rattle.i_tree.specs.Core.Context.{Frame, fork_on, plug};
+ghost use Rattle.i_tree.specs.Core.Mending.{IsUnderRed};
+ghost use Rattle.i_tree.specs.Core.Shape.{Shape, top, entries, AreHandles};
+ghost use Rattle.i_tree.specs.Root.Steps.{OnlyRotates};
+
+use super::side_of;
+use crate::EMPTY_REF;
+use crate::rb::arena::Arena;
+use crate::rb::links::{Colour, Side};
+use crate::steps::Steps;
+use std::alloc::Allocator;
+use std::sync::ledger::Ledger;
+
+/// Mends a tree that is red-black but for this red node, which may stand under a red one.
+///
+/// The order and the handles stay. At most two rotations are made, each at the loop's last turn.
+pub fn mend_insertion<T, A: Allocator + Copy, L: Ledger>(
+    arena: &mut Arena<T, A>,
+    steps: &mut Steps<L>,
+    added: u32,
+)
+    requires { IsRaised arena.old.shape added }
+    ensures balanced { IsRedBlack arena.new.shape }
+    ensures entries { entries arena.new.shape ≡ entries arena.old.shape }
+    ensures spare { arena.new.spare ≡ arena.old.spare }
+    ensures handles { AreHandles arena.new.shape }
+    ensures steps { OnlyRotates steps.old steps.new 2 }
+{
+    let mut node = added;
+    loop {
+        let parent = arena.parent(node);
+        if arena.is_black(parent) {
+            return;
+        }
+        let grandparent = arena.parent(parent);
+        if grandparent == EMPTY_REF {
+            arena.paint(parent, Colour::Black);
+            return;
+        }
+        let side = side_of(arena, grandparent, parent);
+        let uncle = arena.child(grandparent, side.other());
+        if arena.is_black(uncle) {
+            lift(arena, steps, node, parent, grandparent, side);
+            return;
+        }
+        arena.paint(parent, Colour::Black);
+        arena.paint(uncle, Colour::Black);
+        arena.paint(grandparent, Colour::Red);
+        node = grandparent;
+    }
+}
+
+// Ends the mending where the uncle is black: the parent, or the node from between parent and grandparent, goes up to
+// the grandparent's place.
+fn lift<T, A: Allocator + Copy, L: Ledger>(
+    arena: &mut Arena<T, A>,
+    steps: &mut Steps<L>,
+    node: u32,
+    parent: u32,
+    grandparent: u32,
+    side: Side,
+)
+    requires handles { AreHandles arena.old.shape }
+    requires uncle { (under : IsUnderRed arena.old.shape node parent grandparent side) × (is_black under.uncle ≡ true) }
+    ensures balanced { IsRedBlack arena.new.shape }
+    ensures entries { entries arena.new.shape ≡ entries arena.old.shape }
+    ensures spare { arena.new.spare ≡ arena.old.spare }
+    ensures handles { AreHandles arena.new.shape }
+    ensures steps { OnlyRotates steps.old steps.new 2 }
+{
+    if arena.child(parent, side.other()) == node {
+        arena.rotate(steps, parent, side);
+    }
+    arena.rotate(steps, grandparent, side.other());
+}
