@@ -9,6 +9,7 @@ pub mod Detaching
 pub mod Growth
 pub mod Insertion
 pub mod Items
+pub mod Looking
 pub mod MendingInsertion
 pub mod MendingRemoval
 pub mod MendingRemovalStep
@@ -27,3 +28,4 @@ pub mod Turning
 pub mod TurningItems
 pub mod TurningReads
 pub mod TurningRound
+pub mod WayCounts

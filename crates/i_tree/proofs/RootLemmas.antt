@@ -1,5 +1,6 @@
 -- Lemmas on lists, rising keys, halving and counts.
 pub mod Counts
+pub mod Cuts
 pub mod Halving
 pub mod Joined
 pub mod Lists

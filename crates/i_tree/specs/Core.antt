@@ -15,3 +15,4 @@ pub mod ShapeCode
 pub mod Slots
 pub mod Taking
 pub mod Turns
+pub mod Ways

@@ -1,7 +1,7 @@
 -- Definitions that all containers share: lists of keys and values, what a query answers, and counts.
 pub mod Answer
 pub mod Change
-pub mod Compared
+pub mod Counting
 pub mod Descent
 pub mod Ends
 pub mod Halving

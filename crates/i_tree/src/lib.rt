@@ -8,9 +8,12 @@ ghost use Rattle.std.specs.Prelude.{◌≡◌};
 ghost use Rattle.i_tree.specs.declared.Refusal.TheVariants.{OutOfMemory};
 
 mod halving;
+mod inserting;
 pub mod key;
+mod looking;
 mod place;
 pub mod rb;
+mod select;
 pub mod set;
 pub mod steps;
 

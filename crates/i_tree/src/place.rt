@@ -8,10 +8,9 @@ ghost use Rattle.i_tree.specs.Core.Shape.{leaf, top, entries, occurs, part_at, I
 ghost use Rattle.i_tree.specs.Root.Steps.{OnlyRotates};
 
 use crate::rb::RbTree;
-use crate::steps::Steps;
+use crate::steps::Counter;
 use crate::{EMPTY_REF, Refusal, Refused};
 use std::alloc::Allocator;
-use std::sync::ledger::Ledger;
 
 /// The place of the root, or that of a part below a handle.
 #[derive(Clone, Copy)]
@@ -37,9 +36,9 @@ pub fn top_at<T, A: Allocator + Copy>(core: &RbTree<T, A>, place: Place) -> u32
 }
 
 /// Puts the item at the place, where no part is, and answers its handle.
-pub fn insert_at<T, A: Allocator + Copy, L: Ledger>(
+pub fn insert_at<T, A: Allocator + Copy, C: Counter>(
     core: &mut RbTree<T, A>,
-    steps: &mut Steps<L>,
+    steps: &mut C,
     place: Place,
     item: T,
 ) -> Result<u32, Refused<T>>
@@ -53,7 +52,7 @@ pub fn insert_at<T, A: Allocator + Copy, L: Ledger>(
     ensures handed { IfErr result (λ refused. refused.value ≡ item) }
     ensures no_handle { core.old.spare ≡ 0 → slots core.old ≡ EMPTY_REF → IsErrAnd result (λ refused. refused.cause ≡ Refusal.NoHandle) }
     ensures refused { slots core.old ≢ EMPTY_REF → IfErr result (λ refused. refused.cause ≡ Refusal.OutOfMemory) }
-    ensures steps { OnlyRotates steps.old steps.new 2 }
+    ensures steps { OnlyRotates C.made steps.old steps.new 2 }
     ensures core { IsCore core.new.shape }
 {
     match place {

@@ -1,10 +1,38 @@
 //! Counts of what a call does, for contracts alone.
 
 ghost use Rattle.std.specs.Prelude.{◌≡◌, ◌<◌, ◌+◌};
-ghost use Rattle.i_tree.specs.Root.Steps.{Counts};
+ghost use Rattle.i_tree.specs.Root.Steps.{Counts, one_comparison, one_test, one_removal, one_rotation, Accumulates};
 
 use std::marker::Model;
 use std::sync::ledger::{Blank, Book, Ledger, Share};
+
+/// What a call counts its steps by: one `add_` call beside each thing that is counted.
+///
+/// `Steps` counts what was made. The plain calls, which promise nothing of their steps, count by a counter of their own that
+/// keeps nothing. The trait is our own, and not of the Rust crate.
+pub trait Counter {
+    /// Which counts were made from an old state to a new one.
+    ghost made: { Self → Self → Counts → Type 0 };
+
+    /// Counts one comparison of two keys, or of a key with what is looked for.
+    fn add_comparison(&mut self)
+        ensures { made self.old self.new one_comparison };
+
+    /// Counts one test whether an entry is expired.
+    fn add_test(&mut self)
+        ensures { made self.old self.new one_test };
+
+    /// Counts one removal of an entry.
+    fn add_removal(&mut self)
+        ensures { made self.old self.new one_removal };
+
+    /// Counts one rotation.
+    fn add_rotation(&mut self)
+        ensures { made self.old self.new one_rotation };
+
+    /// Nothing is made between a state and itself, and what is made one after the other is made together.
+    ghost law: { Accumulates made };
+}
 
 /// How many comparisons of keys, tests of an expiration, removals and rotations were made.
 ///
@@ -56,44 +84,52 @@ impl<L: Ledger> Steps<L> {
             rotations,
         }
     }
+}
 
-    /// Counts one comparison of two keys, or of a key with what is looked for.
-    pub fn add_comparison(&mut self)
-        ensures comparisons { self.new.comparisons ≡ self.old.comparisons + 1 }
-        ensures tests { self.new.tests ≡ self.old.tests }
-        ensures removals { self.new.removals ≡ self.old.removals }
-        ensures rotations { self.new.rotations ≡ self.old.rotations }
-    {
+/// The new counts are the old ones and what was made since.
+impl<L: Ledger> Counter for Steps<L> {
+    ghost use Rattle.i_tree.specs.Root.Steps.{Adds};
+    ghost use Rattle.i_tree.specs.Root.Counting.{Adds-accumulate};
+
+    ghost made = { Adds };
+
+    fn add_comparison(&mut self) {
         self.book.add(&mut self.comparisons, 1);
     }
 
-    /// Counts one test whether an entry is expired.
-    pub fn add_test(&mut self)
-        ensures comparisons { self.new.comparisons ≡ self.old.comparisons }
-        ensures tests { self.new.tests ≡ self.old.tests + 1 }
-        ensures removals { self.new.removals ≡ self.old.removals }
-        ensures rotations { self.new.rotations ≡ self.old.rotations }
-    {
+    fn add_test(&mut self) {
         self.book.add(&mut self.tests, 1);
     }
 
-    /// Counts one removal of an entry.
-    pub fn add_removal(&mut self)
-        ensures comparisons { self.new.comparisons ≡ self.old.comparisons }
-        ensures tests { self.new.tests ≡ self.old.tests }
-        ensures removals { self.new.removals ≡ self.old.removals + 1 }
-        ensures rotations { self.new.rotations ≡ self.old.rotations }
-    {
+    fn add_removal(&mut self) {
         self.book.add(&mut self.removals, 1);
     }
 
-    /// Counts one rotation.
-    pub fn add_rotation(&mut self)
-        ensures comparisons { self.new.comparisons ≡ self.old.comparisons }
-        ensures tests { self.new.tests ≡ self.old.tests }
-        ensures removals { self.new.removals ≡ self.old.removals }
-        ensures rotations { self.new.rotations ≡ self.old.rotations + 1 }
-    {
+    fn add_rotation(&mut self) {
         self.book.add(&mut self.rotations, 1);
     }
+
+    ghost law = { Adds-accumulate };
+}
+
+/// A counter that keeps nothing and takes no bytes: a plain call is its counted form over it.
+#[derive(Drop)]
+pub(crate) struct Uncounted;
+
+/// Any counts may have been made.
+impl Counter for Uncounted {
+    ghost use Rattle.std.specs.Prelude.{⊤};
+    ghost use Rattle.i_tree.specs.Root.Counting.{any-accumulate};
+
+    ghost made = { λ _ _ _. ⊤ };
+
+    fn add_comparison(&mut self) {}
+
+    fn add_test(&mut self) {}
+
+    fn add_removal(&mut self) {}
+
+    fn add_rotation(&mut self) {}
+
+    ghost law = { any-accumulate };
 }

@@ -3,11 +3,11 @@ use Rattle.std.proofs.Common.{◌≡◌, ◌≢◌, ◌⊎◌, ⊎_elim, inl, in
 use Rattle.std.proofs.Math.Nat.{mul-suc}
 use Rattle.std.proofs.lemmas.List.{length-map}
 use Rattle.std.proofs.lemmas.List.Elements.{All-head, All-tail}
-use Rattle.i_tree.specs.Root.Descent.{Adds, Descends, LooksFor}
+use Rattle.i_tree.specs.Root.Descent.{Descends, LooksDown}
 use Rattle.i_tree.specs.Key.KeyExpTree.{items, slots_for}
 use Rattle.i_tree.specs.Core.RbTree.{Contents, slots, slots_grown}
 use Rattle.i_tree.specs.Core.Shape.{entries}
-use Rattle.i_tree.specs.Root.Steps.{Counts}
+use Rattle.i_tree.specs.Root.Steps.{Counts, Adds, nothing, together}
 use Rattle.i_tree.specs.declared.Refusal.{Refusal}
 use Rattle.itree_lib.specs.CountedRun.{one_if_inserted, CountsOne, CountsRun, RefusedOnlyWhereFull}
 use Rattle.itree_lib.specs.KeyReplies.{IsReplyTo, RepliesTo}
@@ -34,7 +34,7 @@ module _ {K V : Type 0} where
   pub counts_clear : (steps : Counts) (tree tree' : Contents (K × V)) → length (items tree'.shape) ≡ 0 → slots tree' ≡ slots tree → CountsOne Cleared steps tree steps tree'
   counts_clear steps tree tree' empty same =
       record {
-        made = record { comparisons = 0; tests = 0; removals = 0; rotations = 0 };
+        made = nothing;
         adds = record { comparisons = omega arith; tests = omega arith; removals = omega arith; rotations = omega arith };
         compares = λ levels small. omega arith;
         turns = omega arith;
@@ -45,42 +45,38 @@ module _ {K V : Type 0} where
       }
 
   -- a look for the key, and the insertion
-  module _ (old mid new : Counts) (tree tree' : Contents (K × V)) (look : LooksFor old mid (length (items tree.shape))) where
-    abbrev both : Counts → Counts → Counts
-    both first second =
-        record { comparisons = first.comparisons + second.comparisons; tests = first.tests + second.tests; removals = first.removals + second.removals; rotations = first.rotations + second.rotations }
-
-    adds_both : (made : Counts) → Adds mid made new → Adds old (both look.made made) new
+  module _ (old mid new : Counts) (tree tree' : Contents (K × V)) (look : LooksDown Adds old mid (length (items tree.shape)) 1 0) where
+    adds_both : (made : Counts) → Adds mid new made → Adds old new (together look.made made)
     adds_both made adds =
         record {
-          comparisons = omega (arith, look.adds.comparisons, adds.comparisons);
-          tests = omega (arith, look.adds.tests, adds.tests);
-          removals = omega (arith, look.adds.removals, adds.removals);
-          rotations = omega (arith, look.adds.rotations, adds.rotations);
+          comparisons = omega (arith, look.counted.comparisons, adds.comparisons);
+          tests = omega (arith, look.counted.tests, adds.tests);
+          removals = omega (arith, look.counted.removals, adds.removals);
+          rotations = omega (arith, look.counted.rotations, adds.rotations);
         }
 
-    pub counts_inserted : Descends mid new (length (items tree.shape)) (length (items tree'.shape)) 1 → slots tree' ≡ slots_for tree (length (items tree'.shape)) → CountsOne Inserted old tree new tree'
+    pub counts_inserted : Descends Adds mid new (length (items tree.shape)) (length (items tree'.shape)) 1 → slots tree' ≡ slots_for tree (length (items tree'.shape)) → CountsOne Inserted old tree new tree'
     counts_inserted way grown =
         let of_items = length-map (entries tree'.shape) (λ (entry : ℕ × (K × V)). entry.1) in
         record {
-          made = both look.made way.made;
-          adds = adds_both way.made way.adds;
+          made = together look.made way.made;
+          adds = adds_both way.made way.counted;
           compares = λ levels small. let first = look.compares levels small in let second = way.compares levels small in omega (arith, first, second);
-          turns = omega (arith, way.turns, look.turns_none, look.removes_none);
-          stores = λ _. omega (arith, way.stores, look.removes_none);
+          turns = omega (arith, way.turns, look.turns, look.removals);
+          stores = λ _. omega (arith, way.stores, look.removals);
           clears = λ is. absurd (cc (is));
           slots_stay = let no_fewer = slots_no_fewer (slots tree - length (items tree'.shape)) (slots tree) (length (items tree'.shape)) tree'.spare refl (omega (arith, grown, of_items)) in omega (arith, no_fewer, of_items);
           refused = λ cause is. absurd (cc (is));
         }
 
-    pub counts_refused : (cause : Refusal) → Descends mid new (length (items tree.shape)) (length (items tree'.shape)) 0 → tree' ≡ tree → (0 < tree.spare → ⊥) → CountsOne (Refused cause) old tree new tree'
+    pub counts_refused : (cause : Refusal) → Descends Adds mid new (length (items tree.shape)) (length (items tree'.shape)) 0 → tree' ≡ tree → (0 < tree.spare → ⊥) → CountsOne (Refused cause) old tree new tree'
     counts_refused cause way same full =
         record {
-          made = both look.made way.made;
-          adds = adds_both way.made way.adds;
+          made = together look.made way.made;
+          adds = adds_both way.made way.counted;
           compares = λ levels small. let first = look.compares levels small in let second = way.compares levels small in omega (arith, first, second);
-          turns = omega (arith, way.turns, look.turns_none, look.removes_none);
-          stores = λ _. omega (arith, way.stores, look.removes_none);
+          turns = omega (arith, way.turns, look.turns, look.removals);
+          stores = λ _. omega (arith, way.stores, look.removals);
           clears = λ is. absurd (cc (is));
           slots_stay = omega (arith, ap slots same);
           refused = λ _ _. by_spare tree.spare full;
@@ -122,7 +118,7 @@ module _ {K V : Type 0} where
     counts_run [] [] old tree new tree' each done =
         let stored = ap (λ (contents : Contents (K × V)). length (items contents.shape)) done.1 in
         record {
-          made = record { comparisons = 0; tests = 0; removals = 0; rotations = 0 };
+          made = nothing;
           adds = record { comparisons = omega (arith, ap (λ (counts : Counts). counts.comparisons) done.0); tests = omega (arith, ap (λ (counts : Counts). counts.tests) done.0); removals = omega (arith, ap (λ (counts : Counts). counts.removals) done.0); rotations = omega (arith, ap (λ (counts : Counts). counts.rotations) done.0) };
           turns = omega (arith, stored);
           removes = omega (arith, stored);
@@ -135,12 +131,7 @@ module _ {K V : Type 0} where
         let more = counts_run commands replies mid tree-mid new tree' each.1 rest in
         let no_more = no_more_stored reply old tree mid tree-mid one in
         record {
-          made = record {
-            comparisons = one.made.comparisons + more.made.comparisons;
-            tests = one.made.tests + more.made.tests;
-            removals = one.made.removals + more.made.removals;
-            rotations = one.made.rotations + more.made.rotations;
-          };
+          made = together one.made more.made;
           adds = record {
             comparisons = omega (arith, one.adds.comparisons, more.adds.comparisons);
             tests = omega (arith, one.adds.tests, more.adds.tests);

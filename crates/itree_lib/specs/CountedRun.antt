@@ -1,9 +1,8 @@
 -- What a run of commands over a tree of expiring keys has counted, and what is stored then.
 use Rattle.std.specs.Prelude.{◌≡◌, ◌≢◌, ℕ, ◌+◌, ◌*◌, ◌^◌, ◌<◌, ◌≤◌, List, [], ◌∷◌, ◌++◌, All, length}
-use Rattle.i_tree.specs.Root.Descent.{Adds}
 use Rattle.i_tree.specs.Key.KeyExpTree.{items}
 use Rattle.i_tree.specs.Core.RbTree.{Contents, slots}
-use Rattle.i_tree.specs.Root.Steps.{Counts}
+use Rattle.i_tree.specs.Root.Steps.{Counts, Adds}
 use Rattle.i_tree.specs.declared.Refusal.{Refusal}
 use Rattle.itree_lib.specs.declared.run.keys.KeyCommand.{KeyCommand}
 use Rattle.itree_lib.specs.declared.run.keys.KeyCommand.TheVariants.{Clear}
@@ -28,7 +27,7 @@ accepted (reply ∷ replies) = one_if_inserted reply + accepted replies
 -- 2^k <= n + 1 < 2^(k + 1), where n counts those that were stored and those that were accepted.
 pub record CountsRun {K E V P : Type 0} (commands : List (KeyCommand K E V P)) (replies : List (KeyReply V)) (old new : Counts) (stored stored' : ℕ) : Type 0 where
   pub made : Counts
-  pub adds : Adds old made new
+  pub adds : Adds old new made
   pub turns : made.rotations + 3 * stored' ≤ 5 * accepted replies + 3 * stored
   pub removes : made.removals + stored' ≤ accepted replies + stored
   pub removes_all : All (λ command. command ≢ Clear) commands → made.removals + stored' ≡ accepted replies + stored
@@ -42,7 +41,7 @@ RefusedOnlyWhereFull {V} spare replies =
 -- What serving one command has counted, by its reply, and what it leaves. For the private contracts of the run.
 pub record CountsOne {K V : Type 0} (reply : KeyReply V) (old : Counts) (tree : Contents (K × V)) (new : Counts) (tree' : Contents (K × V)) : Type 0 where
   pub made : Counts
-  pub adds : Adds old made new
+  pub adds : Adds old new made
   pub compares : (levels : ℕ) → length (items tree.shape) + 1 < 2 ^ (levels + 1) → made.comparisons ≤ 4 * levels
   pub turns : made.rotations ≤ 3 * made.removals + 2 * one_if_inserted reply
   pub stores : reply ≢ Cleared → length (items tree'.shape) + made.removals ≡ length (items tree.shape) + one_if_inserted reply

@@ -2,7 +2,7 @@
 
 ghost use Rattle.std.specs.Prelude.{◌≡◌, ◌+◌};
 
-use i_tree::steps::Steps;
+use i_tree::steps::{Counter, Steps};
 use std::marker::Brand;
 use std::sync::ledger::{Blank, Ledger};
 

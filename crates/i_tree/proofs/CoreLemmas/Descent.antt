@@ -1,69 +1,144 @@
--- A way down a tree: what stands in front of the part that it has come to, and what stands behind it.
-use Rattle.std.proofs.Common.{◌≡◌, ◌≢◌, ℕ, ◌<◌, List, [], ◌∷◌, ◌++◌, sym, ap, ◌∙◌, append_assoc, arith}
+-- A way down a tree: what stands in front of the part that it has come to, what stands behind it, and what was found so far.
+use Rattle.std.proofs.Common.{◌≡◌, ◌≢◌, ℕ, ◌<◌, Bool, true, false, List, [], ◌∷◌, ◌++◌, if◌then◌else◌, refl, sym, ap, ◌∙◌, subst, inl, inr, append_assoc}
 use Rattle.std.proofs.lemmas.List.{append-nil}
-use Rattle.i_tree.proofs.RootLemmas.Joined.{EndsIn-end}
+use Rattle.std.proofs.lemmas.Bool.{ne_eqb}
 use Rattle.i_tree.proofs.CoreLemmas.PartHandles.{RanksFall-part, ranks_below}
-use Rattle.i_tree.specs.Root.Ends.{EndsIn, StartsIn}
+use Rattle.i_tree.specs.Root.Ends.{LastFinds, StartsIn}
+use Rattle.i_tree.specs.Core.Place.{IsPlaceOf}
 use Rattle.i_tree.specs.Core.Shape.{Shape, leaf, entries, part_at, left_at, right_at, rank, RanksFall, IsLive}
+use Rattle.i_tree.specs.Core.Ways.{EndsBetween, place_below}
 use Rattle.i_tree.specs.declared.TheConstants.{EMPTY_REF}
+use Rattle.i_tree.specs.declared.place.Place.{Place}
+use Rattle.i_tree.specs.declared.place.Place.TheVariants.{Root, Left, Right}
 
-module _ {V : Type 0} where
-  -- the last pair in front of the part meets one condition, and the first behind it the other
-  pub record IsCutAt (Before After : ℕ × V → Type 0) (tree : Shape V) (here : ℕ) (front back : List (ℕ × V)) : Type 0 where
+-- below a handle
+place_below-some : (above : ℕ) (on_right : Bool) → above ≢ EMPTY_REF → place_below above on_right ≡ (if on_right then Right above else Left above)
+place_below-some above on_right some = rw (ne_eqb above EMPTY_REF some) refl
+
+-- the child on the side that a test chooses
+abbrev pub IsChosen : Bool → ℕ → ℕ → ℕ → Type 0
+IsChosen on_right right left next = (on_right ≡ true → next ≡ right) × (on_right ≡ false → next ≡ left)
+
+module _ {T : Type 0} where
+  -- these entries stand in front of the part and behind it
+  pub record IsCutAt (tree : Shape T) (here : ℕ) (front back : List (ℕ × T)) : Type 0 where
     pub live : here ≢ EMPTY_REF → IsLive tree here
     pub cut : entries tree ≡ front ++ (entries (part_at here tree) ++ back)
-    pub before : EndsIn Before front
-    pub after : StartsIn After back
 
-  pub IsCutAt-top : (Before After : ℕ × V → Type 0) (tree : Shape V) (here : ℕ) → part_at here tree ≡ tree → (here ≢ EMPTY_REF → IsLive tree here) → IsCutAt Before After tree here [] []
-  IsCutAt-top Before After tree here is live =
-      record { live = live; cut = sym (append-nil (entries (part_at here tree)) ∙ ap entries is); before = tt; after = tt }
+  pub IsCutAt-top : (tree : Shape T) (here : ℕ) → part_at here tree ≡ tree → (here ≢ EMPTY_REF → IsLive tree here) → IsCutAt tree here [] []
+  IsCutAt-top tree here is live = record { live = live; cut = sym (append-nil (entries (part_at here tree)) ∙ ap entries is) }
 
-  -- where the part is empty, all pairs stand in front of it or behind it
-  pub cut_at_end : {Before After : ℕ × V → Type 0} {tree : Shape V} {here : ℕ} {front back : List (ℕ × V)} → IsCutAt Before After tree here front back → part_at here tree ≡ leaf → entries tree ≡ front ++ back
+  -- where the part is empty, all entries stand in front of it or behind it
+  pub cut_at_end : {tree : Shape T} {here : ℕ} {front back : List (ℕ × T)} → IsCutAt tree here front back → part_at here tree ≡ leaf → entries tree ≡ front ++ back
   cut_at_end {front = front} {back = back} at is = at.cut ∙ ap (λ part. front ++ (entries part ++ back)) is
 
-  module _ (tree : Shape V) (here : ℕ) (value : V) (parts : entries (part_at here tree) ≡ entries (left_at here tree) ++ (here, value) ∷ entries (right_at here tree)) where
-    pub some_rank : RanksFall tree → 0 < rank (part_at here tree)
-    some_rank falls =
-        let below = ranks_below (part_at here tree) (entries (left_at here tree)) (here, value) (entries (right_at here tree)) (RanksFall-part here tree falls) parts in
-        omega (arith, below.0)
-
+  module _ (tree : Shape T) (here : ℕ) (item : T) (parts : entries (part_at here tree) ≡ entries (left_at here tree) ++ (here, item) ∷ entries (right_at here tree)) where
     pub falls_left : (next : ℕ) → RanksFall tree → part_at next tree ≡ left_at here tree → rank (part_at next tree) < rank (part_at here tree)
     falls_left next falls is =
-        let below = ranks_below (part_at here tree) (entries (left_at here tree)) (here, value) (entries (right_at here tree)) (RanksFall-part here tree falls) parts in
+        let below = ranks_below (part_at here tree) (entries (left_at here tree)) (here, item) (entries (right_at here tree)) (RanksFall-part here tree falls) parts in
         rw is below.0
 
     pub falls_right : (next : ℕ) → RanksFall tree → part_at next tree ≡ right_at here tree → rank (part_at next tree) < rank (part_at here tree)
     falls_right next falls is =
-        let below = ranks_below (part_at here tree) (entries (left_at here tree)) (here, value) (entries (right_at here tree)) (RanksFall-part here tree falls) parts in
+        let below = ranks_below (part_at here tree) (entries (left_at here tree)) (here, item) (entries (right_at here tree)) (RanksFall-part here tree falls) parts in
         rw is below.1
 
-    module _ {Before After : ℕ × V → Type 0} {front back : List (ℕ × V)} (at : IsCutAt Before After tree here front back) where
-      pub cut_here : entries tree ≡ (front ++ entries (left_at here tree)) ++ (here, value) ∷ (entries (right_at here tree) ++ back)
+    module _ {front back : List (ℕ × T)} (at : IsCutAt tree here front back) where
+      pub cut_here : entries tree ≡ (front ++ entries (left_at here tree)) ++ (here, item) ∷ (entries (right_at here tree) ++ back)
       cut_here =
           at.cut ∙ ap (λ pairs. front ++ (pairs ++ back)) parts
-          ∙ ap (λ pairs. front ++ pairs) (append_assoc (entries (left_at here tree)) ((here, value) ∷ entries (right_at here tree)) back)
-          ∙ sym (append_assoc front (entries (left_at here tree)) ((here, value) ∷ (entries (right_at here tree) ++ back)))
+          ∙ ap (λ pairs. front ++ pairs) (append_assoc (entries (left_at here tree)) ((here, item) ∷ entries (right_at here tree)) back)
+          ∙ sym (append_assoc front (entries (left_at here tree)) ((here, item) ∷ (entries (right_at here tree) ++ back)))
 
-      pub goes_right : (next : ℕ) → (next ≢ EMPTY_REF → IsLive tree next) → part_at next tree ≡ right_at here tree → Before (here, value)
-          → IsCutAt Before After tree next ((front ++ entries (left_at here tree)) ++ (here, value) ∷ []) back
-      goes_right next live is meets =
+      pub goes_right : (next : ℕ) → (next ≢ EMPTY_REF → IsLive tree next) → part_at next tree ≡ right_at here tree
+          → IsCutAt tree next ((front ++ entries (left_at here tree)) ++ (here, item) ∷ []) back
+      goes_right next live is =
           record {
             live = live;
-            cut = cut_here ∙ sym (append_assoc (front ++ entries (left_at here tree)) ((here, value) ∷ []) (entries (right_at here tree) ++ back))
-                ∙ ap (λ part. ((front ++ entries (left_at here tree)) ++ (here, value) ∷ []) ++ (entries part ++ back)) (sym is);
-            before = EndsIn-end Before (front ++ entries (left_at here tree)) (here, value) meets;
-            after = at.after;
+            cut = cut_here ∙ sym (append_assoc (front ++ entries (left_at here tree)) ((here, item) ∷ []) (entries (right_at here tree) ++ back))
+                ∙ ap (λ part. ((front ++ entries (left_at here tree)) ++ (here, item) ∷ []) ++ (entries part ++ back)) (sym is);
           }
 
-      pub goes_left : (next : ℕ) → (next ≢ EMPTY_REF → IsLive tree next) → part_at next tree ≡ left_at here tree → After (here, value)
-          → IsCutAt Before After tree next front ((here, value) ∷ (entries (right_at here tree) ++ back))
-      goes_left next live is meets =
+      pub goes_left : (next : ℕ) → (next ≢ EMPTY_REF → IsLive tree next) → part_at next tree ≡ left_at here tree
+          → IsCutAt tree next front ((here, item) ∷ (entries (right_at here tree) ++ back))
+      goes_left next live is =
           record {
             live = live;
-            cut = cut_here ∙ append_assoc front (entries (left_at here tree)) ((here, value) ∷ (entries (right_at here tree) ++ back))
-                ∙ ap (λ part. front ++ (entries part ++ (here, value) ∷ (entries (right_at here tree) ++ back))) (sym is);
-            before = at.before;
-            after = meets;
+            cut = cut_here ∙ append_assoc front (entries (left_at here tree)) ((here, item) ∷ (entries (right_at here tree) ++ back))
+                ∙ ap (λ part. front ++ (entries part ++ (here, item) ∷ (entries (right_at here tree) ++ back))) (sym is);
           }
+
+  -- what reading a child says of it
+  pub record IsTop (tree part : Shape T) (handle : ℕ) : Type 0 where
+    pub live : handle ≢ EMPTY_REF → IsLive tree handle
+    pub is : part_at handle tree ≡ part
+
+  module _ {A : Type 0} (Finds : ℕ × T → A → Type 0) (Misses : ℕ × T → Type 0) (nothing : A) where
+    -- the part at the handle is the one at the place; what was found is at the last entry in front of it, and the first one
+    -- behind it was missed
+    pub record IsWay (tree : Shape T) (here : ℕ) (place : Place) (found : A) : Type 0 where
+      pub front : List (ℕ × T)
+      pub back : List (ℕ × T)
+      pub at : IsCutAt tree here front back
+      pub of : IsPlaceOf tree (part_at here tree) front back place
+      pub before : LastFinds Finds nothing front found
+      pub after : StartsIn Misses back
+
+    pub way_top : (tree : Shape T) (here : ℕ) → IsTop tree tree here → IsWay tree here Root nothing
+    way_top tree here top =
+        record { front = []; back = []; at = IsCutAt-top tree here top.is top.live; of = (sym top.is, refl, refl); before = inl (refl, refl); after = tt }
+
+    pub way_end : (tree : Shape T) (here : ℕ) (place : Place) (found : A) → part_at here tree ≡ leaf → IsWay tree here place found → EndsBetween Finds Misses nothing tree place found
+    way_end tree here place found empty way =
+        record {
+          front = way.front;
+          back = way.back;
+          between = record { cut = cut_at_end way.at empty; free = subst (λ (part : Shape T). IsPlaceOf tree part way.front way.back place) empty way.of };
+          before = way.before;
+          after = way.after;
+        }
+
+    -- from an entry on to the part on its right, where it was found, or on its left, where it was missed
+    module _ (tree : Shape T) (here : ℕ) (some : here ≢ EMPTY_REF) (item : T) (parts : entries (part_at here tree) ≡ entries (left_at here tree) ++ (here, item) ∷ entries (right_at here tree))
+        (left right : ℕ) (on_left : IsTop tree (left_at here tree) left) (on_right : IsTop tree (right_at here tree) right) (place : Place) (found : A) (way : IsWay tree here place found) where
+      way_right : (found' : A) → Finds (here, item) found' → IsWay tree right (Right here) found'
+      way_right found' finds =
+          let front = way.front ++ entries (left_at here tree) in
+          record {
+            front = front ++ (here, item) ∷ [];
+            back = way.back;
+            at = goes_right tree here item parts way.at right on_right.live on_right.is;
+            of = (way.at.live some, sym on_right.is, (front, item, refl));
+            before = inr (front, (here, item), refl, finds);
+            after = way.after;
+          }
+
+      way_left : Misses (here, item) → IsWay tree left (Left here) found
+      way_left misses =
+          let back = entries (right_at here tree) ++ way.back in
+          record {
+            front = way.front;
+            back = (here, item) ∷ back;
+            at = goes_left tree here item parts way.at left on_left.live on_left.is;
+            of = (way.at.live some, sym on_left.is, (item, back, refl));
+            before = way.before;
+            after = misses;
+          }
+
+      pub way_on : (passed : Bool) (next : ℕ) (found' : A) → IsChosen passed right left next
+          → (passed ≡ true → Finds (here, item) found') → (passed ≡ false → Misses (here, item)) → (passed ≡ false → found' ≡ found)
+          → IsWay tree next (place_below here passed) found'
+      way_on true next found' chosen finds misses stays =
+          subst (λ (place : Place). IsWay tree next place found') (sym (place_below-some here true some))
+          (subst (λ (child : ℕ). IsWay tree child (Right here) found') (sym (chosen.0 refl)) (way_right found' (finds refl)))
+      way_on false next found' chosen finds misses stays =
+          subst (λ (place : Place). IsWay tree next place found') (sym (place_below-some here false some))
+          (subst (λ (child : ℕ). IsWay tree child (Left here) found') (sym (chosen.1 refl))
+          (subst (λ (value : A). IsWay tree left (Left here) value) (sym (stays refl)) (way_left (misses refl))))
+
+  -- either way the rank falls
+  module _ (tree : Shape T) (here : ℕ) (item : T) (parts : entries (part_at here tree) ≡ entries (left_at here tree) ++ (here, item) ∷ entries (right_at here tree)) (falls : RanksFall tree)
+      (left right : ℕ) (on_left : IsTop tree (left_at here tree) left) (on_right : IsTop tree (right_at here tree) right) where
+    pub falls_on : (passed : Bool) (next : ℕ) → IsChosen passed right left next → rank (part_at next tree) < rank (part_at here tree)
+    falls_on true next chosen = rw (chosen.0 refl) (falls_right tree here item parts right falls on_right.is)
+    falls_on false next chosen = rw (chosen.1 refl) (falls_left tree here item parts left falls on_left.is)

@@ -9,11 +9,11 @@ use Rattle.std.specs.declared.cmp.Ordering.TheVariants.{Less, Equal, Greater}
 use Rattle.std.proofs.lemmas.List.{map-append}
 use Rattle.std.proofs.lemmas.List.Elements.{All-cons}
 use Rattle.std.proofs.lemmas.List.Kept.{AllPairs-cons}
-use Rattle.i_tree.proofs.RootLemmas.Joined.{All-behind, All-of_map, AllPairs-front, AllPairs-behind, AllPairs-across, AllPairs-append, All-from_end, All-from_start}
-use Rattle.i_tree.proofs.SetLemmas.Search.{StartsIn-with, below_from_ordered, ordered_from_below}
-use Rattle.i_tree.specs.Root.Ends.{EndsIn, StartsIn}
+use Rattle.i_tree.proofs.RootLemmas.Joined.{All-front, All-behind, AllPairs-front, AllPairs-behind, AllPairs-across, AllPairs-append, All-from_end, All-from_start}
+use Rattle.i_tree.proofs.SetLemmas.Search.{IsBelow, StartsIn-with}
+use Rattle.i_tree.specs.Root.Ends.{LastFinds, StartsIn}
 use Rattle.i_tree.specs.Root.Change.{Joins}
-use Rattle.i_tree.specs.Set.Pairs.{values, IsOrdered, LacksKey}
+use Rattle.i_tree.specs.Set.Pairs.{values}
 use Rattle.i_tree.specs.Core.Place.{IsPlaceOf, IsPlaceBetween}
 use Rattle.i_tree.specs.Core.Shape.{Shape, leaf, entries}
 use Rattle.i_tree.specs.declared.place.Place.{Place}
@@ -35,33 +35,32 @@ module _ {K V : Type 0} (key_of : V → K) {cmp : K → K → Ordering} (o : IsT
     abbrev pub IsHigher : ℕ × V → Type 0
     IsHigher pair = cmp key (key_of pair.1) ≡ Less
 
-    -- between the pairs in front of an empty part and those behind it the key has its place
-    pub place_between : (tree : Shape V) (front back : List (ℕ × V)) (place : Place) → entries tree ≡ front ++ back → IsPlaceOf tree leaf front back place
-        → (pairs : List (ℕ × V)) → pairs ≡ front ++ back → IsOrdered key_of cmp pairs → LacksKey key_of cmp pairs key
-        → EndsIn IsLower front → StartsIn (λ pair. cmp (key_of pair.1) key ≢ Less) back
-        → IsPlaceBetween tree front back place × All IsLower front × All IsHigher back
-    place_between tree front back place cut free pairs is ordered lacks ends starts =
-        let Below : ℕ × V → ℕ × V → Type 0 = λ earlier later. cmp (key_of earlier.1) (key_of later.1) ≡ Less in
-        let Differs : ℕ × V → Type 0 = λ pair. cmp (key_of pair.1) key ≢ Equal in
-        let below : AllPairs Below (front ++ back) = subst (AllPairs Below) is (below_from_ordered key_of o pairs ordered) in
-        let differs : All Differs (front ++ back) = subst (All Differs) is (All-of_map (λ (pair : K × ℕ). cmp pair.0 key ≢ Equal) (λ (pair : ℕ × V). (key_of pair.1, pair.0)) pairs lacks) in (
-          record { cut = cut; free = free },
-          All-from_end Below IsLower (λ x y h low. o.trans (key_of x.1) (key_of y.1) key h low) front (AllPairs-front Below front back below) ends,
+    -- what was found at the last pair in front of a place is lower, and the first one behind it, which was missed, is higher
+    pub record IsBetween {A : Type 0} (Finds : ℕ × V → A → Type 0) (Misses Also : ℕ × V → Type 0) (nothing found : A) (front back : List (ℕ × V)) : Type 0 where
+      pub last : LastFinds Finds nothing front found
+      pub first : StartsIn Misses back
+      pub lower : (pair : ℕ × V) → Also pair → Finds pair found → IsLower pair
+      pub higher : (pair : ℕ × V) → Also pair → Misses pair → IsHigher pair
+
+    -- then so are all further out
+    pub keys_between : {A : Type 0} {Finds : ℕ × V → A → Type 0} {Misses Also : ℕ × V → Type 0} {nothing found : A} (front back : List (ℕ × V)) → IsBetween Finds Misses Also nothing found front back
+        → AllPairs (IsBelow key_of o) (front ++ back) → All Also (front ++ back) → All IsLower front × All IsHigher back
+    keys_between {A} {Finds} {Misses} {Also} {nothing} {found} front back between below also =
+        let Below : ℕ × V → ℕ × V → Type 0 = IsBelow key_of o in (
+          All-from_end Below Finds nothing found IsLower Also (λ x y h low. o.trans (key_of x.1) (key_of y.1) key h low) between.lower front (AllPairs-front Below front back below) (All-front Also front back also) between.last,
           All-from_start Below IsHigher (λ x y h high. o.trans key (key_of x.1) (key_of y.1) high h) back (AllPairs-behind Below front back below)
-              (StartsIn-with (λ pair. cmp (key_of pair.1) key ≢ Less) Differs IsHigher (λ pair not_less not_equal. above (key_of pair.1) key not_less not_equal) back (All-behind Differs front back differs) starts),
+              (StartsIn-with Misses Also IsHigher (λ pair misses too. between.higher pair too misses) back (All-behind Also front back also) between.first),
         )
 
   -- a pair joins at its place
-  pub ordered_joined : (front : List (ℕ × V)) (handle : ℕ) (value : V) (back : List (ℕ × V)) → IsOrdered key_of cmp (front ++ back) → All (IsLower (key_of value)) front → All (IsHigher (key_of value)) back
-      → IsOrdered key_of cmp (front ++ (handle, value) ∷ back)
-  ordered_joined front handle value back ordered lows highs =
-      let Below : ℕ × V → ℕ × V → Type 0 = λ earlier later. cmp (key_of earlier.1) (key_of later.1) ≡ Less in
-      let below : AllPairs Below (front ++ back) = below_from_ordered key_of o (front ++ back) ordered in
+  pub below_joined : (front : List (ℕ × V)) (handle : ℕ) (value : V) (back : List (ℕ × V)) → AllPairs (IsBelow key_of o) (front ++ back) → All (IsLower (key_of value)) front × All (IsHigher (key_of value)) back
+      → AllPairs (IsBelow key_of o) (front ++ (handle, value) ∷ back)
+  below_joined front handle value back below (lows, highs) =
+      let Below : ℕ × V → ℕ × V → Type 0 = IsBelow key_of o in
       let across = AllPairs-across Below front back below in
-      ordered_from_below key_of o (front ++ (handle, value) ∷ back)
-      (AllPairs-append Below front ((handle, value) ∷ back) (AllPairs-front Below front back below)
+      AllPairs-append Below front ((handle, value) ∷ back) (AllPairs-front Below front back below)
       (AllPairs-cons Below (handle, value) back highs (AllPairs-behind Below front back below))
-      (λ k d within. All-cons (Below (get_or front k d)) (handle, value) back (lows k d within) (across k d within)))
+      (λ k d within. All-cons (Below (get_or front k d)) (handle, value) back (lows k d within) (across k d within))
 
 -- the value of a pair that joins has joined the values
 pub Joins-values : {V : Type 0} (before after front : List (ℕ × V)) (handle : ℕ) (value : V) (back : List (ℕ × V)) → before ≡ front ++ back → after ≡ front ++ (handle, value) ∷ back → Joins value (values before) (values after)

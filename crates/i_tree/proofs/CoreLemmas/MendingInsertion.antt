@@ -9,7 +9,6 @@ use Rattle.i_tree.specs.Core.Shape.{Shape, leaf, fork, top, entries, occurs, bla
 use Rattle.i_tree.specs.Core.Balance.{is_black, is_black_colour, is_black_around, level_of, IsRedBlack, MayStand, Fits, IsRaised}
 use Rattle.i_tree.specs.Core.Context.{Frame, fork_on, fill, plug, other_side, hole_parent}
 use Rattle.i_tree.specs.Core.Turns.{CanTurn}
-use Rattle.i_tree.specs.Root.Steps.{Counts, OnlyRotates}
 use Rattle.i_tree.specs.Core.Mending.{red_nodes, IsPart, IsBlackPart, IsUnderRed}
 use Rattle.i_tree.proofs.CoreLemmas.Contexts.{one_if_same-same, fork_on-other}
 use Rattle.i_tree.proofs.CoreLemmas.BalanceFrames.{top-fork_on, is_black-fork_on, IsPart-from_black, IsBlackPart-from, IsPart-red, IsBlackPart-black, IsRedBlack-plug, leaf_inside, IsLive-in, IsLive-at, occurs-own, occurs_top, top_apart, red_nodes-fork_on, red_nodes-plug, Paints, painted, entries-painted, IsLive-painted, Turns, entries-turned}
@@ -511,14 +510,3 @@ module _ {T : Type 0} where
             let new_here = red_nodes-fork_on (other_side side) Red black_uncle above under.grandparent_item (parent_in under Black) in
             let new_parent = red_nodes-fork_on under.turn Black (node_in under) parent under.parent_item under.sibling in
             (IsRaised-from three (under.levels + 1) under.around (other_side side) black_uncle above under.grandparent_item (parent_in under Black) at_three uncle_part parent_part under.fits, omega arith)
-
-pub OnlyRotates-same : (old new : Counts) (most : ℕ) → new ≡ old → OnlyRotates old new most
-OnlyRotates-same old new most same =
-    let rotations = ap (λ (counts : Counts). counts.rotations) same in
-    record {
-      comparisons = ap (λ (counts : Counts). counts.comparisons) same;
-      tests = ap (λ (counts : Counts). counts.tests) same;
-      removals = ap (λ (counts : Counts). counts.removals) same;
-      no_fewer = omega arith;
-      at_most = omega arith;
-    }

@@ -12,22 +12,10 @@ use Rattle.i_tree.specs.Core.Mending.{one_if_red, red_nodes, IsPart}
 use Rattle.i_tree.specs.Core.Removal.{KeepsPart, MendsPart}
 use Rattle.i_tree.specs.Core.Rising.{IsEnded, IsRisen}
 use Rattle.i_tree.specs.Core.Shape.{Shape, leaf, fork, entries, occurs, black_levels, rank, IsLive, AreHandles}
-use Rattle.i_tree.specs.Root.Steps.{Counts, OnlyRotates}
 use Rattle.i_tree.proofs.CoreLemmas.Balance.{rank-black, rank-at_most}
 use Rattle.i_tree.proofs.CoreLemmas.BalanceFrames.{IsRedBlack-plug, IsLive-at, top_apart, entries-replaced}
 use Rattle.i_tree.proofs.CoreLemmas.MendingInsertion.{IsParent, IsSide}
 use Rattle.i_tree.proofs.CoreLemmas.MendingRemovalStep.{plug-append, KeepsPart-inside, entries-same_near}
-
--- a step after none that turns
-pub more_steps : (old before new : Counts) (made most : ℕ) → OnlyRotates old before 0 → OnlyRotates before new made → made ≤ most → OnlyRotates old new most
-more_steps old before new made most none some few =
-    record {
-      comparisons = some.comparisons ∙ none.comparisons;
-      tests = some.tests ∙ none.tests;
-      removals = some.removals ∙ none.removals;
-      no_fewer = omega (arith, none.no_fewer, some.no_fewer);
-      at_most = omega (arith, none.at_most, some.at_most);
-    }
 
 module _ {X : Type 0} where
   some_not_none : (inner : List X) (x : X) (outer : List X) → [] ≡ inner ++ x ∷ outer → ⊥

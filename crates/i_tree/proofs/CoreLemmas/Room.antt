@@ -12,7 +12,7 @@ use Rattle.i_tree.specs.declared.rb.links.Slot.{Slot}
 use Rattle.i_tree.specs.declared.rb.links.Slot.TheVariants.{Free, Used}
 use Rattle.i_tree.specs.Core.Shape.{Shape, leaf, fork, top, entries, occurs, one_if_same}
 use Rattle.i_tree.specs.Core.Context.{Frame, plug, hole_parent}
-use Rattle.i_tree.specs.Core.Slots.{with_child_link, slot_links, links_of, read_tree, IsUsed, IsChain, IsSound, Relinks, occurs_in, one_if_slot}
+use Rattle.i_tree.specs.Core.Slots.{with_child_link, slot_links, read_tree, IsUsed, IsChain, IsSound, Relinks, occurs_in, one_if_slot}
 use Rattle.i_tree.proofs.CoreLemmas.Contexts.{one_if_same-same, occurs_around, occurs-plug, entries-plug, before_hole, after_hole}
 use Rattle.i_tree.proofs.CoreLemmas.Placed.{links_on, one_if_slot-le, IsAround-child, IsAt-plug, IsAt-from_plug, top-plug, read_sound, IsUsed-live}
 
@@ -130,15 +130,11 @@ module _ {T : Type 0} where
       }
 
   -- the links of the parent, once the new node is tied to it
-  pub relinked : (taken new : List (Slot T)) (side : Side) (above far first handle : ℕ) (shade : Colour) (links : Links) (item : T)
-      → slice_get taken handle ≡ Some (Used (links_on side above EMPTY_REF far shade) item) → links_of taken handle ≡ Some links
-      → Relinks taken new handle (with_child_link side first links)
+  pub relinked : (taken new : List (Slot T)) (side : Side) (above far first handle : ℕ) (shade : Colour) (item : T)
+      → slice_get taken handle ≡ Some (Used (links_on side above EMPTY_REF far shade) item) → Relinks taken new handle (with_child_link side first)
       → slice_get new handle ≡ Some (Used (links_on side above first far shade) item)
-  relinked taken new side above far first handle shade links item own found relinks =
-      let both : ◌≡◌ {A = Option Links} (Some links) (Some (links_on side above EMPTY_REF far shade)) = sym found ∙ ap slot_links own in
-      let is : links ≡ links_on side above EMPTY_REF far shade = cc in
+  relinked taken new side above far first handle shade item own relinks =
       relinks.at (links_on side above EMPTY_REF far shade) item own
-      ∙ ap (λ (given : Links). Some (Used (with_child_link side first given) item)) is
       ∙ ap (λ (given : Links). Some (Used given item)) (with_child-links_on side above EMPTY_REF far first shade)
 
   -- the node that gains a part is in the tree, and isn't the first free slot
@@ -159,16 +155,15 @@ module _ {T : Type 0} where
       (IsUsed-live old EMPTY_REF frame.handle (plug (frame ∷ around) leaf) sound.at (parent_live frame around leaf))
 
   -- a red node in the first free slot, on a side of a node that had no part there
-  pub sound-attached : (old taken new : List (Slot T)) (root first next free : ℕ) (frame : Frame T) (around : List (Frame T)) (links : Links) (item : T)
+  pub sound-attached : (old taken new : List (Slot T)) (root first next free : ℕ) (frame : Frame T) (around : List (Frame T)) (item : T)
       → IsSound old root first free (plug (frame ∷ around) leaf) → 0 < free
       → slice_get old first ≡ Some (Free next)
       → slice_get taken first ≡ Some (Used (record { parent = frame.handle; left = EMPTY_REF; right = EMPTY_REF; colour = Red }) item)
       → ((other : ℕ) → other ≢ first → slice_get taken other ≡ slice_get old other)
-      → links_of taken frame.handle ≡ Some links
-      → Relinks taken new frame.handle (with_child_link frame.side first links)
+      → Relinks taken new frame.handle (with_child_link frame.side first)
       → length new ≡ length old
       → IsSound new root next (free - 1) (plug (frame ∷ around) (fork Red leaf first item leaf))
-  sound-attached old taken new root first next free frame around links item sound some was_free used others found relinks same_length =
+  sound-attached old taken new root first next free frame around item sound some was_free used others relinks same_length =
       let tree : Shape T = plug (frame ∷ around) leaf in
       let part : Shape T = fork Red leaf first item leaf in
       let head = head_of old root first free tree sound some in
@@ -182,7 +177,7 @@ module _ {T : Type 0} where
       let same : (handle : ℕ) → handle ≢ first → handle ≢ frame.handle → slice_get new handle ≡ slice_get old handle =
       λ handle apart away. relinks.others handle away ∙ others handle apart in
       let held = (IsAt-from_plug old (frame ∷ around) leaf sound.at).0 in
-      let own = relinked taken new frame.side (hole_parent around) (top frame.sibling) first frame.handle frame.colour links frame.item (others frame.handle apart_parent ∙ held.0) found relinks in
+      let own = relinked taken new frame.side (hole_parent around) (top frame.sibling) first frame.handle frame.colour frame.item (others frame.handle apart_parent ∙ held.0) relinks in
       let Linked : ℕ → Type 0 = λ number. IsChain old number head.rest in
       record {
         at = IsAt-plug new (frame ∷ around) part

@@ -8,7 +8,7 @@ use Rattle.i_tree.specs.declared.rb.links.Slot.{Slot}
 use Rattle.i_tree.specs.declared.rb.links.Slot.TheVariants.{Free, Used}
 use Rattle.i_tree.specs.Core.Context.{Frame, plug, hole_parent}
 use Rattle.i_tree.specs.Core.Shape.{Shape, fork, top, entries, occurs}
-use Rattle.i_tree.specs.Core.Slots.{slot_links, links_of, IsUsed, Relinks, IsAt, IsChain, IsSound, read_tree, occurs_in, one_if_slot}
+use Rattle.i_tree.specs.Core.Slots.{slot_links, IsUsed, Relinks, IsAt, IsChain, IsSound, with_colour, read_tree, occurs_in, one_if_slot}
 use Rattle.i_tree.proofs.CoreLemmas.Contexts.{one_if_same-same, occurs_around, occurs_among, occurs_among-entries, occurs-plug, before_hole, after_hole, entries-plug}
 use Rattle.i_tree.proofs.CoreLemmas.Placed.{one_if_slot-le, IsAt-from_plug, IsAt-plug, top-plug, IsAt-same, IsAround-same, AreHandles-sound, read_sound}
 
@@ -46,10 +46,15 @@ module _ {T : Type 0} where
   slice_get-set_same (slot ∷ rest) (suc handle) new within = slice_get-set_same rest handle new (omega arith)
 
   -- a write of a node's links
-  pub Relinks-set : (slots : List (Slot T)) (handle : ℕ) (was links : Links) (item : T) → slice_get slots handle ≡ Some (Used was item)
-      → Relinks slots (slice_set slots handle (Used links item)) handle links
-  Relinks-set slots handle was links item at = record {
-    at = λ before own same. let wrote = slice_get-set_same slots handle (Used links item) (slice_get_within slots handle _ at) in cc;
+  pub Relinks-set : (slots : List (Slot T)) (handle : ℕ) (was links : Links) (change : Links → Links) (item : T) → slice_get slots handle ≡ Some (Used was item) → links ≡ change was
+      → Relinks slots (slice_set slots handle (Used links item)) handle change
+  Relinks-set slots handle was links change item at is = record {
+    at = λ before own same.
+        let held : Some (Used was item) ≡ Some (Used before own) = sym at ∙ same in
+        let equal : was ≡ before = cc in
+        let kept : item ≡ own = cc in
+        slice_get-set_same slots handle (Used links item) (slice_get_within slots handle _ at)
+        ∙ ap (λ (l : Links). Some (Used l item)) (is ∙ ap change equal) ∙ ap (λ (i : T). Some (Used (change before) i)) kept;
     others = λ other apart. slice_get-set_other slots handle other (Used links item) apart;
   }
 
@@ -106,19 +111,15 @@ module _ {T : Type 0} where
   top-plug-same (frame ∷ around) first second same = top-plug frame around first second
 
   -- a node with another colour
-  pub sound-painted : (slots new : List (Slot T)) (root first_free free : ℕ) (tree : Shape T) (links : Links) (around : List (Frame T)) (was colour : Colour) (before : Shape T) (own : ℕ) (item : T) (after : Shape T)
-      → IsSound slots root first_free free tree → tree ≡ plug around (fork was before own item after) → links_of slots own ≡ Some links
-      → Relinks slots new own (record { parent = links.parent; left = links.left; right = links.right; colour = colour }) → length new ≡ length slots
+  pub sound-painted : (slots new : List (Slot T)) (root first_free free : ℕ) (tree : Shape T) (around : List (Frame T)) (was colour : Colour) (before : Shape T) (own : ℕ) (item : T) (after : Shape T)
+      → IsSound slots root first_free free tree → tree ≡ plug around (fork was before own item after) → Relinks slots new own (with_colour colour)
+      → length new ≡ length slots
       → IsSound new root first_free free (plug around (fork colour before own item after))
-  sound-painted slots new root first_free free tree links around was colour before own item after sound is read relinks long =
+  sound-painted slots new root first_free free tree around was colour before own item after sound is relinks long =
       let Held : Shape T → Type 0 = λ other. IsAt slots EMPTY_REF other in
       let old_at = IsAt-from_plug slots around (fork was before own item after) (subst Held is sound.at) in
       let Node : Links = record { parent = hole_parent around; left = top before; right = top after; colour = was } in
-      let linked : links_of slots own ≡ Some Node = ap slot_links old_at.1.0 in
-      let found : Some links ≡ Some Node = sym read ∙ linked in
-      let equal : links ≡ Node = cc in
-      let Painted : Links → Links = λ l. record { parent = l.parent; left = l.left; right = l.right; colour = colour } in
-      let own_at = relinks.at Node item old_at.1.0 ∙ ap (λ (l : Links). Some (Used (Painted l) item)) equal in
+      let own_at = relinks.at Node item old_at.1.0 in
       let here = one_if_same-same own in
       let once : occurs own tree ≤ 1 = (AreHandles-sound slots root first_free free tree sound).apart own in
       let total = ap (occurs own) is ∙ occurs-plug own around (fork was before own item after) in

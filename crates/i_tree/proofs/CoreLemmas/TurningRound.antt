@@ -9,7 +9,7 @@ use Rattle.i_tree.specs.declared.rb.links.Slot.{Slot}
 use Rattle.i_tree.specs.declared.rb.links.Slot.TheVariants.{Used}
 use Rattle.i_tree.specs.Core.Context.{Frame, fork_on, plug, other_side, hole_parent}
 use Rattle.i_tree.specs.Core.Shape.{Shape, leaf, fork, top, entries, occurs, one_if_same}
-use Rattle.i_tree.specs.Core.Slots.{child_link, with_child_link, slot_links, links_of, IsUsed, Relinks, IsAt, IsSound}
+use Rattle.i_tree.specs.Core.Slots.{child_link, with_child_link, hung_links, slot_links, links_of, IsUsed, Relinks, IsAt, IsSound}
 use Rattle.i_tree.specs.Core.Turns.{Turn, unturned, turned, Rehangs, Reparents}
 use Rattle.i_tree.proofs.CoreLemmas.Contexts.{one_if_same-same, one_if_same-cases, occurs_around, occurs-fork_on, occurs-plug}
 use Rattle.i_tree.proofs.CoreLemmas.Placed.{links_on, IsAround, top-fork_on, IsAt-from_fork_on, IsAt-fork_on, IsAt-from_plug, IsAt-plug, top-plug, IsAt-same, IsAround-same, IsAround-child, IsAt-parent, AreHandles-sound}
@@ -20,19 +20,15 @@ pub child_link-other : (side : Side) (above near far : ℕ) (shade : Colour) →
 child_link-other Left above near far shade = refl
 child_link-other Right above near far shade = refl
 
--- links under another parent, in another colour
-abbrev pub moved_links : Links → ℕ → Colour → Links
-moved_links links parent shade = record { parent = parent; left = links.left; right = links.right; colour = shade }
+pub hung_links-far : (side : Side) (above near far new parent : ℕ) (was shade : Colour)
+    → hung_links parent shade (other_side side) new (links_on side above near far was) ≡ links_on side parent near new shade
+hung_links-far Left above near far new parent was shade = refl
+hung_links-far Right above near far new parent was shade = refl
 
-pub moved_links-far : (side : Side) (above near far new parent : ℕ) (was shade : Colour)
-    → moved_links (with_child_link (other_side side) new (links_on side above near far was)) parent shade ≡ links_on side parent near new shade
-moved_links-far Left above near far new parent was shade = refl
-moved_links-far Right above near far new parent was shade = refl
-
-pub moved_links-near : (side : Side) (above near far new parent : ℕ) (was shade : Colour)
-    → moved_links (with_child_link side new (links_on side above near far was)) parent shade ≡ links_on side parent new far shade
-moved_links-near Left above near far new parent was shade = refl
-moved_links-near Right above near far new parent was shade = refl
+pub hung_links-near : (side : Side) (above near far new parent : ℕ) (was shade : Colour)
+    → hung_links parent shade side new (links_on side above near far was) ≡ links_on side parent new far shade
+hung_links-near Left above near far new parent was shade = refl
+hung_links-near Right above near far new parent was shade = refl
 
 pub parent-on : (side : Side) (above near far : ℕ) (shade : Colour) → (links_on side above near far shade).parent ≡ above
 parent-on Left above near far shade = refl
@@ -65,8 +61,8 @@ module _ {T : Type 0} where
   -- a child of a node has another handle
   pub relinked : (old new : List (Slot T)) (side : Side) (parent above child other far : ℕ) (shade : Colour) (item : T)
       → slice_get old parent ≡ Some (Used (links_on side above child far shade) item) → far ≢ child
-      → ((links : Links) → links_of old parent ≡ Some links → links.left ≡ child → Relinks old new parent (with_child_link Left other links))
-      → ((links : Links) → links_of old parent ≡ Some links → links.left ≢ child → Relinks old new parent (with_child_link Right other links))
+      → ((links : Links) → links_of old parent ≡ Some links → links.left ≡ child → Relinks old new parent (with_child_link Left other))
+      → ((links : Links) → links_of old parent ≡ Some links → links.left ≢ child → Relinks old new parent (with_child_link Right other))
       → (slice_get new parent ≡ Some (Used (links_on side above other far shade) item)) × ((handle : ℕ) → handle ≢ parent → slice_get new handle ≡ slice_get old handle)
   relinked old new Left parent above child other far shade item at apart left right =
       let Node : Links = links_on Left above child far shade in
@@ -111,7 +107,7 @@ module _ {T : Type 0} where
       let here = one_if_same-same own in
       let some : own ≢ EMPTY_REF = λ same. let moved = ap (λ h. occurs h (fork shade before own item after)) same in omega arith in
       let Node : Links = record { parent = above; left = top before; right = top after; colour = shade } in
-      let relinks = reparents.some Node some (ap slot_links at.0) in (
+      let relinks = reparents.some some in (
         IsAt-parent old new above other shade before own item after (relinks.at Node item at.0) (λ handle apart inside. relinks.others handle apart) (once own) at,
         λ handle gone. relinks.others handle (λ same. let moved = ap (λ h. occurs h (fork shade before own item after)) same in omega arith),
       )
@@ -228,7 +224,7 @@ module _ {T : Type 0} {handle : ℕ} {side : Side} where
       used_by s1 handle Node turn.item ((hung s0 s1 root new_root turn links up raised_links low lies values rehangs).1 handle (omega arith) ∙ lies.own)
 
   -- the raised node's slot is the same after the write of the node
-  pub raised_lowered : (s0 s1 s2 : List (Slot T)) (root new_root : ℕ) (turn : Turn T handle side) (links : Links) (up : ℕ) (raised_links : Links) (low : ℕ) (lowered : Links) → Laid s0 turn
+  pub raised_lowered : (s0 s1 s2 : List (Slot T)) (root new_root : ℕ) (turn : Turn T handle side) (links : Links) (up : ℕ) (raised_links : Links) (low : ℕ) (lowered : Links → Links) → Laid s0 turn
       → Found turn links up raised_links low → Rehangs s0 s1 root new_root links.parent handle up → Relinks s1 s2 handle lowered
       → slice_get s2 turn.raised ≡ Some (Used (links_on side handle (top turn.inner) (top turn.far) turn.raised_colour) turn.raised_item)
   raised_lowered s0 s1 s2 root new_root turn links up raised_links low lowered lies values rehangs down =
@@ -236,7 +232,7 @@ module _ {T : Type 0} {handle : ℕ} {side : Side} where
       down.others turn.raised (apart_by turn.raised handle (omega arith))
       ∙ (hung s0 s1 root new_root turn links up raised_links low lies values rehangs).1 turn.raised (omega arith) ∙ lies.raised
 
-  pub used_lowered : (s0 s1 s2 : List (Slot T)) (root new_root : ℕ) (turn : Turn T handle side) (links : Links) (up : ℕ) (raised_links : Links) (low : ℕ) (lowered : Links) → Laid s0 turn
+  pub used_lowered : (s0 s1 s2 : List (Slot T)) (root new_root : ℕ) (turn : Turn T handle side) (links : Links) (up : ℕ) (raised_links : Links) (low : ℕ) (lowered : Links → Links) → Laid s0 turn
       → Found turn links up raised_links low → Rehangs s0 s1 root new_root links.parent handle up → Relinks s1 s2 handle lowered → IsUsed s2 up
   used_lowered s0 s1 s2 root new_root turn links up raised_links low lowered lies values rehangs down =
       let Used_at : ℕ → Type 0 = λ other. IsUsed s2 other in
@@ -245,14 +241,14 @@ module _ {T : Type 0} {handle : ℕ} {side : Side} where
       (used_by s2 turn.raised Node turn.raised_item (raised_lowered s0 s1 s2 root new_root turn links up raised_links low lowered lies values rehangs down))
 
   -- the slots of all but the frames and the two nodes are the same after both writes
-  pub same_lifted : (s0 s1 s2 s3 : List (Slot T)) (root new_root : ℕ) (turn : Turn T handle side) (links : Links) (up : ℕ) (raised_links : Links) (low : ℕ) (lowered lifted : Links) → Laid s0 turn
+  pub same_lifted : (s0 s1 s2 s3 : List (Slot T)) (root new_root : ℕ) (turn : Turn T handle side) (links : Links) (up : ℕ) (raised_links : Links) (low : ℕ) (lowered lifted : Links → Links) → Laid s0 turn
       → Found turn links up raised_links low → Rehangs s0 s1 root new_root links.parent handle up → Relinks s1 s2 handle lowered → Relinks s2 s3 turn.raised lifted
       → (other : ℕ) → occurs_around other turn.around + one_if_same other handle + one_if_same other turn.raised ≡ 0 → slice_get s3 other ≡ slice_get s0 other
   same_lifted s0 s1 s2 s3 root new_root turn links up raised_links low lowered lifted lies values rehangs down lift other none =
       lift.others other (apart_by other turn.raised (omega arith)) ∙ down.others other (apart_by other handle (omega arith))
       ∙ (hung s0 s1 root new_root turn links up raised_links low lies values rehangs).1 other (omega arith)
 
-  pub inner_lifted : (s0 s1 s2 s3 : List (Slot T)) (root new_root : ℕ) (turn : Turn T handle side) (links : Links) (up : ℕ) (raised_links : Links) (low : ℕ) (lowered lifted : Links) → Laid s0 turn
+  pub inner_lifted : (s0 s1 s2 s3 : List (Slot T)) (root new_root : ℕ) (turn : Turn T handle side) (links : Links) (up : ℕ) (raised_links : Links) (low : ℕ) (lowered lifted : Links → Links) → Laid s0 turn
       → Found turn links up raised_links low → Rehangs s0 s1 root new_root links.parent handle up → Relinks s1 s2 handle lowered → Relinks s2 s3 turn.raised lifted
       → IsAt s3 turn.raised turn.inner
   inner_lifted s0 s1 s2 s3 root new_root turn links up raised_links low lowered lifted lies values rehangs down lift =
@@ -260,12 +256,12 @@ module _ {T : Type 0} {handle : ℕ} {side : Side} where
       (λ other inside. same_lifted s0 s1 s2 s3 root new_root turn links up raised_links low lowered lifted lies values rehangs down lift other (let once = lies.once other in omega arith))
       lies.inner
 
-  pub lift_at : (s2 s3 : List (Slot T)) (turn : Turn T handle side) (links : Links) (up : ℕ) (raised_links : Links) (low : ℕ) (lifted : Links)
+  pub lift_at : (s2 s3 : List (Slot T)) (turn : Turn T handle side) (links : Links) (up : ℕ) (raised_links : Links) (low : ℕ) (lifted : Links → Links)
       → Found turn links up raised_links low → Relinks s2 s3 up lifted → Relinks s2 s3 turn.raised lifted
   lift_at s2 s3 turn links up raised_links low lifted values lift =
       let At : ℕ → Type 0 = λ other. Relinks s2 s3 other lifted in subst At values.up_is lift
 
-  pub used_lifted : (s0 s1 s2 s3 : List (Slot T)) (root new_root : ℕ) (turn : Turn T handle side) (links : Links) (up : ℕ) (raised_links : Links) (low : ℕ) (lowered lifted : Links) → Laid s0 turn
+  pub used_lifted : (s0 s1 s2 s3 : List (Slot T)) (root new_root : ℕ) (turn : Turn T handle side) (links : Links) (up : ℕ) (raised_links : Links) (low : ℕ) (lowered lifted : Links → Links) → Laid s0 turn
       → Found turn links up raised_links low → Rehangs s0 s1 root new_root links.parent handle up → Relinks s1 s2 handle lowered → Relinks s2 s3 up lifted
       → low ≢ EMPTY_REF → IsUsed s3 low
   used_lifted s0 s1 s2 s3 root new_root turn links up raised_links low lowered lifted lies values rehangs down lift some =
@@ -275,27 +271,25 @@ module _ {T : Type 0} {handle : ℕ} {side : Side} where
       subst Used_at (sym values.low_is) (IsUsed-top s3 turn.raised turn.inner at (λ same. some (values.low_is ∙ same)))
 
   -- the links that the two nodes are given
-  pub lowered_links : (turn : Turn T handle side) (links : Links) (up : ℕ) (raised_links : Links) (low : ℕ) (lowered : Links)
-      → Found turn links up raised_links low → lowered ≡ with_child_link (other_side side) low links
-      → moved_links lowered up raised_links.colour ≡ links_on side turn.raised (top turn.outer) (top turn.inner) turn.raised_colour
-  lowered_links turn links up raised_links low lowered values is =
+  pub lowered_links : (turn : Turn T handle side) (links : Links) (up : ℕ) (raised_links : Links) (low : ℕ) (away : Side) → Found turn links up raised_links low → away ≡ other_side side
+      → hung_links up raised_links.colour away low (links_on side (hole_parent turn.around) (top turn.outer) turn.raised turn.colour)
+      ≡ links_on side turn.raised (top turn.outer) (top turn.inner) turn.raised_colour
+  lowered_links turn links up raised_links low away values is =
+      let Node : Links = links_on side (hole_parent turn.around) (top turn.outer) turn.raised turn.colour in
       let shade_is = ap (λ (l : Links). l.colour) values.raised_are ∙ colour-on side handle (top turn.inner) (top turn.far) turn.raised_colour in
-      ap (λ (l : Links). moved_links l up raised_links.colour) is
-      ∙ ap (λ (child : ℕ). moved_links (with_child_link (other_side side) child links) up raised_links.colour) values.low_is
-      ∙ ap (λ (l : Links). moved_links (with_child_link (other_side side) (top turn.inner) l) up raised_links.colour) values.links_are
-      ∙ moved_links-far side (hole_parent turn.around) (top turn.outer) turn.raised (top turn.inner) up turn.colour raised_links.colour
+      ap (λ (to : Side). hung_links up raised_links.colour to low Node) is
+      ∙ ap (λ (child : ℕ). hung_links up raised_links.colour (other_side side) child Node) values.low_is
+      ∙ hung_links-far side (hole_parent turn.around) (top turn.outer) turn.raised (top turn.inner) up turn.colour raised_links.colour
       ∙ ap (λ (parent : ℕ). links_on side parent (top turn.outer) (top turn.inner) raised_links.colour) values.up_is
       ∙ ap (links_on side turn.raised (top turn.outer) (top turn.inner)) shade_is
 
-  pub lifted_links : (turn : Turn T handle side) (links : Links) (up : ℕ) (raised_links : Links) (low : ℕ) (lifted : Links)
-      → Found turn links up raised_links low → lifted ≡ with_child_link side handle raised_links
-      → moved_links lifted links.parent links.colour ≡ links_on side (hole_parent turn.around) handle (top turn.far) turn.colour
-  lifted_links turn links up raised_links low lifted values is =
+  pub lifted_links : (turn : Turn T handle side) (links : Links) (up : ℕ) (raised_links : Links) (low : ℕ) → Found turn links up raised_links low
+      → hung_links links.parent links.colour side handle (links_on side handle (top turn.inner) (top turn.far) turn.raised_colour)
+      ≡ links_on side (hole_parent turn.around) handle (top turn.far) turn.colour
+  lifted_links turn links up raised_links low values =
       let shade_is = ap (λ (l : Links). l.colour) values.links_are ∙ colour-on side (hole_parent turn.around) (top turn.outer) turn.raised turn.colour in
       let parent_is = ap (λ (l : Links). l.parent) values.links_are ∙ parent-on side (hole_parent turn.around) (top turn.outer) turn.raised turn.colour in
-      ap (λ (l : Links). moved_links l links.parent links.colour) is
-      ∙ ap (λ (l : Links). moved_links (with_child_link side handle l) links.parent links.colour) values.raised_are
-      ∙ moved_links-near side handle (top turn.inner) (top turn.far) handle links.parent turn.raised_colour links.colour
+      hung_links-near side handle (top turn.inner) (top turn.far) handle links.parent turn.raised_colour links.colour
       ∙ ap (λ (parent : ℕ). links_on side parent handle (top turn.far) links.colour) parent_is
       ∙ ap (links_on side (hole_parent turn.around) handle (top turn.far)) shade_is
 
@@ -313,16 +307,15 @@ module _ {T : Type 0} {handle : ℕ} {side : Side} where
       (raised ∙ ap (λ near. Some (Used (links_on side (hole_parent turn.around) near (top turn.far) turn.colour) turn.raised_item)) (sym below_top))
       (IsAt-fork_on slots turn.raised side turn.raised_colour turn.outer handle turn.item turn.inner own outer inner) far)
 
-  pub sound-turned : (s0 s1 s2 s3 s4 : List (Slot T)) (root new_root first_free free : ℕ) (turn : Turn T handle side) (links : Links) (up : ℕ) (raised_links : Links) (low : ℕ) (lowered lifted : Links)
+  pub sound-turned : (s0 s1 s2 s3 s4 : List (Slot T)) (root new_root first_free free : ℕ) (turn : Turn T handle side) (links : Links) (up : ℕ) (raised_links : Links) (low : ℕ) (away : Side)
       → IsSound s0 root first_free free (plug turn.around (unturned turn)) → Found turn links up raised_links low → Rehangs s0 s1 root new_root links.parent handle up
-      → lowered ≡ with_child_link (other_side side) low links → Relinks s1 s2 handle (moved_links lowered up raised_links.colour)
-      → lifted ≡ with_child_link side handle raised_links → Relinks s2 s3 up (moved_links lifted links.parent links.colour)
+      → away ≡ other_side side → Relinks s1 s2 handle (hung_links up raised_links.colour away low) → Relinks s2 s3 up (hung_links links.parent links.colour side handle)
       → Reparents s3 s4 low handle → length s4 ≡ length s0
       → IsSound s4 new_root first_free free (plug turn.around (turned turn))
-  sound-turned s0 s1 s2 s3 s4 root new_root first_free free turn links up raised_links low lowered lifted sound values rehangs lowered_is down lifted_is lift moves long =
+  sound-turned s0 s1 s2 s3 s4 root new_root first_free free turn links up raised_links low away sound values rehangs away_is down lift moves long =
       let lies = laid s0 root first_free free turn sound in
-      let DownAs : Links = moved_links lowered up raised_links.colour in
-      let LiftAs : Links = moved_links lifted links.parent links.colour in
+      let DownAs : Links → Links = hung_links up raised_links.colour away low in
+      let LiftAs : Links → Links = hung_links links.parent links.colour side handle in
       let raised_lift = lift_at s2 s3 turn links up raised_links low LiftAs values lift in
       let frames = hung s0 s1 root new_root turn links up raised_links low lies values rehangs in
       let Moves : ℕ → Type 0 = λ child. Reparents s3 s4 child handle in
@@ -336,11 +329,11 @@ module _ {T : Type 0} {handle : ℕ} {side : Side} where
       λ other gone. inner.1 other (omega arith) ∙ same_lifted s0 s1 s2 s3 root new_root turn links up raised_links low DownAs LiftAs lies values rehangs down raised_lift other (omega arith) in
       let own_at = inner.1 handle (omega arith) ∙ raised_lift.others handle (apart_by handle turn.raised (omega arith))
       ∙ down.at (links_on side (hole_parent turn.around) (top turn.outer) turn.raised turn.colour) turn.item (frames.1 handle (omega arith) ∙ lies.own)
-      ∙ ap (λ (l : Links). Some (Used l turn.item)) (lowered_links turn links up raised_links low lowered values lowered_is) in
+      ∙ ap (λ (l : Links). Some (Used l turn.item)) (lowered_links turn links up raised_links low away values away_is) in
       let raised_at = inner.1 turn.raised (omega arith)
       ∙ raised_lift.at (links_on side handle (top turn.inner) (top turn.far) turn.raised_colour) turn.raised_item
       (raised_lowered s0 s1 s2 root new_root turn links up raised_links low DownAs lies values rehangs down)
-      ∙ ap (λ (l : Links). Some (Used l turn.raised_item)) (lifted_links turn links up raised_links low lifted values lifted_is) in
+      ∙ ap (λ (l : Links). Some (Used l turn.raised_item)) (lifted_links turn links up raised_links low values) in
       let held = IsAround-same s1 s4 turn.around turn.raised
       (λ other inside. let once = lies.once other in
       inner.1 other (omega arith) ∙ raised_lift.others other (apart_by other turn.raised (omega arith)) ∙ down.others other (apart_by other handle (omega arith))) frames.0 in

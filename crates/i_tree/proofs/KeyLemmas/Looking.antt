@@ -1,59 +1,47 @@
 -- A look for a key that removes nothing.
-use Rattle.std.proofs.Common.{◌≡◌, ◌≢◌, ℕ, ◌+◌, ◌-◌, ◌≤◌, Bool, true, false, List, ◌∷◌, ◌++◌, length, refl, sym, ap, ◌∙◌, subst, arith}
+use Rattle.std.proofs.Common.{◌≡◌, ◌≢◌, ℕ, Bool, true, false, List, ◌∷◌, ◌++◌, sym, ap, ◌∙◌, subst}
 use Rattle.std.specs.Bool.{MatchBool}
 use Rattle.std.specs.Cmp.{IsTotalOrder, alike_right}
 use Rattle.std.specs.List.{All, AllPairs, Contains, filter}
 use Rattle.std.specs.Ordering.{ordering_reverse}
 use Rattle.std.specs.declared.cmp.Ordering.{Ordering}
-use Rattle.std.specs.declared.cmp.Ordering.TheVariants.{Less, Equal, Greater}
+use Rattle.std.specs.declared.cmp.Ordering.TheVariants.{Less, Equal}
 use Rattle.std.proofs.lemmas.Bool.{both_ways}
 use Rattle.std.proofs.lemmas.List.{map-append}
 use Rattle.std.proofs.lemmas.List.Elements.{All-cons, All-head, All-append, All-filter, All-weaker}
+use Rattle.i_tree.proofs.CoreLemmas.Insertion.{IsLower, IsHigher}
 use Rattle.i_tree.proofs.RootLemmas.RisingKeys.{HasKey-live}
 use Rattle.i_tree.proofs.RootLemmas.Lists.{All-filter_passing, AllPairs-head, MatchBool-by}
-use Rattle.i_tree.proofs.RootLemmas.Joined.{All-from_end, All-from_start, AllPairs-across, AllPairs-behind, AllPairs-front, AllPairs-of_map, All-to_map, Contains-middle}
-use Rattle.i_tree.specs.Root.Descent.{LooksFor}
-use Rattle.i_tree.specs.Root.Ends.{EndsIn, StartsIn}
+use Rattle.i_tree.proofs.RootLemmas.Joined.{AllPairs-across, AllPairs-behind, AllPairs-of_map, All-to_map, Contains-middle}
+use Rattle.i_tree.proofs.SetLemmas.Search.{IsBelow}
 use Rattle.i_tree.specs.Key.KeyExpTree.{items}
 use Rattle.i_tree.specs.Key.Live.{is_live, live_pairs}
 use Rattle.i_tree.specs.Root.Pairs.{HasKey, IsRising, NoKey}
 use Rattle.i_tree.specs.Set.Pairs.{values}
-use Rattle.i_tree.specs.Core.Balance.{IsCore}
-use Rattle.i_tree.specs.Core.Shape.{Shape, entries, rank}
-use Rattle.i_tree.specs.Root.Steps.{Counts}
+use Rattle.i_tree.specs.Core.Shape.{Shape, entries}
 
 module _ {K : Type 0} {cmp : K → K → Ordering} (o : IsTotalOrder cmp) (key : K) where
-  pub below_from_above : (other : K) → cmp other key ≡ Greater → cmp key other ≡ Less
-  below_from_above other above = o.antisymm key other ∙ ap ordering_reverse above
-
   not_equal_above : (other : K) → cmp key other ≡ Less → cmp other key ≢ Equal
   not_equal_above other below equal = let is = o.antisymm key other ∙ ap ordering_reverse equal in absurd (cc (below, is))
 
 module _ {K V : Type 0} {cmp : K → K → Ordering} (o : IsTotalOrder cmp) (key : K) where
-  abbrev IsBelow : ℕ × (K × V) → ℕ × (K × V) → Type 0
-  IsBelow earlier later = cmp earlier.1.0 later.1.0 ≡ Less
+  abbrev key_of : K × V → K
+  key_of pair = pair.0
 
-  abbrev Differs : ℕ × (K × V) → Type 0
-  Differs entry = cmp entry.1.0 key ≢ Equal
-
-  below_of_items : (tree : Shape (K × V)) → IsRising cmp (items tree) → AllPairs IsBelow (entries tree)
+  pub below_of_items : (tree : Shape (K × V)) → IsRising cmp (items tree) → AllPairs (IsBelow key_of o) (entries tree)
   below_of_items tree rising = AllPairs-of_map (λ (earlier : K × V) later. cmp earlier.0 later.0 ≡ Less) (λ (entry : ℕ × (K × V)). entry.1) (entries tree) rising
 
   -- between keys that are below and keys that are above it the key isn't there
-  pub absent_between : (p : K × V → Bool) (tree : Shape (K × V)) (front back : List (ℕ × (K × V))) → entries tree ≡ front ++ back → IsRising cmp (items tree)
-      → EndsIn (λ (entry : ℕ × (K × V)). cmp entry.1.0 key ≡ Less) front → StartsIn (λ (entry : ℕ × (K × V)). cmp key entry.1.0 ≡ Less) back → NoKey cmp (filter p (items tree)) key
-  absent_between p tree front back cut rising ends starts =
-      let IsLower : ℕ × (K × V) → Type 0 = λ entry. cmp entry.1.0 key ≡ Less in
-      let IsHigher : ℕ × (K × V) → Type 0 = λ entry. cmp key entry.1.0 ≡ Less in
-      let below : AllPairs IsBelow (front ++ back) = subst (AllPairs IsBelow) cut (below_of_items tree rising) in
-      let lows = All-from_end IsBelow IsLower (λ x y h low. o.trans x.1.0 y.1.0 key h low) front (AllPairs-front IsBelow front back below) ends in
-      let highs = All-from_start IsBelow IsHigher (λ x y h high. o.trans key x.1.0 y.1.0 high h) back (AllPairs-behind IsBelow front back below) starts in
+  pub absent_between : (p : K × V → Bool) (tree : Shape (K × V)) (front back : List (ℕ × (K × V))) → entries tree ≡ front ++ back → All (IsLower key_of o key) front × All (IsHigher key_of o key) back
+      → NoKey cmp (filter p (items tree)) key
+  absent_between p tree front back cut (lows, highs) =
+      let Differs : ℕ × (K × V) → Type 0 = λ entry. cmp entry.1.0 key ≢ Equal in
       All-filter p (λ (pair : K × V). cmp pair.0 key ≢ Equal) (items tree)
       (All-to_map (λ (pair : K × V). cmp pair.0 key ≢ Equal) (λ (entry : ℕ × (K × V)). entry.1) (entries tree)
       (subst (All Differs) (sym cut)
       (All-append Differs front back
-      (All-weaker IsLower Differs (λ entry low equal. absurd (cc (low, equal))) front lows)
-      (All-weaker IsHigher Differs (λ entry high. not_equal_above o key entry.1.0 high) back highs))))
+      (All-weaker (IsLower key_of o key) Differs (λ entry low equal. absurd (cc (low, equal))) front lows)
+      (All-weaker (IsHigher key_of o key) Differs (λ entry high. not_equal_above o key entry.1.0 high) back highs))))
 
   module _ {E : Type 0} (expiration : K → E) (cmp_time : E → E → Ordering) (time : E) (tree : Shape (K × V)) (front : List (ℕ × (K × V))) (entry : ℕ × (K × V)) (back : List (ℕ × (K × V)))
       (cut : entries tree ≡ front ++ entry ∷ back) (rising : IsRising cmp (items tree)) (equal : cmp entry.1.0 key ≡ Equal) where
@@ -65,34 +53,21 @@ module _ {K V : Type 0} {cmp : K → K → Ordering} (o : IsTotalOrder cmp) (key
     lacks_equal : is_live expiration cmp_time time entry.1.0 ≡ false → NoKey cmp (live_pairs expiration cmp_time time (items tree)) key
     lacks_equal expired =
         let Passes : ℕ × (K × V) → Type 0 = λ other. is_live expiration cmp_time time other.1.0 ≡ true → cmp other.1.0 key ≢ Equal in
-        let below : AllPairs IsBelow (front ++ entry ∷ back) = subst (AllPairs IsBelow) cut (below_of_items tree rising) in
-        let across = AllPairs-across IsBelow front (entry ∷ back) below in
-        let behind : All (IsBelow entry) back = AllPairs-head IsBelow entry back (AllPairs-behind IsBelow front (entry ∷ back) below) in
+        let below : AllPairs (IsBelow key_of o) (front ++ entry ∷ back) = subst (AllPairs (IsBelow key_of o)) cut (below_of_items tree rising) in
+        let across = AllPairs-across (IsBelow key_of o) front (entry ∷ back) below in
+        let behind : All (IsBelow key_of o entry) back = AllPairs-head (IsBelow key_of o) entry back (AllPairs-behind (IsBelow key_of o) front (entry ∷ back) below) in
         All-filter_passing (λ (pair : K × V). is_live expiration cmp_time time pair.0) (λ (pair : K × V). cmp pair.0 key ≢ Equal) (items tree)
         (All-to_map (λ (pair : K × V). is_live expiration cmp_time time pair.0 ≡ true → cmp pair.0 key ≢ Equal) (λ (other : ℕ × (K × V)). other.1) (entries tree)
         (subst (All Passes) (sym cut)
         (All-append Passes front (entry ∷ back)
-        (All-weaker (λ other. All (IsBelow other) (entry ∷ back)) Passes
-        (λ other lower _ level. let is_below = All-head (IsBelow other) entry back lower in let is = alike_right o entry.1.0 key other.1.0 equal in absurd (cc (is_below, is, level)))
+        (All-weaker (λ other. All (IsBelow key_of o other) (entry ∷ back)) Passes
+        (λ other lower _ level. let is_below = All-head (IsBelow key_of o other) entry back lower in let is = alike_right o entry.1.0 key other.1.0 equal in absurd (cc (is_below, is, level)))
         front across)
         (All-cons Passes entry back (λ live _. both_ways (is_live expiration cmp_time time entry.1.0) expired live)
-        (All-weaker (IsBelow entry) Passes
+        (All-weaker (IsBelow key_of o entry) Passes
         (λ other higher _ level. let is = alike_right o other.1.0 key entry.1.0 level in absurd (cc (higher, is, equal)))
         back behind)))))
 
     -- the one key that compares Equal is live or not
     pub cases_equal : (answer : Bool) → answer ≡ is_live expiration cmp_time time entry.1.0 → MatchBool answer (HasKey cmp (live_pairs expiration cmp_time time (items tree)) key) (NoKey cmp (live_pairs expiration cmp_time time (items tree)) key)
     cases_equal answer is = MatchBool-by answer _ _ (λ yes. has_equal (sym is ∙ yes)) (λ no. lacks_equal (sym is ∙ no))
-
--- as many comparisons as the rank, and at most one test
-pub counted_look : {V : Type 0} (tree : Shape V) (old new : Counts) → IsCore tree → old.comparisons ≤ new.comparisons → new.comparisons ≤ old.comparisons + rank tree
-    → old.tests ≤ new.tests → new.tests ≤ old.tests + 1 → new.removals ≡ old.removals → new.rotations ≡ old.rotations → LooksFor old new (length (entries tree))
-counted_look tree old new core no_fewer few tests_no_fewer tests removals rotations =
-    record {
-      made = record { comparisons = new.comparisons - old.comparisons; tests = new.tests - old.tests; removals = 0; rotations = 0 };
-      adds = record { comparisons = omega (arith, no_fewer); tests = omega (arith, tests_no_fewer); removals = omega (arith, removals); rotations = omega (arith, rotations) };
-      compares = λ levels small. let bound = core.bounded levels small in omega (arith, few, bound);
-      tests = omega (arith, tests);
-      removes_none = refl;
-      turns_none = refl;
-    }

@@ -1,239 +1,131 @@
--- What a way down says of the live keys, by their order.
-use Rattle.std.proofs.Common.{◌≡◌, ◌≢◌, ◌⊎◌, ℕ, ◌≤◌, get_or, ⊎_elim, Bool, true, false, Option, List, [], ◌∷◌, ◌++◌, refl, sym, ap, ◌∙◌, subst, inl, inr, arith, append_assoc}
-use Rattle.std.specs.Cmp.{IsTotalOrder, tied_itself}
-use Rattle.std.specs.List.{All, AllPairs, Contains, filter}
-use Rattle.std.specs.Option.{unwrap_or}
-use Rattle.std.specs.Ordering.{ordering_index}
+-- What a way down answers: it cuts the live pairs.
+use Rattle.std.proofs.Common.{◌≡◌, ◌≢◌, ℕ, Bool, true, false, not, List, [], ◌∷◌, ◌++◌, refl, sym, ap, ◌∙◌, subst, inl, inr, append_assoc, arith}
+use Rattle.std.specs.Cmp.{IsTotalOrder}
+use Rattle.std.specs.List.{All, filter}
+use Rattle.std.specs.List.Sorted.{IsPartitionedBy}
+use Rattle.std.specs.Ordering.{is_gt, is_lt}
 use Rattle.std.specs.declared.cmp.Ordering.{Ordering}
-use Rattle.std.specs.declared.cmp.Ordering.TheVariants.{Less, Equal, Greater}
+use Rattle.std.specs.declared.cmp.Ordering.TheVariants.{Less}
 use Rattle.std.proofs.lemmas.List.{map-append}
-use Rattle.std.proofs.lemmas.List.Elements.{All-nil, All-cons, All-head, All-append, All-weaker, All-contains, filter-append}
-use Rattle.i_tree.proofs.RootLemmas.Joined.{All-front, All-behind, EndsIn-end, EndsIn-last, Contains-middle, last_cut, AllPairs-front, AllPairs-behind, AllPairs-across, All-from_end, All-from_start}
-use Rattle.i_tree.proofs.RootLemmas.Lists.{Contains-filter, Without-filter}
-use Rattle.i_tree.proofs.KeyLemmas.Ways.{last_value-end}
-use Rattle.i_tree.proofs.SetLemmas.Search.{to_less, to_greater}
+use Rattle.std.proofs.lemmas.List.Elements.{All-head, All-weaker, filter-append}
+use Rattle.i_tree.proofs.RootLemmas.Cuts.{IsCutBy, FindsPassing, cut_between, below_at_cut, at_most_at_cut}
+use Rattle.i_tree.proofs.RootLemmas.Joined.{All-front, All-behind}
+use Rattle.i_tree.proofs.RootLemmas.Lists.{Without-filter}
+use Rattle.i_tree.proofs.RootLemmas.RisingKeys.{IsPartitionedBy-monotone, IsPartitionedBy-rising}
 use Rattle.i_tree.proofs.RootLemmas.Withouts.{AllPairs-without, filter-without}
 use Rattle.i_tree.specs.Root.Answer.{AtMost, AnswersBy, Below, IsMonotone}
 use Rattle.i_tree.specs.Root.Change.{Without}
-use Rattle.i_tree.specs.Root.Ends.{EndsIn, StartsIn}
-use Rattle.i_tree.specs.Key.Descent.{IsCalled, EndsAt, EndsBetween, below_or_not, last_value}
-use Rattle.i_tree.specs.Key.KeyExpTree.{items}
+use Rattle.i_tree.specs.Root.Ends.{LastFinds, StartsIn}
 use Rattle.i_tree.specs.Root.Pairs.{IsRising}
+use Rattle.i_tree.specs.Key.Descent.{DescendsBetween, FindsPassed, IsCalled}
+use Rattle.i_tree.specs.Key.KeyExpTree.{items}
 use Rattle.i_tree.specs.Set.Pairs.{values}
-use Rattle.i_tree.specs.Core.Shape.{Shape}
+use Rattle.i_tree.specs.Core.Shape.{Shape, entries, occurs, IsLive}
+use Rattle.i_tree.proofs.CoreLemmas.PartHandles.{live_from_cut}
+use Rattle.i_tree.specs.declared.TheConstants.{EMPTY_REF}
 use Rattle.i_tree.specs.declared.place.Place.{Place}
 
-module _ {K V : Type 0} {cmp : K → K → Ordering} (o : IsTotalOrder cmp) (order : K → Ordering) where
-  abbrev IsSaid : Ordering → K × V → Type 0
-  IsSaid answer pair = order pair.0 ≡ answer
+module _ {K V : Type 0} (is_live : K → Bool) where
+  abbrev live : List (K × V) → List (K × V)
+  live pairs = filter (λ pair. is_live pair.0) pairs
 
-  abbrev IsBelow : K × V → K × V → Type 0
-  IsBelow earlier later = cmp earlier.0 later.0 ≡ Less
+  -- what is read at a handle, or the default where there is none
+  pub record ValueAt (tree : Shape (K × V)) (handle : ℕ) (default value : V) : Type 0 where
+    pub none_empty : occurs EMPTY_REF tree ≡ 0
+    pub none : handle ≡ EMPTY_REF → value ≡ default
+    pub some : handle ≢ EMPTY_REF → (front : List (ℕ × (K × V))) (pair : K × V) (back : List (ℕ × (K × V))) → entries tree ≡ front ++ (handle, pair) ∷ back → value ≡ pair.1
 
-  abbrev Rises : K × V → K × V → Type 0
-  Rises earlier later = ordering_index (order earlier.0) ≤ ordering_index (order later.0)
+  -- where an entry was found the tree is cut there
+  cut_found : (May : K → Bool → Type 0) (tree : Shape (K × V)) (place : Place) (found : ℕ) (end : DescendsBetween is_live May tree place found) (rest : List (ℕ × (K × V))) (last : ℕ × (K × V))
+      → end.front ≡ rest ++ last ∷ [] → found ≡ last.0 → entries tree ≡ rest ++ (found, last.1) ∷ end.back
+  cut_found May tree place found end rest last cut is =
+      end.between.cut ∙ ap (λ list. list ++ end.back) cut ∙ append_assoc rest (last ∷ []) end.back ∙ ap (λ handle. rest ++ (handle, last.1) ∷ end.back) (sym is)
 
-  none_equal : (front back : List (K × V)) → All (IsSaid Less) front → All (IsSaid Greater) back → All (λ pair. order pair.0 ≢ Equal) (front ++ back)
-  none_equal front back lows highs =
-      let Differs : K × V → Type 0 = λ pair. order pair.0 ≢ Equal in
-      All-append Differs front back
-      (All-weaker (IsSaid Less) Differs (λ pair low equal. absurd (cc (low, equal))) front lows)
-      (All-weaker (IsSaid Greater) Differs (λ pair high equal. absurd (cc (high, equal))) back highs)
-
-  -- the last of those called Less is the greatest of them
-  greatest_last : (front : List (K × V)) (last : K × V) (back : List (K × V)) (default : V) → IsRising cmp ((front ++ last ∷ []) ++ back)
-      → All (IsSaid Less) (front ++ last ∷ []) → All (IsSaid Greater) back → AtMost cmp ((front ++ last ∷ []) ++ back) order default last.1
-  greatest_last front last back default rising lows highs =
-      let below : AllPairs IsBelow (front ++ last ∷ []) = AllPairs-front IsBelow (front ++ last ∷ []) back rising in
-      let NotAbove : K × V → Type 0 = λ other. order other.0 ≡ Less → cmp other.0 last.0 ≢ Greater in
-      inr (
-        none_equal (front ++ last ∷ []) back lows highs,
-        inl (
-          last,
-          record {
-            contained = subst (λ (pairs : List (K × V)). Contains pairs last) (sym (append_assoc front (last ∷ []) back)) (Contains-middle front last back);
-            meets = All-head (IsSaid Less) last [] (All-behind (IsSaid Less) front (last ∷ []) lows);
-            none_above = All-append NotAbove (front ++ last ∷ []) back
-                (All-append NotAbove front (last ∷ [])
-                (All-weaker (λ other. All (IsBelow other) (last ∷ [])) NotAbove (λ other lower _ above. let is_below = All-head (IsBelow other) last [] lower in absurd (cc (is_below, above))) front (AllPairs-across IsBelow front (last ∷ []) below))
-                (All-cons NotAbove last [] (λ _ above. let level = tied_itself o last.0 in absurd (cc (level, above))) (All-nil NotAbove)))
-                (All-weaker (IsSaid Greater) NotAbove (λ other high low. absurd (cc (high, low))) back highs);
-          },
-          refl,
-        ),
-      )
-
-  none_less : (back : List (K × V)) (default : V) → All (IsSaid Greater) back → AtMost cmp back order default default
-  none_less back default highs =
-      let NotLess : K × V → Type 0 = λ pair. order pair.0 ≢ Less in
-      inr (
-        none_equal [] back (All-nil (IsSaid Less)) highs,
-        inr (All-weaker (IsSaid Greater) NotLess (λ pair high low. absurd (cc (high, low))) back highs, refl),
-      )
-
-  module _ (May : K → Ordering → Type 0) where
-    abbrev Says : K × V → Type 0
-    Says pair = (answer : Ordering) → May pair.0 answer → answer ≡ order pair.0
-
-    rises : (pairs : List (K × V)) → IsRising cmp pairs → IsMonotone cmp order pairs → AllPairs Rises pairs
-    rises pairs rising monotone i j d below within = monotone i d (omega arith) j d within (rising i j d below within)
-
-    first_said : (pairs : List (K × V)) → All Says pairs → StartsIn (λ (pair : K × V). May pair.0 Greater) pairs → StartsIn (IsSaid Greater) pairs
-    first_said [] says starts = tt
-    first_said (pair ∷ pairs) says starts = sym (All-head Says pair pairs says Greater starts)
-
-    highs : (front back : List (K × V)) → IsRising cmp (front ++ back) → AnswersBy May order (front ++ back) → IsMonotone cmp order (front ++ back)
-        → StartsIn (λ (pair : K × V). May pair.0 Greater) back → All (IsSaid Greater) back
-    highs front back rising answers monotone starts =
-        All-from_start Rises (IsSaid Greater) (λ x y h high. to_greater (order y.0) (omega (arith, h, ap ordering_index high))) back
-        (AllPairs-behind Rises front back (rises (front ++ back) rising monotone)) (first_said back (All-behind Says front back answers) starts)
-
-    lows : (front : List (K × V)) (last : K × V) (back : List (K × V)) → IsRising cmp ((front ++ last ∷ []) ++ back) → AnswersBy May order ((front ++ last ∷ []) ++ back) → IsMonotone cmp order ((front ++ last ∷ []) ++ back)
-        → May last.0 Less → All (IsSaid Less) (front ++ last ∷ [])
-    lows front last back rising answers monotone less =
-        let says : Says last = All-head Says last [] (All-behind Says front (last ∷ []) (All-front Says (front ++ last ∷ []) back answers)) in
-        All-from_end Rises (IsSaid Less) (λ x y h low. to_less (order x.0) (omega (arith, h, ap ordering_index low))) (front ++ last ∷ [])
-        (AllPairs-front Rises (front ++ last ∷ []) back (rises ((front ++ last ∷ []) ++ back) rising monotone))
-        (EndsIn-end (IsSaid Less) front last (sym (says Less less)))
-
-    misses_all : (pairs : List (K × V)) (default : V) → IsRising cmp pairs → AnswersBy May order pairs → IsMonotone cmp order pairs
-        → StartsIn (λ (pair : K × V). May pair.0 Greater) pairs → AtMost cmp pairs order default default
-    misses_all pairs default rising answers monotone starts = none_less pairs default (highs [] pairs rising answers monotone starts)
-
-    misses_behind : (front : List (K × V)) (last : K × V) (back : List (K × V)) (default : V) → IsRising cmp ((front ++ last ∷ []) ++ back) → AnswersBy May order ((front ++ last ∷ []) ++ back)
-        → IsMonotone cmp order ((front ++ last ∷ []) ++ back) → May last.0 Less → StartsIn (λ (pair : K × V). May pair.0 Greater) back
-        → AtMost cmp ((front ++ last ∷ []) ++ back) order default last.1
-    misses_behind front last back default rising answers monotone less starts =
-        greatest_last front last back default rising (lows front last back rising answers monotone less) (highs (front ++ last ∷ []) back rising answers monotone starts)
-
-    module _ (is_live : K → Bool) where
-      abbrev live : List (K × V) → List (K × V)
-      live pairs = filter (λ pair. is_live pair.0) pairs
-
-      live_first : (back : List (ℕ × (K × V))) → StartsIn (IsCalled is_live May Greater) back → StartsIn (λ (pair : K × V). May pair.0 Greater) (live (values back))
-      live_first [] starts = tt
-      live_first (entry ∷ rest) starts = rw (starts.0) starts.1
-
-      live_last : (front : List (ℕ × (K × V))) (last : ℕ × (K × V)) (back : List (ℕ × (K × V))) → is_live last.1.0 ≡ true
-          → live (values ((front ++ last ∷ []) ++ back)) ≡ (live (values front) ++ last.1 ∷ []) ++ live (values back)
-      live_last front last back is =
-          ap live (map-append (λ (entry : ℕ × (K × V)). entry.1) (front ++ last ∷ []) back)
-          ∙ filter-append (λ (pair : K × V). is_live pair.0) (values (front ++ last ∷ [])) (values back)
-          ∙ ap (λ pairs. pairs ++ live (values back))
-          (ap live (map-append (λ (entry : ℕ × (K × V)). entry.1) front (last ∷ []))
-          ∙ filter-append (λ (pair : K × V). is_live pair.0) (values front) (last.1 ∷ [])
-          ∙ ap (λ pairs. live (values front) ++ pairs) (rw is refl))
-
-      missed : (front back : List (ℕ × (K × V))) (default : V) → EndsIn (IsCalled is_live May Less) front → StartsIn (IsCalled is_live May Greater) back
-          → IsRising cmp (live (values (front ++ back))) → AnswersBy May order (live (values (front ++ back))) → IsMonotone cmp order (live (values (front ++ back)))
-          → AtMost cmp (live (values (front ++ back))) order default (unwrap_or (last_value front) default)
-      missed [] back default ends starts rising answers monotone = misses_all (live (values back)) default rising answers monotone (live_first back starts)
-      missed (first ∷ rest) back default ends starts rising answers monotone =
-          let (front, last, is) = last_cut first rest in
-          let Missed : List (ℕ × (K × V)) → Type 0 = λ entries. EndsIn (IsCalled is_live May Less) entries
-          → IsRising cmp (live (values (entries ++ back))) → AnswersBy May order (live (values (entries ++ back))) → IsMonotone cmp order (live (values (entries ++ back)))
-          → AtMost cmp (live (values (entries ++ back))) order default (unwrap_or (last_value entries) default) in
-          subst Missed (sym is) (behind front last) ends rising answers monotone
-        where
-          behind : (front : List (ℕ × (K × V))) (last : ℕ × (K × V)) → EndsIn (IsCalled is_live May Less) (front ++ last ∷ [])
-              → IsRising cmp (live (values ((front ++ last ∷ []) ++ back))) → AnswersBy May order (live (values ((front ++ last ∷ []) ++ back))) → IsMonotone cmp order (live (values ((front ++ last ∷ []) ++ back)))
-              → AtMost cmp (live (values ((front ++ last ∷ []) ++ back))) order default (unwrap_or (last_value (front ++ last ∷ [])) default)
-          behind front last ends rising answers monotone =
-              let called : IsCalled is_live May Less last = EndsIn-last (IsCalled is_live May Less) front last ends in
-              let cut = live_last front last back called.0 in
-              let Found : List (K × V) → Type 0 = λ pairs. AtMost cmp pairs order default (unwrap_or (last_value (front ++ last ∷ [])) default) in
-              subst Found (sym cut)
-              (subst (λ (value : Option V). AtMost cmp ((live (values front) ++ last.1 ∷ []) ++ live (values back)) order default (unwrap_or value default)) (sym (last_value-end front last))
-              (misses_behind (live (values front)) last.1 (live (values back)) default (subst (IsRising cmp) cut rising) (subst (AnswersBy May order) cut answers) (subst (IsMonotone cmp order) cut monotone) called.1 (live_first back starts)))
-
-      -- what a way down answers that has ended at an empty place
-      pub missed_between : (tree : Shape (K × V)) (place : Place) (value : Option V) (default : V) → EndsBetween is_live May tree place value → IsRising cmp (items tree)
-          → AnswersBy May order (live (items tree)) → IsMonotone cmp order (live (items tree)) → AtMost cmp (live (items tree)) order default (unwrap_or value default)
-      missed_between tree place value default end rising answers monotone =
-          let cut : items tree ≡ values (end.front ++ end.back) = ap values end.between.cut in
-          let Missed : List (K × V) → Type 0 = λ pairs. IsRising cmp (live pairs) → AnswersBy May order (live pairs) → IsMonotone cmp order (live pairs) → AtMost cmp (live pairs) order default (unwrap_or value default) in
-          subst Missed (sym cut)
-          (subst (λ (found : Option V). IsRising cmp (live (values (end.front ++ end.back))) → AnswersBy May order (live (values (end.front ++ end.back))) → IsMonotone cmp order (live (values (end.front ++ end.back))) → AtMost cmp (live (values (end.front ++ end.back))) order default (unwrap_or found default)) (sym end.value_is)
-          (missed end.front end.back default end.before end.after))
-          (AllPairs-without (λ (earlier : K × V) later. cmp earlier.0 later.0 ≡ Less) (Without-filter (λ (pair : K × V). is_live pair.0) (items tree)) rising) answers monotone
-
-      -- what it answers that has come to a key called Equal
-      pub found_at : (tree : Shape (K × V)) (value : Option V) (default : V) → EndsAt is_live May tree value → AnswersBy May order (live (items tree)) → AtMost cmp (live (items tree)) order default (unwrap_or value default)
-      found_at tree value default end answers =
-          let contained : Contains (items tree) end.entry.1 = rw (ap values end.cut ∙ map-append (λ (entry : ℕ × (K × V)). entry.1) end.front (end.entry ∷ end.back)) (Contains-middle (values end.front) end.entry.1 (values end.back)) in
-          let kept = Contains-filter (λ (pair : K × V). is_live pair.0) (items tree) end.entry.1 end.called.0 contained in
-          inl (kept.0, end.entry.1, kept.1, kept.2, (sym (All-contains Says (live (items tree)) end.entry.1 answers kept Equal end.called.1), ap (λ (found : Option V). unwrap_or found default) end.value_is))
-
-never_equal : (r : Ordering) → below_or_not r ≢ Equal
-never_equal Less is = absurd (cc (is))
-never_equal Equal is = absurd (cc (is))
-never_equal Greater is = absurd (cc (is))
-
-pub less_from : (r : Ordering) → below_or_not r ≡ Less → r ≡ Less
-less_from Less is = refl
-less_from Equal is = absurd (cc (is))
-less_from Greater is = absurd (cc (is))
-
--- A key that no other is called Equal to.
-module _ {K : Type 0} {cmp : K → K → Ordering} (o : IsTotalOrder cmp) (key : K) where
-  abbrev pub beside : K → Ordering
-  beside other = below_or_not (cmp other key)
-
-  pub beside_monotone : {V : Type 0} (pairs : List (K × V)) → IsMonotone cmp beside pairs
-  beside_monotone pairs i d inside j e within = rises (get_or pairs i d).0 (get_or pairs j e).0
+  -- and it is live there
+  pub live_found : (May : K → Bool → Type 0) (tree : Shape (K × V)) (place : Place) (found : ℕ) → DescendsBetween is_live May tree place found → found ≢ EMPTY_REF → IsLive tree found
+  live_found May tree place found end some = by_last end.before
     where
-      rises : (a b : K) → cmp a b ≡ Less → ordering_index (below_or_not (cmp a key)) ≤ ordering_index (below_or_not (cmp b key))
-      rises a b below = by_answer (cmp b key) refl
-        where
-          at_most_greater : (r : Ordering) → ordering_index r ≤ 2
-          at_most_greater Less = omega arith
-          at_most_greater Equal = omega arith
-          at_most_greater Greater = omega arith
+      by_last : LastFinds (FindsPassed is_live May) EMPTY_REF end.front found → IsLive tree found
+      by_last (inl (none, is)) = absurd (some is)
+      by_last (inr (rest, last, cut, (called, is))) = live_from_cut found tree rest last.1 end.back (cut_found May tree place found end rest last cut is)
 
-          by_answer : (r : Ordering) → cmp b key ≡ r → ordering_index (below_or_not (cmp a key)) ≤ ordering_index (below_or_not (cmp b key))
-          by_answer Less e = omega (arith, ap (λ r. ordering_index (below_or_not r)) (o.trans a b key below e))
-          by_answer Equal e = omega (arith, ap (λ r. ordering_index (below_or_not r)) e, at_most_greater (below_or_not (cmp a key)))
-          by_answer Greater e = omega (arith, ap (λ r. ordering_index (below_or_not r)) e, at_most_greater (below_or_not (cmp a key)))
+  module _ (May : K → Bool → Type 0) (test : K → Bool) (default : V) where
+    -- what may be answered about the pair is what the test says
+    abbrev Says : K × V → Type 0
+    Says pair = (answer : Bool) → May pair.0 answer → answer ≡ test pair.0
 
-  -- the answer at most, where none is called Equal, is the one below
-  below_from_at_most : {V : Type 0} (pairs : List (K × V)) (default value : V) → AtMost cmp pairs beside default value → Below cmp pairs key default value
-  below_from_at_most {V} pairs default value found =
-      ⊎_elim
-      (λ (k, pair, within, is, said). absurd (never_equal (cmp pair.0 key) said.0))
-      (λ (_, greatest). ⊎_elim
-      (λ (pair, is_greatest, is). inl (
-        pair,
-        record {
-          contained = is_greatest.contained;
-          meets = less_from (cmp pair.0 key) is_greatest.meets;
-          none_above = All-weaker (λ (other : K × V). beside other.0 ≡ Less → cmp other.0 pair.0 ≢ Greater) (λ (other : K × V). cmp other.0 key ≡ Less → cmp other.0 pair.0 ≢ Greater) (λ other h less. h (ap below_or_not less)) pairs is_greatest.none_above;
-        },
-        is,
-      ))
-      (λ (none, is). inr (All-weaker (λ (other : K × V). ¬ (beside other.0 ≡ Less)) (λ (other : K × V). ¬ (cmp other.0 key ≡ Less)) (λ other h less. h (ap below_or_not less)) pairs none, is))
-      greatest)
-      found
+    -- the value of an entry that passed
+    abbrev FindsValue : ℕ × (K × V) → V → Type 0
+    FindsValue entry value = IsCalled is_live May true entry × (value ≡ entry.1.1)
 
-  -- what a way down to the key answers, by what was stored before
-  pub answer_below : {V : Type 0} (is_live : K → Bool) (before : List (K × V)) (tree : Shape (K × V)) (place : Place) (value : Option V) (default : V) → EndsBetween is_live (λ other answer. answer ≡ below_or_not (cmp other key)) tree place value
-      → IsRising cmp before → Without (λ pair. is_live pair.0 ≡ false) before (items tree) → Below cmp (filter (λ pair. is_live pair.0) before) key default (unwrap_or value default)
-  answer_below {V} is_live before tree place value default end rising kept =
-      let live : List (K × V) → List (K × V) = λ pairs. filter (λ pair. is_live pair.0) pairs in
-      rw (filter-without (λ (pair : K × V). is_live pair.0) (λ x expired. expired) kept)
-      (below_from_at_most (live (items tree)) default (unwrap_or value default)
-      (missed_between o beside (λ other answer. answer ≡ below_or_not (cmp other key)) is_live tree place value default end
-      (AllPairs-without (λ (earlier : K × V) later. cmp earlier.0 later.0 ≡ Less) kept rising) (λ k d within answer is. is) (beside_monotone (live (items tree)))))
+    -- what stands at the handle that was found, or the default
+    value_found : (tree : Shape (K × V)) (place : Place) (found : ℕ) (value : V) (end : DescendsBetween is_live May tree place found) → ValueAt tree found default value → LastFinds FindsValue default end.front value
+    value_found tree place found value end read = by_last end.before
+      where
+        by_last : LastFinds (FindsPassed is_live May) EMPTY_REF end.front found → LastFinds FindsValue default end.front value
+        by_last (inl (none, is)) = inl (none, read.none is)
+        by_last (inr (rest, last, cut, (called, is))) =
+            let whole = cut_found May tree place found end rest last cut is in
+            let live = live_from_cut found tree rest last.1 end.back whole in
+            inr (rest, last, cut, (called, read.some (λ empty. absurd (omega (arith, live, read.none_empty, ap (λ handle. occurs handle tree) empty))) rest last.1 end.back whole))
 
--- what a way down by a closure answers, by what was stored before
-pub answer_at_most : {K V : Type 0} {cmp : K → K → Ordering} (o : IsTotalOrder cmp) (May : K → Ordering → Type 0) (is_live : K → Bool) (before : List (K × V)) (tree : Shape (K × V)) (place : Place) (value : Option V) (default : V)
-    → EndsAt is_live May tree value ⊎ EndsBetween is_live May tree place value → IsRising cmp before → Without (λ pair. is_live pair.0 ≡ false) before (items tree)
-    → (order : K → Ordering) → AnswersBy May order (filter (λ pair. is_live pair.0) before) → IsMonotone cmp order (filter (λ pair. is_live pair.0) before)
-    → AtMost cmp (filter (λ pair. is_live pair.0) before) order default (unwrap_or value default)
-answer_at_most {K} {V} {cmp} o May is_live before tree place value default end rising kept order =
-    let live : List (K × V) → List (K × V) = λ pairs. filter (λ pair. is_live pair.0) pairs in
-    subst (λ (pairs : List (K × V)). AnswersBy May order pairs → IsMonotone cmp order pairs → AtMost cmp pairs order default (unwrap_or value default))
-    (sym (filter-without (λ (pair : K × V). is_live pair.0) (λ x expired. expired) kept))
-    (λ answers monotone. ⊎_elim
-    (λ at. found_at o order May is_live tree value default at answers)
-    (λ between. missed_between o order May is_live tree place value default between (AllPairs-without (λ (earlier : K × V) later. cmp earlier.0 later.0 ≡ Less) kept rising) answers monotone)
-    end)
+    live_append : (front back : List (ℕ × (K × V))) → live (values (front ++ back)) ≡ live (values front) ++ live (values back)
+    live_append front back =
+        ap live (map-append (λ (entry : ℕ × (K × V)). entry.1) front back) ∙ filter-append (λ (pair : K × V). is_live pair.0) (values front) (values back)
+
+    last_live : (front : List (ℕ × (K × V))) (value : V) → All Says (live (values front)) → LastFinds FindsValue default front value → LastFinds (FindsPassing test) default (live (values front)) value
+    last_live front value says (inl (none, is)) = inl (ap (λ (entries : List (ℕ × (K × V))). live (values entries)) none, is)
+    last_live front value says (inr (rest, last, cut, (called, is))) =
+        let whole : live (values front) ≡ live (values rest) ++ last.1 ∷ [] =
+        ap (λ (entries : List (ℕ × (K × V))). live (values entries)) cut ∙ live_append rest (last ∷ []) ∙ ap (λ (pairs : List (K × V)). live (values rest) ++ pairs) (rw (called.0) refl) in
+        let at_last = All-head Says last.1 [] (All-behind Says (live (values rest)) (last.1 ∷ []) (subst (All Says) whole says)) in
+        inr (live (values rest), last.1, whole, (sym (at_last true called.1), is))
+
+    first_live : (back : List (ℕ × (K × V))) → All Says (live (values back)) → StartsIn (IsCalled is_live May false) back → StartsIn (λ (pair : K × V). test pair.0 ≡ false) (live (values back))
+    first_live [] says starts = tt
+    first_live (entry ∷ rest) says (lives, may) =
+        let whole : live (values (entry ∷ rest)) ≡ entry.1 ∷ live (values rest) = rw lives refl in
+        let at_first = All-head Says entry.1 (live (values rest)) (subst (All Says) whole says) in
+        subst (StartsIn (λ (pair : K × V). test pair.0 ≡ false)) (sym whole) (sym (at_first false may))
+
+    pub cut_live : (tree : Shape (K × V)) (place : Place) (found : ℕ) (value : V) → DescendsBetween is_live May tree place found → ValueAt tree found default value
+        → All Says (live (items tree)) → IsPartitionedBy (λ (pair : K × V). test pair.0) (live (items tree)) → IsCutBy test (live (items tree)) default value
+    cut_live tree place found value end read says parted =
+        let whole : live (items tree) ≡ live (values end.front) ++ live (values end.back) = ap (λ (entries : List (ℕ × (K × V))). live (values entries)) end.between.cut ∙ live_append end.front end.back in
+        let says_too = subst (All Says) whole says in
+        subst (λ (pairs : List (K × V)). IsCutBy test pairs default value) (sym whole)
+        (cut_between test default value (live (values end.back)) (live (values end.front)) (subst (IsPartitionedBy (λ (pair : K × V). test pair.0)) whole parted)
+        (last_live end.front value (All-front Says (live (values end.front)) (live (values end.back)) says_too) (value_found tree place found value end read))
+        (first_live end.back (All-behind Says (live (values end.front)) (live (values end.back)) says_too) end.after))
+
+  module _ {cmp : K → K → Ordering} (o : IsTotalOrder cmp) (before : List (K × V)) (tree : Shape (K × V)) (place : Place) (found : ℕ) (default value : V) (read : ValueAt tree found default value) (rising : IsRising cmp before)
+      (kept : Without (λ pair. is_live pair.0 ≡ false) before (items tree)) where
+    same_live : live before ≡ live (items tree)
+    same_live = filter-without (λ (pair : K × V). is_live pair.0) (λ x expired. expired) kept
+
+    rising_live : IsRising cmp (live (items tree))
+    rising_live =
+        AllPairs-without (λ (earlier : K × V) later. cmp earlier.0 later.0 ≡ Less) (Without-filter (λ (pair : K × V). is_live pair.0) (items tree))
+        (AllPairs-without (λ (earlier : K × V) later. cmp earlier.0 later.0 ≡ Less) kept rising)
+
+    -- what a way down to a key answers, by what was stored before
+    pub answer_below : (key : K) → DescendsBetween is_live (λ other answer. answer ≡ is_lt (cmp other key)) tree place found → Below cmp (live before) key default value
+    answer_below key end =
+        rw same_live
+        (below_at_cut o (live (items tree)) default value rising_live key
+        (cut_live (λ other answer. answer ≡ is_lt (cmp other key)) (λ other. is_lt (cmp other key)) default tree place found value end read
+        (λ k d within answer is. is) (IsPartitionedBy-rising o (live (items tree)) key rising_live)))
+
+    -- and what a way down by a closure does: an answer of the closure stands behind each of the test
+    pub answer_at_most : (May : K → Bool → Type 0) (Given : K → Ordering → Type 0) → DescendsBetween is_live May tree place found
+        → ((key : K) (answer : Bool) → May key answer → (given : Ordering) × Given key given × (answer ≡ not (is_gt given))) → (order : K → Ordering) → AnswersBy Given order (live before) → IsMonotone cmp order (live before) → AtMost cmp (live before) order default value
+    answer_at_most May Given end behind order =
+        let test : K → Bool = λ key. not (is_gt (order key)) in
+        subst (λ (pairs : List (K × V)). AnswersBy Given order pairs → IsMonotone cmp order pairs → AtMost cmp pairs order default value) (sym same_live)
+        (λ answers monotone.
+        let says : All (Says May test default) (live (items tree)) =
+        All-weaker (λ (pair : K × V). (given : Ordering) → Given pair.0 given → given ≡ order pair.0) (Says May test default)
+        (λ pair by_order answer may. let (given, may_be, is) = behind pair.0 answer may in is ∙ ap (λ (r : Ordering). not (is_gt r)) (by_order given may_be))
+        (live (items tree)) answers in
+        at_most_at_cut o (live (items tree)) default value rising_live order monotone
+        (cut_live May test default tree place found value end read says (IsPartitionedBy-monotone cmp (live (items tree)) order rising_live monotone)))

@@ -1,18 +1,53 @@
--- Facts on the counted comparisons of a way down.
-use Rattle.std.proofs.Common.{◌+◌, ◌≤◌, length, ◌∙◌, refl, arith}
-use Rattle.i_tree.specs.Root.Compared.{ComparesWithin, OnlyCompares}
-use Rattle.i_tree.specs.Core.Balance.{IsCore}
-use Rattle.i_tree.specs.Core.Shape.{Shape, entries, rank}
-use Rattle.i_tree.specs.Root.Steps.{Counts}
+-- Lemmas on counts of rotations, over the law of a counter.
+use Rattle.std.proofs.Common.{ℕ, ◌+◌, ◌≤◌, Bool, true, false, MatchBool, refl, arith}
+use Rattle.i_tree.specs.Core.Removal.{RemovesOne}
+use Rattle.i_tree.specs.Root.Steps.{Counts, nothing, one_removal, one_rotation, together, Accumulates, OnlyRotates}
 
-pub OnlyCompares-none : (counts : Counts) → OnlyCompares counts counts
-OnlyCompares-none counts = record { tests = refl; removals = refl; rotations = refl }
+module _ {S : Type 0} {Made : S → S → Counts → Type 0} (law : Accumulates Made) where
+  -- where the state is the old one, nothing was turned
+  pub OnlyRotates-none : (state : S) (most : ℕ) → OnlyRotates Made state state most
+  OnlyRotates-none state most =
+      record { made = nothing; counted = law.none state; comparisons = refl; tests = refl; removals = refl; rotations = omega arith }
 
-pub OnlyCompares-more : {old mid new : Counts} → OnlyCompares old mid → OnlyCompares mid new → OnlyCompares old new
-OnlyCompares-more first second =
-    record { tests = second.tests ∙ first.tests; removals = second.removals ∙ first.removals; rotations = second.rotations ∙ first.rotations }
+  -- the rotations of one part and then of the other
+  pub OnlyRotates-both : {old mid new : S} {few more : ℕ} (most : ℕ) → few + more ≤ most → OnlyRotates Made old mid few → OnlyRotates Made mid new more → OnlyRotates Made old new most
+  OnlyRotates-both {old} {mid} {new} most enough first second =
+      record {
+        made = together first.made second.made;
+        counted = law.both old mid new first.made second.made first.counted second.counted;
+        comparisons = omega (arith, first.comparisons, second.comparisons);
+        tests = omega (arith, first.tests, second.tests);
+        removals = omega (arith, first.removals, second.removals);
+        rotations = omega (arith, enough, first.rotations, second.rotations);
+      }
 
--- as many comparisons as the rank are at most twice the levels
-pub ComparesWithin-rank : {V : Type 0} (tree : Shape V) (old new : Counts) → IsCore tree → old.comparisons ≤ new.comparisons → new.comparisons ≤ old.comparisons + rank tree → ComparesWithin old new (length (entries tree))
-ComparesWithin-rank tree old new core no_fewer few =
-    record { no_fewer = no_fewer; at_most = λ levels small. let bound = core.bounded levels small in omega arith }
+  -- the removal itself, then the mending
+  pub RemovesOne-mended : {old mid new : S} (most : ℕ) → Made old mid one_removal → OnlyRotates Made mid new most → RemovesOne Made old new most
+  RemovesOne-mended {old} {mid} {new} most removed mended =
+      record {
+        made = together one_removal mended.made;
+        counted = law.both old mid new one_removal mended.made removed mended.counted;
+        comparisons = omega (arith, mended.comparisons);
+        tests = omega (arith, mended.tests);
+        removals = omega (arith, mended.removals);
+        rotations = omega (arith, mended.rotations);
+      }
+
+module _ {S : Type 0} {Made : S → S → Counts → Type 0} {old new : S} where
+  -- one rotation alone
+  pub OnlyRotates-one : Made old new one_rotation → OnlyRotates Made old new 1
+  OnlyRotates-one once =
+      record { made = one_rotation; counted = once; comparisons = refl; tests = refl; removals = refl; rotations = omega arith }
+
+  -- fewer where the answer is false
+  pub OnlyRotates-either : (most : ℕ) (ended : Bool) → MatchBool ended (OnlyRotates Made old new most) (OnlyRotates Made old new 0) → OnlyRotates Made old new most
+  OnlyRotates-either most true turns = turns
+  OnlyRotates-either most false turns =
+      record {
+        made = turns.made;
+        counted = turns.counted;
+        comparisons = turns.comparisons;
+        tests = turns.tests;
+        removals = turns.removals;
+        rotations = omega (arith, turns.rotations);
+      }

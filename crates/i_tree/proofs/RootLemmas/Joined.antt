@@ -1,10 +1,10 @@
 -- Facts on lists that are made of two, where each element stands in a relation to all later ones.
-use Rattle.std.proofs.Common.{◌≡◌, suc, List, [], ◌∷◌, ◌++◌, map, refl, ap, arith}
+use Rattle.std.proofs.Common.{◌≡◌, suc, List, [], ◌∷◌, ◌++◌, map, refl, sym, ap, subst, inl, inr, arith}
 use Rattle.std.specs.List.{All, AllPairs, Any, Contains}
-use Rattle.std.proofs.lemmas.List.Elements.{All-nil, All-cons, All-head, All-tail, All-append}
+use Rattle.std.proofs.lemmas.List.Elements.{All-nil, All-cons, All-head, All-tail, All-append, All-weaker}
 use Rattle.std.proofs.lemmas.List.Kept.{AllPairs-cons}
 use Rattle.i_tree.proofs.RootLemmas.Lists.{AllPairs-head, AllPairs-tail, Contains-here, Contains-there}
-use Rattle.i_tree.specs.Root.Ends.{EndsIn, StartsIn}
+use Rattle.i_tree.specs.Root.Ends.{LastFinds, StartsIn}
 
 module _ {X : Type 0} where
   module _ (P : X → Type 0) where
@@ -29,16 +29,6 @@ module _ {X : Type 0} where
     pub All-of_map : {Y : Type 0} (f : Y → X) (ys : List Y) → All P (map f ys) → All (λ y. P (f y)) ys
     All-of_map {Y} f [] h = All-nil (λ y. P (f y))
     All-of_map {Y} f (y ∷ ys) h = All-cons (λ z. P (f z)) y ys (All-head P (f y) (map f ys) h) (All-of_map f ys (All-tail P (f y) (map f ys) h))
-
-    pub EndsIn-end : (xs : List X) (x : X) → P x → EndsIn P (xs ++ x ∷ [])
-    EndsIn-end [] x h = h
-    EndsIn-end (y ∷ []) x h = h
-    EndsIn-end (y ∷ z ∷ zs) x h = EndsIn-end (z ∷ zs) x h
-
-    pub EndsIn-last : (xs : List X) (x : X) → EndsIn P (xs ++ x ∷ []) → P x
-    EndsIn-last [] x h = h
-    EndsIn-last (y ∷ []) x h = h
-    EndsIn-last (y ∷ z ∷ zs) x h = EndsIn-last (z ∷ zs) x h
 
   pub Contains-behind : (xs ys : List X) (x : X) → Contains ys x → Contains (xs ++ ys) x
   Contains-behind [] ys x h = h
@@ -85,12 +75,19 @@ module _ {X : Type 0} where
         AllPairs-cons (λ a b. R (f a) (f b)) y ys (All-of_map (R (f y)) f ys (AllPairs-head R (f y) (map f ys) h)) (AllPairs-of_map f ys (AllPairs-tail R (f y) (map f ys) h))
 
     -- where what holds of an element holds of all earlier ones, it holds of all where it holds of the last
-    pub All-from_end : (P : X → Type 0) → ((x y : X) → R x y → P y → P x) → (xs : List X) → AllPairs R xs → EndsIn P xs → All P xs
-    All-from_end P down [] rises ends = All-nil P
-    All-from_end P down (x ∷ []) rises ends = All-cons P x [] ends (All-nil P)
-    All-from_end P down (x ∷ y ∷ ys) rises ends =
-        let rest = All-from_end P down (y ∷ ys) (AllPairs-tail R x (y ∷ ys) rises) ends in
-        All-cons P x (y ∷ ys) (down x y (All-head (R x) y ys (AllPairs-head R x (y ∷ ys) rises)) (All-head P y ys rest)) rest
+    All-from_last : (P : X → Type 0) → ((x y : X) → R x y → P y → P x) → (rest : List X) (last : X) → AllPairs R (rest ++ last ∷ []) → P last → All P (rest ++ last ∷ [])
+    All-from_last P down rest last rises holds =
+        All-append P rest (last ∷ [])
+        (All-weaker (λ x. All (R x) (last ∷ [])) P (λ x below. down x last (All-head (R x) last [] below) holds) rest (AllPairs-across rest (last ∷ []) rises))
+        (All-cons P last [] holds (All-nil P))
+
+    pub All-from_end : {A : Type 0} (Finds : X → A → Type 0) (nothing found : A) (P Q : X → Type 0) → ((x y : X) → R x y → P y → P x) → ((x : X) → Q x → Finds x found → P x)
+        → (xs : List X) → AllPairs R xs → All Q xs → LastFinds Finds nothing xs found → All P xs
+    All-from_end Finds nothing found P Q down join xs rises all (inl (none, is)) = subst (All P) (sym none) (All-nil P)
+    All-from_end Finds nothing found P Q down join xs rises all (inr (rest, last, cut, finds)) =
+        subst (All P) (sym cut)
+        (All-from_last P down rest last (subst (AllPairs R) cut rises)
+        (join last (All-head Q last [] (All-behind Q rest (last ∷ []) (subst (All Q) cut all))) finds))
 
     -- where what holds of an element holds of all later ones, it holds of all where it holds of the first
     pub All-from_start : (P : X → Type 0) → ((x y : X) → R x y → P x → P y) → (xs : List X) → AllPairs R xs → StartsIn P xs → All P xs

@@ -4,14 +4,17 @@ use Rattle.std.proofs.Common.{◌≡◌, ◌≢◌, ℕ, zero, suc, inl, inr, Li
 use Rattle.std.specs.Cmp.{IsTotalOrder}
 use Rattle.std.specs.List.{All, AllPairs, Any, Contains}
 use Rattle.std.specs.declared.cmp.Ordering.{Ordering}
-use Rattle.std.specs.declared.cmp.Ordering.TheVariants.{Less, Equal}
+use Rattle.std.specs.declared.cmp.Ordering.TheVariants.{Less, Equal, Greater}
 use Rattle.std.proofs.lemmas.List.{map-append}
 use Rattle.std.proofs.lemmas.List.Elements.{All-contains, All-tail, All-weaker}
 use Rattle.i_tree.proofs.RootLemmas.Lists.{AllPairs-tail, Contains-here, Contains-there}
 use Rattle.i_tree.proofs.RootLemmas.Joined.{Any-here, Any-there, Any-behind, AllPairs-append, AllPairs-across, AllPairs-behind, AllPairs-front, AllPairs-of_map, AllPairs-to_map, last_cut}
 use Rattle.i_tree.proofs.SetLemmas.Search.{below_from_ordered, ordered_from_below, last_handle-end}
 use Rattle.i_tree.specs.Set.Pairs.{AreApart, values, by_key, HasHandle, IsOrdered, HoldsKey, LacksKey, IsFoundBy}
-use Rattle.i_tree.specs.Core.Shape.{last_handle}
+use Rattle.i_tree.specs.Core.Shape.{Shape, entries, last_handle}
+use Rattle.i_tree.specs.Core.Ways.{FindsNotAbove, LooksBetween}
+use Rattle.i_tree.specs.Root.Ends.{LastFinds}
+use Rattle.i_tree.specs.declared.place.Place.{Place}
 use Rattle.i_tree.specs.declared.TheConstants.{EMPTY_REF}
 
 module _ {X : Type 0} where
@@ -51,6 +54,17 @@ module _ {V : Type 0} where
       let whole : pairs ≡ rest ++ (handle, last.1) ∷ back =
       cut ∙ ap (λ (front : List (ℕ × V)). front ++ back) ends ∙ append_assoc rest (last ∷ []) back ∙ ap (λ (number : ℕ). rest ++ (number, last.1) ∷ back) same in
       subst (λ (ps : List (ℕ × V)). HasHandle ps handle) (sym whole) (HasHandle-middle rest handle last.1 back)
+
+  -- so is one that a look has found
+  pub HasHandle-found : (MayAnswer : V → Ordering → Type 0) (tree : Shape V) (place : Place) (found : ℕ) (said : Ordering) → LooksBetween MayAnswer tree place found said → found ≢ EMPTY_REF → HasHandle (entries tree) found
+  HasHandle-found MayAnswer tree place found said end some = by_last end.before
+    where
+      by_last : LastFinds (FindsNotAbove MayAnswer) (EMPTY_REF, Greater) end.front (found, said) → HasHandle (entries tree) found
+      by_last (inl (none, is)) = absurd (some (ap (λ (answer : ℕ × Ordering). answer.0) is))
+      by_last (inr (rest, last, cut, finds)) =
+          let whole : entries tree ≡ rest ++ (found, last.1) ∷ end.back =
+          end.between.cut ∙ ap (λ (front : List (ℕ × V)). front ++ end.back) cut ∙ append_assoc rest (last ∷ []) end.back ∙ ap (λ (number : ℕ). rest ++ (number, last.1) ∷ end.back) (sym finds.0) in
+          subst (λ (pairs : List (ℕ × V)). HasHandle pairs found) (sym whole) (HasHandle-middle rest found last.1 end.back)
 
   -- so is the handle before a live one
   pub HasHandle-before : (pairs : List (ℕ × V)) (handle before : ℕ) → HasHandle pairs handle

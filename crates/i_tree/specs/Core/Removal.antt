@@ -1,5 +1,5 @@
 -- How a removal changes the core.
-use Rattle.std.specs.Prelude.{◌≡◌, ◌⊎◌, ℕ, ◌+◌, ◌≤◌, List, ◌∷◌, ◌++◌}
+use Rattle.std.specs.Prelude.{◌≡◌, ◌⊎◌, ℕ, ◌≤◌, List, ◌∷◌, ◌++◌}
 use Rattle.i_tree.specs.declared.rb.links.Colour.{Colour}
 use Rattle.i_tree.specs.declared.rb.links.Side.{Side}
 use Rattle.i_tree.specs.Core.Context.{Frame, fork_on, plug}
@@ -38,9 +38,10 @@ module _ {T : Type 0} where
     pub ranks : rank part ≤ most
 
 -- one removal and at most so many rotations were made, and nothing else that is counted
-pub record RemovesOne (old new : Counts) (most : ℕ) : Type 0 where
-  pub comparisons : new.comparisons ≡ old.comparisons
-  pub tests : new.tests ≡ old.tests
-  pub removals : new.removals ≡ old.removals + 1
-  pub no_fewer : old.rotations ≤ new.rotations
-  pub at_most : new.rotations ≤ old.rotations + most
+pub record RemovesOne {S : Type 0} (Made : S → S → Counts → Type 0) (old new : S) (most : ℕ) : Type 0 where
+  pub made : Counts
+  pub counted : Made old new made
+  pub comparisons : made.comparisons ≡ 0
+  pub tests : made.tests ≡ 0
+  pub removals : made.removals ≡ 1
+  pub rotations : made.rotations ≤ most

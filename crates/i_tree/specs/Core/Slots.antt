@@ -1,6 +1,7 @@
 -- How the arena lays a tree out in slots. No public clause cites this module.
 use Rattle.std.specs.Prelude.{◌≡◌, ◌≢◌, ℕ, zero, suc, ◌+◌, ◌≤◌, ltb, ◌&&◌, List, [], ◌∷◌, length, Option, Some, None, IsSome, slice_get, if◌then◌else◌}
 use Rattle.i_tree.specs.declared.TheConstants.{EMPTY_REF}
+use Rattle.i_tree.specs.declared.rb.links.Colour.{Colour}
 use Rattle.i_tree.specs.declared.rb.links.Links.{Links}
 use Rattle.i_tree.specs.declared.rb.links.Side.{Side}
 use Rattle.i_tree.specs.declared.rb.links.Side.TheVariants.{Left, Right}
@@ -15,6 +16,16 @@ child_link Right links = links.right
 abbrev pub with_child_link : Side → ℕ → Links → Links
 with_child_link Left child links = record links { left = child }
 with_child_link Right child links = record links { right = child }
+
+abbrev pub with_parent_link : ℕ → Links → Links
+with_parent_link parent links = record links { parent = parent }
+
+abbrev pub with_colour : Colour → Links → Links
+with_colour colour links = record links { colour = colour }
+
+-- below another parent, in another colour, with another part on the side
+abbrev pub hung_links : ℕ → Colour → Side → ℕ → Links → Links
+hung_links parent colour side child links = record (with_child_link side child links) { parent = parent; colour = colour }
 
 abbrev pub occurs_in : ℕ → List ℕ → ℕ
 occurs_in wanted [] = 0
@@ -46,9 +57,9 @@ module _ {T : Type 0} where
   abbrev pub IsUsed : List (Slot T) → ℕ → Type 0
   IsUsed slots handle = IsSome (links_of slots handle)
 
-  -- the node in this slot has these links and the same item, and the other slots are the same
-  pub record Relinks (old new : List (Slot T)) (handle : ℕ) (links : Links) : Type 0 where
-    pub at : (before : Links) (item : T) → slice_get old handle ≡ Some (Used before item) → slice_get new handle ≡ Some (Used links item)
+  -- the links of the node in this slot have changed so, its item is the same, and the other slots are the same
+  pub record Relinks (old new : List (Slot T)) (handle : ℕ) (change : Links → Links) : Type 0 where
+    pub at : (links : Links) (item : T) → slice_get old handle ≡ Some (Used links item) → slice_get new handle ≡ Some (Used (change links) item)
     pub others : (other : ℕ) → other ≢ handle → slice_get new other ≡ slice_get old other
 
   -- the slots hold this tree, whose top has this parent

@@ -8,7 +8,7 @@ use Rattle.i_tree.specs.declared.rb.links.Side.TheVariants.{Left, Right}
 use Rattle.i_tree.specs.declared.rb.links.Slot.{Slot}
 use Rattle.i_tree.specs.Core.Context.{Frame, fork_on, plug}
 use Rattle.i_tree.specs.Core.Shape.{Shape}
-use Rattle.i_tree.specs.Core.Slots.{IsSound, Relinks, links_of, with_child_link}
+use Rattle.i_tree.specs.Core.Slots.{IsSound, Relinks, links_of, with_child_link, with_parent_link}
 
 -- a node with a part on the other side, in its frames
 pub record Turn (T : Type 0) (handle : ℕ) (side : Side) : Type 0 where
@@ -49,10 +49,10 @@ module _ {T : Type 0} where
     pub root : parent ≡ EMPTY_REF → new_root ≡ other
     pub slots : parent ≡ EMPTY_REF → new ≡ old
     pub same_root : parent ≢ EMPTY_REF → new_root ≡ old_root
-    pub left : (links : Links) → parent ≢ EMPTY_REF → links_of old parent ≡ Some links → links.left ≡ child → Relinks old new parent (with_child_link Left other links)
-    pub right : (links : Links) → parent ≢ EMPTY_REF → links_of old parent ≡ Some links → links.left ≢ child → Relinks old new parent (with_child_link Right other links)
+    pub left : (links : Links) → parent ≢ EMPTY_REF → links_of old parent ≡ Some links → links.left ≡ child → Relinks old new parent (with_child_link Left other)
+    pub right : (links : Links) → parent ≢ EMPTY_REF → links_of old parent ≡ Some links → links.left ≢ child → Relinks old new parent (with_child_link Right other)
 
   -- the node, where the handle is that of one, has the other parent
   pub record Reparents (old new : List (Slot T)) (handle parent : ℕ) : Type 0 where
     pub none : handle ≡ EMPTY_REF → new ≡ old
-    pub some : (links : Links) → handle ≢ EMPTY_REF → links_of old handle ≡ Some links → Relinks old new handle (record links { parent = parent })
+    pub some : handle ≢ EMPTY_REF → Relinks old new handle (with_parent_link parent)

@@ -1,30 +1,25 @@
--- What contracts say of the steps of a way down a tree whose expired entries go.
-use Rattle.std.specs.Prelude.{◌≡◌, ℕ, ◌+◌, ◌*◌, ◌^◌, ◌<◌, ◌≤◌}
+-- What contracts say of the steps of a way down a tree. `Made` says of two states of a counter which counts were made from
+-- the one to the other.
+use Rattle.std.specs.Prelude.{◌≡◌, ℕ, ◌+◌, ◌*◌, ◌≤◌}
 use Rattle.i_tree.specs.Root.Steps.{Counts}
 use Rattle.i_tree.specs.Root.Levels.{TwiceLevels}
 
--- the new counts are the old ones and what was made since
-pub record Adds (old made new : Counts) : Type 0 where
-  pub comparisons : new.comparisons ≡ old.comparisons + made.comparisons
-  pub tests : new.tests ≡ old.tests + made.tests
-  pub removals : new.removals ≡ old.removals + made.removals
-  pub rotations : new.rotations ≡ old.rotations + made.rotations
+module _ {S : Type 0} (Made : S → S → Counts → Type 0) where
+  -- A way down a tree of so many entries, after which so many are stored, where one may have joined. It tests what it compares
+  -- and what it removes, and turns at most three times a removal, and twice where an entry joined.
+  pub record Descends (old new : S) (entries stored joined : ℕ) : Type 0 where
+    pub made : Counts
+    pub counted : Made old new made
+    pub compares : TwiceLevels entries made.comparisons
+    pub tests : made.tests ≡ made.comparisons + made.removals
+    pub turns : made.rotations ≤ 3 * made.removals + 2 * joined
+    pub stores : stored + made.removals ≡ entries + joined
 
--- A way down a tree of so many entries, after which so many are stored, where one may have joined. It tests what it compares
--- and what it removes, and turns at most three times a removal, and twice where an entry joined.
-pub record Descends (old new : Counts) (entries stored joined : ℕ) : Type 0 where
-  pub made : Counts
-  pub adds : Adds old made new
-  pub compares : TwiceLevels entries made.comparisons
-  pub tests : made.tests ≡ made.comparisons + made.removals
-  pub turns : made.rotations ≤ 3 * made.removals + 2 * joined
-  pub stores : stored + made.removals ≡ entries + joined
-
--- A way down a tree of so many entries that changes nothing: it tests one entry at most.
-pub record LooksFor (old new : Counts) (entries : ℕ) : Type 0 where
-  pub made : Counts
-  pub adds : Adds old made new
-  pub compares : TwiceLevels entries made.comparisons
-  pub tests : made.tests ≤ 1
-  pub removes_none : made.removals ≡ 0
-  pub turns_none : made.rotations ≡ 0
+  -- A way down a tree of so many entries that removes nothing: it tests at most so many entries, and turns at most so often.
+  pub record LooksDown (old new : S) (entries most_tests most_turns : ℕ) : Type 0 where
+    pub made : Counts
+    pub counted : Made old new made
+    pub compares : TwiceLevels entries made.comparisons
+    pub tests : made.tests ≤ most_tests
+    pub removals : made.removals ≡ 0
+    pub turns : made.rotations ≤ most_turns

@@ -1,14 +1,13 @@
 -- The ends of a list.
-use Rattle.std.specs.Prelude.{⊤, List, [], ◌∷◌}
+use Rattle.std.specs.Prelude.{⊤, ◌≡◌, ◌⊎◌, List, [], ◌∷◌, ◌++◌}
 
-module _ {X : Type 0} (P : X → Type 0) where
-  -- the last element, if there is one, meets P
-  abbrev pub EndsIn : List X → Type 0
-  EndsIn [] = ⊤
-  EndsIn (x ∷ []) = P x
-  EndsIn (x ∷ y ∷ ys) = EndsIn (y ∷ ys)
+-- the first element, if there is one, meets P
+abbrev pub StartsIn : {X : Type 0} → (X → Type 0) → List X → Type 0
+StartsIn P [] = ⊤
+StartsIn P (x ∷ xs) = P x
 
-  -- the first element, if there is one, meets P
-  abbrev pub StartsIn : List X → Type 0
-  StartsIn [] = ⊤
-  StartsIn (x ∷ xs) = P x
+-- what was found at the last element, or nothing where there is none
+abbrev pub LastFinds : {X A : Type 0} → (X → A → Type 0) → A → List X → A → Type 0
+LastFinds {X} Finds nothing xs found =
+    ((xs ≡ []) × (found ≡ nothing))
+    ⊎ ((rest : List X) × (last : X) × (xs ≡ rest ++ last ∷ []) × Finds last found)

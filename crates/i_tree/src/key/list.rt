@@ -8,6 +8,7 @@ ghost use Rattle.i_tree.specs.Root.Pairs.{HasKey, NoKey, IsRising};
 use super::exp::KeyExpCollection;
 use super::live::{earliest_expiration, keep_live};
 use super::sorted::{has_live_key, place_of, value_at_most, value_below};
+use crate::inserting::insert_at;
 use crate::{Expiration, ExpiredKey, Refusal};
 use std::alloc::{AllocError, Allocator};
 use std::cmp::Ordering;
@@ -122,7 +123,7 @@ impl<K: ExpiredKey<E>, E: Expiration, V: Copy, A: Allocator + Copy> KeyExpCollec
         self.remove_expired(time);
         self.pairs.reserve(1)?;
         let place = place_of(&self.pairs, &key);
-        self.pairs.insert(place, (key, val)).unwrap();
+        insert_at(&mut self.pairs, place, (key, val));
         self.earliest = self.earliest.min(key.expiration());
         Ok(())
     }

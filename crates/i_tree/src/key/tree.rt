@@ -1,27 +1,30 @@
-ghost use Rattle.std.specs.Prelude.{◌≡◌, ◌≢◌, ◌≤◌, ◌<◌, ◌+◌, ◌⊎◌, true, false, All, length, IsOk, OnOk, OnErr, IfOk, IfErr, IsErr, IsErrAnd, MatchBool, MatchOption, max};
+ghost use Rattle.std.specs.Prelude.{◌≡◌, ◌≢◌, ◌≤◌, ◌<◌, ◌++◌, ◌∷◌, ℕ, List, true, false, All, length, IsOk, OnOk, OnErr, IfOk, IfErr, IsErr, IsErrAnd, MatchBool, max, not};
+ghost use Rattle.std.specs.Ordering.{is_gt, is_lt};
 ghost use Rattle.std.specs.declared.cmp.Ordering.{Ordering};
 ghost use Rattle.i_tree.specs.Root.Answer.{Below, AtMostBy};
 ghost use Rattle.i_tree.specs.Root.Change.{Gains, Without};
-ghost use Rattle.i_tree.specs.Root.Descent.{Descends, LooksFor};
-ghost use Rattle.i_tree.specs.Key.Descent.{EndsAt, EndsBetween, FollowsWay, below_or_not};
+ghost use Rattle.i_tree.specs.Root.Descent.{Descends, LooksDown};
+ghost use Rattle.i_tree.specs.Key.Descent.{DescendsBetween, FollowsWay};
 ghost use Rattle.i_tree.specs.Key.KeyExpTree.{items, slots_for};
 ghost use Rattle.i_tree.specs.Key.Way.{way_to};
 ghost use Rattle.i_tree.specs.Key.Live.{is_live, live_pairs, AllLive, IsExpired};
 ghost use Rattle.i_tree.specs.Root.Pairs.{HasKey, NoKey, IsRising};
 ghost use Rattle.i_tree.specs.Core.RbTree.{slots};
 ghost use Rattle.i_tree.specs.Core.Balance.{IsCore};
-ghost use Rattle.i_tree.specs.Core.Shape.{leaf, entries};
+ghost use Rattle.i_tree.specs.Core.Ways.{place_below};
+ghost use Rattle.i_tree.specs.Core.Shape.{leaf, entries, IsLive};
 
 use super::exp::KeyExpCollection;
 use super::live::is_live;
-use crate::place::{Place, insert_at, top_at};
+use crate::looking::{look_down, place_below, top_below};
+use crate::place::insert_at;
 use crate::rb::RbTree;
-use crate::steps::Steps;
+use crate::select::select;
+use crate::steps::{Counter, Uncounted};
 use crate::{EMPTY_REF, Expiration, ExpiredKey, Refusal};
 use std::alloc::Allocator;
 use std::cmp::Ordering;
-use std::marker::{Brand, Model, PhantomData};
-use std::sync::ledger::{Blank, Ledger};
+use std::marker::{Model, PhantomData};
 
 /// A red-black tree of keys that expire, each with a value.
 ///
@@ -50,119 +53,102 @@ impl<K: ExpiredKey<E>, E: Expiration, V: Copy, A: Allocator + Copy> Model
     ghost invariant = { λ tree. IsRising K.cmp (items tree.core.shape) };
 }
 
-// Where a way down has ended: at the value of the key that was called Equal, or at a place without a part, where the value
-// is that of the nearest live key below.
+// Where a way down has ended: on a side of the handle `above` without a part, or at the root where that is `EMPTY_REF`. It is
+// right behind a live key that passed, whose handle `found` is, or behind none where that is `EMPTY_REF`.
 #[derive(Clone, Copy)]
-struct Ending<V: Copy> {
-    value: Option<V>,
-    place: Place,
+struct Ending {
+    found: u32,
+    above: u32,
+    on_right: bool,
 }
 
-// Tests whether the key is live, and asks `f` once about a live one. Both are counted.
-fn visit<K: ExpiredKey<E>, E: Expiration, L: Ledger, F: Fn(K) -> Ordering>(
-    steps: &mut Steps<L>,
-    key: K,
-    time: E,
-    f: &F,
-) -> Option<Ordering>
-    requires { is_live K.expiration E.cmp time key ≡ true → F.pre f.now key }
-    ensures cases { MatchOption result (is_live K.expiration E.cmp time key ≡ false) (λ answer. (is_live K.expiration E.cmp time key ≡ true) × F.post f.now key answer) }
-    ensures comparisons { MatchOption result (steps.new.comparisons ≡ steps.old.comparisons) (λ _. steps.new.comparisons ≡ steps.old.comparisons + 1) }
-    ensures tests { steps.new.tests ≡ steps.old.tests + 1 }
-    ensures removals { steps.new.removals ≡ steps.old.removals }
-    ensures rotations { steps.new.rotations ≡ steps.old.rotations }
-{
-    steps.add_test();
-    if !is_live(&key, time) {
-        return None;
-    }
-    steps.add_comparison();
-    Some(f(key))
-}
-
-// Goes down to a live key that `f` calls Equal, or to the place behind all live keys that it calls Less. Each expired entry
-// on the way is removed, and its place is read again.
-fn descend<K, E, V, A, L, F>(
+// Goes down to the place behind all live keys that pass. Each expired entry on the way is removed, and its place is read
+// again; each live one is compared.
+fn descend<K, E, V, A, C, F>(
     core: &mut RbTree<(K, V), A>,
-    steps: &mut Steps<L>,
+    steps: &mut C,
     time: E,
-    f: &F,
-) -> Ending<V>
+    passes: &F,
+) -> Ending
 where
     K: ExpiredKey<E>,
     E: Expiration,
     V: Copy,
     A: Allocator + Copy,
-    L: Ledger,
-    F: Fn(K) -> Ordering,
-    requires { All (λ pair. F.pre f.now pair.0) (live_pairs K.expiration E.cmp time (items core.old.shape)) }
-    ensures end { EndsAt (is_live K.expiration E.cmp time) (F.post f.now) core.new.shape result.value ⊎ EndsBetween (is_live K.expiration E.cmp time) (F.post f.now) core.new.shape result.place result.value }
+    C: Counter,
+    F: Fn(K) -> bool,
+    requires { All (λ pair. F.pre passes.now pair.0) (live_pairs K.expiration E.cmp time (items core.old.shape)) }
+    ensures end { DescendsBetween (is_live K.expiration E.cmp time) (F.post passes.now) core.new.shape (place_below result.above result.on_right) result.found }
+    ensures live { result.found ≢ EMPTY_REF → IsLive core.new.shape result.found }
     ensures kept { Without (IsExpired K.expiration E.cmp time) (items core.old.shape) (items core.new.shape) }
     ensures slots { slots core.new ≡ slots core.old }
     ensures same { length (entries core.new.shape) ≡ length (entries core.old.shape) → core.new ≡ core.old }
-    ensures follows { FollowsWay (is_live K.expiration E.cmp time) (F.post f.now) core.old core.new }
-    ensures steps { Descends steps.old steps.new (length (entries core.old.shape)) (length (entries core.new.shape)) 0 }
+    ensures follows { FollowsWay (is_live K.expiration E.cmp time) (F.post passes.now) core.old core.new }
+    ensures steps { Descends C.made steps.old steps.new (length (entries core.old.shape)) (length (entries core.new.shape)) 0 }
     ensures core { IsCore core.new.shape }
 {
-    let mut value = None;
-    let mut place = Place::Root;
+    let mut found = EMPTY_REF;
+    let mut above = EMPTY_REF;
+    let mut on_right = false;
     let mut here = core.root();
     while here != EMPTY_REF {
-        let (key, val) = *core.item(here);
-        match visit(steps, key, time, f) {
-            None => {
-                core.remove(steps, here);
-                here = top_at(core, place);
-            }
-            Some(Ordering::Less) => {
-                value = Some(val);
-                place = Place::Right(here);
-                here = core.right(here);
-            }
-            Some(Ordering::Equal) => {
-                value = Some(val);
-                return Ending { value, place };
-            }
-            Some(Ordering::Greater) => {
-                place = Place::Left(here);
-                here = core.left(here);
-            }
+        let key = core.item(here).0;
+        // Both children are read before one is chosen, so that no read waits for the key's answer.
+        let left = core.left(here);
+        let right = core.right(here);
+        steps.add_test();
+        if !is_live(&key, time) {
+            core.remove(steps, here);
+            here = top_below(core, above, on_right);
+            continue;
         }
+        steps.add_comparison();
+        above = here;
+        on_right = passes(key);
+        found = select(on_right, here, found);
+        here = select(on_right, right, left);
     }
-    Ending { value, place }
+    Ending {
+        found,
+        above,
+        on_right,
+    }
 }
 
 // Goes down to the place behind all live keys that are below the key.
-fn descend_to<K, E, V, A, L>(
-    core: &mut RbTree<(K, V), A>,
-    steps: &mut Steps<L>,
-    time: E,
-    key: K,
-) -> Ending<V>
+fn descend_to<K, E, V, A, C>(core: &mut RbTree<(K, V), A>, steps: &mut C, time: E, key: K) -> Ending
 where
     K: ExpiredKey<E>,
     E: Expiration,
     V: Copy,
     A: Allocator + Copy,
-    L: Ledger,
-    ensures end { EndsBetween (is_live K.expiration E.cmp time) (λ other answer. answer ≡ below_or_not (K.cmp other key)) core.new.shape result.place result.value }
+    C: Counter,
+    ensures end { DescendsBetween (is_live K.expiration E.cmp time) (λ other answer. answer ≡ is_lt (K.cmp other key)) core.new.shape (place_below result.above result.on_right) result.found }
+    ensures live { result.found ≢ EMPTY_REF → IsLive core.new.shape result.found }
     ensures kept { Without (IsExpired K.expiration E.cmp time) (items core.old.shape) (items core.new.shape) }
     ensures slots { slots core.new ≡ slots core.old }
     ensures same { length (entries core.new.shape) ≡ length (entries core.old.shape) → core.new ≡ core.old }
     ensures all_live { length (entries core.new.shape) ≡ length (entries core.old.shape) → AllLive K.expiration E.cmp time (way_to K.cmp key core.old.shape) }
     ensures none_gone { AllLive K.expiration E.cmp time (way_to K.cmp key core.old.shape) → core.new ≡ core.old }
-    ensures steps { Descends steps.old steps.new (length (entries core.old.shape)) (length (entries core.new.shape)) 0 }
+    ensures steps { Descends C.made steps.old steps.new (length (entries core.old.shape)) (length (entries core.new.shape)) 0 }
     ensures core { IsCore core.new.shape }
 {
-    let stands = |other: K| -> Ordering
-        ensures { result ≡ below_or_not (K.cmp other key) }
-    {
-        match other.cmp(&key) {
-            Ordering::Less => Ordering::Less,
-            _ => Ordering::Greater,
-        }
-    };
-    descend(core, steps, time, &stands)
+    let is_below = |other: K| -> bool
+        ensures { result ≡ is_lt (K.cmp other key) }
+    { other < key };
+    descend(core, steps, time, &is_below)
+}
+
+// The value at the handle, or `default` where that is `EMPTY_REF`.
+fn value_at<K, V: Copy, A: Allocator + Copy>(core: &RbTree<(K, V), A>, handle: u32, default: V) -> V
+    requires { handle ≢ EMPTY_REF → IsLive core.now.shape handle }
+    ensures none { handle ≡ EMPTY_REF → result ≡ default }
+    ensures some { handle ≢ EMPTY_REF → (front : List (ℕ × (K × V))) (pair : K × V) (back : List (ℕ × (K × V))) → entries core.now.shape ≡ front ++ (handle, pair) ∷ back → result ≡ pair.1 }
+{
+    if handle == EMPTY_REF {
+        return default;
+    }
+    core.item(handle).1
 }
 
 impl<K: ExpiredKey<E>, E: Expiration, V: Copy, A: Allocator + Copy> KeyExpTree<K, E, V, A> {
@@ -230,9 +216,9 @@ impl<K: ExpiredKey<E>, E: Expiration, V: Copy, A: Allocator + Copy> KeyExpTree<K
     /// these are in use then, and with `OutOfMemory` only where the growth was refused. So a refusal means that each entry on
     /// the way to the key's place is live and no slot was free, and it changes nothing; the comparisons and tests were made.
     /// The counts and the refusals are our own.
-    pub fn insert_counted<L: Ledger>(
+    pub fn insert_counted<C: Counter>(
         &mut self,
-        steps: &mut Steps<L>,
+        steps: &mut C,
         key: K,
         val: V,
         time: E,
@@ -247,21 +233,22 @@ impl<K: ExpiredKey<E>, E: Expiration, V: Copy, A: Allocator + Copy> KeyExpTree<K
         ensures full { self.old.spare ≡ 0 → slots self.old ≡ EMPTY_REF → AllLive K.expiration E.cmp time (way_to K.cmp key self.old.shape) → IsErr result }
         ensures no_handle { slots self.old ≡ EMPTY_REF → IfErr result (λ cause. cause ≡ Refusal.NoHandle) }
         ensures refused { slots self.old ≢ EMPTY_REF → IfErr result (λ cause. cause ≡ Refusal.OutOfMemory) }
-        ensures steps { OnOk result (Descends steps.old steps.new (length (items self.old.shape)) (length (items self.new.shape)) 1) }
-        ensures err_steps { OnErr result (Descends steps.old steps.new (length (items self.old.shape)) (length (items self.new.shape)) 0) }
+        ensures steps { OnOk result (Descends C.made steps.old steps.new (length (items self.old.shape)) (length (items self.new.shape)) 1) }
+        ensures err_steps { OnErr result (Descends C.made steps.old steps.new (length (items self.old.shape)) (length (items self.new.shape)) 0) }
         ensures core { IsCore self.new.shape }
     {
         let end = descend_to(&mut self.core, steps, time, key);
-        if let Err(refused) = insert_at(&mut self.core, steps, end.place, (key, val)) {
+        let place = place_below(end.above, end.on_right);
+        if let Err(refused) = insert_at(&mut self.core, steps, place, (key, val)) {
             return Err(refused.cause);
         }
         Ok(())
     }
 
     /// `first_less`, with its steps counted. The counts are our own.
-    pub fn first_less_counted<L: Ledger>(
+    pub fn first_less_counted<C: Counter>(
         &mut self,
-        steps: &mut Steps<L>,
+        steps: &mut C,
         time: E,
         default: V,
         key: K,
@@ -270,18 +257,17 @@ impl<K: ExpiredKey<E>, E: Expiration, V: Copy, A: Allocator + Copy> KeyExpTree<K
         ensures kept { Without (IsExpired K.expiration E.cmp time) (items self.old.shape) (items self.new.shape) }
         ensures rising { IsRising K.cmp (items self.new.shape) }
         ensures slots { slots self.new ≡ slots self.old }
-        ensures steps { Descends steps.old steps.new (length (items self.old.shape)) (length (items self.new.shape)) 0 }
+        ensures steps { Descends C.made steps.old steps.new (length (items self.old.shape)) (length (items self.new.shape)) 0 }
         ensures core { IsCore self.new.shape }
     {
-        descend_to(&mut self.core, steps, time, key)
-            .value
-            .unwrap_or(default)
+        let end = descend_to(&mut self.core, steps, time, key);
+        value_at(&self.core, end.found, default)
     }
 
     /// `first_less_or_equal_by`, with its steps counted: each comparison is one call of `f`. The counts are our own.
-    pub fn first_less_or_equal_by_counted<L: Ledger, F: Fn(K) -> Ordering>(
+    pub fn first_less_or_equal_by_counted<C: Counter, F: Fn(K) -> Ordering>(
         &mut self,
-        steps: &mut Steps<L>,
+        steps: &mut C,
         time: E,
         default: V,
         f: F,
@@ -291,112 +277,34 @@ impl<K: ExpiredKey<E>, E: Expiration, V: Copy, A: Allocator + Copy> KeyExpTree<K
         ensures kept { Without (IsExpired K.expiration E.cmp time) (items self.old.shape) (items self.new.shape) }
         ensures rising { IsRising K.cmp (items self.new.shape) }
         ensures slots { slots self.new ≡ slots self.old }
-        ensures steps { Descends steps.old steps.new (length (items self.old.shape)) (length (items self.new.shape)) 0 }
+        ensures steps { Descends C.made steps.old steps.new (length (items self.old.shape)) (length (items self.new.shape)) 0 }
         ensures core { IsCore self.new.shape }
     {
-        descend(&mut self.core, steps, time, &f)
-            .value
-            .unwrap_or(default)
+        let is_at_most = |key: K| -> bool
+            requires { F.pre f key }
+            ensures { (answer : Ordering) × F.post f key answer × (result ≡ not (is_gt answer)) }
+        { f(key) != Ordering::Greater };
+        let end = descend(&mut self.core, steps, time, &is_at_most);
+        value_at(&self.core, end.found, default)
     }
 
     /// `contains_key`, with its steps counted. Expired entries are compared too, and one is tested at most: that whose key
     /// compares Equal. The counts are our own.
-    pub fn contains_key_counted<L: Ledger>(&self, steps: &mut Steps<L>, time: E, key: K) -> bool
+    pub fn contains_key_counted<C: Counter>(&self, steps: &mut C, time: E, key: K) -> bool
         ensures cases { MatchBool result (HasKey K.cmp (live_pairs K.expiration E.cmp time (items self.now.shape)) key) (NoKey K.cmp (live_pairs K.expiration E.cmp time (items self.now.shape)) key) }
         ensures rising { IsRising K.cmp (items self.now.shape) }
-        ensures steps { LooksFor steps.old steps.new (length (items self.now.shape)) }
+        ensures steps { LooksDown C.made steps.old steps.new (length (items self.now.shape)) 1 0 }
         ensures core { IsCore self.now.shape }
     {
-        let mut here = self.core.root();
-        while here != EMPTY_REF {
-            let other = self.core.item(here).0;
-            steps.add_comparison();
-            match other.cmp(&key) {
-                Ordering::Less => here = self.core.right(here),
-                Ordering::Greater => here = self.core.left(here),
-                Ordering::Equal => {
-                    steps.add_test();
-                    return is_live(&other, time);
-                }
-            }
+        let stands = |pair: &(K, V)| -> Ordering
+            ensures { result ≡ K.cmp pair.entry.now.0 key }
+        { pair.0.cmp(&key) };
+        let looked = look_down(&self.core, steps, &stands);
+        if !looked.said.is_eq() {
+            return false;
         }
-        false
-    }
-
-    // The counted insertion, over a ledger of its own.
-    fn insert_over<L: Ledger>(
-        &mut self,
-        blank: Blank,
-        key: K,
-        val: V,
-        time: E,
-    ) -> Result<(), Refusal>
-        requires name { blank.name ≡ L.name }
-        requires parts { blank.parts ≡ L.parts }
-        requires four { blank.parts ≡ 4 }
-        requires absent { NoKey K.cmp (live_pairs K.expiration E.cmp time (items self.old.shape)) key }
-        ensures ok { OnOk result (Gains (IsExpired K.expiration E.cmp time) (key, val) (items self.old.shape) (items self.new.shape)) }
-        ensures err { OnErr result (self.new ≡ self.old) }
-        ensures rising { IsRising K.cmp (items self.new.shape) }
-        ensures slots { OnOk result (slots self.new ≡ slots_for self.old (length (items self.new.shape))) }
-        ensures with_spare { 0 < self.old.spare → IsOk result }
-        ensures err_way { OnErr result (AllLive K.expiration E.cmp time (way_to K.cmp key self.old.shape)) }
-        ensures full { self.old.spare ≡ 0 → slots self.old ≡ EMPTY_REF → AllLive K.expiration E.cmp time (way_to K.cmp key self.old.shape) → IsErr result }
-        ensures no_handle { slots self.old ≡ EMPTY_REF → IfErr result (λ cause. cause ≡ Refusal.NoHandle) }
-        ensures refused { slots self.old ≢ EMPTY_REF → IfErr result (λ cause. cause ≡ Refusal.OutOfMemory) }
-        ensures core { IsCore self.new.shape }
-    {
-        let mut steps = Steps::<L>::new(blank);
-        self.insert_counted(&mut steps, key, val, time)
-    }
-
-    // The counted search below a key, over a ledger of its own.
-    fn first_less_over<L: Ledger>(&mut self, blank: Blank, time: E, default: V, key: K) -> V
-        requires name { blank.name ≡ L.name }
-        requires parts { blank.parts ≡ L.parts }
-        requires four { blank.parts ≡ 4 }
-        ensures value { Below K.cmp (live_pairs K.expiration E.cmp time (items self.old.shape)) key default result }
-        ensures kept { Without (IsExpired K.expiration E.cmp time) (items self.old.shape) (items self.new.shape) }
-        ensures rising { IsRising K.cmp (items self.new.shape) }
-        ensures slots { slots self.new ≡ slots self.old }
-        ensures core { IsCore self.new.shape }
-    {
-        let mut steps = Steps::<L>::new(blank);
-        self.first_less_counted(&mut steps, time, default, key)
-    }
-
-    // The counted search by a closure, over a ledger of its own.
-    fn first_less_or_equal_over<L: Ledger, F: Fn(K) -> Ordering>(
-        &mut self,
-        blank: Blank,
-        time: E,
-        default: V,
-        f: F,
-    ) -> V
-        requires name { blank.name ≡ L.name }
-        requires parts { blank.parts ≡ L.parts }
-        requires four { blank.parts ≡ 4 }
-        requires callable { All (λ pair. F.pre f pair.0) (live_pairs K.expiration E.cmp time (items self.old.shape)) }
-        ensures value { AtMostBy K.cmp (F.post f) (live_pairs K.expiration E.cmp time (items self.old.shape)) default result }
-        ensures kept { Without (IsExpired K.expiration E.cmp time) (items self.old.shape) (items self.new.shape) }
-        ensures rising { IsRising K.cmp (items self.new.shape) }
-        ensures slots { slots self.new ≡ slots self.old }
-        ensures core { IsCore self.new.shape }
-    {
-        let mut steps = Steps::<L>::new(blank);
-        self.first_less_or_equal_by_counted(&mut steps, time, default, f)
-    }
-
-    // The counted look for a key, over a ledger of its own.
-    fn contains_over<L: Ledger>(&self, blank: Blank, time: E, key: K) -> bool
-        requires name { blank.name ≡ L.name }
-        requires parts { blank.parts ≡ L.parts }
-        requires four { blank.parts ≡ 4 }
-        ensures cases { MatchBool result (HasKey K.cmp (live_pairs K.expiration E.cmp time (items self.now.shape)) key) (NoKey K.cmp (live_pairs K.expiration E.cmp time (items self.now.shape)) key) }
-        ensures rising { IsRising K.cmp (items self.now.shape) }
-    {
-        let mut steps = Steps::<L>::new(blank);
-        self.contains_key_counted(&mut steps, time, key)
+        steps.add_test();
+        is_live(&self.core.item(looked.found).0, time)
     }
 }
 
@@ -422,7 +330,7 @@ impl<K: ExpiredKey<E>, E: Expiration, V: Copy, A: Allocator + Copy> KeyExpCollec
         ensures refused { slots self.old ≢ EMPTY_REF → IfErr result (λ cause. cause ≡ Refusal.OutOfMemory) }
         ensures core { IsCore self.new.shape }
     {
-        self.insert_over::<Brand>(Blank::new(4), key, val, time)
+        self.insert_counted(&mut Uncounted, key, val, time)
     }
 
     /// Answers the value of the greatest live key below `key`, or `default` where none is below it. Each expired entry on
@@ -434,7 +342,7 @@ impl<K: ExpiredKey<E>, E: Expiration, V: Copy, A: Allocator + Copy> KeyExpCollec
         ensures slots { slots self.new ≡ slots self.old }
         ensures core { IsCore self.new.shape }
     {
-        self.first_less_over::<Brand>(Blank::new(4), time, default, key)
+        self.first_less_counted(&mut Uncounted, time, default, key)
     }
 
     /// Answers by `f`, which is asked about the live keys on the way alone. Each expired entry on the way is removed, and
@@ -447,11 +355,11 @@ impl<K: ExpiredKey<E>, E: Expiration, V: Copy, A: Allocator + Copy> KeyExpCollec
         ensures slots { slots self.new ≡ slots self.old }
         ensures core { IsCore self.new.shape }
     {
-        self.first_less_or_equal_over::<Brand, F>(Blank::new(4), time, default, f)
+        self.first_less_or_equal_by_counted(&mut Uncounted, time, default, f)
     }
 
     fn contains_key(&self, time: E, key: K) -> bool {
-        self.contains_over::<Brand>(Blank::new(4), time, key)
+        self.contains_key_counted(&mut Uncounted, time, key)
     }
 
     /// Removes every pair, and keeps the slots. It asks for no memory.

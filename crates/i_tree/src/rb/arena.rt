@@ -7,16 +7,17 @@ ghost use Rattle.i_tree.specs.Core.RbTree.{slots, slots_with_room};
 ghost use Rattle.i_tree.specs.Core.Room.{IsFree, Keeps, with_numbers};
 ghost use Rattle.i_tree.specs.Core.Shape.{Shape, leaf, fork, top, entries, IsLive, AreHandles, occurs};
 ghost use Rattle.i_tree.specs.Core.Slots.{IsChain, IsSound, IsUsed};
-ghost use Rattle.i_tree.specs.Root.Steps.{OnlyRotates};
+ghost use Rattle.i_tree.specs.Root.Steps.{one_rotation};
 ghost use Rattle.i_tree.specs.Core.Turns.{Turn, unturned, turned, CanTurn, HoldsTurn, Rehangs, Reparents};
 
-use super::links::{Colour, Links, Side, Slot, links_at, set_links};
-use crate::steps::Steps;
+use super::links::{
+    Colour, Links, Side, Slot, hang, links_at, write_child, write_colour, write_parent,
+};
+use crate::steps::Counter;
 use crate::{EMPTY_REF, Refusal};
 use std::alloc::Allocator;
 use std::marker::Model;
 use std::mem;
-use std::sync::ledger::Ledger;
 
 // The fewest slots that an arena has.
 const LEAST_SLOTS: usize = 8;
@@ -124,13 +125,11 @@ fn replace_child<T>(slots: &mut [Slot<T>], root: &mut u32, parent: u32, old: u32
         *root = new;
         return;
     }
-    let links = links_at(slots, parent);
-    let side = if links.left == old {
-        Side::Left
+    if links_at(slots, parent).left == old {
+        write_child(slots, parent, Side::Left, new);
     } else {
-        Side::Right
-    };
-    set_links(slots, parent, links.with_child(side, new));
+        write_child(slots, parent, Side::Right, new);
+    }
 }
 
 // Gives the node, where the handle is that of one, another parent.
@@ -139,8 +138,7 @@ fn set_parent<T>(slots: &mut [Slot<T>], handle: u32, parent: u32)
     ensures { Reparents slots.old slots.new handle parent }
 {
     if handle != EMPTY_REF {
-        let links = links_at(slots, handle);
-        set_links(slots, handle, Links { parent, ..links });
+        write_parent(slots, handle, parent);
     }
 }
 
@@ -155,26 +153,15 @@ fn turn<T>(slots: &mut [Slot<T>], root: &mut u32, handle: u32, side: Side)
     let raised_links = links_at(slots, raised);
     let inner = raised_links.child(side);
     replace_child(slots, root, links.parent, handle, raised);
-    let lowered = links.with_child(side.other(), inner);
-    set_links(
+    hang(
         slots,
         handle,
-        Links {
-            parent: raised,
-            colour: raised_links.colour,
-            ..lowered
-        },
-    );
-    let lifted = raised_links.with_child(side, handle);
-    set_links(
-        slots,
         raised,
-        Links {
-            parent: links.parent,
-            colour: links.colour,
-            ..lifted
-        },
+        raised_links.colour,
+        side.other(),
+        inner,
     );
+    hang(slots, raised, links.parent, links.colour, side, handle);
     set_parent(slots, inner, handle);
 }
 
@@ -225,6 +212,7 @@ impl<T, A: Allocator + Copy> Arena<T, A> {
     }
 
     /// Makes sure that a slot is free: where none is, the slots double, up to `EMPTY_REF` of them.
+    #[inline]
     pub fn make_room(&mut self) -> Result<(), Refusal>
         ensures shape { self.new.shape ≡ self.old.shape }
         ensures slots { OnOk result (slots self.new ≡ slots_with_room self.old) }
@@ -237,6 +225,21 @@ impl<T, A: Allocator + Copy> Arena<T, A> {
         if self.free > 0 {
             return Ok(());
         }
+        self.grow()
+    }
+
+    // Doubles the slots, none of which is free. It stands apart, since most insertions find a free slot.
+    #[cold]
+    #[inline(never)]
+    fn grow(&mut self) -> Result<(), Refusal>
+        requires { self.old.spare ≡ 0 }
+        ensures shape { self.new.shape ≡ self.old.shape }
+        ensures slots { OnOk result (slots self.new ≡ slots_with_room self.old) }
+        ensures room { OnOk result (0 < self.new.spare) }
+        ensures err { OnErr result (self.new ≡ self.old) }
+        ensures no_handle { slots self.old ≡ EMPTY_REF → IsErrAnd result (λ cause. cause ≡ Refusal.NoHandle) }
+        ensures refused { slots self.old ≢ EMPTY_REF → IfErr result (λ cause. cause ≡ Refusal.OutOfMemory) }
+    {
         let count = self.slots.len();
         if count >= EMPTY_REF as usize {
             return Err(Refusal::NoHandle);
@@ -330,18 +333,17 @@ impl<T, A: Allocator + Copy> Arena<T, A> {
         ensures spare { self.new.spare ≡ self.old.spare }
         ensures handles { AreHandles self.new.shape }
     {
-        let links = links_at(&self.slots, handle);
-        set_links(&mut self.slots, handle, Links { colour, ..links });
+        write_colour(&mut self.slots, handle, colour);
     }
 
     /// Turns the node down to the side, and its part's top on the other side up to its place. The two change colours.
-    pub fn rotate<L: Ledger>(&mut self, steps: &mut Steps<L>, handle: u32, side: Side)
+    #[inline]
+    pub fn rotate<C: Counter>(&mut self, steps: &mut C, handle: u32, side: Side)
         requires { CanTurn self.old.shape handle side }
         ensures shape { (turn : Turn T handle side) → self.old.shape ≡ plug turn.around (unturned turn) → self.new.shape ≡ plug turn.around (turned turn) }
         ensures spare { self.new.spare ≡ self.old.spare }
         ensures handles { AreHandles self.new.shape }
-        ensures rotations { steps.new.rotations ≡ steps.old.rotations + 1 }
-        ensures others { OnlyRotates steps.old steps.new 1 }
+        ensures steps { C.made steps.old steps.new one_rotation }
     {
         turn(&mut self.slots, &mut self.root, handle, side);
         steps.add_rotation();
@@ -364,8 +366,7 @@ impl<T, A: Allocator + Copy> Arena<T, A> {
             item,
         );
         self.free -= 1;
-        let links = links_at(&self.slots, parent);
-        set_links(&mut self.slots, parent, links.with_child(side, handle));
+        write_child(&mut self.slots, parent, side, handle);
         handle
     }
 

@@ -1,7 +1,7 @@
 ghost use Rattle.std.specs.Prelude.{◌≡◌, Some, IsSome};
 ghost use Rattle.std.specs.Borrow.{sem, Lends};
 ghost use Rattle.i_tree.specs.Core.Context.{other_side};
-ghost use Rattle.i_tree.specs.Core.Slots.{IsUsed, Relinks, child_link, with_child_link, links_of, slot_links, slot_item, with_slot_item};
+ghost use Rattle.i_tree.specs.Core.Slots.{IsUsed, Relinks, child_link, with_child_link, with_parent_link, with_colour, hung_links, links_of, slot_links, slot_item, with_slot_item};
 
 /// The colour of a node, by which the tree keeps its balance.
 #[derive(Clone, Copy, PartialEq, Eq)]
@@ -47,18 +47,12 @@ impl Links {
         }
     }
 
-    pub fn with_child(self, side: Side, child: u32) -> Links
-        ensures { result ≡ with_child_link side child self }
+    pub fn set_child(&mut self, side: Side, child: u32)
+        ensures { self.new ≡ with_child_link side child self.old }
     {
         match side {
-            Side::Left => Links {
-                left: child,
-                ..self
-            },
-            Side::Right => Links {
-                right: child,
-                ..self
-            },
+            Side::Left => self.left = child,
+            Side::Right => self.right = child,
         }
     }
 }
@@ -97,13 +91,57 @@ pub fn links_at<T>(slots: &[Slot<T>], handle: u32) -> Links
     }
 }
 
-/// Gives the node in this slot other links.
-pub fn set_links<T>(slots: &mut [Slot<T>], handle: u32, links: Links)
+/// Gives the node in this slot another parent.
+pub fn write_parent<T>(slots: &mut [Slot<T>], handle: u32, parent: u32)
     requires { IsUsed slots.old handle }
-    ensures { Relinks slots.old slots.new handle links }
+    ensures { Relinks slots.old slots.new handle (with_parent_link parent) }
 {
     match &mut slots[handle as usize] {
-        Slot::Used(old, _) => *old = links,
+        Slot::Used(links, _) => links.parent = parent,
+        Slot::Free(_) => {}
+    }
+}
+
+/// Gives the node in this slot another part on the side.
+pub fn write_child<T>(slots: &mut [Slot<T>], handle: u32, side: Side, child: u32)
+    requires { IsUsed slots.old handle }
+    ensures { Relinks slots.old slots.new handle (with_child_link side child) }
+{
+    match &mut slots[handle as usize] {
+        Slot::Used(links, _) => links.set_child(side, child),
+        Slot::Free(_) => {}
+    }
+}
+
+/// Gives the node in this slot the colour.
+pub fn write_colour<T>(slots: &mut [Slot<T>], handle: u32, colour: Colour)
+    requires { IsUsed slots.old handle }
+    ensures { Relinks slots.old slots.new handle (with_colour colour) }
+{
+    match &mut slots[handle as usize] {
+        Slot::Used(links, _) => links.colour = colour,
+        Slot::Free(_) => {}
+    }
+}
+
+/// Hangs the node in this slot below another parent, in another colour, with another part on the side.
+pub fn hang<T>(
+    slots: &mut [Slot<T>],
+    handle: u32,
+    parent: u32,
+    colour: Colour,
+    side: Side,
+    child: u32,
+)
+    requires { IsUsed slots.old handle }
+    ensures { Relinks slots.old slots.new handle (hung_links parent colour side child) }
+{
+    match &mut slots[handle as usize] {
+        Slot::Used(links, _) => {
+            links.set_child(side, child);
+            links.parent = parent;
+            links.colour = colour;
+        }
         Slot::Free(_) => {}
     }
 }

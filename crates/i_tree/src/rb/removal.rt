@@ -10,10 +10,9 @@ use super::links::{Colour, Side};
 use super::mending::{mend_removal, side_of};
 use super::tree::RbTree;
 use crate::EMPTY_REF;
-use crate::steps::Steps;
+use crate::steps::Counter;
 use std::alloc::Allocator;
 use std::mem;
-use std::sync::ledger::Ledger;
 
 impl<T, A: Allocator + Copy> RbTree<T, A> {
     /// Takes the entry out, and answers its item.
@@ -23,14 +22,14 @@ impl<T, A: Allocator + Copy> RbTree<T, A> {
     /// our own. Where the handle was the top of a side of the node `above`, that node stays live, the list changes on that
     /// side alone, and the rank of that side doesn't rise: who walks down can go on from there. At most three rotations are
     /// made.
-    pub fn remove<L: Ledger>(&mut self, steps: &mut Steps<L>, handle: u32) -> T
+    pub fn remove<C: Counter>(&mut self, steps: &mut C, handle: u32) -> T
         requires { IsLive self.old.shape handle }
         ensures list { (front : List (ℕ × T)) (item : T) (back : List (ℕ × T)) → entries self.old.shape ≡ front ++ (handle, item) ∷ back → (result ≡ item) × LosesAt handle front back (entries self.new.shape) }
         ensures left { (above : ℕ) → IsLive self.old.shape above → top (left_at above self.old.shape) ≡ handle → ChangesSide self.old.shape self.new.shape above (left_at above self.old.shape) (left_at above self.new.shape) }
         ensures right { (above : ℕ) → IsLive self.old.shape above → top (right_at above self.old.shape) ≡ handle → ChangesSide self.old.shape self.new.shape above (right_at above self.old.shape) (right_at above self.new.shape) }
         ensures rank { rank self.new.shape ≤ rank self.old.shape }
         ensures spare { self.new.spare ≡ self.old.spare + 1 }
-        ensures steps { RemovesOne steps.old steps.new 3 }
+        ensures steps { RemovesOne C.made steps.old steps.new 3 }
         ensures core { IsCore self.new.shape }
     {
         steps.add_removal();
@@ -61,12 +60,12 @@ impl<T, A: Allocator + Copy> RbTree<T, A> {
 
     // Takes out a node with an empty part on some side, and mends the tree: where the node is black, its place is a level
     // short.
-    fn remove_at<L: Ledger>(&mut self, steps: &mut Steps<L>, gone: u32) -> T
+    fn remove_at<C: Counter>(&mut self, steps: &mut C, gone: u32) -> T
         requires { HasOnePart self.old.shape gone }
         ensures item { (around : List (Frame T)) (colour : Colour) (before : Shape T) (item : T) (after : Shape T) → self.old.shape ≡ plug around (fork colour before gone item after) → result ≡ item }
         ensures shape { TakesOut self.old.shape gone self.new.shape }
         ensures spare { self.new.spare ≡ self.old.spare + 1 }
-        ensures steps { OnlyRotates steps.old steps.new 3 }
+        ensures steps { OnlyRotates C.made steps.old steps.new 3 }
         ensures core { IsCore self.new.shape }
     {
         let parent = self.arena.parent(gone);

@@ -10,11 +10,10 @@ ghost use Rattle.i_tree.specs.Root.Steps.{OnlyRotates};
 use super::arena::Arena;
 use super::links::{Colour, Side};
 use super::mending::mend_insertion;
-use crate::steps::Steps;
+use crate::steps::Counter;
 use crate::{EMPTY_REF, Refusal, Refused};
 use std::alloc::Allocator;
 use std::marker::Model;
-use std::sync::ledger::Ledger;
 
 /// A red-black tree whose nodes have handles that stay: the core of both trees.
 ///
@@ -209,11 +208,7 @@ impl<T, A: Allocator + Copy> RbTree<T, A> {
     /// Where a slot is free it succeeds. Else the slots double, up to `EMPTY_REF` of them: it is refused with `NoHandle`
     /// exactly where all of these are in use, and with `OutOfMemory` only where the growth was refused. A refusal changes
     /// nothing and hands the item back.
-    pub fn insert_root<L: Ledger>(
-        &mut self,
-        _steps: &mut Steps<L>,
-        item: T,
-    ) -> Result<u32, Refused<T>>
+    pub fn insert_root<C: Counter>(&mut self, _steps: &mut C, item: T) -> Result<u32, Refused<T>>
         requires { self.old.shape ≡ leaf }
         ensures shape { IfOk result (λ handle. self.new.shape ≡ fork Colour.Black leaf handle item leaf) }
         ensures slots { OnOk result (slots self.new ≡ slots_with_room self.old) }
@@ -234,9 +229,9 @@ impl<T, A: Allocator + Copy> RbTree<T, A> {
     /// Puts an item directly before that of the parent, whose left part is empty, and answers its handle.
     ///
     /// All other handles stay. At most two rotations are made. It is refused as `insert_root` is.
-    pub fn insert_left<L: Ledger>(
+    pub fn insert_left<C: Counter>(
         &mut self,
-        steps: &mut Steps<L>,
+        steps: &mut C,
         parent: u32,
         item: T,
     ) -> Result<u32, Refused<T>>
@@ -251,7 +246,7 @@ impl<T, A: Allocator + Copy> RbTree<T, A> {
         ensures handed { IfErr result (λ refused. refused.value ≡ item) }
         ensures no_handle { self.old.spare ≡ 0 → slots self.old ≡ EMPTY_REF → IsErrAnd result (λ refused. refused.cause ≡ Refusal.NoHandle) }
         ensures refused { slots self.old ≢ EMPTY_REF → IfErr result (λ refused. refused.cause ≡ Refusal.OutOfMemory) }
-        ensures steps { OnlyRotates steps.old steps.new 2 }
+        ensures steps { OnlyRotates C.made steps.old steps.new 2 }
         ensures core { IsCore self.new.shape }
     {
         self.insert_on(steps, parent, Side::Left, item)
@@ -260,9 +255,9 @@ impl<T, A: Allocator + Copy> RbTree<T, A> {
     /// Puts an item directly after that of the parent, whose right part is empty, and answers its handle.
     ///
     /// All other handles stay. At most two rotations are made. It is refused as `insert_root` is.
-    pub fn insert_right<L: Ledger>(
+    pub fn insert_right<C: Counter>(
         &mut self,
-        steps: &mut Steps<L>,
+        steps: &mut C,
         parent: u32,
         item: T,
     ) -> Result<u32, Refused<T>>
@@ -277,16 +272,17 @@ impl<T, A: Allocator + Copy> RbTree<T, A> {
         ensures handed { IfErr result (λ refused. refused.value ≡ item) }
         ensures no_handle { self.old.spare ≡ 0 → slots self.old ≡ EMPTY_REF → IsErrAnd result (λ refused. refused.cause ≡ Refusal.NoHandle) }
         ensures refused { slots self.old ≢ EMPTY_REF → IfErr result (λ refused. refused.cause ≡ Refusal.OutOfMemory) }
-        ensures steps { OnlyRotates steps.old steps.new 2 }
+        ensures steps { OnlyRotates C.made steps.old steps.new 2 }
         ensures core { IsCore self.new.shape }
     {
         self.insert_on(steps, parent, Side::Right, item)
     }
 
     // Puts an item on the side of the parent, where it has no part, and answers its handle.
-    fn insert_on<L: Ledger>(
+    #[inline]
+    fn insert_on<C: Counter>(
         &mut self,
-        steps: &mut Steps<L>,
+        steps: &mut C,
         parent: u32,
         side: Side,
         item: T,
@@ -302,7 +298,7 @@ impl<T, A: Allocator + Copy> RbTree<T, A> {
         ensures handed { IfErr result (λ refused. refused.value ≡ item) }
         ensures no_handle { self.old.spare ≡ 0 → slots self.old ≡ EMPTY_REF → IsErrAnd result (λ refused. refused.cause ≡ Refusal.NoHandle) }
         ensures refused { slots self.old ≢ EMPTY_REF → IfErr result (λ refused. refused.cause ≡ Refusal.OutOfMemory) }
-        ensures steps { OnlyRotates steps.old steps.new 2 }
+        ensures steps { OnlyRotates C.made steps.old steps.new 2 }
         ensures core { IsCore self.new.shape }
     {
         if let Err(cause) = self.arena.make_room() {

@@ -11,6 +11,7 @@ ghost use Rattle.i_tree.specs.Core.Shape.{last_handle};
 
 use super::sort::{KeyValue, SetCollection};
 use crate::halving::count_passing;
+use crate::inserting::insert_at;
 use crate::{EMPTY_REF, Refusal, Refused};
 use std::alloc::Allocator;
 use std::cmp::Ordering;
@@ -141,7 +142,7 @@ impl<K: Ord, V: KeyValue<K> + Drop, A: Allocator + Copy> SetCollection<K, V> for
             });
         }
         let place = place_of(&self.values, val.key());
-        self.values.insert(place, val).unwrap();
+        insert_at(&mut self.values, place, val);
         Ok(())
     }
 

@@ -96,6 +96,7 @@ pub trait SetCollection<K: Ord, V: KeyValue<K> + Drop> {
     fn contains_key(&self, key: &K) -> bool
         requires in_order { IsOrdered V.key_of K.cmp (pairs self.now) }
         ensures cases { MatchBool result (HoldsKey V.key_of K.cmp (pairs self.now) key.now) (LacksKey V.key_of K.cmp (pairs self.now) key.now) }
+        ensures in_order { IsOrdered V.key_of K.cmp (pairs self.now) }
         ensures handles { AreApart (pairs self.now) }
     {
         let stands = |other: &K| -> Ordering

@@ -3,24 +3,23 @@ ghost use Rattle.std.specs.Borrow.{Bor};
 ghost use Rattle.std.specs.Fn.{FnReturnsAt};
 ghost use Rattle.std.specs.declared.cmp.Ordering.{Ordering};
 ghost use Rattle.std.specs.declared.cmp.Ordering.TheVariants.{Less};
-ghost use Rattle.i_tree.specs.Root.Compared.{ComparesWithin, OnlyCompares, RotatesWithin};
+ghost use Rattle.i_tree.specs.Root.Descent.{LooksDown};
 ghost use Rattle.i_tree.specs.Core.RbTree.{slots, slots_with_room};
 ghost use Rattle.i_tree.specs.Core.Removal.{LosesAt};
 ghost use Rattle.i_tree.specs.Set.Pairs.{HasHandle, IsOrdered, LacksKey, TakesKeys, IsFound};
 ghost use Rattle.i_tree.specs.Core.Place.{IsPlaceBetween};
 ghost use Rattle.i_tree.specs.Core.Balance.{IsCore};
 ghost use Rattle.i_tree.specs.Core.Shape.{leaf, entries, occurs, IsLive, last_handle};
-ghost use Rattle.i_tree.specs.Root.Steps.{OnlyRotates};
 
 use super::sort::{KeyValue, SetCollection};
+use crate::looking::{look_down, place_below};
 use crate::place::{Place, insert_at};
 use crate::rb::RbTree;
-use crate::steps::Steps;
+use crate::steps::{Counter, Uncounted};
 use crate::{EMPTY_REF, Refusal, Refused};
 use std::alloc::Allocator;
 use std::cmp::Ordering;
-use std::marker::{Brand, Model, PhantomData};
-use std::sync::ledger::{Blank, Ledger};
+use std::marker::{Model, PhantomData};
 
 /// Values in the order of their keys, in a red-black tree. Each value keeps its handle until it is removed.
 ///
@@ -39,21 +38,6 @@ impl<K, V, A: Allocator + Copy> Model for SetTree<K, V, A> {
     ghost coded = { contents_code V.code };
 
     ghost view = { λ set. set.core };
-}
-
-// Asks `f` once how the value's key stands, and counts that.
-fn compare<K, V: KeyValue<K>, L: Ledger, F: Fn(&K) -> Ordering>(
-    steps: &mut Steps<L>,
-    value: &V,
-    f: &F,
-) -> Ordering
-    requires { (key : Bor K) → key.now ≡ V.key_of value.now → F.pre f.now key }
-    ensures answer { FnReturnsAt F.Fn f.now (V.key_of value.now) result }
-    ensures comparisons { steps.new.comparisons ≡ steps.old.comparisons + 1 }
-    ensures others { OnlyCompares steps.old steps.new }
-{
-    steps.add_comparison();
-    f(value.key())
 }
 
 impl<K: Ord, V: KeyValue<K> + Drop, A: Allocator + Copy> SetTree<K, V, A> {
@@ -96,11 +80,7 @@ impl<K: Ord, V: KeyValue<K> + Drop, A: Allocator + Copy> SetTree<K, V, A> {
     /// `NoHandle` exactly where all of these are in use, and with `OutOfMemory` only where the growth was refused. A
     /// refusal changes nothing and hands the value back; the comparisons were made. The counts and the refusals are our
     /// own.
-    pub fn insert_counted<L: Ledger>(
-        &mut self,
-        steps: &mut Steps<L>,
-        val: V,
-    ) -> Result<(), Refused<V>>
+    pub fn insert_counted<C: Counter>(&mut self, steps: &mut C, val: V) -> Result<(), Refused<V>>
         requires in_order { IsOrdered V.key_of K.cmp (entries self.old.shape) }
         requires absent { LacksKey V.key_of K.cmp (entries self.old.shape) (V.key_of val) }
         ensures joins { OnOk result ((front : List (ℕ × V)) × (handle : ℕ) × (back : List (ℕ × V)) × (entries self.old.shape ≡ front ++ back) × (entries self.new.shape ≡ front ++ (handle, val) ∷ back) × (occurs handle self.old.shape ≡ 0)) }
@@ -109,12 +89,11 @@ impl<K: Ord, V: KeyValue<K> + Drop, A: Allocator + Copy> SetTree<K, V, A> {
         ensures slots { OnOk result (slots self.new ≡ slots_with_room self.old) }
         ensures with_spare { 0 < self.old.spare → IsOk result }
         ensures err { OnErr result (self.new ≡ self.old) }
-        ensures err_steps { OnErr result (OnlyCompares steps.old steps.new) }
         ensures handed { IfErr result (λ refused. refused.value ≡ val) }
         ensures no_handle { self.old.spare ≡ 0 → slots self.old ≡ EMPTY_REF → IsErrAnd result (λ refused. refused.cause ≡ Refusal.NoHandle) }
         ensures refused { slots self.old ≢ EMPTY_REF → IfErr result (λ refused. refused.cause ≡ Refusal.OutOfMemory) }
-        ensures comparisons { ComparesWithin steps.old steps.new (length (entries self.old.shape)) }
-        ensures rotations { RotatesWithin steps.old steps.new 2 }
+        ensures steps { LooksDown C.made steps.old steps.new (length (entries self.old.shape)) 0 2 }
+        ensures err_steps { OnErr result (LooksDown C.made steps.old steps.new (length (entries self.old.shape)) 0 0) }
         ensures core { IsCore self.new.shape }
     {
         let place = self.place_of(steps, val.key());
@@ -123,38 +102,24 @@ impl<K: Ord, V: KeyValue<K> + Drop, A: Allocator + Copy> SetTree<K, V, A> {
     }
 
     // Goes down the tree to the place of the key, which no value of the set has.
-    fn place_of<L: Ledger>(&self, steps: &mut Steps<L>, key: &K) -> Place
+    fn place_of<C: Counter>(&self, steps: &mut C, key: &K) -> Place
         requires in_order { IsOrdered V.key_of K.cmp (entries self.now.shape) }
         requires absent { LacksKey V.key_of K.cmp (entries self.now.shape) key.now }
         ensures place { (front : List (ℕ × V)) × (back : List (ℕ × V)) × IsPlaceBetween self.now.shape front back result
             × All (λ pair. K.cmp (V.key_of pair.1) key.now ≡ Less) front × All (λ pair. K.cmp key.now (V.key_of pair.1) ≡ Less) back }
-        ensures comparisons { ComparesWithin steps.old steps.new (length (entries self.now.shape)) }
-        ensures others { OnlyCompares steps.old steps.new }
+        ensures steps { LooksDown C.made steps.old steps.new (length (entries self.now.shape)) 0 0 }
     {
-        let stands = |other: &K| -> Ordering
-            ensures { result ≡ K.cmp other.entry.now key.entry.now }
-        { other.cmp(key) };
-        let mut place = Place::Root;
-        let mut here = self.core.root();
-        while here != EMPTY_REF {
-            match compare(steps, self.core.item(here), &stands) {
-                Ordering::Less => {
-                    place = Place::Right(here);
-                    here = self.core.right(here);
-                }
-                _ => {
-                    place = Place::Left(here);
-                    here = self.core.left(here);
-                }
-            }
-        }
-        place
+        let stands = |value: &V| -> Ordering
+            ensures { result ≡ K.cmp (V.key_of value.entry.now) key.entry.now }
+        { value.key().cmp(key) };
+        let looked = look_down(&self.core, steps, &stands);
+        place_below(looked.above, looked.on_right)
     }
 
     /// `first_index_less_by`, with its steps counted: each comparison is one call of `f`. The counts are our own.
-    pub fn first_index_less_by_counted<L: Ledger, F: Fn(&K) -> Ordering>(
+    pub fn first_index_less_by_counted<C: Counter, F: Fn(&K) -> Ordering>(
         &self,
-        steps: &mut Steps<L>,
+        steps: &mut C,
         f: F,
     ) -> u32
         requires in_order { IsOrdered V.key_of K.cmp (entries self.now.shape) }
@@ -162,73 +127,13 @@ impl<K: Ord, V: KeyValue<K> + Drop, A: Allocator + Copy> SetTree<K, V, A> {
         ensures value { IsFound V.key_of K.cmp (λ key answer. FnReturnsAt F.Fn f key answer) (entries self.now.shape) result }
         ensures live { result ≢ EMPTY_REF → HasHandle (entries self.now.shape) result }
         ensures core { IsCore self.now.shape }
-        ensures comparisons { ComparesWithin steps.old steps.new (length (entries self.now.shape)) }
-        ensures others { OnlyCompares steps.old steps.new }
+        ensures steps { LooksDown C.made steps.old steps.new (length (entries self.now.shape)) 0 0 }
     {
-        let mut found = EMPTY_REF;
-        let mut here = self.core.root();
-        while here != EMPTY_REF {
-            match compare(steps, self.core.item(here), &f) {
-                Ordering::Less => {
-                    found = here;
-                    here = self.core.right(here);
-                }
-                Ordering::Equal => return here,
-                Ordering::Greater => here = self.core.left(here),
-            }
-        }
-        found
-    }
-
-    // The counted insertion, over a ledger of its own.
-    fn insert_over<L: Ledger>(&mut self, blank: Blank, val: V) -> Result<(), Refused<V>>
-        requires name { blank.name ≡ L.name }
-        requires parts { blank.parts ≡ L.parts }
-        requires four { blank.parts ≡ 4 }
-        requires in_order { IsOrdered V.key_of K.cmp (entries self.old.shape) }
-        requires absent { LacksKey V.key_of K.cmp (entries self.old.shape) (V.key_of val) }
-        ensures joins { OnOk result ((front : List (ℕ × V)) × (handle : ℕ) × (back : List (ℕ × V)) × (entries self.old.shape ≡ front ++ back) × (entries self.new.shape ≡ front ++ (handle, val) ∷ back) × (occurs handle self.old.shape ≡ 0)) }
-        ensures keeps { (handle : ℕ) → HasHandle (entries self.old.shape) handle → HasHandle (entries self.new.shape) handle }
-        ensures in_order { IsOrdered V.key_of K.cmp (entries self.new.shape) }
-        ensures slots { OnOk result (slots self.new ≡ slots_with_room self.old) }
-        ensures with_spare { 0 < self.old.spare → IsOk result }
-        ensures err { OnErr result (self.new ≡ self.old) }
-        ensures handed { IfErr result (λ refused. refused.value ≡ val) }
-        ensures no_handle { self.old.spare ≡ 0 → slots self.old ≡ EMPTY_REF → IsErrAnd result (λ refused. refused.cause ≡ Refusal.NoHandle) }
-        ensures refused { slots self.old ≢ EMPTY_REF → IfErr result (λ refused. refused.cause ≡ Refusal.OutOfMemory) }
-        ensures core { IsCore self.new.shape }
-    {
-        let mut steps = Steps::<L>::new(blank);
-        self.insert_counted(&mut steps, val)
-    }
-
-    // The counted search, over a ledger of its own.
-    fn search_over<L: Ledger, F: Fn(&K) -> Ordering>(&self, blank: Blank, f: F) -> u32
-        requires name { blank.name ≡ L.name }
-        requires parts { blank.parts ≡ L.parts }
-        requires four { blank.parts ≡ 4 }
-        requires in_order { IsOrdered V.key_of K.cmp (entries self.now.shape) }
-        requires callable { TakesKeys V.key_of (λ key. F.pre f key) (entries self.now.shape) }
-        ensures value { IsFound V.key_of K.cmp (λ key answer. FnReturnsAt F.Fn f key answer) (entries self.now.shape) result }
-        ensures live { result ≢ EMPTY_REF → HasHandle (entries self.now.shape) result }
-        ensures core { IsCore self.now.shape }
-    {
-        let mut steps = Steps::<L>::new(blank);
-        self.first_index_less_by_counted(&mut steps, f)
-    }
-
-    // The removal from the core, over a ledger of its own.
-    fn delete_over<L: Ledger>(&mut self, blank: Blank, index: u32)
-        requires name { blank.name ≡ L.name }
-        requires parts { blank.parts ≡ L.parts }
-        requires four { blank.parts ≡ 4 }
-        requires live { IsLive self.old.shape index }
-        ensures loses { (front : List (ℕ × V)) (value : V) (back : List (ℕ × V)) → entries self.old.shape ≡ front ++ (index, value) ∷ back → LosesAt index front back (entries self.new.shape) }
-        ensures spare { self.new.spare ≡ self.old.spare + 1 }
-        ensures core { IsCore self.new.shape }
-    {
-        let mut steps = Steps::<L>::new(blank);
-        self.core.remove(&mut steps, index);
+        let stands = |value: &V| -> Ordering
+            requires { (key : Bor K) → key.now ≡ V.key_of value.now → F.pre f key }
+            ensures { FnReturnsAt F.Fn f (V.key_of value.entry.now) result }
+        { f(value.key()) };
+        look_down(&self.core, steps, &stands).found
     }
 
     // The key of the value at the handle.
@@ -290,7 +195,7 @@ impl<K: Ord, V: KeyValue<K> + Drop, A: Allocator + Copy> SetCollection<K, V> for
         ensures refused { slots self.old ≢ EMPTY_REF → IfErr result (λ refused. refused.cause ≡ Refusal.OutOfMemory) }
         ensures core { IsCore self.new.shape }
     {
-        self.insert_over::<Brand>(Blank::new(4), val)
+        self.insert_counted(&mut Uncounted, val)
     }
 
     /// Removes the value at the handle, and drops it. Every other value keeps its handle, or the next one alone has this
@@ -307,7 +212,7 @@ impl<K: Ord, V: KeyValue<K> + Drop, A: Allocator + Copy> SetCollection<K, V> for
         ensures handles { AreApart (entries self.new.shape) }
         ensures core { IsCore self.new.shape }
     {
-        self.delete_over::<Brand>(Blank::new(4), index)
+        self.core.remove(&mut Uncounted, index);
     }
 
     fn index_before(&self, index: u32) -> u32 {
@@ -315,7 +220,7 @@ impl<K: Ord, V: KeyValue<K> + Drop, A: Allocator + Copy> SetCollection<K, V> for
     }
 
     fn first_index_less_by<F: Fn(&K) -> Ordering>(&self, f: F) -> u32 {
-        self.search_over::<Brand, F>(Blank::new(4), f)
+        self.first_index_less_by_counted(&mut Uncounted, f)
     }
 
     fn value_by_index(&self, index: u32) -> &V {

@@ -1,26 +1,19 @@
-use Rattle.std.proofs.Common.{◌≤◌, ◌+◌, ◌*◌, ◌-◌, ◌/◌, length, sym, ap, ◌∙◌, arith}
-use Rattle.i_tree.proofs.RootLemmas.Halving.{search_more, step_taken}
+use Rattle.std.proofs.Common.{◌≡◌, Bool, refl, subst, arith}
+use Rattle.std.specs.Fn.{FnReturnsAt}
+use Rattle.std.proofs.lemmas.Fn.{says_at}
+use Rattle.std.proofs.lemmas.List.Elements.{at_read}
+use Rattle.i_tree.specs.Root.Halving.{Surrounds}
+use Rattle.i_tree.proofs.RootLemmas.Halving.{Surrounds-one}
 use Rattle.i_tree.proofs.halving.count_passing.Goals as goal
 
-pub loop-left-preserved : goal.loop-left-preserved
-loop-left-preserved g c =
-    let items = c.args.items.now in
-    let place = c.loop-left.start + c.loop-left.step * c.loop-left.passed in
-    let rest = c.loop-left.left / 2 in
-    let step = c.loop-left.left - rest in
-    let x = c.index-items-start.result in
-    let near : place + step + rest ≤ length items = omega (arith, c.loop-left.invariant.within) in
-    record {
-      within = omega (arith, near, step_taken step c.from-passed.result c.passes.result c.from-passed.ensures);
-      splits = λ test answers partitioned.
-          let (front, back) = c.loop-left.invariant.splits test answers partitioned in
-          search_more test items partitioned place step rest c.from-passed.result x c.passes.result
-          (omega arith) (omega arith) near c.index-items-start.is
-          (answers (place + (step - 1)) x (omega arith) c.passes.result (record { shown = _; shows = c.index-items-start.is; says = record { met = c.passes.ensures } }) ∙ ap test (sym c.index-items-start.is))
-          c.from-passed.ensures front (λ k d from within. back k d (omega arith) within);
-    }
-
 pub returns-clause-splits : goal.returns-clause-splits
-returns-clause-splits g c test answers partitioned =
-    let (front, back) = c.loop-left.invariant.splits test answers partitioned in
-    (front, λ k d from within. back k d (omega arith) within)
+returns-clause-splits g c =
+    let items = c.args.items.now in
+    let start = c.loop-window.window.start in
+    let passed = c.passes.result in
+    let may_answer = λ (item : g.row.X.Denot) (answer : Bool). FnReturnsAt g.P.Fn c.args.passes item answer in
+    let inside = c.loop-window.invariant in
+    let one : c.loop-window.window.size ≡ 1 = omega (arith, inside.some, c.loop-window-test.false) in
+    Surrounds-one may_answer items start (subst (Surrounds may_answer items start) one inside) c.from.result passed
+    (at_read items (λ item. may_answer item passed) start c.index-items-window.result (omega (arith, inside.some, inside.within)) c.index-items-window.is (says_at g.P.Fn c.passes.ensures refl))
+    c.from.ensures

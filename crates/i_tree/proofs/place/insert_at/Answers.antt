@@ -1,8 +1,9 @@
-use Rattle.std.proofs.Common.{◌≡◌, refl, ap, subst}
+use Rattle.std.proofs.Common.{refl, ap, subst}
 use Rattle.std.proofs.lemmas.Result.{IfOk-weaker}
 use Rattle.i_tree.proofs.CoreLemmas.Insertion.{joined_left, joined_right, joined_root}
 use Rattle.i_tree.specs.Core.Place.{IsPlaceOf}
 use Rattle.i_tree.specs.Core.Shape.{leaf, entries, occurs}
+use Rattle.i_tree.proofs.RootLemmas.Counts.{OnlyRotates-none}
 use Rattle.i_tree.proofs.place.insert_at.Goals as goal
 
 pub returns-in-Left-clause-joins : goal.returns-in-Left-clause-joins
@@ -34,3 +35,6 @@ insert_right-requires g c =
 
 pub insert_root-requires : goal.insert_root-requires
 insert_root-requires g c = (subst (IsPlaceOf c.args.core.now.shape leaf c.requires.0 c.requires.1) c.in-Root.is c.requires.2.free).0
+
+pub returns-in-Root-clause-steps : goal.returns-in-Root-clause-steps
+returns-in-Root-clause-steps g c = rw c.insert_root.ensures.steps (OnlyRotates-none g.met.C.Counter.law c.args.steps.now 2)

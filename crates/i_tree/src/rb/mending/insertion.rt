@@ -9,16 +9,15 @@ use super::side_of;
 use crate::EMPTY_REF;
 use crate::rb::arena::Arena;
 use crate::rb::links::{Colour, Side};
-use crate::steps::Steps;
+use crate::steps::Counter;
 use std::alloc::Allocator;
-use std::sync::ledger::Ledger;
 
 /// Mends a tree that is red-black but for this red node, which may stand under a red one.
 ///
 /// The order and the handles stay. At most two rotations are made, each at the loop's last turn.
-pub fn mend_insertion<T, A: Allocator + Copy, L: Ledger>(
+pub fn mend_insertion<T, A: Allocator + Copy, C: Counter>(
     arena: &mut Arena<T, A>,
-    steps: &mut Steps<L>,
+    steps: &mut C,
     added: u32,
 )
     requires { IsRaised arena.old.shape added }
@@ -26,7 +25,7 @@ pub fn mend_insertion<T, A: Allocator + Copy, L: Ledger>(
     ensures entries { entries arena.new.shape ≡ entries arena.old.shape }
     ensures spare { arena.new.spare ≡ arena.old.spare }
     ensures handles { AreHandles arena.new.shape }
-    ensures steps { OnlyRotates steps.old steps.new 2 }
+    ensures steps { OnlyRotates C.made steps.old steps.new 2 }
 {
     let mut node = added;
     loop {
@@ -54,9 +53,9 @@ pub fn mend_insertion<T, A: Allocator + Copy, L: Ledger>(
 
 // Ends the mending where the uncle is black: the parent, or the node from between parent and grandparent, goes up to
 // the grandparent's place.
-fn lift<T, A: Allocator + Copy, L: Ledger>(
+fn lift<T, A: Allocator + Copy, C: Counter>(
     arena: &mut Arena<T, A>,
-    steps: &mut Steps<L>,
+    steps: &mut C,
     node: u32,
     parent: u32,
     grandparent: u32,
@@ -68,7 +67,7 @@ fn lift<T, A: Allocator + Copy, L: Ledger>(
     ensures entries { entries arena.new.shape ≡ entries arena.old.shape }
     ensures spare { arena.new.spare ≡ arena.old.spare }
     ensures handles { AreHandles arena.new.shape }
-    ensures steps { OnlyRotates steps.old steps.new 2 }
+    ensures steps { OnlyRotates C.made steps.old steps.new 2 }
 {
     if arena.child(parent, side.other()) == node {
         arena.rotate(steps, parent, side);

@@ -10,16 +10,15 @@ use super::side_of;
 use crate::EMPTY_REF;
 use crate::rb::arena::Arena;
 use crate::rb::links::{Colour, Side};
-use crate::steps::Steps;
+use crate::steps::Counter;
 use std::alloc::Allocator;
-use std::sync::ledger::Ledger;
 
 /// Mends a tree one side of which, below this node, is a black level short.
 ///
 /// The order and the handles stay. At most three rotations are made, all at the loop's last turn.
-pub fn mend_removal<T, A: Allocator + Copy, L: Ledger>(
+pub fn mend_removal<T, A: Allocator + Copy, C: Counter>(
     arena: &mut Arena<T, A>,
-    steps: &mut Steps<L>,
+    steps: &mut C,
     parent: u32,
     short: Side,
 )
@@ -28,7 +27,7 @@ pub fn mend_removal<T, A: Allocator + Copy, L: Ledger>(
     ensures entries { entries arena.new.shape ≡ entries arena.old.shape }
     ensures spare { arena.new.spare ≡ arena.old.spare }
     ensures handles { AreHandles arena.new.shape }
-    ensures steps { OnlyRotates steps.old steps.new 3 }
+    ensures steps { OnlyRotates C.made steps.old steps.new 3 }
 
     // The short side itself is kept. Each part around it has the same entries, and its rank is at most what it is with a
     // part one level higher in the place of the short side.
@@ -56,9 +55,9 @@ pub fn mend_removal<T, A: Allocator + Copy, L: Ledger>(
 
 // One step: the side of the node is a black level short. Answers whether the tree is mended; else the whole part of the
 // node, whose top is black, is a level short now.
-fn mend_short_side<T, A: Allocator + Copy, L: Ledger>(
+fn mend_short_side<T, A: Allocator + Copy, C: Counter>(
     arena: &mut Arena<T, A>,
-    steps: &mut Steps<L>,
+    steps: &mut C,
     node: u32,
     short: Side,
 ) -> bool
@@ -66,7 +65,7 @@ fn mend_short_side<T, A: Allocator + Copy, L: Ledger>(
     ensures mended { (cut : IsShort arena.old.shape node short) → MatchBool result (IsEnded arena.old.shape node short cut arena.new.shape) (IsRisen arena.old.shape node short cut arena.new.shape) }
     ensures spare { arena.new.spare ≡ arena.old.spare }
     ensures handles { AreHandles arena.new.shape }
-    ensures steps { MatchBool result (OnlyRotates steps.old steps.new 3) (OnlyRotates steps.old steps.new 0) }
+    ensures steps { MatchBool result (OnlyRotates C.made steps.old steps.new 3) (OnlyRotates C.made steps.old steps.new 0) }
 {
     let sibling = arena.child(node, short.other());
     if arena.is_black(sibling) {
@@ -78,9 +77,9 @@ fn mend_short_side<T, A: Allocator + Copy, L: Ledger>(
 }
 
 // The same where the sibling is black.
-fn mend_beside_black<T, A: Allocator + Copy, L: Ledger>(
+fn mend_beside_black<T, A: Allocator + Copy, C: Counter>(
     arena: &mut Arena<T, A>,
-    steps: &mut Steps<L>,
+    steps: &mut C,
     node: u32,
     side: Side,
 ) -> bool
@@ -88,7 +87,7 @@ fn mend_beside_black<T, A: Allocator + Copy, L: Ledger>(
     ensures mended { (cut : IsShort arena.old.shape node side) → is_black cut.far ≡ true → MatchBool result (IsEnded arena.old.shape node side cut arena.new.shape) (IsRisen arena.old.shape node side cut arena.new.shape) }
     ensures spare { arena.new.spare ≡ arena.old.spare }
     ensures handles { AreHandles arena.new.shape }
-    ensures steps { MatchBool result (OnlyRotates steps.old steps.new 2) (OnlyRotates steps.old steps.new 0) }
+    ensures steps { MatchBool result (OnlyRotates C.made steps.old steps.new 2) (OnlyRotates C.made steps.old steps.new 0) }
 {
     let away = side.other();
     let sibling = arena.child(node, away);

@@ -4,14 +4,14 @@ use Rattle.rows.proofs.key_counts.below_nine.Goals as goal
 pub returns-clause-four : goal.returns-clause-four
 returns-clause-four g c four =
     let way = c.first_less_counted.ensures.steps in
-    omega (arith, way.adds.comparisons, way.compares 2 (omega (arith, four)))
+    omega (arith, way.counted.comparisons, way.compares 2 (omega (arith, four)))
 
 pub returns-clause-tests : goal.returns-clause-tests
 returns-clause-tests g c =
     let way = c.first_less_counted.ensures.steps in
-    omega (arith, way.adds.comparisons, way.adds.tests, way.adds.removals, way.tests)
+    omega (arith, way.counted.comparisons, way.counted.tests, way.counted.removals, way.tests)
 
 pub returns-clause-removals : goal.returns-clause-removals
 returns-clause-removals g c =
     let way = c.first_less_counted.ensures.steps in
-    omega (arith, way.adds.removals, way.stores)
+    omega (arith, way.counted.removals, way.stores)

@@ -1,5 +1,5 @@
 use Rattle.std.proofs.Common.{◌∙◌, ap}
-use Rattle.i_tree.specs.Core.Slots.{child_link, with_child_link}
+use Rattle.i_tree.specs.Core.Slots.{child_link}
 use Rattle.i_tree.proofs.CoreLemmas.TurningRound.{used_by, laid, up_found, found, hung_used, used_hung, used_lowered, used_lifted, sound-turned}
 use Rattle.i_tree.proofs.rb.arena.turn.Goals as goal
 
@@ -22,21 +22,21 @@ replace_child-requires g c =
     c.links_at-raised_links.ensures c.child-inner.ensures in
     hung_used c.args.slots.now c.requires.turn c.links_at-links.result c.child-raised.result c.links_at-raised_links.result c.child-inner.result lies values
 
-pub set_links-requires : goal.set_links-requires
-set_links-requires g c =
+pub hang-requires : goal.hang-requires
+hang-requires g c =
     let lies = laid c.args.slots.now _ _ _ c.requires.turn c.requires.sound in
     let values = found c.args.slots.now c.requires.turn c.links_at-links.result c.child-raised.result c.links_at-raised_links.result c.child-inner.result lies
     c.links_at-links.ensures (c.child-raised.ensures ∙ ap (λ side. child_link side c.links_at-links.result) c.other.ensures)
     c.links_at-raised_links.ensures c.child-inner.ensures in
     used_hung c.args.slots.now c.replace_child.new.slots _ _ c.requires.turn _ _ _ _ lies values c.replace_child.ensures
 
-pub set_links-requires-2 : goal.set_links-requires-2
-set_links-requires-2 g c =
+pub hang-requires-2 : goal.hang-requires-2
+hang-requires-2 g c =
     let lies = laid c.args.slots.now _ _ _ c.requires.turn c.requires.sound in
     let values = found c.args.slots.now c.requires.turn c.links_at-links.result c.child-raised.result c.links_at-raised_links.result c.child-inner.result lies
     c.links_at-links.ensures (c.child-raised.ensures ∙ ap (λ side. child_link side c.links_at-links.result) c.other.ensures)
     c.links_at-raised_links.ensures c.child-inner.ensures in
-    used_lowered c.args.slots.now c.replace_child.new.slots c.set_links.new.slots _ _ c.requires.turn _ _ _ _ _ lies values c.replace_child.ensures c.set_links.ensures
+    used_lowered c.args.slots.now c.replace_child.new.slots c.hang.new.slots _ _ c.requires.turn _ _ _ _ _ lies values c.replace_child.ensures c.hang.ensures
 
 pub set_parent-requires : goal.set_parent-requires
 set_parent-requires g c =
@@ -44,8 +44,8 @@ set_parent-requires g c =
     let values = found c.args.slots.now c.requires.turn c.links_at-links.result c.child-raised.result c.links_at-raised_links.result c.child-inner.result lies
     c.links_at-links.ensures (c.child-raised.ensures ∙ ap (λ side. child_link side c.links_at-links.result) c.other.ensures)
     c.links_at-raised_links.ensures c.child-inner.ensures in
-    used_lifted c.args.slots.now c.replace_child.new.slots c.set_links.new.slots c.set_links-2.new.slots _ _ c.requires.turn _ _ _ _ _ _ lies values c.replace_child.ensures
-    c.set_links.ensures c.set_links-2.ensures
+    used_lifted c.args.slots.now c.replace_child.new.slots c.hang.new.slots c.hang-2.new.slots _ _ c.requires.turn _ _ _ _ _ _ lies values c.replace_child.ensures
+    c.hang.ensures c.hang-2.ensures
 
 pub returns : goal.returns
 returns g c = λ turn first_free free sound.
@@ -53,9 +53,7 @@ returns g c = λ turn first_free free sound.
     let values = found c.args.slots.now turn c.links_at-links.result c.child-raised.result c.links_at-raised_links.result c.child-inner.result lies
     c.links_at-links.ensures (c.child-raised.ensures ∙ ap (λ side. child_link side c.links_at-links.result) c.other.ensures)
     c.links_at-raised_links.ensures c.child-inner.ensures in
-    sound-turned c.args.slots.now c.replace_child.new.slots c.set_links.new.slots c.set_links-2.new.slots c.set_parent.new.slots _ _ first_free free turn
-    c.links_at-links.result c.child-raised.result c.links_at-raised_links.result c.child-inner.result c.with_child-lowered.result c.with_child-lifted.result
-    sound values c.replace_child.ensures
-    (c.with_child-lowered.ensures ∙ ap (λ side. with_child_link side c.child-inner.result c.links_at-links.result) c.other-2.ensures) c.set_links.ensures
-    c.with_child-lifted.ensures c.set_links-2.ensures c.set_parent.ensures
-    (c.set_parent.auto.slots ∙ c.set_links-2.auto.slots ∙ c.set_links.auto.slots ∙ c.replace_child.auto.slots)
+    sound-turned c.args.slots.now c.replace_child.new.slots c.hang.new.slots c.hang-2.new.slots c.set_parent.new.slots _ _ first_free free turn
+    c.links_at-links.result c.child-raised.result c.links_at-raised_links.result c.child-inner.result c.other-2.result
+    sound values c.replace_child.ensures c.other-2.ensures c.hang.ensures c.hang-2.ensures c.set_parent.ensures
+    (c.set_parent.auto.slots ∙ c.hang-2.auto.slots ∙ c.hang.auto.slots ∙ c.replace_child.auto.slots)

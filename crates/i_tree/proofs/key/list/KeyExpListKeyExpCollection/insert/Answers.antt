@@ -42,8 +42,8 @@ live_items g c = ap (λ list. list.pairs) c.self.view_is ∙ c.remove_expired.en
 slice_items : (g : _) (c : goal.After-self-1 g) → c.deref.result.now ≡ c.self.inside.pairs.items
 slice_items g c = c.deref.ensures.value ∙ (c.in_ok-reserve.ensures).items
 
-inserted : (g : _) (c : goal.After-self-1 g) → c.insert.new.self.items ≡ insert c.self.inside.pairs.items c.place_of-place.result (c.args.key, c.args.val)
-inserted g c = (rw c.unwrap.ensures at c.insert.ensures.items) ∙ ap (λ pairs. insert pairs c.place_of-place.result (c.args.key, c.args.val)) (c.in_ok-reserve.ensures).items
+inserted : (g : _) (c : goal.After-self-1 g) → c.insert_at.new.items.items ≡ insert c.self.inside.pairs.items c.place_of-place.result (c.args.key, c.args.val)
+inserted g c = c.insert_at.ensures.items ∙ ap (λ pairs. insert pairs c.place_of-place.result (c.args.key, c.args.val)) (c.in_ok-reserve.ensures).items
 
 pub returns-clause-joins_live : goal.returns-clause-joins_live
 returns-clause-joins_live g c =
@@ -54,7 +54,7 @@ returns-clause-ok g c =
     let live = λ (pair : g.row.K.Denot × g.row.V.Denot). is_live g.K.ExpiredKey.expiration g.E.Ord.cmp c.args.time pair.0 in
     (live_pairs g.K.ExpiredKey.expiration g.E.Ord.cmp c.args.time c.args.self.now.pairs, Without-filter live c.args.self.now.pairs, returns-clause-joins_live g c)
 
-rising : (g : _) (c : goal.After-self-1 g) → IsRising g.K.Ord.cmp c.insert.new.self.items
+rising : (g : _) (c : goal.After-self-1 g) → IsRising g.K.Ord.cmp c.insert_at.new.items.items
 rising g c =
     let cmp = g.K.Ord.cmp in
     let at_place = subst (λ pairs. IsPartitionPoint (λ (pair : g.row.K.Denot × g.row.V.Denot). cmp pair.0 c.args.key ≡ Less) (λ pair. cmp pair.0 c.args.key ≢ Less) pairs c.place_of-place.result) (slice_items g c) c.place_of-place.ensures.splits in
@@ -101,11 +101,11 @@ all_room pairs spare kept left items len cap room same is fits left_is = omega a
 of_capacity : (room cap len cap' items : ℕ) → room ≡ cap → cap ≤ cap' → len ≡ items → len ≤ cap' → room ≤ items + (cap' - len)
 of_capacity room cap len cap' items is more len_is fits = omega arith
 
-never_less : (first mid last : ℕ) → first ≤ mid → mid ≤ last → first ≤ last
-never_less first mid last less less' = omega arith
+grown : (cap cap' cap'' : ℕ) → cap ≤ cap' → cap'' ≡ cap' → cap ≤ cap''
+grown cap cap' cap'' more same = omega arith
 
-at_most : (place count items len : ℕ) → place ≤ count → count ≡ items → len ≡ items → place ≤ len
-at_most place count items len within same is = omega arith
+at_most : (place count items : ℕ) → place ≤ count → count ≡ items → place ≤ items
+at_most place count items within same = omega arith
 
 has_one : (len cap : ℕ) → len + 1 ≤ cap → len < cap
 has_one len cap fits = omega arith
@@ -118,10 +118,10 @@ returns-in_err-reserve-clause-room g c =
 pub returns-clause-room : goal.returns-clause-room
 returns-clause-room g c =
     let room = all_room _ _ _ _ _ _ _ c.remove_expired.ensures.room (ap (λ list. length list.pairs) c.self.view_is) c.self.inside.pairs.ok.0 c.self.inside.pairs.ok.1 (ap (λ list. list.spare) c.self.view_is) in
-    of_capacity _ _ _ _ _ room (never_less _ _ _ c.reserve.ensures.capacity c.insert.ensures.capacity) c.insert.new.self.ok.0 c.insert.new.self.ok.1
+    of_capacity _ _ _ _ _ room (grown _ _ _ c.reserve.ensures.capacity c.insert_at.ensures.capacity) c.insert_at.new.items.ok.0 c.insert_at.new.items.ok.1
 
-pub insert-requires : goal.insert-requires
-insert-requires g c = at_most _ _ _ _ c.place_of-place.ensures.within (ap length c.deref.ensures.value) c.reserve.new.self.ok.0
+pub insert_at-requires-clause-within : goal.insert_at-requires-clause-within
+insert_at-requires-clause-within g c = at_most _ _ _ c.place_of-place.ensures.within (ap length c.deref.ensures.value)
 
-pub unwrap-requires : goal.unwrap-requires
-unwrap-requires g c = c.insert.ensures.succeeds (has_one _ _ (c.in_ok-reserve.ensures).ok)
+pub insert_at-requires-clause-room : goal.insert_at-requires-clause-room
+insert_at-requires-clause-room g c = has_one _ _ (c.in_ok-reserve.ensures).ok

@@ -1,7 +1,6 @@
 use Rattle.std.proofs.Common.{◌≡◌, ℕ, length, ap, ◌∙◌, subst}
 use Rattle.std.proofs.lemmas.List.{length-map}
 use Rattle.std.specs.declared.cmp.Ordering.TheVariants.{Less}
-use Rattle.std.specs.Option.{unwrap_or}
 use Rattle.i_tree.proofs.RootLemmas.Withouts.{AllPairs-without}
 use Rattle.i_tree.proofs.KeyLemmas.Search.{answer_at_most}
 use Rattle.i_tree.specs.Root.Answer.{AtMost, AnswersBy, IsMonotone}
@@ -10,36 +9,36 @@ use Rattle.i_tree.specs.Root.Descent.{Descends}
 use Rattle.i_tree.specs.Key.KeyExpTree.{items}
 use Rattle.i_tree.specs.Key.Live.{is_live, live_pairs, IsExpired}
 use Rattle.i_tree.specs.Core.RbTree.{Contents, slots}
+use Rattle.i_tree.specs.Core.Ways.{place_below}
 use Rattle.i_tree.specs.Core.Shape.{entries}
 use Rattle.i_tree.proofs.key.tree.KeyExpTree.first_less_or_equal_by_counted.Goals as goal
 
 pub returns-clause-value : goal.returns-clause-value
 returns-clause-value g c order =
     let live = live_pairs g.K.ExpiredKey.expiration g.E.Ord.cmp {V = g.row.V.Denot} c.args.time in
-    rw c.unwrap_or.ensures
-    (subst (λ (contents : Contents (g.row.K.Denot × g.row.V.Denot)). AnswersBy (goal.F-post g c.args.f) order (live (items contents.shape)) → IsMonotone g.K.Ord.cmp order (live (items contents.shape)) → AtMost g.K.Ord.cmp (live (items contents.shape)) order c.args.default (unwrap_or c.descend.result.value c.args.default))
+    subst (λ (contents : Contents (g.row.K.Denot × g.row.V.Denot)). AnswersBy (goal.F-post g c.args.f) order (live (items contents.shape)) → IsMonotone g.K.Ord.cmp order (live (items contents.shape)) → AtMost g.K.Ord.cmp (live (items contents.shape)) order c.args.default c.value_at.result)
     c.self.view_is
-    (answer_at_most g.met.K.Ord.total (goal.F-post g c.args.f) (is_live g.K.ExpiredKey.expiration g.E.Ord.cmp c.args.time) (items c.self.inside.core.shape) c.descend.new.core.shape c.descend.result.place c.descend.result.value c.args.default
-    c.descend.ensures.end c.self.invariant c.descend.ensures.kept order))
+    (answer_at_most (is_live g.K.ExpiredKey.expiration g.E.Ord.cmp c.args.time) g.met.K.Ord.total (items c.self.inside.core.shape) c.descend-end.new.core.shape (place_below c.descend-end.result.above c.descend-end.result.on_right) c.descend-end.result.found c.args.default c.value_at.result
+    (record { none_empty = c.descend-end.ensures.core.handles.none_empty; none = c.value_at.ensures.none; some = c.value_at.ensures.some }) c.self.invariant c.descend-end.ensures.kept _ (goal.F-post g c.args.f) c.descend-end.ensures.end (λ key answer says. says) order)
 
 pub invariant_of-self : goal.invariant_of-self
-invariant_of-self g c = AllPairs-without (λ (earlier : g.row.K.Denot × g.row.V.Denot) later. g.K.Ord.cmp earlier.0 later.0 ≡ Less) c.descend.ensures.kept c.self.invariant
+invariant_of-self g c = AllPairs-without (λ (earlier : g.row.K.Denot × g.row.V.Denot) later. g.K.Ord.cmp earlier.0 later.0 ≡ Less) c.descend-end.ensures.kept c.self.invariant
 
 pub returns-clause-rising : goal.returns-clause-rising
-returns-clause-rising g c = AllPairs-without (λ (earlier : g.row.K.Denot × g.row.V.Denot) later. g.K.Ord.cmp earlier.0 later.0 ≡ Less) c.descend.ensures.kept c.self.invariant
+returns-clause-rising g c = AllPairs-without (λ (earlier : g.row.K.Denot × g.row.V.Denot) later. g.K.Ord.cmp earlier.0 later.0 ≡ Less) c.descend-end.ensures.kept c.self.invariant
 
 pub returns-clause-kept : goal.returns-clause-kept
 returns-clause-kept g c =
-    subst (λ (contents : Contents (g.row.K.Denot × g.row.V.Denot)). Without (IsExpired g.K.ExpiredKey.expiration g.E.Ord.cmp {V = g.row.V.Denot} c.args.time) (items contents.shape) (items c.descend.new.core.shape)) c.self.view_is c.descend.ensures.kept
+    subst (λ (contents : Contents (g.row.K.Denot × g.row.V.Denot)). Without (IsExpired g.K.ExpiredKey.expiration g.E.Ord.cmp {V = g.row.V.Denot} c.args.time) (items contents.shape) (items c.descend-end.new.core.shape)) c.self.view_is c.descend-end.ensures.kept
 
 pub returns-clause-slots : goal.returns-clause-slots
-returns-clause-slots g c = c.descend.ensures.slots ∙ ap slots c.self.view_is
+returns-clause-slots g c = c.descend-end.ensures.slots ∙ ap slots c.self.view_is
 
 pub returns-clause-steps : goal.returns-clause-steps
 returns-clause-steps g c =
-    subst (λ (contents : Contents (g.row.K.Denot × g.row.V.Denot)). Descends c.args.steps.now c.descend.new.steps (length (items contents.shape)) (length (items c.descend.new.core.shape)) 0) c.self.view_is
-    (rw (length-map (entries c.self.inside.core.shape) (λ (entry : ℕ × (g.row.K.Denot × g.row.V.Denot)). entry.1), length-map (entries c.descend.new.core.shape) (λ (entry : ℕ × (g.row.K.Denot × g.row.V.Denot)). entry.1))
-    c.descend.ensures.steps)
+    subst (λ (contents : Contents (g.row.K.Denot × g.row.V.Denot)). Descends g.C.Counter.made c.args.steps.now c.descend-end.new.steps (length (items contents.shape)) (length (items c.descend-end.new.core.shape)) 0) c.self.view_is
+    (rw (length-map (entries c.self.inside.core.shape) (λ (entry : ℕ × (g.row.K.Denot × g.row.V.Denot)). entry.1), length-map (entries c.descend-end.new.core.shape) (λ (entry : ℕ × (g.row.K.Denot × g.row.V.Denot)). entry.1))
+    c.descend-end.ensures.steps)
 
 pub returns-clause-core : goal.returns-clause-core
-returns-clause-core g c = c.descend.ensures.core
+returns-clause-core g c = c.descend-end.ensures.core

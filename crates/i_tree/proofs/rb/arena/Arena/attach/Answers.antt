@@ -1,11 +1,10 @@
-use Rattle.std.proofs.Common.{◌≡◌, ◌-◌, ℕ, List, ◌∷◌, length, is_some, slice_get, sym, ap, ◌∙◌, subst, arith}
+use Rattle.std.proofs.Common.{◌≡◌, ◌-◌, ℕ, List, ◌∷◌, length, slice_get, sym, ap, ◌∙◌, subst, arith}
 use Rattle.i_tree.specs.declared.rb.links.Colour.{Colour}
 use Rattle.i_tree.specs.declared.rb.links.Colour.TheVariants.{Red}
-use Rattle.i_tree.specs.declared.rb.links.Links.{Links}
 use Rattle.i_tree.specs.declared.rb.links.Slot.{Slot}
 use Rattle.i_tree.specs.Core.Context.{Frame, fork_on, plug}
 use Rattle.i_tree.specs.Core.Shape.{Shape, leaf, fork, occurs}
-use Rattle.i_tree.specs.Core.Slots.{IsSound, Relinks, links_of, read_tree}
+use Rattle.i_tree.specs.Core.Slots.{IsSound, Relinks, with_child_link, read_tree}
 use Rattle.i_tree.proofs.CoreLemmas.Placed.{AreHandles-sound}
 use Rattle.i_tree.proofs.CoreLemmas.Room.{head_of, head_fresh, parent_used, sound-attached, written_back, read_back, sound_back}
 use Rattle.i_tree.proofs.rb.arena.Arena.attach.Goals as goal
@@ -17,8 +16,8 @@ take_slot-handle-requires g c =
     let head = head_of inside.slots.items inside.root inside.first_free inside.free _ c.self.invariant (omega (arith, c.requires.spare)) in
     (head.next, ap (λ list. slice_get list inside.first_free) c.deref_mut.ensures.value ∙ head.is_free)
 
-pub links_at-links-requires : goal.links_at-links-requires
-links_at-links-requires g c =
+pub write_child-requires : goal.write_child-requires
+write_child-requires g c =
     let inside = c.self.inside in
     let items = inside.slots.items in
     let taken = c.take_slot-handle in
@@ -31,11 +30,7 @@ links_at-links-requires g c =
     let sound = subst Begins (sym taken.ensures.handle) (subst Holds (ap (λ contents. contents.shape) c.self.view_is ∙ room.is) c.self.invariant) in
     parent_used items taken.new.slots _ inside.root taken.result inside.free frame room.around sound (omega (arith, c.requires.spare))
     (λ other apart. taken.ensures.others other apart ∙ ap (λ list. slice_get list other) lent)
-    (c.deref.ensures.value ∙ written_back _ _ _ (taken.auto.slots ∙ ap length lent) inside.slots.ok.0)
-
-pub set_links-requires : goal.set_links-requires
-set_links-requires g c =
-    ap (λ list. is_some (links_of list c.args.parent)) (c.deref_mut-2.ensures.value ∙ sym c.deref.ensures.value) ∙ ap is_some c.links_at-links.ensures
+    (c.deref_mut-2.ensures.value ∙ written_back _ _ _ (taken.auto.slots ∙ ap length lent) inside.slots.ok.0)
 
 -- the slots after the first step, as they are lent to the second
 lent_again : (g : _) (c : goal.After-self-3-1 g) → c.deref_mut-2.result.now ≡ c.take_slot-handle.new.slots
@@ -45,7 +40,7 @@ lent_again g c =
 -- the node is in the slots
 attached : (g : _) (c : goal.After-self-3-1 g) (colour : Colour) (at : g.row.T.Denot) (far : Shape g.row.T.Denot) (around : List (Frame g.row.T.Denot))
     → c.args.self.now.shape ≡ plug around (fork_on c.args.side colour leaf c.args.parent at far)
-    → IsSound c.set_links.new.slots c.self.inside.root c.take_slot-handle.new.first_free (c.self.inside.free - 1)
+    → IsSound c.write_child.new.slots c.self.inside.root c.take_slot-handle.new.first_free (c.self.inside.free - 1)
     (plug around (fork_on c.args.side colour (fork Red leaf c.take_slot-handle.result c.args.item leaf) c.args.parent at far))
 attached g c colour at far around is =
     let inside = c.self.inside in
@@ -57,20 +52,18 @@ attached g c colour at far around is =
     let Holds : Shape g.row.T.Denot → Type 0 = λ tree. IsSound items inside.root inside.first_free inside.free tree in
     let Begins : ℕ → Type 0 = λ first. IsSound items inside.root first inside.free (plug (frame ∷ around) leaf) in
     let sound = subst Begins (sym taken.ensures.handle) (subst Holds (ap (λ contents. contents.shape) c.self.view_is ∙ is) c.self.invariant) in
-    let From : List (Slot g.row.T.Denot) → Type 0 = λ list. Relinks list c.set_links.new.slots c.args.parent c.with_child.result in
-    let Gives : Links → Type 0 = λ links. Relinks taken.new.slots c.set_links.new.slots c.args.parent links in
-    sound-attached items taken.new.slots c.set_links.new.slots inside.root taken.result taken.new.first_free inside.free frame around c.links_at-links.result c.args.item
+    let From : List (Slot g.row.T.Denot) → Type 0 = λ list. Relinks list c.write_child.new.slots c.args.parent (with_child_link c.args.side taken.result) in
+    sound-attached items taken.new.slots c.write_child.new.slots inside.root taken.result taken.new.first_free inside.free frame around c.args.item
     sound (omega (arith, c.requires.spare))
     (ap (λ list. slice_get list taken.result) (sym lent) ∙ taken.ensures.next)
     taken.ensures.used
     (λ other apart. taken.ensures.others other apart ∙ ap (λ list. slice_get list other) lent)
-    (ap (λ list. links_of list c.args.parent) (sym (lent_again g c) ∙ c.deref_mut-2.ensures.value ∙ sym c.deref.ensures.value) ∙ c.links_at-links.ensures)
-    (subst Gives c.with_child.ensures (subst From (lent_again g c) c.set_links.ensures))
-    (c.set_links.auto.slots ∙ ap length (lent_again g c) ∙ taken.auto.slots ∙ ap length lent)
+    (subst From (lent_again g c) c.write_child.ensures)
+    (c.write_child.auto.slots ∙ ap length (lent_again g c) ∙ taken.auto.slots ∙ ap length lent)
 
 -- they are given back whole
-given_back : (g : _) (c : goal.After-self-3-1 g) → length c.set_links.new.slots ≡ length c.deref_mut-2.result.now
-given_back g c = c.set_links.auto.slots
+given_back : (g : _) (c : goal.After-self-3-1 g) → length c.write_child.new.slots ≡ length c.deref_mut-2.result.now
+given_back g c = c.write_child.auto.slots
 
 as_many : (g : _) (c : goal.After-self-3-1 g) → c.self.inside.slots.len ≡ length c.deref_mut-2.result.now
 as_many g c = c.self.inside.slots.ok.0 ∙ sym (c.take_slot-handle.auto.slots ∙ ap length c.deref_mut.ensures.value) ∙ ap length (sym (lent_again g c))

@@ -1,7 +1,5 @@
-use Rattle.std.proofs.Common.{◌≡◌, ◌*◌, ◌<◌, ℕ, zero, suc, min, max, refl, sym, ap, ◌∙◌, subst, arith}
-use Rattle.std.proofs.lemmas.Result.{on_ok_weaker}
+use Rattle.std.proofs.Common.{◌≡◌, ◌<◌, ℕ, zero, suc, refl, subst, arith}
 use Rattle.i_tree.specs.Core.RbTree.{Contents, slots, slots_grown, slots_with_room}
-use Rattle.i_tree.specs.declared.TheConstants.{EMPTY_REF}
 use Rattle.i_tree.proofs.rb.arena.Arena.make_room.Goals as goal
 
 -- where a slot is free there is room
@@ -12,26 +10,8 @@ with_spare contents = by_spare contents.spare (slots contents)
     by_spare zero count some = absurd (omega (arith, some))
     by_spare (suc spare) count some = refl
 
--- where none is free, so many slots are twice as many
-without_spare : {T : Type 0} (contents : Contents T) (count : ℕ) → contents.spare ≡ 0 → slots contents < EMPTY_REF → count ≡ min (2 * slots contents) EMPTY_REF → max (slots contents) count ≡ slots_with_room contents
-without_spare contents count none few is = omega (arith, few, is) ∙ ap (λ spare. slots_grown spare (slots contents)) (sym none)
-
 pub returns-then-self-gt0-clause-slots : goal.returns-then-self-gt0-clause-slots
 returns-then-self-gt0-clause-slots g c = with_spare c.args.self.now (subst (λ (contents : Contents g.row.T.Denot). 0 < contents.spare) c.self.view_is c.if-self-gt0.true)
 
 pub returns-then-self-gt0-clause-room : goal.returns-then-self-gt0-clause-room
 returns-then-self-gt0-clause-room g c = subst (λ (contents : Contents g.row.T.Denot). 0 < contents.spare) c.self.view_is c.if-self-gt0.true
-
--- no slot is free, and there are as many as counted
-none : (g : _) (c : goal.After-reserve g) → c.args.self.now.spare ≡ 0
-none g c = sym (ap (λ (contents : Contents g.row.T.Denot). contents.spare) c.self.view_is) ∙ omega (arith, c.if-self-gt0.false)
-
-counted : (g : _) (c : goal.After-reserve g) → slots c.args.self.now ≡ c.len-count.result
-counted g c = sym (ap (λ (contents : Contents g.row.T.Denot). slots contents) c.self.view_is) ∙ c.self.invariant.total ∙ sym c.self.inside.slots.ok.0 ∙ sym c.len-count.ensures
-
-grown : (g : _) (c : goal.After-reserve g) → max (slots c.args.self.now) c.min.result ≡ slots_with_room c.args.self.now
-grown g c =
-    without_spare c.args.self.now c.min.result (none g c) (rw (counted g c) c.if-count.false) (c.min.ensures ∙ ap (λ count. min (2 * count) EMPTY_REF) (sym (counted g c)))
-
-pub returns-clause-slots : goal.returns-clause-slots
-returns-clause-slots g c = on_ok_weaker c.reserve.result (λ is. is ∙ grown g c) c.reserve.ensures.slots

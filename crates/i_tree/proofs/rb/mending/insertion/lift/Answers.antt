@@ -1,7 +1,9 @@
-use Rattle.std.proofs.Common.{inl, inr, sym, ap, ◌∙◌, subst, rules}
+use Rattle.std.proofs.Common.{inl, inr, sym, ap, ◌∙◌, subst, rules, arith}
 use Rattle.i_tree.specs.Core.RbTree.{Contents}
+use Rattle.i_tree.specs.Root.Steps.{OnlyRotates}
 use Rattle.i_tree.proofs.CoreLemmas.BalanceFrames.{Turns, entries-turned}
 use Rattle.i_tree.proofs.CoreLemmas.MendingInsertion.{IsStraightened, IsLeaning-joined, IsLive-under_parent, CanTurn-inner, CanTurn-leaning, balanced-lifted}
+use Rattle.i_tree.proofs.RootLemmas.Counts.{OnlyRotates-none, OnlyRotates-one, OnlyRotates-both}
 use Rattle.i_tree.proofs.rb.mending.insertion.lift.Goals as goal
 use Rattle.i_tree.proofs.rb.mending.insertion.lift.Goals.{then-child-node, else-child-node}
 
@@ -31,10 +33,14 @@ returns g c =
       | else-child-node w ↦ inr (w.if-child-node.false, ap (λ (contents : Contents g.row.T.Denot). contents.shape) w.arena-is)
     ] in
     let (lean, kept) = IsLeaning-joined c.requires.uncle.0 c.other.result c.other.ensures c.child.result c.child.ensures c.requires.handles c.requires.uncle.1 new straightened in
+    let straightening : OnlyRotates g.C.Counter.made c.args.steps.now c.if-child-node.steps 1 = elim c.if-child-node.branch [
+      | then-child-node w ↦ rw w.steps-is (OnlyRotates-one w.rotate.ensures.steps)
+      | else-child-node w ↦ rw w.steps-is (OnlyRotates-none g.met.C.Counter.law c.args.steps.now 1)
+    ] in
     record {
       balanced = balanced-lifted c.other-2.ensures lean c.rotate-2.new.self.shape c.rotate-2.ensures.shape;
       entries = entries-turned c.args.grandparent c.other-2.result new c.rotate-2.new.self.shape (CanTurn-leaning c.other-2.ensures lean) c.rotate-2.ensures.shape ∙ kept;
       spare = search rules;
       handles = c.rotate-2.ensures.handles;
-      steps = search rules;
+      steps = OnlyRotates-both g.met.C.Counter.law 2 (omega arith) straightening (OnlyRotates-one c.rotate-2.ensures.steps);
     }

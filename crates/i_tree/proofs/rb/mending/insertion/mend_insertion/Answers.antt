@@ -1,6 +1,5 @@
-use Rattle.std.proofs.Common.{refl, ◌∙◌, subst}
+use Rattle.std.proofs.Common.{refl, ◌∙◌}
 use Rattle.i_tree.specs.declared.rb.links.Colour.TheVariants.{Black}
-use Rattle.i_tree.specs.Root.Steps.{Counts, OnlyRotates}
 use Rattle.i_tree.proofs.CoreLemmas.BalanceFrames.{entries-painted}
 use Rattle.i_tree.proofs.CoreLemmas.MendingInsertion.{
   IsLive-raised,
@@ -19,8 +18,8 @@ use Rattle.i_tree.proofs.CoreLemmas.MendingInsertion.{
   IsLive-above_then,
   entries-recoloured,
   IsRaised-recoloured,
-  OnlyRotates-same,
 }
+use Rattle.i_tree.proofs.RootLemmas.Counts.{OnlyRotates-none}
 use Rattle.i_tree.proofs.rb.mending.insertion.mend_insertion.Goals as goal
 
 pub loop-added-init : goal.loop-added-init
@@ -39,7 +38,7 @@ returns-then-is_black g c =
       entries = c.loop-added.invariant.same_entries;
       spare = c.loop-added.invariant.same_spare;
       handles = c.parent-parent.ensures.handles;
-      steps = OnlyRotates-same c.args.steps.now c.loop-added.steps 2 c.loop-added.invariant.same_steps;
+      steps = rw c.loop-added.invariant.same_steps (OnlyRotates-none g.met.C.Counter.law c.args.steps.now 2);
     }
 
 pub parent-grandparent-requires : goal.parent-grandparent-requires
@@ -58,7 +57,7 @@ returns-then-grandparent g c =
       entries = entries-painted Black c.parent-parent.result c.loop-added.arena.shape c.paint.new.self.shape (IsLive-red_parent red) c.paint.ensures.shape ∙ c.loop-added.invariant.same_entries;
       spare = c.paint.ensures.spare ∙ c.loop-added.invariant.same_spare;
       handles = c.paint.ensures.handles;
-      steps = OnlyRotates-same c.args.steps.now c.loop-added.steps 2 c.loop-added.invariant.same_steps;
+      steps = rw c.loop-added.invariant.same_steps (OnlyRotates-none g.met.C.Counter.law c.args.steps.now 2);
     }
 
 pub side_of-side-requires : goal.side_of-side-requires
@@ -94,7 +93,7 @@ returns-then-is_black-2-clause-spare g c = c.lift.ensures.spare ∙ c.loop-added
 
 pub returns-then-is_black-2-clause-steps : goal.returns-then-is_black-2-clause-steps
 returns-then-is_black-2-clause-steps g c =
-    subst (λ (counts : Counts). OnlyRotates counts c.lift.new.steps 2) c.loop-added.invariant.same_steps c.lift.ensures.steps
+    rw (← c.loop-added.invariant.same_steps) c.lift.ensures.steps
 
 pub paint-requires-in-loop-added : goal.paint-requires-in-loop-added
 paint-requires-in-loop-added g c =

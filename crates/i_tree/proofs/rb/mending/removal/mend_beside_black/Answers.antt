@@ -1,6 +1,7 @@
-use Rattle.std.proofs.Common.{true, false, sym}
+use Rattle.std.proofs.Common.{true, false, sym, arith}
 use Rattle.i_tree.specs.declared.rb.links.Colour.TheVariants.{Black}
 use Rattle.i_tree.proofs.CoreLemmas.MendingRemovalStep.{parts_beside, IsLive-short, IsLive-sibling, IsLive-outer, IsLive-inner, outer_top, inner_top, says_outer, says_inner, CanTurn-short, IsLive-raised_outer, IsEnded-outer, CanTurn-sibling, CanTurn-straightened, IsLive-high, IsEnded-inner, IsLive-above_red, says_node, IsRisen-black, IsEnded-red}
+use Rattle.i_tree.proofs.RootLemmas.Counts.{OnlyRotates-none, OnlyRotates-one, OnlyRotates-both}
 use Rattle.i_tree.proofs.rb.mending.removal.mend_beside_black.Goals as goal
 
 pub child-sibling-requires : goal.child-sibling-requires
@@ -144,3 +145,13 @@ returns-clause-mended g c cut black =
     let inner = inner_top tree c.args.node c.args.side cut c.child-sibling.result parts c.child-inner.result c.child-inner.ensures in
     let inner_black = sym (says_inner tree c.args.node c.args.side cut c.child-sibling.result parts c.child-inner.result true inner c.if-not-is_black-2.ensures.value) in
     IsEnded-red tree c.args.node c.args.side cut c.child-sibling.result parts inner_black outer_black c.paint-2.new.self.shape c.paint-2.ensures.shape c.paint-3.new.self.shape c.paint-3.ensures.shape (sym (says_node tree c.args.node c.args.side cut c.child-sibling.result parts inner_black outer_black c.paint-2.new.self.shape c.paint-2.ensures.shape false c.if-is_black.ensures.value))
+
+pub returns-then-not-is_black-2-clause-steps : goal.returns-then-not-is_black-2-clause-steps
+returns-then-not-is_black-2-clause-steps g c =
+    OnlyRotates-both g.met.C.Counter.law 2 (omega arith) (OnlyRotates-one c.rotate-then-not-is_black-2.ensures.steps) (OnlyRotates-one c.rotate-then-not-is_black-2-2.ensures.steps)
+
+pub returns-then-is_black-clause-steps : goal.returns-then-is_black-clause-steps
+returns-then-is_black-clause-steps g c = OnlyRotates-none g.met.C.Counter.law c.args.steps.now 0
+
+pub returns-clause-steps : goal.returns-clause-steps
+returns-clause-steps g c = OnlyRotates-none g.met.C.Counter.law c.args.steps.now 2

@@ -1,7 +1,8 @@
 use Rattle.std.proofs.Common.{◌≡◌, [], length, refl, sym, ap, ◌∙◌, arith}
 use Rattle.i_tree.specs.Core.Balance.{IsShort}
 use Rattle.i_tree.specs.Core.Shape.{entries}
-use Rattle.i_tree.proofs.CoreLemmas.MendingRemoval.{more_steps, Mends, Progress-start, Progress-next, Mends-ended, Mends-root, balanced-ended, balanced-root, at_root, IsLive-risen, IsLive-above, entries-risen, red_nodes-few}
+use Rattle.i_tree.proofs.CoreLemmas.MendingRemoval.{Mends, Progress-start, Progress-next, Mends-ended, Mends-root, balanced-ended, balanced-root, at_root, IsLive-risen, IsLive-above, entries-risen, red_nodes-few}
+use Rattle.i_tree.proofs.RootLemmas.Counts.{OnlyRotates-none, OnlyRotates-both}
 use Rattle.i_tree.proofs.rb.mending.removal.mend_removal.Goals as goal
 
 pub loop-parent-init : goal.loop-parent-init
@@ -9,7 +10,7 @@ loop-parent-init g c =
     record {
       mends = λ cut. Progress-start c.args.arena.now.shape c.args.parent c.args.short cut;
       spare = refl;
-      steps = record { comparisons = refl; tests = refl; removals = refl; no_fewer = omega arith; at_most = omega arith };
+      steps = OnlyRotates-none g.met.C.Counter.law c.args.steps.now 0;
     }
 
 pub mend_short_side-requires : goal.mend_short_side-requires
@@ -37,7 +38,7 @@ returns-then-mend_short_side-clause-spare g c =
 
 pub returns-then-mend_short_side-clause-steps : goal.returns-then-mend_short_side-clause-steps
 returns-then-mend_short_side-clause-steps g c =
-    more_steps c.args.steps.now c.loop-parent.steps c.mend_short_side.new.steps 3 3 c.loop-parent.invariant.steps c.if-mend_short_side.ensures.steps (omega arith)
+    OnlyRotates-both g.met.C.Counter.law 3 (omega arith) c.loop-parent.invariant.steps c.if-mend_short_side.ensures.steps
 
 pub returns-then-mend_short_side-clause-own : goal.returns-then-mend_short_side-clause-own
 returns-then-mend_short_side-clause-own g c cut = (mends_ended g c cut).own
@@ -79,7 +80,7 @@ returns-then-above-clause-spare g c =
 
 pub returns-then-above-clause-steps : goal.returns-then-above-clause-steps
 returns-then-above-clause-steps g c =
-    more_steps c.args.steps.now c.loop-parent.steps c.mend_short_side.new.steps 0 3 c.loop-parent.invariant.steps c.if-mend_short_side.ensures.steps (omega arith)
+    OnlyRotates-both g.met.C.Counter.law 3 (omega arith) c.loop-parent.invariant.steps c.if-mend_short_side.ensures.steps
 
 pub returns-then-above-clause-own : goal.returns-then-above-clause-own
 returns-then-above-clause-own g c cut = (mends_root g c cut).own
@@ -120,5 +121,5 @@ loop-parent-preserved g c =
           Progress-next c.args.arena.now.shape c.args.parent c.args.short cut tree new c.loop-parent.node c.loop-parent.side progress risen c.mend_short_side.ensures.handles
           c.parent-above.result c.parent-above.ensures.value c.if-above.false c.side_of-side.result c.side_of-side.ensures;
       spare = c.mend_short_side.ensures.spare ∙ c.loop-parent.invariant.spare;
-      steps = more_steps c.args.steps.now c.loop-parent.steps c.mend_short_side.new.steps 0 0 c.loop-parent.invariant.steps c.if-mend_short_side.ensures.steps (omega arith);
+      steps = OnlyRotates-both g.met.C.Counter.law 0 (omega arith) c.loop-parent.invariant.steps c.if-mend_short_side.ensures.steps;
     }

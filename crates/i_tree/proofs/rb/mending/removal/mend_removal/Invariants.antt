@@ -12,7 +12,7 @@ invariant-loop-parent g l =
     record {
       mends : (cut : IsShort l.fn.arena.shape l.initial.node l.initial.side) → Progress l.fn.arena.shape l.initial.node l.initial.side cut l.arena.shape l.node l.side;
       spare : l.arena.spare ≡ l.fn.arena.spare;
-      steps : OnlyRotates l.fn.steps l.steps 0;
+      steps : OnlyRotates g.C.Counter.made l.fn.steps l.steps 0;
     }
 
 -- each turn makes one node red

@@ -1,6 +1,7 @@
-use Rattle.std.proofs.Common.{true, false, sym}
+use Rattle.std.proofs.Common.{true, false, sym, arith}
 use Rattle.i_tree.specs.declared.rb.links.Colour.TheVariants.{Red}
 use Rattle.i_tree.proofs.CoreLemmas.MendingRemovalStep.{IsLive-short, IsLive-far, far_top, says_far, red_parts, CanTurn-short, HasBlackSibling-folded, IsEnded-from_folded}
+use Rattle.i_tree.proofs.RootLemmas.Counts.{OnlyRotates-one, OnlyRotates-both, OnlyRotates-either}
 use Rattle.i_tree.proofs.rb.mending.removal.mend_short_side.Goals as goal
 
 pub child-sibling-requires : goal.child-sibling-requires
@@ -52,3 +53,7 @@ returns-clause-mended g c cut =
     let red = sym (says_far tree c.args.node c.args.short cut c.child-sibling.result false far c.if-is_black.ensures.value) in
     let parts = red_parts tree c.args.node c.args.short cut c.child-sibling.result far red in
     IsEnded-from_folded tree c.args.node c.args.short cut c.child-sibling.result parts red c.rotate.new.self.shape c.rotate.ensures.shape c.mend_beside_black-2.new.arena.shape c.mend_beside_black-2.result c.mend_beside_black-2.ensures.mended
+
+pub returns-clause-steps : goal.returns-clause-steps
+returns-clause-steps g c =
+    OnlyRotates-both g.met.C.Counter.law 3 (omega arith) (OnlyRotates-one c.rotate.ensures.steps) (OnlyRotates-either 2 c.mend_beside_black-2.result c.mend_beside_black-2.ensures.steps)

@@ -4,6 +4,7 @@ use Rattle.i_tree.specs.Core.Shape.{Shape, entries, occurs, AreHandles}
 use Rattle.i_tree.specs.Core.Balance.{IsRedBlack}
 use Rattle.i_tree.proofs.CoreLemmas.Balance.{IsCore-from_red_black}
 use Rattle.i_tree.proofs.CoreLemmas.Growth.{HasRoomOn-kept, IsRaised-joined, entries-joined, length-joined}
+use Rattle.i_tree.proofs.RootLemmas.Counts.{OnlyRotates-none}
 use Rattle.i_tree.proofs.rb.tree.RbTree.insert_on.Goals as goal
 
 pub returns-in-Err-clause-core : goal.returns-in-Err-clause-core
@@ -81,3 +82,6 @@ returns-clause-fresh g c =
 
 pub returns-clause-steps : goal.returns-clause-steps
 returns-clause-steps g c = c.mend_insertion.ensures.steps
+
+pub returns-in-Err-clause-steps : goal.returns-in-Err-clause-steps
+returns-in-Err-clause-steps g c = OnlyRotates-none g.met.C.Counter.law c.args.steps.now 2

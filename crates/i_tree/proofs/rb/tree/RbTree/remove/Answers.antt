@@ -2,6 +2,7 @@ use Rattle.std.proofs.Common.{◌∙◌}
 use Rattle.i_tree.specs.declared.rb.links.Side.TheVariants.{Left, Right}
 use Rattle.i_tree.proofs.CoreLemmas.RemovalItems.{IsCore-with_item}
 use Rattle.i_tree.proofs.CoreLemmas.Removed.{HasOnePart-either, HasNext-from, HasOnePart-next, IsLive-next, removed_one, removed_one_side, removed_two, removed_two_side, removed_two_rank}
+use Rattle.i_tree.proofs.RootLemmas.Counts.{RemovesOne-mended}
 use Rattle.i_tree.proofs.rb.tree.RbTree.remove.Goals as goal
 
 pub remove_at-requires : goal.remove_at-requires
@@ -73,3 +74,9 @@ returns-clause-rank g c =
 
 pub returns-clause-core : goal.returns-clause-core
 returns-clause-core g c = IsCore-with_item c.args.handle c.replace.new.dest c.remove_at-item.new.self.shape c.remove_at-item.ensures.core
+
+pub returns-then-left-clause-steps : goal.returns-then-left-clause-steps
+returns-then-left-clause-steps g c = RemovesOne-mended g.met.C.Counter.law 3 c.add_removal.ensures c.remove_at.ensures.steps
+
+pub returns-clause-steps : goal.returns-clause-steps
+returns-clause-steps g c = RemovesOne-mended g.met.C.Counter.law 3 c.add_removal.ensures c.remove_at-item.ensures.steps

@@ -2,6 +2,7 @@ use Rattle.std.proofs.Common.{sym, ◌∙◌}
 use Rattle.i_tree.specs.Core.Context.{HasOnePart}
 use Rattle.i_tree.proofs.CoreLemmas.Balance.{IsCore-from_red_black}
 use Rattle.i_tree.proofs.CoreLemmas.RemovalShapes.{TakesOut-plain, TakesOut-mended, IsRedBlack-unmended, LeavesShort, IsMended, IsShort-at, IsLive-gone, IsLive-parent}
+use Rattle.i_tree.proofs.RootLemmas.Counts.{OnlyRotates-none}
 use Rattle.i_tree.proofs.rb.tree.RbTree.remove_at.Goals as goal
 
 pub parent-parent-requires : goal.parent-parent-requires
@@ -75,3 +76,6 @@ returns-clause-shape g c =
 
 pub returns-clause-core : goal.returns-clause-core
 returns-clause-core g c = IsCore-from_red_black c.mend_removal.new.arena.shape c.mend_removal.ensures.handles c.mend_removal.ensures.balanced
+
+pub returns-then-parent-clause-steps : goal.returns-then-parent-clause-steps
+returns-then-parent-clause-steps g c = OnlyRotates-none g.met.C.Counter.law c.args.steps.now 3

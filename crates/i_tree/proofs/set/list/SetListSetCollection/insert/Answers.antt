@@ -19,17 +19,17 @@ pub returns-in-Err-clause-handles : goal.returns-in-Err-clause-handles
 returns-in-Err-clause-handles g c = AreApart-numbered c.reserve.new.self.items (omega (arith, c.self.invariant, ap length (c.in-Err.ensures).items))
 
 -- what an insertion that has room leaves: the value has joined the others at its place
-old_items : (g : _) (c : goal.After-unwrap g) → c.reserve.new.self.items ≡ c.args.self.now.values
+old_items : (g : _) (c : goal.After-insert_at g) → c.reserve.new.self.items ≡ c.args.self.now.values
 old_items g c = c.reserve.ensures.items ∙ ap (λ list. list.values) c.self.view_is
 
-within : (g : _) (c : goal.After-unwrap g) → c.place_of-place.result ≤ length c.args.self.now.values
+within : (g : _) (c : goal.After-insert_at g) → c.place_of-place.result ≤ length c.args.self.now.values
 within g c = omega (arith, c.place_of-place.ensures.within, ap length (c.deref.ensures.value ∙ old_items g c))
 
-inserted : (g : _) (c : goal.After-unwrap g) → c.insert.new.self.items ≡ insert c.args.self.now.values c.place_of-place.result c.args.val
-inserted g c = (rw c.unwrap.ensures at c.insert.ensures.items) ∙ ap (λ values. insert values c.place_of-place.result c.args.val) (old_items g c)
+inserted : (g : _) (c : goal.After-insert_at g) → c.insert_at.new.items.items ≡ insert c.args.self.now.values c.place_of-place.result c.args.val
+inserted g c = c.insert_at.ensures.items ∙ ap (λ values. insert values c.place_of-place.result c.args.val) (old_items g c)
 
 pub returns-clause-ok : goal.returns-clause-ok
-returns-clause-ok g c = joins_numbered c.args.self.now.values c.insert.new.self.items c.place_of-place.result c.args.val (within g c) (inserted g c)
+returns-clause-ok g c = joins_numbered c.args.self.now.values c.insert_at.new.items.items c.place_of-place.result c.args.val (within g c) (inserted g c)
 
 pub returns-clause-in_order : goal.returns-clause-in_order
 returns-clause-in_order g c =
@@ -41,7 +41,7 @@ returns-clause-in_order g c =
 
 pub returns-clause-handles : goal.returns-clause-handles
 returns-clause-handles g c =
-    AreApart-numbered c.insert.new.self.items
+    AreApart-numbered c.insert_at.new.items.items
     (omega (arith, c.if-len.false, c.len.ensures, c.self.inside.values.ok.0, ap (λ list. length list.values) c.self.view_is, ap length (inserted g c), length-insert c.args.self.now.values c.place_of-place.result c.args.val (within g c)))
 
 pub returns-clause-joins : goal.returns-clause-joins

@@ -1,6 +1,8 @@
-use Rattle.std.proofs.Common.{sym, subst, ◌∙◌}
+use Rattle.std.proofs.Common.{◌++◌, ◌∷◌, length, sym, subst, ◌∙◌}
 use Rattle.std.specs.List.{All}
-use Rattle.i_tree.proofs.CoreLemmas.Insertion.{IsLower, IsHigher, ordered_joined}
+use Rattle.i_tree.proofs.CoreLemmas.Insertion.{IsLower, IsHigher, below_joined}
+use Rattle.i_tree.proofs.CoreLemmas.WayCounts.{looks_turn}
+use Rattle.i_tree.proofs.SetLemmas.Search.{below_from_ordered, ordered_from_below}
 use Rattle.i_tree.proofs.SetLemmas.Live.{HasHandle-joined}
 use Rattle.i_tree.specs.Core.Place.{IsPlaceBetween}
 use Rattle.i_tree.specs.Core.RbTree.{Contents}
@@ -16,9 +18,14 @@ returns-clause-in_order g c =
     let found = c.place_of-place.ensures.place in
     let lows = subst (λ key. All (IsLower key_of total key) found.0) c.key.ensures found.3 in
     let highs = subst (λ key. All (IsHigher key_of total key) found.1) c.key.ensures found.4 in
-    let before = subst (IsOrdered key_of cmp) found.2.cut c.requires.in_order in
+    let below = below_from_ordered key_of total (found.0 ++ found.1) (subst (IsOrdered key_of cmp) found.2.cut c.requires.in_order) in
     let between = subst (λ (contents : Contents g.row.V.Denot). IsPlaceBetween contents.shape found.0 found.1 c.place_of-place.result) (sym c.self.view_is) found.2 in
-    subst (IsOrdered key_of cmp) (sym (c.in_ok-insert_at.ensures.joins found.0 found.1 between)) (ordered_joined key_of total found.0 c.in_ok-insert_at.field-0 c.args.val found.1 before lows highs)
+    subst (IsOrdered key_of cmp) (sym (c.in_ok-insert_at.ensures.joins found.0 found.1 between))
+    (ordered_from_below key_of total (found.0 ++ (c.in_ok-insert_at.field-0, c.args.val) ∷ found.1) (below_joined key_of total found.0 c.in_ok-insert_at.field-0 c.args.val found.1 below (lows, highs)))
+
+pub returns-clause-steps : goal.returns-clause-steps
+returns-clause-steps g c =
+    looks_turn g.met.C.Counter.law c.args.steps.now c.place_of-place.new.steps c.insert_at.new.steps (length (entries c.args.self.now.shape)) 2 c.place_of-place.ensures.steps c.in_ok-insert_at.ensures.steps
 
 pub returns-clause-keeps : goal.returns-clause-keeps
 returns-clause-keeps g c =

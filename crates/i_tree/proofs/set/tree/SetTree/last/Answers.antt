@@ -10,7 +10,7 @@ use Rattle.i_tree.proofs.set.tree.SetTree.last.Goals as goal
 
 pub loop-here-init : goal.loop-here-init
 loop-here-init g c =
-    ([], IsCutAt-top _ _ c.self.inside.core.shape c.root-here.result c.root-here.ensures.part c.root-here.ensures.live, refl)
+    ([], IsCutAt-top c.self.inside.core.shape c.root-here.result c.root-here.ensures.part c.root-here.ensures.live, refl)
 
 pub right-here-requires : goal.right-here-requires
 right-here-requires g c = c.loop-here.invariant.1.live c.loop-here-test.true
@@ -27,7 +27,7 @@ loop-here-preserved g c =
     let found = parts_live c.loop-here.here tree (c.loop-here.invariant.1.live c.loop-here-test.true) in
     let front = c.loop-here.invariant.0 ++ entries (left_at c.loop-here.here tree) in (
       front ++ (c.loop-here.here, found.0) ∷ [],
-      goes_right tree c.loop-here.here found.0 found.1 c.loop-here.invariant.1 c.right-here.result c.right-here.ensures.live c.right-here.ensures.part tt,
+      goes_right tree c.loop-here.here found.0 found.1 c.loop-here.invariant.1 c.right-here.result c.right-here.ensures.live c.right-here.ensures.part,
       sym (last_handle-end front (c.loop-here.here, found.0)),
     )
 

@@ -6,7 +6,7 @@ use Rattle.i_tree.proofs.set.tree.SetTree.last.Given as goal
 -- Nothing stands behind the part, and the last pair in front of it is the last so far.
 abbrev pub invariant-loop-here : goal.invariant-loop-here
 invariant-loop-here g l =
-    (front : List (ℕ × g.row.V.Denot)) × IsCutAt (λ _. Unit {0}) (λ _. Unit {0}) l.self-inside.core.shape l.here front [] × (l.last ≡ last_handle front)
+    (front : List (ℕ × g.row.V.Denot)) × IsCutAt l.self-inside.core.shape l.here front [] × (l.last ≡ last_handle front)
 
 abbrev pub decreases-loop-here : goal.decreases-loop-here
 decreases-loop-here g l = rank (part_at l.here l.self-inside.core.shape)

@@ -6,9 +6,9 @@ use Rattle.i_tree.proofs.set.tree.SetTreeSetCollection.insert.Goals as goal
 
 pub returns-clause-ok : goal.returns-clause-ok
 returns-clause-ok g c =
-    on_ok_weaker c.insert_over.result
-    (λ joins. Joins-values (entries c.args.self.now.shape) (entries c.insert_over.new.self.shape) joins.0 joins.1 c.args.val joins.2 joins.3 joins.4)
-    c.insert_over.ensures.joins
+    on_ok_weaker c.insert_counted.result
+    (λ joins. Joins-values (entries c.args.self.now.shape) (entries c.insert_counted.new.self.shape) joins.0 joins.1 c.args.val joins.2 joins.3 joins.4)
+    c.insert_counted.ensures.joins
 
 pub returns-clause-handles : goal.returns-clause-handles
-returns-clause-handles g c = AreApart-from_handles c.insert_over.new.self.shape c.insert_over.ensures.core.handles
+returns-clause-handles g c = AreApart-from_handles c.insert_counted.new.self.shape c.insert_counted.ensures.core.handles

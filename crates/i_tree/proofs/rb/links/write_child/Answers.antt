@@ -1,7 +1,8 @@
 use Rattle.std.proofs.Common.{rules, Some, ◌∙◌, ap, ◌<◌, length}
 use Rattle.std.proofs.lemmas.Option.{slice_get-get_or}
+use Rattle.i_tree.specs.Core.Slots.{with_child_link}
 use Rattle.i_tree.proofs.CoreLemmas.Turning.{IsUsed-within, not_free, Relinks-set}
-use Rattle.i_tree.proofs.rb.links.set_links.Goals as goal
+use Rattle.i_tree.proofs.rb.links.write_child.Goals as goal
 
 pub offset_bounds-slots-handle : goal.offset_bounds-slots-handle
 offset_bounds-slots-handle g c =
@@ -13,8 +14,8 @@ bounds-slots-handle g c = IsUsed-within c.args.slots.now c.args.handle c.require
 pub returns-in-Used : goal.returns-in-Used
 returns-in-Used g c =
     let inside = IsUsed-within c.args.slots.now c.args.handle c.requires in
-    Relinks-set c.args.slots.now c.args.handle c.in-Used.old c.args.links c.in-Used.field-1
-    (slice_get-get_or c.args.slots.now c.args.handle c.index-slots-handle.result inside ∙ ap Some c.in-Used.is)
+    Relinks-set c.args.slots.now c.args.handle c.in-Used.links _ (with_child_link c.args.side c.args.child) c.in-Used.field-1
+    (slice_get-get_or c.args.slots.now c.args.handle c.index-slots-handle.result inside ∙ ap Some c.in-Used.is) c.set_child.ensures
 
 pub returns-in-Free : goal.returns-in-Free
 returns-in-Free g c =

@@ -1,0 +1,24 @@
+use Rattle.std.proofs.Common.{rules, Some, refl, ◌∙◌, ap, ◌<◌, length}
+use Rattle.std.proofs.lemmas.Option.{slice_get-get_or}
+use Rattle.i_tree.specs.Core.Slots.{with_colour}
+use Rattle.i_tree.proofs.CoreLemmas.Turning.{IsUsed-within, not_free, Relinks-set}
+use Rattle.i_tree.proofs.rb.links.write_colour.Goals as goal
+
+pub offset_bounds-slots-handle : goal.offset_bounds-slots-handle
+offset_bounds-slots-handle g c =
+    let inside : c.args.handle < length c.args.slots.now = IsUsed-within c.args.slots.now c.args.handle c.requires in search rules
+
+pub bounds-slots-handle : goal.bounds-slots-handle
+bounds-slots-handle g c = IsUsed-within c.args.slots.now c.args.handle c.requires
+
+pub returns-in-Used : goal.returns-in-Used
+returns-in-Used g c =
+    let inside = IsUsed-within c.args.slots.now c.args.handle c.requires in
+    Relinks-set c.args.slots.now c.args.handle c.in-Used.links _ (with_colour c.args.colour) c.in-Used.field-1
+    (slice_get-get_or c.args.slots.now c.args.handle c.index-slots-handle.result inside ∙ ap Some c.in-Used.is) refl
+
+pub returns-in-Free : goal.returns-in-Free
+returns-in-Free g c =
+    let inside = IsUsed-within c.args.slots.now c.args.handle c.requires in
+    absurd (not_free c.args.slots.now c.args.handle c.in-Free.field-0 c.requires
+    (slice_get-get_or c.args.slots.now c.args.handle c.index-slots-handle.result inside ∙ ap Some c.in-Free.is))

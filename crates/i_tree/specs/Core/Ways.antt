@@ -1,0 +1,34 @@
+-- Where a way down a tree ends. For the private contracts of both trees.
+use Rattle.std.specs.Prelude.{◌≡◌, ◌==◌, ℕ, Bool, false, List, if◌then◌else◌}
+use Rattle.std.specs.Ordering.{is_gt}
+use Rattle.std.specs.declared.cmp.Ordering.{Ordering}
+use Rattle.std.specs.declared.cmp.Ordering.TheVariants.{Greater}
+use Rattle.i_tree.specs.Core.Place.{IsPlaceBetween}
+use Rattle.i_tree.specs.Core.Shape.{Shape}
+use Rattle.i_tree.specs.Root.Ends.{LastFinds, StartsIn}
+use Rattle.i_tree.specs.declared.TheConstants.{EMPTY_REF}
+use Rattle.i_tree.specs.declared.place.Place.{Place}
+use Rattle.i_tree.specs.declared.place.Place.TheVariants.{Root, Left, Right}
+
+-- the place on a side of a handle, or that of the root where the handle is `EMPTY_REF`
+abbrev pub place_below : ℕ → Bool → Place
+place_below above on_right = if above == EMPTY_REF then Root else (if on_right then Right above else Left above)
+
+-- No part is at the place. Found is what the entry in front of it gives, and the entry behind it was missed.
+pub record EndsBetween {T A : Type 0} (Finds : ℕ × T → A → Type 0) (Misses : ℕ × T → Type 0) (nothing : A) (tree : Shape T) (place : Place) (found : A) : Type 0 where
+  pub front : List (ℕ × T)
+  pub back : List (ℕ × T)
+  pub between : IsPlaceBetween tree front back place
+  pub before : LastFinds Finds nothing front found
+  pub after : StartsIn Misses back
+
+-- `MayAnswer` says how an item may be called by what is looked for.
+module _ {T : Type 0} (MayAnswer : T → Ordering → Type 0) where
+  -- the handle and the answer of an entry that wasn't called Greater
+  abbrev pub FindsNotAbove : ℕ × T → ℕ × Ordering → Type 0
+  FindsNotAbove entry found = (found.0 ≡ entry.0) × MayAnswer entry.1 found.1 × (is_gt found.1 ≡ false)
+
+  -- a look has ended behind all that it didn't call Greater
+  abbrev pub LooksBetween : Shape T → Place → ℕ → Ordering → Type 0
+  LooksBetween tree place found said =
+      EndsBetween FindsNotAbove (λ entry. MayAnswer entry.1 Greater) (EMPTY_REF, Greater) tree place (found, said)
