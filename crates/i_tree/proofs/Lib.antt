@@ -2,3 +2,4 @@ pub mod RootLemmas
 pub mod KeyLemmas
 pub mod CoreLemmas
 pub mod SetLemmas
+pub mod SegLemmas

@@ -2,3 +2,4 @@ pub mod Root
 pub mod Key
 pub mod Core
 pub mod Set
+pub mod Seg

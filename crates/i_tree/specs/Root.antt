@@ -5,6 +5,7 @@ pub mod Counting
 pub mod Descent
 pub mod Ends
 pub mod Halving
+pub mod LayoutNumbers
 pub mod Levels
 pub mod Pairs
 pub mod Steps

@@ -10,13 +10,16 @@ ghost use Rattle.i_tree.specs.declared.Refusal.TheVariants.{OutOfMemory};
 mod halving;
 mod inserting;
 pub mod key;
+mod layout_number;
 mod looking;
 mod place;
 pub mod rb;
+mod seg;
 mod select;
 pub mod set;
 pub mod steps;
 
+pub use layout_number::{LayoutNumber, LayoutUInt};
 use std::alloc::{AllocError, AllocFailed};
 use std::error::Error;
 use std::fmt::{self, Debug, Display, Formatter};

@@ -1,0 +1,150 @@
+-- Worked rows of the definitions, each computed.
+use Rattle.std.proofs.Common.{◌≡◌, ◌-◌, ◌^◌, ◌≤◌, pos, negsuc, [], ◌∷◌, refl, lit<, lit≤, arith}
+use Rattle.std.proofs.lemmas.Int.{ints}
+use Rattle.i_tree.specs.Seg.Buckets.{Buckets, IsWidth, HasLayout, bucket, chunk_count, between}
+use Rattle.i_tree.proofs.SegLemmas.Widths.{width_of_exponent}
+use Rattle.i_tree.specs.Seg.Nodes.{covered, is_covered, is_placed, is_met, mask_below, nodes_where, place_set, meeting_set, nodes_from, nodes_of}
+
+-- the buckets of some nodes
+node_0 : covered 0 ≡ between 0 31
+unfolding covered
+node_0 = refl
+
+node_6 : covered 6 ≡ between 24 31
+unfolding covered
+node_6 = refl
+
+node_7 : covered 7 ≡ between 0 3
+unfolding covered
+node_7 = refl
+
+node_30 : covered 30 ≡ between 30 31
+unfolding covered
+node_30 = refl
+
+node_31 : covered 31 ≡ between 0 0
+unfolding covered
+node_31 = refl
+
+node_62 : covered 62 ≡ between 31 31
+unfolding covered
+node_62 = refl
+
+-- where some intervals are placed
+placed_0_31 : nodes_of (place_set (between 0 31)) ≡ 0 ∷ []
+unfolding nodes_of nodes_from nodes_where mask_below is_placed is_covered covered
+placed_0_31 = refl
+
+placed_0_30 : nodes_of (place_set (between 0 30)) ≡ 1 ∷ 5 ∷ 13 ∷ 29 ∷ 61 ∷ []
+unfolding nodes_of nodes_from nodes_where mask_below is_placed is_covered covered
+placed_0_30 = refl
+
+placed_1_30 : nodes_of (place_set (between 1 30)) ≡ 4 ∷ 5 ∷ 8 ∷ 13 ∷ 16 ∷ 29 ∷ 32 ∷ 61 ∷ []
+unfolding nodes_of nodes_from nodes_where mask_below is_placed is_covered covered
+placed_1_30 = refl
+
+placed_30_31 : nodes_of (place_set (between 30 31)) ≡ 30 ∷ []
+unfolding nodes_of nodes_from nodes_where mask_below is_placed is_covered covered
+placed_30_31 = refl
+
+placed_29_31 : nodes_of (place_set (between 29 31)) ≡ 30 ∷ 60 ∷ []
+unfolding nodes_of nodes_from nodes_where mask_below is_placed is_covered covered
+placed_29_31 = refl
+
+placed_15_16 : nodes_of (place_set (between 15 16)) ≡ 46 ∷ 47 ∷ []
+unfolding nodes_of nodes_from nodes_where mask_below is_placed is_covered covered
+placed_15_16 = refl
+
+placed_0_12 : nodes_of (place_set (between 0 12)) ≡ 3 ∷ 9 ∷ 43 ∷ []
+unfolding nodes_of nodes_from nodes_where mask_below is_placed is_covered covered
+placed_0_12 = refl
+
+-- and where what overlaps some intervals may be placed
+met_0_0 : nodes_of (meeting_set (between 0 0)) ≡ 0 ∷ 1 ∷ 3 ∷ 7 ∷ 15 ∷ 31 ∷ []
+unfolding nodes_of nodes_from nodes_where mask_below is_met covered
+met_0_0 = refl
+
+met_1_1 : nodes_of (meeting_set (between 1 1)) ≡ 0 ∷ 1 ∷ 3 ∷ 7 ∷ 15 ∷ 32 ∷ []
+unfolding nodes_of nodes_from nodes_where mask_below is_met covered
+met_1_1 = refl
+
+met_0_1 : nodes_of (meeting_set (between 0 1)) ≡ 0 ∷ 1 ∷ 3 ∷ 7 ∷ 15 ∷ 31 ∷ 32 ∷ []
+unfolding nodes_of nodes_from nodes_where mask_below is_met covered
+met_0_1 = refl
+
+-- all 63 nodes
+met_0_31 : meeting_set (between 0 31) ≡ 2 ^ 63 - 1
+unfolding nodes_where mask_below is_met covered
+met_0_31 = refl
+
+-- some ranges, whose widths are checked below
+small : Buckets
+small = record { start = pos 0; end = pos 31; width = 1 }
+
+below_zero : Buckets
+below_zero = record { start = negsuc 62; end = pos 0; width = 2 }
+
+eights : Buckets
+eights = record { start = pos 0; end = pos 128; width = 8 }
+
+wide : Buckets
+wide = record { start = negsuc 10239; end = pos 15360; width = 1024 }
+
+bytes : Buckets
+bytes = record { start = negsuc 127; end = pos 127; width = 8 }
+
+whole : Buckets
+whole = record { start = negsuc 9223372036854775807; end = pos 9223372036854775807; width = 576460752303423488 }
+
+small_ends : (bucket small (pos 0) ≡ 0) × (bucket small (pos 31) ≡ 31)
+unfolding small
+small_ends = (refl, refl)
+
+below_zero_buckets : (bucket below_zero (negsuc 62) ≡ 0) × (bucket below_zero (negsuc 0) ≡ 31) × (bucket below_zero (pos 0) ≡ 31)
+unfolding below_zero
+below_zero_buckets = (refl, refl, refl)
+
+eights_buckets : (bucket eights (pos 7) ≡ 0) × (bucket eights (pos 8) ≡ 1) × (bucket eights (pos 128) ≡ 16) × (chunk_count eights ≡ 48)
+unfolding eights
+eights_buckets = (refl, refl, refl, refl)
+
+wide_buckets : (bucket wide (negsuc 10239) ≡ 0) × (bucket wide (pos 10240) ≡ 20) × (bucket wide (pos 15360) ≡ 25) × (chunk_count wide ≡ 57)
+unfolding wide
+wide_buckets = (refl, refl, refl, refl)
+
+bytes_buckets : (bucket bytes (negsuc 127) ≡ 0) × (bucket bytes (pos 127) ≡ 31) × (chunk_count bytes ≡ 63)
+unfolding bytes
+bytes_buckets = (refl, refl, refl)
+
+whole_buckets : (bucket whole (negsuc 9223372036854775807) ≡ 0) × (bucket whole (pos 9223372036854775807) ≡ 31) × (chunk_count whole ≡ 63)
+unfolding whole
+whole_buckets = (refl, refl, refl)
+
+-- 0 to 30 has no layout for a type whose least span is 31, and 5 to 4 has none
+no_layout_0_30 : HasLayout 31 (pos 0) (pos 30) → ⊥
+no_layout_0_30 layout = let allowed : 31 ≤ 30 = layout.allowed in omega arith
+
+no_layout_5_4 : HasLayout 31 (pos 5) (pos 4) → ⊥
+no_layout_5_4 layout = let order = layout.order in omega (arith, ints)
+
+layout_0_31 : HasLayout 31 (pos 0) (pos 31)
+layout_0_31 = record { order = omega (arith, ints); wide = lit≤ tt; allowed = lit≤ tt }
+
+-- the widths of these spans
+width_31 : IsWidth 31 1
+width_31 = width_of_exponent 31 0 (lit≤ tt) (lit< tt)
+
+width_63 : IsWidth 63 2
+width_63 = width_of_exponent 63 1 (lit≤ tt) (lit< tt)
+
+width_128 : IsWidth 128 8
+width_128 = width_of_exponent 128 3 (lit≤ tt) (lit< tt)
+
+width_25600 : IsWidth 25600 1024
+width_25600 = width_of_exponent 25600 10 (lit≤ tt) (lit< tt)
+
+width_255 : IsWidth 255 8
+width_255 = width_of_exponent 255 3 (lit≤ tt) (lit< tt)
+
+width_whole : IsWidth 18446744073709551615 576460752303423488
+width_whole = width_of_exponent 18446744073709551615 59 (lit≤ tt) (lit< tt)

@@ -1,0 +1,3 @@
+-- Definitions of the trees of segments.
+pub mod Buckets
+pub mod Nodes
