@@ -6,6 +6,7 @@ pub mod Climb
 pub mod Contexts
 pub mod Descent
 pub mod Detaching
+pub mod Entries
 pub mod Growth
 pub mod Insertion
 pub mod Items

@@ -10,7 +10,7 @@ use Rattle.std.proofs.lemmas.List.{map-append}
 use Rattle.std.proofs.lemmas.List.Elements.{All-cons}
 use Rattle.std.proofs.lemmas.List.Kept.{AllPairs-cons}
 use Rattle.i_tree.proofs.RootLemmas.Joined.{All-front, All-behind, AllPairs-front, AllPairs-behind, AllPairs-across, AllPairs-append, All-from_end, All-from_start}
-use Rattle.i_tree.proofs.SetLemmas.Search.{IsBelow, StartsIn-with}
+use Rattle.i_tree.proofs.CoreLemmas.Entries.{IsBelow, StartsIn-with}
 use Rattle.i_tree.specs.Root.Ends.{LastFinds, StartsIn}
 use Rattle.i_tree.specs.Root.Change.{Joins}
 use Rattle.i_tree.specs.Set.Pairs.{values}

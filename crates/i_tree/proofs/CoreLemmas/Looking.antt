@@ -12,7 +12,7 @@ use Rattle.std.proofs.lemmas.List.Elements.{All-head}
 use Rattle.i_tree.proofs.CoreLemmas.Descent.{IsChosen, IsTop, IsWay, way_on}
 use Rattle.i_tree.proofs.CoreLemmas.Insertion.{IsBetween, IsLower, IsHigher, keys_between}
 use Rattle.i_tree.proofs.RootLemmas.Joined.{All-behind}
-use Rattle.i_tree.proofs.SetLemmas.Search.{IsBelow}
+use Rattle.i_tree.proofs.CoreLemmas.Entries.{IsBelow}
 use Rattle.i_tree.specs.Core.Shape.{Shape, entries, part_at, left_at, right_at}
 use Rattle.i_tree.specs.Core.Ways.{FindsNotAbove, LooksBetween, place_below}
 use Rattle.i_tree.specs.Root.Ends.{LastFinds}

@@ -11,7 +11,7 @@ use Rattle.std.proofs.lemmas.List.Elements.{All-nil, All-cons, All-head, All-tai
 use Rattle.i_tree.proofs.CoreLemmas.Insertion.{IsBetween, Joins-values, above, below_joined, keys_between}
 use Rattle.i_tree.proofs.RootLemmas.Joined.{All-of_map, AllPairs-of_map, AllPairs-to_map}
 use Rattle.i_tree.proofs.RootLemmas.RisingKeys.{less_from_is_lt, not_less_from_is_lt}
-use Rattle.i_tree.proofs.SetLemmas.Search.{IsBelow}
+use Rattle.i_tree.proofs.CoreLemmas.Entries.{IsBelow}
 use Rattle.i_tree.proofs.RootLemmas.Withouts.{AllPairs-without, filter-without}
 use Rattle.i_tree.specs.Root.Change.{Gains, Without}
 use Rattle.i_tree.specs.Root.Descent.{Descends}

@@ -13,7 +13,7 @@ use Rattle.i_tree.proofs.CoreLemmas.Insertion.{IsLower, IsHigher}
 use Rattle.i_tree.proofs.RootLemmas.RisingKeys.{HasKey-live}
 use Rattle.i_tree.proofs.RootLemmas.Lists.{All-filter_passing, AllPairs-head, MatchBool-by}
 use Rattle.i_tree.proofs.RootLemmas.Joined.{AllPairs-across, AllPairs-behind, AllPairs-of_map, All-to_map, Contains-middle}
-use Rattle.i_tree.proofs.SetLemmas.Search.{IsBelow}
+use Rattle.i_tree.proofs.CoreLemmas.Entries.{IsBelow}
 use Rattle.i_tree.specs.Key.KeyExpTree.{items}
 use Rattle.i_tree.specs.Key.Live.{is_live, live_pairs}
 use Rattle.i_tree.specs.Root.Pairs.{HasKey, IsRising, NoKey}

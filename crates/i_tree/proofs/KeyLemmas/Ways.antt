@@ -7,7 +7,7 @@ use Rattle.i_tree.proofs.KeyLemmas.Following.{IsFollowed}
 use Rattle.i_tree.proofs.RootLemmas.Lists.{Contains-filter}
 use Rattle.i_tree.proofs.CoreLemmas.Descent.{IsCutAt, IsCutAt-top, IsWay}
 use Rattle.i_tree.proofs.CoreLemmas.WayCounts.{IsCounted}
-use Rattle.i_tree.proofs.SetLemmas.Handles.{values-LosesAt}
+use Rattle.i_tree.proofs.CoreLemmas.Entries.{values-LosesAt}
 use Rattle.i_tree.proofs.RootLemmas.Joined.{Contains-middle}
 use Rattle.i_tree.proofs.CoreLemmas.PartHandles.{PartAt-live}
 use Rattle.i_tree.proofs.RootLemmas.Withouts.{Without-middle, filter-without}

@@ -1,13 +1,11 @@
 -- The handles of a set in a tree.
-use Rattle.std.proofs.Common.{◌≡◌, ◌≢◌, ℕ, ◌≤◌, List, [], ◌∷◌, ◌++◌, sym, ap, ◌∙◌, arith, ⊎_elim}
+use Rattle.std.proofs.Common.{◌≡◌, ◌≢◌, ℕ, ◌≤◌, List, [], ◌∷◌, sym, ◌∙◌, arith}
 use Rattle.std.specs.List.{All, AllPairs}
-use Rattle.std.proofs.lemmas.List.{map-append}
 use Rattle.std.proofs.lemmas.List.Elements.{All-nil, All-cons}
 use Rattle.std.proofs.lemmas.List.Kept.{AllPairs-cons}
 use Rattle.i_tree.proofs.RootLemmas.Joined.{AllPairs-nil}
 use Rattle.i_tree.specs.declared.TheConstants.{EMPTY_REF}
-use Rattle.i_tree.specs.Core.Removal.{LosesAt}
-use Rattle.i_tree.specs.Set.Pairs.{AreApart, values}
+use Rattle.i_tree.specs.Set.Pairs.{AreApart}
 use Rattle.i_tree.specs.Core.Shape.{Shape, entries, AreHandles}
 use Rattle.i_tree.proofs.CoreLemmas.Contexts.{one_if_same-same, one_if_same-cases, occurs_among, occurs_among-entries}
 
@@ -35,14 +33,3 @@ module _ {V : Type 0} where
     each_once (entries tree) (λ handle. omega (arith, occurs_among-entries handle tree, handles.apart handle)),
     none_is EMPTY_REF (entries tree) (occurs_among-entries EMPTY_REF tree ∙ handles.none_empty),
   )
-
-  values-append : (front back : List (ℕ × V)) → values (front ++ back) ≡ values front ++ values back
-  values-append front back = map-append (λ (pair : ℕ × V). pair.1) front back
-
-  -- a list that loses the pair at a handle loses its value, and no other one
-  pub values-LosesAt : (handle : ℕ) (front back after : List (ℕ × V)) → LosesAt handle front back after → values after ≡ values front ++ values back
-  values-LosesAt handle front back after =
-      ⊎_elim
-      (λ is. ap values is ∙ values-append front back)
-      (λ (next, item, rest, back_is, after_is).
-      ap values after_is ∙ values-append front ((handle, item) ∷ rest) ∙ ap (λ pairs. values front ++ values pairs) (sym back_is))

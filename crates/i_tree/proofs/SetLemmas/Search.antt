@@ -9,6 +9,7 @@ use Rattle.std.specs.declared.cmp.Ordering.{Ordering}
 use Rattle.std.specs.declared.cmp.Ordering.TheVariants.{Less, Greater}
 use Rattle.std.proofs.lemmas.List.{map-append}
 use Rattle.std.proofs.lemmas.List.Elements.{All-head}
+use Rattle.i_tree.proofs.CoreLemmas.Entries.{IsBelow}
 use Rattle.i_tree.proofs.RootLemmas.Cuts.{IsCutBy, FindsPassing, cut_between, at_most_at_cut}
 use Rattle.i_tree.proofs.RootLemmas.Joined.{All-front, All-behind, All-of_map, All-to_map, AllPairs-of_map, AllPairs-to_map}
 use Rattle.i_tree.proofs.RootLemmas.RisingKeys.{IsPartitionedBy-monotone}
@@ -19,11 +20,6 @@ use Rattle.i_tree.specs.Core.Shape.{Shape, entries, last_handle}
 use Rattle.i_tree.specs.Core.Ways.{FindsNotAbove, LooksBetween}
 use Rattle.i_tree.specs.declared.TheConstants.{EMPTY_REF}
 use Rattle.i_tree.specs.declared.place.Place.{Place}
-
-module _ {X : Type 0} (P Q S : X → Type 0) (join : (x : X) → P x → Q x → S x) where
-  pub StartsIn-with : (xs : List X) → All Q xs → StartsIn P xs → StartsIn S xs
-  StartsIn-with [] all starts = tt
-  StartsIn-with (x ∷ xs) all starts = join x starts (All-head Q x xs all)
 
 pub last_handle-end : {V : Type 0} (front : List (ℕ × V)) (last : ℕ × V) → last_handle (front ++ last ∷ []) ≡ last.0
 last_handle-end [] last = refl
@@ -42,13 +38,10 @@ module _ {K V : Type 0} (key_of : V → K) {cmp : K → K → Ordering} (o : IsT
   abbrev keyed : ℕ × V → K × ℕ
   keyed pair = (key_of pair.1, pair.0)
 
-  abbrev pub IsBelow : ℕ × V → ℕ × V → Type 0
-  IsBelow earlier later = cmp (key_of earlier.1) (key_of later.1) ≡ Less
-
-  pub below_from_ordered : (pairs : List (ℕ × V)) → IsOrdered key_of cmp pairs → AllPairs IsBelow pairs
+  pub below_from_ordered : (pairs : List (ℕ × V)) → IsOrdered key_of cmp pairs → AllPairs (IsBelow key_of o) pairs
   below_from_ordered pairs ordered = AllPairs-of_map (λ (earlier : K × ℕ) later. cmp earlier.0 later.0 ≡ Less) keyed pairs ordered
 
-  pub ordered_from_below : (pairs : List (ℕ × V)) → AllPairs IsBelow pairs → IsOrdered key_of cmp pairs
+  pub ordered_from_below : (pairs : List (ℕ × V)) → AllPairs (IsBelow key_of o) pairs → IsOrdered key_of cmp pairs
   ordered_from_below pairs below = AllPairs-to_map (λ (earlier : K × ℕ) later. cmp earlier.0 later.0 ≡ Less) keyed pairs below
 
   -- Of each value is answered what may be answered of its key.

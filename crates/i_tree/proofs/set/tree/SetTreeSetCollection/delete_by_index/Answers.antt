@@ -1,5 +1,6 @@
 use Rattle.std.proofs.Common.{◌+◌, sym, ap, ◌∙◌, subst}
-use Rattle.i_tree.proofs.SetLemmas.Handles.{AreApart-from_handles, values-LosesAt}
+use Rattle.i_tree.proofs.CoreLemmas.Entries.{values-LosesAt}
+use Rattle.i_tree.proofs.SetLemmas.Handles.{AreApart-from_handles}
 use Rattle.i_tree.proofs.SetLemmas.Live.{IsOrdered-loses}
 use Rattle.i_tree.proofs.CoreLemmas.PartHandles.{live-HasHandle}
 use Rattle.i_tree.specs.Core.RbTree.{Contents}
