@@ -1,3 +1,6 @@
 -- Definitions of the trees of segments.
 pub mod Buckets
+pub mod Copies
+pub mod Members
 pub mod Nodes
+pub mod Segments

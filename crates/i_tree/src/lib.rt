@@ -1,7 +1,8 @@
-//! The containers of a sweep line: keys that expire and ordered sets, each in a red-black tree and in a sorted vector.
+//! The containers of a sweep line: keys that expire and ordered sets, each in a red-black tree and in a sorted vector, and
+//! segments in a heap of buckets.
 //!
 //! A port of the Rust crate `i_tree` 0.20.0, whose names and rules these are. Each call is proved to answer from a plain
-//! list of pairs.
+//! list.
 #![tactic(auto)]
 
 ghost use Rattle.std.specs.Prelude.{◌≡◌};
@@ -14,7 +15,7 @@ mod layout_number;
 mod looking;
 mod place;
 pub mod rb;
-mod seg;
+pub mod seg;
 mod select;
 pub mod set;
 pub mod steps;

@@ -25,6 +25,11 @@ quotient_near w a b some upwards =
     let most : b / w * w ≤ b = div-mul-le_self b w in
     omega arith
 
+-- a number that isn't below another lies in no earlier bucket
+pub bucket-rises : (buckets : Buckets) (low high : ℤ) → 0 < buckets.width → buckets.start ≤ℤ low → low ≤ℤ high → bucket buckets low ≤ bucket buckets high
+bucket-rises buckets low high some above upwards =
+    quotient_rises buckets.width (distance buckets.start low) (distance buckets.start high) some (distance_rises buckets.start low high above upwards)
+
 overlap_from : (a b c d : ℕ) → a ≤ d → c ≤ b → (leb a d && leb c b) ≡ true
 overlap_from a b c d first second = grind (arith, nat_tests)
 

@@ -1,10 +1,11 @@
 -- Facts on the nodes of a mask.
-use Rattle.std.proofs.Common.{◌≡◌, ℕ, zero, suc, ◌+◌, ◌*◌, ◌%◌, ◌^◌, ◌<◌, ◌≤◌, Bool, true, false, cond, List, [], ◌∷◌, bit_and, length, refl, ap, sym, ◌∙◌, subst, inl, inr, arith}
+use Rattle.std.proofs.Common.{◌≡◌, ℕ, zero, suc, ◌+◌, ◌*◌, ◌%◌, ◌^◌, ◌<◌, ◌≤◌, Bool, true, false, cond, List, [], ◌∷◌, bit_and, get_or, length, refl, ap, sym, ◌∙◌, subst, inl, inr, arith}
 use Rattle.std.specs.Bool.{◌==◌}
 use Rattle.std.specs.Int.{w64, bit_not, trailing_zeros}
+use Rattle.std.specs.Int.Count.{trailing_of_zero}
 use Rattle.std.proofs.lemmas.Bool.{cases_lt, cond-true, cond-false}
 use Rattle.std.proofs.lemmas.Nat.Bits.{bit_at-trailing_zeros, bit_at_clear_same, bit_at_clear_other}
-use Rattle.i_tree.specs.Seg.Nodes.{has_node, IsLowest, nodes_from, nodes_of}
+use Rattle.i_tree.specs.Seg.Nodes.{has_node, IsLowest, nodes_from, nodes_of, lowest}
 
 -- masks that agree from a node on have the same nodes there
 same_from : (more node one other : ℕ) → ((at : ℕ) → node ≤ at → at < node + more → has_node one at ≡ has_node other at) → nodes_from more node one ≡ nodes_from more node other
@@ -62,3 +63,13 @@ nodes_of-fewer mask lowest is = let longer = ap length (nodes_of-lowest mask low
 pub nodes_of-zero : nodes_of 0 ≡ []
 unfolding nodes_of nodes_from
 nodes_of-zero = refl
+
+-- a mask without nodes has 64 trailing zeros; else their number is the lowest node
+pub trailing-lowest : (mask : ℕ) → mask < 2 ^ 64 → trailing_zeros w64 mask ≡ lowest mask
+trailing-lowest mask fits =
+    elim (cases_lt 0 mask) [
+      | inl some ↦ ap (λ (nodes : List ℕ). get_or nodes 0 64) (sym (nodes_of-lowest mask (trailing_zeros w64 mask) (lowest-is mask some fits)))
+      | inr none ↦
+          let empty : 0 ≡ mask = omega arith in
+          subst (λ (whole : ℕ). trailing_zeros w64 whole ≡ lowest whole) empty (trailing_of_zero 64 ∙ ap (λ (nodes : List ℕ). get_or nodes 0 64) (sym nodes_of-zero))
+    ]

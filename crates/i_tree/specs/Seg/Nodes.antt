@@ -1,5 +1,5 @@
 -- The 63 nodes of a heap over 32 buckets, and sets of nodes as masks.
-use Rattle.std.specs.Prelude.{◌≡◌, ℕ, zero, suc, ◌+◌, ◌-◌, ◌/◌, ◌%◌, ◌^◌, ◌<◌, Bool, true, false, not, ◌&&◌, leb, ◌==◌, if◌then◌else◌, List, [], ◌∷◌, map, min, max}
+use Rattle.std.specs.Prelude.{◌≡◌, ℕ, zero, suc, ◌+◌, ◌-◌, ◌/◌, ◌%◌, ◌^◌, ◌<◌, Bool, true, false, not, ◌&&◌, leb, ◌==◌, if◌then◌else◌, List, [], ◌∷◌, map, get_or, min, max}
 use Rattle.std.specs.List.{fold}
 use Rattle.std.specs.Int.{bit_at}
 use Rattle.i_tree.specs.Seg.Buckets.{Interval, between, overlap}
@@ -75,6 +75,10 @@ nodes_from (suc more) node mask =
 -- the nodes of a mask, in ascending order
 unfoldable pub nodes_of : ℕ → List ℕ
 nodes_of mask = nodes_from 64 0 mask
+
+-- the lowest node of a mask, or 64 where it has none
+abbrev pub lowest : ℕ → ℕ
+lowest mask = get_or (nodes_of mask) 0 64
 
 -- the buckets from the least to the greatest that the nodes of a mask cover
 unfoldable pub interval_of : ℕ → Interval

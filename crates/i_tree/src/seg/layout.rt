@@ -65,6 +65,7 @@ impl<R: LayoutNumber> Layout<R> {
         ensures value { result ≡ bucket self.now (R.whole value) }
         ensures within { result < 32 }
         ensures wide { 0 < self.now.width }
+        ensures chunks { chunk_count self.now ≤ 63 }
     {
         (value.offset_from(self.start) >> self.scale).to_u32()
     }

@@ -222,6 +222,16 @@ static PUPTO: [u64; 32] = [
     0x7fff_ffff_ffff_fffe, // 31
 ];
 
+// Worked words: nodes 0, 1, 3, 7, 15 and 31; all; nodes 0, 2, 6, 14, 30 and 62; node 62; nodes 61 and 62; none.
+const _: () = prove!(
+    BEGIN[0] == 2147516555
+        && REACH[0] == 9223372036854775807
+        && REACH[31] == 4611686019501146181
+        && FROM[31] == 4611686018427387904
+        && PFROM[30] == 6917529027641081856
+        && PUPTO[0] == 0
+);
+
 // The nodes whose first bucket is at most this one.
 fn begin(bucket: u32) -> u64
     requires { bucket < 32 }

@@ -2,12 +2,12 @@
 
 ghost use Rattle.std.specs.Prelude.{◌≡◌, ◌<◌};
 ghost use Rattle.std.specs.Iterator.{YieldsFirst, item_count};
-ghost use Rattle.i_tree.specs.Seg.Nodes.{nodes_of, IsLowest};
+ghost use Rattle.i_tree.specs.Seg.Nodes.{nodes_of, lowest, IsLowest};
 
-// The lowest node of a mask that has one.
+// The lowest node of a mask, or 64 where it has none.
 pub fn lowest_node(mask: u64) -> usize
-    requires { 0 < mask }
-    ensures { IsLowest mask result }
+    ensures value { result ≡ lowest mask }
+    ensures lowest { 0 < mask → IsLowest mask result }
 {
     mask.trailing_zeros() as usize
 }

@@ -1,0 +1,73 @@
+use Rattle.std.proofs.Common.{◌≡◌, ◌++◌, length, take, drop, ap, ◌∙◌}
+use Rattle.i_tree.specs.Seg.Buckets.{Accepts, interval, chunk_count}
+use Rattle.i_tree.specs.Seg.Copies.{copies_in, PlacesCopies}
+use Rattle.i_tree.specs.Seg.Nodes.{place_set}
+use Rattle.i_tree.proofs.SegLemmas.Filters.{filters}
+use Rattle.i_tree.proofs.SegLemmas.Inserting.{accepted-order, accepted-below, inserted-members, inserted-holds, inserted-few}
+use Rattle.i_tree.proofs.SegLemmas.Lent.{all-lent, all-back, placed-after_room}
+use Rattle.i_tree.proofs.seg.tree.SegExpTreeSegExpCollection.insert_by_range.Goals as goal
+
+pub place_mask-mask-requires-clause-order : goal.place_mask-mask-requires-clause-order
+place_mask-mask-requires-clause-order g c =
+    let own : Accepts c.self.inside.layout (g.R.LayoutNumber.whole c.args.range.min) (g.R.LayoutNumber.whole c.args.range.max) = rw (← c.self.view_is) at c.requires in
+    rw (c.bucket-first.ensures.value, c.bucket-last.ensures.value)
+    (accepted-order c.self.inside.layout (g.R.LayoutNumber.whole c.args.range.min) (g.R.LayoutNumber.whole c.args.range.max) c.bucket-first.ensures.wide own)
+
+-- each node of the mask has a chunk
+pub make_room-requires : goal.make_room-requires
+make_room-requires g c =
+    let own : Accepts c.self.inside.layout (g.R.LayoutNumber.whole c.args.range.min) (g.R.LayoutNumber.whole c.args.range.max) = rw (← c.self.view_is) at c.requires in
+    let long = all-lent (chunk_count c.self.inside.layout) c.self.inside.chunks.items c.deref_mut.result.now c.self.invariant.chunk_for_each c.deref_mut.ensures.value in
+    rw long
+    (accepted-below c.self.inside.layout (g.R.LayoutNumber.whole c.args.range.min) (g.R.LayoutNumber.whole c.args.range.max) c.bucket-first.ensures.wide own c.place_mask-mask.result
+    (rw (← c.bucket-last.ensures.value) c.place_mask-mask.ensures.below))
+
+-- a refusal leaves the copies as they were
+refused-copies : (g : _) (c : goal.After-from_residual g) → copies_in (take c.self.inside.chunks.len (c.make_room.new.chunks ++ drop (length c.make_room.new.chunks) c.self.inside.chunks.items)) ≡ copies_in c.self.inside.chunks.items
+refused-copies g c =
+    let same = (c.in_err-make_room.ensures).copies in
+    ap copies_in (all-back c.self.inside.chunks.len c.deref_mut.result.now c.make_room.new.chunks _ c.deref_mut.ensures.len (ap length same)) ∙ same ∙ ap copies_in c.deref_mut.ensures.value
+
+pub invariant_of-self : goal.invariant_of-self
+invariant_of-self g c = rw (refused-copies g c) c.self.invariant
+
+pub returns-in_err-make_room-clause-filters : goal.returns-in_err-make_room-clause-filters
+returns-in_err-make_room-clause-filters g c =
+    filters c.args.self.now.buckets (g.R.LayoutNumber.whole c.args.range.min) (g.R.LayoutNumber.whole c.args.range.max) (rw (← c.self.view_is) c.bucket-first.ensures.wide) c.requires
+
+-- the copies are placed among those of before
+placed : (g : _) (c : goal.After-self-2-1 g)
+    → PlacesCopies (place_set (interval c.self.inside.layout (g.R.LayoutNumber.whole c.args.range.min) (g.R.LayoutNumber.whole c.args.range.max))) c.args.val (copies_in c.self.inside.chunks.items) (copies_in c.place_copies.new.chunks)
+placed g c =
+    let mask : c.place_mask-mask.result ≡ place_set (interval c.self.inside.layout (g.R.LayoutNumber.whole c.args.range.min) (g.R.LayoutNumber.whole c.args.range.max)) =
+    rw (← c.bucket-first.ensures.value, ← c.bucket-last.ensures.value) c.place_mask-mask.ensures.value in
+    placed-after_room c.self.inside.chunks.len (place_set (interval c.self.inside.layout (g.R.LayoutNumber.whole c.args.range.min) (g.R.LayoutNumber.whole c.args.range.max))) c.args.val c.self.inside.chunks.items c.deref_mut.result.now c.make_room.new.chunks (drop (length c.make_room.new.chunks) c.self.inside.chunks.items) c.deref_mut-2.result.now c.place_copies.new.chunks
+    c.deref_mut.ensures.len c.deref_mut.ensures.value (c.in_ok-make_room.ensures).copies c.deref_mut-2.ensures.value (rw (← mask) c.place_copies.ensures)
+
+-- the vector has the chunks that come back from the second call
+kept : (g : _) (c : goal.After-self-2-1 g)
+    → take c.self.inside.chunks.len (c.place_copies.new.chunks ++ drop (length c.place_copies.new.chunks) (take c.self.inside.chunks.len (c.make_room.new.chunks ++ drop (length c.make_room.new.chunks) c.self.inside.chunks.items))) ≡ c.place_copies.new.chunks
+kept g c = all-back c.self.inside.chunks.len c.deref_mut-2.result.now c.place_copies.new.chunks _ c.deref_mut-2.ensures.len c.place_copies.ensures.count
+
+-- the layout's buckets are those of the tree
+own : (g : _) (c : goal.After-self-2-1 g) → Accepts c.self.inside.layout (g.R.LayoutNumber.whole c.args.range.min) (g.R.LayoutNumber.whole c.args.range.max)
+own g c = rw (← c.self.view_is) at c.requires
+
+pub invariant_of-self-2 : goal.invariant_of-self-2
+invariant_of-self-2 g c =
+    rw (kept g c)
+    (inserted-holds c.self.inside.layout _ _ c.bucket-first.ensures.wide (own g c) g.V.ExpiredVal.expiration g.E.Ord.cmp c.self.inside.latest c.args.val (copies_in c.self.inside.chunks.items) (copies_in c.place_copies.new.chunks) _ c.bucket-first.ensures.chunks c.self.invariant (placed g c))
+
+pub returns-clause-ok : goal.returns-clause-ok
+returns-clause-ok g c =
+    rw (kept g c, ← c.self.view_is)
+    (inserted-members c.self.inside.layout _ _ c.bucket-first.ensures.wide (own g c) g.V.ExpiredVal.expiration g.E.Ord.cmp c.self.inside.latest c.args.val (copies_in c.self.inside.chunks.items) (copies_in c.place_copies.new.chunks) _ c.bucket-first.ensures.chunks c.self.invariant (placed g c))
+
+pub returns-clause-few : goal.returns-clause-few
+returns-clause-few g c =
+    rw (kept g c, ← c.self.view_is)
+    (inserted-few c.self.inside.layout _ _ c.bucket-first.ensures.wide (own g c) g.V.ExpiredVal.expiration g.E.Ord.cmp c.self.inside.latest c.args.val (copies_in c.self.inside.chunks.items) (copies_in c.place_copies.new.chunks) _ c.bucket-first.ensures.chunks c.self.invariant (placed g c))
+
+pub returns-clause-filters : goal.returns-clause-filters
+returns-clause-filters g c =
+    filters c.args.self.now.buckets (g.R.LayoutNumber.whole c.args.range.min) (g.R.LayoutNumber.whole c.args.range.max) (rw (← c.self.view_is) c.bucket-first.ensures.wide) c.requires

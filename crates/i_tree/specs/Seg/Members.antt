@@ -1,0 +1,45 @@
+-- What a tree of segments holds: a bag of values, each over some buckets. Lists of members are bags: their order is open.
+use Rattle.std.specs.Prelude.{◌≢◌, ℤ, Bool, true, if◌then◌else◌, List, ◌∷◌, map, filter, MatchOption, ⊤}
+use Rattle.std.specs.Ordering.{is_ge}
+use Rattle.std.specs.declared.cmp.Ordering.{Ordering}
+use Rattle.std.specs.declared.cmp.Ordering.TheVariants.{Less}
+use Rattle.std.specs.declared.option.Option.{Option}
+use Rattle.std.specs.declared.option.Option.TheVariants.{None, Some}
+use Rattle.i_tree.specs.Seg.Buckets.{Buckets, Interval, interval, overlap}
+
+-- a value over the buckets of its range
+pub record Member (V : Type 0) : Type 0 where
+  pub interval : Interval
+  pub value : V
+
+-- the value over the range from the low to the high number
+abbrev pub member_over : {V : Type 0} → Buckets → ℤ → ℤ → V → Member V
+member_over buckets low high value = record { interval = interval buckets low high; value = value }
+
+-- `expiration` gives a value's expiration, and `cmp` compares expirations.
+module _ {E V : Type 0} (expiration : V → E) (cmp : E → E → Ordering) where
+  -- a value is live at each time up to its expiration, and still at the equal moment
+  abbrev pub is_live : E → V → Bool
+  is_live time value = is_ge (cmp (expiration value) time)
+
+  -- a value is live at the latest time; where no time has come yet, each is
+  abbrev pub is_live_yet : Option E → V → Bool
+  is_live_yet None value = true
+  is_live_yet (Some time) value = is_live time value
+
+  -- the members that are live at a time
+  abbrev pub live_members : E → List (Member V) → List (Member V)
+  live_members time members = filter (λ member. is_live time member.value) members
+
+  -- the members and one more, which joins them where it is live at the latest time
+  abbrev pub with_member : Option E → Member V → List (Member V) → List (Member V)
+  with_member latest member members = if is_live_yet latest member.value then member ∷ members else members
+
+  -- the answer to a query, in some order: the values of the members that are live at its time and overlap its interval
+  abbrev pub answer : E → Interval → List (Member V) → List V
+  answer time asked members =
+      map (λ member. member.value) (filter (λ member. overlap member.interval asked) (live_members time members))
+
+-- the time is not before the latest one
+abbrev pub NotBefore : {E : Type 0} → (E → E → Ordering) → Option E → E → Type 0
+NotBefore cmp latest time = MatchOption latest ⊤ (λ last. cmp time last ≢ Less)

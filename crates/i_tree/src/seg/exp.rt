@@ -1,0 +1,54 @@
+ghost use Rattle.std.specs.Prelude.{◌≡◌, List, [], OnOk, OnErr, IfErr, IsPermutation};
+ghost use Rattle.std.specs.declared.option.Option.{Option};
+ghost use Rattle.std.specs.declared.option.Option.TheVariants.{None};
+ghost use Rattle.i_tree.specs.declared.Refusal.TheVariants.{OutOfMemory};
+ghost use Rattle.i_tree.specs.Seg.Buckets.{Buckets, Accepts, Filters};
+ghost use Rattle.i_tree.specs.Seg.Members.{Member, member_over, with_member};
+
+use crate::{Expiration, ExpiredVal, LayoutNumber, Refusal};
+
+/// A range of numbers. Both ends are of it.
+#[derive(Clone, Copy, Debug)]
+pub struct SegRange<R> {
+    /// The least number of the range.
+    pub min: R,
+    /// The greatest number of the range.
+    pub max: R,
+}
+
+/// A collection of segments: values over ranges of numbers, that expire.
+///
+/// A value is live at each time up to its expiration, and still at the equal moment. The range that a collection is over
+/// is cut into at most 32 buckets of one width, and a segment counts as the buckets that its range meets. So segments
+/// that overlap are never missed, and one that is found lies less than a width away.
+///
+/// The rules are those of the Rust crate `i_tree`, but for the condition of `insert_by_range` and the refusals.
+pub trait SegExpCollection<R: LayoutNumber, E: Expiration, V: ExpiredVal<E>> {
+    /// The range that the collection is over, and the width of its buckets.
+    ghost buckets: { Self → Buckets };
+
+    /// The time of the last query, if one came since the collection was made or cleared.
+    ghost latest: { Self → Option E };
+
+    /// What is stored and live at the latest time, as a bag: each value with the buckets of its range.
+    ghost members: { Self → List (Member V) };
+
+    /// Stores the value over the range, whatever its expiration.
+    ///
+    /// The condition is that the range is accepted: it goes upwards and lies in the collection's own. It is refused only
+    /// where a growth was, and that changes nothing.
+    fn insert_by_range(&mut self, range: SegRange<R>, val: V) -> Result<(), Refusal>
+        requires { Accepts (buckets self.old) (R.whole range.min) (R.whole range.max) }
+        ensures ok { OnOk result (IsPermutation (with_member V.expiration E.cmp (latest self.old) (member_over (buckets self.old) (R.whole range.min) (R.whole range.max) val) (members self.old)) (members self.new)) }
+        ensures err { OnErr result (members self.new ≡ members self.old) }
+        ensures refused { IfErr result (λ cause. cause ≡ OutOfMemory) }
+        ensures latest { latest self.new ≡ latest self.old }
+        ensures buckets { buckets self.new ≡ buckets self.old }
+        ensures filters { Filters (buckets self.old) (R.whole range.min) (R.whole range.max) };
+
+    /// Removes every value, and forgets the time of the last query.
+    fn clear(&mut self)
+        ensures empty { members self.new ≡ [] }
+        ensures latest { latest self.new ≡ None }
+        ensures buckets { buckets self.new ≡ buckets self.old };
+}
