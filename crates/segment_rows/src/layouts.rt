@@ -1,0 +1,67 @@
+//! Which ranges have a layout, what a tree accepts, and the laws of layout numbers.
+
+use crate::short_number::Short;
+use crate::trees::{Tree, assert_places, insert, tree_over};
+use crate::until::number;
+use i_tree::seg::exp::SegRange;
+use i_tree::{LayoutNumber, LayoutUInt};
+use std::alloc::Global;
+use std::test::Fail;
+
+// Whether the range has a layout.
+fn has_layout<R: LayoutNumber>(alloc: Global, min: R, max: R) -> Result<bool, Fail> {
+    let made: Option<Tree<R, Global>> = Tree::new(alloc, SegRange { min, max })?;
+    Ok(made.is_some())
+}
+
+#[test]
+fn spans_and_offsets_are_differences(rt: HostRuntime) {
+    assert_eq!(rt; i8::range_span(-128, 127), Some(255));
+    assert_eq!(rt; i8::range_span(5, 4), None);
+    assert_eq!(rt; LayoutNumber::offset_from(-1i8, -128), 127);
+    assert_eq!(rt;
+        i64::range_span(i64::MIN, i64::MAX),
+        Some(18446744073709551615)
+    );
+    assert_eq!(rt; LayoutUInt::ilog2(31u32), 4);
+    assert_eq!(rt; LayoutUInt::ilog2(32u32), 5);
+}
+
+#[test]
+fn ranges_below_a_span_of_31_have_no_layout(rt: HostRuntime) -> Result<(), Fail> {
+    assert!(rt; !has_layout(rt.alloc(), 0, 30)?);
+    assert!(rt; !has_layout(rt.alloc(), 5, 4)?);
+    assert!(rt; has_layout(rt.alloc(), 0, 31)?);
+    assert!(rt; has_layout(rt.alloc(), i64::MIN, i64::MAX)?);
+    Ok(())
+}
+
+#[test]
+fn a_number_type_of_ones_own_sets_its_least_span(rt: HostRuntime) -> Result<(), Fail> {
+    assert!(rt; !has_layout(rt.alloc(), Short::new(0), Short::new(15))?);
+    let mut ones = tree_over(rt.alloc(), Short::new(0), Short::new(16))?;
+    insert(&rt, &mut ones, Short::new(15), Short::new(16), number(7))?;
+    assert_places(&rt, rt.alloc(), &ones, &[46, 47])?;
+    let mut pairs = tree_over(rt.alloc(), Short::new(0), Short::new(40))?;
+    insert(&rt, &mut pairs, Short::new(40), Short::new(40), number(7))?;
+    assert_places(&rt, rt.alloc(), &pairs, &[51])?;
+    Ok(())
+}
+
+#[test]
+fn accepts_ranges_that_go_upwards_in_its_own(rt: HostRuntime) -> Result<(), Fail> {
+    let tree = tree_over(rt.alloc(), 0, 128)?;
+    for (min, max, accepted) in [
+        (0, 128, true),
+        (-1, 5, false),
+        (5, 4, false),
+        (128, 129, false),
+    ] {
+        assert_eq!(rt;
+            tree.accepts(SegRange { min, max }),
+            accepted,
+            "{min} to {max}"
+        );
+    }
+    Ok(())
+}

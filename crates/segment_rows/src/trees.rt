@@ -1,0 +1,62 @@
+//! Trees of segments, as these tests make and read them.
+
+use crate::until::Until;
+use i_tree::seg::exp::{SegExpCollection, SegRange};
+use i_tree::seg::tree::SegExpTree;
+use i_tree::{LayoutNumber, Refusal};
+use std::alloc::{Allocator, Global};
+use std::process::Abort;
+use std::test::Fail;
+
+pub type Tree<R, A> = SegExpTree<R, i32, Until, A>;
+
+/// An empty tree over the range, which has a layout.
+pub fn tree_over<R: LayoutNumber, A: Allocator + Copy>(
+    alloc: A,
+    min: R,
+    max: R,
+) -> Result<Tree<R, A>, Fail> {
+    match SegExpTree::new(alloc, SegRange { min, max })? {
+        Some(tree) => Ok(tree),
+        None => Err(Fail::from("the range has no layout")),
+    }
+}
+
+/// Inserts the value over a range that the tree accepts.
+pub fn insert<R: LayoutNumber, A: Allocator + Copy>(
+    rt: &impl Abort,
+    tree: &mut Tree<R, A>,
+    min: R,
+    max: R,
+    value: Until,
+) -> Result<(), Refusal> {
+    let range = SegRange { min, max };
+    assert!(rt; tree.accepts(range));
+    tree.insert_by_range(range, value)
+}
+
+/// The node of each copy, by rising node.
+pub fn places<R: LayoutNumber, A: Allocator + Copy>(
+    alloc: Global,
+    tree: &Tree<R, A>,
+) -> Result<Vec<u32>, Fail> {
+    let mut nodes = Vec::new(alloc);
+    for node in 0..64 {
+        for _ in tree.chunk(node) {
+            nodes.push(node)?;
+        }
+    }
+    Ok(nodes)
+}
+
+/// Asserts that the tree has a copy at each of these nodes, by rising node, and no other.
+pub fn assert_places<R: LayoutNumber, A: Allocator + Copy>(
+    rt: &impl Abort,
+    alloc: Global,
+    tree: &Tree<R, A>,
+    nodes: &[u32],
+) -> Result<(), Fail> {
+    let found = places(alloc, tree)?;
+    assert_eq!(rt; found.as_slice(), nodes);
+    Ok(())
+}
