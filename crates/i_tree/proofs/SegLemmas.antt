@@ -1,17 +1,23 @@
 -- Lemmas on layout numbers, buckets, heap nodes and masks.
 pub mod Among
+pub mod Asking
 pub mod Bags
 pub mod Chunks
+pub mod Collecting
 pub mod Empty
 pub mod Filters
 pub mod Found
 pub mod Inserting
+pub mod Later
 pub mod Lent
 pub mod Masks
 pub mod NodesOf
+pub mod NodesWalk
 pub mod NodesWhere
 pub mod Numbers
 pub mod Placing
+pub mod Removed
 pub mod Tests
+pub mod Walk
 pub mod Widths
 pub mod Worked

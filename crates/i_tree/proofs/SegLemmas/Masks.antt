@@ -32,6 +32,10 @@ all_below : every_interval (λ first last. ltb (place_set (between first last)) 
 unfolding every_interval every_below nodes_where mask_below covered is_covered is_placed
 all_below = refl
 
+all_met_below : every_interval (λ first last. ltb (meeting_set (between first last)) (2 ^ (32 + last))) ≡ true
+unfolding every_interval every_below nodes_where mask_below covered is_met
+all_met_below = refl
+
 all_decode : every_interval (λ first last. nat_eq (interval_of (place_set (between first last))).first first && nat_eq (interval_of (place_set (between first last))).last last) ≡ true
 unfolding every_interval every_below nodes_where mask_below covered is_covered is_placed nodes_of nodes_from interval_of
 all_decode = refl
@@ -60,6 +64,12 @@ module _ (first last : ℕ) (order : first ≤ last) (within : last < 32) where
   pub placed-below : place_set (between first last) < 2 ^ (32 + last)
   placed-below =
       let passed = every_interval-at (λ (first last : ℕ). ltb (place_set (between first last)) (2 ^ (32 + last))) all_below first last order within in
+      grind (arith, nat_tests)
+
+  -- nor has a meeting set
+  pub met-below : meeting_set (between first last) < 2 ^ (32 + last)
+  met-below =
+      let passed = every_interval-at (λ (first last : ℕ). ltb (meeting_set (between first last)) (2 ^ (32 + last))) all_met_below first last order within in
       grind (arith, nat_tests)
 
   -- the interval can be read from its place set

@@ -16,6 +16,10 @@ pub record Member (V : Type 0) : Type 0 where
 abbrev pub member_over : {V : Type 0} → Buckets → ℤ → ℤ → V → Member V
 member_over buckets low high value = record { interval = interval buckets low high; value = value }
 
+-- the values of members
+abbrev pub values_of : {V : Type 0} → List (Member V) → List V
+values_of members = map (λ member. member.value) members
+
 -- `expiration` gives a value's expiration, and `cmp` compares expirations.
 module _ {E V : Type 0} (expiration : V → E) (cmp : E → E → Ordering) where
   -- a value is live at each time up to its expiration, and still at the equal moment
@@ -38,7 +42,7 @@ module _ {E V : Type 0} (expiration : V → E) (cmp : E → E → Ordering) wher
   -- the answer to a query, in some order: the values of the members that are live at its time and overlap its interval
   abbrev pub answer : E → Interval → List (Member V) → List V
   answer time asked members =
-      map (λ member. member.value) (filter (λ member. overlap member.interval asked) (live_members time members))
+      values_of (filter (λ member. overlap member.interval asked) (live_members time members))
 
 -- the time is not before the latest one
 abbrev pub NotBefore : {E : Type 0} → (E → E → Ordering) → Option E → E → Type 0

@@ -1,11 +1,12 @@
-ghost use Rattle.std.specs.Prelude.{◌≡◌, List, [], OnOk, OnErr, IfErr, IsPermutation};
+ghost use Rattle.std.specs.Prelude.{◌≡◌, ◌++◌, List, [], OnOk, OnErr, IfErr, IsPermutation};
 ghost use Rattle.std.specs.declared.option.Option.{Option};
-ghost use Rattle.std.specs.declared.option.Option.TheVariants.{None};
+ghost use Rattle.std.specs.declared.option.Option.TheVariants.{None, Some};
 ghost use Rattle.i_tree.specs.declared.Refusal.TheVariants.{OutOfMemory};
-ghost use Rattle.i_tree.specs.Seg.Buckets.{Buckets, Accepts, Filters};
-ghost use Rattle.i_tree.specs.Seg.Members.{Member, member_over, with_member};
+ghost use Rattle.i_tree.specs.Seg.Buckets.{Buckets, Accepts, Filters, interval};
+ghost use Rattle.i_tree.specs.Seg.Members.{Member, NotBefore, answer, live_members, member_over, with_member};
 
 use crate::{Expiration, ExpiredVal, LayoutNumber, Refusal};
+use std::alloc::Allocator;
 
 /// A range of numbers. Both ends are of it.
 #[derive(Clone, Copy, Debug)]
@@ -45,6 +46,26 @@ pub trait SegExpCollection<R: LayoutNumber, E: Expiration, V: ExpiredVal<E>> {
         ensures latest { latest self.new ≡ latest self.old }
         ensures buckets { buckets self.new ≡ buckets self.old }
         ensures filters { Filters (buckets self.old) (R.whole range.min) (R.whole range.max) };
+
+    /// Appends the values that are live at the time and whose buckets overlap those of the range, each once, in open order.
+    ///
+    /// The conditions are that the range is accepted, and that the time is not before the latest one. The latest time is
+    /// then this one, and the members are those that are live at it, also where it is refused: that is only where `out`
+    /// couldn't grow, and leaves it as it was.
+    fn collect_by_range<B: Allocator>(
+        &mut self,
+        range: SegRange<R>,
+        time: E,
+        out: &mut Vec<V, B>,
+    ) -> Result<(), Refusal>
+        requires accepted { Accepts (buckets self.old) (R.whole range.min) (R.whole range.max) }
+        requires in_time { NotBefore E.cmp (latest self.old) time }
+        ensures ok { OnOk result ((found : List V) × IsPermutation (answer V.expiration E.cmp time (interval (buckets self.old) (R.whole range.min) (R.whole range.max)) (members self.old)) found × (out.new.items ≡ out.old.items ++ found)) }
+        ensures err { OnErr result (out.new.items ≡ out.old.items) }
+        ensures refused { IfErr result (λ cause. cause ≡ OutOfMemory) }
+        ensures members { IsPermutation (live_members V.expiration E.cmp time (members self.old)) (members self.new) }
+        ensures latest { latest self.new ≡ Some time }
+        ensures buckets { buckets self.new ≡ buckets self.old };
 
     /// Removes every value, and forgets the time of the last query.
     fn clear(&mut self)

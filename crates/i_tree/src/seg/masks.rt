@@ -297,7 +297,8 @@ pub fn place_mask(first: u32, last: u32) -> u64
 pub fn meeting_mask(first: u32, last: u32) -> u64
     requires order { first ≤ last }
     requires within { last < 32 }
-    ensures { result ≡ meeting_set (between first last) }
+    ensures value { result ≡ meeting_set (between first last) }
+    ensures below { result < 2 ^ (32 + last) }
 {
     reach(first) & begin(last)
 }

@@ -1,14 +1,16 @@
-ghost use Rattle.std.specs.Prelude.{◌≡◌, ◌≤◌, ◌+◌, [], ◌↔◌, IsTrue, IsOk, IfOk, IfErr, OnOk, OnErr, MatchOption, IfSome, IsPermutation};
-ghost use Rattle.std.specs.declared.option.Option.TheVariants.{None};
+ghost use Rattle.std.specs.Prelude.{◌≡◌, ◌≤◌, ◌+◌, ◌++◌, List, [], ◌↔◌, IsTrue, IsOk, IfOk, IfErr, OnOk, OnErr, MatchOption, IfSome, IsPermutation};
+ghost use Rattle.std.specs.declared.option.Option.TheVariants.{None, Some};
 ghost use Rattle.i_tree.specs.declared.Refusal.TheVariants.{OutOfMemory};
-ghost use Rattle.i_tree.specs.Seg.Buckets.{HasLayout, IsLayout, Accepts, Filters, chunk_count};
+ghost use Rattle.i_tree.specs.Seg.Buckets.{HasLayout, IsLayout, Accepts, Filters, chunk_count, interval};
 ghost use Rattle.i_tree.specs.Seg.Copies.{chunk_at, copies_at, live_copies, stored_copies};
-ghost use Rattle.i_tree.specs.Seg.Members.{member_over, with_member};
+ghost use Rattle.i_tree.specs.Seg.Members.{NotBefore, answer, live_members, member_over, with_member};
 
 use super::chunk::{clear_chunks, empty_chunks, make_room, place_copies};
 use super::exp::{SegExpCollection, SegRange};
+pub use super::iterating::SegExpTreeIterator;
 use super::layout::Layout;
 use super::masks::place_mask;
+use crate::steps::Uncounted;
 use crate::{Expiration, ExpiredVal, LayoutNumber, Refusal};
 use std::alloc::Allocator;
 use std::marker::Model;
@@ -20,11 +22,11 @@ use std::marker::Model;
 /// each node. A query drops the copies that it reads and that are no longer live; what no query reads stays stored.
 #[derive(Drop)]
 pub struct SegExpTree<R: LayoutNumber, E: Expiration, V: ExpiredVal<E>, A: Allocator + Copy> {
-    layout: Layout<R>,
+    pub(super) layout: Layout<R>,
     // The copies at each node, from node 0 on. Nodes beyond the leaf of the last bucket have no chunk.
-    chunks: Vec<Vec<(u64, V), A>, A>,
+    pub(super) chunks: Vec<Vec<(u64, V), A>, A>,
     // The time of the last query.
-    latest: Option<E>,
+    pub(super) latest: Option<E>,
 }
 
 impl<R: LayoutNumber, E: Expiration, V: ExpiredVal<E>, A: Allocator + Copy> Model
@@ -131,6 +133,27 @@ impl<R: LayoutNumber, E: Expiration, V: ExpiredVal<E>, A: Allocator + Copy> SegE
         make_room(&mut self.chunks, mask)?;
         place_copies(&mut self.chunks, mask, val);
         Ok(())
+    }
+
+    /// Appends what a walk finds, and drops the copies that it reads and that are no longer live. It asks for memory for
+    /// `out` alone.
+    fn collect_by_range<B: Allocator>(
+        &mut self,
+        range: SegRange<R>,
+        time: E,
+        out: &mut Vec<V, B>,
+    ) -> Result<(), Refusal>
+        requires accepted { Accepts self.old.buckets (R.whole range.min) (R.whole range.max) }
+        requires in_time { NotBefore E.cmp self.old.latest time }
+        ensures ok { OnOk result ((found : List V) × IsPermutation (answer V.expiration E.cmp time (interval self.old.buckets (R.whole range.min) (R.whole range.max)) self.old.members) found × (out.new.items ≡ out.old.items ++ found)) }
+        ensures err { OnErr result (out.new.items ≡ out.old.items) }
+        ensures refused { IfErr result (λ cause. cause ≡ OutOfMemory) }
+        ensures members { IsPermutation (live_members V.expiration E.cmp time self.old.members) self.new.members }
+        ensures latest { self.new.latest ≡ Some time }
+        ensures buckets { self.new.buckets ≡ self.old.buckets }
+        ensures fewer { stored_copies self.new.chunks ≤ stored_copies self.old.chunks }
+    {
+        self.collect_by_range_counted(&mut Uncounted, range, time, out)
     }
 
     /// Removes every copy, live or not, and keeps the room.

@@ -1,0 +1,32 @@
+-- What contracts see of an iterator over the values that a query finds.
+use Rattle.std.specs.Prelude.{◌≡◌, ◌<◌, ◌≤◌, ◌^◌, List, [], ◌∷◌, length, IsPermutation, MatchOption}
+use Rattle.std.specs.declared.cmp.Ordering.{Ordering}
+use Rattle.std.specs.declared.option.Option.{Option}
+use Rattle.std.specs.declared.option.Option.TheVariants.{Some}
+use Rattle.i_tree.specs.declared.seg.iterating.SegExpTreeIterator.{SegExpTreeIterator}
+use Rattle.i_tree.specs.Seg.Copies.{stored_copies}
+use Rattle.i_tree.specs.Seg.Members.{values_of}
+use Rattle.i_tree.specs.Seg.Walk.{to_come}
+
+-- `U` is the unsigned type of the layout numbers.
+module _ {R E V A U : Type 0} where
+  -- the values that the walk still yields, in some order
+  abbrev pub still_to_come : (V → E) → (E → E → Ordering) → SegExpTreeIterator R E V A U → List V
+  still_to_come expiration cmp walk =
+      values_of (to_come expiration cmp walk.time walk.asked walk.cursor.left walk.cursor.index walk.tree.now.chunks)
+
+  -- the walk may go on: the latest time of the tree is the walk's, and there is a chunk for each node that is left
+  pub record CanGo (walk : SegExpTreeIterator R E V A U) : Type 0 where
+    pub few : length walk.tree.now.chunks ≤ 63
+    pub within : walk.cursor.left < 2 ^ length walk.tree.now.chunks
+    pub latest : walk.tree.now.latest ≡ Some walk.time
+
+  -- A step of the walk: it yields one of the values that were still to come, or `None` where none was. The tree is the same,
+  -- with its latest time, its buckets, and its members as a bag; copies that are no longer live may be gone.
+  pub record GivesNext (expiration : V → E) (cmp : E → E → Ordering) (walk : SegExpTreeIterator R E V A U) (found : Option V) (after : SegExpTreeIterator R E V A U) : Type 0 where
+    pub yields : MatchOption found ((still_to_come expiration cmp walk ≡ []) × (still_to_come expiration cmp after ≡ [])) (λ value. IsPermutation (still_to_come expiration cmp walk) (value ∷ still_to_come expiration cmp after))
+    pub tree : after.tree.ghost_name ≡ walk.tree.ghost_name
+    pub latest : after.tree.now.latest ≡ walk.tree.now.latest
+    pub buckets : after.tree.now.buckets ≡ walk.tree.now.buckets
+    pub members : IsPermutation walk.tree.now.members after.tree.now.members
+    pub copies : stored_copies after.tree.now.chunks ≤ stored_copies walk.tree.now.chunks

@@ -1,0 +1,71 @@
+// Whether a query may be made, and its steps: it sets the latest time, and goes on from one value that it finds to the next.
+
+ghost use Rattle.std.specs.Prelude.{◌≡◌, ◌<◌, ◌≤◌, ◌*◌, ◌^◌, ◌↔◌, [], ◌∷◌, IsTrue, length, MatchOption, IsPermutation};
+ghost use Rattle.std.specs.declared.option.Option.TheVariants.{Some};
+ghost use Rattle.i_tree.specs.Seg.Buckets.{Accepts, interval};
+ghost use Rattle.i_tree.specs.Seg.Copies.{stored_copies};
+ghost use Rattle.i_tree.specs.Seg.Members.{Member, NotBefore, answer, live_members, values_of};
+ghost use Rattle.i_tree.specs.Seg.Nodes.{nodes_of};
+ghost use Rattle.i_tree.specs.Seg.Walk.{to_come, live_from, Reads};
+
+use super::exp::SegRange;
+use super::masks::meeting_mask;
+use super::tree::SegExpTree;
+use super::walk::{Cursor, next_value};
+use crate::steps::Counter;
+use crate::{Expiration, ExpiredVal, LayoutNumber};
+use std::alloc::Allocator;
+
+impl<R: LayoutNumber, E: Expiration, V: ExpiredVal<E>, A: Allocator + Copy> SegExpTree<R, E, V, A> {
+    /// Whether the time is not before the latest one: the test of the condition of queries. It is our own.
+    pub fn is_in_time(&self, time: E) -> bool
+        ensures { IsTrue result ↔ NotBefore E.cmp self.now.latest time }
+    {
+        match self.latest {
+            Some(latest) => time >= latest,
+            None => true,
+        }
+    }
+
+    // Sets the latest time, and answers the nodes at which values that overlap the range may be placed.
+    pub(super) fn ask(&mut self, range: SegRange<R>, time: E) -> u64
+        requires accepted { Accepts self.old.buckets (R.whole range.min) (R.whole range.max) }
+        requires in_time { NotBefore E.cmp self.old.latest time }
+        ensures few { length self.new.chunks ≤ 63 }
+        ensures within { result < 2 ^ length self.new.chunks }
+        ensures latest { self.new.latest ≡ Some time }
+        ensures buckets { self.new.buckets ≡ self.old.buckets }
+        ensures chunks { self.new.chunks ≡ self.old.chunks }
+        ensures members { IsPermutation (live_members V.expiration E.cmp time self.old.members) self.new.members }
+        ensures found { IsPermutation (answer V.expiration E.cmp time (interval self.old.buckets (R.whole range.min) (R.whole range.max)) self.old.members) (values_of (to_come V.expiration E.cmp time result result 0 self.new.chunks)) }
+        ensures reads { live_from V.expiration E.cmp time 0 (nodes_of result) self.new.chunks ≤ 8 * length (to_come V.expiration E.cmp time result result 0 self.new.chunks) }
+    {
+        let first = self.layout.bucket(range.min);
+        let last = self.layout.bucket(range.max);
+        self.latest = Some(time);
+        meeting_mask(first, last)
+    }
+
+    // Goes on to the next value that is found, of the copies that are live at the latest time.
+    pub(super) fn next_found<C: Counter>(
+        &mut self,
+        cursor: &mut Cursor,
+        asked: u64,
+        time: E,
+        steps: &mut C,
+    ) -> Option<V>
+        requires few { length self.old.chunks ≤ 63 }
+        requires within { cursor.old.left < 2 ^ length self.old.chunks }
+        requires latest { self.old.latest ≡ Some time }
+        ensures count { length self.new.chunks ≡ length self.old.chunks }
+        ensures within { cursor.new.left < 2 ^ length self.new.chunks }
+        ensures found { MatchOption result (to_come V.expiration E.cmp time asked cursor.old.left cursor.old.index self.old.chunks ≡ []) (λ value. (member : Member V) × (member.value ≡ value) × IsPermutation (to_come V.expiration E.cmp time asked cursor.old.left cursor.old.index self.old.chunks) (member ∷ to_come V.expiration E.cmp time asked cursor.new.left cursor.new.index self.new.chunks)) }
+        ensures ended { result ≡ None → cursor.new.left ≡ 0 }
+        ensures latest { self.new.latest ≡ self.old.latest }
+        ensures buckets { self.new.buckets ≡ self.old.buckets }
+        ensures members { IsPermutation self.old.members self.new.members }
+        ensures steps { Reads C.made steps.old steps.new (live_from V.expiration E.cmp time cursor.old.index (nodes_of cursor.old.left) self.old.chunks) (live_from V.expiration E.cmp time cursor.new.index (nodes_of cursor.new.left) self.new.chunks) (stored_copies self.old.chunks) (stored_copies self.new.chunks) }
+    {
+        next_value(&mut self.chunks, cursor, asked, time, steps)
+    }
+}
