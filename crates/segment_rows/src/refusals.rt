@@ -1,7 +1,7 @@
 //! Refused requests for memory, and calls that make none.
 
-use crate::trees::{Tree, assert_places, insert, places, tree_over};
-use crate::until::number;
+use crate::trees::{Tree, assert_places, collect, found, insert, places, tree_over};
+use crate::until::{Until, number};
 use i_tree::Refusal;
 use i_tree::seg::exp::{SegExpCollection, SegRange};
 use refusing::Refusing;
@@ -105,10 +105,70 @@ fn asks_for_no_memory_but_where_it_may_be_refused(rt: HostRuntime) -> Result<(),
     assert!(rt; tree.accepts(SegRange { min: 0, max: 31 }));
     assert_eq!(rt; tree.latest_time(), None);
     assert_eq!(rt; tree.chunk(4).len(), 1);
+    let range = SegRange { min: 0, max: 31 };
+    assert_eq!(rt; tree.iter_by_range(range, 11).next(), None);
+    assert_eq!(rt; tree.chunk(4).len(), 0);
     tree.clear();
     assert_eq!(rt; tree.chunk(4).len(), 0);
     insert(&rt, &mut tree, 1, 30, number(8))?;
     assert_eq!(rt; tree.chunk(4).len(), 1);
     assert_eq!(rt; memory.requests(), 0);
     Ok(())
+}
+
+#[test]
+fn finds_nothing_of_an_insertion_that_was_refused(rt: HostRuntime) -> Result<(), Fail> {
+    let memory = Refusing::new(rt.alloc());
+    for nth in [1, 4] {
+        memory.refuse_none();
+        let mut tree = tree_over(&memory, 0, 31)?;
+        memory.refuse_nth(nth);
+        assert_eq!(rt;
+            insert(&rt, &mut tree, 1, 30, number(7)),
+            Err(Refusal::OutOfMemory)
+        );
+        assert_eq!(rt; found(&rt, rt.alloc(), &mut tree, 0, 31, 0)?.len(), 0);
+    }
+    Ok(())
+}
+
+#[test]
+fn keeps_out_and_all_that_is_live_where_a_query_is_refused(rt: HostRuntime) -> Result<(), Fail> {
+    let memory = Refusing::new(rt.alloc());
+    let mut tree = tree_over(rt.alloc(), 0, 128)?;
+    insert(&rt, &mut tree, 0, 0, number(7))?;
+    let mut out: Vec<Until, &Refusing<Global>> = Vec::new(&memory);
+    memory.refuse_nth(1);
+    let answer = collect(&rt, &mut tree, 0, 0, 5, &mut out);
+    assert_eq!(rt; answer, Err(Refusal::OutOfMemory));
+    assert_eq!(rt; out.len(), 0);
+    assert_eq!(rt; tree.latest_time(), Some(5));
+    collect(&rt, &mut tree, 0, 0, 5, &mut out)?;
+    assert_eq!(rt; out.as_slice(), [number(7)].as_slice());
+    Ok(())
+}
+
+#[test]
+fn collects_all_or_nothing(rt: HostRuntime) -> Result<(), Fail> {
+    let memory = Refusing::new(rt.alloc());
+    let mut tree = tree_over(rt.alloc(), 0, 31)?;
+    for value in 0..20 {
+        insert(&rt, &mut tree, 1, 30, number(value))?;
+    }
+    for nth in 1..20 {
+        let mut out: Vec<Until, &Refusing<Global>> = Vec::new(&memory);
+        memory.refuse_nth(nth);
+        let answer = collect(&rt, &mut tree, 0, 31, 0, &mut out);
+        if memory.requests() < nth {
+            assert_eq!(rt; answer, Ok(()));
+            assert_eq!(rt; out.len(), 20);
+            return Ok(());
+        }
+        assert_eq!(rt; answer, Err(Refusal::OutOfMemory));
+        assert_eq!(rt; out.len(), 0);
+        memory.refuse_none();
+        collect(&rt, &mut tree, 0, 31, 0, &mut out)?;
+        assert_eq!(rt; out.len(), 20);
+    }
+    Err(Fail::from("more requests than growths"))
 }

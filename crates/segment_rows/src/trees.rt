@@ -60,3 +60,39 @@ pub fn assert_places<R: LayoutNumber, A: Allocator + Copy>(
     assert_eq!(rt; found.as_slice(), nodes);
     Ok(())
 }
+
+/// Appends to `out` what a query finds, of a range that the tree accepts, at a time that isn't before the latest.
+pub fn collect<R: LayoutNumber, A: Allocator + Copy, B: Allocator>(
+    rt: &impl Abort,
+    tree: &mut Tree<R, A>,
+    min: R,
+    max: R,
+    time: i32,
+    out: &mut Vec<Until, B>,
+) -> Result<(), Refusal> {
+    let range = SegRange { min, max };
+    assert!(rt; tree.accepts(range));
+    if let Some(latest) = tree.latest_time() {
+        assert!(rt; latest <= time);
+    }
+    tree.collect_by_range(range, time, out)
+}
+
+/// The numbers that a query finds, in rising order.
+pub fn found<R: LayoutNumber, A: Allocator + Copy>(
+    rt: &impl Abort,
+    alloc: Global,
+    tree: &mut Tree<R, A>,
+    min: R,
+    max: R,
+    time: i32,
+) -> Result<Vec<i32>, Fail> {
+    let mut values = Vec::new(alloc);
+    collect(rt, tree, min, max, time, &mut values)?;
+    let mut numbers = Vec::new(alloc);
+    for value in &values {
+        numbers.push(value.number)?;
+    }
+    numbers.sort_unstable();
+    Ok(numbers)
+}

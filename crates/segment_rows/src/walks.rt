@@ -1,0 +1,227 @@
+//! Walks over segments: what a query finds, and what it leaves.
+
+use crate::trees::{Tree, collect, found, insert, tree_over};
+use crate::until::{Ticking, Until, number};
+use i_tree::seg::exp::{SegExpCollection, SegRange};
+use i_tree::seg::tree::SegExpTree;
+use std::alloc::{Allocator, Global};
+use std::cell::Cell;
+use std::process::Abort;
+use std::test::Fail;
+
+// Two values over 0 to 128 that overlap 15 to 90.
+fn two_values<A: Allocator + Copy>(rt: &impl Abort, alloc: A) -> Result<Tree<i32, A>, Fail> {
+    let mut tree = tree_over(alloc, 0, 128)?;
+    insert(rt, &mut tree, 10, 100, number(1))?;
+    insert(rt, &mut tree, 20, 80, number(2))?;
+    Ok(tree)
+}
+
+#[test]
+fn finds_what_lies_in_the_same_bucket(rt: HostRuntime) -> Result<(), Fail> {
+    let mut tree = tree_over(rt.alloc(), 0, 128)?;
+    insert(&rt, &mut tree, 0, 0, number(7))?;
+    assert_eq!(rt;
+        found(&rt, rt.alloc(), &mut tree, 7, 7, 0)?.as_slice(),
+        [7].as_slice()
+    );
+    assert_eq!(rt; found(&rt, rt.alloc(), &mut tree, 8, 8, 0)?.len(), 0);
+    insert(&rt, &mut tree, 0, 0, number(7))?;
+    assert_eq!(rt;
+        found(&rt, rt.alloc(), &mut tree, 7, 7, 0)?.as_slice(),
+        [7, 7].as_slice()
+    );
+    Ok(())
+}
+
+#[test]
+fn finds_nothing_between_two_values_and_each_that_it_meets_once(
+    rt: HostRuntime,
+) -> Result<(), Fail> {
+    let mut apart = tree_over(rt.alloc(), 0, 128)?;
+    insert(&rt, &mut apart, 10, 20, number(1))?;
+    insert(&rt, &mut apart, 80, 100, number(2))?;
+    assert_eq!(rt; found(&rt, rt.alloc(), &mut apart, 40, 60, 0)?.len(), 0);
+    let mut tree = two_values(&rt, rt.alloc())?;
+    assert_eq!(rt;
+        found(&rt, rt.alloc(), &mut tree, 15, 90, 0)?.as_slice(),
+        [1, 2].as_slice()
+    );
+    Ok(())
+}
+
+#[test]
+fn finds_a_value_of_eight_copies_once(rt: HostRuntime) -> Result<(), Fail> {
+    let mut tree = tree_over(rt.alloc(), 0, 31)?;
+    insert(&rt, &mut tree, 1, 30, number(7))?;
+    for (min, max, count) in [(0, 0, 0), (31, 31, 0), (1, 1, 1), (0, 31, 1)] {
+        assert_eq!(rt;
+            found(&rt, rt.alloc(), &mut tree, min, max, 0)?.len(),
+            count,
+            "{min} to {max}"
+        );
+    }
+    Ok(())
+}
+
+#[test]
+fn finds_values_below_zero(rt: HostRuntime) -> Result<(), Fail> {
+    let mut tree = tree_over(rt.alloc(), -10240, 15360)?;
+    insert(&rt, &mut tree, -10240, 10240, number(7))?;
+    assert_eq!(rt;
+        found(&rt, rt.alloc(), &mut tree, -10240, -10240, 0)?.as_slice(),
+        [7].as_slice()
+    );
+    Ok(())
+}
+
+#[test]
+fn finds_a_value_at_the_end_of_its_type(rt: HostRuntime) -> Result<(), Fail> {
+    let mut tree = tree_over(rt.alloc(), 0u8, 255)?;
+    insert(&rt, &mut tree, 255, 255, number(7))?;
+    assert_eq!(rt; found(&rt, rt.alloc(), &mut tree, 248, 248, 0)?.len(), 1);
+    assert_eq!(rt; found(&rt, rt.alloc(), &mut tree, 247, 247, 0)?.len(), 0);
+    Ok(())
+}
+
+#[test]
+fn finds_a_value_up_to_its_expiration(rt: HostRuntime) -> Result<(), Fail> {
+    let mut tree = tree_over(rt.alloc(), 0, 31)?;
+    let first = Until {
+        number: 7,
+        expiration: i32::MIN,
+    };
+    insert(&rt, &mut tree, 0, 0, first)?;
+    assert_eq!(rt; found(&rt, rt.alloc(), &mut tree, 0, 0, i32::MIN)?.len(), 1);
+    assert_eq!(rt;
+        found(&rt, rt.alloc(), &mut tree, 0, 0, i32::MIN + 1)?.len(),
+        0
+    );
+    assert_eq!(rt; tree.chunk(31).len(), 0);
+    Ok(())
+}
+
+#[test]
+fn leaves_all_that_is_live_where_a_walk_is_dropped(rt: HostRuntime) -> Result<(), Fail> {
+    let mut tree = two_values(&rt, rt.alloc())?;
+    let range = SegRange { min: 15, max: 90 };
+    assert!(rt; tree.accepts(range));
+    assert_eq!(rt; tree.latest_time(), None);
+    let first = tree.iter_by_range(range, 0).next();
+    assert!(rt; first.is_some());
+    assert_eq!(rt;
+        found(&rt, rt.alloc(), &mut tree, 15, 90, 0)?.as_slice(),
+        [1, 2].as_slice()
+    );
+    Ok(())
+}
+
+#[test]
+fn sets_the_latest_time_before_any_step(rt: HostRuntime) -> Result<(), Fail> {
+    let mut tree = tree_over(rt.alloc(), 0, 31)?;
+    for value in [1, 2, 3] {
+        let until = Until {
+            number: value,
+            expiration: value - 1,
+        };
+        insert(&rt, &mut tree, 0, 31, until)?;
+    }
+    let range = SegRange { min: 0, max: 31 };
+    assert!(rt; tree.accepts(range));
+    assert_eq!(rt; tree.latest_time(), None);
+    drop(tree.iter_by_range(range, 1));
+    assert_eq!(rt; tree.latest_time(), Some(1));
+    assert_eq!(rt; tree.chunk(0).len(), 3);
+    assert_eq!(rt;
+        found(&rt, rt.alloc(), &mut tree, 0, 31, 1)?.as_slice(),
+        [2, 3].as_slice()
+    );
+    assert_eq!(rt;
+        found(&rt, rt.alloc(), &mut tree, 0, 31, 2)?.as_slice(),
+        [3].as_slice()
+    );
+    tree.clear();
+    assert_eq!(rt; tree.latest_time(), None);
+    Ok(())
+}
+
+#[test]
+fn appends_what_it_collects(rt: HostRuntime) -> Result<(), Fail> {
+    let mut tree = two_values(&rt, rt.alloc())?;
+    let mut out = vec![in rt.alloc(); number(9)]?;
+    collect(&rt, &mut tree, 15, 90, 0, &mut out)?;
+    assert_eq!(rt; out.len(), 3);
+    assert_eq!(rt; out[0], number(9));
+    let mut rest = [out[1].number, out[2].number];
+    rest.sort_unstable();
+    assert_eq!(rt; rest, [1, 2]);
+    Ok(())
+}
+
+#[test]
+fn asks_each_copy_that_it_reads_once(rt: HostRuntime) -> Result<(), Fail> {
+    let ticks = Cell::new(0);
+    let range = SegRange { min: 0, max: 31 };
+    let Some(mut tree) = SegExpTree::new(rt.alloc(), range)? else {
+        return Err(Fail::from("the range has no layout"));
+    };
+    for place in 0..11 {
+        let range = if place == 0 {
+            SegRange { min: 1, max: 30 }
+        } else {
+            SegRange { min: 5, max: 5 }
+        };
+        let value = Ticking {
+            number: place,
+            ticks: &ticks,
+        };
+        assert!(rt; tree.accepts(range));
+        tree.insert_by_range(range, value)?;
+    }
+    let asked = SegRange { min: 20, max: 20 };
+    assert!(rt; tree.accepts(asked));
+    assert_eq!(rt; tree.latest_time(), None);
+    let mut out = Vec::new(rt.alloc());
+    ticks.set(0);
+    tree.collect_by_range(asked, 0, &mut out)?;
+    assert_eq!(rt; out.len(), 1);
+    assert_eq!(rt; out[0].number, 0);
+    assert!(rt; ticks.get() >= 1);
+    assert!(rt; ticks.get() <= 8);
+    Ok(())
+}
+
+#[test]
+fn finds_an_interval_exactly_where_it_overlaps(rt: HostRuntime) -> Result<(), Fail> {
+    let mut tree = tree_over(rt.alloc(), 0, 31)?;
+    for first in 0..32 {
+        for last in first..32 {
+            insert(&rt, &mut tree, first, last, number(first * 32 + last))?;
+        }
+    }
+    for min in 0..32 {
+        for max in min..32 {
+            let numbers = found(&rt, rt.alloc(), &mut tree, min, max, 0)?;
+            assert_eq!(rt;
+                numbers,
+                overlapping(rt.alloc(), min, max)?,
+                "{min} to {max}"
+            );
+        }
+    }
+    Ok(())
+}
+
+// The numbers of the intervals that overlap these buckets, in rising order.
+fn overlapping(alloc: Global, min: i32, max: i32) -> Result<Vec<i32>, Fail> {
+    let mut numbers = Vec::new(alloc);
+    for first in 0..32 {
+        for last in first..32 {
+            let number = first * 32 + last;
+            if first <= max && min <= last {
+                numbers.push(number)?;
+            }
+        }
+    }
+    Ok(numbers)
+}
