@@ -4,6 +4,7 @@ pub mod CountsLate
 pub mod KeyMachine
 pub mod KeyReplies
 pub mod Probes
+pub mod SegMachine
 pub mod Serving
 pub mod SetMachine
 pub mod StandsFor

@@ -3,9 +3,11 @@
 mod agreeing;
 mod key_tree;
 mod keys;
+mod segments;
 mod sets;
 
 pub use agreeing::same_replies;
 pub use key_tree::run_key_tree_counted;
 pub use keys::{KeyCommand, KeyReply, run_keys};
+pub use segments::{SegCommand, SegReply, run_segments};
 pub use sets::{SetCommand, SetReply, run_sets};
