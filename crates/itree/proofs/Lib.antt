@@ -1,3 +1,4 @@
 pub mod Counting
 pub mod Saying
+pub mod Sorting
 pub mod Splitting

@@ -2,6 +2,8 @@ pub mod Grammar
 pub mod KeyLines
 pub mod Modes
 pub mod Replies
+pub mod SegLines
 pub mod SetLines
+pub mod Sorting
 pub mod Texts
 pub mod Words

@@ -1,11 +1,14 @@
 -- The text of replies.
 use Rattle.std.specs.Prelude.{ℕ, ℤ, List, [], ◌∷◌, ◌++◌, codes, flat_map}
 use Rattle.std.specs.Fmt.{signed_decimal}
+use Rattle.itree_lib.specs.SegMachine.{Reply}
+use Rattle.itree_lib.specs.SegMachine.{Reply as seg_reply}
 use Rattle.itree_lib.specs.declared.run.keys.KeyReply.{KeyReply}
 use Rattle.itree_lib.specs.declared.run.keys.KeyReply.TheVariants as key_reply
 use Rattle.itree_lib.specs.declared.run.sets.SetReply.{SetReply}
 use Rattle.itree_lib.specs.declared.run.sets.SetReply.TheVariants as set_reply
 use Rattle.itree.specs.declared.set_key.SetKey.{SetKey}
+use Rattle.itree.specs.declared.timed_val.TimedVal.{TimedVal}
 
 -- the words of a reply to a command of keys that expire
 abbrev pub key_reply_words : KeyReply ℤ → List ℕ
@@ -25,6 +28,19 @@ set_reply_words set_reply.Deleted = codes "deleted"
 set_reply_words set_reply.Absent = codes "absent"
 set_reply_words (set_reply.Key key) = codes "key " ++ signed_decimal key
 set_reply_words set_reply.None = codes "none"
+
+-- the words of the values that a query found
+abbrev pub value_words : List TimedVal → List ℕ
+value_words values = codes "values" ++ flat_map (λ value. codes " " ++ signed_decimal value.val) values
+
+-- the words of a reply to a command of segments
+abbrev pub seg_reply_words : Reply TimedVal → List ℕ
+seg_reply_words seg_reply.Inserted = codes "inserted"
+seg_reply_words seg_reply.Outside = codes "outside"
+seg_reply_words seg_reply.Late = codes "late"
+seg_reply_words seg_reply.Refused = codes "refused"
+seg_reply_words seg_reply.Cleared = codes "cleared"
+seg_reply_words (seg_reply.Values values) = value_words values
 
 -- the lines of the replies, each of which ends with a line feed
 abbrev pub reply_lines : {Reply : Type 0} → (Reply → List ℕ) → List Reply → List ℕ

@@ -1,19 +1,25 @@
 -- What the program answers to a text, in each of its modes.
-use Rattle.std.specs.Prelude.{◌≡◌, ℕ, ℤ, List, []}
+use Rattle.std.specs.Prelude.{◌≡◌, ⊤, ℕ, ℤ, List, [], All}
+use Rattle.std.specs.List.Sorted.{IsSorted}
 use Rattle.std.specs.Ordering.{int_cmp}
 use Rattle.std.specs.declared.cmp.Ordering.{Ordering}
+use Rattle.i_tree.specs.Seg.Buckets.{Buckets, IsLayout}
 use Rattle.itree.specs.Grammar.{lines_of, LinesSay, IsFirstFaulty}
 use Rattle.itree.specs.KeyLines.{KeyLine, SaysKeyCommand}
 use Rattle.itree_lib.specs.KeyMachine as keys
-use Rattle.itree.specs.Replies.{key_reply_words, set_reply_words, reply_lines}
+use Rattle.itree.specs.Replies.{key_reply_words, seg_reply_words, set_reply_words, reply_lines}
+use Rattle.itree.specs.SegLines.{SegLine, SaysSegCommand}
+use Rattle.itree_lib.specs.SegMachine as segments
+use Rattle.itree_lib.specs.SegMachine.{Reply as seg_reply}
 use Rattle.itree.specs.SetLines.{SetLine, SaysSetCommand}
 use Rattle.itree_lib.specs.SetMachine as sets
 use Rattle.itree.specs.declared.mode.Mode.{Mode}
-use Rattle.itree.specs.declared.mode.Mode.TheVariants.{KeyTree, KeyList, SetTree, SetList}
+use Rattle.itree.specs.declared.mode.Mode.TheVariants.{KeyTree, KeyList, SetTree, SetList, Segments}
 use Rattle.itree_lib.specs.declared.run.keys.KeyReply.{KeyReply}
 use Rattle.itree_lib.specs.declared.run.sets.SetReply.{SetReply}
 use Rattle.itree.specs.declared.set_key.SetKey.{SetKey}
 use Rattle.itree.specs.declared.timed_key.TimedKey.{TimedKey}
+use Rattle.itree.specs.declared.timed_val.TimedVal.{TimedVal}
 
 -- keys are compared by `key` alone
 abbrev pub cmp_keys : TimedKey → TimedKey → Ordering
@@ -37,6 +43,28 @@ pub record AnswersSet (values : List SetKey) (commands : List SetLine) (output :
   pub run : sets.Run (λ value. value.key) int_cmp values commands replies end
   pub written : output ≡ reply_lines set_reply_words replies
 
+-- values are compared by `val` alone
+abbrev pub cmp_vals : TimedVal → TimedVal → Ordering
+cmp_vals left right = int_cmp left.val right.val
+
+-- where the reply lists values, they are in rising order
+abbrev pub ListsRising : segments.Reply TimedVal → Type 0
+ListsRising (seg_reply.Values values) = IsSorted cmp_vals values
+ListsRising seg_reply.Inserted = ⊤
+ListsRising seg_reply.Outside = ⊤
+ListsRising seg_reply.Late = ⊤
+ListsRising seg_reply.Refused = ⊤
+ListsRising seg_reply.Cleared = ⊤
+
+-- the output is the lines of replies that are a run of the segment machine over the commands, over these buckets from
+-- nothing on, and that list values in rising order
+pub record AnswersSegments (buckets : Buckets) (commands : List SegLine) (output : List ℕ) : Type 0 where
+  pub replies : List (segments.Reply TimedVal)
+  pub end : segments.State ℤ TimedVal
+  pub run : segments.Run (λ timed. timed.expiration) int_cmp (λ number. number) buckets segments.nothing commands replies end
+  pub rising : All ListsRising replies
+  pub written : output ≡ reply_lines seg_reply_words replies
+
 -- the output answers the key commands that the lines of the text say, from nothing on
 abbrev pub AnswersKeyLines : List ℕ → List ℕ → Type 0
 AnswersKeyLines text output = (commands : List KeyLine) × LinesSay SaysKeyCommand (lines_of text) commands × AnswersKeys [] commands output
@@ -45,12 +73,19 @@ AnswersKeyLines text output = (commands : List KeyLine) × LinesSay SaysKeyComma
 abbrev pub AnswersSetLines : List ℕ → List ℕ → Type 0
 AnswersSetLines text output = (commands : List SetLine) × LinesSay SaysSetCommand (lines_of text) commands × AnswersSet [] commands output
 
+-- the output answers the segment commands that the lines of the text say, over the buckets of the range from nothing on
+abbrev pub AnswersSegLines : ℤ → ℤ → List ℕ → List ℕ → Type 0
+AnswersSegLines min max text output =
+    (commands : List SegLine) × LinesSay SaysSegCommand (lines_of text) commands
+    × (buckets : Buckets) × IsLayout min max buckets × AnswersSegments buckets commands output
+
 -- the output answers the text in the mode; whether a tree or a list is kept makes no difference
 abbrev pub Answers : Mode → List ℕ → List ℕ → Type 0
 Answers KeyTree = AnswersKeyLines
 Answers KeyList = AnswersKeyLines
 Answers SetTree = AnswersSetLines
 Answers SetList = AnswersSetLines
+Answers (Segments min max) = AnswersSegLines min max
 
 -- the line of this number is the first one that is faulty in the mode
 abbrev pub HasFirstFaulty : Mode → List ℕ → ℕ → Type 0
@@ -58,6 +93,7 @@ HasFirstFaulty KeyTree text number = IsFirstFaulty SaysKeyCommand (lines_of text
 HasFirstFaulty KeyList text number = IsFirstFaulty SaysKeyCommand (lines_of text) number
 HasFirstFaulty SetTree text number = IsFirstFaulty SaysSetCommand (lines_of text) number
 HasFirstFaulty SetList text number = IsFirstFaulty SaysSetCommand (lines_of text) number
+HasFirstFaulty (Segments min max) text number = IsFirstFaulty SaysSegCommand (lines_of text) number
 
 -- a line of the text is faulty in the mode
 abbrev pub HasFaultyLine : Mode → List ℕ → Type 0

@@ -1,22 +1,28 @@
 //! What the program answers to a text, in each of its modes.
 
-ghost use Rattle.std.specs.Prelude.{◌≡◌, ◌≢◌, ℕ, IfErr, IfOk, string_bytes};
+ghost use Rattle.std.specs.Prelude.{◌≡◌, ◌≢◌, ℕ, [], map, IfErr, IfOk, string_bytes};
 ghost use Rattle.std.specs.Ordering.{int_cmp};
 ghost use Rattle.i_tree.specs.Set.Pairs.{values, IsOrdered};
-ghost use Rattle.itree.specs.Texts.{AnswersKeys, AnswersSet, Answers, HasFirstFaulty};
+ghost use Rattle.itree.specs.Modes.{HasItsLayout};
+ghost use Rattle.itree.specs.Sorting.{Sorts, SortsAll};
+ghost use Rattle.itree.specs.Texts.{AnswersKeys, AnswersSet, AnswersSegments, Answers, HasFirstFaulty};
+ghost use Rattle.itree_lib.specs.SegMachine.{reply_of};
 
 use crate::fault::Fault;
-use crate::lines::{KeyLine, SetLine, parse_commands, reply_text};
+use crate::lines::{KeyLine, SegLine, SetLine, parse_commands, reply_text};
 use crate::mode::Mode;
 use crate::set_key::SetKey;
 use crate::timed_key::TimedKey;
+use crate::timed_val::TimedVal;
 use i_tree::key::exp::KeyExpCollection;
 use i_tree::key::list::KeyExpList;
 use i_tree::key::tree::KeyExpTree;
+use i_tree::seg::exp::SegRange;
+use i_tree::seg::tree::SegExpTree;
 use i_tree::set::list::SetList;
 use i_tree::set::sort::SetCollection;
 use i_tree::set::tree::SetTree;
-use itree_lib::run::{run_keys, run_sets};
+use itree_lib::run::{SegReply, run_keys, run_segments, run_sets};
 use std::alloc::Allocator;
 use std::cmp::Ordering;
 
@@ -29,6 +35,7 @@ pub fn answer_text<A: Allocator + Copy>(
     mode: Mode,
     text: &[u8],
 ) -> Result<String<A>, Fault>
+    requires { HasItsLayout mode }
     ensures answered { IfOk result (λ output. Answers mode text.now (string_bytes output)) }
     ensures faulty { (number : ℕ) → result ≡ Err (Fault.Line number) → HasFirstFaulty mode text.now number }
     ensures err { IfErr result (λ fault. fault ≢ Fault.Arguments) }
@@ -53,6 +60,13 @@ pub fn answer_text<A: Allocator + Copy>(
             let commands = parse_commands(alloc, text)?;
             let mut list = SetList::new(alloc, 0)?;
             answer_set(alloc, &mut list, commands)
+        }
+        Mode::Segments { min, max } => {
+            let commands = parse_commands(alloc, text)?;
+            match SegExpTree::new(alloc, SegRange { min, max })? {
+                Some(mut tree) => answer_segments(alloc, &mut tree, &commands),
+                None => unreachable!(),
+            }
         }
     }
 }
@@ -91,4 +105,39 @@ fn answer_set<A: Allocator + Copy, C: SetCollection<i32, SetKey>>(
     let mut replies = Vec::new(alloc);
     run_sets(set, commands, &mut replies)?;
     Ok(reply_text(alloc, &replies)?)
+}
+
+// The text of the replies to the commands, from a tree without segments on.
+fn answer_segments<A: Allocator + Copy>(
+    alloc: A,
+    tree: &mut SegExpTree<i32, i32, TimedVal, A>,
+    commands: &[SegLine],
+) -> Result<String<A>, Fault>
+    requires empty { tree.old.members ≡ [] }
+    requires new { tree.old.latest ≡ None }
+    ensures answered { IfOk result (λ output. AnswersSegments tree.old.buckets commands.now (string_bytes output)) }
+    ensures err { IfErr result (λ fault. fault ≡ Fault.Stopped) }
+{
+    let mut replies = Vec::new(alloc);
+    run_segments(tree, commands, &mut replies)?;
+    sort_all(&mut replies);
+    Ok(reply_text(alloc, &replies)?)
+}
+
+// Puts the values of each reply in rising order.
+fn sort_all<A: Allocator>(replies: &mut [SegReply<TimedVal, A>])
+    ensures { SortsAll (map reply_of replies.old) (map reply_of replies.new) }
+{
+    for reply in replies {
+        sort_values(reply);
+    }
+}
+
+// Puts the values of the reply in rising order, if it has any.
+fn sort_values<A: Allocator>(reply: &mut SegReply<TimedVal, A>)
+    ensures { Sorts (reply_of reply.old) (reply_of reply.new) }
+{
+    if let SegReply::Values(values) = reply {
+        values.sort_unstable();
+    }
 }

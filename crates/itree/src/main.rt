@@ -11,6 +11,7 @@ mod mode;
 mod program;
 mod set_key;
 mod timed_key;
+mod timed_val;
 
 use program::run_itree;
 use std::env;

@@ -18,7 +18,7 @@ mod tests;
 /// Runs the program: reads all of `input`, and writes one reply line for each command to `output`.
 ///
 /// `words` are the arguments without the program's name, which are to be the one word of a mode: `keytree`, `keylist`,
-/// `settree` or `setlist`. `faults` stands for standard error, and the answer is the process's status:
+/// `settree` or `setlist`; or `seg`, `MIN` and `MAX`, the ends of a range that has a layout. `faults` stands for standard error, and the answer is the process's status:
 ///
 /// - 0 where all replies were written and flushed. An insertion that was refused has a reply too.
 /// - 1 where reading, writing, flushing or memory outside the commands failed; nothing goes to `faults`, and a failed

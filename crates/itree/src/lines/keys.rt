@@ -1,11 +1,10 @@
 //! The commands of keys that expire, as lines.
 
-ghost use Rattle.std.specs.Prelude.{◌∷◌, [], ℤ, codes, map, IfSome, IsNone};
-ghost use Rattle.itree.specs.Grammar.{ReadsAll};
+ghost use Rattle.std.specs.Prelude.{◌∷◌, codes, map, IfSome, IsNone};
 ghost use Rattle.itree.specs.KeyLines.{SaysKeyCommand, SaysNoKeyCommand};
 ghost use Rattle.itree.specs.Replies.{key_reply_words};
 
-use super::{LineCommand, LineReply, number};
+use super::{LineCommand, LineReply, number, three_numbers};
 use crate::timed_key::TimedKey;
 use itree_lib::run::{KeyCommand, KeyReply};
 use std::alloc::{AllocError, Allocator};
@@ -73,22 +72,6 @@ fn parse_clear(words: &[&str]) -> Option<KeyLine>
         return None;
     }
     Some(KeyCommand::Clear)
-}
-
-// The numbers that three words are read as.
-fn three_numbers(words: &[&str]) -> Option<(i32, i32, i32)>
-    ensures read { IfSome result (λ numbers.
-        ReadsAll (map (λ word. word.now) words.now) (numbers.0 ∷ numbers.1 ∷ numbers.2 ∷ [])) }
-    ensures unread { IsNone result → (first second third : ℤ) →
-        ¬ (ReadsAll (map (λ word. word.now) words.now) (first ∷ second ∷ third ∷ [])) }
-{
-    let [first, second, third] = words else {
-        return None;
-    };
-    let first = number(first)?;
-    let second = number(second)?;
-    let third = number(third)?;
-    Some((first, second, third))
 }
 
 /// The words of the reply's line. A refusal is `refused`, whatever its cause.

@@ -1,8 +1,8 @@
 //! Lines of text, as commands and as replies.
 
-ghost use Rattle.std.specs.Prelude.{◌≡◌, ◌==◌, ◌≢◌, ◌∷◌, ◌++◌, ◌<◌, ◌⊎◌, ℕ, ℤ, List, length, map, IfErr, IfOk, IfSome, IsNone, OnOk, position, string_bytes};
+ghost use Rattle.std.specs.Prelude.{◌≡◌, ◌==◌, ◌≢◌, ◌∷◌, [], ◌++◌, ◌<◌, ◌⊎◌, ℕ, ℤ, List, length, map, IfErr, IfOk, IfSome, IsNone, OnOk, position, string_bytes};
 ghost use Rattle.std.specs.Str.{IsAscii};
-ghost use Rattle.itree.specs.Grammar.{words_of, LineSays, IsFaulty, lines_of, lines_left, LinesSay, IsFirstFaulty};
+ghost use Rattle.itree.specs.Grammar.{words_of, ReadsAll, LineSays, IsFaulty, lines_of, lines_left, LinesSay, IsFirstFaulty};
 ghost use Rattle.itree.specs.Replies.{reply_lines};
 ghost use Rattle.itree.specs.Words.{Reads};
 
@@ -11,9 +11,11 @@ use std::alloc::{AllocError, Allocator};
 use std::str;
 
 mod keys;
+mod segments;
 mod sets;
 
 pub use keys::KeyLine;
+pub use segments::SegLine;
 pub use sets::SetLine;
 
 /// A command that the words of a line may say.
@@ -119,12 +121,28 @@ fn line_words<A: Allocator>(alloc: A, text: &str) -> Result<Vec<&str, A>, AllocE
     text.split_ascii_whitespace().collect(alloc)
 }
 
-// The number that a word is read as.
-fn number(word: &str) -> Option<i32>
+/// The number that a word is read as.
+pub fn number(word: &str) -> Option<i32>
     ensures read { IfSome result (Reads word.now) }
     ensures unread { IsNone result → (number : ℤ) → ¬ (Reads word.now number) }
 {
     word.parse().ok()
+}
+
+// The numbers that three words are read as.
+fn three_numbers(words: &[&str]) -> Option<(i32, i32, i32)>
+    ensures read { IfSome result (λ numbers.
+        ReadsAll (map (λ word. word.now) words.now) (numbers.0 ∷ numbers.1 ∷ numbers.2 ∷ [])) }
+    ensures unread { IsNone result → (first second third : ℤ) →
+        ¬ (ReadsAll (map (λ word. word.now) words.now) (first ∷ second ∷ third ∷ [])) }
+{
+    let [first, second, third] = words else {
+        return None;
+    };
+    let first = number(first)?;
+    let second = number(second)?;
+    let third = number(third)?;
+    Some((first, second, third))
 }
 
 /// One line for each reply, in order: its words, and a line feed.

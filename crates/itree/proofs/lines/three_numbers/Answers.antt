@@ -1,6 +1,6 @@
 use Rattle.std.proofs.Common.{[], ◌∷◌, refl, arith}
 use Rattle.itree.proofs.Saying.{ReadsAll-length, third_read}
-use Rattle.itree.proofs.lines.keys.three_numbers.Goals as goal
+use Rattle.itree.proofs.lines.three_numbers.Goals as goal
 
 pub returns-in_default-clause-unread : goal.returns-in_default-clause-unread
 returns-in_default-clause-unread c = λ none first second third read.
