@@ -7,7 +7,7 @@ use Rattle.itree.specs.Words.{Reads}
 use Rattle.itree.specs.declared.mode.Mode.{Mode}
 use Rattle.itree.specs.declared.mode.Mode.TheVariants.{KeyTree, KeyList, SetTree, SetList, Segments}
 
--- a mode of segments is over a range that has a layout
+-- the range of a mode of segments has a layout
 abbrev pub HasItsLayout : Mode → Type 0
 HasItsLayout KeyTree = ⊤
 HasItsLayout KeyList = ⊤

@@ -28,8 +28,8 @@ use std::cmp::Ordering;
 
 /// The text of the replies to the commands of a text, from an empty collection of the mode on.
 ///
-/// The answer is `Fault::Line` with the number of the first faulty line, before any command is run, or `Fault::Stopped`
-/// where memory was refused.
+/// The range of a mode of segments is to have a layout. The answer is `Fault::Line` with the number of the first faulty
+/// line, before any command is run, or `Fault::Stopped` where memory was refused.
 pub fn answer_text<A: Allocator + Copy>(
     alloc: A,
     mode: Mode,

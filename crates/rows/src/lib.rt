@@ -38,6 +38,8 @@ mod random;
 #[cfg(test)]
 mod removals;
 #[cfg(test)]
+mod segment_runs;
+#[cfg(test)]
 mod set_lists;
 #[cfg(test)]
 mod set_runs;

@@ -7,6 +7,7 @@ use std::process::Abort;
 mod long;
 mod memory;
 mod sample;
+mod segments;
 
 const COMMANDS: &str = "insert 0 10 0 0\ninsert 3 10 3 0\nless 0 -1 4\nless 0 -1 0\n";
 
@@ -204,6 +205,18 @@ fn refuses_other_arguments_before_it_reads(rt: HostRuntime) {
         &["setlist", "4"],
         &["set"],
         &["set", "tree"],
+        &["seg"],
+        &["seg", "0"],
+        &["seg", "0", "30"],
+        &["seg", "5", "4"],
+        &["seg", "128", "0"],
+        &["seg", "0", "128", "1"],
+        &["seg", "0", "x"],
+        &["seg", "", "128"],
+        &["seg", " 0", "128"],
+        &["seg", "0", "2147483648"],
+        &["Seg", "0", "128"],
+        &["keylist", "0", "128"],
     ] {
         let mut input = BrokenReader {
             bytes: b"",

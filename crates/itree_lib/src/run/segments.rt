@@ -22,7 +22,8 @@ pub enum SegCommand<R, E, V> {
 }
 
 /// The reply to a command. A list of values is in the memory of `B`.
-#[derive(Debug, PartialEq, Eq, Drop)]
+#[derive(Drop)]
+#[derive_where(Debug, PartialEq, Eq; V)]
 pub enum SegReply<V, B: Allocator = Global> {
     /// The value was stored.
     Inserted,
