@@ -40,6 +40,7 @@ pub not_late : {E : Type 0} (cmp : E → E → Ordering) (told latest : Option E
 not_late cmp told latest time is in_time = subst (λ last. is_late cmp last time ≡ false) is (sym in_time)
 
 module _ {E V : Type 0} (expiration : V → E) {cmp : E → E → Ordering} (o : IsTotalOrder cmp) where
+  -- the first isn't before the second, so the second isn't after the first
   turned : (a b : E) → is_lt (cmp a b) ≡ false → is_gt (cmp b a) ≡ false
   turned a b h = ap is_gt (o.antisymm b a) ∙ by_cases (cmp a b) h
     where
@@ -48,6 +49,7 @@ module _ {E V : Type 0} (expiration : V → E) {cmp : E → E → Ordering} (o :
       by_cases Equal h = refl
       by_cases Greater h = refl
 
+  -- and back
   turned_back : (a b : E) → is_gt (cmp b a) ≡ false → is_ge (cmp a b) ≡ true
   turned_back a b h = ap is_ge (o.antisymm a b) ∙ by_cases (cmp b a) h
     where
@@ -56,6 +58,7 @@ module _ {E V : Type 0} (expiration : V → E) {cmp : E → E → Ordering} (o :
       by_cases Equal h = refl
       by_cases Greater h = absurd (both_ways true h refl)
 
+  -- what is at or after isn't before
   not_less : (r : Ordering) → is_ge r ≡ true → is_lt r ≡ false
   not_less Less h = absurd (both_ways false refl h)
   not_less Equal h = refl
