@@ -49,13 +49,21 @@ fn query(min: i32, max: i32, time: i32) -> Command {
     SegCommand::Query { range, time }
 }
 
-// The reply that lists these values, which are none or one.
-fn values<B: Allocator + Copy>(alloc: B, val: Option<Until>) -> Result<Reply<B>, Fail> {
+// The reply that lists this value, or none.
+fn values(alloc: Global, val: Option<Until>) -> Result<Reply<Global>, Fail> {
     let mut listed = Vec::new(alloc);
     if let Some(val) = val {
         listed.push(val)?;
     }
     Ok(SegReply::Values(listed))
+}
+
+// The values that the reply lists.
+fn listed<B: Allocator>(reply: &Reply<B>) -> &[Until] {
+    match reply {
+        SegReply::Values(values) => values,
+        _ => &[],
+    }
 }
 
 #[test]
@@ -137,15 +145,12 @@ fn makes_a_refused_querys_time_the_latest(rt: HostRuntime) -> Result<(), Fail> {
     memory.refuse_nth(2);
     let commands = [query(0, 0, 5), query(0, 0, 4), query(0, 0, 5)];
     run_segments(&mut tree, &commands, &mut replies)?;
-    assert_eq!(rt;
-        replies.as_slice(),
-        [
-            SegReply::Refused,
-            SegReply::Late,
-            values(&memory, Some(val))?,
-        ]
-        .as_slice()
-    );
+    let [first, second, third] = replies.as_slice() else {
+        return Err(Fail::from("a reply is missing"));
+    };
+    assert!(rt; *first == SegReply::Refused);
+    assert!(rt; *second == SegReply::Late);
+    assert_eq!(rt; listed(third), [val].as_slice());
     Ok(())
 }
 
@@ -166,18 +171,15 @@ fn does_nothing_without_room_for_the_replies(rt: HostRuntime) -> Result<(), Fail
         Err(Refusal::OutOfMemory)
     );
     assert_eq!(rt; memory.requests(), 1);
-    assert_eq!(rt; replies.as_slice(), [SegReply::Inserted].as_slice());
+    assert_eq!(rt; replies.len(), 1);
     assert_eq!(rt; tree.latest_time(), None);
     run_segments(&mut tree, &commands, &mut replies)?;
-    assert_eq!(rt;
-        replies.as_slice(),
-        [
-            SegReply::Inserted,
-            values(&memory, Some(val))?,
-            SegReply::Cleared,
-        ]
-        .as_slice()
-    );
+    let [first, second, third] = replies.as_slice() else {
+        return Err(Fail::from("a reply is missing"));
+    };
+    assert!(rt; *first == SegReply::Inserted);
+    assert_eq!(rt; listed(second), [val].as_slice());
+    assert!(rt; *third == SegReply::Cleared);
     Ok(())
 }
 
