@@ -1,51 +1,40 @@
-//! Pairs of edges that may cross, by a sweep over their boxes.
-
 use i_tree::seg::exp::{SegExpCollection, SegRange};
 use i_tree::seg::tree::SegExpTree;
 use i_tree::{ExpiredVal, Refusal};
 use std::alloc::Global;
 
-/// The box of an edge: from left to right, and from low to high.
+/// An edge of the plane: its name and its box.
 #[derive(Clone, Copy)]
 pub struct Edge {
+    pub name: u32,
     pub left: i32,
     pub right: i32,
     pub low: i32,
     pub high: i32,
 }
 
-/// The place of an edge in the list. It is live up to the edge's right end.
-#[derive(Clone, Copy)]
-pub struct Active {
-    pub place: usize,
-    pub right: i32,
-}
-
-impl ExpiredVal<i32> for Active {
-    ghost expiration = { λ active. active.right };
+impl ExpiredVal<i32> for Edge {
+    ghost expiration = { λ edge. edge.right };
 
     fn expiration(&self) -> i32 {
         self.right
     }
 }
 
-/// The pairs of edges whose boxes meet, and some that lie near each other. The edges come by their left ends, and lie
-/// between `low` and `high`; what comes out of order or lies elsewhere is passed over.
+type Pairs = Vec<(u32, u32)>;
+
+/// Each pair of edges whose boxes meet, once, and some that lie near each other: the candidates for a crossing. `None` where
+/// an edge begins left of the one before it, or lies outside the heights, or these have no layout.
 pub fn candidates(
     alloc: Global,
     edges: &[Edge],
-    low: i32,
-    high: i32,
-) -> Result<Vec<(usize, usize)>, Refusal> {
+    heights: SegRange<i32>,
+) -> Result<Option<Pairs>, Refusal> {
+    let Some(mut active) = SegExpTree::new(alloc, heights)? else {
+        return Ok(None);
+    };
     let mut pairs = Vec::new(alloc);
-    let range = SegRange {
-        min: low,
-        max: high,
-    };
-    let Some(mut active) = SegExpTree::new(alloc, range)? else {
-        return Ok(pairs);
-    };
-    let mut near: Vec<Active> = Vec::new(alloc);
+    let mut near: Vec<Edge> = Vec::new(alloc);
     for place in 0..edges.len() {
         let edge = edges[place];
         let range = SegRange {
@@ -53,23 +42,24 @@ pub fn candidates(
             max: edge.high,
         };
         if !active.accepts(range) || !active.is_in_time(edge.left) {
-            continue;
+            return Ok(None);
         }
         active.collect_by_range(range, edge.left, &mut near)?;
+        active.insert_by_range(range, edge)?;
         for other in &near {
-            pairs.push((other.place, place))?;
+            pairs.push((other.name, edge.name))?;
         }
         near.clear();
-        let right = edge.right;
-        active.insert_by_range(range, Active { place, right })?;
     }
-    Ok(pairs)
+    Ok(Some(pairs))
 }
 
 #[cfg(test)]
 mod tests {
     use super::*;
     use std::test::Fail;
+
+    const HEIGHTS: SegRange<i32> = SegRange { min: 0, max: 1023 };
 
     // The next number of a sequence without visible order.
     fn next_random(state: &mut u64) -> i32 {
@@ -79,15 +69,18 @@ mod tests {
         (*state >> 33) as i32
     }
 
-    // A thousand small edges by chance, by their left ends.
-    fn some_edges(alloc: Global) -> Result<Vec<Edge>, Fail> {
+    // Short edges by chance, by their left ends.
+    fn some_edges(alloc: Global, count: u32) -> Result<Vec<Edge>, Fail> {
         let mut edges = Vec::new(alloc);
         let mut state = 1;
-        for place in 0..1000 {
+        let mut left = 0i32;
+        for name in 0..count {
+            left = left.saturating_add(next_random(&mut state) % 3);
             let low = next_random(&mut state) % 960;
             edges.push(Edge {
-                left: place,
-                right: place.saturating_add(next_random(&mut state) % 100),
+                name,
+                left,
+                right: left.saturating_add(next_random(&mut state) % 100),
                 low,
                 high: low.saturating_add(next_random(&mut state) % 64),
             })?;
@@ -100,29 +93,45 @@ mod tests {
         second.left <= first.right && first.low <= second.high && second.low <= first.high
     }
 
+    // The candidates, which the edges have, in rising order.
+    fn sorted_candidates(alloc: Global, edges: &[Edge]) -> Result<Pairs, Fail> {
+        match candidates(alloc, edges, HEIGHTS)? {
+            Some(mut pairs) => {
+                pairs.sort_unstable();
+                Ok(pairs)
+            }
+            None => Err(Fail::from("an edge is not in order")),
+        }
+    }
+
     #[test]
     fn misses_no_pair_of_boxes_that_meet(rt: HostRuntime) -> Result<(), Fail> {
-        let edges = some_edges(rt.alloc())?;
-        let mut pairs = candidates(rt.alloc(), &edges, 0, 1023)?;
-        pairs.sort_unstable();
+        let edges = some_edges(rt.alloc(), 1000)?;
+        let pairs = sorted_candidates(rt.alloc(), &edges)?;
         let mut meeting = 0usize;
         for first in 0..edges.len() {
             for second in first..edges.len() {
-                let found = pairs.binary_search(&(first, second));
                 if first < second && boxes_meet(edges[first], edges[second]) {
-                    assert!(rt; found.is_ok());
+                    let pair = (edges[first].name, edges[second].name);
+                    assert!(rt; pairs.binary_search(&pair).is_ok());
                     meeting = meeting.saturating_add(1);
                 }
             }
         }
+        assert!(rt; meeting > 1000);
+        assert!(rt; pairs.len() < meeting.saturating_mul(2));
+        assert!(rt; pairs.len() < 499500 / 10);
+        Ok(())
+    }
+
+    #[test]
+    fn names_no_pair_twice(rt: HostRuntime) -> Result<(), Fail> {
+        let edges = some_edges(rt.alloc(), 1000)?;
         let mut last = None;
-        for pair in &pairs {
+        for pair in &sorted_candidates(rt.alloc(), &edges)? {
             assert!(rt; last != Some(*pair));
             last = Some(*pair);
         }
-        assert!(rt; meeting > 1000);
-        assert!(rt; pairs.len() < meeting.saturating_mul(2));
-        assert!(rt; pairs.len() < 499500 / 20);
         Ok(())
     }
 }
