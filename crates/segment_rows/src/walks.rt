@@ -191,12 +191,17 @@ fn asks_each_copy_that_it_reads_once(rt: HostRuntime) -> Result<(), Fail> {
     Ok(())
 }
 
+// A number for each interval.
+fn number_of(first: i32, last: i32) -> i32 {
+    first.saturating_mul(32).saturating_add(last)
+}
+
 #[test]
 fn finds_an_interval_exactly_where_it_overlaps(rt: HostRuntime) -> Result<(), Fail> {
     let mut tree = tree_over(rt.alloc(), 0, 31)?;
     for first in 0..32 {
         for last in first..32 {
-            insert(&rt, &mut tree, first, last, number(first * 32 + last))?;
+            insert(&rt, &mut tree, first, last, number(number_of(first, last)))?;
         }
     }
     for min in 0..32 {
@@ -217,9 +222,8 @@ fn overlapping(alloc: Global, min: i32, max: i32) -> Result<Vec<i32>, Fail> {
     let mut numbers = Vec::new(alloc);
     for first in 0..32 {
         for last in first..32 {
-            let number = first * 32 + last;
             if first <= max && min <= last {
-                numbers.push(number)?;
+                numbers.push(number_of(first, last))?;
             }
         }
     }
