@@ -1,17 +1,18 @@
 -- How stored pairs go on standing for accepted ones.
 use Rattle.std.proofs.Common.{◌≡◌, true, false, List, [], ◌∷◌, ◌++◌, Option, Some, None, refl, sym, subst, ⊎_elim, append_assoc}
-use Rattle.std.specs.Cmp.{IsTotalOrder, upto}
-use Rattle.std.specs.Ordering.{is_gt, is_lt, ordering_reverse}
+use Rattle.std.specs.Cmp.{IsTotalOrder}
+use Rattle.std.specs.Ordering.{is_ge, is_lt}
 use Rattle.std.specs.declared.cmp.Ordering.{Ordering}
 use Rattle.std.specs.declared.cmp.Ordering.TheVariants.{Less, Equal, Greater}
 use Rattle.std.specs.List.{All, insert}
 use Rattle.std.specs.List.Sorted.{IsPermutation}
-use Rattle.std.proofs.lemmas.Bool.{both_ways}
+use Rattle.std.proofs.lemmas.Bool.{both_ways, false_from_ne_true}
 use Rattle.std.proofs.lemmas.List.Elements.{All-nil, All-cons, All-append, All-contains, All-weaker, Contains-append_left, Contains-append_cases}
 use Rattle.std.proofs.lemmas.List.Sorted.{IsPermutation-refl, IsPermutation-sym, IsPermutation-trans, IsPermutation-cons, IsPermutation-middle, IsPermutation-append_left, IsPermutation-insert, Contains-permutation}
 use Rattle.i_tree.specs.Root.Change.{Without, Joins}
 use Rattle.i_tree.specs.Root.Change.Without.{none, keeps, loses}
 use Rattle.i_tree.specs.Key.Live.{is_live, live_pairs, IsExpired}
+use Rattle.i_tree.proofs.KeyLemmas.Times.{is_live-before}
 use Rattle.i_tree.proofs.RootLemmas.Lists.{Contains-filter}
 use Rattle.itree_lib.specs.KeyMachine.{is_late}
 use Rattle.itree_lib.specs.StandsFor.{StandsFor}
@@ -31,12 +32,12 @@ module _ {K E V : Type 0} (expiration : K → E) {cmp : E → E → Ordering} (o
   -- what is expired stays expired
   pub IsExpired-later : (last time : E) (pair : K × V) → is_lt (cmp time last) ≡ false → IsExpired expiration cmp last pair → IsExpired expiration cmp time pair
   IsExpired-later last time pair not_late expired =
-      upto o (expiration pair.0) last time expired (subst (λ r. is_gt r ≡ false) (sym (o.antisymm last time)) (turned (cmp time last) not_late))
+      false_from_ne_true (is_live expiration cmp time pair.0) (λ live. both_ways (is_live expiration cmp last pair.0) expired (is_live-before o expiration last time pair.0 (at_or_after (cmp time last) not_late) live))
     where
-      turned : (r : Ordering) → is_lt r ≡ false → is_gt (ordering_reverse r) ≡ false
-      turned Less h = absurd (both_ways true h refl)
-      turned Equal h = refl
-      turned Greater h = refl
+      at_or_after : (r : Ordering) → is_lt r ≡ false → is_ge r ≡ true
+      at_or_after Less h = absurd (both_ways true h refl)
+      at_or_after Equal h = refl
+      at_or_after Greater h = refl
 
   pub StandsFor-later : (stored accepted : List (K × V)) (last : Option E) (time : E) → is_late cmp last time ≡ false → StandsFor expiration cmp stored accepted last → StandsFor expiration cmp stored accepted (Some time)
   StandsFor-later stored accepted None time not_late stands =

@@ -1,18 +1,18 @@
 -- Facts on times and on what is live at them.
-use Rattle.std.proofs.Common.{◌≡◌, ℕ, ◌+◌, ◌<◌, true, false, Option, Some, List, length, get_or, take, refl, ap, ◌∙◌, subst}
+use Rattle.std.proofs.Common.{◌≡◌, ℕ, ◌+◌, ◌<◌, true, false, not, Option, Some, List, length, get_or, take, refl, sym, ap, ◌∙◌, subst}
 use Rattle.std.specs.Cmp.{IsTotalOrder, upto, tied_itself}
-use Rattle.std.specs.Ordering.{is_gt, is_lt, is_some_and, ord_min, ordering_reverse, partial_gt}
+use Rattle.std.specs.Ordering.{is_ge, is_gt, is_lt, is_some_and, ord_min, ordering_reverse, partial_ge}
 use Rattle.std.specs.declared.cmp.Ordering.{Ordering}
 use Rattle.std.specs.declared.cmp.Ordering.TheVariants.{Less, Equal, Greater}
 use Rattle.std.specs.List.{insert}
-use Rattle.std.proofs.lemmas.Bool.{cond_both, both_ways, true_from_ne_false}
+use Rattle.std.proofs.lemmas.Bool.{cond_both, both_ways, not-true}
 use Rattle.std.proofs.lemmas.List.Elements.{All-more, All-weaker}
 use Rattle.i_tree.specs.Key.Live.{is_live, live_pairs, NoneExpiresBefore}
 use Rattle.i_tree.proofs.RootLemmas.Lists.{All-insert, filter_all}
 
--- what `>` answers, by `cmp`
-pub gt_from_cmp : {E : Type 0} (partial-cmp : E → E → Option Ordering) (cmp : E → E → Ordering) → ((x y : E) → partial-cmp x y ≡ Some (cmp x y)) → (x y : E) → partial_gt partial-cmp x y ≡ is_gt (cmp x y)
-gt_from_cmp partial-cmp cmp same x y = ap (is_some_and is_gt) (same x y)
+-- what `>=` answers, by `cmp`
+pub ge_from_cmp : {E : Type 0} (partial-cmp : E → E → Option Ordering) (cmp : E → E → Ordering) → ((x y : E) → partial-cmp x y ≡ Some (cmp x y)) → (x y : E) → partial_ge partial-cmp x y ≡ is_ge (cmp x y)
+ge_from_cmp partial-cmp cmp same x y = ap (is_some_and is_ge) (same x y)
 
 module _ {E : Type 0} {cmp : E → E → Ordering} (o : IsTotalOrder cmp) where
   -- the lesser of two times is after nothing that the first is not after
@@ -39,6 +39,26 @@ module _ {E : Type 0} {cmp : E → E → Ordering} (o : IsTotalOrder cmp) where
       turned Equal h = refl
       turned Greater h = refl
 
+  -- a time is at or after another one exactly where that is not after it
+  ge_turned : (a b : E) → is_ge (cmp a b) ≡ not (is_gt (cmp b a))
+  ge_turned a b = ap is_ge (o.antisymm a b) ∙ turned (cmp b a)
+    where
+      turned : (r : Ordering) → is_ge (ordering_reverse r) ≡ not (is_gt r)
+      turned Less = refl
+      turned Equal = refl
+      turned Greater = refl
+
+  -- times in descending order
+  ge-trans : (a b c : E) → is_ge (cmp a b) ≡ true → is_ge (cmp b c) ≡ true → is_ge (cmp a c) ≡ true
+  ge-trans a b c ab bc = ge_turned a c ∙ ap not (upto o c b a (not_after b c bc) (not_after a b ab))
+    where
+      not_after : (later time : E) → is_ge (cmp later time) ≡ true → is_gt (cmp time later) ≡ false
+      not_after later time h = not-true (is_gt (cmp time later)) (sym (ge_turned later time) ∙ h)
+
+  -- what is live at a time was live before
+  pub is_live-before : {K : Type 0} (expiration : K → E) (time later : E) (key : K) → is_ge (cmp later time) ≡ true → is_live expiration cmp later key ≡ true → is_live expiration cmp time key ≡ true
+  is_live-before expiration time later key after live = ge-trans (expiration key) later time live after
+
   module _ {K V : Type 0} (expiration : K → E) where
     -- none expires before a bound, and so none before the lesser of it and another time
     NoneExpiresBefore-min : (bound other : E) (pairs : List (K × V)) → NoneExpiresBefore expiration cmp bound pairs → NoneExpiresBefore expiration cmp (ord_min cmp bound other) pairs
@@ -63,10 +83,10 @@ module _ {E : Type 0} {cmp : E → E → Ordering} (o : IsTotalOrder cmp) where
         (NoneExpiresBefore-min bound (expiration pair.0) pairs h)
         (not_after-min_second bound (expiration pair.0))
 
-    -- before a time before which nothing expires all are live
-    pub live_pairs-early : (bound time : E) (pairs : List (K × V)) → is_gt (cmp bound time) ≡ true → NoneExpiresBefore expiration cmp bound pairs → live_pairs expiration cmp time pairs ≡ pairs
+    -- up to a time before which nothing expires all are live
+    pub live_pairs-early : (bound time : E) (pairs : List (K × V)) → is_ge (cmp bound time) ≡ true → NoneExpiresBefore expiration cmp bound pairs → live_pairs expiration cmp time pairs ≡ pairs
     live_pairs-early bound time pairs early h =
         filter_all (λ pair. is_live expiration cmp time pair.0) pairs
         (All-weaker (λ pair. is_gt (cmp bound (expiration pair.0)) ≡ false) (λ pair. is_live expiration cmp time pair.0 ≡ true)
-        (λ pair not_after. true_from_ne_false (is_live expiration cmp time pair.0) (λ expired. both_ways (is_gt (cmp bound time)) (upto o bound (expiration pair.0) time not_after expired) early))
+        (λ pair not_after. is_live-before expiration time bound pair.0 early (ge_turned (expiration pair.0) bound ∙ ap not not_after))
         pairs h)

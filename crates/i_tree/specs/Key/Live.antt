@@ -1,12 +1,12 @@
 -- When a key is live. `expiration` gives a key's expiration, and `cmp` compares expirations.
 use Rattle.std.specs.Prelude.{◌≡◌, Bool, true, false, List, All, filter}
-use Rattle.std.specs.Ordering.{is_gt}
+use Rattle.std.specs.Ordering.{is_ge, is_gt}
 use Rattle.std.specs.declared.cmp.Ordering.{Ordering}
 
 module _ {K E : Type 0} (expiration : K → E) (cmp : E → E → Ordering) where
-  -- a key is live at each time before its expiration, and no longer at the equal moment
+  -- a key is live at each time up to its expiration, and still at the equal moment
   abbrev pub is_live : E → K → Bool
-  is_live time key = is_gt (cmp (expiration key) time)
+  is_live time key = is_ge (cmp (expiration key) time)
 
   -- the pairs whose keys are live at a time, in their order
   abbrev pub live_pairs : {V : Type 0} → E → List (K × V) → List (K × V)

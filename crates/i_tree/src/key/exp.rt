@@ -10,8 +10,8 @@ use std::cmp::Ordering;
 
 /// A collection of keys that expire, each with a value.
 ///
-/// A key is live at each time before its expiration. At the equal moment it is expired. A call removes expired
-/// keys only, and answers from the live ones. Each call stands for itself: times may go back.
+/// A key is live at each time up to its expiration, and still at the equal moment. A call removes expired keys only, and
+/// answers from the live ones. Each call stands for itself: times may go back.
 ///
 /// The rules are those of the Rust crate `i_tree`, but for `contains_key`, which is our own, and for the condition of
 /// `insert`.

@@ -21,7 +21,7 @@ use std::marker::Model;
 #[derive(Drop)]
 pub struct KeyExpList<K: ExpiredKey<E>, E: Expiration, V: Copy, A: Allocator + Copy> {
     pairs: Vec<(K, V), A>,
-    // No stored key expires before it, so at each earlier time all of them are live.
+    // No stored key expires before it, so up to this time all of them are live.
     earliest: E,
 }
 
@@ -91,7 +91,7 @@ impl<K: ExpiredKey<E>, E: Expiration, V: Copy, A: Allocator + Copy> KeyExpList<K
         ensures rising { IsRising K.cmp self.new.pairs }
         ensures room { length self.new.pairs + self.new.spare ≡ length self.old.pairs + self.old.spare }
     {
-        if self.earliest > time {
+        if self.earliest >= time {
             return;
         }
         keep_live(&mut self.pairs, time);

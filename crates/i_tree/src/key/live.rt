@@ -10,7 +10,7 @@ use std::alloc::Allocator;
 pub(super) fn is_live<K: ExpiredKey<E>, E: Expiration>(key: &K, time: E) -> bool
     ensures { result ≡ is_live K.expiration E.cmp time key.now }
 {
-    key.expiration() > time
+    key.expiration() >= time
 }
 
 // Removes the pairs that are expired at `time`.

@@ -5,24 +5,24 @@ use Rattle.i_tree.specs.Root.Change.{Without}
 use Rattle.i_tree.specs.Key.Live.{is_live, live_pairs, IsExpired, NoneExpiresBefore}
 use Rattle.i_tree.specs.Root.Pairs.{IsRising}
 use Rattle.i_tree.proofs.RootLemmas.Lists.{length-filter_le, Without-filter}
-use Rattle.i_tree.proofs.KeyLemmas.Times.{gt_from_cmp, live_pairs-early}
+use Rattle.i_tree.proofs.KeyLemmas.Times.{ge_from_cmp, live_pairs-early}
 use Rattle.i_tree.proofs.key.list.KeyExpList.remove_expired.Goals as goal
 
-all_live : (g : _) (c : goal.Then-gt g) → live_pairs g.K.ExpiredKey.expiration g.E.Ord.cmp c.args.time c.args.self.now.pairs ≡ c.args.self.now.pairs
+all_live : (g : _) (c : goal.Then-ge g) → live_pairs g.K.ExpiredKey.expiration g.E.Ord.cmp c.args.time c.args.self.now.pairs ≡ c.args.self.now.pairs
 all_live g c =
-    let early = sym (gt_from_cmp g.E.PartialOrd.partial_cmp g.E.Ord.cmp g.met.E.Ord.matches_partial_cmp c.self.inside.earliest c.args.time) ∙ sym c.gt.ensures ∙ c.if-gt.true in
+    let early = sym (ge_from_cmp g.E.PartialOrd.partial_cmp g.E.Ord.cmp g.met.E.Ord.matches_partial_cmp c.self.inside.earliest c.args.time) ∙ sym c.ge.ensures ∙ c.if-ge.true in
     rw (← c.self.view_is) (live_pairs-early g.met.E.Ord.total g.K.ExpiredKey.expiration c.self.inside.earliest c.args.time c.self.inside.pairs.items early c.self.invariant.1)
 
-pub returns-then-gt-clause-live : goal.returns-then-gt-clause-live
-returns-then-gt-clause-live g c = sym (all_live g c)
+pub returns-then-ge-clause-live : goal.returns-then-ge-clause-live
+returns-then-ge-clause-live g c = sym (all_live g c)
 
-pub returns-then-gt-clause-kept : goal.returns-then-gt-clause-kept
-returns-then-gt-clause-kept g c =
+pub returns-then-ge-clause-kept : goal.returns-then-ge-clause-kept
+returns-then-ge-clause-kept g c =
     subst (Without (IsExpired g.K.ExpiredKey.expiration g.E.Ord.cmp c.args.time) c.args.self.now.pairs) (all_live g c)
     (Without-filter (λ pair. is_live g.K.ExpiredKey.expiration g.E.Ord.cmp c.args.time pair.0) c.args.self.now.pairs)
 
-pub returns-then-gt-clause-rising : goal.returns-then-gt-clause-rising
-returns-then-gt-clause-rising g c = rw (← c.self.view_is) c.self.invariant.0
+pub returns-then-ge-clause-rising : goal.returns-then-ge-clause-rising
+returns-then-ge-clause-rising g c = rw (← c.self.view_is) c.self.invariant.0
 
 kept_rising : (g : _) (c : goal.After-self-1 g) → IsRising g.K.Ord.cmp c.keep_live.new.pairs.items
 kept_rising g c =
