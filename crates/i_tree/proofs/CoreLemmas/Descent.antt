@@ -3,7 +3,7 @@ use Rattle.std.proofs.Common.{◌≡◌, ◌≢◌, ℕ, ◌<◌, Bool, true, fa
 use Rattle.std.proofs.lemmas.List.{append-nil}
 use Rattle.std.proofs.lemmas.Bool.{ne_eqb}
 use Rattle.i_tree.proofs.CoreLemmas.PartHandles.{RanksFall-part, ranks_below}
-use Rattle.i_tree.specs.Root.Ends.{LastFinds, StartsIn}
+use Rattle.i_tree.specs.Root.Ends.{LastFinds}
 use Rattle.i_tree.specs.Core.Place.{IsPlaceOf}
 use Rattle.i_tree.specs.Core.Shape.{Shape, leaf, entries, part_at, left_at, right_at, rank, RanksFall, IsLive}
 use Rattle.i_tree.specs.Core.Ways.{EndsBetween, place_below}
@@ -73,22 +73,22 @@ module _ {T : Type 0} where
     pub live : handle ≢ EMPTY_REF → IsLive tree handle
     pub is : part_at handle tree ≡ part
 
-  module _ {A : Type 0} (Finds : ℕ × T → A → Type 0) (Misses : ℕ × T → Type 0) (nothing : A) where
-    -- the part at the handle is the one at the place; what was found is at the last entry in front of it, and the first one
-    -- behind it was missed
+  module _ {A : Type 0} (Finds : ℕ × T → A → Type 0) (HoldsBehind : List (ℕ × T) → Type 0) (nothing : A) where
+    -- the part at the handle is the one at the place; what was found is at the last entry in front of it, and this holds of the
+    -- entries behind it
     pub record IsWay (tree : Shape T) (here : ℕ) (place : Place) (found : A) : Type 0 where
       pub front : List (ℕ × T)
       pub back : List (ℕ × T)
       pub at : IsCutAt tree here front back
       pub of : IsPlaceOf tree (part_at here tree) front back place
       pub before : LastFinds Finds nothing front found
-      pub after : StartsIn Misses back
+      pub after : HoldsBehind back
 
-    pub way_top : (tree : Shape T) (here : ℕ) → IsTop tree tree here → IsWay tree here Root nothing
-    way_top tree here top =
-        record { front = []; back = []; at = IsCutAt-top tree here top.is top.live; of = (sym top.is, refl, refl); before = inl (refl, refl); after = tt }
+    pub way_top : (tree : Shape T) (here : ℕ) → HoldsBehind [] → IsTop tree tree here → IsWay tree here Root nothing
+    way_top tree here holds top =
+        record { front = []; back = []; at = IsCutAt-top tree here top.is top.live; of = (sym top.is, refl, refl); before = inl (refl, refl); after = holds }
 
-    pub way_end : (tree : Shape T) (here : ℕ) (place : Place) (found : A) → part_at here tree ≡ leaf → IsWay tree here place found → EndsBetween Finds Misses nothing tree place found
+    pub way_end : (tree : Shape T) (here : ℕ) (place : Place) (found : A) → part_at here tree ≡ leaf → IsWay tree here place found → EndsBetween Finds HoldsBehind nothing tree place found
     way_end tree here place found empty way =
         record {
           front = way.front;
@@ -98,43 +98,45 @@ module _ {T : Type 0} where
           after = way.after;
         }
 
-    -- from an entry on to the part on its right, where it was found, or on its left, where it was missed
-    module _ (tree : Shape T) (here : ℕ) (some : here ≢ EMPTY_REF) (item : T) (parts : entries (part_at here tree) ≡ entries (left_at here tree) ++ (here, item) ∷ entries (right_at here tree))
-        (left right : ℕ) (on_left : IsTop tree (left_at here tree) left) (on_right : IsTop tree (right_at here tree) right) (place : Place) (found : A) (way : IsWay tree here place found) where
-      way_right : (found' : A) → Finds (here, item) found' → IsWay tree right (Right here) found'
-      way_right found' finds =
-          let front = way.front ++ entries (left_at here tree) in
-          record {
-            front = front ++ (here, item) ∷ [];
-            back = way.back;
-            at = goes_right tree here item parts way.at right on_right.live on_right.is;
-            of = (way.at.live some, sym on_right.is, (front, item, refl));
-            before = inr (front, (here, item), refl, finds);
-            after = way.after;
-          }
+  -- from an entry on to the part on its right, where it was found, or on its left, where it was missed
+  module _ {A : Type 0} (Finds : ℕ × T → A → Type 0) (HoldsBehind HoldsThen : List (ℕ × T) → Type 0) (nothing : A) (tree : Shape T) (here : ℕ) (some : here ≢ EMPTY_REF) (item : T)
+      (parts : entries (part_at here tree) ≡ entries (left_at here tree) ++ (here, item) ∷ entries (right_at here tree))
+      (left right : ℕ) (on_left : IsTop tree (left_at here tree) left) (on_right : IsTop tree (right_at here tree) right) (place : Place) (found : A) (way : IsWay Finds HoldsBehind nothing tree here place found) where
+    way_right : (found' : A) → Finds (here, item) found' → HoldsThen way.back → IsWay Finds HoldsThen nothing tree right (Right here) found'
+    way_right found' finds holds =
+        let front = way.front ++ entries (left_at here tree) in
+        record {
+          front = front ++ (here, item) ∷ [];
+          back = way.back;
+          at = goes_right tree here item parts way.at right on_right.live on_right.is;
+          of = (way.at.live some, sym on_right.is, (front, item, refl));
+          before = inr (front, (here, item), refl, finds);
+          after = holds;
+        }
 
-      way_left : Misses (here, item) → IsWay tree left (Left here) found
-      way_left misses =
-          let back = entries (right_at here tree) ++ way.back in
-          record {
-            front = way.front;
-            back = (here, item) ∷ back;
-            at = goes_left tree here item parts way.at left on_left.live on_left.is;
-            of = (way.at.live some, sym on_left.is, (item, back, refl));
-            before = way.before;
-            after = misses;
-          }
+    way_left : HoldsThen ((here, item) ∷ (entries (right_at here tree) ++ way.back)) → IsWay Finds HoldsThen nothing tree left (Left here) found
+    way_left holds =
+        let back = entries (right_at here tree) ++ way.back in
+        record {
+          front = way.front;
+          back = (here, item) ∷ back;
+          at = goes_left tree here item parts way.at left on_left.live on_left.is;
+          of = (way.at.live some, sym on_left.is, (item, back, refl));
+          before = way.before;
+          after = holds;
+        }
 
-      pub way_on : (passed : Bool) (next : ℕ) (found' : A) → IsChosen passed right left next
-          → (passed ≡ true → Finds (here, item) found') → (passed ≡ false → Misses (here, item)) → (passed ≡ false → found' ≡ found)
-          → IsWay tree next (place_below here passed) found'
-      way_on true next found' chosen finds misses stays =
-          subst (λ (place : Place). IsWay tree next place found') (sym (place_below-some here true some))
-          (subst (λ (child : ℕ). IsWay tree child (Right here) found') (sym (chosen.0 refl)) (way_right found' (finds refl)))
-      way_on false next found' chosen finds misses stays =
-          subst (λ (place : Place). IsWay tree next place found') (sym (place_below-some here false some))
-          (subst (λ (child : ℕ). IsWay tree child (Left here) found') (sym (chosen.1 refl))
-          (subst (λ (value : A). IsWay tree left (Left here) value) (sym (stays refl)) (way_left (misses refl))))
+    pub way_on : (passed : Bool) (next : ℕ) (found' : A) → IsChosen passed right left next
+        → (passed ≡ true → Finds (here, item) found') → (passed ≡ false → found' ≡ found)
+        → (passed ≡ true → (back : List (ℕ × T)) → HoldsBehind back → HoldsThen back) → (passed ≡ false → (back : List (ℕ × T)) → HoldsThen ((here, item) ∷ back))
+        → IsWay Finds HoldsThen nothing tree next (place_below here passed) found'
+    way_on true next found' chosen finds stays holds misses =
+        subst (λ (place : Place). IsWay Finds HoldsThen nothing tree next place found') (sym (place_below-some here true some))
+        (subst (λ (child : ℕ). IsWay Finds HoldsThen nothing tree child (Right here) found') (sym (chosen.0 refl)) (way_right found' (finds refl) (holds refl way.back way.after)))
+    way_on false next found' chosen finds stays holds misses =
+        subst (λ (place : Place). IsWay Finds HoldsThen nothing tree next place found') (sym (place_below-some here false some))
+        (subst (λ (child : ℕ). IsWay Finds HoldsThen nothing tree child (Left here) found') (sym (chosen.1 refl))
+        (subst (λ (value : A). IsWay Finds HoldsThen nothing tree left (Left here) value) (sym (stays refl)) (way_left (misses refl (entries (right_at here tree) ++ way.back)))))
 
   -- either way the rank falls
   module _ (tree : Shape T) (here : ℕ) (item : T) (parts : entries (part_at here tree) ≡ entries (left_at here tree) ++ (here, item) ∷ entries (right_at here tree)) (falls : RanksFall tree)

@@ -15,7 +15,7 @@ use Rattle.i_tree.proofs.RootLemmas.Joined.{All-behind}
 use Rattle.i_tree.proofs.CoreLemmas.Entries.{IsBelow}
 use Rattle.i_tree.specs.Core.Shape.{Shape, entries, part_at, left_at, right_at}
 use Rattle.i_tree.specs.Core.Ways.{FindsNotAbove, LooksBetween, place_below}
-use Rattle.i_tree.specs.Root.Ends.{LastFinds}
+use Rattle.i_tree.specs.Root.Ends.{LastFinds, StartsIn}
 use Rattle.i_tree.specs.Root.Halving.{TakesItems}
 use Rattle.i_tree.specs.Set.Pairs.{values}
 use Rattle.i_tree.specs.declared.TheConstants.{EMPTY_REF}
@@ -48,19 +48,20 @@ IsSelected takes_first first other selected = (takes_first ≡ true → selected
 module _ {T : Type 0} (May : T → Ordering → Type 0) (tree : Shape T) (here : ℕ) (some : here ≢ EMPTY_REF) (item : T)
     (parts : entries (part_at here tree) ≡ entries (left_at here tree) ++ (here, item) ∷ entries (right_at here tree))
     (left right : ℕ) (on_left : IsTop tree (left_at here tree) left) (on_right : IsTop tree (right_at here tree) right) where
-  pub look_on : (place : Place) (found : ℕ) (said : Ordering) → IsWay (FindsNotAbove May) (λ entry. May entry.1 Greater) (EMPTY_REF, Greater) tree here place (found, said)
+  pub look_on : (place : Place) (found : ℕ) (said : Ordering) → IsWay (FindsNotAbove May) (StartsIn (λ entry. May entry.1 Greater)) (EMPTY_REF, Greater) tree here place (found, said)
       → (answer : Ordering) → May item answer → (passed : Bool) → passed ≡ is_le answer → (found' : ℕ) (said' : Ordering) (next : ℕ)
       → IsSelected passed here found found' → IsSelected passed answer said said' → IsChosen passed right left next
-      → IsWay (FindsNotAbove May) (λ entry. May entry.1 Greater) (EMPTY_REF, Greater) tree next (place_below here passed) (found', said')
+      → IsWay (FindsNotAbove May) (StartsIn (λ entry. May entry.1 Greater)) (EMPTY_REF, Greater) tree next (place_below here passed) (found', said')
   look_on place found said way answer may passed is found' said' next found_is said_is chosen =
-      way_on (FindsNotAbove May) (λ entry. May entry.1 Greater) (EMPTY_REF, Greater) tree here some item parts left right on_left on_right place (found, said) way passed next (found', said') chosen
+      way_on (FindsNotAbove May) (StartsIn (λ entry. May entry.1 Greater)) (StartsIn (λ entry. May entry.1 Greater)) (EMPTY_REF, Greater) tree here some item parts left right on_left on_right place (found, said) way passed next (found', said') chosen
       (λ yes. (
         found_is.0 yes,
         subst (May item) (sym (said_is.0 yes)) may,
         ap is_gt (said_is.0 yes) ∙ not_above answer (sym is ∙ yes),
       ))
-      (λ no. subst (May item) (above_only answer (sym is ∙ no)) may)
       (λ no. let found_same = found_is.1 no in let said_same = said_is.1 no in cc (found_same, said_same))
+      (λ yes back holds. holds)
+      (λ no back. subst (May item) (above_only answer (sym is ∙ no)) may)
 
 -- the tests whether an answer is Equal
 pub equal_from : (r : Ordering) → is_eq r ≡ true → r ≡ Equal

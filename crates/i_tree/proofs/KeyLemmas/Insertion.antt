@@ -10,12 +10,13 @@ use Rattle.std.proofs.lemmas.List.{length-map}
 use Rattle.std.proofs.lemmas.List.Elements.{All-nil, All-cons, All-head, All-tail}
 use Rattle.i_tree.proofs.CoreLemmas.Insertion.{IsBetween, Joins-values, above, below_joined, keys_between}
 use Rattle.i_tree.proofs.RootLemmas.Joined.{All-of_map, AllPairs-of_map, AllPairs-to_map}
+use Rattle.i_tree.proofs.RootLemmas.Cuts.{StartsIn-found}
 use Rattle.i_tree.proofs.RootLemmas.RisingKeys.{less_from_is_lt, not_less_from_is_lt}
 use Rattle.i_tree.proofs.CoreLemmas.Entries.{IsBelow}
 use Rattle.i_tree.proofs.RootLemmas.Withouts.{AllPairs-without, filter-without}
 use Rattle.i_tree.specs.Root.Change.{Gains, Without}
 use Rattle.i_tree.specs.Root.Descent.{Descends}
-use Rattle.i_tree.specs.Key.Descent.{DescendsBetween, FindsPassed, IsCalled}
+use Rattle.i_tree.specs.Key.Descent.{DescendsBetween, FindsCalled, IsCalled}
 use Rattle.i_tree.specs.Key.KeyExpTree.{items, slots_for}
 use Rattle.i_tree.specs.Root.Pairs.{IsRising, NoKey}
 use Rattle.i_tree.specs.Core.RbTree.{Contents, slots, slots_grown, slots_with_room}
@@ -38,8 +39,8 @@ All-from_filter {X} p P (x ∷ xs) all = by_test (p x) refl (All-from_filter p P
         All-cons (λ y. p y ≡ true → P y) x xs (λ passes. absurd (both_ways (p x) fails passes)) (rest all_too)
 
 module _ {K V : Type 0} {cmp : K → K → Ordering} (o : IsTotalOrder cmp) (key : K) (val : V) (is_live : K → Bool) (before : List (K × V))
-    (tree tree' : Shape (K × V)) (place : Place) (found handle : ℕ)
-    (end : DescendsBetween is_live (λ other answer. answer ≡ is_lt (cmp other key)) tree place found)
+    (tree tree' : Shape (K × V)) (place : Place) (found next handle : ℕ)
+    (end : DescendsBetween is_live (λ other answer. answer ≡ is_lt (cmp other key)) tree place found next)
     (kept : Without (λ (pair : K × V). is_live pair.0 ≡ false) before (items tree))
     (joins : entries tree' ≡ end.front ++ (handle, (key, val)) ∷ end.back) where
   pub gains_key : Gains (λ (pair : K × V). is_live pair.0 ≡ false) (key, val) before (items tree')
@@ -75,11 +76,11 @@ module _ {K V : Type 0} {cmp : K → K → Ordering} (o : IsTotalOrder cmp) (key
         May : K → Bool → Type 0
         May other answer = answer ≡ is_lt (cmp other key)
 
-        between : IsBetween key_of o key (FindsPassed is_live May) (IsCalled is_live May false) Differs EMPTY_REF found end.front end.back
+        between : IsBetween key_of o key (FindsCalled is_live May true) (IsCalled is_live May false) Differs EMPTY_REF found end.front end.back
         between =
             record {
               last = end.before;
-              first = end.after;
+              first = StartsIn-found (FindsCalled is_live May false) (IsCalled is_live May false) (λ entry handle finds. finds.0) EMPTY_REF next end.back end.after;
               lower = λ entry differs finds. less_from_is_lt (cmp entry.1.0 key) (sym finds.0.1);
               higher = λ entry differs misses. above key_of o entry.1.0 key (not_less_from_is_lt (cmp entry.1.0 key) (sym misses.1)) (differs misses.0);
             }

@@ -8,16 +8,16 @@ use Rattle.std.specs.declared.cmp.Ordering.{Ordering}
 use Rattle.std.specs.declared.cmp.Ordering.TheVariants.{Less}
 use Rattle.std.proofs.lemmas.List.{map-append}
 use Rattle.std.proofs.lemmas.List.Elements.{All-head, All-weaker, filter-append}
-use Rattle.i_tree.proofs.RootLemmas.Cuts.{IsCutBy, FindsPassing, cut_between, below_at_cut, at_most_at_cut}
+use Rattle.i_tree.proofs.RootLemmas.Cuts.{IsCutBy, IsCutBefore, FindsPassing, cut_between, cut_before, below_at_cut, at_most_at_cut, above_at_cut}
 use Rattle.i_tree.proofs.RootLemmas.Joined.{All-front, All-behind}
 use Rattle.i_tree.proofs.RootLemmas.Lists.{Without-filter}
 use Rattle.i_tree.proofs.RootLemmas.RisingKeys.{IsPartitionedBy-monotone, IsPartitionedBy-rising}
 use Rattle.i_tree.proofs.RootLemmas.Withouts.{AllPairs-without, filter-without}
-use Rattle.i_tree.specs.Root.Answer.{AtMost, AnswersBy, Below, IsMonotone}
+use Rattle.i_tree.specs.Root.Answer.{Above, AtMost, AnswersBy, Below, IsMonotone}
 use Rattle.i_tree.specs.Root.Change.{Without}
-use Rattle.i_tree.specs.Root.Ends.{LastFinds, StartsIn}
+use Rattle.i_tree.specs.Root.Ends.{FirstFinds, LastFinds, StartsIn}
 use Rattle.i_tree.specs.Root.Pairs.{IsRising}
-use Rattle.i_tree.specs.Key.Descent.{DescendsBetween, FindsPassed, IsCalled}
+use Rattle.i_tree.specs.Key.Descent.{DescendsBetween, DescendsTo, FindsCalled, IsCalled}
 use Rattle.i_tree.specs.Key.KeyExpTree.{items}
 use Rattle.i_tree.specs.Set.Pairs.{values}
 use Rattle.i_tree.specs.Core.Shape.{Shape, entries, occurs, IsLive}
@@ -35,19 +35,31 @@ module _ {K V : Type 0} (is_live : K → Bool) where
     pub none : handle ≡ EMPTY_REF → value ≡ default
     pub some : handle ≢ EMPTY_REF → (front : List (ℕ × (K × V))) (pair : K × V) (back : List (ℕ × (K × V))) → entries tree ≡ front ++ (handle, pair) ∷ back → value ≡ pair.1
 
-  -- where an entry was found the tree is cut there
-  cut_found : (May : K → Bool → Type 0) (tree : Shape (K × V)) (place : Place) (found : ℕ) (end : DescendsBetween is_live May tree place found) (rest : List (ℕ × (K × V))) (last : ℕ × (K × V))
+  -- where the last entry was found the tree is cut there
+  cut_last : (May : K → Bool → Type 0) (tree : Shape (K × V)) (place : Place) (found next : ℕ) (end : DescendsBetween is_live May tree place found next) (rest : List (ℕ × (K × V))) (last : ℕ × (K × V))
       → end.front ≡ rest ++ last ∷ [] → found ≡ last.0 → entries tree ≡ rest ++ (found, last.1) ∷ end.back
-  cut_found May tree place found end rest last cut is =
+  cut_last May tree place found next end rest last cut is =
       end.between.cut ∙ ap (λ list. list ++ end.back) cut ∙ append_assoc rest (last ∷ []) end.back ∙ ap (λ handle. rest ++ (handle, last.1) ∷ end.back) (sym is)
 
   -- and it is live there
-  pub live_found : (May : K → Bool → Type 0) (tree : Shape (K × V)) (place : Place) (found : ℕ) → DescendsBetween is_live May tree place found → found ≢ EMPTY_REF → IsLive tree found
-  live_found May tree place found end some = by_last end.before
+  last_found : (May : K → Bool → Type 0) (tree : Shape (K × V)) (place : Place) (found next : ℕ) → DescendsBetween is_live May tree place found next → found ≢ EMPTY_REF → IsLive tree found
+  last_found May tree place found next end some = by_last end.before
     where
-      by_last : LastFinds (FindsPassed is_live May) EMPTY_REF end.front found → IsLive tree found
+      by_last : LastFinds (FindsCalled is_live May true) EMPTY_REF end.front found → IsLive tree found
       by_last (inl (none, is)) = absurd (some is)
-      by_last (inr (rest, last, cut, (called, is))) = live_from_cut found tree rest last.1 end.back (cut_found May tree place found end rest last cut is)
+      by_last (inr (rest, last, cut, (called, is))) = live_from_cut found tree rest last.1 end.back (cut_last May tree place found next end rest last cut is)
+
+  -- so it is where the next one was found
+  next_found : (May : K → Bool → Type 0) (tree : Shape (K × V)) (front back : List (ℕ × (K × V))) (found : ℕ) → entries tree ≡ front ++ back → FirstFinds (FindsCalled is_live May false) EMPTY_REF back found → found ≢ EMPTY_REF → IsLive tree found
+  next_found May tree front [] found cut is some = absurd (some is)
+  next_found May tree front (next ∷ rest) found cut (called, is) some = live_from_cut found tree front next.1 rest (cut ∙ ap (λ handle. front ++ (handle, next.1) ∷ rest) (sym is))
+
+  -- whichever of them was found is live
+  pub sought_live : (May : K → Bool → Type 0) (sought : Bool) (tree : Shape (K × V)) (place : Place) (found : ℕ) → DescendsTo is_live May sought tree place found → found ≢ EMPTY_REF → IsLive tree found
+  sought_live May true tree place found (last, next, end, is) some =
+      subst (IsLive tree) (sym is) (last_found May tree place last next end (λ empty. some (is ∙ empty)))
+  sought_live May false tree place found (last, next, end, is) some =
+      subst (IsLive tree) (sym is) (next_found May tree end.front end.back next end.between.cut end.after (λ empty. some (is ∙ empty)))
 
   module _ (May : K → Bool → Type 0) (test : K → Bool) (default : V) where
     -- what may be answered about the pair is what the test says
@@ -58,14 +70,14 @@ module _ {K V : Type 0} (is_live : K → Bool) where
     abbrev FindsValue : ℕ × (K × V) → V → Type 0
     FindsValue entry value = IsCalled is_live May true entry × (value ≡ entry.1.1)
 
-    -- what stands at the handle that was found, or the default
-    value_found : (tree : Shape (K × V)) (place : Place) (found : ℕ) (value : V) (end : DescendsBetween is_live May tree place found) → ValueAt tree found default value → LastFinds FindsValue default end.front value
-    value_found tree place found value end read = by_last end.before
+    -- what stands at the handle of the last entry, or the default
+    value_last : (tree : Shape (K × V)) (place : Place) (found next : ℕ) (value : V) (end : DescendsBetween is_live May tree place found next) → ValueAt tree found default value → LastFinds FindsValue default end.front value
+    value_last tree place found next value end read = by_last end.before
       where
-        by_last : LastFinds (FindsPassed is_live May) EMPTY_REF end.front found → LastFinds FindsValue default end.front value
+        by_last : LastFinds (FindsCalled is_live May true) EMPTY_REF end.front found → LastFinds FindsValue default end.front value
         by_last (inl (none, is)) = inl (none, read.none is)
         by_last (inr (rest, last, cut, (called, is))) =
-            let whole = cut_found May tree place found end rest last cut is in
+            let whole = cut_last May tree place found next end rest last cut is in
             let live = live_from_cut found tree rest last.1 end.back whole in
             inr (rest, last, cut, (called, read.some (λ empty. absurd (omega (arith, live, read.none_empty, ap (λ handle. occurs handle tree) empty))) rest last.1 end.back whole))
 
@@ -81,22 +93,50 @@ module _ {K V : Type 0} (is_live : K → Bool) where
         let at_last = All-head Says last.1 [] (All-behind Says (live (values rest)) (last.1 ∷ []) (subst (All Says) whole says)) in
         inr (live (values rest), last.1, whole, (sym (at_last true called.1), is))
 
-    first_live : (back : List (ℕ × (K × V))) → All Says (live (values back)) → StartsIn (IsCalled is_live May false) back → StartsIn (λ (pair : K × V). test pair.0 ≡ false) (live (values back))
-    first_live [] says starts = tt
-    first_live (entry ∷ rest) says (lives, may) =
+    first_live : (back : List (ℕ × (K × V))) (next : ℕ) → All Says (live (values back)) → FirstFinds (FindsCalled is_live May false) EMPTY_REF back next → StartsIn (λ (pair : K × V). test pair.0 ≡ false) (live (values back))
+    first_live [] next says none = tt
+    first_live (entry ∷ rest) next says ((lives, may), is) =
         let whole : live (values (entry ∷ rest)) ≡ entry.1 ∷ live (values rest) = rw lives refl in
         let at_first = All-head Says entry.1 (live (values rest)) (subst (All Says) whole says) in
         subst (StartsIn (λ (pair : K × V). test pair.0 ≡ false)) (sym whole) (sym (at_first false may))
 
-    pub cut_live : (tree : Shape (K × V)) (place : Place) (found : ℕ) (value : V) → DescendsBetween is_live May tree place found → ValueAt tree found default value
+    pub cut_live : (tree : Shape (K × V)) (place : Place) (found next : ℕ) (value : V) → DescendsBetween is_live May tree place found next → ValueAt tree found default value
         → All Says (live (items tree)) → IsPartitionedBy (λ (pair : K × V). test pair.0) (live (items tree)) → IsCutBy test (live (items tree)) default value
-    cut_live tree place found value end read says parted =
+    cut_live tree place found next value end read says parted =
         let whole : live (items tree) ≡ live (values end.front) ++ live (values end.back) = ap (λ (entries : List (ℕ × (K × V))). live (values entries)) end.between.cut ∙ live_append end.front end.back in
         let says_too = subst (All Says) whole says in
         subst (λ (pairs : List (K × V)). IsCutBy test pairs default value) (sym whole)
         (cut_between test default value (live (values end.back)) (live (values end.front)) (subst (IsPartitionedBy (λ (pair : K × V). test pair.0)) whole parted)
-        (last_live end.front value (All-front Says (live (values end.front)) (live (values end.back)) says_too) (value_found tree place found value end read))
-        (first_live end.back (All-behind Says (live (values end.front)) (live (values end.back)) says_too) end.after))
+        (last_live end.front value (All-front Says (live (values end.front)) (live (values end.back)) says_too) (value_last tree place found next value end read))
+        (first_live end.back next (All-behind Says (live (values end.front)) (live (values end.back)) says_too) end.after))
+
+    -- the last entry passes
+    last_passes : (front : List (ℕ × (K × V))) (last : ℕ) → All Says (live (values front)) → LastFinds (FindsCalled is_live May true) EMPTY_REF front last → (value : V) × LastFinds (FindsPassing test) default (live (values front)) value
+    last_passes front last says (inl (none, is)) = (default, last_live front default says (inl (none, refl)))
+    last_passes front last says (inr (rest, entry, cut, (called, is))) = (entry.1.1, last_live front entry.1.1 says (inr (rest, entry, cut, (called, refl))))
+
+    -- what stands at the handle of the next entry, or the default
+    value_next : (tree : Shape (K × V)) (front back : List (ℕ × (K × V))) (next : ℕ) (value : V) → entries tree ≡ front ++ back → ValueAt tree next default value
+        → FirstFinds (FindsCalled is_live May false) EMPTY_REF back next → FirstFinds (λ (pair : K × V) (held : V). held ≡ pair.1) default (live (values back)) value
+    value_next tree front [] next value cut read is = read.none is
+    value_next tree front (entry ∷ rest) next value cut read ((lives, may), is) =
+        let whole : live (values (entry ∷ rest)) ≡ entry.1 ∷ live (values rest) = rw lives refl in
+        let here = cut ∙ ap (λ handle. front ++ (handle, entry.1) ∷ rest) (sym is) in
+        let held = live_from_cut next tree front entry.1 rest here in
+        subst (λ (pairs : List (K × V)). FirstFinds (λ (pair : K × V) (held : V). held ≡ pair.1) default pairs value) (sym whole)
+        (read.some (λ empty. absurd (omega (arith, held, read.none_empty, ap (λ handle. occurs handle tree) empty))) front entry.1 rest here)
+
+    pub cut_next : (tree : Shape (K × V)) (place : Place) (last next : ℕ) (value : V) → DescendsBetween is_live May tree place last next → ValueAt tree next default value
+        → All Says (live (items tree)) → IsPartitionedBy (λ (pair : K × V). test pair.0) (live (items tree)) → IsCutBefore test (live (items tree)) default value
+    cut_next tree place last next value end read says parted =
+        let whole : live (items tree) ≡ live (values end.front) ++ live (values end.back) = ap (λ (entries : List (ℕ × (K × V))). live (values entries)) end.between.cut ∙ live_append end.front end.back in
+        let says_too = subst (All Says) whole says in
+        let (of_last, passes) = last_passes end.front last (All-front Says (live (values end.front)) (live (values end.back)) says_too) end.before in
+        subst (λ (pairs : List (K × V)). IsCutBefore test pairs default value) (sym whole)
+        (cut_before test default of_last value (live (values end.back)) (live (values end.front)) (subst (IsPartitionedBy (λ (pair : K × V). test pair.0)) whole parted)
+        passes
+        (first_live end.back next (All-behind Says (live (values end.front)) (live (values end.back)) says_too) end.after)
+        (value_next tree end.front end.back next value end.between.cut read end.after))
 
   module _ {cmp : K → K → Ordering} (o : IsTotalOrder cmp) (before : List (K × V)) (tree : Shape (K × V)) (place : Place) (found : ℕ) (default value : V) (read : ValueAt tree found default value) (rising : IsRising cmp before)
       (kept : Without (λ pair. is_live pair.0 ≡ false) before (items tree)) where
@@ -109,23 +149,33 @@ module _ {K V : Type 0} (is_live : K → Bool) where
         (AllPairs-without (λ (earlier : K × V) later. cmp earlier.0 later.0 ≡ Less) kept rising)
 
     -- what a way down to a key answers, by what was stored before
-    pub answer_below : (key : K) → DescendsBetween is_live (λ other answer. answer ≡ is_lt (cmp other key)) tree place found → Below cmp (live before) key default value
-    answer_below key end =
+    pub answer_below : (key : K) (next : ℕ) → DescendsBetween is_live (λ other answer. answer ≡ is_lt (cmp other key)) tree place found next → Below cmp (live before) key default value
+    answer_below key next end =
         rw same_live
         (below_at_cut o (live (items tree)) default value rising_live key
-        (cut_live (λ other answer. answer ≡ is_lt (cmp other key)) (λ other. is_lt (cmp other key)) default tree place found value end read
+        (cut_live (λ other answer. answer ≡ is_lt (cmp other key)) (λ other. is_lt (cmp other key)) default tree place found next value end read
         (λ k d within answer is. is) (IsPartitionedBy-rising o (live (items tree)) key rising_live)))
 
     -- and what a way down by a closure does: an answer of the closure stands behind each of the test
-    pub answer_at_most : (May : K → Bool → Type 0) (Given : K → Ordering → Type 0) → DescendsBetween is_live May tree place found
-        → ((key : K) (answer : Bool) → May key answer → (given : Ordering) × Given key given × (answer ≡ not (is_gt given))) → (order : K → Ordering) → AnswersBy Given order (live before) → IsMonotone cmp order (live before) → AtMost cmp (live before) order default value
-    answer_at_most May Given end behind order =
-        let test : K → Bool = λ key. not (is_gt (order key)) in
-        subst (λ (pairs : List (K × V)). AnswersBy Given order pairs → IsMonotone cmp order pairs → AtMost cmp pairs order default value) (sym same_live)
-        (λ answers monotone.
-        let says : All (Says May test default) (live (items tree)) =
-        All-weaker (λ (pair : K × V). (given : Ordering) → Given pair.0 given → given ≡ order pair.0) (Says May test default)
-        (λ pair by_order answer may. let (given, may_be, is) = behind pair.0 answer may in is ∙ ap (λ (r : Ordering). not (is_gt r)) (by_order given may_be))
-        (live (items tree)) answers in
-        at_most_at_cut o (live (items tree)) default value rising_live order monotone
-        (cut_live May test default tree place found value end read says (IsPartitionedBy-monotone cmp (live (items tree)) order rising_live monotone)))
+    module _ (May : K → Bool → Type 0) (Given : K → Ordering → Type 0) (behind : (key : K) (answer : Bool) → May key answer → (given : Ordering) × Given key given × (answer ≡ not (is_gt given))) (order : K → Ordering) where
+      says_order : AnswersBy Given order (live (items tree)) → All (Says May (λ key. not (is_gt (order key))) default) (live (items tree))
+      says_order answers =
+          All-weaker (λ (pair : K × V). (given : Ordering) → Given pair.0 given → given ≡ order pair.0) (Says May (λ key. not (is_gt (order key))) default)
+          (λ pair by_order answer may. let (given, may_be, is) = behind pair.0 answer may in is ∙ ap (λ (r : Ordering). not (is_gt r)) (by_order given may_be))
+          (live (items tree)) answers
+
+      pub answer_at_most : DescendsTo is_live May true tree place found → AnswersBy Given order (live before) → IsMonotone cmp order (live before) → AtMost cmp (live before) order default value
+      answer_at_most (last, next, end, is) =
+          subst (λ (pairs : List (K × V)). AnswersBy Given order pairs → IsMonotone cmp order pairs → AtMost cmp pairs order default value) (sym same_live)
+          (λ answers monotone.
+          at_most_at_cut o (live (items tree)) default value rising_live order monotone
+          (cut_live May (λ key. not (is_gt (order key))) default tree place last next value end (subst (λ (handle : ℕ). ValueAt tree handle default value) is read) (says_order answers)
+          (IsPartitionedBy-monotone cmp (live (items tree)) order rising_live monotone)))
+
+      pub answer_above : DescendsTo is_live May false tree place found → AnswersBy Given order (live before) → IsMonotone cmp order (live before) → Above cmp (live before) order default value
+      answer_above (last, next, end, is) =
+          subst (λ (pairs : List (K × V)). AnswersBy Given order pairs → IsMonotone cmp order pairs → Above cmp pairs order default value) (sym same_live)
+          (λ answers monotone.
+          above_at_cut o (live (items tree)) default value rising_live order
+          (cut_next May (λ key. not (is_gt (order key))) default tree place last next value end (subst (λ (handle : ℕ). ValueAt tree handle default value) is read) (says_order answers)
+          (IsPartitionedBy-monotone cmp (live (items tree)) order rising_live monotone)))

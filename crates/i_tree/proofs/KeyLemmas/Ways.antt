@@ -1,5 +1,6 @@
 -- A way down a tree whose entries go: the place that it has come to, and what it has counted.
-use Rattle.std.proofs.Common.{Bool, true, false, ◌≡◌, ◌≢◌, ℕ, ◌+◌, ◌≤◌, List, [], ◌∷◌, ◌++◌, length, sym, ap, ◌∙◌, arith, length-append}
+use Rattle.std.proofs.Common.{Bool, true, false, if◌then◌else◌, refl, ◌≡◌, ◌≢◌, ℕ, ◌+◌, ◌≤◌, List, [], ◌∷◌, ◌++◌, length, sym, ap, ◌∙◌, arith, length-append}
+use Rattle.std.proofs.Math.Bool.{beq}
 use Rattle.std.proofs.lemmas.List.{length-map, map-append}
 use Rattle.std.proofs.lemmas.List.Elements.{All-contains}
 use Rattle.std.specs.List.{All, Contains, filter}
@@ -12,7 +13,8 @@ use Rattle.i_tree.proofs.RootLemmas.Joined.{Contains-middle}
 use Rattle.i_tree.proofs.CoreLemmas.PartHandles.{PartAt-live}
 use Rattle.i_tree.proofs.RootLemmas.Withouts.{Without-middle, filter-without}
 use Rattle.i_tree.specs.Root.Change.{Without}
-use Rattle.i_tree.specs.Key.Descent.{FindsPassed, IsCalled}
+use Rattle.i_tree.specs.Root.Ends.{FirstFinds}
+use Rattle.i_tree.specs.Key.Descent.{FindsCalled}
 use Rattle.i_tree.specs.Key.KeyExpTree.{items}
 use Rattle.i_tree.specs.Core.Place.{IsPlace, part_of}
 use Rattle.i_tree.specs.Core.RbTree.{Contents, slots}
@@ -35,14 +37,14 @@ module _ {T : Type 0} where
     pub right : (above : ℕ) → IsLive tree above → top (right_at above tree) ≡ here → ChangesSide tree tree' above (right_at above tree) (right_at above tree')
     pub rank : rank tree' ≤ rank tree
 
-  module _ {A : Type 0} (Finds : ℕ × T → A → Type 0) (Misses : ℕ × T → Type 0) (nothing : A) (tree tree' : Shape T) (here : ℕ) (live : IsLive tree here) (gone : IsRemoved tree here tree') (found : A) where
+  module _ {A : Type 0} (Finds : ℕ × T → A → Type 0) (HoldsBehind : List (ℕ × T) → Type 0) (nothing : A) (tree tree' : Shape T) (here : ℕ) (live : IsLive tree here) (gone : IsRemoved tree here tree') (found : A) where
     changes_left : (above : ℕ) → IsLive tree above → left_at above tree ≡ part_at here tree → ChangesSide tree tree' above (left_at above tree) (left_at above tree')
     changes_left above live_above is = gone.left above live_above (ap top is ∙ top_live tree here live)
 
     changes_right : (above : ℕ) → IsLive tree above → right_at above tree ≡ part_at here tree → ChangesSide tree tree' above (right_at above tree) (right_at above tree')
     changes_right above live_above is = gone.right above live_above (ap top is ∙ top_live tree here live)
 
-    pub place_stays : (place : Place) → IsWay Finds Misses nothing tree here place found → IsPlace tree' place
+    pub place_stays : (place : Place) → IsWay Finds HoldsBehind nothing tree here place found → IsPlace tree' place
     place_stays Root way = tt
     place_stays (Left above) way = (changes_left above way.of.0 way.of.1).live
     place_stays (Right above) way = (changes_right above way.of.0 way.of.1).live
@@ -57,7 +59,7 @@ module _ {T : Type 0} where
             cut = changed.rest front back (at.cut ∙ ap (λ part. front ++ (entries part ++ back)) (sym side)) ∙ ap (λ part. front ++ (entries part ++ back)) (sym is);
           }
 
-      pub way_stays : (place : Place) → part_at next tree' ≡ part_of place tree' → IsWay Finds Misses nothing tree here place found → IsWay Finds Misses nothing tree' next place found
+      pub way_stays : (place : Place) → part_at next tree' ≡ part_of place tree' → IsWay Finds HoldsBehind nothing tree here place found → IsWay Finds HoldsBehind nothing tree' next place found
       way_stays Root is way =
           let cut = IsCutAt-top tree' next is next_live in
           record {
@@ -92,7 +94,7 @@ module _ {T : Type 0} where
             after = way.after;
           }
 
-      pub rank_stays : (place : Place) → part_at next tree' ≡ part_of place tree' → IsWay Finds Misses nothing tree here place found → rank (part_at next tree') ≤ rank (part_at here tree)
+      pub rank_stays : (place : Place) → part_at next tree' ≡ part_of place tree' → IsWay Finds HoldsBehind nothing tree here place found → rank (part_at next tree') ≤ rank (part_at here tree)
       rank_stays Root is way = omega (arith, gone.rank, ap rank is, ap rank way.of.0)
       rank_stays (Left above) is way = let changed = changes_left above way.of.0 way.of.1 in omega (arith, changed.rank, ap rank is, ap rank way.of.1)
       rank_stays (Right above) is way = let changed = changes_right above way.of.0 way.of.1 in omega (arith, changed.rank, ap rank is, ap rank way.of.1)
@@ -121,10 +123,29 @@ asked_here {T} p P old tree front here item back kept cut all live =
     let contained : Contains (items tree) item = rw (ap values cut ∙ map-append (λ (entry : ℕ × T). entry.1) front ((here, item) ∷ back)) (Contains-middle (values front) item (values back)) in
     All-contains P (filter p old) item all (rw (filter-without p (λ x fails. fails) kept) (Contains-filter p (items tree) item live contained))
 
--- A way down that has come to a place: what was found is the live entry in front of it, which passed, and the live one behind
--- it didn't. What is gone was not live, and as long as nothing is gone all on the way are live.
-pub record IsDescent {S K V : Type 0} (Made : S → S → Counts → Type 0) (is_live : K → Bool) (MayAnswer : K → Bool → Type 0) (before now : Contents (K × V)) (old new : S) (here : ℕ) (place : Place) (found : ℕ) : Type 0 where
-  pub way : IsWay (FindsPassed is_live MayAnswer) (IsCalled is_live MayAnswer false) EMPTY_REF now.shape here place found
+-- the handle of one of two entries, that of the last which passed or that of the next which didn't
+abbrev pub IsSought : Bool → ℕ → ℕ → ℕ → Type 0
+IsSought passed last next found = found ≡ (if passed then last else next)
+
+pub sought_none : (sought : Bool) → IsSought sought EMPTY_REF EMPTY_REF EMPTY_REF
+sought_none true = refl
+sought_none false = refl
+
+-- an entry is the last that passed or the next that didn't, and the handle is selected so
+pub sought_on : (sought passed : Bool) (here last next found found' : ℕ) → (beq passed sought ≡ true → found' ≡ here) → (beq passed sought ≡ false → found' ≡ found)
+    → IsSought sought last next found → IsSought sought (if passed then here else last) (if passed then next else here) found'
+sought_on true true here last next found found' first other is = first refl
+sought_on true false here last next found found' first other is = other refl ∙ is
+sought_on false true here last next found found' first other is = other refl ∙ is
+sought_on false false here last next found found' first other is = first refl
+
+-- A way down that has come to a place: the live entry in front of it passed and the live one behind it didn't, and the one or the
+-- other was found. What is gone was not live, and as long as nothing is gone all on the way are live.
+pub record IsDescent {S K V : Type 0} (Made : S → S → Counts → Type 0) (is_live : K → Bool) (MayAnswer : K → Bool → Type 0) (sought : Bool) (before now : Contents (K × V)) (old new : S) (here : ℕ) (place : Place) (found : ℕ) : Type 0 where
+  pub last : ℕ
+  pub next : ℕ
+  pub way : IsWay (FindsCalled is_live MayAnswer true) (λ back. FirstFinds (FindsCalled is_live MayAnswer false) EMPTY_REF back next) EMPTY_REF now.shape here place last
+  pub is : IsSought sought last next found
   pub kept : Without (λ (pair : K × V). is_live pair.0 ≡ false) (items before.shape) (items now.shape)
   pub slots : slots now ≡ slots before
   pub same : length (entries now.shape) ≡ length (entries before.shape) → now ≡ before

@@ -14,7 +14,7 @@ use Rattle.i_tree.proofs.RootLemmas.Lists.{All-filter_passing, AllPairs-insert, 
 use Rattle.i_tree.specs.Key.KeyExpList.{Contents}
 use Rattle.i_tree.specs.Key.Live.{is_live, live_pairs}
 use Rattle.i_tree.specs.Root.Pairs.{HasKey, NoKey, IsRising}
-use Rattle.i_tree.specs.Root.Answer.{GreatestOr, AtMost, IsMonotone}
+use Rattle.i_tree.specs.Root.Answer.{Above, GreatestOr, AtMost, IsMonotone}
 
 -- the test `is_lt` and the answer `Less`
 pub less_from_is_lt : (r : Ordering) → is_lt r ≡ true → r ≡ Less
@@ -67,6 +67,21 @@ module _ {K V : Type 0} {cmp : K → K → Ordering} (o : IsTotalOrder cmp) wher
       let below = rising k (place - 1) pair (omega arith) (omega arith) in
       absurd (cc (below, above_last)))
       (cases_eq k (place - 1))
+
+  -- from a place on, no key is below the first
+  first_is_least : (pairs : List (K × V)) (place k : ℕ) (pair : K × V) → IsRising cmp pairs → place ≤ k → k < length pairs → pair ≡ get_or pairs place pair → cmp (get_or pairs k pair).0 pair.0 ≢ Less
+  first_is_least pairs place k pair rising upper inside is below =
+      let below_first : cmp (get_or pairs k pair).0 (get_or pairs place pair).0 ≡ Less = subst (λ (x : K × V). cmp (get_or pairs k pair).0 x.0 ≡ Less) is below in
+      ⊎_elim
+      (λ same.
+      let level = tied_itself o (get_or pairs place pair).0 in
+      let again = subst (λ n. cmp (get_or pairs n pair).0 (get_or pairs place pair).0 ≡ Less) same below_first in
+      absurd (cc (level, again)))
+      (λ apart.
+      let above = rising place k pair (omega arith) inside in
+      let turned = o.antisymm (get_or pairs place pair).0 (get_or pairs k pair).0 ∙ ap ordering_reverse below_first in
+      absurd (cc (above, turned)))
+      (cases_eq k place)
 
   -- where the keys at the front meet P and the others don't, the last at the front is the greatest that does
   pub GreatestOr-at_count : (P : K → Type 0) (pairs : List (K × V)) (count : ℕ) (default value : V) → IsRising cmp pairs
@@ -158,6 +173,43 @@ module _ {K V : Type 0} {cmp : K → K → Ordering} (o : IsTotalOrder cmp) wher
               )
           by_answer Greater e =
               absurd (both_ways (not (is_gt (order pair.0))) (ap (λ r. not (is_gt r)) e) (ap (λ (x : K × V). not (is_gt (order x.0))) is ∙ before (count - 1) pair (omega arith) (omega arith)))
+
+  -- where the keys at the front are not called Greater and the others are, the first of these is the least
+  pub Above-at_count : (pairs : List (K × V)) (order : K → Ordering) (count : ℕ) (default value : V) → IsRising cmp pairs
+      → IsPartitionPoint (λ other. not (is_gt (order other.0)) ≡ true) (λ other. not (is_gt (order other.0)) ≡ false) pairs count
+      → (length pairs ≤ count → value ≡ default) → (count < length pairs → (pair : K × V) × (slice_get pairs count ≡ Some pair) × (value ≡ pair.1))
+      → Above cmp pairs order default value
+  Above-at_count pairs order count default value rising (before, from) none next =
+      ⊎_elim some
+      (λ all. inr (λ k d inside. not_greater k d (omega (arith, all, inside)), none all))
+      (cases_lt count (length pairs))
+    where
+      not_greater : (k : ℕ) (d : K × V) → k < count → order (get_or pairs k d).0 ≢ Greater
+      not_greater k d lower above = both_ways (not (is_gt (order (get_or pairs k d).0))) (ap (λ r. not (is_gt r)) above) (before k d (omega arith) lower)
+
+      greater : (r : Ordering) → not (is_gt r) ≡ false → r ≡ Greater
+      greater Less h = absurd (both_ways true h refl)
+      greater Equal h = absurd (both_ways true h refl)
+      greater Greater h = refl
+
+      some : count < length pairs → Above cmp pairs order default value
+      some more =
+          let (pair, read, is_value) = next more in
+          let is : pair ≡ get_or pairs count pair = sym (get_or_from_slice_get pairs count pair pair read) in
+          let NoneBelow : K × V → Type 0 = λ other. order other.0 ≡ Greater → cmp other.0 pair.0 ≢ Less in
+          inl (
+            pair,
+            record {
+              contained = (count, more, sym is);
+              meets = subst (λ (x : K × V). order x.0 ≡ Greater) (sym is) (greater (order (get_or pairs count pair).0) (from count pair (omega arith) more));
+              none_below = All-from_get_or NoneBelow pairs pair (λ k inside above.
+                  ⊎_elim
+                  (λ lower. absurd (not_greater k pair lower above))
+                  (λ upper. first_is_least pairs count k pair rising upper inside is)
+                  (cases_lt k count));
+            },
+            is_value,
+          )
 
   -- a key that no other compares Equal to joins at its place
   pub IsRising-insert : (pairs : List (K × V)) (pair : K × V) (place : ℕ) → IsRising cmp pairs

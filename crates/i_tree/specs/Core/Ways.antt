@@ -14,13 +14,13 @@ use Rattle.i_tree.specs.declared.place.Place.TheVariants.{Root, Left, Right}
 abbrev pub place_below : ℕ → Bool → Place
 place_below above on_right = if above == EMPTY_REF then Root else (if on_right then Right above else Left above)
 
--- No part is at the place. Found is what the entry in front of it gives, and the entry behind it was missed.
-pub record EndsBetween {T A : Type 0} (Finds : ℕ × T → A → Type 0) (Misses : ℕ × T → Type 0) (nothing : A) (tree : Shape T) (place : Place) (found : A) : Type 0 where
+-- No part is at the place. Found is what the entry in front of it gives, and of the entries behind it this holds.
+pub record EndsBetween {T A : Type 0} (Finds : ℕ × T → A → Type 0) (HoldsBehind : List (ℕ × T) → Type 0) (nothing : A) (tree : Shape T) (place : Place) (found : A) : Type 0 where
   pub front : List (ℕ × T)
   pub back : List (ℕ × T)
   pub between : IsPlaceBetween tree front back place
   pub before : LastFinds Finds nothing front found
-  pub after : StartsIn Misses back
+  pub after : HoldsBehind back
 
 -- `MayAnswer` says how an item may be called by what is looked for.
 module _ {T : Type 0} (MayAnswer : T → Ordering → Type 0) where
@@ -31,4 +31,4 @@ module _ {T : Type 0} (MayAnswer : T → Ordering → Type 0) where
   -- a look has ended behind all that it didn't call Greater
   abbrev pub LooksBetween : Shape T → Place → ℕ → Ordering → Type 0
   LooksBetween tree place found said =
-      EndsBetween FindsNotAbove (λ entry. MayAnswer entry.1 Greater) (EMPTY_REF, Greater) tree place (found, said)
+      EndsBetween FindsNotAbove (StartsIn (λ entry. MayAnswer entry.1 Greater)) (EMPTY_REF, Greater) tree place (found, said)

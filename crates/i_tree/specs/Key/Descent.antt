@@ -1,9 +1,10 @@
 -- Where a way down a tree of keys that expire ends. For the private contracts of `KeyExpTree`.
-use Rattle.std.specs.Prelude.{◌≡◌, ℕ, Bool, true, false, All, length}
+use Rattle.std.specs.Prelude.{◌≡◌, ℕ, Bool, true, false, if◌then◌else◌, All, length}
 use Rattle.i_tree.specs.Key.Way.{way_by}
 use Rattle.i_tree.specs.Core.RbTree.{Contents}
 use Rattle.i_tree.specs.Core.Shape.{Shape, entries}
 use Rattle.i_tree.specs.Core.Ways.{EndsBetween}
+use Rattle.i_tree.specs.Root.Ends.{FirstFinds}
 use Rattle.i_tree.specs.declared.TheConstants.{EMPTY_REF}
 use Rattle.i_tree.specs.declared.place.Place.{Place}
 
@@ -17,13 +18,18 @@ module _ {K V : Type 0} (is_live : K → Bool) (MayAnswer : K → Bool → Type 
   abbrev pub IsCalled : Bool → ℕ × (K × V) → Type 0
   IsCalled answer entry = (is_live entry.1.0 ≡ true) × MayAnswer entry.1.0 answer
 
-  -- the handle of an entry that passed
-  abbrev pub FindsPassed : ℕ × (K × V) → ℕ → Type 0
-  FindsPassed entry found = IsCalled true entry × (found ≡ entry.0)
+  -- the handle of an entry that was answered so
+  abbrev pub FindsCalled : Bool → ℕ × (K × V) → ℕ → Type 0
+  FindsCalled answer entry found = IsCalled answer entry × (found ≡ entry.0)
 
-  -- a way has ended behind a live entry that passed, whose handle this is, and before a live one that didn't
-  abbrev pub DescendsBetween : Shape (K × V) → Place → ℕ → Type 0
-  DescendsBetween tree place found = EndsBetween FindsPassed (IsCalled false) EMPTY_REF tree place found
+  -- a way has ended behind a live entry that passed, and before a live one that didn't; these are their handles
+  abbrev pub DescendsBetween : Shape (K × V) → Place → ℕ → ℕ → Type 0
+  DescendsBetween tree place last next = EndsBetween (FindsCalled true) (λ back. FirstFinds (FindsCalled false) EMPTY_REF back next) EMPTY_REF tree place last
+
+  -- and found is the handle of the one that passed, or of the one that didn't
+  abbrev pub DescendsTo : Bool → Shape (K × V) → Place → ℕ → Type 0
+  DescendsTo passed tree place found =
+      (last : ℕ) × (next : ℕ) × DescendsBetween tree place last next × (found ≡ (if passed then last else next))
 
   -- where a test says what is answered, nothing has gone exactly where all pairs on the way by the test are live
   pub record FollowsWay (old new : Contents (K × V)) : Type 0 where

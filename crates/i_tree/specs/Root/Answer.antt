@@ -21,6 +21,18 @@ module _ {K V : Type 0} (cmp : K → K → Ordering) where
       ((pair : K × V) × IsGreatest P pairs pair × (value ≡ pair.1))
       ⊎ (All (λ pair. ¬ (P pair.0)) pairs × (value ≡ default))
 
+  -- of the pairs whose keys meet P, this one has the least key
+  pub record IsLeast (P : K → Type 0) (pairs : List (K × V)) (pair : K × V) : Type 0 where
+    pub contained : Contains pairs pair
+    pub meets : P pair.0
+    pub none_below : All (λ other. P other.0 → cmp other.0 pair.0 ≢ Less) pairs
+
+  -- the value of the least key that meets P, or the default where no key meets it
+  abbrev pub LeastOr : (K → Type 0) → List (K × V) → V → V → Type 0
+  LeastOr P pairs default value =
+      ((pair : K × V) × IsLeast P pairs pair × (value ≡ pair.1))
+      ⊎ (All (λ pair. ¬ (P pair.0)) pairs × (value ≡ default))
+
   -- the value of the greatest key below this one, or the default where none is below it
   abbrev pub Below : List (K × V) → K → V → V → Type 0
   Below pairs key default value = GreatestOr (λ other. cmp other key ≡ Less) pairs default value
@@ -30,6 +42,10 @@ module _ {K V : Type 0} (cmp : K → K → Ordering) where
   AtMost pairs order default value =
       Any (λ pair. (order pair.0 ≡ Equal) × (value ≡ pair.1)) pairs
       ⊎ (All (λ pair. order pair.0 ≢ Equal) pairs × GreatestOr (λ key. order key ≡ Less) pairs default value)
+
+  -- the value of the least key that the order calls Greater, or the default where it calls none so
+  abbrev pub Above : List (K × V) → (K → Ordering) → V → V → Type 0
+  Above pairs order default value = LeastOr (λ key. order key ≡ Greater) pairs default value
 
   -- for two keys of the list, the lower one never comes after the other in the order Less, Equal, Greater
   abbrev pub IsMonotone : (K → Ordering) → List (K × V) → Type 0
@@ -41,3 +57,8 @@ module _ {K V : Type 0} (cmp : K → K → Ordering) where
   abbrev pub AtMostBy : (K → Ordering → Type 0) → List (K × V) → V → V → Type 0
   AtMostBy may_answer pairs default value =
       (order : K → Ordering) → AnswersBy may_answer order pairs → IsMonotone order pairs → AtMost pairs order default value
+
+  -- whatever order the closure answers by, where that is monotone, the value is above by it
+  abbrev pub AboveBy : (K → Ordering → Type 0) → List (K × V) → V → V → Type 0
+  AboveBy may_answer pairs default value =
+      (order : K → Ordering) → AnswersBy may_answer order pairs → IsMonotone order pairs → Above pairs order default value

@@ -6,6 +6,11 @@ abbrev pub StartsIn : {X : Type 0} → (X → Type 0) → List X → Type 0
 StartsIn P [] = ⊤
 StartsIn P (x ∷ xs) = P x
 
+-- what was found at the first element, or nothing where there is none
+abbrev pub FirstFinds : {X A : Type 0} → (X → A → Type 0) → A → List X → A → Type 0
+FirstFinds Finds nothing [] found = found ≡ nothing
+FirstFinds Finds nothing (x ∷ xs) found = Finds x found
+
 -- what was found at the last element, or nothing where there is none
 abbrev pub LastFinds : {X A : Type 0} → (X → A → Type 0) → A → List X → A → Type 0
 LastFinds {X} Finds nothing xs found =

@@ -2,7 +2,7 @@ ghost use Rattle.std.specs.Prelude.{◌≡◌, List, [], All, OnOk, OnErr, Match
 ghost use Rattle.std.specs.declared.cmp.Ordering.{Ordering};
 ghost use Rattle.i_tree.specs.Key.Live.{live_pairs, IsExpired};
 ghost use Rattle.i_tree.specs.Root.Pairs.{HasKey, NoKey, IsRising};
-ghost use Rattle.i_tree.specs.Root.Answer.{Below, AtMostBy};
+ghost use Rattle.i_tree.specs.Root.Answer.{Below, AtMostBy, AboveBy};
 ghost use Rattle.i_tree.specs.Root.Change.{Without, Gains};
 
 use crate::{Expiration, ExpiredKey, Refusal};
@@ -13,8 +13,8 @@ use std::cmp::Ordering;
 /// A key is live at each time up to its expiration, and still at the equal moment. A call removes expired keys only, and
 /// answers from the live ones. Each call stands for itself: times may go back.
 ///
-/// The rules are those of the Rust crate `i_tree`, but for `contains_key`, which is our own, and for the condition of
-/// `insert`.
+/// The calls are those of the Rust crate `i_tree`, but for `contains_key` and `first_greater_by`, which are our own, and for the
+/// condition of `insert`. In that crate a key is expired at the equal moment.
 pub trait KeyExpCollection<K: ExpiredKey<E>, E: Expiration, V: Copy> {
     /// The pairs that are stored, expired ones among them.
     ghost stored: { Self → List (K × V) };
@@ -44,6 +44,15 @@ pub trait KeyExpCollection<K: ExpiredKey<E>, E: Expiration, V: Copy> {
     fn first_less_or_equal_by<F: Fn(K) -> Ordering>(&mut self, time: E, default: V, f: F) -> V
         requires { All (λ pair. F.pre f pair.0) (live_pairs K.expiration E.cmp time (stored self.old)) }
         ensures value { AtMostBy K.cmp (F.post f) (live_pairs K.expiration E.cmp time (stored self.old)) default result }
+        ensures kept { Without (IsExpired K.expiration E.cmp time) (stored self.old) (stored self.new) }
+        ensures rising { IsRising K.cmp (stored self.new) };
+
+    /// The value of the first live key that `f` calls Greater, or `default` where it calls no live key so.
+    ///
+    /// `f` is asked as by `first_less_or_equal_by`.
+    fn first_greater_by<F: Fn(K) -> Ordering>(&mut self, time: E, default: V, f: F) -> V
+        requires { All (λ pair. F.pre f pair.0) (live_pairs K.expiration E.cmp time (stored self.old)) }
+        ensures value { AboveBy K.cmp (F.post f) (live_pairs K.expiration E.cmp time (stored self.old)) default result }
         ensures kept { Without (IsExpired K.expiration E.cmp time) (stored self.old) (stored self.new) }
         ensures rising { IsRising K.cmp (stored self.new) };
 

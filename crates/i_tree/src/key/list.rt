@@ -1,13 +1,13 @@
 ghost use Rattle.std.specs.Prelude.{◌≡◌, ◌≤◌, ◌<◌, ◌+◌, ℕ, List, [], All, Any, length, IsOk, OnOk, OnErr, IfOk, IfErr, MatchBool};
 ghost use Rattle.std.specs.declared.cmp.Ordering.{Ordering};
-ghost use Rattle.i_tree.specs.Root.Answer.{Below, AtMostBy};
+ghost use Rattle.i_tree.specs.Root.Answer.{Below, AtMostBy, AboveBy};
 ghost use Rattle.i_tree.specs.Root.Change.{Joins, Gains, Without};
 ghost use Rattle.i_tree.specs.Key.Live.{live_pairs, IsExpired};
 ghost use Rattle.i_tree.specs.Root.Pairs.{HasKey, NoKey, IsRising};
 
 use super::exp::KeyExpCollection;
 use super::live::{earliest_expiration, keep_live};
-use super::sorted::{has_live_key, place_of, value_at_most, value_below};
+use super::sorted::{has_live_key, place_of, value_above, value_at_most, value_below};
 use crate::inserting::insert_at;
 use crate::{Expiration, ExpiredKey, Refusal};
 use std::alloc::{AllocError, Allocator};
@@ -152,6 +152,19 @@ impl<K: ExpiredKey<E>, E: Expiration, V: Copy, A: Allocator + Copy> KeyExpCollec
     {
         self.remove_expired(time);
         value_at_most(&self.pairs, f, default)
+    }
+
+    /// Removes what is expired at `time`, and answers by `f`, which is asked about what is left alone.
+    fn first_greater_by<F: Fn(K) -> Ordering>(&mut self, time: E, default: V, f: F) -> V
+        requires { All (λ pair. F.pre f pair.0) (live_pairs K.expiration E.cmp time self.old.pairs) }
+        ensures value { AboveBy K.cmp (F.post f) (live_pairs K.expiration E.cmp time self.old.pairs) default result }
+        ensures kept { Without (IsExpired K.expiration E.cmp time) self.old.pairs self.new.pairs }
+        ensures keeps_live { self.new.pairs ≡ live_pairs K.expiration E.cmp time self.old.pairs }
+        ensures rising { IsRising K.cmp self.new.pairs }
+        ensures room { length self.new.pairs + self.new.spare ≡ length self.old.pairs + self.old.spare }
+    {
+        self.remove_expired(time);
+        value_above(&self.pairs, f, default)
     }
 
     fn contains_key(&self, time: E, key: K) -> bool {

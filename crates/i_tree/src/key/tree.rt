@@ -1,10 +1,10 @@
 ghost use Rattle.std.specs.Prelude.{◌≡◌, ◌≢◌, ◌≤◌, ◌<◌, ◌++◌, ◌∷◌, ℕ, List, true, false, All, length, IsOk, OnOk, OnErr, IfOk, IfErr, IsErr, IsErrAnd, MatchBool, max, not};
 ghost use Rattle.std.specs.Ordering.{is_gt, is_lt};
 ghost use Rattle.std.specs.declared.cmp.Ordering.{Ordering};
-ghost use Rattle.i_tree.specs.Root.Answer.{Below, AtMostBy};
+ghost use Rattle.i_tree.specs.Root.Answer.{Below, AtMostBy, AboveBy};
 ghost use Rattle.i_tree.specs.Root.Change.{Gains, Without};
 ghost use Rattle.i_tree.specs.Root.Descent.{Descends, LooksDown};
-ghost use Rattle.i_tree.specs.Key.Descent.{DescendsBetween, FollowsWay};
+ghost use Rattle.i_tree.specs.Key.Descent.{DescendsBetween, DescendsTo, FollowsWay};
 ghost use Rattle.i_tree.specs.Key.KeyExpTree.{items, slots_for};
 ghost use Rattle.i_tree.specs.Key.Way.{way_to};
 ghost use Rattle.i_tree.specs.Key.Live.{is_live, live_pairs, AllLive, IsExpired};
@@ -54,7 +54,8 @@ impl<K: ExpiredKey<E>, E: Expiration, V: Copy, A: Allocator + Copy> Model
 }
 
 // Where a way down has ended: on a side of the handle `above` without a part, or at the root where that is `EMPTY_REF`. It is
-// right behind a live key that passed, whose handle `found` is, or behind none where that is `EMPTY_REF`.
+// right behind a live key that passed and right before one that didn't. The handle of the one or the other is `found`, or
+// `EMPTY_REF` where there is none.
 #[derive(Clone, Copy)]
 struct Ending {
     found: u32,
@@ -63,12 +64,14 @@ struct Ending {
 }
 
 // Goes down to the place behind all live keys that pass. Each expired entry on the way is removed, and its place is read
-// again; each live one is compared.
+// again; each live one is compared. The last key on the way that passed stands in front of the place, and the last one that
+// didn't behind it: `finds_passed` says which of them is found.
 fn descend<K, E, V, A, C, F>(
     core: &mut RbTree<(K, V), A>,
     steps: &mut C,
     time: E,
     passes: &F,
+    finds_passed: bool,
 ) -> Ending
 where
     K: ExpiredKey<E>,
@@ -78,7 +81,7 @@ where
     C: Counter,
     F: Fn(K) -> bool,
     requires { All (λ pair. F.pre passes.now pair.0) (live_pairs K.expiration E.cmp time (items core.old.shape)) }
-    ensures end { DescendsBetween (is_live K.expiration E.cmp time) (F.post passes.now) core.new.shape (place_below result.above result.on_right) result.found }
+    ensures end { DescendsTo (is_live K.expiration E.cmp time) (F.post passes.now) finds_passed core.new.shape (place_below result.above result.on_right) result.found }
     ensures live { result.found ≢ EMPTY_REF → IsLive core.new.shape result.found }
     ensures kept { Without (IsExpired K.expiration E.cmp time) (items core.old.shape) (items core.new.shape) }
     ensures slots { slots core.new ≡ slots core.old }
@@ -105,7 +108,7 @@ where
         steps.add_comparison();
         above = here;
         on_right = passes(key);
-        found = select(on_right, here, found);
+        found = select(on_right == finds_passed, here, found);
         here = select(on_right, right, left);
     }
     Ending {
@@ -123,7 +126,7 @@ where
     V: Copy,
     A: Allocator + Copy,
     C: Counter,
-    ensures end { DescendsBetween (is_live K.expiration E.cmp time) (λ other answer. answer ≡ is_lt (K.cmp other key)) core.new.shape (place_below result.above result.on_right) result.found }
+    ensures end { (next : ℕ) × DescendsBetween (is_live K.expiration E.cmp time) (λ other answer. answer ≡ is_lt (K.cmp other key)) core.new.shape (place_below result.above result.on_right) result.found next }
     ensures live { result.found ≢ EMPTY_REF → IsLive core.new.shape result.found }
     ensures kept { Without (IsExpired K.expiration E.cmp time) (items core.old.shape) (items core.new.shape) }
     ensures slots { slots core.new ≡ slots core.old }
@@ -136,7 +139,38 @@ where
     let is_below = |other: K| -> bool
         ensures { result ≡ is_lt (K.cmp other key) }
     { other < key };
-    descend(core, steps, time, &is_below)
+    descend(core, steps, time, &is_below, true)
+}
+
+// Goes down to the place behind all live keys that `f` doesn't call Greater. It finds the one in front of the place where
+// `finds_passed` is true, and else the one behind it.
+fn descend_by<K, E, V, A, C, F>(
+    core: &mut RbTree<(K, V), A>,
+    steps: &mut C,
+    time: E,
+    f: F,
+    finds_passed: bool,
+) -> Ending
+where
+    K: ExpiredKey<E>,
+    E: Expiration,
+    V: Copy,
+    A: Allocator + Copy,
+    C: Counter,
+    F: Fn(K) -> Ordering,
+    requires { All (λ pair. F.pre f pair.0) (live_pairs K.expiration E.cmp time (items core.old.shape)) }
+    ensures end { DescendsTo (is_live K.expiration E.cmp time) (λ key answer. (given : Ordering) × F.post f key given × (answer ≡ not (is_gt given))) finds_passed core.new.shape (place_below result.above result.on_right) result.found }
+    ensures live { result.found ≢ EMPTY_REF → IsLive core.new.shape result.found }
+    ensures kept { Without (IsExpired K.expiration E.cmp time) (items core.old.shape) (items core.new.shape) }
+    ensures slots { slots core.new ≡ slots core.old }
+    ensures steps { Descends C.made steps.old steps.new (length (entries core.old.shape)) (length (entries core.new.shape)) 0 }
+    ensures core { IsCore core.new.shape }
+{
+    let is_at_most = |key: K| -> bool
+        requires { F.pre f key }
+        ensures { (answer : Ordering) × F.post f key answer × (result ≡ not (is_gt answer)) }
+    { f(key) != Ordering::Greater };
+    descend(core, steps, time, &is_at_most, finds_passed)
 }
 
 // The value at the handle, or `default` where that is `EMPTY_REF`.
@@ -280,11 +314,27 @@ impl<K: ExpiredKey<E>, E: Expiration, V: Copy, A: Allocator + Copy> KeyExpTree<K
         ensures steps { Descends C.made steps.old steps.new (length (items self.old.shape)) (length (items self.new.shape)) 0 }
         ensures core { IsCore self.new.shape }
     {
-        let is_at_most = |key: K| -> bool
-            requires { F.pre f key }
-            ensures { (answer : Ordering) × F.post f key answer × (result ≡ not (is_gt answer)) }
-        { f(key) != Ordering::Greater };
-        let end = descend(&mut self.core, steps, time, &is_at_most);
+        let end = descend_by(&mut self.core, steps, time, f, true);
+        value_at(&self.core, end.found, default)
+    }
+
+    /// `first_greater_by`, with its steps counted: each comparison is one call of `f`. The call and the counts are our own.
+    pub fn first_greater_by_counted<C: Counter, F: Fn(K) -> Ordering>(
+        &mut self,
+        steps: &mut C,
+        time: E,
+        default: V,
+        f: F,
+    ) -> V
+        requires { All (λ pair. F.pre f pair.0) (live_pairs K.expiration E.cmp time (items self.old.shape)) }
+        ensures value { AboveBy K.cmp (F.post f) (live_pairs K.expiration E.cmp time (items self.old.shape)) default result }
+        ensures kept { Without (IsExpired K.expiration E.cmp time) (items self.old.shape) (items self.new.shape) }
+        ensures rising { IsRising K.cmp (items self.new.shape) }
+        ensures slots { slots self.new ≡ slots self.old }
+        ensures steps { Descends C.made steps.old steps.new (length (items self.old.shape)) (length (items self.new.shape)) 0 }
+        ensures core { IsCore self.new.shape }
+    {
+        let end = descend_by(&mut self.core, steps, time, f, false);
         value_at(&self.core, end.found, default)
     }
 
@@ -356,6 +406,19 @@ impl<K: ExpiredKey<E>, E: Expiration, V: Copy, A: Allocator + Copy> KeyExpCollec
         ensures core { IsCore self.new.shape }
     {
         self.first_less_or_equal_by_counted(&mut Uncounted, time, default, f)
+    }
+
+    /// Answers the value of the first live key that `f` calls Greater, or `default`; `f` is asked about the live keys on the way
+    /// alone. Each expired entry on the way is removed, and its slot is free.
+    fn first_greater_by<F: Fn(K) -> Ordering>(&mut self, time: E, default: V, f: F) -> V
+        requires { All (λ pair. F.pre f pair.0) (live_pairs K.expiration E.cmp time (items self.old.shape)) }
+        ensures value { AboveBy K.cmp (F.post f) (live_pairs K.expiration E.cmp time (items self.old.shape)) default result }
+        ensures kept { Without (IsExpired K.expiration E.cmp time) (items self.old.shape) (items self.new.shape) }
+        ensures rising { IsRising K.cmp (items self.new.shape) }
+        ensures slots { slots self.new ≡ slots self.old }
+        ensures core { IsCore self.new.shape }
+    {
+        self.first_greater_by_counted(&mut Uncounted, time, default, f)
     }
 
     fn contains_key(&self, time: E, key: K) -> bool {

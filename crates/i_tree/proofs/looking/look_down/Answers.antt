@@ -13,7 +13,7 @@ use Rattle.i_tree.proofs.looking.look_down.Goals as goal
 pub loop-here-init : goal.loop-here-init
 loop-here-init g c =
     record {
-      way = way_top _ _ _ c.args.core.now.shape c.root-here.result (record { live = c.root-here.ensures.live; is = c.root-here.ensures.part });
+      way = way_top _ _ _ c.args.core.now.shape c.root-here.result tt (record { live = c.root-here.ensures.live; is = c.root-here.ensures.part });
       counted = compared_none g.met.C.Counter.law c.args.steps.now _ _ (omega (arith, ap rank c.root-here.ensures.part));
     }
 

@@ -4,6 +4,7 @@ use Rattle.i_tree.proofs.CoreLemmas.Descent.{IsWay}
 use Rattle.i_tree.proofs.CoreLemmas.WayCounts.{IsCompared}
 use Rattle.i_tree.specs.Core.Shape.{rank, part_at}
 use Rattle.i_tree.specs.Core.Ways.{FindsNotAbove, place_below}
+use Rattle.i_tree.specs.Root.Ends.{StartsIn}
 use Rattle.i_tree.specs.declared.TheConstants.{EMPTY_REF}
 use Rattle.i_tree.proofs.looking.look_down.Given as goal
 
@@ -11,7 +12,7 @@ use Rattle.i_tree.proofs.looking.look_down.Given as goal
 abbrev pub invariant-loop-here : goal.invariant-loop-here
 invariant-loop-here g l =
     record {
-      way : IsWay (FindsNotAbove (λ item answer. FnReturnsAt g.F.Fn l.f item answer)) (λ entry. FnReturnsAt g.F.Fn l.f entry.1 Greater) (EMPTY_REF, Greater) l.core.shape l.here (place_below l.above l.on_right) (l.found, l.said);
+      way : IsWay (FindsNotAbove (λ item answer. FnReturnsAt g.F.Fn l.f item answer)) (StartsIn (λ entry. FnReturnsAt g.F.Fn l.f entry.1 Greater)) (EMPTY_REF, Greater) l.core.shape l.here (place_below l.above l.on_right) (l.found, l.said);
       counted : IsCompared g.C.Counter.made l.fn.steps l.steps (rank l.core.shape) (rank (part_at l.here l.core.shape));
     }
 

@@ -1,20 +1,7 @@
-use Rattle.std.proofs.Common.{not, ◌∙◌, ap, subst, sym}
-use Rattle.std.specs.Ordering.{is_gt}
-use Rattle.std.specs.declared.cmp.Ordering.{Ordering}
-use Rattle.i_tree.proofs.RootLemmas.RisingKeys.{AtMost-at_count, IsPartitionedBy-monotone}
+use Rattle.i_tree.proofs.RootLemmas.RisingKeys.{AtMost-at_count}
 use Rattle.i_tree.proofs.key.sorted.value_at_most.Goals as goal
-
-pub count_passing-requires : goal.count_passing-requires
-count_passing-requires g c k d within reference at =
-    subst (λ (pair : g.row.K.Denot × g.row.V.Denot). goal.F-pre g c.args.f pair.0) (sym at) (c.requires.callable k d within)
 
 pub returns : goal.returns
 returns g c order answers monotone =
-    let pairs = c.args.pairs.now in
-    let test = λ (pair : g.row.K.Denot × g.row.V.Denot). not (is_gt (order pair.0)) in
-    let point = c.count_passing.ensures.splits test
-    (λ k d within answer says.
-    let (given, may, is) = says.says.met in
-    is ∙ ap (λ (r : Ordering). not (is_gt r)) (answers k d within given (subst (λ (pair : g.row.K.Denot × g.row.V.Denot). goal.F-post g c.args.f pair.0 given) says.shows may)))
-    (IsPartitionedBy-monotone g.K.Ord.cmp pairs order c.requires.rising monotone) in
-    AtMost-at_count g.met.K.Ord.total pairs order c.count_passing.result c.args.default c.last_value.result c.requires.rising monotone point c.count_passing.ensures.within c.last_value.ensures.none c.last_value.ensures.last
+    AtMost-at_count g.met.K.Ord.total c.args.pairs.now order c.count_at_most.result c.args.default c.last_value.result c.requires.rising monotone
+    (c.count_at_most.ensures.splits order answers monotone) c.count_at_most.ensures.within c.last_value.ensures.none c.last_value.ensures.last

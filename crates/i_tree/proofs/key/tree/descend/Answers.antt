@@ -1,23 +1,28 @@
-use Rattle.std.proofs.Common.{Bool, true, false, ◌<◌, ◌≡◌, ◌++◌, length, refl, sym, ap, ◌∙◌, subst, arith}
+use Rattle.std.proofs.Common.{Bool, true, false, ◌<◌, ◌≡◌, ◌++◌, if◌then◌else◌, length, refl, sym, ap, ◌∙◌, subst, arith}
 use Rattle.i_tree.proofs.CoreLemmas.Contexts.{part_at-none}
 use Rattle.i_tree.proofs.CoreLemmas.Descent.{IsTop, cut_here, falls_on, way_top, way_on, way_end}
 use Rattle.i_tree.proofs.CoreLemmas.WayCounts.{counted_none, counted_compare, counted_removal, counted_all}
 use Rattle.i_tree.proofs.KeyLemmas.Following.{followed_top, followed_end, followed_on, followed_gone}
-use Rattle.i_tree.proofs.KeyLemmas.Search.{live_found}
-use Rattle.i_tree.proofs.KeyLemmas.Ways.{IsRemoved, place_stays, way_stays, rank_stays, items_without, one_less, asked_here}
+use Rattle.i_tree.proofs.KeyLemmas.Search.{sought_live}
+use Rattle.i_tree.proofs.KeyLemmas.Ways.{IsRemoved, sought_none, sought_on, place_stays, way_stays, rank_stays, items_without, one_less, asked_here}
 use Rattle.i_tree.proofs.RootLemmas.Withouts.{Without-refl, Without-trans}
-use Rattle.i_tree.specs.Key.Descent.{IsCalled}
+use Rattle.i_tree.specs.Key.Descent.{DescendsBetween, FindsCalled, IsCalled}
 use Rattle.i_tree.specs.Key.KeyExpTree.{items}
 use Rattle.i_tree.specs.Key.Live.{is_live, IsExpired}
 use Rattle.i_tree.specs.Core.Shape.{entries, rank, left_at, right_at, part_at, occurs}
 use Rattle.i_tree.specs.Core.Ways.{place_below}
+use Rattle.i_tree.specs.Root.Ends.{FirstFinds}
+use Rattle.i_tree.specs.declared.TheConstants.{EMPTY_REF}
 use Rattle.i_tree.proofs.key.tree.descend.Goals as goal
 
 pub loop-here-init : goal.loop-here-init
 loop-here-init g c =
     let tree = c.args.core.now.shape in
     record {
-      way = way_top _ _ _ tree c.root-here.result (record { live = c.root-here.ensures.live; is = c.root-here.ensures.part });
+      last = EMPTY_REF;
+      next = EMPTY_REF;
+      way = way_top _ _ _ tree c.root-here.result refl (record { live = c.root-here.ensures.live; is = c.root-here.ensures.part });
+      is = sought_none c.args.finds_passed;
       kept = Without-refl (items tree);
       slots = refl;
       same = λ _. refl;
@@ -38,7 +43,7 @@ top_below-here-requires g c =
     let gone : IsRemoved c.loop-here.core.shape c.loop-here.here c.remove.new.self.shape = record { left = c.remove.ensures.left; right = c.remove.ensures.right; rank = c.remove.ensures.rank } in
     let way = c.loop-here.invariant.way in
     let live = way.at.live c.loop-here-test.true in
-    (place_stays _ _ _ c.loop-here.core.shape c.remove.new.self.shape c.loop-here.here live gone c.loop-here.found (place_below c.loop-here.above c.loop-here.on_right) way)
+    (place_stays _ _ _ c.loop-here.core.shape c.remove.new.self.shape c.loop-here.here live gone c.loop-here.invariant.last (place_below c.loop-here.above c.loop-here.on_right) way)
 
 pub loop-here-smaller-then-not-is_live : goal.loop-here-smaller-then-not-is_live
 loop-here-smaller-then-not-is_live g c =
@@ -53,7 +58,7 @@ loop-here-smaller-then-not-is_live g c =
     let cut = cut_here tree here c.item.result.now c.item.ensures.value way.at in
     let less = one_less (λ _. Unit {0}) tree tree' front here c.item.result.now back cut (c.remove.ensures.list front c.item.result.now back cut).1 in
     let read = c.top_below-here.ensures.part in
-    let lower = rank_stays _ _ _ tree tree' here live gone c.loop-here.found c.top_below-here.result c.top_below-here.ensures.live (place_below c.loop-here.above c.loop-here.on_right) read way in
+    let lower = rank_stays _ _ _ tree tree' here live gone c.loop-here.invariant.last c.top_below-here.result c.top_below-here.ensures.live (place_below c.loop-here.above c.loop-here.on_right) read way in
     omega (arith, less, lower)
 
 pub loop-here-preserved-then-not-is_live : goal.loop-here-preserved-then-not-is_live
@@ -72,10 +77,13 @@ loop-here-preserved-then-not-is_live g c =
     let loses = (c.remove.ensures.list front c.item.result.now back cut).1 in
     let less = one_less (λ _. Unit {0}) tree tree' front here c.item.result.now back cut loses in
     let read = c.top_below-here.ensures.part in
-    let lower = rank_stays _ _ _ tree tree' here live gone c.loop-here.found next c.top_below-here.ensures.live place read way in
+    let lower = rank_stays _ _ _ tree tree' here live gone c.loop-here.invariant.last next c.top_below-here.ensures.live place read way in
     let expired = sym c.is_live.ensures ∙ c.if-not-is_live.true in
     record {
-      way = way_stays _ _ _ tree tree' here live gone c.loop-here.found next c.top_below-here.ensures.live place read way;
+      last = c.loop-here.invariant.last;
+      next = c.loop-here.invariant.next;
+      is = c.loop-here.invariant.is;
+      way = way_stays _ _ _ tree tree' here live gone c.loop-here.invariant.last next c.top_below-here.ensures.live place read way;
       kept = Without-trans c.loop-here.invariant.kept (items_without (IsExpired g.K.ExpiredKey.expiration g.E.Ord.cmp c.args.time) tree tree' front here c.item.result.now back cut loses expired);
       slots = omega (arith, c.loop-here.invariant.slots, c.remove.ensures.spare, less);
       same = λ all. absurd (omega (arith, all, less, c.loop-here.invariant.counted.stores));
@@ -115,16 +123,22 @@ loop-here-preserved g c =
     let here = c.loop-here.here in
     let pair = c.item.result.now in
     let passed = c.passes-on_right.result in
+    let last = c.loop-here.invariant.last in
+    let next = c.loop-here.invariant.next in
     let on_left : IsTop tree (left_at here tree) c.left-left.result = record { live = c.left-left.ensures.live; is = c.left-left.ensures.part } in
     let on_right : IsTop tree (right_at here tree) c.right-right.result = record { live = c.right-right.ensures.live; is = c.right-right.ensures.part } in
     let called : IsCalled (is_live g.K.ExpiredKey.expiration g.E.Ord.cmp c.args.time) (goal.F-post g c.args.passes.now) passed (here, pair) = (sym c.is_live.ensures ∙ c.if-not-is_live.false, c.passes-on_right.ensures) in
     let called_so = λ (answer : Bool) (is : passed ≡ answer). subst (λ (b : Bool). IsCalled (is_live g.K.ExpiredKey.expiration g.E.Ord.cmp c.args.time) (goal.F-post g c.args.passes.now) b (here, pair)) is called in
     record {
-      way = way_on _ _ _ tree here c.loop-here-test.true pair c.item.ensures.value c.left-left.result c.right-right.result on_left on_right _ c.loop-here.found c.loop-here.invariant.way
-          passed c.select-here.result c.select-found.result (c.select-here.ensures.first, c.select-here.ensures.other)
-          (λ is. (called_so true is, c.select-found.ensures.first is))
-          (λ is. called_so false is)
-          c.select-found.ensures.other;
+      last = if passed then here else last;
+      next = if passed then next else here;
+      way = way_on _ _ _ _ tree here c.loop-here-test.true pair c.item.ensures.value c.left-left.result c.right-right.result on_left on_right _ last c.loop-here.invariant.way
+          passed c.select-here.result (if passed then here else last) (c.select-here.ensures.first, c.select-here.ensures.other)
+          (λ is. (called_so true is, ap (λ (b : Bool). if b then here else last) is))
+          (λ is. ap (λ (b : Bool). if b then here else last) is)
+          (λ is back holds. subst (FirstFinds (FindsCalled (is_live g.K.ExpiredKey.expiration g.E.Ord.cmp c.args.time) (goal.F-post g c.args.passes.now) false) EMPTY_REF back) (sym (ap (λ (b : Bool). if b then next else here) is)) holds)
+          (λ is back. (called_so false is, ap (λ (b : Bool). if b then next else here) is));
+      is = sought_on c.args.finds_passed passed here last next c.loop-here.found c.select-found.result c.select-found.ensures.first c.select-found.ensures.other c.loop-here.invariant.is;
       kept = c.loop-here.invariant.kept;
       slots = c.loop-here.invariant.slots;
       same = c.loop-here.invariant.same;
@@ -136,15 +150,18 @@ loop-here-preserved g c =
       first = c.loop-here.invariant.first;
     }
 
-pub returns-clause-end : goal.returns-clause-end
-returns-clause-end g c =
+ended : (g : _) (c : goal.After-loop-here g) → DescendsBetween (is_live g.K.ExpiredKey.expiration g.E.Ord.cmp c.args.time) (goal.F-post g c.args.passes.now) c.loop-here.core.shape (place_below c.loop-here.above c.loop-here.on_right) c.loop-here.invariant.last c.loop-here.invariant.next
+ended g c =
     let tree = c.loop-here.core.shape in
     let empty = part_at-none c.loop-here.here tree (ap (λ handle. occurs handle tree) c.loop-here-test.false ∙ c.loop-here.invariant.core.handles.none_empty) in
-    way_end _ _ _ tree c.loop-here.here _ c.loop-here.found empty c.loop-here.invariant.way
+    way_end _ _ _ tree c.loop-here.here _ c.loop-here.invariant.last empty c.loop-here.invariant.way
+
+pub returns-clause-end : goal.returns-clause-end
+returns-clause-end g c = (c.loop-here.invariant.last, c.loop-here.invariant.next, ended g c, c.loop-here.invariant.is)
 
 pub returns-clause-live : goal.returns-clause-live
 returns-clause-live g c some =
-    live_found (is_live g.K.ExpiredKey.expiration g.E.Ord.cmp c.args.time) (goal.F-post g c.args.passes.now) c.loop-here.core.shape (place_below c.loop-here.above c.loop-here.on_right) c.loop-here.found (returns-clause-end g c) some
+    sought_live (is_live g.K.ExpiredKey.expiration g.E.Ord.cmp c.args.time) (goal.F-post g c.args.passes.now) c.args.finds_passed c.loop-here.core.shape (place_below c.loop-here.above c.loop-here.on_right) c.loop-here.found (returns-clause-end g c) some
 
 pub returns-clause-steps : goal.returns-clause-steps
 returns-clause-steps g c = counted_all g.met.C.Counter.law c.args.core.now.shape c.args.steps.now c.loop-here.steps _ _ c.loop-here.invariant.first c.loop-here.invariant.counted

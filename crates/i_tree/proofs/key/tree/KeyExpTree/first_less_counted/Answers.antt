@@ -18,7 +18,7 @@ returns-clause-value g c =
     subst (λ (contents : Contents (g.row.K.Denot × g.row.V.Denot)). Below g.K.Ord.cmp (live_pairs g.K.ExpiredKey.expiration g.E.Ord.cmp c.args.time (items contents.shape)) c.args.key c.args.default c.value_at.result)
     c.self.view_is
     (answer_below (is_live g.K.ExpiredKey.expiration g.E.Ord.cmp c.args.time) g.met.K.Ord.total (items c.self.inside.core.shape) c.descend_to-end.new.core.shape (place_below c.descend_to-end.result.above c.descend_to-end.result.on_right) c.descend_to-end.result.found c.args.default c.value_at.result
-    (record { none_empty = c.descend_to-end.ensures.core.handles.none_empty; none = c.value_at.ensures.none; some = c.value_at.ensures.some }) c.self.invariant c.descend_to-end.ensures.kept c.args.key c.descend_to-end.ensures.end)
+    (record { none_empty = c.descend_to-end.ensures.core.handles.none_empty; none = c.value_at.ensures.none; some = c.value_at.ensures.some }) c.self.invariant c.descend_to-end.ensures.kept c.args.key c.descend_to-end.ensures.end.0 c.descend_to-end.ensures.end.1)
 
 pub invariant_of-self : goal.invariant_of-self
 invariant_of-self g c = AllPairs-without (λ (earlier : g.row.K.Denot × g.row.V.Denot) later. g.K.Ord.cmp earlier.0 later.0 ≡ Less) c.descend_to-end.ensures.kept c.self.invariant

@@ -18,7 +18,7 @@ use Rattle.i_tree.proofs.key.tree.KeyExpTree.insert_counted.Goals as goal
 
 pub insert_at-requires : goal.insert_at-requires
 insert_at-requires g c =
-    let end = c.descend_to-end.ensures.end in
+    let (next, end) = c.descend_to-end.ensures.end in
     (end.front, end.back, subst (IsPlaceBetween c.descend_to-end.new.core.shape end.front end.back) (sym c.place_below-place.ensures) end.between)
 
 -- nothing has joined
@@ -62,18 +62,18 @@ returns-in-Err-clause-core g c = c.insert_at.ensures.core
 
 pub returns-clause-slots : goal.returns-clause-slots
 returns-clause-slots g c =
-    let end = c.descend_to-end.ensures.end in
+    let (next, end) = c.descend_to-end.ensures.end in
     let joins = (c.in_default.ensures).joins end.front end.back (subst (IsPlaceBetween c.descend_to-end.new.core.shape end.front end.back) (sym c.place_below-place.ensures) end.between) in
-    let more = one_more g.met.K.Ord.total c.args.key c.args.val (is_live g.K.ExpiredKey.expiration g.E.Ord.cmp c.args.time) (items c.self.inside.core.shape) c.descend_to-end.new.core.shape c.insert_at.new.core.shape (place_below c.descend_to-end.result.above c.descend_to-end.result.on_right) c.descend_to-end.result.found c.in_default.field-0
+    let more = one_more g.met.K.Ord.total c.args.key c.args.val (is_live g.K.ExpiredKey.expiration g.E.Ord.cmp c.args.time) (items c.self.inside.core.shape) c.descend_to-end.new.core.shape c.insert_at.new.core.shape (place_below c.descend_to-end.result.above c.descend_to-end.result.on_right) c.descend_to-end.result.found next c.in_default.field-0
     end c.descend_to-end.ensures.kept joins in
     subst (λ (contents : Contents (g.row.K.Denot × g.row.V.Denot)). slots c.insert_at.new.core ≡ slots_for contents (length (items c.insert_at.new.core.shape))) c.self.view_is
     (slots_joined c.self.inside.core c.descend_to-end.new.core c.insert_at.new.core c.descend_to-end.ensures.slots (c.in_default.ensures).slots more)
 
 pub returns-clause-steps : goal.returns-clause-steps
 returns-clause-steps g c =
-    let end = c.descend_to-end.ensures.end in
+    let (next, end) = c.descend_to-end.ensures.end in
     let joins = (c.in_default.ensures).joins end.front end.back (subst (IsPlaceBetween c.descend_to-end.new.core.shape end.front end.back) (sym c.place_below-place.ensures) end.between) in
-    let more = one_more g.met.K.Ord.total c.args.key c.args.val (is_live g.K.ExpiredKey.expiration g.E.Ord.cmp c.args.time) (items c.self.inside.core.shape) c.descend_to-end.new.core.shape c.insert_at.new.core.shape (place_below c.descend_to-end.result.above c.descend_to-end.result.on_right) c.descend_to-end.result.found c.in_default.field-0
+    let more = one_more g.met.K.Ord.total c.args.key c.args.val (is_live g.K.ExpiredKey.expiration g.E.Ord.cmp c.args.time) (items c.self.inside.core.shape) c.descend_to-end.new.core.shape c.insert_at.new.core.shape (place_below c.descend_to-end.result.above c.descend_to-end.result.on_right) c.descend_to-end.result.found next c.in_default.field-0
     end c.descend_to-end.ensures.kept joins in
     let steps = counted_join g.met.C.Counter.law c.args.steps.now c.descend_to-end.new.steps c.insert_at.new.steps (length (entries c.self.inside.core.shape)) (length (entries c.descend_to-end.new.core.shape)) (length (entries c.insert_at.new.core.shape)) c.descend_to-end.ensures.steps (c.in_default.ensures).steps more in
     subst (λ (contents : Contents (g.row.K.Denot × g.row.V.Denot)). Descends g.C.Counter.made c.args.steps.now c.insert_at.new.steps (length (items contents.shape)) (length (items c.insert_at.new.core.shape)) 1) c.self.view_is
@@ -81,19 +81,19 @@ returns-clause-steps g c =
 
 pub returns-clause-ok : goal.returns-clause-ok
 returns-clause-ok g c =
-    let end = c.descend_to-end.ensures.end in
+    let (next, end) = c.descend_to-end.ensures.end in
     let joins = (c.in_default.ensures).joins end.front end.back (subst (IsPlaceBetween c.descend_to-end.new.core.shape end.front end.back) (sym c.place_below-place.ensures) end.between) in
     subst (λ (contents : Contents (g.row.K.Denot × g.row.V.Denot)). Gains (IsExpired g.K.ExpiredKey.expiration g.E.Ord.cmp c.args.time) (c.args.key, c.args.val) (items contents.shape) (items c.insert_at.new.core.shape)) c.self.view_is
-    (gains_key g.met.K.Ord.total c.args.key c.args.val (is_live g.K.ExpiredKey.expiration g.E.Ord.cmp c.args.time) (items c.self.inside.core.shape) c.descend_to-end.new.core.shape c.insert_at.new.core.shape (place_below c.descend_to-end.result.above c.descend_to-end.result.on_right) c.descend_to-end.result.found c.in_default.field-0
+    (gains_key g.met.K.Ord.total c.args.key c.args.val (is_live g.K.ExpiredKey.expiration g.E.Ord.cmp c.args.time) (items c.self.inside.core.shape) c.descend_to-end.new.core.shape c.insert_at.new.core.shape (place_below c.descend_to-end.result.above c.descend_to-end.result.on_right) c.descend_to-end.result.found next c.in_default.field-0
     end c.descend_to-end.ensures.kept joins)
 
 -- the key has its place among those that rise
 rising : (g : _) (c : goal.In_default g) → IsRising g.K.Ord.cmp (items c.insert_at.new.core.shape)
 rising g c =
-    let end = c.descend_to-end.ensures.end in
+    let (next, end) = c.descend_to-end.ensures.end in
     let joins = (c.in_default.ensures).joins end.front end.back (subst (IsPlaceBetween c.descend_to-end.new.core.shape end.front end.back) (sym c.place_below-place.ensures) end.between) in
     let absent = subst (λ (contents : Contents (g.row.K.Denot × g.row.V.Denot)). NoKey g.K.Ord.cmp (live_pairs g.K.ExpiredKey.expiration g.E.Ord.cmp c.args.time (items contents.shape)) c.args.key) (sym c.self.view_is) c.requires in
-    rising_with_key g.met.K.Ord.total c.args.key c.args.val (is_live g.K.ExpiredKey.expiration g.E.Ord.cmp c.args.time) (items c.self.inside.core.shape) c.descend_to-end.new.core.shape c.insert_at.new.core.shape (place_below c.descend_to-end.result.above c.descend_to-end.result.on_right) c.descend_to-end.result.found c.in_default.field-0
+    rising_with_key g.met.K.Ord.total c.args.key c.args.val (is_live g.K.ExpiredKey.expiration g.E.Ord.cmp c.args.time) (items c.self.inside.core.shape) c.descend_to-end.new.core.shape c.insert_at.new.core.shape (place_below c.descend_to-end.result.above c.descend_to-end.result.on_right) c.descend_to-end.result.found next c.in_default.field-0
     end c.descend_to-end.ensures.kept joins c.self.invariant absent
 
 pub invariant_of-self-2 : goal.invariant_of-self-2

@@ -1,0 +1,44 @@
+use Rattle.std.proofs.Common.{◌≡◌, ℕ, length, ap, ◌∙◌, subst}
+use Rattle.std.proofs.lemmas.List.{length-map}
+use Rattle.std.specs.declared.cmp.Ordering.TheVariants.{Less}
+use Rattle.i_tree.proofs.RootLemmas.Withouts.{AllPairs-without}
+use Rattle.i_tree.proofs.KeyLemmas.Search.{answer_above}
+use Rattle.i_tree.specs.Root.Answer.{Above, AnswersBy, IsMonotone}
+use Rattle.i_tree.specs.Root.Change.{Without}
+use Rattle.i_tree.specs.Root.Descent.{Descends}
+use Rattle.i_tree.specs.Key.KeyExpTree.{items}
+use Rattle.i_tree.specs.Key.Live.{is_live, live_pairs, IsExpired}
+use Rattle.i_tree.specs.Core.RbTree.{Contents, slots}
+use Rattle.i_tree.specs.Core.Ways.{place_below}
+use Rattle.i_tree.specs.Core.Shape.{entries}
+use Rattle.i_tree.proofs.key.tree.KeyExpTree.first_greater_by_counted.Goals as goal
+
+pub returns-clause-value : goal.returns-clause-value
+returns-clause-value g c order =
+    let live = live_pairs g.K.ExpiredKey.expiration g.E.Ord.cmp {V = g.row.V.Denot} c.args.time in
+    subst (λ (contents : Contents (g.row.K.Denot × g.row.V.Denot)). AnswersBy (goal.F-post g c.args.f) order (live (items contents.shape)) → IsMonotone g.K.Ord.cmp order (live (items contents.shape)) → Above g.K.Ord.cmp (live (items contents.shape)) order c.args.default c.value_at.result)
+    c.self.view_is
+    (answer_above (is_live g.K.ExpiredKey.expiration g.E.Ord.cmp c.args.time) g.met.K.Ord.total (items c.self.inside.core.shape) c.descend_by-end.new.core.shape (place_below c.descend_by-end.result.above c.descend_by-end.result.on_right) c.descend_by-end.result.found c.args.default c.value_at.result
+    (record { none_empty = c.descend_by-end.ensures.core.handles.none_empty; none = c.value_at.ensures.none; some = c.value_at.ensures.some }) c.self.invariant c.descend_by-end.ensures.kept _ (goal.F-post g c.args.f) (λ key answer says. says) order c.descend_by-end.ensures.end)
+
+pub invariant_of-self : goal.invariant_of-self
+invariant_of-self g c = AllPairs-without (λ (earlier : g.row.K.Denot × g.row.V.Denot) later. g.K.Ord.cmp earlier.0 later.0 ≡ Less) c.descend_by-end.ensures.kept c.self.invariant
+
+pub returns-clause-rising : goal.returns-clause-rising
+returns-clause-rising g c = AllPairs-without (λ (earlier : g.row.K.Denot × g.row.V.Denot) later. g.K.Ord.cmp earlier.0 later.0 ≡ Less) c.descend_by-end.ensures.kept c.self.invariant
+
+pub returns-clause-kept : goal.returns-clause-kept
+returns-clause-kept g c =
+    subst (λ (contents : Contents (g.row.K.Denot × g.row.V.Denot)). Without (IsExpired g.K.ExpiredKey.expiration g.E.Ord.cmp {V = g.row.V.Denot} c.args.time) (items contents.shape) (items c.descend_by-end.new.core.shape)) c.self.view_is c.descend_by-end.ensures.kept
+
+pub returns-clause-slots : goal.returns-clause-slots
+returns-clause-slots g c = c.descend_by-end.ensures.slots ∙ ap slots c.self.view_is
+
+pub returns-clause-steps : goal.returns-clause-steps
+returns-clause-steps g c =
+    subst (λ (contents : Contents (g.row.K.Denot × g.row.V.Denot)). Descends g.C.Counter.made c.args.steps.now c.descend_by-end.new.steps (length (items contents.shape)) (length (items c.descend_by-end.new.core.shape)) 0) c.self.view_is
+    (rw (length-map (entries c.self.inside.core.shape) (λ (entry : ℕ × (g.row.K.Denot × g.row.V.Denot)). entry.1), length-map (entries c.descend_by-end.new.core.shape) (λ (entry : ℕ × (g.row.K.Denot × g.row.V.Denot)). entry.1))
+    c.descend_by-end.ensures.steps)
+
+pub returns-clause-core : goal.returns-clause-core
+returns-clause-core g c = c.descend_by-end.ensures.core
