@@ -174,10 +174,10 @@ impl Expiration for usize {
 
 /// A key that expires. Keys that compare Equal are one place, whatever their expirations.
 pub trait ExpiredKey<E: Expiration>: Copy + Ord {
-    /// The time at which the key is no longer live. It depends on the key alone.
+    /// The last time at which the key is live. It depends on the key alone.
     ghost expiration: { Self → E };
 
-    /// The time at which the key is no longer live.
+    /// The last time at which the key is live.
     fn expiration(&self) -> E
         ensures { result ≡ expiration self.now };
 }
