@@ -42,6 +42,10 @@ impl<K: ExpiredKey<E>, E: Expiration, V: Copy> KeyExpCollection<K, E, V> for Few
         self.list.first_less_or_equal_by(time, default, f)
     }
 
+    fn first_greater_by<F: Fn(K) -> Ordering>(&mut self, time: E, default: V, f: F) -> V {
+        self.list.first_greater_by(time, default, f)
+    }
+
     fn contains_key(&self, time: E, key: K) -> bool {
         self.list.contains_key(time, key)
     }

@@ -14,17 +14,17 @@ use std::sync::ledger::{Blank, Ledger};
 
 type KeyTree = KeyExpTree<TimedKey, i32, i32, Global>;
 
-// Looks below 9 at time 1. Where four pairs are stored it makes four comparisons at most, and what it tests it compares or
+// Looks below 9 at time 2. Where four pairs are stored it makes four comparisons at most, and what it tests it compares or
 // removes.
 fn below_nine<L: Ledger>(steps: &mut Steps<L>, tree: &mut KeyTree) -> i32
     ensures four { length (items tree.old.shape) ≡ 4 → steps.new.comparisons ≤ steps.old.comparisons + 4 }
     ensures tests { steps.new.tests + steps.old.comparisons + steps.old.removals ≡ steps.old.tests + steps.new.comparisons + steps.new.removals }
     ensures removals { length (items tree.new.shape) + steps.new.removals ≡ length (items tree.old.shape) + steps.old.removals }
 {
-    tree.first_less_counted(steps, 1, -1, key(9))
+    tree.first_less_counted(steps, 2, -1, key(9))
 }
 
-// Inserts the keys at time 0 and looks below 9 at time 1, by key and by a closure.
+// Inserts the keys at time 0 and looks below 9 at time 2, by key and by a closure.
 fn insert_and_look_over<L: Ledger>(
     rt: &impl Abort,
     blank: Blank,
@@ -41,12 +41,12 @@ fn insert_and_look_over<L: Ledger>(
         tree.insert_counted(&mut steps, *timed, timed.key, 0)?;
     }
     let answer = below_nine(&mut steps, tree);
-    let again = tree.first_less_or_equal_by_counted(&mut steps, 1, -1, |timed| timed.key.cmp(&9));
+    let again = tree.first_less_or_equal_by_counted(&mut steps, 2, -1, |timed| timed.key.cmp(&9));
     assert_eq!(rt; again, answer);
     Ok(answer)
 }
 
-/// Inserts the keys at time 0 and answers the value below 9 at time 1, by the calls whose steps are counted.
+/// Inserts the keys at time 0 and answers the value below 9 at time 2, by the calls whose steps are counted.
 pub fn below_nine_counted(
     rt: &impl Abort,
     tree: &mut KeyTree,

@@ -17,7 +17,7 @@ struct Accepted {
 impl Accepted {
     // Whether it is live at the time and its key is below `end`.
     fn is_live_below(&self, time: i32, end: i32) -> bool {
-        self.key.expiration > time && self.key.key < end
+        self.key.expiration >= time && self.key.key < end
     }
 }
 
@@ -59,7 +59,7 @@ impl History {
     // Whether a pair that is live has the key.
     fn has_live(&self, number: i32) -> bool {
         let time = self.time;
-        self.accepted.iter().any(|pair| pair.key.key == number && pair.key.expiration > time)
+        self.accepted.iter().any(|pair| pair.key.key == number && pair.key.expiration >= time)
     }
 
     // Whether it is the value of a live pair below `end` with none between, or -1 where none is below `end`.

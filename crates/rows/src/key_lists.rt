@@ -37,9 +37,9 @@ fn answers_the_greatest_lower_key(rt: HostRuntime) -> Result<(), Fail> {
 }
 
 #[test]
-fn is_expired_at_the_equal_moment(rt: HostRuntime) -> Result<(), Fail> {
+fn is_live_at_the_equal_moment(rt: HostRuntime) -> Result<(), Fail> {
     let mut list: KeyList<Global> = KeyExpList::new(rt.alloc(), 0)?;
-    keys::is_expired_at_the_equal_moment(&rt, &mut list)
+    keys::is_live_at_the_equal_moment(&rt, &mut list)
 }
 
 #[test]
@@ -143,13 +143,13 @@ fn makes_room_by_what_has_expired(rt: HostRuntime) -> Result<(), Fail> {
     assert_eq!(rt; list.spare(), 0);
     memory.refuse_all();
     assert_eq!(rt;
-        insert(&rt, &mut list, key(3), 4),
+        insert(&rt, &mut list, key(3), 5),
         Err(Refusal::OutOfMemory)
     );
     assert_eq!(rt; list.stored(), 2);
-    insert(&rt, &mut list, key(3), 5)?;
-    assert_eq!(rt; list.first_less(5, -1, key(9)), 3);
-    assert_eq!(rt; list.first_less(5, -1, key(2)), -1);
+    insert(&rt, &mut list, key(3), 6)?;
+    assert_eq!(rt; list.first_less(6, -1, key(9)), 3);
+    assert_eq!(rt; list.first_less(6, -1, key(2)), -1);
     Ok(())
 }
 
@@ -215,7 +215,7 @@ fn keeps_what_is_stored_where_an_insertion_is_refused(rt: HostRuntime) -> Result
 fn forgets_each_expired_key_at_once(rt: HostRuntime) -> Result<(), Fail> {
     let mut list: KeyList<Global> = KeyExpList::new(rt.alloc(), 0)?;
     insert_all(&rt, &mut list, &[key(4), expiring(2, 1), expiring(6, 1)])?;
-    assert_eq!(rt; list.first_less(1, -1, key(9)), 4);
+    assert_eq!(rt; list.first_less(2, -1, key(9)), 4);
     assert_eq!(rt; list.stored(), 1);
     // At an earlier time, what is still stored answers.
     assert_eq!(rt; list.first_less(0, -1, key(3)), -1);

@@ -49,7 +49,8 @@ fn replies_present_late_and_values_in<C: KeyStore>(
         insert_at(2, expiring(5, 9)),
         less_at(1, 6),
         insert_pair_at(3, expiring(5, 9), 50),
-        less_at(3, 6),
+        insert_pair_at(4, expiring(5, 9), 50),
+        less_at(4, 6),
     ];
     assert_eq!(rt;
         replies_to(alloc, keys, &commands)?.as_slice(),
@@ -57,6 +58,7 @@ fn replies_present_late_and_values_in<C: KeyStore>(
             KeyReply::Inserted,
             KeyReply::Present,
             KeyReply::Late,
+            KeyReply::Present,
             KeyReply::Inserted,
             KeyReply::Value(50),
         ]
@@ -175,7 +177,7 @@ fn insert_and_probe<C: KeyExpCollection<Numbered, u32, u32>>(
         requires { is_live (λ (other : Numbered). other.expiration) nat_cmp probe.1 other ≡ true }
         ensures { is_live (λ (other : Numbered). other.expiration) nat_cmp probe.1 other ≡ true → result ≡ nat_cmp other.key probe.0.key }
     {
-        prove!(other.expiration > probe.1);
+        prove!(other.expiration >= probe.1);
         other.key.cmp(&probe.0.key)
     };
     run_keys(c, &commands, compare, out)
@@ -185,7 +187,7 @@ fn insert_and_probe<C: KeyExpCollection<Numbered, u32, u32>>(
 fn a_probe_may_require_that_its_key_is_live(rt: HostRuntime) -> Result<(), Fail> {
     let mut list: KeyExpList<Numbered, u32, u32, Global> = KeyExpList::new(rt.alloc(), 0)?;
     let mut replies = Vec::new(rt.alloc());
-    for (key, expiration, times) in [(4, 2, (0, 1)), (7, 5, (0, 4)), (7, 5, (5, 5))] {
+    for (key, expiration, times) in [(4, 2, (0, 2)), (7, 5, (0, 5)), (7, 5, (6, 6))] {
         let numbered = Numbered { key, expiration };
         insert_and_probe(&mut list, numbered, times, &mut replies)?;
     }

@@ -32,9 +32,9 @@ fn answers_the_greatest_lower_key(rt: HostRuntime) -> Result<(), Fail> {
 }
 
 #[test]
-fn is_expired_at_the_equal_moment(rt: HostRuntime) -> Result<(), Fail> {
+fn is_live_at_the_equal_moment(rt: HostRuntime) -> Result<(), Fail> {
     let mut tree: KeyTree<Global> = KeyExpTree::new(rt.alloc(), 0)?;
-    keys::is_expired_at_the_equal_moment(&rt, &mut tree)
+    keys::is_live_at_the_equal_moment(&rt, &mut tree)
 }
 
 #[test]
@@ -173,10 +173,10 @@ fn takes_the_slot_that_an_expired_key_on_its_way_leaves(rt: HostRuntime) -> Resu
     insert(&rt, &mut tree, expiring(7, 1), 0)?;
     assert_eq!(rt; tree.spare(), 0);
     memory.refuse_all();
-    insert(&rt, &mut tree, key(8), 1)?;
+    insert(&rt, &mut tree, key(8), 2)?;
     assert_eq!(rt; memory.requests(), 0);
     assert_eq!(rt; (tree.stored(), tree.spare()), (7, 0));
-    assert_eq!(rt; tree.first_less(1, -1, key(9)), 8);
+    assert_eq!(rt; tree.first_less(2, -1, key(9)), 8);
     Ok(())
 }
 

@@ -22,7 +22,7 @@ fn tree_of(rt: &impl Abort, alloc: Global, keys: &[TimedKey]) -> Result<KeyTree,
     Ok(tree)
 }
 
-// Looks below 9 at time 1 in three trees of these keys: by key, by a closure, and with the steps counted. Each is to give
+// Looks below 9 at time 2 in three trees of these keys: by key, by a closure, and with the steps counted. Each is to give
 // the answer, to keep so many pairs and, as the closure tells, to compare so often.
 fn goes_down_below_nine(
     rt: &impl Abort,
@@ -34,10 +34,10 @@ fn goes_down_below_nine(
 ) -> Result<(), Fail> {
     let mut tree = tree_of(rt, alloc, keys)?;
     assert_eq!(rt; tree.stored(), keys.len());
-    assert_eq!(rt; tree.first_less(1, -1, key(9)), answer);
+    assert_eq!(rt; tree.first_less(2, -1, key(9)), answer);
     assert_eq!(rt; tree.stored(), kept);
     let mut tree = tree_of(rt, alloc, keys)?;
-    assert_eq!(rt; at_most(&mut tree, 1, 9), (answer, comparisons));
+    assert_eq!(rt; at_most(&mut tree, 2, 9), (answer, comparisons));
     assert_eq!(rt; tree.stored(), kept);
     let mut tree: KeyTree = KeyExpTree::new(alloc, 0)?;
     assert_eq!(rt; below_nine_counted(rt, &mut tree, keys)?, answer);
@@ -62,7 +62,7 @@ fn goes_on_from_its_node_where_a_removal_turns_the_tree(rt: HostRuntime) -> Resu
     let keys = [key(4), key(2), expiring(5, 1), key(1)];
     goes_down_below_nine(&rt, rt.alloc(), &keys, 4, 3, 1)?;
     let mut tree = tree_of(&rt, rt.alloc(), &keys)?;
-    assert_eq!(rt; tree.first_less(1, -1, key(9)), 4);
+    assert_eq!(rt; tree.first_less(2, -1, key(9)), 4);
     let core = tree.core();
     let root = core.root();
     assert_eq!(rt; item(&rt, core, root), (key(2), 2));
@@ -80,7 +80,7 @@ fn asks_a_closure_about_live_keys_on_its_way_alone(rt: HostRuntime) -> Result<()
     }
     let calls = Cell::new(0u64);
     let even_calls = Cell::new(0u64);
-    let found = tree.first_less_or_equal_by(1, -1, |timed| {
+    let found = tree.first_less_or_equal_by(2, -1, |timed| {
         calls.set(calls.get().saturating_add(1));
         if timed.key % 2 == 0 {
             even_calls.set(even_calls.get().saturating_add(1));
@@ -112,13 +112,13 @@ fn keeps_its_balance_where_the_inner_nephew_is_red(rt: HostRuntime) -> Result<()
         if number == 10 { 1 } else { 10 },
     ));
     let mut tree = tree_of(&rt, rt.alloc(), &keys)?;
-    assert_eq!(rt; tree.first_less(1, -1, key(15)), -1);
+    assert_eq!(rt; tree.first_less(2, -1, key(15)), -1);
     assert_eq!(rt; tree.stored(), 6);
     let core = tree.core();
     let twenty = handle_of(&rt, core, 20);
     assert_eq!(rt; left(&rt, core, twenty), EMPTY_REF);
     for sought in [20, 25, 30, 40, 50, 60] {
-        let (answer, calls) = at_most(&mut tree, 1, sought);
+        let (answer, calls) = at_most(&mut tree, 2, sought);
         assert_eq!(rt; answer, sought);
         assert!(rt; calls <= 4, "{sought}");
     }
@@ -129,7 +129,7 @@ fn keeps_its_balance_where_the_inner_nephew_is_red(rt: HostRuntime) -> Result<()
 fn keeps_an_expired_key_off_its_way(rt: HostRuntime) -> Result<(), Fail> {
     let keys = [key(4), expiring(2, 1), expiring(6, 1)];
     let mut tree = tree_of(&rt, rt.alloc(), &keys)?;
-    assert_eq!(rt; tree.first_less(1, -1, key(9)), 4);
+    assert_eq!(rt; tree.first_less(2, -1, key(9)), 4);
     assert_eq!(rt; tree.stored(), 2);
     // At an earlier time, what is still stored answers.
     assert_eq!(rt; tree.first_less(0, -1, key(3)), 2);
@@ -164,7 +164,7 @@ fn stores(tree: &KeyTree, numbers: &[i32]) -> bool {
 #[test]
 fn an_insertion_removes_the_expired_keys_on_its_way_alone(rt: HostRuntime) -> Result<(), Fail> {
     let mut tree = seven_keys(&rt, rt.alloc())?;
-    insert(&rt, &mut tree, key(8), 1)?;
+    insert(&rt, &mut tree, key(8), 2)?;
     assert!(rt; stores(&tree, &[1, 2, 3, 4, 5, 8]));
     Ok(())
 }
@@ -174,9 +174,9 @@ fn a_closure_is_answered_after_a_removal_of_the_expired_keys_on_its_way_alone(
     rt: HostRuntime,
 ) -> Result<(), Fail> {
     let mut tree = seven_keys(&rt, rt.alloc())?;
-    assert_eq!(rt; at_most(&mut tree, 1, 9), (5, 2));
+    assert_eq!(rt; at_most(&mut tree, 2, 9), (5, 2));
     assert!(rt; stores(&tree, &[1, 2, 3, 4, 5]));
-    assert_eq!(rt; at_most(&mut tree, 1, 0).0, -1);
+    assert_eq!(rt; at_most(&mut tree, 2, 0).0, -1);
     assert!(rt; stores(&tree, &[2, 3, 4, 5]));
     Ok(())
 }

@@ -100,26 +100,27 @@ pub fn answers_the_greatest_lower_key<C: KeyStore>(
 }
 
 /// Looks for a key before, at and after the time at which it expires.
-pub fn is_expired_at_the_equal_moment<C: KeyStore>(
-    rt: &impl Abort,
-    keys: &mut C,
-) -> Result<(), Fail> {
+pub fn is_live_at_the_equal_moment<C: KeyStore>(rt: &impl Abort, keys: &mut C) -> Result<(), Fail> {
     insert_four(rt, keys)?;
     insert(rt, keys, expiring(4, 1), 0)?;
     assert_eq!(rt; keys.first_less(0, -1, key(5)), 4);
-    assert_eq!(rt; keys.first_less(1, -1, key(5)), 3);
+    assert_eq!(rt; keys.first_less(1, -1, key(5)), 4);
+    assert_eq!(rt; keys.first_less(2, -1, key(5)), 3);
     assert_eq!(rt; at_most(keys, 2, 5).0, 5);
     Ok(())
 }
 
-/// Inserts a key at the time at which it expires.
+/// Inserts a key at the last time at which it is live, and after that.
 pub fn never_answers_a_key_that_comes_expired<C: KeyStore>(
     rt: &impl Abort,
     keys: &mut C,
 ) -> Result<(), Fail> {
     insert_four(rt, keys)?;
     insert(rt, keys, expiring(6, 2), 2)?;
-    assert_eq!(rt; keys.first_less(2, -1, key(7)), 5);
+    assert_eq!(rt; keys.first_less(2, -1, key(7)), 6);
+    assert_eq!(rt; keys.first_less(3, -1, key(7)), 5);
+    insert(rt, keys, expiring(6, 2), 3)?;
+    assert_eq!(rt; keys.first_less(3, -1, key(7)), 5);
     Ok(())
 }
 
@@ -127,9 +128,10 @@ pub fn never_answers_a_key_that_comes_expired<C: KeyStore>(
 pub fn takes_an_expired_key_again<C: KeyStore>(rt: &impl Abort, keys: &mut C) -> Result<(), Fail> {
     insert_pair(rt, keys, expiring(4, 1), 40, 0)?;
     assert!(rt; keys.contains_key(0, key(4)));
-    assert!(rt; !keys.contains_key(1, key(4)));
-    insert_pair(rt, keys, key(4), 41, 1)?;
-    assert_eq!(rt; keys.first_less(1, -1, key(5)), 41);
+    assert!(rt; keys.contains_key(1, key(4)));
+    assert!(rt; !keys.contains_key(2, key(4)));
+    insert_pair(rt, keys, key(4), 41, 2)?;
+    assert_eq!(rt; keys.first_less(2, -1, key(5)), 41);
     Ok(())
 }
 
@@ -156,7 +158,7 @@ pub fn asks_a_closure_about_live_keys_alone<C: KeyStore>(
     insert(rt, keys, expiring(4, 1), 0)?;
     let asked = Cell::new(0u64);
     let asked_of_expired = Cell::new(0u64);
-    let found = keys.first_less_or_equal_by(1, -1, |timed| {
+    let found = keys.first_less_or_equal_by(2, -1, |timed| {
         asked.set(asked.get().saturating_add(1));
         if timed.key == 4 {
             asked_of_expired.set(asked_of_expired.get().saturating_add(1));
@@ -176,13 +178,13 @@ pub fn asks_a_closure_about_live_keys_alone<C: KeyStore>(
 /// Inserts keys whose expirations are the ends of their type, and keys that are.
 pub fn takes_the_ends_of_the_type<C: KeyStore>(rt: &impl Abort, keys: &mut C) -> Result<(), Fail> {
     insert(rt, keys, expiring(1, i32::MIN), i32::MIN)?;
-    assert_eq!(rt; keys.first_less(i32::MIN, -1, key(2)), -1);
+    assert_eq!(rt; keys.first_less(i32::MIN, -1, key(2)), 1);
     insert_all(rt, keys, &[key(i32::MIN), key(i32::MAX)])?;
     assert_eq!(rt; keys.first_less(0, -1, key(i32::MIN)), -1);
     assert_eq!(rt; keys.first_less(0, -1, key(i32::MAX)), i32::MIN);
     insert(rt, keys, expiring(3, i32::MAX), 0)?;
     assert_eq!(rt; keys.first_less(i32::MAX - 1, -1, key(4)), 3);
-    assert_eq!(rt; keys.first_less(i32::MAX, -1, key(4)), -1);
+    assert_eq!(rt; keys.first_less(i32::MAX, -1, key(4)), 3);
     Ok(())
 }
 
@@ -202,10 +204,10 @@ pub fn removes_without_memory<C: KeyStore>(
         insert(rt, keys, expiring(number, expiration), 0)?;
     }
     memory.refuse_all();
-    assert_eq!(rt; keys.first_less(1, -1, key(21)), 19);
+    assert_eq!(rt; keys.first_less(2, -1, key(21)), 19);
     let kept = keys.count();
     assert!(rt; kept < 20);
-    assert_eq!(rt; at_most(keys, 2, 10).0, 9);
+    assert_eq!(rt; at_most(keys, 3, 10).0, 9);
     assert!(rt; keys.count() < kept);
     assert_eq!(rt; memory.requests(), 0);
     Ok(())

@@ -24,11 +24,15 @@ mod key_lists;
 #[cfg(test)]
 mod key_runs;
 #[cfg(test)]
+mod key_times;
+#[cfg(test)]
 mod key_trees;
 #[cfg(test)]
 mod key_ways;
 #[cfg(test)]
 mod keys;
+#[cfg(test)]
+mod keys_above;
 #[cfg(test)]
 mod live_closures;
 #[cfg(test)]

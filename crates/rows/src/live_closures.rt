@@ -45,7 +45,7 @@ fn value_at_most<C: KeyExpCollection<Numbered, u32, u32>>(
         requires { is_live (λ (numbered : Numbered). numbered.expiration) nat_cmp time numbered ≡ true }
         ensures { is_live (λ (numbered : Numbered). numbered.expiration) nat_cmp time numbered ≡ true → result ≡ nat_cmp numbered.key sought }
     {
-        prove!(numbered.expiration > time);
+        prove!(numbered.expiration >= time);
         numbered.key.cmp(&sought)
     };
     keys.first_less_or_equal_by(time, default, compare)
@@ -61,7 +61,7 @@ fn asks_about_live_keys<C: KeyExpCollection<Numbered, u32, u32>>(
         assert!(rt; !keys.contains_key(0, numbered));
         keys.insert(numbered, key, 0)?;
     }
-    for (time, sought, answer) in [(0, 5, 4), (1, 5, 3), (1, 2, 99), (1, 8, 8)] {
+    for (time, sought, answer) in [(0, 5, 4), (1, 5, 4), (2, 5, 3), (2, 2, 99), (2, 8, 8)] {
         assert_eq!(rt;
             value_at_most(keys, time, 99, sought),
             answer,

@@ -10,7 +10,7 @@ use i_tree::{ExpiredKey, Refusal};
 use std::alloc::Allocator;
 use std::cmp::Ordering;
 
-/// A level is compared by its height alone, so that two of one height are one place. It is live at each place before its
+/// A level is compared by its height alone, so that two of one height are one place. It is live at each place up to its
 /// end.
 #[derive(Clone, Copy, Debug)]
 #[derive_where(PartialEq, Eq, PartialOrd, Ord)]
@@ -124,18 +124,22 @@ mod tests {
             begin(1, 5, 9, 3),
             ask(2, 6),
             ask(4, 6),
-            begin(4, 5, 9, 4),
+            ask(5, 6),
+            begin(5, 5, 9, 4),
             ask(5, 5),
             ask(9, 9),
             ask(10, 9),
+            ask(11, 9),
         ];
         let wanted = [
             Outcome::Began,
             Outcome::Began,
             Outcome::Taken,
             Outcome::Below(2),
+            Outcome::Below(2),
             Outcome::Below(1),
             Outcome::Began,
+            Outcome::Below(4),
             Outcome::Below(4),
             Outcome::Below(1),
             Outcome::Below(0),

@@ -78,7 +78,7 @@ fn answers_each_command_by_a_line(rt: HostRuntime) {
             ("\n \t\r\n\n", ""),
             (
                 "insert 4 1 40 0\n\ninsert 4 9 41 1\nless 1 -1 5\n",
-                "inserted\ninserted\nvalue 41\n",
+                "inserted\npresent\nvalue 40\n",
             ),
             (
                 "insert 5 10 5 0\ninsert 5 10 6 0\nleq 3 -1 5\nless 2 -1 9\nclear\nless 0 -1 9\n",
