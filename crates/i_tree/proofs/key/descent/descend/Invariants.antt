@@ -3,7 +3,7 @@ use Rattle.i_tree.proofs.KeyLemmas.Ways.{IsDescent}
 use Rattle.i_tree.specs.Core.Ways.{place_below}
 use Rattle.i_tree.specs.Key.Live.{is_live}
 use Rattle.i_tree.specs.Core.Shape.{entries, rank, part_at}
-use Rattle.i_tree.proofs.key.tree.descend.Given as goal
+use Rattle.i_tree.proofs.key.descent.descend.Given as goal
 
 -- The entry in front of the part is live and passed, the one behind it is live and didn't, and one of them is found. What is gone was expired, and as
 -- long as nothing is gone all on the way are live.

@@ -3,7 +3,7 @@ use Rattle.std.specs.Ordering.{is_lt}
 use Rattle.i_tree.specs.Key.Descent.{DescendsBetween}
 use Rattle.i_tree.specs.Key.Live.{is_live}
 use Rattle.i_tree.specs.Core.Ways.{place_below}
-use Rattle.i_tree.proofs.key.tree.descend_to.Goals as goal
+use Rattle.i_tree.proofs.key.descent.descend_to.Goals as goal
 
 pub returns-clause-all_live : goal.returns-clause-all_live
 returns-clause-all_live g c =

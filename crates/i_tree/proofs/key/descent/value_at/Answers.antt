@@ -1,6 +1,6 @@
 use Rattle.std.proofs.Common.{ap}
 use Rattle.i_tree.proofs.CoreLemmas.PartHandles.{value_at}
-use Rattle.i_tree.proofs.key.tree.value_at.Goals as goal
+use Rattle.i_tree.proofs.key.descent.value_at.Goals as goal
 
 pub returns-clause-some : goal.returns-clause-some
 returns-clause-some g c some front pair back is =

@@ -13,7 +13,7 @@ use Rattle.i_tree.specs.Core.Shape.{entries, rank, left_at, right_at, part_at, o
 use Rattle.i_tree.specs.Core.Ways.{place_below}
 use Rattle.i_tree.specs.Root.Ends.{FirstFinds}
 use Rattle.i_tree.specs.declared.TheConstants.{EMPTY_REF}
-use Rattle.i_tree.proofs.key.tree.descend.Goals as goal
+use Rattle.i_tree.proofs.key.descent.descend.Goals as goal
 
 pub loop-here-init : goal.loop-here-init
 loop-here-init g c =
