@@ -114,8 +114,9 @@ fn answers_backward<C: KeyExpCollection<Backward, i32, i32>>(
     keys: &mut C,
 ) -> Result<(), Fail> {
     for number in [1, 2, 3] {
-        assert!(rt; !keys.contains_key(0, backward_key(number)));
-        keys.insert(backward_key(number), number, 0)?;
+        let key = backward_key(number);
+        assert!(rt; !keys.contains_key(0, key));
+        keys.insert(key, number, 0)?;
     }
     assert_eq!(rt; keys.first_less(0, -1, backward_key(2)), 3);
     Ok(())
