@@ -9,8 +9,7 @@ pub struct Edge {
     pub name: u32,
     pub left: i32,
     pub right: i32,
-    pub low: i32,
-    pub high: i32,
+    pub heights: SegRange<i32>,
 }
 
 impl ExpiredVal<i32> for Edge {
@@ -24,28 +23,24 @@ impl ExpiredVal<i32> for Edge {
 type Pairs = Vec<(u32, u32)>;
 
 /// Each pair of edges whose boxes meet, once, and some that lie near each other: the candidates for a crossing. `None` where
-/// an edge begins left of the one before it, or lies outside the heights, or these have no layout.
+/// an edge begins left of the one before it, or lies outside the range, or that has no layout.
 pub fn candidates(
     alloc: Global,
     edges: &[Edge],
-    heights: SegRange<i32>,
+    range: SegRange<i32>,
 ) -> Result<Option<Pairs>, Refusal> {
-    let Some(mut active) = SegExpTree::new(alloc, heights)? else {
+    let Some(mut active) = SegExpTree::new(alloc, range)? else {
         return Ok(None);
     };
     let mut pairs = Vec::new(alloc);
     let mut near: Vec<Edge> = Vec::new(alloc);
     for place in 0..edges.len() {
         let edge = edges[place];
-        let range = SegRange {
-            min: edge.low,
-            max: edge.high,
-        };
-        if !active.accepts(range) || !active.is_in_time(edge.left) {
+        if !active.accepts(edge.heights) || !active.is_in_time(edge.left) {
             return Ok(None);
         }
-        active.collect_by_range(range, edge.left, &mut near)?;
-        active.insert_by_range(range, edge)?;
+        active.collect_by_range(edge.heights, edge.left, &mut near)?;
+        active.insert_by_range(edge.heights, edge)?;
         for other in &near {
             pairs.push((other.name, edge.name))?;
         }
@@ -59,7 +54,7 @@ mod tests {
     use super::*;
     use std::test::Fail;
 
-    const HEIGHTS: SegRange<i32> = SegRange { min: 0, max: 1023 };
+    const WHOLE: SegRange<i32> = SegRange { min: 0, max: 1023 };
 
     // The next number of a sequence without visible order.
     fn next_random(state: &mut u64) -> i32 {
@@ -81,8 +76,10 @@ mod tests {
                 name,
                 left,
                 right: left.saturating_add(next_random(&mut state) % 100),
-                low,
-                high: low.saturating_add(next_random(&mut state) % 64),
+                heights: SegRange {
+                    min: low,
+                    max: low.saturating_add(next_random(&mut state) % 64),
+                },
             })?;
         }
         Ok(edges)
@@ -90,12 +87,13 @@ mod tests {
 
     // Whether the boxes meet, where the first one begins no later.
     fn boxes_meet(first: Edge, second: Edge) -> bool {
-        second.left <= first.right && first.low <= second.high && second.low <= first.high
+        let (one, other) = (first.heights, second.heights);
+        second.left <= first.right && one.min <= other.max && other.min <= one.max
     }
 
     // The candidates, which the edges have, in rising order.
     fn sorted_candidates(alloc: Global, edges: &[Edge]) -> Result<Pairs, Fail> {
-        match candidates(alloc, edges, HEIGHTS)? {
+        match candidates(alloc, edges, WHOLE)? {
             Some(mut pairs) => {
                 pairs.sort_unstable();
                 Ok(pairs)
