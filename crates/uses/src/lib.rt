@@ -4,4 +4,5 @@
 pub mod crossing_candidates;
 pub mod kept_handles;
 pub mod level_below;
+pub mod seen_below;
 pub mod sweep_events;
