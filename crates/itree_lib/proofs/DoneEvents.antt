@@ -8,8 +8,8 @@ use Rattle.std.proofs.lemmas.Cmp.{ranked, int_ranked}
 use Rattle.std.proofs.lemmas.Int.{ints}
 use Rattle.std.proofs.lemmas.List.{get_or-take, get_or_default, length-take-le, take_more}
 use Rattle.std.proofs.lemmas.List.Elements.{Contains-get_or}
-use Rattle.itree_lib.specs.Schedule.{beginning_of, answering_of, ComesBeforeAt, Precedes, PointAt, IsEventOf, IsSchedule}
-use Rattle.itree_lib.specs.Sweep.{Covers, NoneCollide, Placed, StandsIn, ComesBefore, Overlaps, IsFirstOverlap}
+use Rattle.itree_lib.specs.Schedule.{beginning_of, answering_of, ComesBeforeAt, Precedes, IsEventOf, IsSchedule}
+use Rattle.itree_lib.specs.Sweep.{Covers, NoneCollide, Placed, StandsIn, ComesBefore, Overlaps, IsFirstOverlap, StandsAt}
 use Rattle.itree_lib.specs.declared.sweep.Point.{Point}
 use Rattle.itree_lib.specs.declared.sweep.Segment.{Segment}
 use Rattle.itree_lib.specs.declared.sweep.events.Event.{Event}
@@ -77,10 +77,10 @@ module _ (segments : List Segment) (points : List Point) (events : List Event) (
         by_event (inl found) = found
         by_event (inr (point, stands, same)) = let apart : Begin ≡ Answer = sym begins ∙ ap (λ (e : Event). e.task) same in cc
 
-    pub answers_of : event.task ≡ Answer → (point : Point) × PointAt points event.place point × (event ≡ answering_of event.place point)
+    pub answers_of : event.task ≡ Answer → (point : Point) × StandsAt points event.place point × (event ≡ answering_of event.place point)
     answers_of answers = by_event event_of
       where
-        by_event : IsEventOf segments points event → (point : Point) × PointAt points event.place point × (event ≡ answering_of event.place point)
+        by_event : IsEventOf segments points event → (point : Point) × StandsAt points event.place point × (event ≡ answering_of event.place point)
         by_event (inr found) = found
         by_event (inl (segment, stands, some, same)) = let apart : Answer ≡ Begin = sym answers ∙ ap (λ (e : Event). e.task) same in cc
 

@@ -12,8 +12,8 @@ use Rattle.i_tree.specs.Root.Answer.{AtMost}
 use Rattle.i_tree.specs.Root.Change.{Gains, Without}
 use Rattle.i_tree.specs.Root.Pairs.{HasKey, NoKey}
 use Rattle.itree_lib.specs.Levels.{Entry, level_of, entry_of, cmp_levels, live_entries, HasEnded}
-use Rattle.itree_lib.specs.Schedule.{beginning_of, answering_of, PointAt, IsSchedule}
-use Rattle.itree_lib.specs.Sweep.{IsHeightBelow, Placed, StandsIn, Overlaps, IsFirstOverlap}
+use Rattle.itree_lib.specs.Schedule.{beginning_of, answering_of, IsSchedule}
+use Rattle.itree_lib.specs.Sweep.{IsHeightBelow, Placed, StandsIn, Overlaps, IsFirstOverlap, StandsAt}
 use Rattle.itree_lib.specs.declared.sweep.Point.{Point}
 use Rattle.itree_lib.specs.declared.sweep.Segment.{Segment}
 use Rattle.itree_lib.specs.declared.sweep.events.Event.{Event}
@@ -26,7 +26,7 @@ pub record Served (segments : List Segment) (points : List Point) (done : List E
   pub room : length answers ≡ length points
   pub holds : Holds segments done entries
   pub free : (placed : Placed) → StandsIn segments placed → Contains done (beginning_of placed.0 placed.1) → ¬ (Overlaps segments placed)
-  pub answered : (place : ℕ) (point : Point) → PointAt points place point → Contains done (answering_of place point) → IsHeightBelow segments point (get_or answers place None)
+  pub answered : (place : ℕ) (point : Point) → StandsAt points place point → Contains done (answering_of place point) → IsHeightBelow segments point (get_or answers place None)
 
 module _ (segments : List Segment) (points : List Point) (events : List Event) (schedule : IsSchedule segments points events)
     (k : ℕ) (event : Event) (inside : k < length events) (is : event ≡ get_or events k event)
@@ -98,13 +98,13 @@ module _ (segments : List Segment) (points : List Point) (events : List Event) (
               (Contains-push_cases (take k events) event (answering_of place other) done);
         })
       where
-        whose : (point : Point) × PointAt points event.place point × (event ≡ answering_of event.place point)
+        whose : (point : Point) × StandsAt points event.place point × (event ≡ answering_of event.place point)
         whose = answers_of segments points events schedule k event inside is answers_now
 
         point : Point
         point = whose.0
 
-        stands : PointAt points event.place point
+        stands : StandsAt points event.place point
         stands = whose.1
 
         same : event ≡ answering_of event.place point
@@ -124,7 +124,7 @@ module _ (segments : List Segment) (points : List Point) (events : List Event) (
             (subst (λ (p : Point). AtMost cmp_levels (live_entries p.x entries) (λ level. int_cmp level.y p.y) None value) one at_most)
 
         -- the answer stands at the point's place, and the others are as they were
-        put : (place : ℕ) (other : Point) → PointAt points place other → (place ≢ event.place → IsHeightBelow segments other (get_or answers place None)) → IsHeightBelow segments other (get_or (set answers event.place value) place None)
+        put : (place : ℕ) (other : Point) → StandsAt points place other → (place ≢ event.place → IsHeightBelow segments other (get_or answers place None)) → IsHeightBelow segments other (get_or (set answers event.place value) place None)
         put place other stands' elsewhere = told (nat_cmp place event.place) (ranked place event.place (nat_cmp place event.place) refl)
           where
             away : place ≢ event.place → IsHeightBelow segments other (get_or (set answers event.place value) place None)

@@ -1,6 +1,6 @@
 -- In which order a sweep goes through the events of its segments and points. For the private contracts of `below`.
-use Rattle.std.specs.Prelude.{◌≡◌, ◌++◌, ◌⊎◌, ⊤, ℕ, ◌<◌, ◌<ℤ◌, ◌≤ℤ◌, List, All, AllPairs, Contains, length, get_or}
-use Rattle.itree_lib.specs.Sweep.{StandsIn}
+use Rattle.std.specs.Prelude.{◌≡◌, ◌++◌, ◌⊎◌, ⊤, ℕ, ◌<◌, ◌<ℤ◌, ◌≤ℤ◌, List, All, AllPairs, Contains}
+use Rattle.itree_lib.specs.Sweep.{StandsAt, StandsIn}
 use Rattle.itree_lib.specs.declared.sweep.Point.{Point}
 use Rattle.itree_lib.specs.declared.sweep.Segment.{Segment}
 use Rattle.itree_lib.specs.declared.sweep.events.Event.{Event}
@@ -26,26 +26,18 @@ ComesBeforeAt Answer place Answer other = place < other
 abbrev pub Precedes : Event → Event → Type 0
 Precedes first second = (first.x <ℤ second.x) ⊎ ((first.x ≡ second.x) × ComesBeforeAt first.task first.place second.task second.place)
 
--- the point stands at this place of the list
-abbrev pub PointAt : List Point → ℕ → Point → Type 0
-PointAt points place point = (place < length points) × (get_or points place point ≡ point)
-
 -- the event is that of a segment that covers something, or that of a point
 abbrev pub IsEventOf : List Segment → List Point → Event → Type 0
 IsEventOf segments points event =
     ((segment : Segment) × StandsIn segments (event.place, segment) × (segment.x0 ≤ℤ segment.x1) × (event ≡ beginning_of event.place segment))
-    ⊎ ((point : Point) × PointAt points event.place point × (event ≡ answering_of event.place point))
+    ⊎ ((point : Point) × StandsAt points event.place point × (event ≡ answering_of event.place point))
 
 -- the events are those of all segments that cover something, and of all points, each once, and in order
 pub record IsSchedule (segments : List Segment) (points : List Point) (events : List Event) : Type 0 where
   pub begins : (place : ℕ) (segment : Segment) → StandsIn segments (place, segment) → segment.x0 ≤ℤ segment.x1 → Contains events (beginning_of place segment)
-  pub answers : (place : ℕ) (point : Point) → PointAt points place point → Contains events (answering_of place point)
+  pub answers : (place : ℕ) (point : Point) → StandsAt points place point → Contains events (answering_of place point)
   pub of : All (IsEventOf segments points) events
   pub in_order : AllPairs Precedes events
-
--- the item stands at this place of the list
-abbrev pub StandsAt : {X : Type 0} → List X → ℕ → X → Type 0
-StandsAt items place item = (place < length items) × (get_or items place item ≡ item)
 
 -- the events are those of the items that have one, in the order of their places
 pub record ListsEvents {X : Type 0} (Has : X → Type 0) (event_of : ℕ → X → Event) (items : List X) (events : List Event) : Type 0 where

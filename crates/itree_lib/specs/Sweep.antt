@@ -26,13 +26,17 @@ Collide first second = (first.y ≡ second.y) × ((x : ℤ) × Covers first x ×
 abbrev pub NoneCollide : List Segment → Type 0
 NoneCollide segments = AllPairs (λ first second. ¬ (Collide first second)) segments
 
+-- the item stands at this place of the list
+abbrev pub StandsAt : {X : Type 0} → List X → ℕ → X → Type 0
+StandsAt items place item = (place < length items) × (get_or items place item ≡ item)
+
 -- a segment and its place in a list
 abbrev pub Placed : Type 0
 Placed = ℕ × Segment
 
 -- the segment stands at its place in the list
 abbrev pub StandsIn : List Segment → Placed → Type 0
-StandsIn segments placed = (placed.0 < length segments) × (get_or segments placed.0 placed.1 ≡ placed.1)
+StandsIn segments placed = StandsAt segments placed.0 placed.1
 
 -- the first comes before the second in the order of where they begin, and of their places where they begin at one x
 abbrev pub ComesBefore : Placed → Placed → Type 0
