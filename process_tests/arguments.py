@@ -1,0 +1,92 @@
+"""Faulty arguments, which the program tells before it reads any input; and ranges that are sound."""
+
+import os
+
+from processes import ARGUMENTS, Case, Outcome, answered, by_file, outcome_of, redirected
+
+FAULTY = (
+    ("no argument", []),
+    ("an empty one", [""]),
+    ("an unknown mode", ["nonsense"]),
+    ("a mode in capitals", ["KEYTREE"]),
+    ("the beginning of a mode", ["key"]),
+    ("a mode and a letter", ["settrees"]),
+    ("a mode and a space", ["keylist "]),
+    ("a line as one argument", ["seg 0 128"]),
+    ("an option", ["--help"]),
+    ("an option before a mode", ["--", "keylist"]),
+    ("one too many after keytree", ["keytree", "extra"]),
+    ("one too many after keylist", ["keylist", "extra"]),
+    ("one too many after settree", ["settree", "setlist"]),
+    ("one too many after setlist", ["setlist", ""]),
+    ("one too many after sweep", ["sweep", "extra"]),
+    ("seg alone", ["seg"]),
+    ("seg and one number", ["seg", "0"]),
+    ("seg and three numbers", ["seg", "0", "128", "256"]),
+    ("a range one too short", ["seg", "0", "30"]),
+    ("a range of one number", ["seg", "7", "7"]),
+    ("a range that goes down", ["seg", "128", "0"]),
+    ("a range that goes down from end to end", ["seg", "2147483647", "-2147483648"]),
+    ("words for numbers", ["seg", "zero", "many"]),
+    ("a number above the greatest", ["seg", "0", "2147483648"]),
+    ("a number below the least", ["seg", "-2147483649", "0"]),
+    ("an empty number", ["seg", "", "128"]),
+    ("a space before a number", ["seg", " 0", "128"]),
+    ("a line feed after a number", ["seg", "0", "128\n"]),
+    ("a number with a point", ["seg", "0", "128."]),
+    ("a number with two signs", ["seg", "--5", "128"]),
+    ("a number in base 16", ["seg", "0x0", "128"]),
+    ("text beyond ASCII", ["clé"]),
+    ("digits beyond ASCII", ["seg", "0", "\u0661\u0662\u0668"]),
+    ("an argument that is no text", [b"\xff"]),
+    ("a mode and a byte that is no text", [b"keylist\xff"]),
+    ("no text after a mode", ["keylist", b"\xff"]),
+    ("no text for a number", ["seg", "0", b"\xc3"]),
+    ("a long word", ["k" * 100_000]),
+)
+
+SOUND = (
+    ("the least range", "seg 0 31"),
+    ("a range from end to end", "seg -2147483648 2147483647"),
+    ("a range below zero", "seg -63 -0"),
+    ("a range with signs and zeros", "seg +0 000128"),
+)
+
+
+# So many seconds are enough to look at arguments.
+SOON = 5
+
+
+def from_silent_pipe(command, _given):
+    """Gives standard input that has nothing yet and doesn't end."""
+    read, write = os.pipe()
+    try:
+        return outcome_of(command, stdin=read, timeout=SOON)
+    finally:
+        os.close(read)
+        os.close(write)
+
+
+INPUTS = (
+    ("a faulty line", by_file),
+    ("an input that gives nothing and doesn't end", from_silent_pipe),
+    ("an input that gives zeros and doesn't end", redirected("< /dev/zero", "ulimit -v 1000000;")),
+    ("a folder as input", redirected("< /")),
+    ("a closed input", redirected("<&-")),
+)
+
+
+def faulty_arguments():
+    """Cases of faulty arguments, over each of the inputs."""
+    for what, words in FAULTY:
+        for over, how in INPUTS:
+            yield Case(f"{what}, over {over}", words, b"nonsense\n", Outcome(2, b"", ARGUMENTS), how)
+
+
+def sound_ranges():
+    """Cases of ranges that have a layout."""
+    for what, mode in SOUND:
+        yield answered(what, mode, b"clear\n", b"cleared\n")
+
+
+PARTS = faulty_arguments, sound_ranges

@@ -1,0 +1,101 @@
+"""Runs of the program as a process, and what is to come of each."""
+
+import subprocess
+import tempfile
+from typing import Callable, NamedTuple, Sequence, Union
+
+# A process that has not ended after so many seconds is stopped.
+LIMIT = 60
+
+# Faults that standard error is told.
+ARGUMENTS = b"itree: arguments\n"
+
+
+def faulty_line(number):
+    return b"itree: line %d\n" % number
+
+
+class Beginning(bytes):
+    """Stands for each text that is a beginning of this one, and not all of it."""
+
+    def __eq__(self, got):
+        return len(got) < len(self) and self.startswith(got)
+
+    __hash__ = bytes.__hash__
+
+
+class Outcome(NamedTuple):
+    """What a process left: its status (a signal as text), standard output and standard error."""
+
+    status: Union[int, str]
+    output: bytes = b""
+    faults: bytes = b""
+
+
+def outcome_of(command, **streams):
+    """Runs a command over the streams given; the others are pipes, and standard input is empty."""
+    how = {"stdout": subprocess.PIPE, "stderr": subprocess.PIPE, "timeout": LIMIT, **streams}
+    if not {"stdin", "input"} & {*how}:
+        how["input"] = b""
+    try:
+        ran = subprocess.run(command, **how)
+    except subprocess.TimeoutExpired:
+        return Outcome(f"no end after {LIMIT} seconds")
+    status = ran.returncode if ran.returncode >= 0 else f"signal {-ran.returncode}"
+    return Outcome(status, ran.stdout or b"", ran.stderr or b"")
+
+
+def by_file(command, given):
+    """Gives standard input as a file."""
+    with tempfile.TemporaryFile() as text:
+        text.write(given)
+        text.seek(0)
+        return outcome_of(command, stdin=text)
+
+
+def by_pipe(command, given):
+    """Gives standard input through a pipe."""
+    return outcome_of(command, input=given)
+
+
+def redirected(redirections, first=""):
+    """Runs with these redirections of a shell, after its first command; standard input is a file where they leave it."""
+
+    def run(command, given):
+        return by_file(["sh", "-c", f'{first} exec "$@" {redirections}', "sh", *command], given)
+
+    return run
+
+
+class Case(NamedTuple):
+    """A run of the program, and what is to come of it."""
+
+    name: str
+    words: Sequence[Union[str, bytes]]
+    given: bytes
+    wanted: Outcome
+    how: Callable[[list, bytes], Outcome] = by_file
+
+    def got(self, program):
+        return self.how([program, *self.words], self.given)
+
+
+def answered(name, mode, given, replies, how=by_file):
+    """The case that the lines given are answered by these replies."""
+    return Case(f"{mode}: {name}", mode.split(), given, Outcome(0, replies), how)
+
+
+def refused(name, mode, given, line, how=by_file):
+    """The case that this line is the first faulty one."""
+    return Case(f"{mode}: {name}", mode.split(), given, Outcome(2, b"", faulty_line(line)), how)
+
+
+def dialogue(said):
+    """The lines of a text, and the replies that stand behind some of them after an arrow."""
+    rows = [row.strip().partition(" -> ") for row in said.strip().splitlines()]
+    return lines(*(row[0] for row in rows)), lines(*(row[2] for row in rows if row[1]))
+
+
+def lines(*texts):
+    """The bytes of these lines."""
+    return "".join(f"{text}\n" for text in texts).encode()

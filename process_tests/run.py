@@ -1,0 +1,99 @@
+#!/usr/bin/env python3
+"""Tests of the built program: in each case a process runs, and its status, standard output and standard error are compared.
+
+usage: process_tests/run.py [PROGRAM ..]
+
+With no program it is crates/itree/out/itree, which `rt run` and `rt ci` leave there. Each run that fails is printed with
+what was wanted and what came. The last line is 'N passed, M failed'.
+"""
+
+import importlib
+import os
+import sys
+from concurrent.futures import ProcessPoolExecutor, as_completed
+
+sys.dont_write_bytecode = True
+
+HERE = os.path.dirname(os.path.abspath(__file__))
+BUILT = os.path.normpath(os.path.join(HERE, "..", "crates", "itree", "out", "itree"))
+
+# The modules that have cases.
+GROUPS = (
+    "worked",
+    "arguments",
+    "text",
+    "streams",
+    "many",
+)
+
+# So many parts of a module run side by side.
+AT_ONCE = 2
+
+# So much of a long text is printed.
+SHOWN = 200
+
+
+def shown(wanted, got):
+    """Both from their first difference on, cut where they are long."""
+    if not isinstance(wanted, bytes) or max(len(wanted), len(got)) <= SHOWN:
+        return repr(wanted), repr(got)
+    start = len(os.path.commonprefix([wanted, got]))
+    line = wanted.count(b"\n", 0, start) + 1
+    cut = "{!r} from byte {}, line {}, of {} bytes"
+    return tuple(cut.format(text[start:start + SHOWN], start, line, len(text)) for text in (wanted, got))
+
+
+def told(program, case, got):
+    """How the case failed."""
+    said = [f"FAILED {case.name} ({os.path.basename(program)})"]
+    for part in got._fields:
+        wanted, came = getattr(case.wanted, part), getattr(got, part)
+        if not wanted == came:
+            wanted, came = shown(wanted, came)
+            said += [f"    {part}: wanted {wanted}", f"    {part}: got    {came}"]
+    return "\n".join(said)
+
+
+def failures(programs, cases):
+    """How many runs there were, and how some of them failed."""
+    runs, failed = 0, []
+    for case in cases:
+        outcomes = [(program, case.got(program)) for program in programs]
+        runs += len(outcomes)
+        failed += [told(program, case, got) for program, got in outcomes if not case.wanted == got]
+    return runs, failed
+
+
+def part_failures(part):
+    """As `failures`, of the cases of a module's part."""
+    programs, group, place = part
+    return failures(programs, importlib.import_module(group).PARTS[place]())
+
+
+def parts(programs):
+    """All parts of all modules, those of the last modules first: they take long."""
+    return [
+        (programs, group, place)
+        for group in reversed(GROUPS)
+        for place in range(len(importlib.import_module(group).PARTS))
+    ]
+
+
+def main(programs):
+    programs = [os.path.abspath(program) for program in programs or [BUILT]]
+    runs = failed = 0
+    for program in programs:
+        if not (os.path.isfile(program) and os.access(program, os.X_OK)):
+            print(f"FAILED no program at {program}: `rt run` in crates/itree builds it\n0 passed, 1 failed")
+            return 1
+    with ProcessPoolExecutor(AT_ONCE) as pool:
+        for done in as_completed([pool.submit(part_failures, part) for part in parts(programs)]):
+            more, said = done.result()
+            print(*said, sep="\n", end="\n" * bool(said), flush=True)
+            runs, failed = runs + more, failed + len(said)
+    print(f"{runs - failed} passed, {failed} failed")
+    return 1 if failed else 0
+
+
+if __name__ == "__main__":
+    sys.exit(main(sys.argv[1:]))
