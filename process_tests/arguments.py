@@ -2,7 +2,7 @@
 
 import os
 
-from processes import ARGUMENTS, Case, Outcome, answered, by_file, outcome_of, redirected
+from processes import ARGUMENTS, SOON, Case, Outcome, answered, by_file, outcome_of, redirected
 
 FAULTY = (
     ("no argument", []),
@@ -36,8 +36,8 @@ FAULTY = (
     ("a number with a point", ["seg", "0", "128."]),
     ("a number with two signs", ["seg", "--5", "128"]),
     ("a number in base 16", ["seg", "0x0", "128"]),
-    ("text beyond ASCII", ["clé"]),
-    ("digits beyond ASCII", ["seg", "0", "\u0661\u0662\u0668"]),
+    ("text beyond ASCII", ["clé".encode()]),
+    ("digits beyond ASCII", ["seg", "0", "\u0661\u0662\u0668".encode()]),
     ("an argument that is no text", [b"\xff"]),
     ("a mode and a byte that is no text", [b"keylist\xff"]),
     ("no text after a mode", ["keylist", b"\xff"]),
@@ -53,10 +53,6 @@ SOUND = (
 )
 
 
-# So many seconds are enough to look at arguments.
-SOON = 5
-
-
 def from_silent_pipe(command, _given):
     """Gives standard input that has nothing yet and doesn't end."""
     read, write = os.pipe()
@@ -70,7 +66,7 @@ def from_silent_pipe(command, _given):
 INPUTS = (
     ("a faulty line", by_file),
     ("an input that gives nothing and doesn't end", from_silent_pipe),
-    ("an input that gives zeros and doesn't end", redirected("< /dev/zero", "ulimit -v 1000000;")),
+    ("an input that gives zeros and doesn't end", redirected("< /dev/zero", "ulimit -v 1000000;", SOON)),
     ("a folder as input", redirected("< /")),
     ("a closed input", redirected("<&-")),
 )

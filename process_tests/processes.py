@@ -5,7 +5,10 @@ import tempfile
 from typing import Callable, NamedTuple, Sequence, Union
 
 # A process that has not ended after so many seconds is stopped.
-LIMIT = 60
+LIMIT = 30
+
+# So many seconds are enough to decide the arguments.
+SOON = 5
 
 # Faults that standard error is told.
 ARGUMENTS = b"itree: arguments\n"
@@ -40,17 +43,17 @@ def outcome_of(command, **streams):
     try:
         ran = subprocess.run(command, **how)
     except subprocess.TimeoutExpired:
-        return Outcome(f"no end after {LIMIT} seconds")
+        return Outcome(f"no end after {how['timeout']} seconds")
     status = ran.returncode if ran.returncode >= 0 else f"signal {-ran.returncode}"
     return Outcome(status, ran.stdout or b"", ran.stderr or b"")
 
 
-def by_file(command, given):
+def by_file(command, given, limit=LIMIT):
     """Gives standard input as a file."""
     with tempfile.TemporaryFile() as text:
         text.write(given)
         text.seek(0)
-        return outcome_of(command, stdin=text)
+        return outcome_of(command, stdin=text, timeout=limit)
 
 
 def by_pipe(command, given):
@@ -58,11 +61,12 @@ def by_pipe(command, given):
     return outcome_of(command, input=given)
 
 
-def redirected(redirections, first=""):
-    """Runs with these redirections of a shell, after its first command; standard input is a file where they leave it."""
+def redirected(redirections, first="", limit=LIMIT):
+    """Runs with these redirections of a shell, after its first command. Standard input is a file if they leave it."""
 
     def run(command, given):
-        return by_file(["sh", "-c", f'{first} exec "$@" {redirections}', "sh", *command], given)
+        shell = ["sh", "-c", f'{first} exec "$@" {redirections}', "sh"]
+        return by_file([*shell, *command], given, limit)
 
     return run
 

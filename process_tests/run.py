@@ -1,10 +1,10 @@
 #!/usr/bin/env python3
-"""Tests of the built program: in each case a process runs, and its status, standard output and standard error are compared.
+"""Tests of the built program: in each case a process runs; its status and what it wrote to both streams are compared.
 
 usage: process_tests/run.py [PROGRAM ..]
 
-With no program it is crates/itree/out/itree, which `rt run` and `rt ci` leave there. Each run that fails is printed with
-what was wanted and what came. The last line is 'N passed, M failed'.
+With no program it is crates/itree/out/itree, which `rt run` and `rt ci` leave there. Each run that fails is printed,
+with what was wanted and what came. The last line is 'N passed, M failed'.
 """
 
 import importlib
@@ -22,6 +22,7 @@ GROUPS = (
     "worked",
     "arguments",
     "text",
+    "odd",
     "streams",
     "many",
 )

@@ -7,15 +7,7 @@ import time
 from contextlib import suppress
 
 from processes import ARGUMENTS, Beginning, Case, Outcome, answered, dialogue, faulty_line, outcome_of, redirected
-
-# Each mode with a line and its reply.
-PLAIN = (
-    ("keytree", b"less 0 -1 4\n", b"value -1\n"),
-    ("keylist", b"leq 0 -1 4\n", b"value -1\n"),
-    ("settree", b"find 4\n", b"none\n"),
-    ("setlist", b"insert 4\n", b"inserted\n"),
-    ("seg 0 128", b"insert 0 1 2 3\n", b"inserted\n"),
-)
+from text import PLAIN
 
 # More lines than one write of a pipe takes the replies of.
 MANY = 100_000
@@ -167,16 +159,19 @@ def of_mode(mode, line, reply):
         yield Case(f"faulty arguments after {mode}: {name}", [*words, "no"], line, told, how)
     yield answered("an input of nothing", mode, line, b"", redirected("< /dev/null"))
     yield answered("no replies, a full device as output", mode, b"\n", b"", redirected("> /dev/full"))
-    too_long = b"\n" * 40_000_000
-    yield Case(f"{mode}: too little memory for the text", words, too_long, Outcome(1), redirected("", "ulimit -v 32768;"))
+    too_long, little = b"\n" * 40_000_000, redirected("", "ulimit -v 32768;")
+    yield Case(f"{mode}: too little memory for the text", words, too_long, Outcome(1), little)
 
 
-def each_mode():
+def each_mode(rows=PLAIN):
     """Cases of all modes."""
-    for mode, line, reply in PLAIN:
-        yield from of_mode(mode, line, reply)
-    closed = redirected("<&- >&- 2>&-")
-    yield Case("no argument, all streams closed", [], b"", Outcome(2), closed)
+    for mode, line, reply in rows:
+        yield from of_mode(mode, line + b"\n", reply)
+
+
+def no_argument():
+    """The case of faulty arguments where there is no stream at all."""
+    yield Case("no argument, all streams closed", [], b"", Outcome(2), redirected("<&- >&- 2>&-"))
 
 
 def parts_taken():
@@ -198,4 +193,4 @@ def parts_taken():
     yield answered("some lines in pieces", "settree", given, replies, in_pieces)
 
 
-PARTS = each_mode, parts_taken
+PARTS = each_mode, no_argument, parts_taken

@@ -3,11 +3,20 @@
 from functools import partial
 from random import Random
 
+import streams
 from many import MANY, SEED
 from models import colliding, heights_below
-from processes import Case, Outcome, answered, by_file, by_pipe, dialogue, lines, redirected, refused
+from odd import read, texts_by_chance
+from processes import Case, Outcome, answered, by_file, by_pipe, dialogue, lines, refused
+from text import empty_texts, line_numbers, plain_lines
 
 LEAST, GREATEST = -2147483648, 2147483647
+
+# The mode with a line and its reply.
+PLAIN = "sweep", b"point 0 4", b"none\n"
+
+# The commands, with how many numbers each has.
+FORMS = {b"segment": 3, b"point": 2}
 
 ANSWERED = (
     ("points before, between and behind segments", """
@@ -99,41 +108,50 @@ def worked():
         given, replies = dialogue(said)
         yield answered(name, "sweep", given, replies)
         yield answered(f"{name}, through a pipe", "sweep", given, replies, by_pipe)
-    for name, line, texts in OVERLAPPING:
-        yield overlapping(f"overlap, {name}", lines(*texts), line)
+    for name, line, said in OVERLAPPING:
+        yield overlapping(f"overlap, {name}", lines(*said), line)
     for text in FAULTY:
         given = lines("segment 0 5 1", "segment 5 9 1", text, "nonsense")
         yield refused(f"the line '{text}'", "sweep", given, 3)
 
 
-def texts():
-    """Cases of odd texts."""
+def far_lines():
+    """Cases of faults on line 100,000."""
     first, points = "segment 0 5 1", ["point 0 0"] * 99_998
     yield overlapping("overlap on line 100,000", lines(first, *points, "segment 5 9 1"), 100_000)
-    yield refused("a faulty line 100,000", "sweep", lines(first, *points, "nonsense"), 100_000)
-    yield answered("an empty file", "sweep", b"", b"")
-    yield answered("blank lines", "sweep", b"\n\r\n \n", b"")
-    yield answered("no last line feed", "sweep", b"segment 0 1 2\npoint 1 2", b"below 2\n")
-    yield answered("all white space", "sweep", b"\tsegment\x0c0 1\r2\r\npoint 1 2\r\n", b"below 2\n")
-    yield refused("a byte beyond ASCII", "sweep", b"segment 0 1 2\npoint 1 2\xff\n", 2)
+    yield refused("a faulty line 100,000 of segments", "sweep", lines(first, *points, "segment 0 5"), 100_000)
 
 
-def streams():
-    """Cases of streams that fail."""
-    for name, redirections in (
-        ("a folder as input", "< /"),
-        ("a closed input", "<&-"),
-        ("a closed output", ">&-"),
-        ("a full device as output", "> /dev/full"),
-    ):
-        yield Case(f"sweep: {name}", ["sweep"], b"point 0 0\n", Outcome(1), redirected(redirections))
+def overlaps_told():
+    """Cases of overlaps over streams that fail."""
     overlap = b"segment 0 5 1\npoint 0 0\nsegment 5 9 1\n"
-    yield overlapping("overlap, a full device as output", overlap, 3, redirected("> /dev/full"))
-    for name, redirections in (
-        ("a closed standard error", "2>&-"),
-        ("a full device as standard error", "2> /dev/full"),
-    ):
-        yield Case(f"sweep: overlap, {name}", ["sweep"], overlap, Outcome(2), redirected(redirections))
+    for name, how, is_told in streams.FAULTY:
+        told = Outcome(2, b"", b"itree: overlap 3\n" if is_told else b"")
+        yield Case(f"sweep: overlap, {name}", ["sweep"], overlap, told, how)
+
+
+def odd_texts():
+    """Cases of texts by chance, some of them spoilt."""
+    for text in texts_by_chance(FORMS):
+        said, name = read(text, FORMS), f"by chance, {text!r}"
+        if isinstance(said, int):
+            yield refused(name, "sweep", text, said)
+        else:
+            numbers = [number for number, line in said if line.startswith("segment")]
+            items = [tuple(map(int, line.split()[1:])) for _, line in said]
+            yield swept(name, text, items, numbers)
+
+
+def swept(name, given, items, numbers):
+    """The case of these segments and points, where the segments stand on the lines of these numbers."""
+    segments = [item for item in items if len(item) == 3]
+    points = [item for item in items if len(item) == 2]
+    place = colliding(segments)
+    if place is not None:
+        return overlapping(f"overlap, {name}", given, numbers[place])
+    heights = heights_below(segments, points)
+    served = ("none" if height is None else f"below {height}" for height in heights)
+    return answered(name, "sweep", given, lines(*served))
 
 
 def by_chance(count, collisions):
@@ -157,15 +175,11 @@ def line_of(item):
 def many(collisions):
     """The case of a million lines."""
     items = by_chance(MANY, collisions)
-    segments = [item for item in items if len(item) == 3]
-    points = [item for item in items if len(item) == 2]
-    name, given, place = f"{MANY} lines by chance", lines(*map(line_of, items)), colliding(segments)
-    if place is None:
-        heights = heights_below(segments, points)
-        served = ("none" if height is None else f"below {height}" for height in heights)
-        yield answered(name, "sweep", given, lines(*served))
-    else:
-        yield overlapping(f"overlap, {name}", given, items.index(segments[place]) + 1)
+    numbers = [number for number, item in enumerate(items, 1) if len(item) == 3]
+    yield swept(f"{MANY} lines by chance, {collisions} collide", lines(*map(line_of, items)), items, numbers)
 
 
-PARTS = worked, texts, streams, partial(many, 0), partial(many, 10)
+PARTS = (
+    *(worked, far_lines, overlaps_told, odd_texts, partial(many, 0), partial(many, 10)),
+    *(partial(part, [PLAIN]) for part in (empty_texts, plain_lines, line_numbers, streams.each_mode)),
+)

@@ -4,8 +4,6 @@ from processes import answered, lines, refused
 
 LEAST, GREATEST = -2147483648, 2147483647
 
-MODES = "keytree", "keylist", "settree", "setlist", "seg 0 128"
-
 # What gives no reply in any mode.
 EMPTY = (
     ("an empty file", b""),
@@ -117,9 +115,9 @@ def written(pattern, line, gap=b" "):
     return pattern.replace(b"LINE", line.replace(b" ", gap))
 
 
-def plain_lines():
+def plain_lines(rows=PLAIN):
     """Cases of sound lines that are oddly written, and of spoilt ones."""
-    for mode, line, reply in PLAIN:
+    for mode, line, reply in rows:
         for name, pattern, gap, times in WRITTEN:
             yield answered(name, mode, written(pattern, line, gap), reply * times)
         for name, pattern in SPOILT:
@@ -156,9 +154,9 @@ def numbers():
         yield refused(name, "seg 0 128", b"query 0 1 " + word + b"\n", 1)
 
 
-def line_numbers():
+def line_numbers(rows=PLAIN):
     """Cases of where the first faulty line stands."""
-    for mode, line, _reply in PLAIN:
+    for mode, line, _reply in rows:
         line += b"\n"
         for name, number, given in (
             ("a faulty line 1 of many", 1, b"nonsense\n" + line * 99_999),
@@ -195,9 +193,9 @@ def long_lines():
         yield refused(name, mode, given, line)
 
 
-def empty_texts():
+def empty_texts(rows=PLAIN):
     """Cases of text without a word."""
-    for mode in MODES:
+    for mode, _line, _reply in rows:
         for name, given in EMPTY:
             yield answered(name, mode, given, b"")
 
