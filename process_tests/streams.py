@@ -76,10 +76,10 @@ def to_full_pipe(command, given):
     os.set_blocking(write, False)
     try:
         left = outcome_of(command, input=given, stdout=write)
-        return left._replace(output=os.read(read, 1 << 24))
     finally:
-        os.close(read)
         os.close(write)
+    with open(read, "rb") as pipe:
+        return left._replace(output=pipe.read())
 
 
 def to_reader_that_leaves(command, given):

@@ -1,6 +1,6 @@
 """Worked examples of each mode, over a file as standard input and through a pipe."""
 
-from processes import answered, by_pipe, dialogue
+from processes import answered, by_pipe, dialogue, refused
 
 LEAST, GREATEST = -2147483648, 2147483647
 
@@ -240,6 +240,14 @@ SEGMENTS = (
     """),
 )
 
+# Texts with a faulty line, and its number.
+FAULTY = (
+    (("keytree", "keylist"), "a missing number", b"insert 0 10 0 0\nless 0 -1\n", 2),
+    (("keytree", "keylist"), "a number too great", b"less 0 -1 4\n\nless 0 -1 2147483648\n", 3),
+    (("settree", "setlist"), "a byte beyond ASCII for a number", b"find \xff\n", 1),
+    (("seg 0 128",), "a number too many", b"insert 0 1 2 3\n\nquery 0 1 2 3\n", 3),
+)
+
 
 def rows():
     """Each mode with a name, and lines with their replies."""
@@ -249,7 +257,15 @@ def rows():
     yield from SEGMENTS
 
 
-def cases():
+def faulty():
+    """Cases of texts with a faulty line."""
+    for modes, name, given, line in FAULTY:
+        for mode in modes:
+            yield refused(name, mode, given, line)
+            yield refused(f"{name}, through a pipe", mode, given, line, by_pipe)
+
+
+def sound():
     """Cases of the rows."""
     for mode, name, said in rows():
         given, replies = dialogue(said)
@@ -257,4 +273,4 @@ def cases():
         yield answered(f"{name}, through a pipe", mode, given, replies, by_pipe)
 
 
-PARTS = (cases,)
+PARTS = sound, faulty
