@@ -27,7 +27,7 @@ GROUPS = (
     "many",
 )
 
-# So many parts of a module run side by side.
+# So many parts of modules run side by side.
 AT_ONCE = 2
 
 # So much of a long text is printed.

@@ -22,7 +22,7 @@ PLAIN = (
     ("seg 0 128", b"query 0 1 2", b"values\n"),
 )
 
-# How a sound line may be written; LINE stands for it, and GAPS for its gaps.
+# How a sound line, LINE, may be written; what is put into its gaps; and how often it is said.
 WRITTEN = (
     ("no last line feed", b"LINE", b" ", 1),
     ("a carriage return before the line feed", b"LINE\r\n", b" ", 1),
