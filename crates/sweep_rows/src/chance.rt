@@ -1,0 +1,112 @@
+//! Small sweeps by chance, beside a look at each segment and at each pair.
+
+use crate::by_pairs::{first_overlap, height_below};
+use crate::random::next_random;
+use crate::stores::{LevelList, LevelStore, LevelTree};
+use crate::sweeps::{is_wanted, point, segment, sweeps_to};
+use i_tree::key::list::KeyExpList;
+use i_tree::key::tree::KeyExpTree;
+use itree_lib::sweep::{Point, Segment, SweepFault};
+use std::alloc::Global;
+use std::process::Abort;
+use std::test::Fail;
+
+// A sweep to be made, and what it is to answer.
+#[derive(Drop)]
+struct Case {
+    segments: Vec<Segment>,
+    points: Vec<Point>,
+    answers: Vec<Option<i32>>,
+    overlap: Option<usize>,
+}
+
+// A number below 10,000 by chance.
+fn chance(state: &mut usize) -> i32 {
+    (next_random(state) % 10000) as i32
+}
+
+// From 1 to 8 segments by chance. Few are long, and some cover nothing.
+fn some_segments(alloc: Global, state: &mut usize) -> Result<Vec<Segment>, Fail> {
+    let mut segments = Vec::new(alloc);
+    for _ in 0..=chance(state) % 8 {
+        let x0 = chance(state) % 7;
+        let x1 = x0.saturating_add(chance(state) % 4).saturating_sub(1);
+        segments.push(segment(x0, x1, chance(state) % 6))?;
+    }
+    Ok(segments)
+}
+
+// Up to 6 points by chance, at an x that segments may cover, and one on each side.
+fn some_points(alloc: Global, state: &mut usize) -> Result<Vec<Point>, Fail> {
+    let mut points = Vec::new(alloc);
+    for _ in 0..chance(state) % 7 {
+        let x = (chance(state) % 11).saturating_sub(1);
+        let y = (chance(state) % 8).saturating_sub(1);
+        points.push(point(x, y))?;
+    }
+    Ok(points)
+}
+
+fn some_case(alloc: Global, state: &mut usize) -> Result<Case, Fail> {
+    let segments = some_segments(alloc, state)?;
+    let points = some_points(alloc, state)?;
+    let mut answers = Vec::new(alloc);
+    for point in &points {
+        answers.push(height_below(&segments, *point))?;
+    }
+    let overlap = first_overlap(&segments);
+    Ok(Case {
+        segments,
+        points,
+        answers,
+        overlap,
+    })
+}
+
+// Sweeps over the store, and tells whether the outcome is that of the case.
+fn agrees<C: LevelStore>(
+    rt: &impl Abort,
+    alloc: Global,
+    store: &mut C,
+    case: &Case,
+) -> Result<bool, Fail> {
+    let wanted = match case.overlap {
+        None => Ok(case.answers.as_slice()),
+        Some(place) => Err(SweepFault::Overlap(place)),
+    };
+    sweeps_to(rt, alloc, store, &case.segments, &case.points, wanted)
+}
+
+// Makes 20,000 sweeps over one store.
+fn agrees_with_a_look_at_all<C: LevelStore>(
+    rt: &impl Abort,
+    alloc: Global,
+    store: &mut C,
+) -> Result<(), Fail> {
+    let mut state = 1;
+    let mut overlaps = 0u64;
+    for turn in 0..20000 {
+        let case = some_case(alloc, &mut state)?;
+        assert!(rt; agrees(rt, alloc, store, &case)?, "at {turn}");
+        if case.overlap.is_some() {
+            overlaps = overlaps.saturating_add(1);
+        }
+    }
+    assert!(rt;
+        5000 < overlaps && overlaps < 15000,
+        "{overlaps} of them overlap"
+    );
+    Ok(())
+}
+
+#[test]
+fn agrees_with_a_look_at_all_over_a_list(rt: HostRuntime) -> Result<(), Fail> {
+    let mut list: LevelList<Global> = KeyExpList::new(rt.alloc(), 0)?;
+    agrees_with_a_look_at_all(&rt, rt.alloc(), &mut list)
+}
+
+#[test]
+fn agrees_with_a_look_at_all_over_a_tree(rt: HostRuntime) -> Result<(), Fail> {
+    let mut tree: LevelTree<Global> = KeyExpTree::new(rt.alloc(), 0)?;
+    agrees_with_a_look_at_all(&rt, rt.alloc(), &mut tree)
+}

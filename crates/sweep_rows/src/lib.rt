@@ -1,0 +1,21 @@
+//! For tests alone: worked examples of the public calls of `itree_lib::sweep`.
+#![tactic(auto)]
+
+#[cfg(test)]
+mod by_pairs;
+#[cfg(test)]
+mod chance;
+#[cfg(test)]
+mod random;
+#[cfg(test)]
+mod refusals;
+#[cfg(test)]
+mod store_use;
+#[cfg(test)]
+mod stores;
+#[cfg(test)]
+mod sweeps;
+#[cfg(test)]
+mod watched;
+#[cfg(test)]
+mod worked;
