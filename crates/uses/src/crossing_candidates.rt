@@ -20,15 +20,13 @@ impl ExpiredVal<i32> for Edge {
     }
 }
 
-type Pairs = Vec<(u32, u32)>;
-
 /// Each pair of edges whose boxes meet, once, and some that lie near each other: the candidates for a crossing. `None` where
 /// an edge begins left of the one before it, or lies outside the range, or that has no layout.
 pub fn candidates(
     alloc: Global,
     edges: &[Edge],
     range: SegRange<i32>,
-) -> Result<Option<Pairs>, Refusal> {
+) -> Result<Option<Vec<(u32, u32)>>, Refusal> {
     let Some(mut active) = SegExpTree::new(alloc, range)? else {
         return Ok(None);
     };
@@ -92,7 +90,7 @@ mod tests {
     }
 
     // The candidates, which the edges have, in rising order.
-    fn sorted_candidates(alloc: Global, edges: &[Edge]) -> Result<Pairs, Fail> {
+    fn sorted_candidates(alloc: Global, edges: &[Edge]) -> Result<Vec<(u32, u32)>, Fail> {
         match candidates(alloc, edges, WHOLE)? {
             Some(mut pairs) => {
                 pairs.sort_unstable();
