@@ -1,5 +1,5 @@
 -- How the lines of a text are counted, and what they say one after another.
-use Rattle.std.proofs.Common.{◌≡◌, ◌+◌, ℕ, List, [], ◌∷◌, ◌++◌, Option, Some, None, length, refl, sym, ap, ◌∙◌, append_assoc, append-nil}
+use Rattle.std.proofs.Common.{◌≡◌, ◌<◌, ◌≤◌, ◌+◌, ℕ, List, [], ◌∷◌, ◌++◌, Option, Some, None, IfSome, Bor, length, refl, sym, ap, ◌∙◌, append_assoc, append-nil, arith}
 use Rattle.std.proofs.lemmas.List.Elements.{All-nil, All-cons}
 use Rattle.std.specs.List.{All, cons_option}
 use Rattle.std.specs.Option.{option_to_list}
@@ -13,6 +13,12 @@ cons_option-append (Some x) xs ys = refl
 -- after a line, the lines so far and those that are left are still all lines
 pub next_line : {X : Type 0} (all before left : List X) (line : X) (after : List X) → all ≡ before ++ left → left ≡ line ∷ after → all ≡ (before ++ line ∷ []) ++ after
 next_line all before left line after together cut = together ∙ ap (λ xs. before ++ xs) cut ∙ sym (append_assoc before (line ∷ []) after)
+
+-- what is left gets shorter by a byte a line
+pub shorter : (rest : Option (Bor (List ℕ))) (left : Bor (List ℕ)) (after : Option (Bor (List ℕ))) (number total : ℕ)
+    → rest ≡ Some left → IfSome rest (λ text. number + length text.now ≤ total) → IfSome after (λ text. length text.now < length left.now) → IfSome after (λ text. number + 1 + length text.now ≤ total)
+shorter rest left None number total is within less = tt
+shorter rest left (Some text) number total is within less = let here : number + length left.now ≤ total = rw is at within in omega (arith, here, less)
 
 module _ {Command : Type 0} (SaysCommand : List (List ℕ) → Command → Type 0) where
   -- a line that says something is not faulty

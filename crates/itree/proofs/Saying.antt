@@ -1,11 +1,18 @@
 -- Which words are not read as numbers, and which say no command.
-use Rattle.std.proofs.Common.{◌≡◌, ◌≢◌, ◌⊎◌, inl, inr, ℕ, suc, ℤ, List, [], ◌∷◌, length, map, codes, get_or, refl, ap, arith, Bor}
-use Rattle.itree.specs.Grammar.{ReadsAll}
+use Rattle.std.proofs.Common.{◌≡◌, ◌≢◌, ◌⊎◌, inl, inr, ℕ, suc, ℤ, Bool, true, false, List, [], ◌∷◌, Option, Some, None, length, map, codes, get_or, refl, sym, ap, ◌∙◌, subst, arith, Bor}
+use Rattle.itree.specs.Grammar.{ReadsAll, Says, LineSays, words_of}
 use Rattle.itree.specs.KeyLines.{SaysNoKeyCommand}
 use Rattle.itree.specs.Modes.{Names, NamesRange}
 use Rattle.itree.specs.SegLines.{SaysNoSegCommand}
 use Rattle.itree.specs.declared.mode.Mode.{Mode}
-use Rattle.itree.specs.declared.mode.Mode.TheVariants.{KeyTree, KeyList, SetTree, SetList, Segments}
+use Rattle.itree.specs.declared.mode.Mode.TheVariants.{KeyTree, KeyList, SetTree, SetList, Segments, Sweep}
+use Rattle.std.proofs.lemmas.Slice.Eq.{bytes_eq-Decides}
+use Rattle.std.specs.Option.{option_eq}
+use Rattle.std.specs.Str.{bytes_eq}
+use Rattle.itree.proofs.Splitting.{IsFirstWord}
+use Rattle.itree.specs.SweepLines.{SaysSweepLine, says_segment}
+use Rattle.itree.specs.declared.lines.sweep.SweepLine.{SweepLine}
+use Rattle.itree.specs.declared.lines.sweep.SweepLine.TheVariants as sweep_line
 use Rattle.itree_lib.specs.declared.run.keys.KeyCommand.TheVariants.{Insert, Less, LessOrEqualBy, Clear}
 use Rattle.itree_lib.specs.declared.run.segments.SegCommand.TheVariants as seg_command
 use Rattle.itree.specs.Words.{Reads}
@@ -37,6 +44,28 @@ clear_segments_alone words more (seg_command.Insert range val) said = let name :
 clear_segments_alone words more (seg_command.Query range time) said = let first : 99 ≡ 113 = ap (λ (name : List ℕ). get_or name 0 0) said.0 in absurd (omega (arith, first))
 clear_segments_alone words more seg_command.Clear said = more (ReadsAll-length words [] said.1)
 
+-- a test that is not passed
+different : (test : Bool) → (test ≡ true → ⊥) → test ≡ false
+different true not = absurd (not refl)
+different false not = refl
+
+-- words that say something begin with its name
+first_named : (words : List (List ℕ)) (word : List ℕ) (others : List (List ℕ)) (name : List ℕ) (numbers : List ℤ) → words ≡ word ∷ others → Says words name numbers → word ≡ name
+first_named words word others name numbers is says = (subst (λ (all : List (List ℕ)). Says all name numbers) is says).0
+
+-- of the lines that say something, those whose first word is `segment` say a segment
+pub first_is_segment : (said : Option SweepLine) (line : List ℕ) (first : Option (Bor (List ℕ))) (name : Bor (List ℕ)) → IsFirstWord line first → name.now ≡ codes "segment" → LineSays SaysSweepLine line said
+    → option_eq (λ x y. bytes_eq x.now y.now) first (Some name) ≡ says_segment said
+first_is_segment (Some (sweep_line.Segment segment)) line (Some word) name (others, is) named says =
+    (bytes_eq-Decides word.now name.now).1 (first_named (words_of line) word.now others (codes "segment") (segment.x0 ∷ segment.x1 ∷ segment.y ∷ []) is says.1 ∙ sym named)
+first_is_segment (Some (sweep_line.Point point)) line (Some word) name (others, is) named says =
+    let point_named = first_named (words_of line) word.now others (codes "point") (point.x ∷ point.y ∷ []) is says.1 in
+    different (bytes_eq word.now name.now) (λ same. let letter : 112 ≡ 115 = ap (λ (letters : List ℕ). get_or letters 0 0) (sym point_named ∙ (bytes_eq-Decides word.now name.now).0 same ∙ named) in omega (arith, letter))
+first_is_segment None line (Some word) name (others, is) named says = let none : [] ≡ word.now ∷ others = sym says.1 ∙ is in cc
+first_is_segment (Some (sweep_line.Segment segment)) line None name is named says = absurd (subst (λ (words : List (List ℕ)). SaysSweepLine words (sweep_line.Segment segment)) is says.1)
+first_is_segment (Some (sweep_line.Point point)) line None name is named says = refl
+first_is_segment None line None name is named says = refl
+
 -- the arguments that name a mode are one word, or three
 pub Names-length : (words : List (Bor (List ℕ))) (mode : Mode) → Names words mode → (length words ≡ 1) ⊎ (length words ≡ 3)
 Names-length [] KeyTree names = absurd names
@@ -44,11 +73,13 @@ Names-length [] KeyList names = absurd names
 Names-length [] SetTree names = absurd names
 Names-length [] SetList names = absurd names
 Names-length [] (Segments min max) names = absurd names.0
+Names-length [] Sweep names = absurd names
 Names-length (word ∷ words) KeyTree names = inl (ap suc (ReadsAll-length words [] names.1))
 Names-length (word ∷ words) KeyList names = inl (ap suc (ReadsAll-length words [] names.1))
 Names-length (word ∷ words) SetTree names = inl (ap suc (ReadsAll-length words [] names.1))
 Names-length (word ∷ words) SetList names = inl (ap suc (ReadsAll-length words [] names.1))
 Names-length (word ∷ words) (Segments min max) names = inr (ap suc (ReadsAll-length words (min ∷ max ∷ []) names.0.1))
+Names-length (word ∷ words) Sweep names = inl (ap suc (ReadsAll-length words [] names.1))
 
 -- three words that name a mode are `seg` and the ends of its range
 pub Names-three : (words : List (Bor (List ℕ))) (mode : Mode) (word : Bor (List ℕ)) → length words ≡ 3 → Names words mode
@@ -58,6 +89,7 @@ Names-three (first ∷ words) KeyTree word three names = absurd (omega (arith, t
 Names-three (first ∷ words) KeyList word three names = absurd (omega (arith, three, ReadsAll-length words [] names.1))
 Names-three (first ∷ words) SetTree word three names = absurd (omega (arith, three, ReadsAll-length words [] names.1))
 Names-three (first ∷ words) SetList word three names = absurd (omega (arith, three, ReadsAll-length words [] names.1))
+Names-three (first ∷ words) Sweep word three names = absurd (omega (arith, three, ReadsAll-length words [] names.1))
 Names-three (first ∷ []) (Segments min max) word three names = absurd names.0.1
 Names-three (first ∷ second ∷ []) (Segments min max) word three names = absurd names.0.1.1
 Names-three (first ∷ second ∷ third ∷ words) (Segments min max) word three names = (names.0.0, (names.0.1.0, names.0.1.1.0, names.1))

@@ -1,8 +1,9 @@
 -- The words that `split_ascii_whitespace` gives are those that stand between white space.
-use Rattle.std.proofs.Common.{◌≡◌, ◌<◌, ◌≤◌, ℕ, Bool, true, false, cond, nat_lt, List, [], ◌∷◌, ◌++◌, length, get_or, filter, refl, sym, ap, ◌∙◌, append-nil, Bor, arith}
+use Rattle.std.proofs.Common.{◌≡◌, ◌<◌, ◌≤◌, ℕ, Bool, true, false, cond, nat_lt, List, [], ◌∷◌, ◌++◌, Option, Some, None, length, get_or, filter, refl, sym, ap, ◌∙◌, append-nil, Bor, arith}
 use Rattle.std.proofs.lemmas.Bool.Decides.{nat_tests}
 use Rattle.std.proofs.lemmas.Iterator.{YieldsList}
 use Rattle.std.proofs.lemmas.Iterator.Consumers.{YieldsList-from_shown}
+use Rattle.std.proofs.lemmas.List.{nil_from_length}
 use Rattle.std.proofs.lemmas.List.Elements.{All-head, All-tail, All-from_get_or}
 use Rattle.std.proofs.lemmas.List.Splits.{slice_split-cons_yes, slice_split_none, slice_split_at}
 use Rattle.std.proofs.lemmas.Str.{NoCharPasses-byte}
@@ -48,12 +49,26 @@ words_of-word word (y ∷ []) rest some solid ends =
     ∙ kept word (slice_split is_ascii_whitespace rest) some
 words_of-word word (y ∷ z ∷ sep) rest some solid ends = let short : length (y ∷ z ∷ sep) ≤ 1 = ends.1 in absurd (omega (arith, short))
 
+-- a step of `split_ascii_whitespace` gives a word, and leaves the text of the others
+words_of-step : (s u : _) (word : Bor (List ℕ)) → split_ascii_whitespace_steps s (Some word) u → words_of (split_ascii_whitespace_text s) ≡ word.now ∷ words_of (split_ascii_whitespace_text u)
+words_of-step s u word cut =
+    let (gap, sep, laid, blank, ends) = cut.3 in
+    ap words_of laid ∙ words_of-gap gap (word.now ++ (sep ++ split_ascii_whitespace_text u)) blank ∙ words_of-word word.now sep (split_ascii_whitespace_text u) cut.0 (solid_bytes word.now cut.1) ends
+
+-- the first word of a text, if it has one
+abbrev pub IsFirstWord : List ℕ → Option (Bor (List ℕ)) → Type 0
+IsFirstWord text None = words_of text ≡ []
+IsFirstWord text (Some word) = (others : List (List ℕ)) × (words_of text ≡ word.now ∷ others)
+
+-- so its first step gives the first word
+pub IsFirstWord-step : (s u : _) (first : Option (Bor (List ℕ))) → split_ascii_whitespace_steps s first u → IsFirstWord (split_ascii_whitespace_text s) first
+IsFirstWord-step s u None ends = nil_from_length (words_of (split_ascii_whitespace_text s)) (words_of-blank (split_ascii_whitespace_text s) ends.0)
+IsFirstWord-step s u (Some word) cut = (words_of (split_ascii_whitespace_text u), words_of-step s u word cut)
+
 -- what `split_ascii_whitespace` gives
 pub YieldsList-from_words : (s : _) → YieldsList split_ascii_whitespace_steps (λ word. word.now) s (words_of (split_ascii_whitespace_text s))
 YieldsList-from_words s =
     YieldsList-from_shown split_ascii_whitespace_steps (λ (word : Bor (List ℕ)). word.now) (λ t. words_of (split_ascii_whitespace_text t))
     (λ t u ends. words_of-blank (split_ascii_whitespace_text t) ends.0)
-    (λ t word u cut.
-    let (gap, sep, laid, blank, ends) = cut.3 in
-    ap words_of laid ∙ words_of-gap gap (word.now ++ (sep ++ split_ascii_whitespace_text u)) blank ∙ words_of-word word.now sep (split_ascii_whitespace_text u) cut.0 (solid_bytes word.now cut.1) ends)
+    (λ t word u cut. words_of-step t u word cut)
     s

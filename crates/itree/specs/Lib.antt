@@ -5,5 +5,6 @@ pub mod Replies
 pub mod SegLines
 pub mod SetLines
 pub mod Sorting
+pub mod SweepLines
 pub mod Texts
 pub mod Words

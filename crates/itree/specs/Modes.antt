@@ -5,7 +5,7 @@ use Rattle.i_tree.specs.Seg.Buckets.{HasLayout}
 use Rattle.itree.specs.Grammar.{Says}
 use Rattle.itree.specs.Words.{Reads}
 use Rattle.itree.specs.declared.mode.Mode.{Mode}
-use Rattle.itree.specs.declared.mode.Mode.TheVariants.{KeyTree, KeyList, SetTree, SetList, Segments}
+use Rattle.itree.specs.declared.mode.Mode.TheVariants.{KeyTree, KeyList, SetTree, SetList, Segments, Sweep}
 
 -- the range of a mode of segments has a layout
 abbrev pub HasItsLayout : Mode → Type 0
@@ -14,6 +14,7 @@ HasItsLayout KeyList = ⊤
 HasItsLayout SetTree = ⊤
 HasItsLayout SetList = ⊤
 HasItsLayout (Segments min max) = HasLayout 31 min max
+HasItsLayout Sweep = ⊤
 
 -- the mode is of segments, over the range whose ends the words are read as, and it has a layout
 abbrev pub NamesRange : List ℕ → List ℕ → Mode → Type 0
@@ -22,6 +23,7 @@ NamesRange low high KeyList = ⊥
 NamesRange low high SetTree = ⊥
 NamesRange low high SetList = ⊥
 NamesRange low high (Segments min max) = Reads low min × Reads high max × HasLayout 31 min max
+NamesRange low high Sweep = ⊥
 
 -- the arguments are the word of the mode, which two numbers follow for segments: the ends of a range that has a layout
 abbrev pub NamedBy : Mode → List (List ℕ) → Type 0
@@ -30,6 +32,7 @@ NamedBy KeyList words = Says words (codes "keylist") []
 NamedBy SetTree words = Says words (codes "settree") []
 NamedBy SetList words = Says words (codes "setlist") []
 NamedBy (Segments min max) words = Says words (codes "seg") (min ∷ max ∷ []) × HasLayout 31 min max
+NamedBy Sweep words = Says words (codes "sweep") []
 
 -- the arguments name the mode
 abbrev pub Names : List (Bor (List ℕ)) → Mode → Type 0

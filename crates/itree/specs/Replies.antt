@@ -1,5 +1,5 @@
 -- The text of replies.
-use Rattle.std.specs.Prelude.{ℕ, ℤ, List, [], ◌∷◌, ◌++◌, codes, flat_map}
+use Rattle.std.specs.Prelude.{ℕ, ℤ, List, [], ◌∷◌, ◌++◌, Option, Some, None, codes, flat_map}
 use Rattle.std.specs.Fmt.{signed_decimal}
 use Rattle.itree_lib.specs.SegMachine.{Reply}
 use Rattle.itree_lib.specs.SegMachine.{Reply as seg_reply}
@@ -41,6 +41,11 @@ seg_reply_words seg_reply.Late = codes "late"
 seg_reply_words seg_reply.Refused = codes "refused"
 seg_reply_words seg_reply.Cleared = codes "cleared"
 seg_reply_words (seg_reply.Values values) = value_words values
+
+-- the words of the reply to a point of a sweep: the height below it, if there is one
+abbrev pub height_words : Option ℤ → List ℕ
+height_words (Some y) = codes "below " ++ signed_decimal y
+height_words None = codes "none"
 
 -- the lines of the replies, each of which ends with a line feed
 abbrev pub reply_lines : {Reply : Type 0} → (Reply → List ℕ) → List Reply → List ℕ

@@ -1,5 +1,6 @@
 -- What the program answers to a text, in each of its modes.
-use Rattle.std.specs.Prelude.{◌≡◌, ⊤, ℕ, ℤ, List, [], All}
+use Rattle.std.specs.Prelude.{◌≡◌, ◌⊎◌, ⊤, ℕ, ℤ, List, [], Option, All}
+use Rattle.std.specs.List.{AllZip}
 use Rattle.std.specs.List.Sorted.{IsSorted}
 use Rattle.std.specs.Ordering.{int_cmp}
 use Rattle.std.specs.declared.cmp.Ordering.{Ordering}
@@ -7,14 +8,17 @@ use Rattle.i_tree.specs.Seg.Buckets.{Buckets, IsLayout}
 use Rattle.itree.specs.Grammar.{lines_of, LinesSay, IsFirstFaulty}
 use Rattle.itree.specs.KeyLines.{KeyLine, SaysKeyCommand}
 use Rattle.itree_lib.specs.KeyMachine as keys
-use Rattle.itree.specs.Replies.{key_reply_words, seg_reply_words, set_reply_words, reply_lines}
+use Rattle.itree.specs.Replies.{key_reply_words, seg_reply_words, set_reply_words, height_words, reply_lines}
 use Rattle.itree.specs.SegLines.{SegLine, SaysSegCommand}
 use Rattle.itree_lib.specs.SegMachine as segments
 use Rattle.itree_lib.specs.SegMachine.{Reply as seg_reply}
 use Rattle.itree.specs.SetLines.{SetLine, SaysSetCommand}
 use Rattle.itree_lib.specs.SetMachine as sets
+use Rattle.itree_lib.specs.Sweep.{IsHeightBelow, NoneCollide}
+use Rattle.itree.specs.SweepLines.{SaysSweepLine, segments_of, points_of, IsOverlapLine}
+use Rattle.itree.specs.declared.lines.sweep.SweepLine.{SweepLine}
 use Rattle.itree.specs.declared.mode.Mode.{Mode}
-use Rattle.itree.specs.declared.mode.Mode.TheVariants.{KeyTree, KeyList, SetTree, SetList, Segments}
+use Rattle.itree.specs.declared.mode.Mode.TheVariants.{KeyTree, KeyList, SetTree, SetList, Segments, Sweep}
 use Rattle.itree_lib.specs.declared.run.keys.KeyReply.{KeyReply}
 use Rattle.itree_lib.specs.declared.run.sets.SetReply.{SetReply}
 use Rattle.itree.specs.declared.set_key.SetKey.{SetKey}
@@ -65,6 +69,14 @@ pub record AnswersSegments (buckets : Buckets) (commands : List SegLine) (output
   pub rising : All ListsRising replies
   pub written : output ≡ reply_lines seg_reply_words replies
 
+-- no two of the segments that are said collide, and the output is the lines of the answers to the points that are said, over
+-- these segments
+pub record AnswersSweep (said : List SweepLine) (output : List ℕ) : Type 0 where
+  pub answers : List (Option ℤ)
+  pub apart : NoneCollide (segments_of said)
+  pub below : AllZip (IsHeightBelow (segments_of said)) (points_of said) answers
+  pub written : output ≡ reply_lines height_words answers
+
 -- the output answers the key commands that the lines of the text say, from nothing on
 abbrev pub AnswersKeyLines : List ℕ → List ℕ → Type 0
 AnswersKeyLines text output = (commands : List KeyLine) × LinesSay SaysKeyCommand (lines_of text) commands × AnswersKeys [] commands output
@@ -79,6 +91,10 @@ AnswersSegLines min max text output =
     (commands : List SegLine) × LinesSay SaysSegCommand (lines_of text) commands
     × (buckets : Buckets) × IsLayout min max buckets × AnswersSegments buckets commands output
 
+-- the output answers the points that the lines of the text say, over the segments that they say
+abbrev pub AnswersSweepLines : List ℕ → List ℕ → Type 0
+AnswersSweepLines text output = (said : List SweepLine) × LinesSay SaysSweepLine (lines_of text) said × AnswersSweep said output
+
 -- the output answers the text in the mode; whether a tree or a list is kept makes no difference
 abbrev pub Answers : Mode → List ℕ → List ℕ → Type 0
 Answers KeyTree = AnswersKeyLines
@@ -86,6 +102,7 @@ Answers KeyList = AnswersKeyLines
 Answers SetTree = AnswersSetLines
 Answers SetList = AnswersSetLines
 Answers (Segments min max) = AnswersSegLines min max
+Answers Sweep = AnswersSweepLines
 
 -- the line of this number is the first one that is faulty in the mode
 abbrev pub HasFirstFaulty : Mode → List ℕ → ℕ → Type 0
@@ -94,7 +111,26 @@ HasFirstFaulty KeyList text number = IsFirstFaulty SaysKeyCommand (lines_of text
 HasFirstFaulty SetTree text number = IsFirstFaulty SaysSetCommand (lines_of text) number
 HasFirstFaulty SetList text number = IsFirstFaulty SaysSetCommand (lines_of text) number
 HasFirstFaulty (Segments min max) text number = IsFirstFaulty SaysSegCommand (lines_of text) number
+HasFirstFaulty Sweep text number = IsFirstFaulty SaysSweepLine (lines_of text) number
 
 -- a line of the text is faulty in the mode
 abbrev pub HasFaultyLine : Mode → List ℕ → Type 0
 HasFaultyLine mode text = (number : ℕ) × HasFirstFaulty mode text number
+
+-- in a sweep, the line of this number says the first segment that overlaps; no other mode has one
+abbrev pub HasOverlapLine : Mode → List ℕ → ℕ → Type 0
+HasOverlapLine KeyTree text number = ⊥
+HasOverlapLine KeyList text number = ⊥
+HasOverlapLine SetTree text number = ⊥
+HasOverlapLine SetList text number = ⊥
+HasOverlapLine (Segments min max) text number = ⊥
+HasOverlapLine Sweep text number = IsOverlapLine (lines_of text) number
+
+-- a line of the text is faulty in the mode; in a sweep, it may also say a segment that overlaps
+abbrev pub HasFault : Mode → List ℕ → Type 0
+HasFault KeyTree text = HasFaultyLine KeyTree text
+HasFault KeyList text = HasFaultyLine KeyList text
+HasFault SetTree text = HasFaultyLine SetTree text
+HasFault SetList text = HasFaultyLine SetList text
+HasFault (Segments min max) text = HasFaultyLine (Segments min max) text
+HasFault Sweep text = HasFaultyLine Sweep text ⊎ ((number : ℕ) × HasOverlapLine Sweep text number)

@@ -5,7 +5,7 @@ ghost use Rattle.std.specs.Ordering.{int_cmp};
 ghost use Rattle.i_tree.specs.Set.Pairs.{values, IsOrdered};
 ghost use Rattle.itree.specs.Modes.{HasItsLayout};
 ghost use Rattle.itree.specs.Sorting.{Sorts, SortsAll};
-ghost use Rattle.itree.specs.Texts.{AnswersKeys, AnswersSet, AnswersSegments, Answers, HasFirstFaulty};
+ghost use Rattle.itree.specs.Texts.{AnswersKeys, AnswersSet, AnswersSegments, Answers, HasFirstFaulty, HasOverlapLine};
 ghost use Rattle.itree_lib.specs.SegMachine.{reply_of};
 
 use crate::fault::Fault;
@@ -25,11 +25,15 @@ use i_tree::set::tree::SetTree;
 use itree_lib::run::{SegReply, run_keys, run_segments, run_sets};
 use std::alloc::Allocator;
 use std::cmp::Ordering;
+use sweep::answer_sweep;
+
+mod sweep;
 
 /// The text of the replies to the commands of a text, from an empty collection of the mode on.
 ///
 /// The range of a mode of segments is to have a layout. The answer is `Fault::Line` with the number of the first faulty
-/// line, before any command is run, or `Fault::Stopped` where memory was refused.
+/// line, before any command is run, `Fault::Overlap` with the number of the line whose segment is the first of a sweep that
+/// overlaps, or `Fault::Stopped` where memory was refused.
 pub fn answer_text<A: Allocator + Copy>(
     alloc: A,
     mode: Mode,
@@ -38,6 +42,7 @@ pub fn answer_text<A: Allocator + Copy>(
     requires { HasItsLayout mode }
     ensures answered { IfOk result (λ output. Answers mode text.now (string_bytes output)) }
     ensures faulty { (number : ℕ) → result ≡ Err (Fault.Line number) → HasFirstFaulty mode text.now number }
+    ensures overlap { (number : ℕ) → result ≡ Err (Fault.Overlap number) → HasOverlapLine mode text.now number }
     ensures err { IfErr result (λ fault. fault ≢ Fault.Arguments) }
 {
     match mode {
@@ -67,6 +72,11 @@ pub fn answer_text<A: Allocator + Copy>(
                 Some(mut tree) => answer_segments(alloc, &mut tree, &commands),
                 None => unreachable!(),
             }
+        }
+        Mode::Sweep => {
+            let said = parse_commands(alloc, text)?;
+            let mut tree = KeyExpTree::new(alloc, 0)?;
+            answer_sweep(alloc, &mut tree, text, &said)
         }
     }
 }

@@ -14,6 +14,9 @@ pub enum Fault {
     Arguments,
     /// This line is faulty, counted from 1. No line before it is.
     Line(usize),
+    /// This line, counted from 1, says the segment of a sweep that is the first to overlap one before it, in the order of
+    /// where they begin.
+    Overlap(usize),
     /// Reading, writing or memory failed.
     Stopped,
 }

@@ -20,6 +20,8 @@ pub enum Mode {
     SetList,
     /// Segments over the range from `min` to `max`, which has a layout.
     Segments { min: i32, max: i32 },
+    /// A sweep over horizontal segments.
+    Sweep,
 }
 
 impl Mode {
@@ -35,6 +37,7 @@ impl Mode {
             ["settree"] => Some(Mode::SetTree),
             ["setlist"] => Some(Mode::SetList),
             ["seg", min, max] => segments(min, max),
+            ["sweep"] => Some(Mode::Sweep),
             _ => None,
         }
     }

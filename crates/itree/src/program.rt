@@ -3,7 +3,7 @@
 ghost use Rattle.std.specs.Prelude.{◌≡◌, ◌≢◌, ◌≤◌, ◌↔◌, ℕ, List, IfErr, IfOk, IfSome, OnOk, string_bytes};
 ghost use Rattle.std.specs.Io.KnownBytes.{Appends};
 ghost use Rattle.itree.specs.Modes.{Names, NamesMode};
-ghost use Rattle.itree.specs.Texts.{Answers, HasFirstFaulty, HasFaultyLine};
+ghost use Rattle.itree.specs.Texts.{Answers, HasFirstFaulty, HasOverlapLine, HasFault};
 ghost use Rattle.itree.specs.declared.mode.Mode.{Mode};
 
 use crate::answers::answer_text;
@@ -15,16 +15,18 @@ use std::io::{Read, Write};
 #[cfg(test)]
 mod tests;
 
-/// Runs the program: reads all of `input`, and writes one reply line for each command to `output`.
+/// Runs the program: reads all of `input`, and writes one reply line for each command to `output`. In a sweep each point has
+/// one, and a segment has none.
 ///
 /// `words` are the arguments without the program's name, which are to be the one word of a mode: `keytree`, `keylist`,
-/// `settree` or `setlist`; or `seg`, `MIN` and `MAX`, the ends of a range that has a layout. `faults` stands for standard error, and the answer is the process's status:
+/// `settree`, `setlist` or `sweep`; or `seg`, `MIN` and `MAX`, the ends of a range that has a layout. `faults` stands for
+/// standard error, and the answer is the process's status:
 ///
 /// - 0 where all replies were written and flushed. An insertion that was refused has a reply too.
-/// - 1 where reading, writing, flushing or memory outside the commands failed; nothing goes to `faults`, and a failed
-///   write may have taken a part of the replies.
-/// - 2 where the words name no mode, before any input is read, and where a line is faulty in the mode, before any
-///   command is run. `faults` is told which, and whether it takes that changes nothing.
+/// - 1 where reading, writing, flushing or memory outside the commands failed, or memory for a sweep; nothing goes to
+///   `faults`, and a failed write may have taken a part of the replies.
+/// - 2 where the words name no mode, before any input is read; where a line is faulty in the mode, before any command is
+///   run; and where two segments of a sweep overlap. `faults` is told which line, and whether it takes that changes nothing.
 pub fn run_itree<I: Read, O: Write, X: Write>(
     alloc: Global,
     words: &[&str],
@@ -40,7 +42,7 @@ pub fn run_itree<I: Read, O: Write, X: Write>(
     ensures no_fault { result ≢ 2 → faults.new ≡ faults.old }
     ensures faulty_words { ¬ (NamesMode words.now) → result ≡ 2 }
     ensures faulty_line { result ≡ 2 → (mode : Mode) → Names words.now mode →
-        IfSome (I.remaining input.old) (HasFaultyLine mode) }
+        IfSome (I.remaining input.old) (HasFault mode) }
     ensures unread { ¬ (NamesMode words.now) → input.new ≡ input.old }
 {
     run_over(alloc, words, input, output, faults)
@@ -62,7 +64,7 @@ pub fn run_over<A: Allocator + Copy, I: Read, O: Write, X: Write>(
     ensures no_fault { result ≢ 2 → faults.new ≡ faults.old }
     ensures faulty_words { ¬ (NamesMode words.now) → result ≡ 2 }
     ensures faulty_line { result ≡ 2 → (mode : Mode) → Names words.now mode →
-        IfSome (I.remaining input.old) (HasFaultyLine mode) }
+        IfSome (I.remaining input.old) (HasFault mode) }
     ensures unread { ¬ (NamesMode words.now) → input.new ≡ input.old }
 {
     match serve(alloc, words, input, output) {
@@ -74,6 +76,10 @@ pub fn run_over<A: Allocator + Copy, I: Read, O: Write, X: Write>(
         }
         Err(Fault::Line(number)) => {
             let _ = writeln!(faults, "itree: line {number}");
+            2
+        }
+        Err(Fault::Overlap(number)) => {
+            let _ = writeln!(faults, "itree: overlap {number}");
             2
         }
     }
@@ -93,6 +99,8 @@ fn serve<A: Allocator + Copy, I: Read, O: Write>(
     ensures faulty_words { (result ≡ Err Fault.Arguments) ↔ ¬ (NamesMode words.now) }
     ensures faulty_line { (number : ℕ) → result ≡ Err (Fault.Line number) → (mode : Mode) → Names words.now mode →
         IfSome (I.remaining input.old) (λ text. HasFirstFaulty mode text number) }
+    ensures overlap { (number : ℕ) → result ≡ Err (Fault.Overlap number) → (mode : Mode) → Names words.now mode →
+        IfSome (I.remaining input.old) (λ text. HasOverlapLine mode text number) }
     ensures unread { ¬ (NamesMode words.now) → input.new ≡ input.old }
 {
     let replies = answer(alloc, words, input)?;
@@ -112,6 +120,8 @@ fn answer<A: Allocator + Copy, I: Read>(
     ensures faulty_words { (result ≡ Err Fault.Arguments) ↔ ¬ (NamesMode words.now) }
     ensures faulty_line { (number : ℕ) → result ≡ Err (Fault.Line number) → (mode : Mode) → Names words.now mode →
         IfSome (I.remaining input.old) (λ text. HasFirstFaulty mode text number) }
+    ensures overlap { (number : ℕ) → result ≡ Err (Fault.Overlap number) → (mode : Mode) → Names words.now mode →
+        IfSome (I.remaining input.old) (λ text. HasOverlapLine mode text number) }
     ensures unread { ¬ (NamesMode words.now) → input.new ≡ input.old }
 {
     let mode = Mode::from_words(words).ok_or(Fault::Arguments)?;

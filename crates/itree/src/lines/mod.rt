@@ -1,6 +1,6 @@
 //! Lines of text, as commands and as replies.
 
-ghost use Rattle.std.specs.Prelude.{◌≡◌, ◌==◌, ◌≢◌, ◌∷◌, [], ◌++◌, ◌<◌, ◌⊎◌, ℕ, ℤ, List, length, map, IfErr, IfOk, IfSome, IsNone, OnOk, position, string_bytes};
+ghost use Rattle.std.specs.Prelude.{◌≡◌, ◌==◌, ◌∷◌, [], ◌++◌, ◌<◌, ◌⊎◌, ℕ, ℤ, List, length, map, IfErr, IfOk, IfSome, IsNone, OnOk, position, string_bytes};
 ghost use Rattle.std.specs.Str.{IsAscii};
 ghost use Rattle.itree.specs.Grammar.{words_of, ReadsAll, LineSays, IsFaulty, lines_of, lines_left, LinesSay, IsFirstFaulty};
 ghost use Rattle.itree.specs.Replies.{reply_lines};
@@ -13,10 +13,12 @@ use std::str;
 mod keys;
 mod segments;
 mod sets;
+mod sweep;
 
 pub use keys::KeyLine;
 pub use segments::SegLine;
 pub use sets::SetLine;
+pub use sweep::{SweepLine, segment_line};
 
 /// A command that the words of a line may say.
 pub trait LineCommand: Sized + Drop {
@@ -50,7 +52,7 @@ pub fn parse_commands<A: Allocator + Copy, C: LineCommand>(
     ensures said { IfOk result (λ commands. LinesSay C.says (lines_of text.now) commands.items) }
     ensures faulty { (number : ℕ) → result ≡ Err (Fault.Line number) →
         IsFirstFaulty C.says (lines_of text.now) number }
-    ensures err { IfErr result (λ fault. fault ≢ Fault.Arguments) }
+    ensures err { IfErr result (λ fault. (fault ≡ Fault.Stopped) ⊎ ((number : ℕ) × (fault ≡ Fault.Line number))) }
 {
     let mut commands = Vec::new(alloc);
     let mut number = 0;

@@ -8,6 +8,7 @@ mod long;
 mod memory;
 mod sample;
 mod segments;
+mod sweep;
 
 const COMMANDS: &str = "insert 0 10 0 0\ninsert 3 10 3 0\nless 0 -1 4\nless 0 -1 0\n";
 
@@ -217,6 +218,10 @@ fn refuses_other_arguments_before_it_reads(rt: HostRuntime) {
         &["seg", "0", "2147483648"],
         &["Seg", "0", "128"],
         &["keylist", "0", "128"],
+        &["sweep", "sweep"],
+        &["sweep", "0", "128"],
+        &["Sweep"],
+        &["sweep "],
     ] {
         let mut input = BrokenReader {
             bytes: b"",

@@ -1,21 +1,15 @@
-use Rattle.std.proofs.Common.{◌≡◌, ◌<◌, ◌≤◌, ◌+◌, ◌++◌, ◌⊎◌, inl, inr, ℕ, List, [], ◌∷◌, Option, Some, None, IfSome, Bor, length, refl, append-nil, length-append, ap, sym, ◌∙◌, subst, arith}
+use Rattle.std.proofs.Common.{◌≡◌, ◌+◌, ◌++◌, ◌⊎◌, inl, inr, ℕ, [], ◌∷◌, Option, Some, None, length, refl, append-nil, length-append, ap, sym, ◌∙◌, subst}
 use Rattle.std.proofs.lemmas.Result.{err_from_is_err_and}
 use Rattle.itree.specs.Grammar.{lines_of, lines_left, LineSays, LinesSay, IsFirstFaulty}
 use Rattle.itree.specs.declared.fault.Fault.{Fault}
 use Rattle.itree.specs.declared.fault.Fault.TheVariants.{Line, Stopped}
-use Rattle.itree.proofs.Counting.{LinesSay-push, next_line, IsFirstFaulty-next}
+use Rattle.itree.proofs.Counting.{LinesSay-push, next_line, shorter, IsFirstFaulty-next}
 use Rattle.itree.proofs.lines.parse_commands.Goals as goal
 
 -- a fault that names a line names the one that it may name
 named : (fault : Fault) (number other : ℕ) → (fault ≡ Line number) ⊎ (fault ≡ Stopped) → fault ≡ Line other → number ≡ other
 named fault number other (inl is) says = cc
 named fault number other (inr is) says = cc
-
--- what is left gets shorter by a byte a line
-shorter : (rest : Option (Bor (List ℕ))) (left : Bor (List ℕ)) (after : Option (Bor (List ℕ))) (number total : ℕ)
-    → rest ≡ Some left → IfSome rest (λ text. number + length text.now ≤ total) → IfSome after (λ text. length text.now < length left.now) → IfSome after (λ text. number + 1 + length text.now ≤ total)
-shorter rest left None number total is within less = tt
-shorter rest left (Some text) number total is within less = let here : number + length left.now ≤ total = rw is at within in omega (arith, here, less)
 
 -- an option that is not `Some` is `None`
 neither : {X : Type 0} (o : Option X) → ((x : X) → o ≡ Some x → ⊥) → o ≡ None
