@@ -26,7 +26,7 @@ mod tests;
 /// - 1 where reading, writing, flushing or memory outside the commands failed, or memory for a sweep; nothing goes to
 ///   `faults`, and a failed write may have taken a part of the replies.
 /// - 2 where the words name no mode, before any input is read; where a line is faulty in the mode, before any command is
-///   run; and where two segments of a sweep overlap. `faults` is told which line, and whether it takes that changes nothing.
+///   run; and where two segments of a sweep overlap. `faults` is told which, and whether it takes that changes nothing.
 pub fn run_itree<I: Read, O: Write, X: Write>(
     alloc: Global,
     words: &[&str],
