@@ -25,6 +25,7 @@ GROUPS = (
     "odd",
     "streams",
     "many",
+    "sweeps",
 )
 
 # So many parts of modules run side by side.
