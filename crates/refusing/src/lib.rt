@@ -6,6 +6,8 @@ ghost use Rattle.std.specs.Prelude.{◌≡◌, ℕ, ◌↔◌, IsTrue};
 use std::alloc::{AllocError, Allocator};
 use std::cell::Cell;
 
+pub mod in_turn;
+
 /// Which requests are refused, by their number since the count last began.
 #[derive(Clone, Copy)]
 enum Refused {
