@@ -1,0 +1,26 @@
+//! Items with a key of their own.
+
+use i_tree::set::sort::KeyValue;
+
+/// A value under a key.
+#[derive(Clone, Copy, Debug, PartialEq, Eq)]
+pub struct Item {
+    pub key: i32,
+    pub value: i32,
+}
+
+impl KeyValue<i32> for Item {
+    ghost key_of = { λ item. item.key };
+
+    fn key(&self) -> &i32 {
+        &self.key
+    }
+}
+
+/// The item with this key, whose value tells it from others.
+pub fn number(key: i32) -> Item {
+    Item {
+        key,
+        value: key.saturating_add(100),
+    }
+}

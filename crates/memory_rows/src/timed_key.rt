@@ -1,0 +1,30 @@
+//! Keys that expire.
+
+use i_tree::ExpiredKey;
+
+/// A key with the time at which it expires. Keys are compared by `key` alone.
+#[derive(Clone, Copy, Debug)]
+#[derive_where(PartialEq, Eq, PartialOrd, Ord)]
+pub struct TimedKey {
+    pub key: i32,
+    #[derive_where(skip(EqHashOrd))]
+    pub expiration: i32,
+}
+
+impl ExpiredKey<i32> for TimedKey {
+    ghost expiration = { λ timed. timed.expiration };
+
+    fn expiration(&self) -> i32 {
+        self.expiration
+    }
+}
+
+/// A key that expires at `expiration`.
+pub fn expiring(key: i32, expiration: i32) -> TimedKey {
+    TimedKey { key, expiration }
+}
+
+/// A key that expires at 10.
+pub fn key(key: i32) -> TimedKey {
+    expiring(key, 10)
+}
