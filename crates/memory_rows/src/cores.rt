@@ -54,6 +54,27 @@ pub fn insert_at<A: Allocator + Copy>(
     insert_over::<Brand, A>(Blank::new(4), tree, end, item)
 }
 
+// Nothing is done with what is counted.
+fn remove_over<L: Ledger, A: Allocator + Copy>(
+    blank: Blank,
+    tree: &mut RbTree<i32, A>,
+    handle: u32,
+) -> Option<i32>
+    requires name { blank.name ≡ L.name }
+    requires parts { blank.parts ≡ L.parts }
+    requires four { blank.parts ≡ 4 }
+{
+    if !tree.has(handle) {
+        return None;
+    }
+    Some(tree.remove(&mut Steps::<L>::new(blank), handle))
+}
+
+/// Takes the entry out and answers its item, or `None` where the handle has none.
+pub fn remove<A: Allocator + Copy>(tree: &mut RbTree<i32, A>, handle: u32) -> Option<i32> {
+    remove_over::<Brand, A>(Blank::new(4), tree, handle)
+}
+
 // The last handle in order, or `EMPTY_REF` where the tree is empty.
 fn last<T, A: Allocator + Copy>(tree: &RbTree<T, A>) -> u32 {
     let mut last = EMPTY_REF;

@@ -1,5 +1,7 @@
 //! For every collection of keys that expire: how it is made and filled, and all that it holds.
 
+use crate::cores::handles;
+use crate::key_commands::{Command, Reply, Runner, run_counted, run_plain};
 use crate::timed_key::{TimedKey, key};
 use i_tree::Refusal;
 use i_tree::key::exp::KeyExpCollection;
@@ -40,6 +42,14 @@ pub trait KeyStore: KeyExpCollection<TimedKey, i32, i32> + Drop {
 
     /// The handles of the pairs from the last key back, where the kind has handles.
     fn handles(&self, alloc: Global) -> Option<Vec<u32>>;
+
+    /// Runs the commands, and appends their replies to `out`. Of a list, both runners are the plain one.
+    fn run(
+        &mut self,
+        runner: Runner,
+        commands: &[Command],
+        out: &mut Vec<Reply, Self::Memory>,
+    ) -> Result<(), Refusal>;
 }
 
 impl<A: Allocator + Copy> KeyStore for KeyExpList<TimedKey, i32, i32, A> {
@@ -68,6 +78,15 @@ impl<A: Allocator + Copy> KeyStore for KeyExpList<TimedKey, i32, i32, A> {
     fn handles(&self, alloc: Global) -> Option<Vec<u32>> {
         Some(Vec::new(alloc))
     }
+
+    fn run(
+        &mut self,
+        _runner: Runner,
+        commands: &[Command],
+        out: &mut Vec<Reply, A>,
+    ) -> Result<(), Refusal> {
+        run_plain(self, commands, out)
+    }
 }
 
 impl<A: Allocator + Copy> KeyStore for KeyExpTree<TimedKey, i32, i32, A> {
@@ -95,7 +114,19 @@ impl<A: Allocator + Copy> KeyStore for KeyExpTree<TimedKey, i32, i32, A> {
     }
 
     fn handles(&self, alloc: Global) -> Option<Vec<u32>> {
-        crate::cores::handles(self.core(), alloc)
+        handles(self.core(), alloc)
+    }
+
+    fn run(
+        &mut self,
+        runner: Runner,
+        commands: &[Command],
+        out: &mut Vec<Reply, A>,
+    ) -> Result<(), Refusal> {
+        match runner {
+            Runner::Plain => run_plain(self, commands, out),
+            Runner::Counted => run_counted(self, commands, out),
+        }
     }
 }
 

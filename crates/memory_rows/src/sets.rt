@@ -74,18 +74,18 @@ pub fn fill<C: SetStore>(set: &mut C, least: i32) -> Option<i32> {
     None
 }
 
-// The handle of the last value, or `EMPTY_REF` where there is none.
-fn last<C: SetStore>(set: &C) -> Option<u32> {
+/// The handle of the greatest key at most this one, or `EMPTY_REF`. `None` is answered where the keys aren't in order.
+pub fn find<C: SetStore>(set: &C, sought: i32) -> Option<u32> {
     if !set.is_ordered() {
         return None;
     }
-    Some(set.first_index_less_by(|key| key.cmp(&i32::MAX)))
+    Some(set.first_index_less_by(|key| key.cmp(&sought)))
 }
 
 /// Each value behind its handle, from the last one back.
 pub fn entries<C: SetStore>(set: &C, alloc: Global) -> Option<Vec<(u32, Item)>> {
     let mut entries = Vec::new(alloc);
-    let mut here = last(set)?;
+    let mut here = find(set, i32::MAX)?;
     for _ in 0..1000 {
         if !set.has_index(here) {
             break;
