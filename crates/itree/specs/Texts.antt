@@ -126,7 +126,7 @@ HasOverlapLine SetList text number = ⊥
 HasOverlapLine (Segments min max) text number = ⊥
 HasOverlapLine Sweep text number = IsOverlapLine (lines_of text) number
 
--- a line of the text is faulty in the mode; in a sweep, it may also say a segment that overlaps
+-- a line of the text is faulty in the mode, or, in a sweep, says the first segment that overlaps
 abbrev pub HasFault : Mode → List ℕ → Type 0
 HasFault KeyTree text = HasFaultyLine KeyTree text
 HasFault KeyList text = HasFaultyLine KeyList text
