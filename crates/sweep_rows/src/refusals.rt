@@ -1,116 +1,101 @@
 //! Each request for memory of a sweep, of its store and of `out`, refused in turn.
 
-use crate::stores::{LevelList, LevelStore, LevelTree, hold_others};
+use crate::stores::{LevelList, LevelTree, MadeStore, hold_others};
 use crate::sweeps::{is_wanted, point, segment, with_earlier};
 use i_tree::Refusal;
-use i_tree::key::list::KeyExpList;
-use i_tree::key::tree::KeyExpTree;
 use itree_lib::sweep::{Point, Segment, SweepFault, below};
 use refusing::Refusing;
+use refusing::in_turn::{Fault, Trial, refuse_in_turn};
 use std::alloc::Global;
-use std::process::Abort;
 use std::test::Fail;
 
-// Segments above one another, which all cover one x, with a point on each there, and the answers.
+type Memory<'a> = &'a Refusing<Global>;
+
+// A sweep over segments above one another, which all cover one x, with a point on each there; and its answers.
 #[derive(Drop)]
-struct Stack {
+struct Stack<C: MadeStore> {
+    memory: C::Memory,
     segments: Vec<Segment>,
     points: Vec<Point>,
     answers: Vec<Option<i32>>,
 }
 
-impl Stack {
-    fn new(alloc: Global) -> Result<Self, Fail> {
-        let mut segments = Vec::new(alloc);
-        let mut points = Vec::new(alloc);
-        let mut answers = Vec::new(alloc);
-        for y in 1..=20 {
-            segments.push(segment(y, 30, y))?;
-            points.push(point(25, y))?;
-            answers.push(Some(y))?;
-        }
-        Ok(Stack {
-            segments,
-            points,
-            answers,
+// The store and `out`, and how the last sweep ended.
+#[derive(Drop)]
+struct Swept<C: MadeStore> {
+    store: C,
+    out: Vec<Option<i32>, C::Memory>,
+    outcome: Result<(), SweepFault>,
+}
+
+impl<C: MadeStore> Trial for Stack<C> {
+    type State = Swept<C>;
+
+    fn begin(&self) -> Option<Swept<C>> {
+        let mut store = C::make(self.memory).ok()?;
+        hold_others(&mut store).ok()?;
+        let out = with_earlier(self.memory).ok()?;
+        Some(Swept {
+            store,
+            out,
+            outcome: Ok(()),
         })
     }
-}
 
-// Sweeps where the `nth` request is refused, and again with memory. Answers whether one was refused.
-fn is_refused_then_swept<C: LevelStore>(
-    rt: &impl Abort,
-    memory: &Refusing<Global>,
-    stack: &Stack,
-    store: &mut C,
-    nth: u64,
-) -> Result<bool, Fail> {
-    hold_others(rt, store)?;
-    let mut out = with_earlier(memory)?;
-    memory.refuse_nth(nth);
-    let outcome = below(store, &stack.segments, &stack.points, &mut out);
-    let is_refused = memory.requests() >= nth;
-    memory.refuse_none();
-    assert!(rt; store.count() == 0, "after refusal {nth}");
-    if is_refused {
-        let refused = Err(SweepFault::Refused(Refusal::OutOfMemory));
-        assert!(rt; is_wanted(outcome, &out, refused), "after refusal {nth}");
-        let again = below(store, &stack.segments, &stack.points, &mut out);
-        assert!(rt;
-            is_wanted(again, &out, Ok(&stack.answers)),
-            "again after refusal {nth}"
+    fn call(&self, swept: &mut Swept<C>) {
+        swept.outcome = below(
+            &mut swept.store,
+            &self.segments,
+            &self.points,
+            &mut swept.out,
         );
-    } else {
-        assert!(rt; is_wanted(outcome, &out, Ok(&stack.answers)));
     }
-    assert!(rt; store.count() == 0, "again after refusal {nth}");
-    Ok(is_refused)
+
+    fn is_refused(&self, swept: &mut Swept<C>, _nth: u64) -> bool {
+        let refused = Err(SweepFault::Refused(Refusal::OutOfMemory));
+        is_wanted(swept.outcome, &swept.out, refused) && swept.store.count() == 0
+    }
+
+    fn is_done(&self, swept: &mut Swept<C>) -> bool {
+        is_wanted(swept.outcome, &swept.out, Ok(&self.answers)) && swept.store.count() == 0
+    }
 }
 
-// The same over a new list.
-fn is_list_refused(
-    rt: &impl Abort,
-    memory: &Refusing<Global>,
-    stack: &Stack,
-    nth: u64,
-) -> Result<bool, Fail> {
-    let mut list: LevelList<&Refusing<Global>> = KeyExpList::new(memory, 0)?;
-    is_refused_then_swept(rt, memory, stack, &mut list, nth)
-}
-
-// The same over a new tree.
-fn is_tree_refused(
-    rt: &impl Abort,
-    memory: &Refusing<Global>,
-    stack: &Stack,
-    nth: u64,
-) -> Result<bool, Fail> {
-    let mut tree: LevelTree<&Refusing<Global>> = KeyExpTree::new(memory, 0)?;
-    is_refused_then_swept(rt, memory, stack, &mut tree, nth)
+// How many requests the sweep makes over a new store.
+fn requests_of<C: MadeStore>(
+    counted: &Refusing<Global>,
+    memory: C::Memory,
+    alloc: Global,
+) -> Result<Result<u64, Fault>, Fail> {
+    let mut segments = Vec::new(alloc);
+    let mut points = Vec::new(alloc);
+    let mut answers = Vec::new(alloc);
+    for y in 1..=20 {
+        segments.push(segment(y, 30, y))?;
+        points.push(point(25, y))?;
+        answers.push(Some(y))?;
+    }
+    let stack: Stack<C> = Stack {
+        memory,
+        segments,
+        points,
+        answers,
+    };
+    Ok(refuse_in_turn(counted, &stack))
 }
 
 #[test]
 fn keeps_out_at_each_refusal_over_a_list(rt: HostRuntime) -> Result<(), Fail> {
-    let stack = Stack::new(rt.alloc())?;
     let memory = Refusing::new(rt.alloc());
-    for nth in 1..100 {
-        if !is_list_refused(&rt, &memory, &stack, nth)? {
-            assert!(rt; nth > 4, "some requests of each vector");
-            return Ok(());
-        }
-    }
-    Err(Fail::from("a refusal in every run"))
+    let requests = requests_of::<LevelList<Memory>>(&memory, &memory, rt.alloc())?;
+    assert!(rt; matches!(requests, Ok(4..)));
+    Ok(())
 }
 
 #[test]
 fn keeps_out_at_each_refusal_over_a_tree(rt: HostRuntime) -> Result<(), Fail> {
-    let stack = Stack::new(rt.alloc())?;
     let memory = Refusing::new(rt.alloc());
-    for nth in 1..100 {
-        if !is_tree_refused(&rt, &memory, &stack, nth)? {
-            assert!(rt; nth > 4, "some requests of each vector");
-            return Ok(());
-        }
-    }
-    Err(Fail::from("a refusal in every run"))
+    let requests = requests_of::<LevelTree<Memory>>(&memory, &memory, rt.alloc())?;
+    assert!(rt; matches!(requests, Ok(4..)));
+    Ok(())
 }

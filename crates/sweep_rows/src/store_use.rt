@@ -14,7 +14,8 @@ type WatchedLevels = Watched<Level, i32, Option<i32>>;
 // A store that holds others, takes no further level where it is closed, and has noted no call.
 fn watched_store(rt: &impl Abort, alloc: Global, is_closed: bool) -> Result<WatchedLevels, Fail> {
     let mut store = Watched::new(alloc)?;
-    hold_others(rt, &mut store)?;
+    hold_others(&mut store)?;
+    assert!(rt; store.count() == 3);
     store.restart(is_closed);
     Ok(store)
 }

@@ -1,6 +1,7 @@
 //! Sweeps over every kind of store, whose outcomes are compared with what is wanted.
 
 use crate::stores::{LevelList, LevelStore, LevelTree, hold_others};
+use i_tree::Refusal;
 use i_tree::key::list::KeyExpList;
 use i_tree::key::tree::KeyExpTree;
 use itree_lib::sweep::{Point, Segment, SweepFault, below};
@@ -23,7 +24,7 @@ pub fn point(x: i32, y: i32) -> Point {
 }
 
 /// A vector with one answer.
-pub fn with_earlier<A: Allocator>(alloc: A) -> Result<Vec<Option<i32>, A>, Fail> {
+pub fn with_earlier<A: Allocator>(alloc: A) -> Result<Vec<Option<i32>, A>, Refusal> {
     let mut out = Vec::new(alloc);
     out.push(EARLIER)?;
     Ok(out)
@@ -55,7 +56,8 @@ pub fn sweeps_to<C: LevelStore>(
     points: &[Point],
     wanted: Wanted,
 ) -> Result<bool, Fail> {
-    hold_others(rt, store)?;
+    hold_others(store)?;
+    assert!(rt; store.count() == 3);
     let mut out = with_earlier(alloc)?;
     let outcome = below(store, segments, points, &mut out);
     Ok(is_wanted(outcome, &out, wanted) && store.count() == 0)
