@@ -1,4 +1,4 @@
-//! Worked trees of the core: shapes, handles, growth and refusals.
+//! Worked trees of the core: shapes, handles and growth.
 
 use crate::trees::{
     before, first_by_before, has_nodes, has_rising, insert_left, insert_right, insert_rising,
@@ -8,7 +8,6 @@ use i_tree::rb::RbTree;
 use i_tree::{EMPTY_REF, Refusal};
 use refusing::Refusing;
 use std::alloc::Global;
-use std::process::Abort;
 use std::test::Fail;
 
 #[test]
@@ -177,20 +176,9 @@ fn keeps_a_hundred_thousand_handles(rt: HostRuntime) -> Result<(), Fail> {
     Ok(())
 }
 
-#[test]
-fn is_refused_new_and_then_made(rt: HostRuntime) -> Result<(), Fail> {
-    let memory = Refusing::new(rt.alloc());
-    memory.refuse_nth(1);
-    let refused: Result<RbTree<i32, &Refusing<Global>>, Refusal> = RbTree::new(&memory, 20);
-    assert_eq!(rt; refused.err(), Some(Refusal::OutOfMemory));
-    let tree: RbTree<i32, &Refusing<Global>> = RbTree::new(&memory, 20)?;
-    assert_eq!(rt; tree.spare(), 19);
-    Ok(())
-}
-
 // Whether a reservation is answered so, and leaves so many slots free.
 fn reserves(
-    tree: &mut RbTree<i32, &Refusing<Global>>,
+    tree: &mut RbTree<i32, Global>,
     capacity: usize,
     answer: Result<(), Refusal>,
     spare: usize,
@@ -199,61 +187,13 @@ fn reserves(
 }
 
 #[test]
-fn keeps_its_slots_where_more_are_refused(rt: HostRuntime) -> Result<(), Fail> {
-    let memory = Refusing::new(rt.alloc());
-    let mut tree: RbTree<i32, &Refusing<Global>> = RbTree::new(&memory, 0)?;
+fn reserves_slots_and_keeps_those_it_has(rt: HostRuntime) -> Result<(), Fail> {
+    let mut tree: RbTree<i32, Global> = RbTree::new(rt.alloc(), 0)?;
     let mut handles = Vec::new(rt.alloc());
     insert_rising(&rt, &mut tree, 5, &mut handles)?;
-    memory.refuse_nth(1);
-    assert!(rt; reserves(&mut tree, 20, Err(Refusal::OutOfMemory), 2));
-    assert!(rt; has_rising(&rt, &tree, &handles));
     assert!(rt; reserves(&mut tree, 20, Ok(()), 14));
     assert!(rt; reserves(&mut tree, 10, Ok(()), 14));
     assert!(rt; reserves(&mut tree, 4294967296, Err(Refusal::NoHandle), 14));
-    assert!(rt; has_rising(&rt, &tree, &handles));
-    Ok(())
-}
-
-// Puts a further item behind the last, first with every request refused and then with memory.
-fn insert_refused_then_taken(
-    rt: &impl Abort,
-    memory: &Refusing<Global>,
-    tree: &mut RbTree<i32, &Refusing<Global>>,
-    handles: &mut Vec<u32>,
-    number: i32,
-) -> Result<(), Fail> {
-    let last = handles.last().copied().unwrap_or(EMPTY_REF);
-    let spare = tree.spare();
-    memory.refuse_all();
-    match insert_right(rt, tree, last, number) {
-        Ok(handle) => {
-            assert!(rt; spare > 0);
-            handles.push(handle)?;
-        }
-        Err(refused) => {
-            assert_eq!(rt; spare, 0);
-            assert_eq!(rt;
-                (refused.value, refused.cause),
-                (number, Refusal::OutOfMemory)
-            );
-            assert!(rt; has_rising(rt, tree, handles));
-            memory.refuse_none();
-            handles.push(insert_right(rt, tree, last, number)?)?;
-        }
-    }
-    memory.refuse_none();
-    Ok(())
-}
-
-#[test]
-fn keeps_its_entries_where_an_insertion_is_refused(rt: HostRuntime) -> Result<(), Fail> {
-    let memory = Refusing::new(rt.alloc());
-    let mut tree: RbTree<i32, &Refusing<Global>> = RbTree::new(&memory, 0)?;
-    let mut handles = Vec::new(rt.alloc());
-    insert_rising(&rt, &mut tree, 1, &mut handles)?;
-    for number in 2..40 {
-        insert_refused_then_taken(&rt, &memory, &mut tree, &mut handles, number)?;
-    }
     assert!(rt; has_rising(&rt, &tree, &handles));
     Ok(())
 }

@@ -13,7 +13,6 @@ use i_tree::key::tree::KeyExpTree;
 use i_tree::steps::Steps;
 use i_tree::{ExpiredKey, Refusal};
 use itree_lib::run::{KeyCommand, KeyReply, run_key_tree_counted};
-use refusing::Refusing;
 use std::alloc::{Allocator, Global};
 use std::cell::Cell;
 use std::cmp::Ordering;
@@ -112,23 +111,6 @@ fn are_inserted(replies: &[KeyReply<i32>], count: usize) -> bool {
 }
 
 #[test]
-fn refuses_where_no_slot_is_free(rt: HostRuntime) -> Result<(), Fail> {
-    let memory = Refusing::new(rt.alloc());
-    let mut tree: KeyTree<&Refusing<Global>> = KeyExpTree::new(&memory, 0)?;
-    let mut replies = Vec::new(rt.alloc());
-    let mut commands = rising_insertions(rt.alloc(), 8)?;
-    commands.push(less_at(0, 9))?;
-    memory.refuse_nth(1);
-    run(&mut tree, &commands, &mut replies)?;
-    assert_eq!(rt; memory.requests(), 1);
-    assert_eq!(rt; replies.len(), 9);
-    assert!(rt; are_inserted(&replies[..7], 7));
-    assert_eq!(rt; replies[7], KeyReply::Refused(Refusal::OutOfMemory));
-    assert_eq!(rt; replies[8], KeyReply::Value(7));
-    Ok(())
-}
-
-#[test]
 fn accepts_each_of_forty_insertions(rt: HostRuntime) -> Result<(), Fail> {
     let mut tree: KeyTree<Global> = KeyExpTree::new(rt.alloc(), 0)?;
     let mut replies = Vec::new(rt.alloc());
@@ -136,26 +118,6 @@ fn accepts_each_of_forty_insertions(rt: HostRuntime) -> Result<(), Fail> {
     run(&mut tree, &commands, &mut replies)?;
     assert!(rt; are_inserted(&replies, 40));
     assert_eq!(rt; tree.stored(), 40);
-    Ok(())
-}
-
-#[test]
-fn changes_nothing_without_room_for_the_replies(rt: HostRuntime) -> Result<(), Fail> {
-    let memory = Refusing::new(rt.alloc());
-    let mut tree: KeyTree<Global> = KeyExpTree::new(rt.alloc(), 0)?;
-    let mut replies: Vec<KeyReply<i32>, &Refusing<Global>> = Vec::new(&memory);
-    let commands = [insert_at(0, key(2)), less_at(0, 9)];
-    memory.refuse_nth(1);
-    let refused = run(&mut tree, &commands, &mut replies);
-    assert_eq!(rt; refused, Err(Refusal::OutOfMemory));
-    assert_eq!(rt; replies.len(), 0);
-    assert_eq!(rt; tree.stored(), 0);
-    run(&mut tree, &commands, &mut replies)?;
-    assert_eq!(rt;
-        replies.as_slice(),
-        [KeyReply::Inserted, KeyReply::Value(2)].as_slice()
-    );
-    assert_eq!(rt; tree.stored(), 1);
     Ok(())
 }
 

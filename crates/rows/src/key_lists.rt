@@ -105,21 +105,8 @@ fn takes_as_many_keys_as_it_has_room_for(rt: HostRuntime) -> Result<(), Fail> {
 }
 
 #[test]
-fn removes_without_memory(rt: HostRuntime) -> Result<(), Fail> {
-    let memory = Refusing::new(rt.alloc());
-    let mut list: KeyList<&Refusing<Global>> = KeyExpList::new(&memory, 0)?;
-    keys::removes_without_memory(&rt, &memory, &mut list)
-}
-
-#[test]
 fn reserves_room_for_all_pairs(rt: HostRuntime) -> Result<(), Fail> {
-    let memory = Refusing::new(rt.alloc());
-    let mut list = four_keys(&rt, &memory)?;
-    let spare = list.spare();
-    memory.refuse_nth(1);
-    assert_eq!(rt; list.reserve_capacity(10), Err(Refusal::OutOfMemory));
-    assert_eq!(rt; list.stored(), 4);
-    assert_eq!(rt; list.spare(), spare);
+    let mut list = four_keys(&rt, rt.alloc())?;
     list.reserve_capacity(10)?;
     assert_eq!(rt; list.stored(), 4);
     assert!(rt; list.spare() >= 6);
@@ -183,32 +170,6 @@ fn has_the_greatest_time_of_each_type(rt: HostRuntime) {
         usize::max_expiration() == 18446744073709551615,
     ];
     assert_eq!(rt; tests, [true; 9]);
-}
-
-#[test]
-fn is_refused_new_and_then_made(rt: HostRuntime) -> Result<(), Fail> {
-    let memory = Refusing::new(rt.alloc());
-    memory.refuse_nth(1);
-    let refused: Result<KeyList<&Refusing<Global>>, Refusal> = KeyExpList::new(&memory, 3);
-    assert_eq!(rt; refused.err(), Some(Refusal::OutOfMemory));
-    assert_eq!(rt; memory.requests(), 1);
-    let mut list: KeyList<&Refusing<Global>> = KeyExpList::new(&memory, 3)?;
-    assert_eq!(rt; list.first_less(0, -1, key(9)), -1);
-    Ok(())
-}
-
-#[test]
-fn keeps_what_is_stored_where_an_insertion_is_refused(rt: HostRuntime) -> Result<(), Fail> {
-    let memory = Refusing::new(rt.alloc());
-    for nth in 1..20 {
-        memory.refuse_none();
-        let mut list: KeyList<&Refusing<Global>> = KeyExpList::new(&memory, 0)?;
-        keys::keeps_its_pairs_where_the_nth_is_refused(&rt, &memory, &mut list, nth)?;
-        if memory.requests() < nth {
-            return Ok(());
-        }
-    }
-    Err(Fail::from("more requests than insertions"))
 }
 
 #[test]

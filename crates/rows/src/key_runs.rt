@@ -232,46 +232,6 @@ fn changes_nothing_without_room_for_the_replies(rt: HostRuntime) -> Result<(), F
 }
 
 #[test]
-fn goes_on_after_a_refused_insertion(rt: HostRuntime) -> Result<(), Fail> {
-    let memory = Refusing::new(rt.alloc());
-    let commands = [
-        insert_at(5, key(1)),
-        less_at(4, 9),
-        insert_pair_at(5, key(1), 2),
-        less_at(5, 9),
-    ];
-    let refused = [
-        KeyReply::Refused(Refusal::OutOfMemory),
-        KeyReply::Late,
-        KeyReply::Inserted,
-        KeyReply::Value(2),
-    ];
-    let whole = [
-        KeyReply::Inserted,
-        KeyReply::Late,
-        KeyReply::Present,
-        KeyReply::Value(1),
-    ];
-    for (nth, made, outcome, wanted) in [
-        (1, 1, Err(Refusal::OutOfMemory), [].as_slice()),
-        (2, 3, Ok(()), refused.as_slice()),
-        (3, 2, Ok(()), whole.as_slice()),
-    ] {
-        let mut list: KeyList<Memory<'_>> = KeyExpList::new(&memory, 0)?;
-        let mut replies = Vec::new(&memory);
-        memory.refuse_nth(nth);
-        assert_eq!(rt;
-            run_keys(&mut list, &commands, compare_key, &mut replies),
-            outcome
-        );
-        assert_eq!(rt; memory.requests(), made);
-        assert_eq!(rt; replies.as_slice(), wanted, "at request {nth}");
-        memory.refuse_none();
-    }
-    Ok(())
-}
-
-#[test]
 fn tells_the_cause_of_a_refused_insertion(rt: HostRuntime) -> Result<(), Fail> {
     let mut keys: FewKeys<TimedKey, i32, i32> = FewKeys::new(rt.alloc())?;
     let commands = [

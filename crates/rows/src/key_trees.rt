@@ -74,20 +74,6 @@ fn agrees_with_a_plain_vector(rt: HostRuntime) -> Result<(), Fail> {
 }
 
 #[test]
-fn keeps_what_is_stored_where_an_insertion_is_refused(rt: HostRuntime) -> Result<(), Fail> {
-    let memory = Refusing::new(rt.alloc());
-    for nth in 1..20 {
-        memory.refuse_none();
-        let mut tree: KeyTree<&Refusing<Global>> = KeyExpTree::new(&memory, 0)?;
-        keys::keeps_its_pairs_where_the_nth_is_refused(&rt, &memory, &mut tree, nth)?;
-        if memory.requests() < nth {
-            return Ok(());
-        }
-    }
-    Err(Fail::from("more requests than insertions"))
-}
-
-#[test]
 fn takes_as_many_keys_as_it_has_slots_for(rt: HostRuntime) -> Result<(), Fail> {
     let memory = Refusing::new(rt.alloc());
     let mut tree: KeyTree<&Refusing<Global>> = KeyExpTree::new(&memory, 0)?;
@@ -102,13 +88,6 @@ fn takes_as_many_keys_as_it_has_slots_for(rt: HostRuntime) -> Result<(), Fail> {
     assert_eq!(rt; memory.requests(), 1);
     assert_eq!(rt; tree.first_less(0, -1, key(9)), 7);
     Ok(())
-}
-
-#[test]
-fn removes_without_memory(rt: HostRuntime) -> Result<(), Fail> {
-    let memory = Refusing::new(rt.alloc());
-    let mut tree: KeyTree<&Refusing<Global>> = KeyExpTree::new(&memory, 0)?;
-    keys::removes_without_memory(&rt, &memory, &mut tree)
 }
 
 #[test]
@@ -131,37 +110,6 @@ fn reserves_slots_and_keeps_those_it_has(rt: HostRuntime) -> Result<(), Fail> {
     assert_eq!(rt; tree.spare(), 19);
     assert_eq!(rt; tree.reserve_capacity(4294967296), Err(Refusal::NoHandle));
     assert_eq!(rt; tree.spare(), 19);
-    Ok(())
-}
-
-#[test]
-fn is_refused_new_and_then_made(rt: HostRuntime) -> Result<(), Fail> {
-    let memory = Refusing::new(rt.alloc());
-    let beyond: Result<KeyTree<&Refusing<Global>>, Refusal> = KeyExpTree::new(&memory, 4294967296);
-    assert_eq!(rt; beyond.err(), Some(Refusal::NoHandle));
-    assert_eq!(rt; memory.requests(), 0);
-    memory.refuse_nth(1);
-    let refused: Result<KeyTree<&Refusing<Global>>, Refusal> = KeyExpTree::new(&memory, 20);
-    assert_eq!(rt; refused.err(), Some(Refusal::OutOfMemory));
-    let mut tree: KeyTree<&Refusing<Global>> = KeyExpTree::new(&memory, 20)?;
-    assert_eq!(rt; (tree.stored(), tree.spare()), (0, 19));
-    assert_eq!(rt; tree.first_less(0, -1, key(9)), -1);
-    Ok(())
-}
-
-#[test]
-fn keeps_its_slots_where_more_are_refused(rt: HostRuntime) -> Result<(), Fail> {
-    let memory = Refusing::new(rt.alloc());
-    let mut tree: KeyTree<&Refusing<Global>> = KeyExpTree::new(&memory, 0)?;
-    insert_rising(&rt, &mut tree, 1, 5)?;
-    for (nth, answer, spare) in [(1, Err(Refusal::OutOfMemory), 2), (2, Ok(()), 14)] {
-        memory.refuse_nth(nth);
-        assert_eq!(rt; tree.reserve_capacity(20), answer);
-        assert_eq!(rt; memory.requests(), 1);
-        assert_eq!(rt; (tree.stored(), tree.spare()), (5, spare));
-        assert!(rt; keys::has_keys(&tree, 1, 5));
-        assert_eq!(rt; tree.first_less(0, -1, key(9)), 5);
-    }
     Ok(())
 }
 

@@ -3,8 +3,6 @@
 use crate::timed_key::{TimedKey, expiring, key};
 use i_tree::Refusal;
 use i_tree::key::exp::KeyExpCollection;
-use refusing::Refusing;
-use std::alloc::Global;
 use std::cell::Cell;
 use std::cmp::Ordering;
 use std::process::Abort;
@@ -79,13 +77,6 @@ pub fn at_most<C: KeyStore>(keys: &mut C, time: i32, sought: i32) -> (i32, u64) 
         timed.key.cmp(&sought)
     });
     (found, calls.get())
-}
-
-/// Whether exactly the keys from `first` to `last` are there at time 0, of those up to 50.
-pub fn has_keys<C: KeyStore>(keys: &C, first: i32, last: i32) -> bool {
-    (0..=50).all(|number| {
-        keys.contains_key(0, key(number)) == (first <= number && number <= last)
-    })
 }
 
 /// Looks for a key below one that is not there, and for one below the least.
@@ -185,57 +176,5 @@ pub fn takes_the_ends_of_the_type<C: KeyStore>(rt: &impl Abort, keys: &mut C) ->
     insert(rt, keys, expiring(3, i32::MAX), 0)?;
     assert_eq!(rt; keys.first_less(i32::MAX - 1, -1, key(4)), 3);
     assert_eq!(rt; keys.first_less(i32::MAX, -1, key(4)), 3);
-    Ok(())
-}
-
-/// Asks at times at which keys have expired, where every request for memory is refused. The first query finds 20 among
-/// them, and the second 10.
-pub fn removes_without_memory<C: KeyStore>(
-    rt: &impl Abort,
-    memory: &Refusing<Global>,
-    keys: &mut C,
-) -> Result<(), Fail> {
-    for number in 1..=20 {
-        let expiration = match number % 4 {
-            0 => 1,
-            2 => 2,
-            _ => 10,
-        };
-        insert(rt, keys, expiring(number, expiration), 0)?;
-    }
-    memory.refuse_all();
-    assert_eq!(rt; keys.first_less(2, -1, key(21)), 19);
-    let kept = keys.count();
-    assert!(rt; kept < 20);
-    assert_eq!(rt; at_most(keys, 3, 10).0, 9);
-    assert!(rt; keys.count() < kept);
-    assert_eq!(rt; memory.requests(), 0);
-    Ok(())
-}
-
-/// Inserts the keys 1 to 40 where the nth request for memory is refused, and again what was refused with it.
-pub fn keeps_its_pairs_where_the_nth_is_refused<C: KeyStore>(
-    rt: &impl Abort,
-    memory: &Refusing<Global>,
-    keys: &mut C,
-    nth: u64,
-) -> Result<(), Fail> {
-    memory.refuse_nth(nth);
-    let mut last = 0;
-    for number in 1..=40 {
-        let before = (keys.count(), keys.room());
-        if let Err(refusal) = insert(rt, keys, key(number), 0) {
-            assert_eq!(rt; refusal, Refusal::OutOfMemory);
-            assert_eq!(rt; memory.requests(), nth);
-            assert_eq!(rt; (keys.count(), keys.room()), before);
-            assert!(rt; has_keys(keys, 1, last), "after refusal {nth}");
-            assert_eq!(rt; at_most(keys, 0, 50).0, if last == 0 { -1 } else { last });
-            insert(rt, keys, key(number), 0)?;
-        }
-        last = number;
-    }
-    assert!(rt; has_keys(keys, 1, 40));
-    assert_eq!(rt; keys.count(), 40);
-    assert_eq!(rt; keys.first_less(0, -1, key(50)), 40);
     Ok(())
 }

@@ -1,15 +1,12 @@
-//! Worked sets in a sorted vector: searches, writes in place, and refusals.
+//! Worked sets in a sorted vector: searches, writes in place, and deletions.
 
-use crate::numbered::{Dropping, Item, number};
+use crate::numbered::{Dropping, Item};
 use crate::sets::{
     deletes_a_key_between, deletes_from_the_front, deletes_the_key_before, drops_what_it_deletes,
-    find, finds_the_greatest_key_at_most, insert, insert_keys, item_at,
-    keeps_its_values_where_the_nth_is_refused,
+    find, finds_the_greatest_key_at_most, insert_keys, item_at,
 };
 use i_tree::set::list::SetList;
 use i_tree::set::sort::SetCollection;
-use i_tree::{EMPTY_REF, Refusal};
-use refusing::Refusing;
 use std::alloc::{Allocator, Global};
 use std::cell::Cell;
 use std::process::Abort;
@@ -48,47 +45,6 @@ fn writes_a_value_in_its_place(rt: HostRuntime) -> Result<(), Fail> {
     set.value_by_index_mut(1).key = 4;
     assert!(rt; set.is_ordered());
     assert_eq!(rt; item_at(&rt, &set, 1).value, 40);
-    Ok(())
-}
-
-#[test]
-fn keeps_its_values_where_an_insertion_is_refused(rt: HostRuntime) -> Result<(), Fail> {
-    let memory = Refusing::new(rt.alloc());
-    for nth in 1..20 {
-        memory.refuse_none();
-        let mut set: List<&Refusing<Global>> = SetList::new(&memory, 0)?;
-        let refused = keeps_its_values_where_the_nth_is_refused(&rt, &memory, &mut set, nth)?;
-        if let Some((key, found)) = refused {
-            assert_eq!(rt; found, before_last(key));
-        }
-        assert_eq!(rt; find(&rt, &set, 30), 19);
-        if memory.requests() < nth {
-            return Ok(());
-        }
-    }
-    Err(Fail::from("more requests than insertions"))
-}
-
-// The position of the greatest key, where the next one is `key` and the first is 1.
-fn before_last(key: i32) -> u32 {
-    if key <= 1 {
-        EMPTY_REF
-    } else {
-        (key as u32).saturating_sub(2)
-    }
-}
-
-#[test]
-fn is_refused_new_and_then_made(rt: HostRuntime) -> Result<(), Fail> {
-    let memory = Refusing::new(rt.alloc());
-    memory.refuse_nth(1);
-    let refused: Result<List<&Refusing<Global>>, Refusal> = SetList::new(&memory, 3);
-    assert_eq!(rt; refused.err(), Some(Refusal::OutOfMemory));
-    let mut set: List<&Refusing<Global>> = SetList::new(&memory, 3)?;
-    memory.refuse_all();
-    for key in 1..=3 {
-        assert!(rt; insert(&rt, &mut set, number(key)).is_ok());
-    }
     Ok(())
 }
 

@@ -4,7 +4,6 @@ use crate::numbered::{Dropping, Item, Ticking, number};
 use crate::sets::{
     deletes_a_key_between, deletes_from_the_front, deletes_the_key_before, drops_what_it_deletes,
     find, finds_the_greatest_key_at_most, insert, insert_keys, item_at,
-    keeps_its_values_where_the_nth_is_refused,
 };
 use i_tree::set::sort::SetCollection;
 use i_tree::set::tree::SetTree;
@@ -143,33 +142,6 @@ fn takes_as_many_as_it_has_slots_for(rt: HostRuntime) -> Result<(), Fail> {
         assert_eq!(rt; find(&rt, &set, key), *handle);
     }
     assert_eq!(rt; key, 7);
-    Ok(())
-}
-
-#[test]
-fn keeps_its_values_where_an_insertion_is_refused(rt: HostRuntime) -> Result<(), Fail> {
-    let memory = Refusing::new(rt.alloc());
-    for nth in 1..20 {
-        memory.refuse_none();
-        let mut set: Set<&Refusing<Global>> = SetTree::new(&memory, 0)?;
-        keeps_its_values_where_the_nth_is_refused(&rt, &memory, &mut set, nth)?;
-        if memory.requests() < nth {
-            return Ok(());
-        }
-    }
-    Err(Fail::from("more requests than insertions"))
-}
-
-#[test]
-fn is_refused_new_and_then_made(rt: HostRuntime) -> Result<(), Fail> {
-    let memory = Refusing::new(rt.alloc());
-    memory.refuse_nth(1);
-    let refused: Result<Set<&Refusing<Global>>, Refusal> = SetTree::new(&memory, 0);
-    assert_eq!(rt; refused.err(), Some(Refusal::OutOfMemory));
-    let set: Set<&Refusing<Global>> = SetTree::new(&memory, 0)?;
-    assert_eq!(rt; set.spare(), 7);
-    let beyond: Result<Set<&Refusing<Global>>, Refusal> = SetTree::new(&memory, 4294967296);
-    assert_eq!(rt; beyond.err(), Some(Refusal::NoHandle));
     Ok(())
 }
 

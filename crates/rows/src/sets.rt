@@ -2,9 +2,7 @@
 
 use crate::numbered::{Dropping, Item, number};
 use i_tree::set::sort::{KeyValue, SetCollection};
-use i_tree::{EMPTY_REF, Refusal, Refused};
-use refusing::Refusing;
-use std::alloc::Global;
+use i_tree::{EMPTY_REF, Refused};
 use std::cell::Cell;
 use std::cmp::Ordering;
 use std::process::Abort;
@@ -156,33 +154,4 @@ pub fn drops_what_it_deletes<'a, C: SetCollection<i32, Dropping<'a>>>(
     set.delete_by_index(four);
     assert_eq!(rt; drops.get(), 1);
     Ok(())
-}
-
-/// Inserts the keys 1 to 20 where the nth request for memory is refused, and again what was refused with it. Answers the
-/// key that was refused, if one was, and the handle that a search for it found then.
-pub fn keeps_its_values_where_the_nth_is_refused<C: SetCollection<i32, Item>>(
-    rt: &impl Abort,
-    memory: &Refusing<Global>,
-    set: &mut C,
-    nth: u64,
-) -> Result<Option<(i32, u32)>, Fail> {
-    let mut at_refusal = None;
-    memory.refuse_nth(nth);
-    for key in 1..=20 {
-        let last = find(rt, set, i32::MAX);
-        if let Err(refused) = insert(rt, set, number(key)) {
-            assert_eq!(rt;
-                (refused.value, refused.cause),
-                (number(key), Refusal::OutOfMemory)
-            );
-            assert_eq!(rt; memory.requests(), nth);
-            assert_eq!(rt; find(rt, set, i32::MAX), last);
-            assert_eq!(rt; find(rt, set, key), last);
-            assert!(rt; has_keys(rt, set, 1, key.saturating_sub(1)));
-            insert(rt, set, number(key))?;
-            at_refusal = Some((key, last));
-        }
-    }
-    assert!(rt; has_keys(rt, set, 1, 20));
-    Ok(at_refusal)
 }
