@@ -18,9 +18,9 @@ pub fn height_below(segments: &[Segment], point: Point) -> Option<i32> {
     height
 }
 
-// Whether two segments have one height and both cover some x, where each x that one covers is from 0 to 9.
+// Whether two segments have one height and both cover some x, which is looked for from 0 to 10.
 fn collide(first: &Segment, second: &Segment) -> bool {
-    first.y == second.y && (0..10).any(|x| covers(first, x) && covers(second, x))
+    first.y == second.y && (0..=10).any(|x| covers(first, x) && covers(second, x))
 }
 
 // Whether the segment at the place collides with one that comes before it in the order of `x0`, and then of place.

@@ -25,23 +25,23 @@ fn chance(state: &mut usize) -> i32 {
     (next_random(state) % 10000) as i32
 }
 
-// From 1 to 8 segments by chance. Few are long, and some cover nothing.
+// From 1 to 8 segments by chance, of which some cover nothing. None covers an x below 0 or above 10.
 fn some_segments(alloc: Global, state: &mut usize) -> Result<Vec<Segment>, Fail> {
     let mut segments = Vec::new(alloc);
     for _ in 0..=chance(state) % 8 {
         let x0 = chance(state) % 7;
-        let x1 = x0.saturating_add(chance(state) % 4).saturating_sub(1);
-        segments.push(segment(x0, x1, chance(state) % 6))?;
+        let x1 = x0.saturating_add(chance(state) % 6).saturating_sub(1);
+        segments.push(segment(x0, x1, chance(state) % 7))?;
     }
     Ok(segments)
 }
 
-// Up to 6 points by chance, at an x that segments may cover, and one on each side.
+// Up to 6 points by chance, some of them beside all segments, below or above them.
 fn some_points(alloc: Global, state: &mut usize) -> Result<Vec<Point>, Fail> {
     let mut points = Vec::new(alloc);
     for _ in 0..chance(state) % 7 {
-        let x = (chance(state) % 11).saturating_sub(1);
-        let y = (chance(state) % 8).saturating_sub(1);
+        let x = (chance(state) % 10).saturating_sub(1);
+        let y = (chance(state) % 9).saturating_sub(1);
         points.push(point(x, y))?;
     }
     Ok(points)
