@@ -242,18 +242,17 @@ fn refuses_other_arguments_before_it_reads(rt: HostRuntime) {
 #[test]
 fn stops_where_a_reader_fails(rt: HostRuntime) {
     for mode in KEYS {
-        // It fails after some lines, a faulty one among them.
-        let mut input = BrokenReader {
-            bytes: b"insert 0 10 0 0\nless\n",
-            reads: 0,
-        };
-        let outcome = outcome_of(rt.alloc(), &[mode], &mut input);
-        assert_eq!(rt; outcome.status, 1, "in {mode}");
-        assert!(rt;
-            outcome.output.is_empty() && outcome.faults.is_empty(),
-            "in {mode}"
-        );
-        assert!(rt; input.reads > 1, "in {mode}");
+        // It fails after a line, or after two, a faulty one among them.
+        for bytes in [b"insert 0 10 0 0\n".as_slice(), b"insert 0 10 0 0\nless\n"] {
+            let mut input = BrokenReader { bytes, reads: 0 };
+            let outcome = outcome_of(rt.alloc(), &[mode], &mut input);
+            assert_eq!(rt; outcome.status, 1, "in {mode}");
+            assert!(rt;
+                outcome.output.is_empty() && outcome.faults.is_empty(),
+                "in {mode}"
+            );
+            assert!(rt; input.reads > 1, "in {mode}");
+        }
     }
 }
 

@@ -2,46 +2,120 @@
 
 use super::*;
 use refusing::Refusing;
+use refusing::in_turn::{Trial, refuse_in_turn};
+use std::cell::Cell;
+
+// A run of the program in a mode, whose last answer is the same whichever of the insertions is refused.
+#[derive(Drop)]
+struct Running<'a> {
+    memory: &'a Refusing<Global>,
+    alloc: Global,
+    mode: &'static str,
+    commands: &'static str,
+    replies: &'static str,
+    has_stopped: Cell<bool>,
+    first_refused: Cell<Option<usize>>,
+}
+
+impl Trial for Running<'_> {
+    type State = Option<Outcome>;
+
+    fn begin(&self) -> Option<Option<Outcome>> {
+        Some(None)
+    }
+
+    fn call(&self, outcome: &mut Option<Outcome>) {
+        *outcome = Some(outcome_over(self.memory, self.alloc, self.mode, self.commands));
+    }
+
+    // Either the program stops, or one insertion is refused, or reading goes on with less room than it asked for.
+    fn is_refused(&self, outcome: &mut Option<Outcome>, _nth: u64) -> bool {
+        let Some(outcome) = outcome else {
+            return false;
+        };
+        if outcome.status == 1 {
+            self.has_stopped.set(true);
+            return outcome.output.is_empty() && outcome.faults.is_empty();
+        }
+        let refused = refused_line(&outcome.output, self.replies);
+        if self.first_refused.get().is_none() {
+            self.first_refused.set(refused);
+        }
+        let is_replied = outcome.output.as_slice() == self.replies.as_bytes();
+        outcome.status == 0 && outcome.faults.is_empty() && (refused.is_some() || is_replied)
+    }
+
+    fn is_done(&self, outcome: &mut Option<Outcome>) -> bool {
+        match outcome {
+            Some(outcome) => {
+                outcome.status == 0
+                    && outcome.faults.is_empty()
+                    && outcome.output.as_slice() == self.replies.as_bytes()
+            }
+            None => false,
+        }
+    }
+}
+
+/// Runs a mode where each request is refused in turn. The first insertion that is refused is the one at this place, if any is.
+pub fn assert_survives(
+    rt: &impl Abort,
+    alloc: Global,
+    mode: &'static str,
+    commands: &'static str,
+    replies: &'static str,
+    first_refused: Option<usize>,
+) {
+    let memory = Refusing::new(alloc);
+    let trial = Running {
+        memory: &memory,
+        alloc,
+        mode,
+        commands,
+        replies,
+        has_stopped: Cell::new(false),
+        first_refused: Cell::new(None),
+    };
+    assert!(rt; refuse_in_turn(&memory, &trial).is_ok(), "in {mode}");
+    assert!(rt; trial.has_stopped.get(), "in {mode}");
+    assert!(rt; trial.first_refused.get() == first_refused, "in {mode}");
+}
 
 #[test]
 fn survives_each_refused_request_for_memory(rt: HostRuntime) {
-    // The keys are more than a small collection holds, and the last answer is the same whichever of them is refused. A
-    // tree begins with room for seven.
-    for (mode, commands, replies, first_refused) in [
-        ("keytree", KEY_COMMANDS, KEY_REPLIES, 7),
-        ("keylist", KEY_COMMANDS, KEY_REPLIES, 0),
-        ("settree", SET_COMMANDS, SET_REPLIES, 7),
-        ("setlist", SET_COMMANDS, SET_REPLIES, 0),
-    ] {
-        let memory = Refusing::new(rt.alloc());
-        let (mut has_stopped, mut refused, mut asked) = (false, None, 0);
-        for nth in 1..100 {
-            memory.refuse_nth(nth);
-            let outcome = outcome_over(&memory, rt.alloc(), mode, commands);
-            asked = memory.requests();
-            assert!(rt; outcome.faults.is_empty(), "{mode} at request {nth}");
-            if outcome.status == 1 {
-                assert!(rt; outcome.output.is_empty(), "{mode} at request {nth}");
-                has_stopped = true;
-            } else {
-                assert_eq!(rt; outcome.status, 0, "{mode} at request {nth}");
-                refused = refused.or(refused_line(&rt, &outcome.output, replies));
-            }
-            memory.refuse_none();
-            let again = outcome_over(&memory, rt.alloc(), mode, commands);
-            assert_eq!(rt;
-                again.output.as_slice(),
-                replies.as_bytes(),
-                "{mode} after request {nth}"
-            );
-            if asked < nth {
-                break;
-            }
-        }
-        assert!(rt; asked > 0 && asked < 99, "in {mode}");
-        assert!(rt; has_stopped, "in {mode}");
-        assert_eq!(rt; refused, Some(first_refused), "in {mode}");
-    }
+    // The keys are more than a small collection holds. A tree begins with room for seven.
+    assert_survives(
+        &rt,
+        rt.alloc(),
+        "keytree",
+        KEY_COMMANDS,
+        KEY_REPLIES,
+        Some(7),
+    );
+    assert_survives(
+        &rt,
+        rt.alloc(),
+        "keylist",
+        KEY_COMMANDS,
+        KEY_REPLIES,
+        Some(0),
+    );
+    assert_survives(
+        &rt,
+        rt.alloc(),
+        "settree",
+        SET_COMMANDS,
+        SET_REPLIES,
+        Some(7),
+    );
+    assert_survives(
+        &rt,
+        rt.alloc(),
+        "setlist",
+        SET_COMMANDS,
+        SET_REPLIES,
+        Some(0),
+    );
 }
 
 const KEY_COMMANDS: &str =
@@ -75,18 +149,23 @@ fn outcome_over(memory: &Refusing<Global>, alloc: Global, mode: &str, input: &st
     }
 }
 
-// Which line of the output is `refused` in place of `inserted`, if one is. All others are the replies.
-fn refused_line(rt: &impl Abort, output: &[u8], replies: &str) -> Option<usize> {
-    let text = str::from_utf8(output).expect(rt, "the output is text");
-    assert_eq!(rt; text.lines().count(), replies.lines().count());
+// Which line of the output is `refused` in place of `inserted`, where one is and all others are the replies.
+fn refused_line(output: &[u8], replies: &str) -> Option<usize> {
+    let text = str::from_utf8(output).ok()?;
     let mut refused = None;
     for (place, (line, reply)) in text.lines().zip(replies.lines()).enumerate() {
         if line != reply {
-            assert!(rt; refused.is_none() && line == "refused" && reply == "inserted");
+            if refused.is_some() || line != "refused" || reply != "inserted" {
+                return None;
+            }
             refused = Some(place);
         }
     }
-    refused
+    if text.lines().count() == replies.lines().count() {
+        refused
+    } else {
+        None
+    }
 }
 
 #[test]

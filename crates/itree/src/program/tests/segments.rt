@@ -2,6 +2,8 @@
 
 use super::*;
 use refusing::Refusing;
+use refusing::in_turn::{Trial, refuse_in_turn};
+use std::cell::Cell;
 use std::test::Fail;
 
 fn assert_answered_over(
@@ -123,47 +125,105 @@ fn answers_thousands_of_lines_of_segments(rt: HostRuntime) -> Result<(), Fail> {
     Ok(())
 }
 
-// What is replied to two insertions and a query of both, where one of the three is refused or none.
-const WITH_ONE_REFUSED: [&str; 4] = [
+// What is replied to two insertions and a query of both, where one of the three is refused.
+const WITH_ONE_REFUSED: [&str; 3] = [
     "refused\ninserted\nvalues 2\n",
     "inserted\nrefused\nvalues 1\n",
     "inserted\ninserted\nrefused\n",
-    "inserted\ninserted\nvalues 1 2\n",
 ];
 
-#[test]
-fn survives_each_refused_request_for_memory_of_segments(rt: HostRuntime) {
-    let memory = Refusing::new(rt.alloc());
-    let (mut has_stopped, mut has_replied, mut asked) = (false, [false; 4], 0);
-    for nth in 1..200 {
-        memory.refuse_nth(nth);
-        let mut output = Vec::new(rt.alloc());
-        let mut faults = Vec::new(rt.alloc());
+// Which of these the output is.
+fn which_of_them(output: &[u8]) -> [bool; 3] {
+    WITH_ONE_REFUSED.map(|replies| output == replies.as_bytes())
+}
+
+// What is replied where none is.
+const REPLIES_OF_ALL: &[u8] = b"inserted\ninserted\nvalues 1 2\n";
+
+// A run of the program over segments, which keeps which of these replies it has given.
+#[derive(Drop)]
+struct Running<'a> {
+    memory: &'a Refusing<Global>,
+    alloc: Global,
+    has_stopped: Cell<bool>,
+    has_replied: Cell<[bool; 3]>,
+}
+
+impl Running<'_> {
+    // Either the program stopped, or one command was refused, or reading went on with less room than it asked for.
+    fn has_one_refused(&self, outcome: &Outcome) -> bool {
+        if !outcome.faults.is_empty() {
+            return false;
+        }
+        if outcome.status == 1 {
+            self.has_stopped.set(true);
+            return outcome.output.is_empty();
+        }
+        let is_one = which_of_them(&outcome.output);
+        let seen = self.has_replied.get();
+        self.has_replied.set([
+            seen[0] || is_one[0],
+            seen[1] || is_one[1],
+            seen[2] || is_one[2],
+        ]);
+        let is_whole = outcome.output.as_slice() == REPLIES_OF_ALL;
+        outcome.status == 0 && (is_whole || is_one.contains(&true))
+    }
+}
+
+impl Trial for Running<'_> {
+    type State = Option<Outcome>;
+
+    fn begin(&self) -> Option<Option<Outcome>> {
+        Some(None)
+    }
+
+    fn call(&self, outcome: &mut Option<Outcome>) {
+        let mut output = Vec::new(self.alloc);
+        let mut faults = Vec::new(self.alloc);
         let status = run_over(
-            &memory,
+            self.memory,
             &["seg", "0", "128"],
             &mut b"insert 8 100 9 1\ninsert 0 127 9 2\nquery 0 128 0\n".as_slice(),
             &mut output,
             &mut faults,
         );
-        asked = memory.requests();
-        assert!(rt; faults.is_empty(), "at request {nth}");
-        if status == 1 {
-            assert!(rt; output.is_empty(), "at request {nth}");
-            has_stopped = true;
-        } else {
-            assert_eq!(rt; status, 0, "at request {nth}");
-            let is_one = WITH_ONE_REFUSED.map(|replies| output.as_slice() == replies.as_bytes());
-            assert!(rt; is_one.contains(&true), "at request {nth}");
-            for (seen, is_this) in has_replied.iter_mut().zip(is_one) {
-                *seen |= is_this;
-            }
-        }
-        if asked < nth {
-            break;
+        *outcome = Some(Outcome {
+            status,
+            output,
+            faults,
+        });
+    }
+
+    fn is_refused(&self, outcome: &mut Option<Outcome>, _nth: u64) -> bool {
+        match outcome {
+            Some(outcome) => self.has_one_refused(outcome),
+            None => false,
         }
     }
-    assert!(rt; asked > 0 && asked < 199);
-    assert!(rt; has_stopped);
-    assert_eq!(rt; has_replied, [true; 4]);
+
+    fn is_done(&self, outcome: &mut Option<Outcome>) -> bool {
+        match outcome {
+            Some(outcome) => {
+                outcome.status == 0
+                    && outcome.faults.is_empty()
+                    && outcome.output.as_slice() == REPLIES_OF_ALL
+            }
+            None => false,
+        }
+    }
+}
+
+#[test]
+fn survives_each_refused_request_for_memory_of_segments(rt: HostRuntime) {
+    let memory = Refusing::new(rt.alloc());
+    let trial = Running {
+        memory: &memory,
+        alloc: rt.alloc(),
+        has_stopped: Cell::new(false),
+        has_replied: Cell::new([false; 3]),
+    };
+    assert!(rt; refuse_in_turn(&memory, &trial).is_ok());
+    assert!(rt; trial.has_stopped.get());
+    assert!(rt; trial.has_replied.get() == [true; 3]);
 }

@@ -1,7 +1,7 @@
 //! Sweeps over horizontal segments.
 
+use super::memory::assert_survives;
 use super::*;
-use refusing::Refusing;
 use std::test::Fail;
 
 #[test]
@@ -126,47 +126,5 @@ const ANSWERS: &str = "below 9\nnone\n";
 
 #[test]
 fn survives_each_refused_request_for_memory_of_a_sweep(rt: HostRuntime) {
-    let memory = Refusing::new(rt.alloc());
-    let (mut has_stopped, mut asked) = (false, 0);
-    for nth in 1..200 {
-        memory.refuse_nth(nth);
-        let outcome = outcome_over(&memory, rt.alloc());
-        asked = memory.requests();
-        if outcome.status == 1 {
-            assert!(rt; outcome.output.is_empty(), "at request {nth}");
-            assert!(rt; outcome.faults.is_empty(), "at request {nth}");
-            has_stopped = true;
-        } else {
-            assert_replied(&rt, outcome);
-        }
-        memory.refuse_none();
-        assert_replied(&rt, outcome_over(&memory, rt.alloc()));
-        if asked < nth {
-            break;
-        }
-    }
-    assert!(rt; has_stopped && asked < 199);
-}
-
-fn outcome_over(memory: &Refusing<Global>, alloc: Global) -> Outcome {
-    let mut output = Vec::new(alloc);
-    let mut faults = Vec::new(alloc);
-    let status = run_over(
-        memory,
-        &["sweep"],
-        &mut LINES.as_bytes(),
-        &mut output,
-        &mut faults,
-    );
-    Outcome {
-        status,
-        output,
-        faults,
-    }
-}
-
-fn assert_replied(rt: &impl Abort, outcome: Outcome) {
-    assert_eq!(rt; outcome.status, 0);
-    assert_eq!(rt; outcome.output.as_slice(), ANSWERS.as_bytes());
-    assert!(rt; outcome.faults.is_empty());
+    assert_survives(&rt, rt.alloc(), "sweep", LINES, ANSWERS, None);
 }
