@@ -1,8 +1,11 @@
-//! Complete small programs over `i_tree`, as its users write them: each is proved without a proof file, and tested.
+//! Complete small programs over `i_tree`, as its users write them: each is proved and tested. One loop, in `tickets`, has an
+//! invariant in a proof file; nothing else needs one.
 #![tactic(auto)]
 
 pub mod crossing_candidates;
 pub mod kept_handles;
+pub mod leases;
 pub mod level_below;
 pub mod seen_below;
 pub mod sweep_events;
+pub mod tickets;
