@@ -6,6 +6,7 @@ pub mod crossing_candidates;
 pub mod kept_handles;
 pub mod leases;
 pub mod level_below;
+pub mod own_error;
 pub mod seen_below;
 pub mod sweep_events;
 pub mod tickets;
