@@ -1,4 +1,5 @@
 -- Lemmas on layout numbers, buckets, heap nodes and masks.
+pub mod Alive
 pub mod Among
 pub mod Asking
 pub mod Bags

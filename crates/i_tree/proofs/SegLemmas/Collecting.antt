@@ -1,5 +1,5 @@
 -- A walk that appends what it finds, one value after another.
-use Rattle.std.proofs.Common.{◌≡◌, ℕ, ◌*◌, ◌^◌, ◌<◌, ◌≤◌, Some, List, [], ◌∷◌, ◌++◌, length, drop, bit_and, ap, sym, ◌∙◌, subst, append_assoc, length-append, arith, IsPermutation}
+use Rattle.std.proofs.Common.{◌≡◌, ℕ, ◌+◌, ◌*◌, ◌^◌, ◌<◌, ◌≤◌, Some, List, [], ◌∷◌, ◌++◌, length, drop, bit_and, ap, sym, ◌∙◌, subst, append_assoc, length-append, arith, IsPermutation}
 use Rattle.std.specs.Bool.{◌==◌}
 use Rattle.std.specs.List.{filter, sum_by}
 use Rattle.std.specs.declared.cmp.Ordering.{Ordering}
@@ -130,6 +130,17 @@ module _ {V : Type 0} (answers kept items : List V) (come : List (Member V)) (so
             (IsPermutation-append_right so_far.found (values_of come) (value ∷ values_of come')
             (subst (λ (first : V). IsPermutation (values_of come) (first ∷ values_of come')) one.1 (IsPermutation-map (λ member. member.value) come (one.0 ∷ come') one.2))));
       }
+
+  -- fewer were appended than there are answers, as long as one comes
+  pub IsAppended-fewer : {value : V} {come' : List (Member V)} → (member : Member V) × (member.value ≡ value) × IsPermutation come (member ∷ come') → length items < length kept + length answers
+  IsAppended-fewer {come' = come'} one =
+      let longer = ap length so_far.is in
+      let both = length-append kept so_far.found in
+      let as_many = length_permutation answers (so_far.found ++ values_of come) so_far.rest in
+      let parts = length-append so_far.found (values_of come) in
+      let values = length-map come (λ member. member.value) in
+      let some = length_permutation come (one.0 ∷ come') one.2 in
+      omega arith
 
   -- none is left
   pub IsAppended-all : come ≡ [] → (found : List V) × IsPermutation answers found × (items ≡ kept ++ found)

@@ -22,11 +22,13 @@ module _ {R E V A U : Type 0} where
     pub latest : walk.tree.now.latest ≡ Some walk.time
 
   -- A step of the walk: it yields one of the values that were still to come, or `None` where none was. The tree is the same,
-  -- with its latest time, its buckets, and its members as a bag; copies that are no longer live may be gone.
+  -- with its latest time, its buckets, and its members as a bag; copies that are no longer live may be gone. It may be made again,
+  -- also after `None`.
   pub record GivesNext (expiration : V → E) (cmp : E → E → Ordering) (walk : SegExpTreeIterator R E V A U) (found : Option V) (after : SegExpTreeIterator R E V A U) : Type 0 where
     pub yields : MatchOption found ((still_to_come expiration cmp walk ≡ []) × (still_to_come expiration cmp after ≡ [])) (λ value. IsPermutation (still_to_come expiration cmp walk) (value ∷ still_to_come expiration cmp after))
     pub tree : after.tree.ghost_name ≡ walk.tree.ghost_name
     pub latest : after.tree.now.latest ≡ walk.tree.now.latest
     pub buckets : after.tree.now.buckets ≡ walk.tree.now.buckets
     pub members : IsPermutation walk.tree.now.members after.tree.now.members
+    pub can : CanGo after
     pub copies : stored_copies after.tree.now.chunks ≤ stored_copies walk.tree.now.chunks

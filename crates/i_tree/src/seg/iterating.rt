@@ -3,7 +3,7 @@
 ghost use Rattle.std.specs.Prelude.{◌≡◌, length, IsPermutation};
 ghost use Rattle.std.specs.Iterator.{at_most};
 ghost use Rattle.std.specs.declared.option.Option.TheVariants.{Some};
-ghost use Rattle.i_tree.specs.Seg.Buckets.{Accepts, interval};
+ghost use Rattle.i_tree.specs.Seg.Buckets.{Accepts, Filters, interval};
 ghost use Rattle.i_tree.specs.Seg.Iterating.{still_to_come, CanGo, GivesNext};
 ghost use Rattle.i_tree.specs.Seg.Members.{NotBefore, answer, live_members};
 
@@ -32,6 +32,7 @@ impl<R: LayoutNumber, E: Expiration, V: ExpiredVal<E>, A: Allocator + Copy> SegE
         ensures members { IsPermutation (live_members V.expiration E.cmp time self.old.members) result.tree.now.members }
         ensures found { IsPermutation (answer V.expiration E.cmp time (interval self.old.buckets (R.whole range.min) (R.whole range.max)) self.old.members) (still_to_come V.expiration E.cmp result) }
         ensures copies { result.tree.now.chunks ≡ self.old.chunks }
+        ensures filters { Filters self.old.buckets }
         ensures can { CanGo result }
     {
         let asked = self.ask(range, time);

@@ -2,7 +2,7 @@
 
 ghost use Rattle.std.specs.Prelude.{◌≡◌, ◌<◌, ◌≤◌, ◌*◌, ◌^◌, ◌↔◌, [], ◌∷◌, IsTrue, length, MatchOption, IsPermutation};
 ghost use Rattle.std.specs.declared.option.Option.TheVariants.{Some};
-ghost use Rattle.i_tree.specs.Seg.Buckets.{Accepts, interval};
+ghost use Rattle.i_tree.specs.Seg.Buckets.{Accepts, Filters, interval};
 ghost use Rattle.i_tree.specs.Seg.Copies.{stored_copies};
 ghost use Rattle.i_tree.specs.Seg.Members.{Member, NotBefore, answer, live_members, values_of};
 ghost use Rattle.i_tree.specs.Seg.Nodes.{nodes_of};
@@ -38,6 +38,7 @@ impl<R: LayoutNumber, E: Expiration, V: ExpiredVal<E>, A: Allocator + Copy> SegE
         ensures chunks { self.new.chunks ≡ self.old.chunks }
         ensures members { IsPermutation (live_members V.expiration E.cmp time self.old.members) self.new.members }
         ensures found { IsPermutation (answer V.expiration E.cmp time (interval self.old.buckets (R.whole range.min) (R.whole range.max)) self.old.members) (values_of (to_come V.expiration E.cmp time result result 0 self.new.chunks)) }
+        ensures filters { Filters self.old.buckets }
         ensures reads { live_from V.expiration E.cmp time 0 (nodes_of result) self.new.chunks ≤ 8 * length (to_come V.expiration E.cmp time result result 0 self.new.chunks) }
     {
         let first = self.layout.bucket(range.min);

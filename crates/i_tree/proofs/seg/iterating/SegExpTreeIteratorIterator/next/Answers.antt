@@ -33,15 +33,14 @@ returns-clause-steps g c =
       latest = c.next_found.ensures.latest;
       buckets = c.next_found.ensures.buckets;
       members = c.next_found.ensures.members;
+      can = record {
+        few = let few = c.requires.few in let same = c.next_found.ensures.count in omega arith;
+        within = c.next_found.ensures.within;
+        latest = c.next_found.ensures.latest ∙ c.requires.latest;
+      };
       copies = let gone = c.next_found.ensures.steps.removals in omega arith;
     }
 
 pub returns-clause-goes : goal.returns-clause-goes
 returns-clause-goes g c =
-    one_fewer CanGo (still_to_come g.V.ExpiredVal.expiration g.E.Ord.cmp) _ _ c.next_found.result
-    (record {
-      few = let few = c.requires.few in let same = c.next_found.ensures.count in omega arith;
-      within = c.next_found.ensures.within;
-      latest = c.next_found.ensures.latest ∙ c.requires.latest;
-    })
-    (returns-clause-steps g c).yields
+    one_fewer CanGo (still_to_come g.V.ExpiredVal.expiration g.E.Ord.cmp) _ _ c.next_found.result (returns-clause-steps g c).can (returns-clause-steps g c).yields

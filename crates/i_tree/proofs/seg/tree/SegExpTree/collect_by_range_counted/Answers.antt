@@ -1,12 +1,12 @@
 use Rattle.std.proofs.Common.{◌≡◌, ◌-◌, ℕ, not, List, [], ◌∷◌, ◌++◌, length, take, ap, sym, ◌∙◌, subst, length-append, arith}
-use Rattle.std.proofs.lemmas.Bool.{cond-true, cond-false}
+use Rattle.std.proofs.lemmas.Bool.{cond-true, cond-false, false≢true}
 use Rattle.std.proofs.lemmas.List.{append-nil, take_at}
 use Rattle.std.proofs.lemmas.List.Sorted.{length_permutation}
 use Rattle.i_tree.specs.Seg.Buckets.{interval}
 use Rattle.i_tree.specs.Seg.Copies.{stored_copies}
 use Rattle.i_tree.specs.Seg.Members.{answer}
 use Rattle.i_tree.specs.Seg.Walk.{to_come, Collects}
-use Rattle.i_tree.proofs.SegLemmas.Collecting.{IsWalked, IsWalked-on, IsWalked-ended, IsWalked-left, reads-few, reads-each, IsAppended, IsAppended-more, IsAppended-all}
+use Rattle.i_tree.proofs.SegLemmas.Collecting.{IsWalked, IsWalked-on, IsWalked-ended, IsWalked-left, reads-few, reads-each, IsAppended, IsAppended-more, IsAppended-fewer, IsAppended-all}
 use Rattle.i_tree.proofs.SegLemmas.Walk.{Reads-none}
 use Rattle.i_tree.proofs.seg.tree.SegExpTree.collect_by_range_counted.Goals as goal
 
@@ -24,6 +24,7 @@ loop-value-init g c =
         steps = rw asked.chunks (Reads-none g.met.C.Counter.law c.args.steps.now _ _);
       };
       appended = record { found = []; is = sym (append-nil c.args.out.now.items); rest = asked.found };
+      room = omega arith;
     })
 
 pub next_found-requires-clause-few : goal.next_found-requires-clause-few
@@ -47,6 +48,17 @@ returns-then-is_err-clause-err g c =
     let not_ok = c.is_err.ensures.negation ∙ ap not c.if-is_err.true in
     let same = c.push.ensures.items ∙ cond-false _ (c.loop-value.out.items ++ c.in-Some.value ∷ []) c.loop-value.out.items not_ok ∙ so_far.is in
     c.truncate.ensures.items ∙ ap (take c.len-start.result) same ∙ take_at c.args.out.now.items so_far.found c.len-start.result (omega (arith, c.len-start.ensures, c.args.out.now.ok.0))
+
+-- the list had room for less than the answer
+pub returns-then-is_err-clause-with_room : goal.returns-then-is_err-clause-with_room
+returns-then-is_err-clause-with_room g c room =
+    let not_ok = c.is_err.ensures.negation ∙ ap not c.if-is_err.true in
+    let fewer = IsAppended-fewer (answer g.V.ExpiredVal.expiration g.E.Ord.cmp c.args.time (interval c.args.self.now.buckets (g.R.LayoutNumber.whole c.args.range.min) (g.R.LayoutNumber.whole c.args.range.max)) c.args.self.now.members) c.args.out.now.items c.loop-value.out.items (to_come g.V.ExpiredVal.expiration g.E.Ord.cmp c.args.time c.ask-asked.result c.loop-value.cursor.left c.loop-value.cursor.index c.loop-value.self.chunks) c.loop-value.invariant.appended c.in-Some.ensures.found in
+    let grown = c.loop-value.invariant.room in
+    let was = c.args.out.now.ok.0 in
+    let is = c.loop-value.out.ok.0 in
+    let ok = c.push.ensures.succeeds (omega arith) in
+    absurd (false≢true (sym not_ok ∙ ok))
 
 pub returns-then-is_err-clause-members : goal.returns-then-is_err-clause-members
 returns-then-is_err-clause-members g c = (refused g c).members
@@ -77,6 +89,7 @@ loop-value-preserved g c =
           c.next_found.ensures.count c.next_found.ensures.within c.next_found.ensures.latest c.next_found.ensures.buckets c.next_found.ensures.members c.next_found.ensures.steps;
       appended = subst (λ (items : List g.row.V.Denot). IsAppended (answer g.V.ExpiredVal.expiration g.E.Ord.cmp c.args.time (interval c.args.self.now.buckets (g.R.LayoutNumber.whole c.args.range.min) (g.R.LayoutNumber.whole c.args.range.max)) c.args.self.now.members) c.args.out.now.items items (to_come g.V.ExpiredVal.expiration g.E.Ord.cmp c.args.time c.ask-asked.result c.next_found.new.cursor.left c.next_found.new.cursor.index c.next_found.new.self.chunks)) (sym more)
           (IsAppended-more (answer g.V.ExpiredVal.expiration g.E.Ord.cmp c.args.time (interval c.args.self.now.buckets (g.R.LayoutNumber.whole c.args.range.min) (g.R.LayoutNumber.whole c.args.range.max)) c.args.self.now.members) c.args.out.now.items c.loop-value.out.items (to_come g.V.ExpiredVal.expiration g.E.Ord.cmp c.args.time c.ask-asked.result c.loop-value.cursor.left c.loop-value.cursor.index c.loop-value.self.chunks) c.loop-value.invariant.appended c.in-Some.value (to_come g.V.ExpiredVal.expiration g.E.Ord.cmp c.args.time c.ask-asked.result c.next_found.new.cursor.left c.next_found.new.cursor.index c.next_found.new.self.chunks) c.in-Some.ensures.found);
+      room = let before = c.loop-value.invariant.room in let grown = c.push.ensures.capacity in omega arith;
     }
 
 -- the finished walk
