@@ -11,6 +11,7 @@ pub mod Found
 pub mod Inserting
 pub mod Later
 pub mod Lent
+pub mod Losing
 pub mod Masks
 pub mod NodesOf
 pub mod NodesWalk

@@ -4,7 +4,8 @@ ghost use Rattle.i_tree.specs.declared.Refusal.TheVariants.{OutOfMemory};
 ghost use Rattle.i_tree.specs.Seg.Buckets.{HasLayout, IsLayout, Accepts, Filters, chunk_count, interval};
 ghost use Rattle.i_tree.specs.Seg.Copies.{chunk_at, copies_at, live_copies, stored_copies, PlacesCopies};
 ghost use Rattle.i_tree.specs.Seg.Members.{AllLiveYet, NotBefore, answer, live_members, member_over, with_member};
-ghost use Rattle.i_tree.specs.Seg.Nodes.{place_set};
+ghost use Rattle.i_tree.specs.Seg.Nodes.{place_set, meeting_set};
+ghost use Rattle.i_tree.specs.Seg.Walk.{LosesExpiredAt, Cleans};
 
 use super::chunk::{clear_chunks, empty_chunks, make_room, place_copies};
 use super::exp::{SegExpCollection, SegRange};
@@ -139,8 +140,9 @@ impl<R: LayoutNumber, E: Expiration, V: ExpiredVal<E>, A: Allocator + Copy> SegE
         Ok(())
     }
 
-    /// Appends what a walk finds, and drops the copies that it reads and that are no longer live. It asks for memory for
-    /// `out` alone, and not where that has room for the answer.
+    /// Appends what a walk finds, and drops the copies that it reads and that are no longer live: all of those at the nodes
+    /// that the range meets, unless it is refused, and none elsewhere. It asks for memory for `out` alone, and not where that
+    /// has room for the answer.
     fn collect_by_range<B: Allocator>(
         &mut self,
         range: SegRange<R>,
@@ -157,6 +159,8 @@ impl<R: LayoutNumber, E: Expiration, V: ExpiredVal<E>, A: Allocator + Copy> SegE
         ensures latest { self.new.latest ≡ Some time }
         ensures buckets { self.new.buckets ≡ self.old.buckets }
         ensures filters { Filters self.old.buckets }
+        ensures cleans { OnOk result (Cleans V.expiration E.cmp time (meeting_set (interval self.old.buckets (R.whole range.min) (R.whole range.max))) self.old.chunks self.new.chunks) }
+        ensures loses { LosesExpiredAt V.expiration E.cmp time (meeting_set (interval self.old.buckets (R.whole range.min) (R.whole range.max))) self.old.chunks self.new.chunks }
         ensures fewer { stored_copies self.new.chunks ≤ stored_copies self.old.chunks }
     {
         self.collect_by_range_counted(&mut Uncounted, range, time, out)

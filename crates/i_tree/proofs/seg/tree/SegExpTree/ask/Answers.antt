@@ -36,6 +36,9 @@ invariant_of-self g c =
 pub returns-clause-few : goal.returns-clause-few
 returns-clause-few g c = let long = c.self.invariant.chunk_for_each in let few = c.bucket-first.ensures.chunks in omega arith
 
+pub returns-clause-asked : goal.returns-clause-asked
+returns-clause-asked g c = rw (← c.self.view_is, ← c.bucket-first.ensures.value, ← c.bucket-last.ensures.value) c.meeting_mask.ensures.value
+
 pub returns-clause-within : goal.returns-clause-within
 returns-clause-within g c =
     subst (λ (count : ℕ). c.meeting_mask.result < 2 ^ count) (sym c.self.invariant.chunk_for_each)
