@@ -1,5 +1,5 @@
 -- What each command of a counted run counts, and what all of them do together.
-use Rattle.std.proofs.Common.{◌≡◌, ◌≢◌, ◌⊎◌, ⊎_elim, inl, inr, ℕ, zero, suc, ◌+◌, ◌-◌, ◌*◌, ◌<◌, ◌≤◌, List, [], ◌∷◌, ◌++◌, length, refl, ap, subst, arith}
+use Rattle.std.proofs.Common.{◌≡◌, ◌≢◌, ◌⊎◌, ⊎_elim, inl, inr, ℕ, zero, suc, ◌+◌, ◌-◌, ◌*◌, ◌<◌, ◌≤◌, List, [], ◌∷◌, length, refl, ap, subst, arith}
 use Rattle.std.proofs.Math.Nat.{mul-suc}
 use Rattle.std.proofs.lemmas.List.{length-map}
 use Rattle.std.proofs.lemmas.List.Elements.{All-head, All-tail}
@@ -9,8 +9,9 @@ use Rattle.i_tree.specs.Core.RbTree.{Contents, slots, slots_grown}
 use Rattle.i_tree.specs.Core.Shape.{entries}
 use Rattle.i_tree.specs.Root.Steps.{Counts, Adds, nothing, together}
 use Rattle.i_tree.specs.declared.Refusal.{Refusal}
-use Rattle.itree_lib.specs.CountedRun.{one_if_inserted, CountsOne, CountsRun, RefusedOnlyWhereFull}
+use Rattle.itree_lib.specs.CountedRun.{CountsOne, CountsRun}
 use Rattle.itree_lib.specs.KeyReplies.{IsReplyTo, RepliesTo}
+use Rattle.itree_lib.specs.KeyRoom.{one_if_inserted, KeepsRoom}
 use Rattle.itree_lib.specs.Serving.{DoesAll}
 use Rattle.itree_lib.specs.declared.run.keys.KeyCommand.{KeyCommand}
 use Rattle.itree_lib.specs.declared.run.keys.KeyCommand.TheVariants.{Insert, Less, LessOrEqualBy, Clear}
@@ -89,20 +90,17 @@ module _ {K V : Type 0} where
   no_more_stored : (reply : KeyReply V) (old : Counts) (tree : Contents (K × V)) (new : Counts) (tree' : Contents (K × V)) → CountsOne reply old tree new tree' → length (items tree'.shape) ≤ length (items tree.shape) + one_if_inserted reply
   no_more_stored reply old tree new tree' one = ⊎_elim (λ is. omega (arith, (one.clears is).0)) (λ other. omega (arith, one.stores other)) (is_cleared reply)
 
-  -- no insertion is refused while a slot is free
-  pub refused_where_full : (replies : List (KeyReply V)) (old : Counts) (tree : Contents (K × V)) (new : Counts) (tree' : Contents (K × V)) → DoesAll CountsOne replies old tree new tree' → RefusedOnlyWhereFull tree.spare replies
-  refused_where_full [] old tree new tree' done [] cause after is = absurd (cc (is))
-  refused_where_full [] old tree new tree' done (r ∷ before) cause after is = absurd (cc (is))
-  refused_where_full (reply ∷ replies) old tree new tree' (mid, tree-mid, one, rest) [] cause after is =
-      let first : reply ≡ Refused cause = cc in
-      omega (arith, one.refused cause first)
-  refused_where_full (reply ∷ replies) old tree new tree' (mid, tree-mid, one, rest) (r ∷ before) cause after is =
-      let first : reply ≡ r = cc in
-      let others : replies ≡ before ++ Refused cause ∷ after = cc in
-      let later = refused_where_full replies mid tree-mid new tree' rest before cause after others in
+  -- the room is for all slots but the reserved one
+  pub counted_room : (reply : KeyReply V) (old : Counts) (tree : Contents (K × V)) (new : Counts) (tree' : Contents (K × V)) → CountsOne reply old tree new tree'
+      → KeepsRoom reply (length (items tree.shape) + tree.spare) (length (items tree.shape)) (length (items tree'.shape) + tree'.spare) (length (items tree'.shape))
+  counted_room reply old tree new tree' one =
       let of_items = length-map (entries tree.shape) (λ (entry : ℕ × (K × V)). entry.1) in
-      let of_items' = length-map (entries tree-mid.shape) (λ (entry : ℕ × (K × V)). entry.1) in
-      omega (arith, later, one.slots_stay, no_more_stored reply old tree mid tree-mid one, of_items, of_items', ap one_if_inserted first)
+      let of_items' = length-map (entries tree'.shape) (λ (entry : ℕ × (K × V)). entry.1) in
+      record {
+        no_less = omega (arith, one.slots_stay, of_items, of_items');
+        stores = no_more_stored reply old tree new tree' one;
+        refused = λ cause is. let full = one.refused cause is in omega (arith, full);
+      }
 
   -- `Cleared` is the reply to `Clear` alone
   cleared_by_clear : {P E : Type 0} (command : KeyCommand K E V P) (reply : KeyReply V) → IsReplyTo command reply → reply ≡ Cleared → command ≡ Clear

@@ -1,27 +1,14 @@
 -- What a run of commands over a tree of expiring keys has counted, and what is stored then.
-use Rattle.std.specs.Prelude.{◌≡◌, ◌≢◌, ℕ, ◌+◌, ◌*◌, ◌^◌, ◌<◌, ◌≤◌, List, [], ◌∷◌, ◌++◌, All, length}
+use Rattle.std.specs.Prelude.{◌≡◌, ◌≢◌, ℕ, ◌+◌, ◌*◌, ◌^◌, ◌<◌, ◌≤◌, List, All, length}
 use Rattle.i_tree.specs.Key.KeyExpTree.{items}
 use Rattle.i_tree.specs.Core.RbTree.{Contents, slots}
 use Rattle.i_tree.specs.Root.Steps.{Counts, Adds}
 use Rattle.i_tree.specs.declared.Refusal.{Refusal}
+use Rattle.itree_lib.specs.KeyRoom.{one_if_inserted, accepted}
 use Rattle.itree_lib.specs.declared.run.keys.KeyCommand.{KeyCommand}
 use Rattle.itree_lib.specs.declared.run.keys.KeyCommand.TheVariants.{Clear}
 use Rattle.itree_lib.specs.declared.run.keys.KeyReply.{KeyReply}
-use Rattle.itree_lib.specs.declared.run.keys.KeyReply.TheVariants.{Inserted, Present, Late, Refused, Value, Cleared}
-
--- one pair was accepted, or none
-abbrev pub one_if_inserted : {V : Type 0} → KeyReply V → ℕ
-one_if_inserted Inserted = 1
-one_if_inserted Present = 0
-one_if_inserted Late = 0
-one_if_inserted (Refused cause) = 0
-one_if_inserted (Value value) = 0
-one_if_inserted Cleared = 0
-
--- how many replies are `Inserted`
-abbrev pub accepted : {V : Type 0} → List (KeyReply V) → ℕ
-accepted [] = 0
-accepted (reply ∷ replies) = one_if_inserted reply + accepted replies
+use Rattle.itree_lib.specs.declared.run.keys.KeyReply.TheVariants.{Refused, Cleared}
 
 -- A run of the commands over a tree that stored so many entries, after which so many are stored. For n entries of k levels,
 -- 2^k <= n + 1 < 2^(k + 1), where n counts those that were stored and those that were accepted.
@@ -32,11 +19,6 @@ pub record CountsRun {K E V P : Type 0} (commands : List (KeyCommand K E V P)) (
   pub removes : made.removals + stored' ≤ accepted replies + stored
   pub removes_all : All (λ command. command ≢ Clear) commands → made.removals + stored' ≡ accepted replies + stored
   pub compares : (levels : ℕ) → stored + accepted replies + 1 < 2 ^ (levels + 1) → made.comparisons ≤ 4 * levels * length commands
-
--- before an insertion is refused, as many were accepted as there were free slots at first
-abbrev pub RefusedOnlyWhereFull : {V : Type 0} → ℕ → List (KeyReply V) → Type 0
-RefusedOnlyWhereFull {V} spare replies =
-    (before : List (KeyReply V)) (cause : Refusal) (after : List (KeyReply V)) → replies ≡ before ++ Refused cause ∷ after → spare ≤ accepted before
 
 -- What serving one command has counted, by its reply, and what it leaves. For the private contracts of the run.
 pub record CountsOne {K V : Type 0} (reply : KeyReply V) (old : Counts) (tree : Contents (K × V)) (new : Counts) (tree' : Contents (K × V)) : Type 0 where

@@ -1,8 +1,9 @@
--- A late command counts nothing.
-use Rattle.std.proofs.Common.{arith}
+-- A late command counts nothing, and leaves the room as it is.
+use Rattle.std.proofs.Common.{ℕ, arith}
 use Rattle.i_tree.specs.Core.RbTree.{Contents}
 use Rattle.i_tree.specs.Root.Steps.{Counts}
 use Rattle.itree_lib.specs.CountedRun.{CountsOne}
+use Rattle.itree_lib.specs.KeyRoom.{KeepsRoom}
 use Rattle.itree_lib.specs.declared.run.keys.KeyReply.TheVariants.{Late}
 
 pub counts_late : {K V : Type 0} (steps : Counts) (tree : Contents (K × V)) → CountsOne Late steps tree steps tree
@@ -17,3 +18,6 @@ counts_late steps tree =
       slots_stay = omega arith;
       refused = λ cause is. absurd (cc (is));
     }
+
+pub keeps_late : {V : Type 0} (room stored : ℕ) → KeepsRoom {V = V} Late room stored room stored
+keeps_late room stored = record { no_less = omega arith; stores = omega arith; refused = λ cause is. absurd (cc (is)) }

@@ -3,11 +3,13 @@ pub mod CountedRun
 pub mod CountsLate
 pub mod KeyMachine
 pub mod KeyReplies
+pub mod KeyRoom
 pub mod Levels
 pub mod Probes
 pub mod SegMachine
 pub mod Serving
 pub mod SetMachine
+pub mod SetRoom
 pub mod StandsFor
 pub mod Schedule
 pub mod Sweep

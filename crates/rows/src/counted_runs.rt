@@ -3,7 +3,7 @@
 ghost use Rattle.std.specs.Prelude.{◌≡◌, ◌≤◌, ◌<◌, ◌+◌, ◌*◌, ◌^◌, ◌++◌, ℕ, ℤ, List, length, OnOk};
 ghost use Rattle.i_tree.specs.Key.KeyExpTree.{items};
 ghost use Rattle.i_tree.specs.Core.Shape.{leaf};
-ghost use Rattle.itree_lib.specs.CountedRun.{accepted};
+ghost use Rattle.itree_lib.specs.KeyRoom.{accepted};
 ghost use Rattle.itree_lib.specs.declared.run.keys.KeyReply.{KeyReply};
 
 use crate::key_commands::{insert_at, less_at};

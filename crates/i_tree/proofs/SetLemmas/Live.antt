@@ -1,11 +1,11 @@
 -- The handles that a set answers are live, a look at one tells whether a key is there, and a set that loses a value stays in
 -- order.
-use Rattle.std.proofs.Common.{◌≡◌, ◌≢◌, ℕ, zero, suc, inl, inr, List, [], ◌∷◌, ◌++◌, map, refl, sym, ap, ◌∙◌, subst, arith, append_assoc}
+use Rattle.std.proofs.Common.{◌≡◌, ◌≢◌, ℕ, zero, suc, inl, inr, ◌+◌, List, [], ◌∷◌, ◌++◌, map, length, refl, sym, ap, ◌∙◌, subst, arith, append_assoc, length-append}
 use Rattle.std.specs.Cmp.{IsTotalOrder}
 use Rattle.std.specs.List.{All, AllPairs, Any, Contains}
 use Rattle.std.specs.declared.cmp.Ordering.{Ordering}
 use Rattle.std.specs.declared.cmp.Ordering.TheVariants.{Less, Equal, Greater}
-use Rattle.std.proofs.lemmas.List.{map-append}
+use Rattle.std.proofs.lemmas.List.{length-map, map-append}
 use Rattle.std.proofs.lemmas.List.Elements.{All-contains, All-tail, All-weaker}
 use Rattle.i_tree.proofs.RootLemmas.Lists.{AllPairs-tail, Contains-here, Contains-there}
 use Rattle.i_tree.proofs.RootLemmas.Joined.{Any-here, Any-there, Any-behind, AllPairs-append, AllPairs-across, AllPairs-behind, AllPairs-front, AllPairs-of_map, AllPairs-to_map, last_cut}
@@ -39,6 +39,16 @@ module _ {V : Type 0} where
   cut_at_handle pairs handle (k, pair, within, at, is) =
       let (front, back, cut) = cut_at_item pairs pair (k, within, at) in
       (front, pair.1, back, cut ∙ ap (λ (number : ℕ). front ++ (number, pair.1) ∷ back) is)
+
+  -- pairs that lose one, by their values
+  pub length-loses : (pairs after : List (ℕ × V)) (handle : ℕ) → HasHandle pairs handle
+      → ((front : List (ℕ × V)) (value : V) (back : List (ℕ × V)) → pairs ≡ front ++ (handle, value) ∷ back → values after ≡ values front ++ values back)
+      → length after + 1 ≡ length pairs
+  length-loses pairs after handle has loses =
+      let (front, value, back, cut) = cut_at_handle pairs handle has in
+      let second : ℕ × V → V = λ pair. pair.1 in
+      let left = ap length (loses front value back cut) ∙ length-append (values front) (values back) in
+      omega (arith, left, length-map after second, length-map front second, length-map back second, ap length cut ∙ length-append front ((handle, value) ∷ back))
 
   HasHandle-middle : (front : List (ℕ × V)) (handle : ℕ) (value : V) (back : List (ℕ × V)) → HasHandle (front ++ (handle, value) ∷ back) handle
   HasHandle-middle front handle value back =

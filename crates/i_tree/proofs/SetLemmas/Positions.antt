@@ -1,5 +1,5 @@
 -- Facts on a list whose handles are positions.
-use Rattle.std.proofs.Common.{◌≡◌, ◌≢◌, ℕ, zero, suc, ◌+◌, ◌-◌, ◌<◌, ◌≤◌, Bool, true, false, not, List, [], ◌∷◌, ◌++◌, length, get_or, Some, refl, sym, ap, ◌∙◌, subst, ⊎_elim, arith, append_assoc, length-append, length-drop}
+use Rattle.std.proofs.Common.{◌≡◌, ◌≢◌, ℕ, zero, suc, ◌+◌, ◌-◌, ◌<◌, ◌≤◌, Bool, true, false, not, List, [], ◌∷◌, ◌++◌, length, min, get_or, Some, refl, sym, ap, ◌∙◌, subst, ⊎_elim, arith, append_assoc, length-append, length-drop}
 use Rattle.std.specs.Borrow.{Bor}
 use Rattle.std.specs.Cmp.{IsTotalOrder}
 use Rattle.std.specs.List.{All, AllPairs, insert, remove, enumerate_from}
@@ -7,6 +7,7 @@ use Rattle.std.specs.List.Sorted.{IsPartitionPoint, IsPartitionedBy}
 use Rattle.std.specs.Ordering.{is_ge, is_gt, is_lt, ordering_reverse}
 use Rattle.std.specs.declared.cmp.Ordering.{Ordering}
 use Rattle.std.specs.declared.cmp.Ordering.TheVariants.{Less, Equal, Greater}
+use Rattle.std.proofs.Math.Nat.{min-le_left, min-le_right}
 use Rattle.std.proofs.Math.Seq.{get_or-append_seam}
 use Rattle.std.proofs.lemmas.Bool.{both_ways, cases_eq}
 use Rattle.std.proofs.lemmas.List.{get_or_default, get_or-map, length-map, length-take-le, get_or-take, get_or-drop, map-append}
@@ -27,6 +28,14 @@ use Rattle.i_tree.specs.declared.TheConstants.{EMPTY_REF}
 module _ {V : Type 0} where
   pub length-numbered : (xs : List V) → length (numbered xs) ≡ length xs
   length-numbered xs = length-enumerate_from 0 xs
+
+  -- fewer are stored than there is room, so one more has a handle and a place
+  pub has_room : (xs : List V) (most spare : ℕ) → length (numbered xs) < min most (length xs + spare) → (length xs < most) × (0 < spare)
+  has_room xs most spare few =
+      let same = length-numbered xs in
+      let first = min-le_left most (length xs + spare) in
+      let second = min-le_right most (length xs + spare) in
+      (omega (arith, few, same, first), omega (arith, few, same, second))
 
   -- the pair at a position
   pub numbered_at : (xs : List V) (k : ℕ) (d : ℕ × V) → k < length xs → get_or (numbered xs) k d ≡ (0 + k, get_or xs k d.1)

@@ -1,4 +1,4 @@
-ghost use Rattle.std.specs.Prelude.{◌≡◌, List, [], All, OnOk, OnErr, MatchBool};
+ghost use Rattle.std.specs.Prelude.{◌≡◌, ◌≤◌, ◌<◌, ℕ, List, [], All, length, IsOk, OnOk, OnErr, MatchBool};
 ghost use Rattle.std.specs.declared.cmp.Ordering.{Ordering};
 ghost use Rattle.i_tree.specs.Key.Live.{live_pairs, IsExpired};
 ghost use Rattle.i_tree.specs.Root.Pairs.{HasKey, NoKey, IsRising};
@@ -19,21 +19,28 @@ pub trait KeyExpCollection<K: ExpiredKey<E>, E: Expiration, V: Copy> {
     /// The pairs that are stored, expired ones among them.
     ghost stored: { Self → List (K × V) };
 
+    /// For how many pairs in all there is room, the stored ones among them. The default promises none.
+    ghost room: { Self → ℕ } = { λ _. 0 };
+
     /// Stores the pair, whatever its expiration.
     ///
     /// `contains_key` is the test of the condition: no key that is live at `time` compares Equal. It is refused where
-    /// the collection gets no room for the pair, and that leaves what is stored as it was.
+    /// the collection gets no room for the pair, never while fewer are stored than there is room, and that leaves what is
+    /// stored as it was.
     fn insert(&mut self, key: K, val: V, time: E) -> Result<(), Refusal>
         requires { NoKey K.cmp (live_pairs K.expiration E.cmp time (stored self.old)) key }
         ensures ok { OnOk result (Gains (IsExpired K.expiration E.cmp time) (key, val) (stored self.old) (stored self.new)) }
         ensures err { OnErr result (stored self.new ≡ stored self.old) }
-        ensures rising { IsRising K.cmp (stored self.new) };
+        ensures rising { IsRising K.cmp (stored self.new) }
+        ensures with_room { length (stored self.old) < room self.old → IsOk result }
+        ensures room { room self.old ≤ room self.new };
 
     /// The value of the greatest live key below `key`, or `default` where no live key is below it.
     fn first_less(&mut self, time: E, default: V, key: K) -> V
         ensures value { Below K.cmp (live_pairs K.expiration E.cmp time (stored self.old)) key default result }
         ensures kept { Without (IsExpired K.expiration E.cmp time) (stored self.old) (stored self.new) }
-        ensures rising { IsRising K.cmp (stored self.new) };
+        ensures rising { IsRising K.cmp (stored self.new) }
+        ensures room { room self.old ≤ room self.new };
 
     /// The value of a live key that `f` calls Equal; where there is none, of the greatest live key that it calls
     /// Less; where there is none of these either, `default`.
@@ -45,7 +52,8 @@ pub trait KeyExpCollection<K: ExpiredKey<E>, E: Expiration, V: Copy> {
         requires { All (λ pair. F.pre f pair.0) (live_pairs K.expiration E.cmp time (stored self.old)) }
         ensures value { AtMostBy K.cmp (F.post f) (live_pairs K.expiration E.cmp time (stored self.old)) default result }
         ensures kept { Without (IsExpired K.expiration E.cmp time) (stored self.old) (stored self.new) }
-        ensures rising { IsRising K.cmp (stored self.new) };
+        ensures rising { IsRising K.cmp (stored self.new) }
+        ensures room { room self.old ≤ room self.new };
 
     /// The value of the first live key that `f` calls Greater, or `default` where it calls no live key so.
     ///
@@ -54,7 +62,8 @@ pub trait KeyExpCollection<K: ExpiredKey<E>, E: Expiration, V: Copy> {
         requires { All (λ pair. F.pre f pair.0) (live_pairs K.expiration E.cmp time (stored self.old)) }
         ensures value { AboveBy K.cmp (F.post f) (live_pairs K.expiration E.cmp time (stored self.old)) default result }
         ensures kept { Without (IsExpired K.expiration E.cmp time) (stored self.old) (stored self.new) }
-        ensures rising { IsRising K.cmp (stored self.new) };
+        ensures rising { IsRising K.cmp (stored self.new) }
+        ensures room { room self.old ≤ room self.new };
 
     /// Whether a key that is live at `time` compares Equal to `key`. It removes nothing.
     fn contains_key(&self, time: E, key: K) -> bool
@@ -63,5 +72,6 @@ pub trait KeyExpCollection<K: ExpiredKey<E>, E: Expiration, V: Copy> {
 
     /// Removes every pair.
     fn clear(&mut self)
-        ensures empty { stored self.new ≡ [] };
+        ensures empty { stored self.new ≡ [] }
+        ensures room { room self.old ≤ room self.new };
 }

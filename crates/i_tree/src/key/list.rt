@@ -103,6 +103,8 @@ impl<K: ExpiredKey<E>, E: Expiration, V: Copy, A: Allocator + Copy> KeyExpCollec
     for KeyExpList<K, E, V, A> {
     ghost stored = { λ list. list.pairs };
 
+    ghost room = { λ list. length list.pairs + list.spare };
+
     /// Removes what is expired at `time`, and then stores the pair.
     ///
     /// It is refused for want of memory alone: never while there is room, nor where an expired pair makes room.

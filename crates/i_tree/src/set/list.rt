@@ -1,4 +1,4 @@
-ghost use Rattle.std.specs.Prelude.{◌≡◌, ◌≢◌, ◌≤◌, ◌<◌, ◌-◌, ◌+◌, ◌++◌, ◌∷◌, ℕ, List, [], length, not, IsOk, OnOk, OnErr, IfOk, IfErr, IsErrAnd, MatchBool};
+ghost use Rattle.std.specs.Prelude.{◌≡◌, ◌≢◌, ◌≤◌, ◌<◌, ◌-◌, ◌+◌, ◌++◌, ◌∷◌, ℕ, List, [], length, not, IsOk, OnOk, OnErr, IfOk, IfErr, IsErrAnd, MatchBool, min};
 ghost use Rattle.std.specs.Borrow.{Bor, sem};
 ghost use Rattle.std.specs.Fn.{FnReturnsAt};
 ghost use Rattle.std.specs.Ordering.{is_gt, is_lt};
@@ -100,11 +100,14 @@ impl<V, A: Allocator + Copy> SetList<V, A> {
 }
 
 impl<K: Ord, V: KeyValue<K> + Drop, A: Allocator + Copy> SetCollection<K, V> for SetList<V, A> {
+    ghost use Rattle.i_tree.specs.declared.TheConstants.{EMPTY_REF};
     ghost use Rattle.i_tree.specs.Set.SetList.{numbered, value_put};
     ghost use Rattle.i_tree.specs.Set.ListPairs.{with_value-numbered};
     ghost use Rattle.i_tree.specs.Set.ListLends.{lends_value};
 
     ghost pairs = { λ list. numbered list.values };
+
+    ghost room = { λ list. min EMPTY_REF (length list.values + list.spare) };
 
     ghost put = { λ list handle value. value_put list handle value };
 
@@ -122,6 +125,7 @@ impl<K: Ord, V: KeyValue<K> + Drop, A: Allocator + Copy> SetCollection<K, V> for
         ensures joins { OnOk result ((place : ℕ) × (place ≤ length self.old.values) × IsPlaceFor V.key_of K.cmp (V.key_of val) self.old.values place × (self.new.values ≡ insert self.old.values place val)) }
         ensures in_order { IsOrdered V.key_of K.cmp (numbered self.new.values) }
         ensures with_spare { length self.old.values < EMPTY_REF → 0 < self.old.spare → IsOk result }
+        ensures with_room { length (numbered self.old.values) < min EMPTY_REF (length self.old.values + self.old.spare) → IsOk result }
         ensures err { OnErr result (self.new ≡ self.old) }
         ensures handed { IfErr result (λ refused. refused.value ≡ val) }
         ensures no_handle { length self.old.values ≡ EMPTY_REF → IsErrAnd result (λ refused. refused.cause ≡ Refusal.NoHandle) }
@@ -154,6 +158,7 @@ impl<K: Ord, V: KeyValue<K> + Drop, A: Allocator + Copy> SetCollection<K, V> for
         ensures value { (front : List (ℕ × V)) (value : V) (back : List (ℕ × V)) → numbered self.old.values ≡ front ++ (index, value) ∷ back → values (numbered self.new.values) ≡ values front ++ values back }
         ensures removed { self.new.values ≡ remove self.old.values index }
         ensures spare { self.new.spare ≡ self.old.spare + 1 }
+        ensures room { length self.new.values + self.new.spare ≡ length self.old.values + self.old.spare }
         ensures in_order { IsOrdered V.key_of K.cmp (numbered self.old.values) → IsOrdered V.key_of K.cmp (numbered self.new.values) }
         ensures handles { AreApart (numbered self.new.values) }
     {

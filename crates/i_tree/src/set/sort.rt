@@ -1,4 +1,4 @@
-ghost use Rattle.std.specs.Prelude.{◌≡◌, ◌≢◌, ◌++◌, ◌∷◌, ℕ, List, IfErr, MatchBool, OnErr, OnOk};
+ghost use Rattle.std.specs.Prelude.{◌≡◌, ◌≢◌, ◌≤◌, ◌<◌, ◌++◌, ◌∷◌, ℕ, List, length, IsOk, IfErr, MatchBool, OnErr, OnOk};
 ghost use Rattle.std.specs.Borrow.{Lends, sem};
 ghost use Rattle.std.specs.Fn.{FnReturnsAt};
 ghost use Rattle.std.specs.declared.cmp.Ordering.{Ordering};
@@ -35,10 +35,14 @@ pub trait SetCollection<K: Ord, V: KeyValue<K> + Drop> {
     /// The collection with this value at the handle.
     ghost put: { Self → ℕ → V → Self };
 
+    /// For how many values in all there is room, those that are there among them. The default promises none.
+    ghost room: { Self → ℕ } = { λ _. 0 };
+
     /// Puts the value at the place of its key. No key of the collection may compare Equal to it: `contains_key` is the test.
     ///
     /// Which handles the values then have is said by each collection. It is refused where the collection gets no room
-    /// for one value more. That leaves all as it was, and hands the value back.
+    /// for one value more, and never while there are fewer than there is room for. That leaves all as it was, and hands
+    /// the value back.
     fn insert(&mut self, val: V) -> Result<(), Refused<V>>
         requires in_order { IsOrdered V.key_of K.cmp (pairs self.old) }
         requires absent { LacksKey V.key_of K.cmp (pairs self.old) (V.key_of val) }
@@ -46,7 +50,9 @@ pub trait SetCollection<K: Ord, V: KeyValue<K> + Drop> {
         ensures err { OnErr result (pairs self.new ≡ pairs self.old) }
         ensures handed { IfErr result (λ refused. refused.value ≡ val) }
         ensures in_order { IsOrdered V.key_of K.cmp (pairs self.new) }
-        ensures handles { AreApart (pairs self.new) };
+        ensures handles { AreApart (pairs self.new) }
+        ensures with_room { length (pairs self.old) < room self.old → IsOk result }
+        ensures room { room self.old ≤ room self.new };
 
     /// Removes the value at the handle, and drops it.
     ///
@@ -55,7 +61,8 @@ pub trait SetCollection<K: Ord, V: KeyValue<K> + Drop> {
         requires { HasHandle (pairs self.old) index }
         ensures value { (front : List (ℕ × V)) (value : V) (back : List (ℕ × V)) → pairs self.old ≡ front ++ (index, value) ∷ back → values (pairs self.new) ≡ values front ++ values back }
         ensures in_order { IsOrdered V.key_of K.cmp (pairs self.old) → IsOrdered V.key_of K.cmp (pairs self.new) }
-        ensures handles { AreApart (pairs self.new) };
+        ensures handles { AreApart (pairs self.new) }
+        ensures room { room self.old ≤ room self.new };
 
     /// The handle of the value before this one, or `EMPTY_REF` where it is the first.
     ///

@@ -170,6 +170,8 @@ impl<K: Ord, V: KeyValue<K> + Drop, A: Allocator + Copy> SetCollection<K, V> for
 
     ghost pairs = { λ set. entries set.shape };
 
+    ghost room = { λ set. length (entries set.shape) + set.spare };
+
     ghost put = { λ set handle value. record set { shape = with_item handle value set.shape } };
 
     ghost put_pairs = { λ set handle value. with_value-entries handle value set.shape };
@@ -208,6 +210,7 @@ impl<K: Ord, V: KeyValue<K> + Drop, A: Allocator + Copy> SetCollection<K, V> for
         ensures value { (front : List (ℕ × V)) (value : V) (back : List (ℕ × V)) → entries self.old.shape ≡ front ++ (index, value) ∷ back → values (entries self.new.shape) ≡ values front ++ values back }
         ensures loses { (front : List (ℕ × V)) (value : V) (back : List (ℕ × V)) → entries self.old.shape ≡ front ++ (index, value) ∷ back → LosesAt index front back (entries self.new.shape) }
         ensures spare { self.new.spare ≡ self.old.spare + 1 }
+        ensures slots { slots self.new ≡ slots self.old }
         ensures in_order { IsOrdered V.key_of K.cmp (entries self.old.shape) → IsOrdered V.key_of K.cmp (entries self.new.shape) }
         ensures handles { AreApart (entries self.new.shape) }
         ensures core { IsCore self.new.shape }

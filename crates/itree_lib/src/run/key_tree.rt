@@ -3,9 +3,10 @@
 ghost use Rattle.std.specs.Prelude.{◌≡◌, ◌≤◌, ◌+◌, ◌++◌, List, length, vec_len, vec_capacity, IsOk, OnOk, OnErr, IfErr};
 ghost use Rattle.std.specs.declared.cmp.Ordering.{Ordering};
 ghost use Rattle.i_tree.specs.Key.KeyExpTree.{items};
-ghost use Rattle.itree_lib.specs.CountedRun.{CountsOne, CountsRun, RefusedOnlyWhereFull};
+ghost use Rattle.itree_lib.specs.CountedRun.{CountsOne, CountsRun};
 ghost use Rattle.itree_lib.specs.KeyMachine.{State, beginning, Run};
 ghost use Rattle.itree_lib.specs.KeyReplies.{RepliesTo};
+ghost use Rattle.itree_lib.specs.KeyRoom.{RefusedOnlyWhereFull};
 ghost use Rattle.itree_lib.specs.Probes.{CanProbeAll, ProbesAllBy};
 ghost use Rattle.itree_lib.specs.StandsFor.{StandsFor};
 

@@ -1,9 +1,10 @@
 //! Runs of commands over a collection of keys that expire.
 
-ghost use Rattle.std.specs.Prelude.{◌≡◌, ◌≤◌, ◌+◌, ◌++◌, true, false, Option, List, All, Contains, length, vec_len, vec_capacity, IsOk, OnOk, OnErr, IfErr, MatchBool};
+ghost use Rattle.std.specs.Prelude.{◌≡◌, ◌≤◌, ◌+◌, ◌-◌, ◌++◌, true, false, Option, List, All, Contains, length, vec_len, vec_capacity, IsOk, OnOk, OnErr, IfErr, MatchBool};
 ghost use Rattle.std.specs.declared.cmp.Ordering.{Ordering};
 ghost use Rattle.itree_lib.specs.KeyMachine.{State, beginning, is_late, Run, Serves};
 ghost use Rattle.itree_lib.specs.KeyReplies.{IsReplyTo, RepliesTo};
+ghost use Rattle.itree_lib.specs.KeyRoom.{RefusedOnlyWhereFull};
 ghost use Rattle.itree_lib.specs.Serving.{DoesAll};
 ghost use Rattle.itree_lib.specs.Probes.{CanProbe, CanProbeAll, ProbesBy, ProbesAllBy, known_after};
 ghost use Rattle.itree_lib.specs.StandsFor.{StandsFor};
@@ -51,8 +52,9 @@ pub enum KeyReply<V> {
 /// The run begins with the pairs that `c` stores and with no last time. A command whose time is before the last
 /// time is answered `Late` and changes nothing; every other command with a time makes it the last one, whatever its
 /// reply. `probe` says how a key stands to what a `LessOrEqualBy` looks for: it is asked about live keys alone, and
-/// is to be monotone on these. Room for all replies is taken first: where it is refused, the answer is
-/// `OutOfMemory`, and `c` and `out` are as they were. The runner is our own, and not of the Rust crate.
+/// is to be monotone on these. No insertion is refused before as many were accepted as `c` had room for at first beside what
+/// it stored. Room for all replies is taken first: where it is refused, the answer is `OutOfMemory`, and `c` and `out` are
+/// as they were. The runner is our own, and not of the Rust crate.
 pub fn run_keys<K, E, V, P, C, G, B>(
     c: &mut C,
     commands: &[KeyCommand<K, E, V, P>],
@@ -70,10 +72,11 @@ where
     // Each probe may be called on those keys, stored at the start or inserted before, that are live at its time.
     requires { CanProbeAll K.expiration E.cmp (G.pre probe) (C.stored c.old) commands.now }
 
-    // There is one reply for each command, of its kind. By whatever order the probes answer at these keys, where it is monotone there, the replies are a run.
+    // There is one reply for each command, of its kind, and none is a refusal before the room is full. By whatever order the probes answer at these keys, where it is monotone there, the replies are a run.
     ensures run { OnOk result (
         (replies : List (KeyReply V)) × (out.new.items ≡ out.old.items ++ replies)
         × RepliesTo commands.now replies
+        × RefusedOnlyWhereFull (C.room c.old - length (C.stored c.old)) replies
         × ((order : P → K → Ordering) → ProbesAllBy K.expiration E.cmp K.cmp (G.post probe) order (C.stored c.old) commands.now
         → (end : State K E V)
         × Run K.expiration E.cmp K.cmp order (beginning (C.stored c.old)) commands.now replies end

@@ -1,10 +1,11 @@
 //! Runs of commands over an ordered set.
 
-ghost use Rattle.std.specs.Prelude.{◌≡◌, ◌≢◌, ◌≤◌, ◌+◌, ◌++◌, ◌∷◌, ℕ, List, Contains, length, vec_len, vec_capacity, IsOk, IfErr, OnErr, OnOk, MatchOption};
+ghost use Rattle.std.specs.Prelude.{◌≡◌, ◌≢◌, ◌≤◌, ◌+◌, ◌-◌, ◌++◌, ◌∷◌, ℕ, List, Contains, length, vec_len, vec_capacity, IsOk, IfErr, OnErr, OnOk, MatchOption};
 ghost use Rattle.std.specs.declared.cmp.Ordering.{Ordering};
 ghost use Rattle.i_tree.specs.Root.Answer.{GreatestOr};
 ghost use Rattle.i_tree.specs.Set.Pairs.{values, AreApart, HasHandle, by_key, IsOrdered, LacksKey};
 ghost use Rattle.itree_lib.specs.SetMachine.{Step, Run};
+ghost use Rattle.itree_lib.specs.SetRoom.{RefusedOnlyWhereFull, KeepsRoom};
 
 use i_tree::set::sort::{KeyValue, SetCollection};
 use i_tree::{EMPTY_REF, Refusal, Refused};
@@ -47,8 +48,9 @@ pub enum SetReply<K, V> {
 ///
 /// The keys of `c` are to be in order, whose test is `is_ordered`; they are in order at the end. Room for all replies is
 /// taken first: where it is refused, the commands are handed back with `OutOfMemory`, and `c` and `out` are as they
-/// were. A value that the set refuses is handed back in its reply, and the run goes on. A removed value is dropped. The
-/// runner is our own, and not of the Rust crate.
+/// were. A value that the set refuses is handed back in its reply, and the run goes on; none is refused before as many were
+/// put as there was room for at first beside those in `c`. A removed value is dropped. The runner is our own, and not of
+/// the Rust crate.
 pub fn run_sets<K, V, C, D, B>(
     c: &mut C,
     commands: Vec<SetCommand<K, V>, D>,
@@ -63,6 +65,7 @@ where
     requires { IsOrdered V.key_of K.cmp (C.pairs c.old) }
     ensures run { OnOk result (
         (replies : List (SetReply K V)) × (out.new.items ≡ out.old.items ++ replies)
+        × RefusedOnlyWhereFull (C.room c.old - length (C.pairs c.old)) replies
         × Run V.key_of K.cmp (values (C.pairs c.old)) commands.items replies (values (C.pairs c.new))) }
     ensures in_order { IsOrdered V.key_of K.cmp (C.pairs c.new) }
     ensures handed { IfErr result (λ refused. (refused.value ≡ commands) × (refused.cause ≡ Refusal.OutOfMemory)) }
@@ -91,6 +94,7 @@ where
     requires { IsOrdered V.key_of K.cmp (C.pairs c.old) }
     ensures step { Step V.key_of K.cmp (values (C.pairs c.old)) command result (values (C.pairs c.new)) }
     ensures in_order { IsOrdered V.key_of K.cmp (C.pairs c.new) }
+    ensures room { KeepsRoom result (C.room c.old) (length (C.pairs c.old)) (C.room c.new) (length (C.pairs c.new)) }
 {
     match command {
         SetCommand::Insert(val) => insert(c, val),
@@ -109,6 +113,7 @@ where
     requires { IsOrdered V.key_of K.cmp (C.pairs c.old) }
     ensures step { Step V.key_of K.cmp (values (C.pairs c.old)) (SetCommand.Insert val) result (values (C.pairs c.new)) }
     ensures in_order { IsOrdered V.key_of K.cmp (C.pairs c.new) }
+    ensures room { KeepsRoom result (C.room c.old) (length (C.pairs c.old)) (C.room c.new) (length (C.pairs c.new)) }
 {
     if handle_of(c, *val.key()).is_some() {
         return SetReply::Present(val);
@@ -131,6 +136,7 @@ where
     requires { IsOrdered V.key_of K.cmp (C.pairs c.old) }
     ensures step { Step V.key_of K.cmp (values (C.pairs c.old)) (SetCommand.Delete key) result (values (C.pairs c.new)) }
     ensures in_order { IsOrdered V.key_of K.cmp (C.pairs c.new) }
+    ensures room { KeepsRoom result (C.room c.old) (length (C.pairs c.old)) (C.room c.new) (length (C.pairs c.new)) }
 {
     match handle_of(c, key) {
         Some(handle) => {
@@ -148,7 +154,8 @@ where
     V: KeyValue<K> + Drop,
     C: SetCollection<K, V>,
     requires { IsOrdered V.key_of K.cmp (C.pairs c.now) }
-    ensures { Step V.key_of K.cmp (values (C.pairs c.now)) (SetCommand.Find key) result (values (C.pairs c.now)) }
+    ensures step { Step V.key_of K.cmp (values (C.pairs c.now)) (SetCommand.Find key) result (values (C.pairs c.now)) }
+    ensures room { (room : ℕ) → KeepsRoom result room (length (C.pairs c.now)) room (length (C.pairs c.now)) }
 {
     match key_at(c, handle_at_most(c, key)) {
         Some(found) => SetReply::Key(found),
@@ -163,7 +170,8 @@ where
     V: KeyValue<K> + Drop,
     C: SetCollection<K, V>,
     requires { IsOrdered V.key_of K.cmp (C.pairs c.now) }
-    ensures { Step V.key_of K.cmp (values (C.pairs c.now)) (SetCommand.Before key) result (values (C.pairs c.now)) }
+    ensures step { Step V.key_of K.cmp (values (C.pairs c.now)) (SetCommand.Before key) result (values (C.pairs c.now)) }
+    ensures room { (room : ℕ) → KeepsRoom result room (length (C.pairs c.now)) room (length (C.pairs c.now)) }
 {
     let Some(handle) = handle_of(c, key) else {
         return SetReply::Absent;

@@ -15,7 +15,7 @@ run_keys-requires g c = search (rules, CanProbeAll-always)
 
 pub returns-clause-answered : goal.returns-clause-answered
 returns-clause-answered g c =
-    let (replies, are, each, run) = c.in_ok-run_keys.ensures.run in
+    let (replies, are, each, full, run) = c.in_ok-run_keys.ensures.run in
     let expiration = λ (timed : TimedKey). timed.expiration in
     let (end, is_run, stands) = run cmp_sought
     (ProbesAllBy-always expiration int_cmp cmp_keys (λ (sought : ℤ) (timed : TimedKey) answer. answer ≡ cmp_sought sought timed) cmp_sought (λ sought timed answer says. says) (λ sought pairs. IsMonotone-compare int_cmp_total (λ (timed : TimedKey). timed.key) sought pairs) (g.C.KeyExpCollection.stored c.args.collection.now) c.args.commands.now) in

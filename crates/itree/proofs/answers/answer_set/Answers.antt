@@ -7,7 +7,7 @@ use Rattle.itree.proofs.answers.answer_set.Goals as goal
 
 pub returns-clause-answered : goal.returns-clause-answered
 returns-clause-answered g c =
-    let (replies, are, run) = c.in_ok-run_sets.ensures.run in
+    let (replies, are, full, run) = c.in_ok-run_sets.ensures.run in
     let items = c.deref.ensures.value ∙ are ∙ ap (λ (before : List (SetReply ℤ SetKey)). before ++ replies) c.new-replies.ensures.items in
     record {
       replies = replies;

@@ -1,11 +1,12 @@
 //! How a run calls a collection of keys that expire: plainly, or by calls that count.
 
-ghost use Rattle.std.specs.Prelude.{⊤, ◌≡◌, List, [], All};
+ghost use Rattle.std.specs.Prelude.{◌≡◌, List, [], All, length};
 ghost use Rattle.std.specs.declared.cmp.Ordering.{Ordering};
 ghost use Rattle.i_tree.specs.Root.Answer.{Below, AtMostBy};
 ghost use Rattle.i_tree.specs.Root.Change.{Without};
 ghost use Rattle.i_tree.specs.Key.Live.{live_pairs, IsExpired};
 ghost use Rattle.itree_lib.specs.KeyMachine.{Inserts};
+ghost use Rattle.itree_lib.specs.KeyRoom.{KeepsRoom};
 ghost use Rattle.itree_lib.specs.declared.run.keys.KeyReply.{KeyReply};
 ghost use Rattle.itree_lib.specs.declared.run.keys.KeyReply.TheVariants.{Late, Value, Cleared};
 
@@ -52,15 +53,17 @@ pub trait KeyCalls<K: ExpiredKey<E>, E: Expiration, V: Copy, C: KeyExpCollection
         ensures does { does Cleared self.old c.old self.new c.new };
 }
 
-/// The collection's own calls, of which nothing is counted.
+/// The collection's own calls, of which nothing is counted: a run sees of them how they keep the room.
 #[derive(Drop)]
 pub struct Plainly;
 
 impl<K: ExpiredKey<E>, E: Expiration, V: Copy, C: KeyExpCollection<K, E, V>> KeyCalls<K, E, V, C>
     for Plainly {
-    ghost does = { λ _ _ _ _ _. ⊤ };
+    ghost use Rattle.itree_lib.specs.CountsLate.{keeps_late};
 
-    ghost does_late = { λ _ _. tt };
+    ghost does = { λ reply _ c _ c'. KeepsRoom reply (C.room c) (length (C.stored c)) (C.room c') (length (C.stored c')) };
+
+    ghost does_late = { λ _ c. keeps_late (C.room c) (length (C.stored c)) };
 
     fn insert(&mut self, c: &mut C, key: K, val: V, time: E) -> KeyReply<V> {
         if c.contains_key(time, key) {

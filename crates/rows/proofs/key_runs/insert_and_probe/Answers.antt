@@ -21,7 +21,7 @@ returns g c =
     let live = live_pairs (λ (other : Numbered). other.expiration) nat_cmp c.args.times.1 known in
     on_ok_weaker c.run_keys.result
     (λ found.
-    let (replies, are, each, run) = found in
+    let (replies, are, each, full, run) = found in
     let (end, is_run, stands) = run (λ probe other. nat_cmp other.key probe.0.key)
     (tt, ((λ k d within answer says. says (filter_passes (λ (pair : Numbered × ℕ). is_live (λ (other : Numbered). other.expiration) nat_cmp c.args.times.1 pair.0) known k d within), IsMonotone-compare nat_cmp_total (λ (other : Numbered). other.key) numbered.key live), tt)) in
     (replies, end, are, is_run))

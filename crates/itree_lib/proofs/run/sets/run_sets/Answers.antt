@@ -1,6 +1,7 @@
-use Rattle.std.proofs.Common.{rules, ◌≡◌, ◌≤◌, ◌+◌, ◌++◌, [], ◌∷◌, refl, sym, ap, ◌∙◌, arith, append_assoc, append-nil, vec_len, vec_capacity}
+use Rattle.std.proofs.Common.{rules, ◌≡◌, ◌≤◌, ◌+◌, ◌++◌, [], ◌∷◌, refl, sym, ap, ◌∙◌, arith, append_assoc, append-nil, length, vec_len, vec_capacity}
 use Rattle.std.specs.Vec.Iter.{into_iter_items}
 use Rattle.i_tree.specs.Set.Pairs.{values}
+use Rattle.itree_lib.proofs.SetRooms.{keeps_none, keeps-push}
 use Rattle.itree_lib.proofs.SetServing.{Run-push}
 use Rattle.itree_lib.proofs.run.sets.run_sets.Goals as goal
 
@@ -15,16 +16,17 @@ loop-command-init g c =
       in_all = gives.0;
       room = omega (arith, room, c.len.ensures, gives.1);
       in_order = c.requires;
-      so_far = ([], kept, refl);
+      so_far = ([], kept, keeps_none (g.C.SetCollection.room c.args.c.now) (length (g.C.SetCollection.pairs c.args.c.now)), refl);
     }
 
 pub loop-command-preserved : goal.loop-command-preserved
 loop-command-preserved g c =
-    let (replies, are, run) = c.loop-command.invariant.so_far in
+    let (replies, are, keeps, run) = c.loop-command.invariant.so_far in
     let steps = c.in-Some.ensures.steps in
     let reply = c.serve-reply.result in
     let command = c.in-Some.command in
     let pairs = g.C.SetCollection.pairs in
+    let room = g.C.SetCollection.room in
     record {
       can_next = tt;
       is_finite = tt;
@@ -37,6 +39,7 @@ loop-command-preserved g c =
       so_far = (
         replies ++ reply ∷ [],
         rw (c.push_reserved.ensures.items, are) (append_assoc c.args.out.now.items replies (reply ∷ [])),
+        keeps-push replies reply (room c.args.c.now) (length (pairs c.args.c.now)) (room c.loop-command.c) (length (pairs c.loop-command.c)) (room c.serve-reply.new.c) (length (pairs c.serve-reply.new.c)) keeps c.serve-reply.ensures.room,
         Run-push g.V.KeyValue.key_of g.K.Ord.cmp (values (pairs c.args.c.now)) (values (pairs c.loop-command.c)) (values (pairs c.serve-reply.new.c)) c.loop-command.yielded replies command reply run c.serve-reply.ensures.step,
       );
     }

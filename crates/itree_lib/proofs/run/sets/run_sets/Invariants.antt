@@ -1,11 +1,13 @@
-use Rattle.std.proofs.Common.{◌≡◌, ◌≤◌, ◌+◌, ◌++◌, List, vec_len, vec_capacity}
+use Rattle.std.proofs.Common.{◌≡◌, ◌≤◌, ◌+◌, ◌++◌, List, length, vec_len, vec_capacity}
 use Rattle.std.specs.Vec.Iter.{into_iter_items, into_iter_len}
 use Rattle.i_tree.specs.Set.Pairs.{values, IsOrdered}
 use Rattle.itree_lib.specs.SetMachine.{Run}
 use Rattle.itree_lib.specs.declared.run.sets.SetReply.{SetReply}
+use Rattle.itree_lib.proofs.SetRooms.{KeepsSoFar}
 use Rattle.itree_lib.proofs.run.sets.run_sets.Given as goal
 
--- There is room for the replies to come, and the replies so far are a run over the commands so far.
+-- There is room for the replies to come, and the replies so far are a run over the commands so far. None of them is a refusal
+-- before the set's room is full.
 abbrev pub invariant-loop-command : goal.invariant-loop-command
 invariant-loop-command g l =
     let key_of = g.V.KeyValue.key_of in
@@ -20,5 +22,6 @@ invariant-loop-command g l =
       so_far :
           (replies : List (SetReply g.row.K.Denot g.row.V.Denot))
           × (l.out.items ≡ l.fn.out.items ++ replies)
+          × KeepsSoFar replies (g.C.SetCollection.room l.fn.c) (length (pairs l.fn.c)) (g.C.SetCollection.room l.c) (length (pairs l.c))
           × Run key_of cmp (values (pairs l.fn.c)) l.yielded replies (values (pairs l.c));
     }

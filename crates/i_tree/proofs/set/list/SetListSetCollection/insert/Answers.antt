@@ -3,7 +3,8 @@ use Rattle.std.specs.List.{insert}
 use Rattle.std.proofs.lemmas.List.Edits.{length-insert}
 use Rattle.i_tree.specs.Set.Pairs.{IsOrdered}
 use Rattle.i_tree.specs.Set.SetList.{numbered, IsPlaceFor}
-use Rattle.i_tree.proofs.SetLemmas.Positions.{AreApart-numbered, AreApart-viewed, joins_numbered, ordered-insert, same_contents}
+use Rattle.i_tree.specs.declared.TheConstants.{EMPTY_REF}
+use Rattle.i_tree.proofs.SetLemmas.Positions.{AreApart-numbered, AreApart-viewed, has_room, joins_numbered, ordered-insert, same_contents}
 use Rattle.i_tree.proofs.set.list.SetListSetCollection.insert.Goals as goal
 
 pub returns-then-len-clause-handles : goal.returns-then-len-clause-handles
@@ -17,6 +18,16 @@ returns-in-Err-clause-err g c =
 
 pub returns-in-Err-clause-handles : goal.returns-in-Err-clause-handles
 returns-in-Err-clause-handles g c = AreApart-numbered c.reserve.new.self.items (omega (arith, c.self.invariant, ap length (c.in-Err.ensures).items))
+
+pub returns-then-len-clause-with_room : goal.returns-then-len-clause-with_room
+returns-then-len-clause-with_room g c few =
+    let (short, some) = has_room c.args.self.now.values EMPTY_REF c.args.self.now.spare few in
+    absurd (omega (arith, short, c.if-len.true, c.len.ensures, c.self.inside.values.ok.0, ap (λ list. length list.values) c.self.view_is))
+
+pub returns-in-Err-clause-with_room : goal.returns-in-Err-clause-with_room
+returns-in-Err-clause-with_room g c few =
+    let (short, some) = has_room c.args.self.now.values EMPTY_REF c.args.self.now.spare few in
+    absurd (omega (arith, some, ap (λ list. list.spare) c.self.view_is, (c.in-Err.ensures).full, c.self.inside.values.ok.0, c.self.inside.values.ok.1))
 
 -- what an insertion that has room leaves: the value has joined the others at its place
 old_items : (g : _) (c : goal.After-insert_at g) → c.reserve.new.self.items ≡ c.args.self.now.values

@@ -1,7 +1,7 @@
-use Rattle.std.proofs.Common.{◌+◌, sym, ap, ◌∙◌, subst}
+use Rattle.std.proofs.Common.{◌+◌, sym, ap, ◌∙◌, subst, arith}
 use Rattle.i_tree.proofs.CoreLemmas.Entries.{values-LosesAt}
 use Rattle.i_tree.proofs.SetLemmas.Handles.{AreApart-from_handles}
-use Rattle.i_tree.proofs.SetLemmas.Live.{IsOrdered-loses}
+use Rattle.i_tree.proofs.SetLemmas.Live.{IsOrdered-loses, length-loses}
 use Rattle.i_tree.proofs.CoreLemmas.PartHandles.{live-HasHandle}
 use Rattle.i_tree.specs.Core.RbTree.{Contents}
 use Rattle.i_tree.specs.Core.Shape.{entries}
@@ -22,6 +22,11 @@ returns-clause-value g c front value back is = values-LosesAt c.args.index front
 
 pub returns-clause-spare : goal.returns-clause-spare
 returns-clause-spare g c = c.remove.ensures.spare ∙ ap (λ (contents : Contents g.row.V.Denot). contents.spare + 1) c.self.view_is
+
+pub returns-clause-slots : goal.returns-clause-slots
+returns-clause-slots g c =
+    let less = length-loses (entries c.args.self.now.shape) (entries c.remove.new.self.shape) c.args.index c.requires (returns-clause-value g c) in
+    omega (arith, less, returns-clause-spare g c)
 
 pub returns-clause-in_order : goal.returns-clause-in_order
 returns-clause-in_order g c =
