@@ -8,8 +8,8 @@ use std::sync::ledger::{Blank, Book, Ledger, Share};
 
 /// What a call counts its steps by: one `add_` call beside each thing that is counted.
 ///
-/// `Steps` counts what was made. The plain calls, which promise nothing of their steps, count by a counter of their own that
-/// keeps nothing. The trait is our own, and not of the Rust crate.
+/// `Steps` counts what was made. The plain calls, which promise nothing of their steps, count by an `Uncounted`. The trait is
+/// our own, and not of the Rust crate.
 pub trait Counter {
     /// Which counts were made from an old state to a new one.
     ghost made: { Self → Self → Counts → Type 0 };
@@ -112,9 +112,10 @@ impl<L: Ledger> Counter for Steps<L> {
     ghost law = { Adds-accumulate };
 }
 
-/// A counter that keeps nothing and takes no bytes: a plain call is its counted form over it.
+/// A counter that keeps nothing and takes no bytes: a plain call is its counted form over it, and who has no counts to keep
+/// gives it to the calls of the core. It is our own, and not of the Rust crate.
 #[derive(Drop)]
-pub(crate) struct Uncounted;
+pub struct Uncounted;
 
 /// Any counts may have been made.
 impl Counter for Uncounted {

@@ -3,7 +3,7 @@ use Rattle.std.proofs.Common.{◌≡◌, ◌≢◌, ◌⊎◌, ⊎_elim, inl, in
 use Rattle.std.proofs.Math.Nat.{mul-suc}
 use Rattle.std.proofs.lemmas.List.{length-map}
 use Rattle.std.proofs.lemmas.List.Elements.{All-head, All-tail}
-use Rattle.i_tree.specs.Root.Descent.{Descends, LooksDown}
+use Rattle.i_tree.specs.Root.Descent.{Descends, LooksFor}
 use Rattle.i_tree.specs.Key.KeyExpTree.{items, slots_for}
 use Rattle.i_tree.specs.Core.RbTree.{Contents, slots, slots_grown}
 use Rattle.i_tree.specs.Core.Shape.{entries}
@@ -46,7 +46,7 @@ module _ {K V : Type 0} where
       }
 
   -- a look for the key, and the insertion
-  module _ (old mid new : Counts) (tree tree' : Contents (K × V)) (look : LooksDown Adds old mid (length (items tree.shape)) 1 0) where
+  module _ {IsStored IsMissing : Type 0} (old mid new : Counts) (tree tree' : Contents (K × V)) (look : LooksFor Adds old mid (length (items tree.shape)) IsStored IsMissing) where
     adds_both : (made : Counts) → Adds mid new made → Adds old new (together look.made made)
     adds_both made adds =
         record {

@@ -99,3 +99,23 @@ fn keeps_out_at_each_refusal_over_a_tree(rt: HostRuntime) -> Result<(), Fail> {
     assert!(rt; matches!(requests, Ok(4..)));
     Ok(())
 }
+
+// A point in memory of this kind, as a caller's own step of a sweep would store it.
+fn one_point(memory: Memory) -> Result<(), SweepFault> {
+    let mut points = Vec::new(memory);
+    points.push(point(0, 0))?;
+    Ok(())
+}
+
+#[test]
+fn a_value_that_found_no_memory_is_a_fault(rt: HostRuntime) {
+    let memory = Refusing::new(rt.alloc());
+    assert!(rt; one_point(&memory).is_ok());
+    memory.refuse_all();
+    assert!(rt;
+        matches!(
+            one_point(&memory),
+            Err(SweepFault::Refused(Refusal::OutOfMemory))
+        )
+    );
+}

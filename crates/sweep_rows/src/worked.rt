@@ -1,6 +1,7 @@
 //! Worked sweeps over both kinds of store.
 
 use crate::sweeps::{assert_sweeps_to, point, segment};
+use i_tree::Refusal;
 use itree_lib::sweep::SweepFault;
 use std::test::Fail;
 
@@ -105,4 +106,15 @@ fn segments_overlap_at_the_ends_of_the_numbers(rt: HostRuntime) -> Result<(), Fa
     let segments = [segment(low, low, high), segment(low, low, high)];
     let overlap = Err(SweepFault::Overlap(1));
     assert_sweeps_to(&rt, rt.alloc(), &segments, &[], overlap)
+}
+
+#[test]
+fn a_fault_says_why(rt: HostRuntime) -> Result<(), Fail> {
+    let overlap = SweepFault::Overlap(12).to_string(rt.alloc())?;
+    assert!(rt; overlap.as_str() == "the segment at place 12 overlaps an earlier one");
+    let refused = SweepFault::Refused(Refusal::NoHandle).to_string(rt.alloc())?;
+    assert!(rt; refused.as_str() == "every handle is in use");
+    let refused = SweepFault::from(Refusal::OutOfMemory).to_string(rt.alloc())?;
+    assert!(rt; refused.as_str() == "memory was refused");
+    Ok(())
 }

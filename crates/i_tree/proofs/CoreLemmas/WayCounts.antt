@@ -3,7 +3,7 @@ use Rattle.std.proofs.Common.{◌≡◌, ℕ, ◌+◌, ◌*◌, ◌<◌, ◌≤�
 use Rattle.i_tree.specs.Core.Balance.{IsCore}
 use Rattle.i_tree.specs.Core.Removal.{RemovesOne}
 use Rattle.i_tree.specs.Core.Shape.{Shape, entries, rank}
-use Rattle.i_tree.specs.Root.Descent.{Descends, LooksDown}
+use Rattle.i_tree.specs.Root.Descent.{Descends, LooksDown, LooksFor}
 use Rattle.i_tree.specs.Root.Steps.{Counts, nothing, one_comparison, one_test, together, Accumulates, OnlyRotates}
 
 module _ {S : Type 0} (Made : S → S → Counts → Type 0) where
@@ -25,14 +25,16 @@ module _ {S : Type 0} (Made : S → S → Counts → Type 0) where
     pub turns : made.rotations ≤ 3 * made.removals
     pub stores : stored + made.removals ≡ entries
 
--- a look keeps higher bounds too
-pub looks_fewer : {S : Type 0} {Made : S → S → Counts → Type 0} (old new : S) (entries most_tests most_turns : ℕ) → LooksDown Made old new entries 0 0 → LooksDown Made old new entries most_tests most_turns
-looks_fewer old new entries most_tests most_turns look =
+-- a look that has come to no key that compares Equal
+pub looks_past : {S : Type 0} {Made : S → S → Counts → Type 0} (old new : S) (entries : ℕ) {IsStored IsMissing : Type 0} → (IsStored → ⊥) → LooksDown Made old new entries 0 0 → LooksFor Made old new entries IsStored IsMissing
+looks_past old new entries missing look =
     record {
       made = look.made;
       counted = look.counted;
       compares = look.compares;
       tests = omega (arith, look.tests);
+      tests_one = λ stored. absurd (missing stored);
+      tests_none = λ _. omega (arith, look.tests);
       removals = look.removals;
       turns = omega (arith, look.turns);
     }
@@ -65,14 +67,16 @@ module _ {S : Type 0} {Made : S → S → Counts → Type 0} (law : Accumulates 
         turns = omega (arith, so_far.turns);
       }
 
-  -- a look, and then one test
-  pub looks_test : (old mid new : S) (entries : ℕ) → LooksDown Made old mid entries 0 0 → Made mid new one_test → LooksDown Made old new entries 1 0
-  looks_test old mid new entries look one =
+  -- a look that has found a key that compares Equal, and then one test
+  pub looks_at : (old mid new : S) (entries : ℕ) {IsStored IsMissing : Type 0} → (IsMissing → ⊥) → LooksDown Made old mid entries 0 0 → Made mid new one_test → LooksFor Made old new entries IsStored IsMissing
+  looks_at old mid new entries stored look one =
       record {
         made = together look.made one_test;
         counted = law.both old mid new look.made one_test look.counted one;
         compares = λ levels small. let bound = look.compares levels small in omega (arith, bound);
         tests = omega (arith, look.tests);
+        tests_one = λ _. omega (arith, look.tests);
+        tests_none = λ missing. absurd (stored missing);
         removals = omega (arith, look.removals);
         turns = omega (arith, look.turns);
       }

@@ -23,3 +23,14 @@ module _ {S : Type 0} (Made : S → S → Counts → Type 0) where
     pub tests : made.tests ≤ most_tests
     pub removals : made.removals ≡ 0
     pub turns : made.rotations ≤ most_turns
+
+  -- A look for a key in a tree of so many entries: it tests the entry whose key compares Equal, if one is stored, and no other.
+  pub record LooksFor (old new : S) (entries : ℕ) (IsStored IsMissing : Type 0) : Type 0 where
+    pub made : Counts
+    pub counted : Made old new made
+    pub compares : TwiceLevels entries made.comparisons
+    pub tests : made.tests ≤ 1
+    pub tests_one : IsStored → made.tests ≡ 1
+    pub tests_none : IsMissing → made.tests ≡ 0
+    pub removals : made.removals ≡ 0
+    pub turns : made.rotations ≡ 0

@@ -2,7 +2,7 @@ ghost use Rattle.std.specs.Prelude.{◌≡◌, ◌≢◌, ◌≤◌, ◌<◌, �
 ghost use Rattle.std.specs.declared.cmp.Ordering.{Ordering};
 ghost use Rattle.i_tree.specs.Root.Answer.{Below, AtMostBy, AboveBy};
 ghost use Rattle.i_tree.specs.Root.Change.{Gains, Without};
-ghost use Rattle.i_tree.specs.Root.Descent.{Descends, LooksDown};
+ghost use Rattle.i_tree.specs.Root.Descent.{Descends, LooksFor};
 ghost use Rattle.i_tree.specs.Key.KeyExpTree.{items, slots_for};
 ghost use Rattle.i_tree.specs.Key.Way.{way_to};
 ghost use Rattle.i_tree.specs.Key.Live.{is_live, live_pairs, AllLive, IsExpired};
@@ -204,12 +204,12 @@ impl<K: ExpiredKey<E>, E: Expiration, V: Copy, A: Allocator + Copy> KeyExpTree<K
         value_at(&self.core, end.found, default)
     }
 
-    /// `contains_key`, with its steps counted. Expired entries are compared too, and one is tested at most: that whose key
-    /// compares Equal. The counts are our own.
+    /// `contains_key`, with its steps counted. Expired entries are compared too, and one alone is tested: that whose key
+    /// compares Equal, live or not, if there is one. The counts are our own.
     pub fn contains_key_counted<C: Counter>(&self, steps: &mut C, time: E, key: K) -> bool
         ensures cases { MatchBool result (HasKey K.cmp (live_pairs K.expiration E.cmp time (items self.now.shape)) key) (NoKey K.cmp (live_pairs K.expiration E.cmp time (items self.now.shape)) key) }
         ensures rising { IsRising K.cmp (items self.now.shape) }
-        ensures steps { LooksDown C.made steps.old steps.new (length (items self.now.shape)) 1 0 }
+        ensures steps { LooksFor C.made steps.old steps.new (length (items self.now.shape)) (HasKey K.cmp (items self.now.shape) key) (NoKey K.cmp (items self.now.shape) key) }
         ensures core { IsCore self.now.shape }
     {
         let stands = |pair: &(K, V)| -> Ordering

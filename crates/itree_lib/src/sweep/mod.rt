@@ -1,6 +1,6 @@
 //! A sweep over horizontal segments: for each point the greatest height at or below its own.
 
-ghost use Rattle.std.specs.Prelude.{◌≡◌, ◌++◌, [], ℤ, ℕ, List, Option, length, OnOk, OnErr};
+ghost use Rattle.std.specs.Prelude.{◌≡◌, ◌<◌, ◌++◌, [], ℤ, ℕ, List, Option, length, OnOk, OnErr};
 ghost use Rattle.std.specs.List.{AllZip};
 ghost use Rattle.std.specs.Ordering.{int_cmp};
 ghost use Rattle.i_tree.specs.Root.Answer.{AtMost};
@@ -15,8 +15,10 @@ ghost use Rattle.i_tree.specs.declared.Refusal.TheVariants.{OutOfMemory};
 use events::{Event, Task, schedule};
 use i_tree::key::exp::KeyExpCollection;
 use i_tree::{ExpiredKey, Refusal};
-use std::alloc::{AllocError, Allocator};
+use std::alloc::{AllocError, AllocFailed, Allocator};
 use std::cmp::Ordering;
+use std::error::Error;
+use std::fmt::{self, Display, Formatter};
 
 mod events;
 
@@ -78,6 +80,28 @@ impl From<AllocError> for SweepFault {
     }
 }
 
+impl<T: Drop> From<AllocFailed<T>> for SweepFault {
+    ghost from_gives = { λ _ fault. fault ≡ Refused OutOfMemory };
+
+    fn from(_refused: AllocFailed<T>) -> SweepFault {
+        SweepFault::Refused(Refusal::OutOfMemory)
+    }
+}
+
+/// Says why, in a program's own error: the refusal's own text, or the place among the segments, counted from 0.
+impl Display for SweepFault {
+    fn fmt<W: fmt::Write>(&self, f: &mut Formatter<W>) -> fmt::Result {
+        match self {
+            SweepFault::Refused(cause) => write!(f, "{}", cause),
+            SweepFault::Overlap(place) => {
+                write!(f, "the segment at place {} overlaps an earlier one", place)
+            }
+        }
+    }
+}
+
+impl Error for SweepFault {}
+
 /// Appends to `out`, for each of the points in order, the greatest height at most the point's among the segments that cover
 /// its x, or `None` where there is none.
 ///
@@ -104,6 +128,7 @@ where
         × (answers : List (Option ℤ)) × (out.new.items ≡ out.old.items ++ answers)
         × AllZip (IsHeightBelow segments.now) points.now answers) }
     ensures overlap { (place : ℕ) → result ≡ Err (SweepFault.Overlap place) → IsFirstOverlap segments.now place }
+    ensures within { (place : ℕ) → result ≡ Err (SweepFault.Overlap place) → place < length segments.now }
     ensures err { OnErr result (out.new.items ≡ out.old.items) }
     ensures empty { C.stored store.new ≡ [] }
 {

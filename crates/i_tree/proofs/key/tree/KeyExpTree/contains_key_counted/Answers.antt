@@ -1,11 +1,13 @@
 use Rattle.std.proofs.Common.{◌≡◌, ℕ, length, sym, ap, ◌∙◌, subst}
 use Rattle.std.specs.Bool.{MatchBool}
 use Rattle.std.proofs.lemmas.List.{length-map}
+use Rattle.std.specs.List.{All}
+use Rattle.i_tree.proofs.CoreLemmas.Insertion.{IsLower, IsHigher}
 use Rattle.i_tree.proofs.CoreLemmas.PartHandles.{live_from_cut, value_at}
-use Rattle.i_tree.proofs.CoreLemmas.WayCounts.{looks_test, looks_fewer}
+use Rattle.i_tree.proofs.CoreLemmas.WayCounts.{looks_at, looks_past}
 use Rattle.i_tree.proofs.CoreLemmas.Looking.{keys_around, found_equal, equal_from, not_equal_from}
-use Rattle.i_tree.proofs.KeyLemmas.Looking.{absent_between, below_of_items, cases_equal}
-use Rattle.i_tree.specs.Root.Descent.{LooksDown}
+use Rattle.i_tree.proofs.KeyLemmas.Looking.{absent_between, below_of_items, cases_equal, missing_between, not_both, stored_equal}
+use Rattle.i_tree.specs.Root.Descent.{LooksFor}
 use Rattle.i_tree.specs.Key.KeyExpTree.{items}
 use Rattle.i_tree.specs.Key.Live.{is_live, live_pairs}
 use Rattle.i_tree.specs.Root.Pairs.{HasKey, NoKey, IsRising}
@@ -14,16 +16,20 @@ use Rattle.i_tree.specs.Core.Ways.{place_below}
 use Rattle.i_tree.specs.Core.Shape.{entries}
 use Rattle.i_tree.proofs.key.tree.KeyExpTree.contains_key_counted.Goals as goal
 
-pub returns-then-not-is_eq-clause-cases : goal.returns-then-not-is_eq-clause-cases
-returns-then-not-is_eq-clause-cases g c =
+-- no key on the way was called Equal, so the keys on both sides of its end are around this one
+around : (g : _) (c : goal.Then-not-is_eq g) → All (IsLower (λ (pair : (g.row.K.Denot × g.row.V.Denot)). pair.0) g.met.K.Ord.total c.args.key) c.look_down-looked.ensures.end.front × All (IsHigher (λ (pair : (g.row.K.Denot × g.row.V.Denot)). pair.0) g.met.K.Ord.total c.args.key) c.look_down-looked.ensures.end.back
+around g c =
     let tree = c.self.inside.core.shape in
     let looked = c.look_down-looked.result in
+    keys_around (λ (pair : (g.row.K.Denot × g.row.V.Denot)). pair.0) g.met.K.Ord.total c.args.key tree (place_below looked.above looked.on_right) looked.found looked.said _ c.look_down-looked.ensures.end
+    (λ pair answer says. says.says.met ∙ ap (λ (other : (g.row.K.Denot × g.row.V.Denot)). g.K.Ord.cmp other.0 c.args.key) says.shows)
+    (λ _. Unit {0}) (λ _ _ _. not_equal_from looked.said (sym c.is_eq.ensures ∙ c.if-not-is_eq.true)) (below_of_items g.met.K.Ord.total c.args.key tree c.self.invariant) (λ k d within. tt)
+
+pub returns-then-not-is_eq-clause-cases : goal.returns-then-not-is_eq-clause-cases
+returns-then-not-is_eq-clause-cases g c =
     let end = c.look_down-looked.ensures.end in
-    let around = keys_around (λ (pair : g.row.K.Denot × g.row.V.Denot). pair.0) g.met.K.Ord.total c.args.key tree (place_below looked.above looked.on_right) looked.found looked.said _ end
-    (λ pair answer says. says.says.met ∙ ap (λ (other : g.row.K.Denot × g.row.V.Denot). g.K.Ord.cmp other.0 c.args.key) says.shows)
-    (λ _. Unit {0}) (λ _ _ _. not_equal_from looked.said (sym c.is_eq.ensures ∙ c.if-not-is_eq.true)) (below_of_items g.met.K.Ord.total c.args.key tree c.self.invariant) (λ k d within. tt) in
     subst (λ (contents : Contents (g.row.K.Denot × g.row.V.Denot)). NoKey g.K.Ord.cmp (live_pairs g.K.ExpiredKey.expiration g.E.Ord.cmp c.args.time (items contents.shape)) c.args.key) c.self.view_is
-    (absent_between g.met.K.Ord.total c.args.key (λ (pair : g.row.K.Denot × g.row.V.Denot). is_live g.K.ExpiredKey.expiration g.E.Ord.cmp c.args.time pair.0) tree end.front end.back end.between.cut around)
+    (absent_between g.met.K.Ord.total c.args.key (λ (pair : (g.row.K.Denot × g.row.V.Denot)). is_live g.K.ExpiredKey.expiration g.E.Ord.cmp c.args.time pair.0) c.self.inside.core.shape end.front end.back end.between.cut (around g c))
 
 pub returns-then-not-is_eq-clause-rising : goal.returns-then-not-is_eq-clause-rising
 returns-then-not-is_eq-clause-rising g c = subst (λ (contents : Contents (g.row.K.Denot × g.row.V.Denot)). IsRising g.K.Ord.cmp (items contents.shape)) c.self.view_is c.self.invariant
@@ -31,8 +37,11 @@ returns-then-not-is_eq-clause-rising g c = subst (λ (contents : Contents (g.row
 pub returns-then-not-is_eq-clause-steps : goal.returns-then-not-is_eq-clause-steps
 returns-then-not-is_eq-clause-steps g c =
     let tree = c.self.inside.core.shape in
-    subst (λ (contents : Contents (g.row.K.Denot × g.row.V.Denot)). LooksDown g.C.Counter.made c.args.steps.now c.look_down-looked.new.steps (length (items contents.shape)) 1 0) c.self.view_is
-    (rw (length-map (entries tree) (λ (entry : ℕ × (g.row.K.Denot × g.row.V.Denot)). entry.1)) (looks_fewer c.args.steps.now c.look_down-looked.new.steps (length (entries tree)) 1 0 c.look_down-looked.ensures.steps))
+    let end = c.look_down-looked.ensures.end in
+    let missing = missing_between g.met.K.Ord.total c.args.key tree end.front end.back end.between.cut (around g c) in
+    subst (λ (contents : Contents (g.row.K.Denot × g.row.V.Denot)). LooksFor g.C.Counter.made c.args.steps.now c.look_down-looked.new.steps (length (items contents.shape)) (HasKey g.K.Ord.cmp (items contents.shape) c.args.key) (NoKey g.K.Ord.cmp (items contents.shape) c.args.key)) c.self.view_is
+    (subst (λ (count : ℕ). LooksFor g.C.Counter.made c.args.steps.now c.look_down-looked.new.steps count (HasKey g.K.Ord.cmp (items tree) c.args.key) (NoKey g.K.Ord.cmp (items tree) c.args.key)) (sym (length-map (entries tree) (λ (entry : ℕ × (g.row.K.Denot × g.row.V.Denot)). entry.1)))
+    (looks_past c.args.steps.now c.look_down-looked.new.steps (length (entries tree)) (λ stored. not_both g.K.Ord.cmp (items tree) c.args.key stored missing) c.look_down-looked.ensures.steps))
 
 pub returns-then-not-is_eq-clause-core : goal.returns-then-not-is_eq-clause-core
 returns-then-not-is_eq-clause-core g c = rw (← c.self.view_is) c.look_down-looked.ensures.core
@@ -64,9 +73,14 @@ returns-clause-rising g c = subst (λ (contents : Contents (g.row.K.Denot × g.r
 pub returns-clause-steps : goal.returns-clause-steps
 returns-clause-steps g c =
     let tree = c.self.inside.core.shape in
-    subst (λ (contents : Contents (g.row.K.Denot × g.row.V.Denot)). LooksDown g.C.Counter.made c.args.steps.now c.add_test.new.self (length (items contents.shape)) 1 0) c.self.view_is
-    (rw (length-map (entries tree) (λ (entry : ℕ × (g.row.K.Denot × g.row.V.Denot)). entry.1))
-    (looks_test g.met.C.Counter.law c.args.steps.now c.look_down-looked.new.steps c.add_test.new.self (length (entries tree)) c.look_down-looked.ensures.steps c.add_test.ensures))
+    let looked = c.look_down-looked.result in
+    let at = found_equal (λ (pair : (g.row.K.Denot × g.row.V.Denot)). pair.0) g.met.K.Ord.total c.args.key tree (place_below looked.above looked.on_right) looked.found looked.said _ c.look_down-looked.ensures.end
+    (λ pair answer says. says.says.met ∙ ap (λ (other : (g.row.K.Denot × g.row.V.Denot)). g.K.Ord.cmp other.0 c.args.key) says.shows)
+    (equal_from looked.said (sym c.is_eq.ensures ∙ c.if-not-is_eq.false)) in
+    let stored = stored_equal g.met.K.Ord.total c.args.key g.K.ExpiredKey.expiration g.E.Ord.cmp c.args.time tree at.0 (looked.found, at.1) at.2 at.3 c.self.invariant at.4 in
+    subst (λ (contents : Contents (g.row.K.Denot × g.row.V.Denot)). LooksFor g.C.Counter.made c.args.steps.now c.add_test.new.self (length (items contents.shape)) (HasKey g.K.Ord.cmp (items contents.shape) c.args.key) (NoKey g.K.Ord.cmp (items contents.shape) c.args.key)) c.self.view_is
+    (subst (λ (count : ℕ). LooksFor g.C.Counter.made c.args.steps.now c.add_test.new.self count (HasKey g.K.Ord.cmp (items tree) c.args.key) (NoKey g.K.Ord.cmp (items tree) c.args.key)) (sym (length-map (entries tree) (λ (entry : ℕ × (g.row.K.Denot × g.row.V.Denot)). entry.1)))
+    (looks_at g.met.C.Counter.law c.args.steps.now c.look_down-looked.new.steps c.add_test.new.self (length (entries tree)) (λ missing. not_both g.K.Ord.cmp (items tree) c.args.key stored missing) c.look_down-looked.ensures.steps c.add_test.ensures))
 
 pub returns-clause-core : goal.returns-clause-core
 returns-clause-core g c = rw (← c.self.view_is) c.look_down-looked.ensures.core
