@@ -10,5 +10,5 @@ returns-clause-answered g c =
     let replies = string_bytes c.in_ok-replies.replies in
     let Gains : List ℕ → Type 0 = λ text. Appends (g.O.Write.contents c.args.output.now) (g.O.Write.contents c.write_whole-2.new.output) text in
     on_ok_weaker c.write_whole-2.result
-        (λ written unasked. (mode, names, IfSome_then (g.I.Read.remaining c.args.input.now) answers (λ text is. (replies, is, subst Gains c.as_str.ensures.value written))))
-        c.write_whole-2.ensures.written
+    (λ written unasked. (mode, names, IfSome_then (g.I.Read.remaining c.args.input.now) answers (λ text is. (replies, is, subst Gains c.as_str.ensures.value written))))
+    c.write_whole-2.ensures.written
