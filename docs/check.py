@@ -43,6 +43,7 @@ SOURCES = {
 
 FUNCTION = re.compile(r"\bfn (\w+)")
 CLAUSE = re.compile(r"^\s*(?:ensures|requires)\*? (\w+) \{", re.M)
+CONSTANT = re.compile(r"^pub const (\w+):", re.M)
 GHOST = re.compile(r"^\s*ghost (\w+) =", re.M)
 DEFINITION = re.compile(r"^\s*(?:abbrev |unfoldable )?pub (?:abbrev |record |data )?([^\s:({]+)", re.M)
 CRATES = {os.path.basename(path) for path in glob.glob(os.path.join(TOP, "crates", "*"))}
@@ -154,6 +155,7 @@ def is_defined(name, modules):
 
 def definition_failures():
     modules = definitions()
+    modules["constants"] = {name for path in files("crates/*/src/**/*.rt") for name in CONSTANT.findall(text_of(path))}
     for row in re.findall(r"^\|[^|]+\|[^|]+\| ([^|]*) \|$", text_of("docs/DEFINITIONS.md"), re.M):
         for name in re.findall(r"`([A-Za-z][\w.-]*)`", row):
             yield None if is_defined(name, modules) else f"docs/DEFINITIONS.md: specs have no {name}"

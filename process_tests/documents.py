@@ -135,4 +135,10 @@ def help_and_document():
     yield Case(f"the help lists what {COMMANDS} lists", ["help"], b"", Outcome(0, wanted), listed)
 
 
-PARTS = examples, help_and_document
+def picture():
+    """The case that docs/pictures/sweep.svg shows."""
+    given, wanted = (text_of(f"docs/pictures/sweep.{kind}").encode() for kind in ("lines", "replies"))
+    yield Case("the sweep of the picture", ["sweep"], given, Outcome(0, wanted))
+
+
+PARTS = examples, help_and_document, picture
