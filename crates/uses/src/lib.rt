@@ -1,7 +1,9 @@
-//! Complete small programs over `i_tree`, as its users write them: each is proved without a proof file, and tested.
+//! Complete small programs over `i_tree`, as its users write them: each is proved and tested, all but `kept_booking` without
+//! a proof file.
 #![tactic(auto)]
 
 pub mod crossing_candidates;
+pub mod kept_booking;
 pub mod kept_handles;
 pub mod level_below;
 pub mod seen_below;
