@@ -3,6 +3,7 @@ pub mod Alive
 pub mod Among
 pub mod Asking
 pub mod Bags
+pub mod Callers
 pub mod Chunks
 pub mod Collecting
 pub mod Empty

@@ -1,8 +1,9 @@
-//! Complete small programs over `i_tree`, as its users write them: each is proved and tested. One loop, in `tickets`, has an
-//! invariant in a proof file; nothing else needs one.
+//! Complete small programs over `i_tree`, as its users write them: each is proved and tested. A loop in `tickets` has an
+//! invariant in a proof file, and `kept_booking` a proof file for what it promises; the others need none.
 #![tactic(auto)]
 
 pub mod crossing_candidates;
+pub mod kept_booking;
 pub mod kept_handles;
 pub mod leases;
 pub mod level_below;

@@ -74,7 +74,7 @@ module _ {E V : Type 0} {cmp : E → E → Ordering} (o : IsTotalOrder cmp) (exp
       told Greater h = absurd (false≢true (sym h))
 
   -- what is live at a time is live at each earlier one
-  live-before : (latest : Option E) (time : E) → NotBefore cmp latest time → (value : V) → is_live expiration cmp time value ≡ true → is_live_yet expiration cmp latest value ≡ true
+  pub live-before : (latest : Option E) (time : E) → NotBefore cmp latest time → (value : V) → is_live expiration cmp time value ≡ true → is_live_yet expiration cmp latest value ≡ true
   live-before None time later value live = refl
   live-before (Some last) time later value live =
       is_still (expiration value) last (upto o last time (expiration value) (not_late time last later) (not_after (expiration value) time live))
