@@ -1,7 +1,8 @@
-"""Faulty arguments, which the program tells before it reads any input; and ranges that are sound."""
+"""Faulty arguments and those that ask for help, which the program answers before it reads any input; and sound ranges."""
 
 import os
 
+from documents import help_text
 from processes import ARGUMENTS, SOON, Case, Outcome, answered, by_file, outcome_of, redirected
 
 FAULTY = (
@@ -13,8 +14,17 @@ FAULTY = (
     ("a mode and a letter", ["settrees"]),
     ("a mode and a space", ["keylist "]),
     ("a line as one argument", ["seg 0 128"]),
-    ("an option", ["--help"]),
+    ("an unknown option", ["--version"]),
     ("an option before a mode", ["--", "keylist"]),
+    ("help and a word", ["help", "x"]),
+    ("help twice", ["--help", "--help"]),
+    ("a mode and help", ["keylist", "-h"]),
+    ("help before a mode", ["-h", "keylist"]),
+    ("help in capitals", ["HELP"]),
+    ("help with one dash", ["-help"]),
+    ("help with a space", ["help "]),
+    ("a short option in capitals", ["-H"]),
+    ("a short option with two dashes", ["--h"]),
     ("one too many after keytree", ["keytree", "extra"]),
     ("one too many after keylist", ["keylist", "extra"]),
     ("one too many after settree", ["settree", "setlist"]),
@@ -44,6 +54,8 @@ FAULTY = (
     ("no text for a number", ["seg", "0", b"\xc3"]),
     ("a long word", ["k" * 100_000]),
 )
+
+HELP = ("help", "--help", "-h")
 
 SOUND = (
     ("the least range", "seg 0 31"),
@@ -79,10 +91,21 @@ def faulty_arguments():
             yield Case(f"{what}, over {over}", words, b"nonsense\n", Outcome(2, b"", ARGUMENTS), how)
 
 
+def asking_for_help():
+    """Cases of help, over each of the inputs, and over outputs and faults that fail."""
+    text = help_text()
+    for word in HELP:
+        for over, how in INPUTS:
+            yield Case(f"{word}, over {over}", [word], b"nonsense\n", Outcome(0, text), how)
+        for over, redirections in (("a full device", "> /dev/full"), ("nothing", ">&-")):
+            yield Case(f"{word}, to {over}", [word], b"", Outcome(1), redirected(redirections))
+        yield Case(f"{word}, a closed standard error", [word], b"", Outcome(0, text), redirected("2>&-"))
+
+
 def sound_ranges():
     """Cases of ranges that have a layout."""
     for what, mode in SOUND:
         yield answered(what, mode, b"clear\n", b"cleared\n")
 
 
-PARTS = faulty_arguments, sound_ranges
+PARTS = faulty_arguments, asking_for_help, sound_ranges

@@ -19,6 +19,7 @@ BUILT = os.path.normpath(os.path.join(HERE, "..", "crates", "itree", "out", "itr
 
 # The modules that have cases.
 GROUPS = (
+    "documents",
     "worked",
     "arguments",
     "text",

@@ -1,4 +1,5 @@
 -- Lemmas on layout numbers, buckets, heap nodes and masks.
+pub mod Alive
 pub mod Among
 pub mod Asking
 pub mod Bags
@@ -10,6 +11,7 @@ pub mod Found
 pub mod Inserting
 pub mod Later
 pub mod Lent
+pub mod Losing
 pub mod Masks
 pub mod NodesOf
 pub mod NodesWalk

@@ -1,5 +1,5 @@
--- Which arguments name which mode of the program.
-use Rattle.std.specs.Prelude.{⊤, ℕ, List, [], ◌∷◌, map, codes}
+-- Which arguments name which mode of the program, and which ask for help.
+use Rattle.std.specs.Prelude.{◌≡◌, ◌⊎◌, ⊤, ℕ, List, [], ◌∷◌, map, codes}
 use Rattle.std.specs.Borrow.{Bor}
 use Rattle.i_tree.specs.Seg.Buckets.{HasLayout}
 use Rattle.itree.specs.Grammar.{Says}
@@ -41,3 +41,13 @@ Names words mode = NamedBy mode (map (λ word. word.now) words)
 -- the arguments name some mode
 abbrev pub NamesMode : List (Bor (List ℕ)) → Type 0
 NamesMode words = (mode : Mode) × Names words mode
+
+-- the word asks for help
+abbrev pub MeansHelp : List ℕ → Type 0
+MeansHelp word = (word ≡ codes "help") ⊎ ((word ≡ codes "--help") ⊎ (word ≡ codes "-h"))
+
+-- the arguments are one word, and it asks for help
+abbrev pub AsksForHelp : List (Bor (List ℕ)) → Type 0
+AsksForHelp [] = ⊥
+AsksForHelp (word ∷ []) = MeansHelp word.now
+AsksForHelp (word ∷ other ∷ words) = ⊥

@@ -6,6 +6,7 @@ ghost use Rattle.std.specs.Process.{exit_status};
 
 mod answers;
 mod fault;
+mod help;
 mod lines;
 mod mode;
 mod program;

@@ -1,13 +1,14 @@
 //! The whole program, over any reader, any writers and any allocator.
 
-ghost use Rattle.std.specs.Prelude.{◌≡◌, ◌≢◌, ◌≤◌, ◌↔◌, ℕ, List, IfErr, IfOk, IfSome, OnOk, string_bytes};
+ghost use Rattle.std.specs.Prelude.{◌≡◌, ◌≢◌, ◌≤◌, ◌↔◌, ◌⊎◌, ℕ, List, IfErr, IfOk, IfSome, OnOk, string_bytes};
 ghost use Rattle.std.specs.Io.KnownBytes.{Appends};
-ghost use Rattle.itree.specs.Modes.{Names, NamesMode};
+ghost use Rattle.itree.specs.Modes.{Names, NamesMode, AsksForHelp};
 ghost use Rattle.itree.specs.Texts.{Answers, HasFirstFaulty, HasOverlapLine, HasFault};
 ghost use Rattle.itree.specs.declared.mode.Mode.{Mode};
 
 use crate::answers::answer_text;
 use crate::fault::Fault;
+use crate::help::{HELP, asks_for_help};
 use crate::mode::Mode;
 use std::alloc::{Allocator, Global};
 use std::io::{Read, Write};
@@ -16,17 +17,18 @@ use std::io::{Read, Write};
 mod tests;
 
 /// Runs the program: reads all of `input`, and writes one reply line for each command to `output`. In a sweep each point has
-/// one, and a segment has none.
+/// one, and a segment has none. Where the words ask for help it reads nothing, and writes `HELP`.
 ///
 /// `words` are the arguments without the program's name, which are to be the one word of a mode: `keytree`, `keylist`,
-/// `settree`, `setlist` or `sweep`; or `seg`, `MIN` and `MAX`, the ends of a range that has a layout. `faults` stands for
-/// standard error, and the answer is the process's status:
+/// `settree`, `setlist` or `sweep`; or `seg`, `MIN` and `MAX`, the ends of a range that has a layout; or one word that asks for
+/// help: `help`, `--help` or `-h`. `faults` stands for standard error, and the answer is the process's status:
 ///
-/// - 0 where all replies were written and flushed. An insertion that was refused has a reply too.
+/// - 0 where all replies, or the help, were written and flushed. An insertion that was refused has a reply too.
 /// - 1 where reading, writing, flushing or memory outside the commands failed, or memory for a sweep; nothing goes to
-///   `faults`, and a failed write may have taken a part of the replies.
-/// - 2 where the words name no mode, before any input is read; where a line is faulty in the mode, before any command is
-///   run; and where two segments of a sweep overlap. `faults` is told which, and whether it takes that changes nothing.
+///   `faults`, and a failed write may have taken a part of the text.
+/// - 2 where the words neither name a mode nor ask for help, before any input is read; where a line is faulty in the mode,
+///   before any command is run; and where two segments of a sweep overlap. `faults` is told which, and whether it takes that
+///   changes nothing.
 pub fn run_itree<I: Read, O: Write, X: Write>(
     alloc: Global,
     words: &[&str],
@@ -35,15 +37,17 @@ pub fn run_itree<I: Read, O: Write, X: Write>(
     faults: &mut X,
 ) -> u8
     ensures status { result ≤ 2 }
-    ensures answered { result ≡ 0 → (mode : Mode) × Names words.now mode × IfSome (I.remaining input.old) (λ text.
-        (replies : List ℕ) × Answers mode text replies
+    ensures answered { result ≡ 0 → ¬ (AsksForHelp words.now) → (mode : Mode) × Names words.now mode
+        × IfSome (I.remaining input.old) (λ text. (replies : List ℕ) × Answers mode text replies
         × Appends (O.contents output.old) (O.contents output.new) replies) }
+    ensures helped { AsksForHelp words.now → (result ≢ 2)
+        × (result ≡ 0 → Appends (O.contents output.old) (O.contents output.new) HELP.now) }
     ensures no_replies { result ≡ 2 → output.new ≡ output.old }
     ensures no_fault { result ≢ 2 → faults.new ≡ faults.old }
-    ensures faulty_words { ¬ (NamesMode words.now) → result ≡ 2 }
+    ensures faulty_words { ¬ (AsksForHelp words.now) → ¬ (NamesMode words.now) → result ≡ 2 }
     ensures faulty_line { result ≡ 2 → (mode : Mode) → Names words.now mode →
         IfSome (I.remaining input.old) (HasFault mode) }
-    ensures unread { ¬ (NamesMode words.now) → input.new ≡ input.old }
+    ensures unread { AsksForHelp words.now ⊎ ¬ (NamesMode words.now) → input.new ≡ input.old }
 {
     run_over(alloc, words, input, output, faults)
 }
@@ -57,15 +61,17 @@ pub fn run_over<A: Allocator + Copy, I: Read, O: Write, X: Write>(
     faults: &mut X,
 ) -> u8
     ensures status { result ≤ 2 }
-    ensures answered { result ≡ 0 → (mode : Mode) × Names words.now mode × IfSome (I.remaining input.old) (λ text.
-        (replies : List ℕ) × Answers mode text replies
+    ensures answered { result ≡ 0 → ¬ (AsksForHelp words.now) → (mode : Mode) × Names words.now mode
+        × IfSome (I.remaining input.old) (λ text. (replies : List ℕ) × Answers mode text replies
         × Appends (O.contents output.old) (O.contents output.new) replies) }
+    ensures helped { AsksForHelp words.now → (result ≢ 2)
+        × (result ≡ 0 → Appends (O.contents output.old) (O.contents output.new) HELP.now) }
     ensures no_replies { result ≡ 2 → output.new ≡ output.old }
     ensures no_fault { result ≢ 2 → faults.new ≡ faults.old }
-    ensures faulty_words { ¬ (NamesMode words.now) → result ≡ 2 }
+    ensures faulty_words { ¬ (AsksForHelp words.now) → ¬ (NamesMode words.now) → result ≡ 2 }
     ensures faulty_line { result ≡ 2 → (mode : Mode) → Names words.now mode →
         IfSome (I.remaining input.old) (HasFault mode) }
-    ensures unread { ¬ (NamesMode words.now) → input.new ≡ input.old }
+    ensures unread { AsksForHelp words.now ⊎ ¬ (NamesMode words.now) → input.new ≡ input.old }
 {
     match serve(alloc, words, input, output) {
         Ok(()) => 0,
@@ -85,26 +91,40 @@ pub fn run_over<A: Allocator + Copy, I: Read, O: Write, X: Write>(
     }
 }
 
-// Writes the replies to `input`, all at once.
+// Writes the help, where the words ask for it, and else the replies to `input`, all at once.
 fn serve<A: Allocator + Copy, I: Read, O: Write>(
     alloc: A,
     words: &[&str],
     input: &mut I,
     output: &mut O,
 ) -> Result<(), Fault>
-    ensures answered { OnOk result ((mode : Mode) × Names words.now mode × IfSome (I.remaining input.old) (λ text.
-        (replies : List ℕ) × Answers mode text replies
+    ensures answered { OnOk result (¬ (AsksForHelp words.now) → (mode : Mode) × Names words.now mode
+        × IfSome (I.remaining input.old) (λ text. (replies : List ℕ) × Answers mode text replies
         × Appends (O.contents output.old) (O.contents output.new) replies)) }
+    ensures helped { OnOk result (AsksForHelp words.now
+        → Appends (O.contents output.old) (O.contents output.new) HELP.now) }
+    ensures help_err { AsksForHelp words.now → IfErr result (λ fault. fault ≡ Fault.Stopped) }
     ensures unwritten { IfErr result (λ fault. fault ≢ Fault.Stopped → output.new ≡ output.old) }
-    ensures faulty_words { (result ≡ Err Fault.Arguments) ↔ ¬ (NamesMode words.now) }
+    ensures faulty_words { ¬ (AsksForHelp words.now) → (result ≡ Err Fault.Arguments) ↔ ¬ (NamesMode words.now) }
     ensures faulty_line { (number : ℕ) → result ≡ Err (Fault.Line number) → (mode : Mode) → Names words.now mode →
         IfSome (I.remaining input.old) (λ text. HasFirstFaulty mode text number) }
     ensures overlap { (number : ℕ) → result ≡ Err (Fault.Overlap number) → (mode : Mode) → Names words.now mode →
         IfSome (I.remaining input.old) (λ text. HasOverlapLine mode text number) }
-    ensures unread { ¬ (NamesMode words.now) → input.new ≡ input.old }
+    ensures unread { AsksForHelp words.now ⊎ ¬ (NamesMode words.now) → input.new ≡ input.old }
 {
+    if asks_for_help(words) {
+        return write_whole(output, HELP);
+    }
     let replies = answer(alloc, words, input)?;
-    output.write_all(replies.as_bytes())?;
+    write_whole(output, replies.as_str())
+}
+
+// Writes all of the text, and flushes it.
+fn write_whole<O: Write>(output: &mut O, text: &str) -> Result<(), Fault>
+    ensures written { OnOk result (Appends (O.contents output.old) (O.contents output.new) text.now) }
+    ensures err { IfErr result (λ fault. fault ≡ Fault.Stopped) }
+{
+    output.write_all(text.as_bytes())?;
     output.flush()?;
     Ok(())
 }

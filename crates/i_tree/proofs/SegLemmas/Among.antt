@@ -61,7 +61,7 @@ nodes_of-past mask = nodes_from-outside 64 0 mask 64 (λ at above below same. ab
 min_one : (a b : ℕ) → (min a b == 1) ≡ true → a < 2 → b < 2 → ((a == 1) ≡ true) × ((b == 1) ≡ true)
 min_one a b one first second = (grind (arith, nat_tests), grind (arith, nat_tests))
 
-shared : (one other node : ℕ) → has_node (bit_and one other) node ≡ true → (has_node one node ≡ true) × (has_node other node ≡ true)
+pub shared : (one other node : ℕ) → has_node (bit_and one other) node ≡ true → (has_node one node ≡ true) × (has_node other node ≡ true)
 shared one other node has =
     min_one (bit_at one node) (bit_at other node) (sym (ap (λ (bit : ℕ). bit == 1) (bit_at_and one other node)) ∙ has) (omega arith) (omega arith)
 

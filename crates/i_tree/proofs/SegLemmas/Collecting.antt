@@ -1,5 +1,5 @@
 -- A walk that appends what it finds, one value after another.
-use Rattle.std.proofs.Common.{◌≡◌, ℕ, ◌*◌, ◌^◌, ◌<◌, ◌≤◌, Some, List, [], ◌∷◌, ◌++◌, length, drop, bit_and, ap, sym, ◌∙◌, subst, append_assoc, length-append, arith, IsPermutation}
+use Rattle.std.proofs.Common.{◌≡◌, ℕ, ◌+◌, ◌*◌, ◌^◌, ◌<◌, ◌≤◌, Some, List, [], ◌∷◌, ◌++◌, length, drop, bit_and, ap, sym, ◌∙◌, subst, append_assoc, length-append, arith, IsPermutation}
 use Rattle.std.specs.Bool.{◌==◌}
 use Rattle.std.specs.List.{filter, sum_by}
 use Rattle.std.specs.declared.cmp.Ordering.{Ordering}
@@ -11,8 +11,9 @@ use Rattle.i_tree.specs.Seg.Copies.{chunk_at, found_at, found_among, live_copies
 use Rattle.i_tree.specs.Seg.Members.{Member, live_members, values_of}
 use Rattle.i_tree.specs.Seg.Nodes.{lowest, nodes_of}
 use Rattle.i_tree.specs.Seg.Segments.{Contents}
-use Rattle.i_tree.specs.Seg.Walk.{to_come, found_from, live_from, Reads, Collects, StopsCollecting}
+use Rattle.i_tree.specs.Seg.Walk.{to_come, found_from, live_from, LosesExpiredAt, Cleans, HasPassed, Reads, Collects, StopsCollecting}
 use Rattle.i_tree.proofs.RootLemmas.Lists.{length-filter_le}
+use Rattle.i_tree.proofs.SegLemmas.Losing.{LosesExpiredAt-trans, Cleans-ended}
 use Rattle.i_tree.proofs.SegLemmas.NodesOf.{nodes_of-zero}
 use Rattle.i_tree.proofs.SegLemmas.Walk.{Reads-trans}
 
@@ -27,20 +28,25 @@ module _ {E V : Type 0} (expiration : V → E) (cmp : E → E → Ordering) (tim
       pub latest : tree.latest ≡ Some time
       pub buckets : tree.buckets ≡ before.buckets
       pub members : IsPermutation (live_members expiration cmp time before.members) tree.members
+      pub loses : LosesExpiredAt expiration cmp time asked before.chunks tree.chunks
+      pub passed : HasPassed expiration cmp time asked left index tree.chunks
       pub steps : Reads Made old new (live_from expiration cmp time 0 (nodes_of asked) before.chunks) (live_from expiration cmp time index (nodes_of left) tree.chunks) (stored_copies before.chunks) (stored_copies tree.chunks)
 
     -- and further
     pub IsWalked-on : Accumulates Made → (mid new : S) (tree tree' : Contents E V) (left index left' index' : ℕ) → IsWalked tree left index mid
         → length tree'.chunks ≡ length tree.chunks → left' < 2 ^ length tree'.chunks → tree'.latest ≡ tree.latest → tree'.buckets ≡ tree.buckets → IsPermutation tree.members tree'.members
+        → LosesExpiredAt expiration cmp time asked tree.chunks tree'.chunks → HasPassed expiration cmp time asked left' index' tree'.chunks
         → Reads Made mid new (live_from expiration cmp time index (nodes_of left) tree.chunks) (live_from expiration cmp time index' (nodes_of left') tree'.chunks) (stored_copies tree.chunks) (stored_copies tree'.chunks)
         → IsWalked tree' left' index' new
-    IsWalked-on law mid new tree tree' left index left' index' so_far count within latest buckets members steps =
+    IsWalked-on law mid new tree tree' left index left' index' so_far count within latest buckets members loses passed steps =
         record {
           few = let few = so_far.few in omega (arith, few, count);
           within = within;
           latest = latest ∙ so_far.latest;
           buckets = buckets ∙ so_far.buckets;
           members = IsPermutation-trans _ _ _ so_far.members members;
+          loses = LosesExpiredAt-trans expiration cmp time asked before.chunks tree.chunks tree'.chunks so_far.loses loses;
+          passed = passed;
           steps = Reads-trans law old mid new _ _ _ _ _ _ so_far.steps steps;
         }
 
@@ -59,6 +65,10 @@ module _ {E V : Type 0} (expiration : V → E) (cmp : E → E → Ordering) (tim
           tested = omega (arith, each, none, steps.tests);
           removals = steps.removals;
         }
+
+    -- and what it cleans up: no node is left
+    pub IsWalked-cleans : (tree : Contents E V) (left index : ℕ) (new : S) → left ≡ 0 → IsWalked tree left index new → Cleans expiration cmp time asked before.chunks tree.chunks
+    IsWalked-cleans tree left index new ended walked = Cleans-ended expiration cmp time asked left index before.chunks tree.chunks ended walked.loses walked.passed
 
     -- the counts of one that was left
     pub IsWalked-left : (tree : Contents E V) (left index : ℕ) (new : S) (values : ℕ) → live_from expiration cmp time 0 (nodes_of asked) before.chunks ≤ 8 * values → IsWalked tree left index new
@@ -130,6 +140,17 @@ module _ {V : Type 0} (answers kept items : List V) (come : List (Member V)) (so
             (IsPermutation-append_right so_far.found (values_of come) (value ∷ values_of come')
             (subst (λ (first : V). IsPermutation (values_of come) (first ∷ values_of come')) one.1 (IsPermutation-map (λ member. member.value) come (one.0 ∷ come') one.2))));
       }
+
+  -- fewer were appended than there are answers, as long as one comes
+  pub IsAppended-fewer : {value : V} {come' : List (Member V)} → (member : Member V) × (member.value ≡ value) × IsPermutation come (member ∷ come') → length items < length kept + length answers
+  IsAppended-fewer {come' = come'} one =
+      let longer = ap length so_far.is in
+      let both = length-append kept so_far.found in
+      let as_many = length_permutation answers (so_far.found ++ values_of come) so_far.rest in
+      let parts = length-append so_far.found (values_of come) in
+      let values = length-map come (λ member. member.value) in
+      let some = length_permutation come (one.0 ∷ come') one.2 in
+      omega arith
 
   -- none is left
   pub IsAppended-all : come ≡ [] → (found : List V) × IsPermutation answers found × (items ≡ kept ++ found)

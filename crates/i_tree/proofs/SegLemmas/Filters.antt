@@ -47,14 +47,14 @@ near start low high width some above second_above upto =
     let less = quotient_near width (distance start low) (distance start high) some upto in
     omega (arith, ints)
 
--- the buckets of an accepted range filter those that are accepted
-pub filters : (buckets : Buckets) (low high : ℤ) → 0 < buckets.width → Accepts buckets low high → Filters buckets low high
-filters buckets low high some own = record {
-  misses_none = λ least greatest accepted first second.
+-- buckets that have a width filter
+pub filters : (buckets : Buckets) → 0 < buckets.width → Filters buckets
+filters buckets some = record {
+  misses_none = λ low high least greatest own accepted first second.
       overlap_from (bucket buckets low) (bucket buckets high) (bucket buckets least) (bucket buckets greatest)
       (quotient_rises buckets.width (distance buckets.start low) (distance buckets.start greatest) some (distance_rises buckets.start low greatest own.above first))
       (quotient_rises buckets.width (distance buckets.start least) (distance buckets.start high) some (distance_rises buckets.start least high accepted.above second));
-  stays_near = λ least greatest accepted meet.
+  stays_near = λ low high least greatest own accepted meet.
       let above = own.above in
       let upwards = own.order in
       let other_above = accepted.above in

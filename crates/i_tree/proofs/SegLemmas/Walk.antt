@@ -1,5 +1,5 @@
 -- A walk over the copies at one node: what each copy that it reads changes.
-use Rattle.std.proofs.Common.{◌≡◌, ℕ, ◌+◌, ◌<◌, Bool, true, false, cond, Option, List, ◌∷◌, map, length, get_or, drop, bit_and, refl, ap, sym, ◌∙◌, subst, arith, IsPermutation}
+use Rattle.std.proofs.Common.{◌≡◌, ℕ, ◌+◌, ◌<◌, Bool, true, false, cond, Option, List, ◌∷◌, map, length, get_or, take, drop, bit_and, refl, ap, sym, ◌∙◌, subst, arith, IsPermutation}
 use Rattle.std.specs.Bool.{◌==◌}
 use Rattle.std.specs.List.{filter, swap_remove}
 use Rattle.std.specs.Ordering.{is_ge, is_lt, is_some_and, partial_lt}
@@ -8,13 +8,15 @@ use Rattle.std.specs.declared.cmp.Ordering.TheVariants.{Less, Equal, Greater}
 use Rattle.std.specs.declared.option.Option.TheVariants.{Some}
 use Rattle.std.proofs.lemmas.Bool.{cond-true, cond-false}
 use Rattle.std.proofs.lemmas.List.{drop_more}
+use Rattle.std.proofs.lemmas.List.Elements.{All-more, All-same}
 use Rattle.std.proofs.lemmas.List.Sorted.{IsPermutation-refl, IsPermutation-trans, IsPermutation-map, IsPermutation-swap_remove, length_permutation}
 use Rattle.i_tree.specs.Root.Steps.{Counts, nothing, one_test, one_removal, together, Accumulates}
 use Rattle.i_tree.specs.Seg.Copies.{found_at, live_copies, member_of}
 use Rattle.i_tree.specs.Seg.Members.{Member, is_live}
 use Rattle.i_tree.specs.Seg.Nodes.{lowest}
-use Rattle.i_tree.specs.Seg.Walk.{Reads}
+use Rattle.i_tree.specs.Seg.Walk.{AllLive, LosesExpired, Reads}
 use Rattle.i_tree.proofs.SegLemmas.Bags.{IsPermutation-filter}
+use Rattle.i_tree.proofs.SegLemmas.Losing.{take-swap_remove, LosesExpired-none, LosesExpired-one, LosesExpired-trans}
 use Rattle.i_tree.proofs.SegLemmas.Removed.{removed-behind}
 
 -- whether a value is live, by what `<` answered of its expiration and the time
@@ -64,6 +66,9 @@ one_fewer xs i x within is = omega (arith, length_permutation xs (x ∷ swap_rem
 
 -- `expiration` gives a value's expiration, `cmp` compares expirations.
 module _ {E V : Type 0} (expiration : V → E) (cmp : E → E → Ordering) (time : E) where
+  abbrev IsAlive : ℕ × V → Type 0
+  IsAlive copy = is_live expiration cmp time copy.1 ≡ true
+
   pub IsPermutation-live : (xs ys : List (ℕ × V)) → IsPermutation xs ys → IsPermutation (live_copies expiration cmp (Some time) xs) (live_copies expiration cmp (Some time) ys)
   IsPermutation-live xs ys h = IsPermutation-filter (λ copy. is_live expiration cmp time copy.1) xs ys h
 
@@ -100,10 +105,13 @@ module _ {E V : Type 0} (expiration : V → E) (cmp : E → E → Ordering) (tim
   -- `Made` says of two states of a counter which counts were made from the one to the other.
   module _ {S : Type 0} (Made : S → S → Counts → Type 0) (asked node : ℕ) where
     -- What a walk over a node's copies has done so far: what is still found there is what was, the live copies are what they
-    -- were, and the counts are those of a part of a walk.
+    -- were, copies went that are not live, and no others, those that it passed are live, and the counts are those of a part of a
+    -- walk.
     pub record InChunk (old new : S) (before : List (ℕ × V)) (start : ℕ) (after : List (ℕ × V)) (index : ℕ) : Type 0 where
       pub found : IsPermutation (found_at expiration cmp (Some time) asked node (drop start before)) (found_at expiration cmp (Some time) asked node (drop index after))
       pub live : IsPermutation (live_copies expiration cmp (Some time) before) (live_copies expiration cmp (Some time) after)
+      pub loses : LosesExpired expiration cmp time before after
+      pub passed : AllLive expiration cmp time (take start before) → AllLive expiration cmp time (take index after)
       pub steps : Reads Made old new (length (live_copies expiration cmp (Some time) (drop start before))) (length (live_copies expiration cmp (Some time) (drop index after))) (length before) (length after)
 
     module _ (law : Accumulates Made) where
@@ -112,11 +120,16 @@ module _ {E V : Type 0} (expiration : V → E) (cmp : E → E → Ordering) (tim
           record {
             found = IsPermutation-refl (found_at expiration cmp (Some time) asked node (drop start copies));
             live = IsPermutation-refl (live_copies expiration cmp (Some time) copies);
+            loses = LosesExpired-none expiration cmp time copies;
+            passed = λ first. first;
             steps = Reads-none law state (length (live_copies expiration cmp (Some time) (drop start copies))) (length copies);
           }
 
       -- the walk reads the copy at the index
       module _ (old mid : S) (before : List (ℕ × V)) (start : ℕ) (copies : List (ℕ × V)) (i : ℕ) (so_far : InChunk old mid before start copies i) (copy : ℕ × V) (within : i < length copies) (is : copy ≡ get_or copies i copy) where
+        loses-more : is_live expiration cmp time copy.1 ≡ false → LosesExpired expiration cmp time before (swap_remove copies i copy)
+        loses-more dead = LosesExpired-trans expiration cmp time before copies (swap_remove copies i copy) so_far.loses (LosesExpired-one expiration cmp time copies i copy within is dead)
+
         -- it is no longer live, and is removed
         pub InChunk-removed : (tested new : S) → Made mid tested one_test → Made tested new one_removal → is_live expiration cmp time copy.1 ≡ false → InChunk old new before start (swap_remove copies i copy) i
         InChunk-removed tested new first second dead =
@@ -125,6 +138,8 @@ module _ {E V : Type 0} (expiration : V → E) (cmp : E → E → Ordering) (tim
             record {
               found = IsPermutation-trans _ _ _ so_far.found (IsPermutation-found asked node _ _ behind);
               live = IsPermutation-trans _ _ _ so_far.live (live-removed copies i copy within is dead);
+              loses = loses-more dead;
+              passed = λ first. All-same IsAlive (take i (swap_remove copies i copy)) (take i copies) (take-swap_remove copies i copy within) (so_far.passed first);
               steps = Reads-trans law old mid new _ live_behind live_behind _ (length copies) (length (swap_remove copies i copy))
                   (subst (λ (live : ℕ). Reads Made old mid (length (live_copies expiration cmp (Some time) (drop start before))) live (length before) (length copies)) (sym (length_permutation _ _ behind)) so_far.steps)
                   (Reads-dead law mid tested new live_behind (length copies) (length (swap_remove copies i copy)) first second (one_fewer copies i copy within is));
@@ -140,6 +155,9 @@ module _ {E V : Type 0} (expiration : V → E) (cmp : E → E → Ordering) (tim
             Reads-trans law old mid tested _ (length (live_copies expiration cmp (Some time) (drop i copies))) _ _ (length copies) _ so_far.steps
             (Reads-live law mid tested _ (length (live_copies expiration cmp (Some time) (drop (i + 1) copies))) (length copies) first (omega (arith, ap length (live_on alive))))
 
+        pub passed-more : is_live expiration cmp time copy.1 ≡ true → AllLive expiration cmp time (take start before) → AllLive expiration cmp time (take (i + 1) copies)
+        passed-more alive first = All-more IsAlive copies i copy within (so_far.passed first) (subst IsAlive is alive)
+
         -- its member isn't found here
         pub InChunk-passed : (tested : S) → Made mid tested one_test → is_live expiration cmp time copy.1 ≡ true → (lowest (bit_and copy.0 asked) == node) ≡ false → InChunk old tested before start copies (i + 1)
         InChunk-passed tested first alive elsewhere =
@@ -148,6 +166,8 @@ module _ {E V : Type 0} (expiration : V → E) (cmp : E → E → Ordering) (tim
                   (ap (found_of asked node) (live_on alive) ∙ ap (λ (copies : List (ℕ × V)). map member_of copies) (cond-false (lowest (bit_and copy.0 asked) == node) (copy ∷ rest) rest elsewhere))
                   so_far.found;
               live = so_far.live;
+              loses = so_far.loses;
+              passed = passed-more alive;
               steps = Reads-past tested first alive;
             }
           where

@@ -72,6 +72,10 @@ met_0_1 : nodes_of (meeting_set (between 0 1)) ≡ 0 ∷ 1 ∷ 3 ∷ 7 ∷ 15 �
 unfolding nodes_of nodes_from nodes_where mask_below is_met covered
 met_0_1 = refl
 
+met_20_20 : nodes_of (meeting_set (between 20 20)) ≡ 0 ∷ 2 ∷ 5 ∷ 12 ∷ 25 ∷ 51 ∷ []
+unfolding nodes_of nodes_from nodes_where mask_below is_met covered
+met_20_20 = refl
+
 -- all 63 nodes
 met_0_31 : meeting_set (between 0 31) ≡ 2 ^ 63 - 1
 unfolding nodes_where mask_below is_met covered

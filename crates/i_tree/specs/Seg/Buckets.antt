@@ -59,12 +59,12 @@ interval buckets low high = between (bucket buckets low) (bucket buckets high)
 abbrev pub overlap : Interval → Interval → Bool
 overlap one other = leb one.first other.last && leb other.first one.last
 
--- what the buckets of a range say of any accepted range: of one that overlaps it, the buckets do too; of one whose
--- buckets overlap, it lies less than a width away
-pub record Filters (buckets : Buckets) (low high : ℤ) : Type 0 where
-  pub misses_none : (least greatest : ℤ) → Accepts buckets least greatest → low ≤ℤ greatest → least ≤ℤ high
-      → overlap (interval buckets low high) (interval buckets least greatest) ≡ true
-  pub stays_near : (least greatest : ℤ) → Accepts buckets least greatest
+-- What buckets say of a range that is stored and one that is asked for, both accepted: where the ranges overlap, their
+-- buckets do too; where their buckets do, the ranges lie less than a width apart.
+pub record Filters (buckets : Buckets) : Type 0 where
+  pub misses_none : (low high least greatest : ℤ) → Accepts buckets low high → Accepts buckets least greatest
+      → low ≤ℤ greatest → least ≤ℤ high → overlap (interval buckets low high) (interval buckets least greatest) ≡ true
+  pub stays_near : (low high least greatest : ℤ) → Accepts buckets low high → Accepts buckets least greatest
       → overlap (interval buckets low high) (interval buckets least greatest) ≡ true
       → (low <ℤ (greatest +ℤ pos buckets.width)) × (least <ℤ (high +ℤ pos buckets.width))
 

@@ -1,5 +1,5 @@
 -- What a tree of segments holds: a bag of values, each over some buckets. Lists of members are bags: their order is open.
-use Rattle.std.specs.Prelude.{◌≢◌, ℤ, Bool, true, if◌then◌else◌, List, ◌∷◌, map, filter, MatchOption, ⊤}
+use Rattle.std.specs.Prelude.{◌≡◌, ◌≢◌, ℤ, Bool, true, if◌then◌else◌, List, ◌∷◌, map, filter, All, MatchOption, ⊤}
 use Rattle.std.specs.Ordering.{is_ge}
 use Rattle.std.specs.declared.cmp.Ordering.{Ordering}
 use Rattle.std.specs.declared.cmp.Ordering.TheVariants.{Less}
@@ -30,6 +30,10 @@ module _ {E V : Type 0} (expiration : V → E) (cmp : E → E → Ordering) wher
   abbrev pub is_live_yet : Option E → V → Bool
   is_live_yet None value = true
   is_live_yet (Some time) value = is_live time value
+
+  -- each member is live at the latest time
+  abbrev pub AllLiveYet : Option E → List (Member V) → Type 0
+  AllLiveYet latest members = All (λ member. is_live_yet latest member.value ≡ true) members
 
   -- the members that are live at a time
   abbrev pub live_members : E → List (Member V) → List (Member V)

@@ -1,12 +1,12 @@
 -- A walk over the copies of the nodes of a query. `asked` is the mask of these nodes, and `left` that of those to which the
 -- walk still has to go; in the first of them it goes on at `index`.
-use Rattle.std.specs.Prelude.{◌≡◌, ℕ, ◌+◌, ◌*◌, ◌≤◌, List, [], ◌∷◌, ◌++◌, length, drop, sum_by, IsPermutation}
+use Rattle.std.specs.Prelude.{◌≡◌, ℕ, ◌+◌, ◌*◌, ◌≤◌, true, false, List, [], ◌∷◌, ◌++◌, length, take, drop, sum_by, All, IsPermutation}
 use Rattle.std.specs.declared.cmp.Ordering.{Ordering}
 use Rattle.std.specs.declared.option.Option.TheVariants.{Some}
 use Rattle.i_tree.specs.Root.Steps.{Counts}
 use Rattle.i_tree.specs.Seg.Copies.{chunk_at, found_at, found_among, live_copies}
-use Rattle.i_tree.specs.Seg.Members.{Member}
-use Rattle.i_tree.specs.Seg.Nodes.{nodes_of}
+use Rattle.i_tree.specs.Seg.Members.{Member, is_live}
+use Rattle.i_tree.specs.Seg.Nodes.{has_node, lowest, nodes_of}
 
 module _ {E V : Type 0} (expiration : V → E) (cmp : E → E → Ordering) (time : E) where
   -- what the walk still finds at the nodes of a list, the first of them from an index on
@@ -26,6 +26,37 @@ module _ {E V : Type 0} (expiration : V → E) (cmp : E → E → Ordering) (tim
   live_from index (node ∷ nodes) chunks =
       length (live_copies expiration cmp (Some time) (drop index (chunk_at node chunks)))
       + sum_by (λ later. length (live_copies expiration cmp (Some time) (chunk_at later chunks))) nodes
+
+  -- each of some copies is live
+  abbrev pub AllLive : List (ℕ × V) → Type 0
+  AllLive copies = All (λ copy. is_live expiration cmp time copy.1 ≡ true) copies
+
+  -- some copies go that are not live; the others stay, in some order
+  pub record LosesExpired (before after : List (ℕ × V)) : Type 0 where
+    pub gone : List (ℕ × V)
+    pub expired : All (λ copy. is_live expiration cmp time copy.1 ≡ false) gone
+    pub rest : IsPermutation before (gone ++ after)
+
+  -- A query, or a part of it: the nodes that are asked lose copies that are not live, and no others. At every other node the
+  -- copies are as they were.
+  pub record LosesExpiredAt (asked : ℕ) (before after : List (List (ℕ × V))) : Type 0 where
+    pub met : (node : ℕ) → has_node asked node ≡ true → LosesExpired (chunk_at node before) (chunk_at node after)
+    pub others : (node : ℕ) → has_node asked node ≡ false → chunk_at node after ≡ chunk_at node before
+
+  -- A whole query: at each node that is asked all copies are live now, and are the live ones of before, in some order. At
+  -- every other node the copies are as they were.
+  pub record Cleans (asked : ℕ) (before after : List (List (ℕ × V))) : Type 0 where
+    pub live : (node : ℕ) → has_node asked node ≡ true → AllLive (chunk_at node after)
+    pub met : (node : ℕ) → has_node asked node ≡ true
+        → IsPermutation (live_copies expiration cmp (Some time) (chunk_at node before)) (chunk_at node after)
+    pub others : (node : ℕ) → has_node asked node ≡ false → chunk_at node after ≡ chunk_at node before
+
+  -- Where a walk stands, it has cleaned up behind it: the nodes that are left are asked, all copies at the asked nodes that
+  -- are not left are live, and so are those before the index at the first node that is left.
+  pub record HasPassed (asked left index : ℕ) (chunks : List (List (ℕ × V))) : Type 0 where
+    pub asks : (node : ℕ) → has_node left node ≡ true → has_node asked node ≡ true
+    pub nodes : (node : ℕ) → has_node asked node ≡ true → has_node left node ≡ false → AllLive (chunk_at node chunks)
+    pub copies : AllLive (take index (chunk_at (lowest left) chunks))
 
   -- each node has the same live copies, in some order
   pub record SameLive (before after : List (List (ℕ × V))) : Type 0 where

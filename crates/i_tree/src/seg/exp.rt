@@ -1,4 +1,4 @@
-ghost use Rattle.std.specs.Prelude.{◌≡◌, ◌++◌, List, [], OnOk, OnErr, IfErr, IsPermutation};
+ghost use Rattle.std.specs.Prelude.{◌≡◌, ◌≤◌, ◌+◌, ◌++◌, List, [], length, vec_len, vec_capacity, IsOk, OnOk, OnErr, IfErr, IsPermutation};
 ghost use Rattle.std.specs.declared.option.Option.{Option};
 ghost use Rattle.std.specs.declared.option.Option.TheVariants.{None, Some};
 ghost use Rattle.i_tree.specs.declared.Refusal.TheVariants.{OutOfMemory};
@@ -36,8 +36,8 @@ pub trait SegExpCollection<R: LayoutNumber, E: Expiration, V: ExpiredVal<E>> {
 
     /// Stores the value over the range, whatever its expiration.
     ///
-    /// The condition is that the range is accepted: it goes upwards and lies in the collection's own. It is refused only
-    /// where a growth was, and that changes nothing.
+    /// The condition is that the range is accepted: it goes upwards and lies in the collection's own. It is refused for want
+    /// of memory alone, and that changes nothing of what is stored.
     fn insert_by_range(&mut self, range: SegRange<R>, val: V) -> Result<(), Refusal>
         requires { Accepts (buckets self.old) (R.whole range.min) (R.whole range.max) }
         ensures ok { OnOk result (IsPermutation (with_member V.expiration E.cmp (latest self.old) (member_over (buckets self.old) (R.whole range.min) (R.whole range.max) val) (members self.old)) (members self.new)) }
@@ -45,13 +45,13 @@ pub trait SegExpCollection<R: LayoutNumber, E: Expiration, V: ExpiredVal<E>> {
         ensures refused { IfErr result (λ cause. cause ≡ OutOfMemory) }
         ensures latest { latest self.new ≡ latest self.old }
         ensures buckets { buckets self.new ≡ buckets self.old }
-        ensures filters { Filters (buckets self.old) (R.whole range.min) (R.whole range.max) };
+        ensures filters { Filters (buckets self.old) };
 
     /// Appends the values that are live at the time and whose buckets overlap those of the range, each once, in open order.
     ///
     /// The conditions are that the range is accepted, and that the time is not before the latest one. The latest time is
-    /// then this one, and the members are those that are live at it, also where it is refused: that is only where `out`
-    /// couldn't grow, and leaves it as it was.
+    /// then this one, and the members are those that are live at it, also where it is refused: that is for want of memory
+    /// alone, not where `out` has room for the answer, and leaves `out` as it was.
     fn collect_by_range<B: Allocator>(
         &mut self,
         range: SegRange<R>,
@@ -63,9 +63,11 @@ pub trait SegExpCollection<R: LayoutNumber, E: Expiration, V: ExpiredVal<E>> {
         ensures ok { OnOk result ((found : List V) × IsPermutation (answer V.expiration E.cmp time (interval (buckets self.old) (R.whole range.min) (R.whole range.max)) (members self.old)) found × (out.new.items ≡ out.old.items ++ found)) }
         ensures err { OnErr result (out.new.items ≡ out.old.items) }
         ensures refused { IfErr result (λ cause. cause ≡ OutOfMemory) }
+        ensures with_room { vec_len out.old + length (answer V.expiration E.cmp time (interval (buckets self.old) (R.whole range.min) (R.whole range.max)) (members self.old)) ≤ vec_capacity out.old → IsOk result }
         ensures members { IsPermutation (live_members V.expiration E.cmp time (members self.old)) (members self.new) }
         ensures latest { latest self.new ≡ Some time }
-        ensures buckets { buckets self.new ≡ buckets self.old };
+        ensures buckets { buckets self.new ≡ buckets self.old }
+        ensures filters { Filters (buckets self.old) };
 
     /// Removes every value, and forgets the time of the last query.
     fn clear(&mut self)

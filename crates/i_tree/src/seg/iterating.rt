@@ -3,9 +3,10 @@
 ghost use Rattle.std.specs.Prelude.{◌≡◌, length, IsPermutation};
 ghost use Rattle.std.specs.Iterator.{at_most};
 ghost use Rattle.std.specs.declared.option.Option.TheVariants.{Some};
-ghost use Rattle.i_tree.specs.Seg.Buckets.{Accepts, interval};
+ghost use Rattle.i_tree.specs.Seg.Buckets.{Accepts, Filters, interval};
 ghost use Rattle.i_tree.specs.Seg.Iterating.{still_to_come, CanGo, GivesNext};
 ghost use Rattle.i_tree.specs.Seg.Members.{NotBefore, answer, live_members};
+ghost use Rattle.i_tree.specs.Seg.Nodes.{meeting_set};
 
 use super::exp::SegRange;
 use super::tree::SegExpTree;
@@ -27,12 +28,15 @@ impl<R: LayoutNumber, E: Expiration, V: ExpiredVal<E>, A: Allocator + Copy> SegE
         requires accepted { Accepts self.old.buckets (R.whole range.min) (R.whole range.max) }
         requires in_time { NotBefore E.cmp self.old.latest time }
         ensures tree { result.tree.ghost_name ≡ self.entry.ghost_name }
+        ensures asked { result.asked ≡ meeting_set (interval self.old.buckets (R.whole range.min) (R.whole range.max)) }
+        ensures time { result.time ≡ time }
         ensures latest { result.tree.now.latest ≡ Some time }
         ensures buckets { result.tree.now.buckets ≡ self.old.buckets }
         ensures members { IsPermutation (live_members V.expiration E.cmp time self.old.members) result.tree.now.members }
         ensures found { IsPermutation (answer V.expiration E.cmp time (interval self.old.buckets (R.whole range.min) (R.whole range.max)) self.old.members) (still_to_come V.expiration E.cmp result) }
         ensures copies { result.tree.now.chunks ≡ self.old.chunks }
-        ensures can { CanGo result }
+        ensures filters { Filters self.old.buckets }
+        ensures can { CanGo V.expiration E.cmp result }
     {
         let asked = self.ask(range, time);
         SegExpTreeIterator {
@@ -47,7 +51,8 @@ impl<R: LayoutNumber, E: Expiration, V: ExpiredVal<E>, A: Allocator + Copy> SegE
 /// The values that a query of a tree finds, one after another. `iter_by_range` makes it.
 ///
 /// It holds the tree until it is dropped, and removes the copies that it reads and that are no longer live. The members stay
-/// as they were, as a bag, also where the walk is left early.
+/// as they were, as a bag, also where the walk is left early. Once `None` came, all copies at the nodes that the range meets
+/// are live. `next` may be called again, and answers `None` then.
 pub struct SegExpTreeIterator<
     'a,
     R: LayoutNumber,
@@ -66,7 +71,7 @@ impl<'a, R: LayoutNumber, E: Expiration, V: ExpiredVal<E>, A: Allocator + Copy> 
     for SegExpTreeIterator<'a, R, E, V, A> {
     type Item = V;
 
-    ghost can_next = { CanGo };
+    ghost can_next = { CanGo V.expiration E.cmp };
 
     ghost next_gives = { GivesNext V.expiration E.cmp };
 

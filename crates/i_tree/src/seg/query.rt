@@ -2,11 +2,11 @@
 
 ghost use Rattle.std.specs.Prelude.{◌≡◌, ◌<◌, ◌≤◌, ◌*◌, ◌^◌, ◌↔◌, [], ◌∷◌, IsTrue, length, MatchOption, IsPermutation};
 ghost use Rattle.std.specs.declared.option.Option.TheVariants.{Some};
-ghost use Rattle.i_tree.specs.Seg.Buckets.{Accepts, interval};
+ghost use Rattle.i_tree.specs.Seg.Buckets.{Accepts, Filters, interval};
 ghost use Rattle.i_tree.specs.Seg.Copies.{stored_copies};
 ghost use Rattle.i_tree.specs.Seg.Members.{Member, NotBefore, answer, live_members, values_of};
-ghost use Rattle.i_tree.specs.Seg.Nodes.{nodes_of};
-ghost use Rattle.i_tree.specs.Seg.Walk.{to_come, live_from, Reads};
+ghost use Rattle.i_tree.specs.Seg.Nodes.{meeting_set, nodes_of};
+ghost use Rattle.i_tree.specs.Seg.Walk.{to_come, live_from, LosesExpiredAt, HasPassed, Reads};
 
 use super::exp::SegRange;
 use super::masks::meeting_mask;
@@ -32,12 +32,14 @@ impl<R: LayoutNumber, E: Expiration, V: ExpiredVal<E>, A: Allocator + Copy> SegE
         requires accepted { Accepts self.old.buckets (R.whole range.min) (R.whole range.max) }
         requires in_time { NotBefore E.cmp self.old.latest time }
         ensures few { length self.new.chunks ≤ 63 }
+        ensures asked { result ≡ meeting_set (interval self.old.buckets (R.whole range.min) (R.whole range.max)) }
         ensures within { result < 2 ^ length self.new.chunks }
         ensures latest { self.new.latest ≡ Some time }
         ensures buckets { self.new.buckets ≡ self.old.buckets }
         ensures chunks { self.new.chunks ≡ self.old.chunks }
         ensures members { IsPermutation (live_members V.expiration E.cmp time self.old.members) self.new.members }
         ensures found { IsPermutation (answer V.expiration E.cmp time (interval self.old.buckets (R.whole range.min) (R.whole range.max)) self.old.members) (values_of (to_come V.expiration E.cmp time result result 0 self.new.chunks)) }
+        ensures filters { Filters self.old.buckets }
         ensures reads { live_from V.expiration E.cmp time 0 (nodes_of result) self.new.chunks ≤ 8 * length (to_come V.expiration E.cmp time result result 0 self.new.chunks) }
     {
         let first = self.layout.bucket(range.min);
@@ -57,6 +59,7 @@ impl<R: LayoutNumber, E: Expiration, V: ExpiredVal<E>, A: Allocator + Copy> SegE
         requires few { length self.old.chunks ≤ 63 }
         requires within { cursor.old.left < 2 ^ length self.old.chunks }
         requires latest { self.old.latest ≡ Some time }
+        requires passed { HasPassed V.expiration E.cmp time asked cursor.old.left cursor.old.index self.old.chunks }
         ensures count { length self.new.chunks ≡ length self.old.chunks }
         ensures within { cursor.new.left < 2 ^ length self.new.chunks }
         ensures found { MatchOption result (to_come V.expiration E.cmp time asked cursor.old.left cursor.old.index self.old.chunks ≡ []) (λ value. (member : Member V) × (member.value ≡ value) × IsPermutation (to_come V.expiration E.cmp time asked cursor.old.left cursor.old.index self.old.chunks) (member ∷ to_come V.expiration E.cmp time asked cursor.new.left cursor.new.index self.new.chunks)) }
@@ -64,6 +67,8 @@ impl<R: LayoutNumber, E: Expiration, V: ExpiredVal<E>, A: Allocator + Copy> SegE
         ensures latest { self.new.latest ≡ self.old.latest }
         ensures buckets { self.new.buckets ≡ self.old.buckets }
         ensures members { IsPermutation self.old.members self.new.members }
+        ensures loses { LosesExpiredAt V.expiration E.cmp time asked self.old.chunks self.new.chunks }
+        ensures passed { HasPassed V.expiration E.cmp time asked cursor.new.left cursor.new.index self.new.chunks }
         ensures steps { Reads C.made steps.old steps.new (live_from V.expiration E.cmp time cursor.old.index (nodes_of cursor.old.left) self.old.chunks) (live_from V.expiration E.cmp time cursor.new.index (nodes_of cursor.new.left) self.new.chunks) (stored_copies self.old.chunks) (stored_copies self.new.chunks) }
     {
         next_value(&mut self.chunks, cursor, asked, time, steps)

@@ -1,9 +1,11 @@
-ghost use Rattle.std.specs.Prelude.{◌≡◌, ◌≤◌, ◌+◌, ◌++◌, List, [], ◌↔◌, IsTrue, IsOk, IfOk, IfErr, OnOk, OnErr, MatchOption, IfSome, IsPermutation};
+ghost use Rattle.std.specs.Prelude.{◌≡◌, ◌≤◌, ◌+◌, ◌++◌, List, [], length, vec_len, vec_capacity, ◌↔◌, IsTrue, IsOk, IfOk, IfErr, OnOk, OnErr, MatchOption, IfSome, IsPermutation};
 ghost use Rattle.std.specs.declared.option.Option.TheVariants.{None, Some};
 ghost use Rattle.i_tree.specs.declared.Refusal.TheVariants.{OutOfMemory};
 ghost use Rattle.i_tree.specs.Seg.Buckets.{HasLayout, IsLayout, Accepts, Filters, chunk_count, interval};
-ghost use Rattle.i_tree.specs.Seg.Copies.{chunk_at, copies_at, live_copies, stored_copies};
-ghost use Rattle.i_tree.specs.Seg.Members.{NotBefore, answer, live_members, member_over, with_member};
+ghost use Rattle.i_tree.specs.Seg.Copies.{chunk_at, copies_at, live_copies, stored_copies, PlacesCopies};
+ghost use Rattle.i_tree.specs.Seg.Members.{AllLiveYet, NotBefore, answer, live_members, member_over, with_member};
+ghost use Rattle.i_tree.specs.Seg.Nodes.{place_set, meeting_set};
+ghost use Rattle.i_tree.specs.Seg.Walk.{LosesExpiredAt, Cleans};
 
 use super::chunk::{clear_chunks, empty_chunks, make_room, place_copies};
 use super::exp::{SegExpCollection, SegRange};
@@ -52,7 +54,7 @@ impl<R: LayoutNumber, E: Expiration, V: ExpiredVal<E>, A: Allocator + Copy> SegE
     /// A tree without segments over the range, or `None` where the range has no layout: it goes downwards, or its span is
     /// below 16 or below the least span of its number type, which is 31 for those of the language.
     ///
-    /// `None` is answered before memory is asked for. It is refused only where a growth was.
+    /// `None` is answered before memory is asked for. It is refused for want of memory alone.
     pub fn new(alloc: A, range: SegRange<R>) -> Result<Option<Self>, Refusal>
         ensures cases { IfOk result (λ made. MatchOption made (¬ (HasLayout (R.UInt.number R.UInt.HEAP_MIN_SPAN) (R.whole range.min) (R.whole range.max))) (λ _. HasLayout (R.UInt.number R.UInt.HEAP_MIN_SPAN) (R.whole range.min) (R.whole range.max))) }
         ensures without_layout { ¬ (HasLayout (R.UInt.number R.UInt.HEAP_MIN_SPAN) (R.whole range.min) (R.whole range.max)) → IsOk result }
@@ -80,9 +82,11 @@ impl<R: LayoutNumber, E: Expiration, V: ExpiredVal<E>, A: Allocator + Copy> SegE
         self.layout.accepts(range.min, range.max)
     }
 
-    /// The time of the last query, or `None` where none came since the tree was made or cleared. It is our own.
+    /// The time of the last query, or `None` where none came since the tree was made or cleared. Each member is live at it.
+    /// It is our own.
     pub fn latest_time(&self) -> Option<E>
-        ensures { result ≡ self.now.latest }
+        ensures latest { result ≡ self.now.latest }
+        ensures live { AllLiveYet V.expiration E.cmp self.now.latest self.now.members }
     {
         self.latest
     }
@@ -114,9 +118,9 @@ impl<R: LayoutNumber, E: Expiration, V: ExpiredVal<E>, A: Allocator + Copy> SegE
 
     ghost members = { λ tree. tree.members };
 
-    /// Stores at most eight copies of the value, one at each node that its range is placed at.
-    ///
-    /// All growths come before the first copy is placed, so a refusal changes nothing at all.
+    /// Stores at most eight copies of the value, one at each node that its range is placed at, also where it has expired.
+    /// Each is placed behind the copies of its node. It is refused for want of memory alone, and that changes nothing at all:
+    /// all growths come before the first copy is placed.
     fn insert_by_range(&mut self, range: SegRange<R>, val: V) -> Result<(), Refusal>
         requires { Accepts self.old.buckets (R.whole range.min) (R.whole range.max) }
         ensures ok { OnOk result (IsPermutation (with_member V.expiration E.cmp self.old.latest (member_over self.old.buckets (R.whole range.min) (R.whole range.max) val) self.old.members) self.new.members) }
@@ -124,7 +128,8 @@ impl<R: LayoutNumber, E: Expiration, V: ExpiredVal<E>, A: Allocator + Copy> SegE
         ensures refused { IfErr result (λ cause. cause ≡ OutOfMemory) }
         ensures latest { self.new.latest ≡ self.old.latest }
         ensures buckets { self.new.buckets ≡ self.old.buckets }
-        ensures filters { Filters self.old.buckets (R.whole range.min) (R.whole range.max) }
+        ensures filters { Filters self.old.buckets }
+        ensures placed { OnOk result (PlacesCopies (place_set (interval self.old.buckets (R.whole range.min) (R.whole range.max))) val self.old.chunks self.new.chunks) }
         ensures few { stored_copies self.new.chunks ≤ stored_copies self.old.chunks + 8 }
     {
         let first = self.layout.bucket(range.min);
@@ -135,8 +140,9 @@ impl<R: LayoutNumber, E: Expiration, V: ExpiredVal<E>, A: Allocator + Copy> SegE
         Ok(())
     }
 
-    /// Appends what a walk finds, and drops the copies that it reads and that are no longer live. It asks for memory for
-    /// `out` alone.
+    /// Appends what a walk finds, and drops the copies that it reads and that are no longer live: all of those at the nodes
+    /// that the range meets, unless it is refused, and none elsewhere. It asks for memory for `out` alone, and not where that
+    /// has room for the answer.
     fn collect_by_range<B: Allocator>(
         &mut self,
         range: SegRange<R>,
@@ -148,9 +154,13 @@ impl<R: LayoutNumber, E: Expiration, V: ExpiredVal<E>, A: Allocator + Copy> SegE
         ensures ok { OnOk result ((found : List V) × IsPermutation (answer V.expiration E.cmp time (interval self.old.buckets (R.whole range.min) (R.whole range.max)) self.old.members) found × (out.new.items ≡ out.old.items ++ found)) }
         ensures err { OnErr result (out.new.items ≡ out.old.items) }
         ensures refused { IfErr result (λ cause. cause ≡ OutOfMemory) }
+        ensures with_room { vec_len out.old + length (answer V.expiration E.cmp time (interval self.old.buckets (R.whole range.min) (R.whole range.max)) self.old.members) ≤ vec_capacity out.old → IsOk result }
         ensures members { IsPermutation (live_members V.expiration E.cmp time self.old.members) self.new.members }
         ensures latest { self.new.latest ≡ Some time }
         ensures buckets { self.new.buckets ≡ self.old.buckets }
+        ensures filters { Filters self.old.buckets }
+        ensures cleans { OnOk result (Cleans V.expiration E.cmp time (meeting_set (interval self.old.buckets (R.whole range.min) (R.whole range.max))) self.old.chunks self.new.chunks) }
+        ensures loses { LosesExpiredAt V.expiration E.cmp time (meeting_set (interval self.old.buckets (R.whole range.min) (R.whole range.max))) self.old.chunks self.new.chunks }
         ensures fewer { stored_copies self.new.chunks ≤ stored_copies self.old.chunks }
     {
         self.collect_by_range_counted(&mut Uncounted, range, time, out)

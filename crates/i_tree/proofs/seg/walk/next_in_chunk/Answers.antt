@@ -7,7 +7,7 @@ use Rattle.std.proofs.lemmas.List.Sorted.{length_permutation}
 use Rattle.i_tree.specs.Seg.Copies.{found_at, member_of}
 use Rattle.i_tree.specs.Seg.Members.{is_live}
 use Rattle.i_tree.specs.Seg.Nodes.{lowest}
-use Rattle.i_tree.proofs.SegLemmas.Walk.{live_from_lt, InChunk, InChunk-start, InChunk-removed, InChunk-passed, InChunk-found, Reads-past}
+use Rattle.i_tree.proofs.SegLemmas.Walk.{live_from_lt, InChunk, InChunk-start, InChunk-removed, InChunk-passed, InChunk-found, passed-more, Reads-past}
 use Rattle.i_tree.proofs.seg.walk.next_in_chunk.Goals as goal
 
 same_node : (one other : ℕ) → one ≡ other → (one == other) ≡ true
@@ -44,6 +44,15 @@ returns-then-lowest_node-node-clause-found g c =
 pub returns-then-lowest_node-node-clause-live : goal.returns-then-lowest_node-node-clause-live
 returns-then-lowest_node-node-clause-live g c = c.loop-index.invariant.live
 
+pub returns-then-lowest_node-node-clause-loses : goal.returns-then-lowest_node-node-clause-loses
+returns-then-lowest_node-node-clause-loses g c = c.loop-index.invariant.loses
+
+pub returns-then-lowest_node-node-clause-passed : goal.returns-then-lowest_node-node-clause-passed
+returns-then-lowest_node-node-clause-passed g c =
+    let copy = c.index.result.now in
+    passed-more g.V.ExpiredVal.expiration g.E.Ord.cmp c.args.time g.C.Counter.made c.args.asked c.args.node g.met.C.Counter.law c.args.steps.now c.loop-index.steps c.args.chunk.now.items c.args.index.now c.loop-index.chunk.items c.loop-index.index c.loop-index.invariant copy (omega arith) c.index.ensures
+    (live_from_lt g.E.PartialOrd.partial_cmp g.E.Ord.cmp g.met.E.Ord.matches_partial_cmp g.V.ExpiredVal.expiration c.args.time copy.1 c.expiration.result c.expiration.ensures c.lt.result c.lt.ensures false c.if-lt.false)
+
 pub returns-then-lowest_node-node-clause-steps : goal.returns-then-lowest_node-node-clause-steps
 returns-then-lowest_node-node-clause-steps g c =
     let copy = c.index.result.now in
@@ -68,6 +77,12 @@ returns-clause-ended g c _ = omega arith
 
 pub returns-clause-live : goal.returns-clause-live
 returns-clause-live g c = c.loop-index.invariant.live
+
+pub returns-clause-loses : goal.returns-clause-loses
+returns-clause-loses g c = c.loop-index.invariant.loses
+
+pub returns-clause-passed : goal.returns-clause-passed
+returns-clause-passed g c = c.loop-index.invariant.passed
 
 pub returns-clause-steps : goal.returns-clause-steps
 returns-clause-steps g c = c.loop-index.invariant.steps

@@ -8,7 +8,7 @@ use Rattle.i_tree.specs.Seg.Members.{Member}
 use Rattle.i_tree.specs.Seg.Walk.{to_come}
 use Rattle.i_tree.proofs.SegLemmas.NodesOf.{nodes_of-fewer}
 use Rattle.i_tree.proofs.SegLemmas.NodesWhere.{has_node-below}
-use Rattle.i_tree.proofs.SegLemmas.NodesWalk.{to_come-ended, InChunks-start, InChunks-taken, InChunks-live, InChunks-steps, InChunks-next}
+use Rattle.i_tree.proofs.SegLemmas.NodesWalk.{to_come-ended, InChunks-start, InChunks-taken, InChunks-live, InChunks-loses, InChunks-passed, InChunks-steps, InChunks-next}
 use Rattle.i_tree.proofs.seg.walk.next_value.Goals as goal
 
 -- what was found in a chunk was still to come
@@ -26,7 +26,8 @@ none_found (Some value) P Q none h = absurd (false≢true (sym none))
 pub loop-cursor-init : goal.loop-cursor-init
 loop-cursor-init g c =
     InChunks-start g.V.ExpiredVal.expiration g.E.Ord.cmp c.args.time g.C.Counter.made c.args.asked g.met.C.Counter.law c.args.steps.now (copies_in c.args.chunks.now) c.args.cursor.now.left c.args.cursor.now.index
-    (subst (λ (count : ℕ). c.args.cursor.now.left < 2 ^ count) (sym (length-map c.args.chunks.now (λ (chunk : Vec (ℕ × g.row.V.Denot) g.row.A.Denot). chunk.items))) c.requires)
+    (subst (λ (count : ℕ). c.args.cursor.now.left < 2 ^ count) (sym (length-map c.args.chunks.now (λ (chunk : Vec (ℕ × g.row.V.Denot) g.row.A.Denot). chunk.items))) c.requires.within)
+    c.requires.passed
 
 -- the node has a chunk
 has_chunk : (g : _) (c : goal.After-lowest_node-node g) → c.lowest_node-node.result < length c.loop-cursor.chunks
@@ -56,18 +57,28 @@ returns-then-is_some-clause-found g c =
     _
     (sym c.is_some.ensures ∙ c.if-is_some.true) c.next_in_chunk-found.ensures.found
     (λ (member : Member g.row.V.Denot) h. InChunks-taken g.V.ExpiredVal.expiration g.E.Ord.cmp c.args.time g.C.Counter.made c.args.asked g.met.C.Counter.law c.args.steps.now c.loop-cursor.steps c.next_in_chunk-found.new.steps (copies_in c.args.chunks.now) c.args.cursor.now.left c.args.cursor.now.index c.loop-cursor.chunks c.loop-cursor.cursor.left c.loop-cursor.cursor.index c.loop-cursor.invariant
-    c.lowest_node-node.result (c.lowest_node-node.ensures.lowest (omega arith)) c.index-chunks-node.result c.next_in_chunk-found.new.chunk c.next_in_chunk-found.new.index c.next_in_chunk-found.ensures.live c.next_in_chunk-found.ensures.steps
+    c.lowest_node-node.result (c.lowest_node-node.ensures.lowest (omega arith)) c.index-chunks-node.result c.next_in_chunk-found.new.chunk c.next_in_chunk-found.new.index c.next_in_chunk-found.ensures.live c.next_in_chunk-found.ensures.loses c.next_in_chunk-found.ensures.passed c.next_in_chunk-found.ensures.steps
     (member ∷ []) h)
 
 pub returns-then-is_some-clause-live : goal.returns-then-is_some-clause-live
 returns-then-is_some-clause-live g c =
     InChunks-live g.V.ExpiredVal.expiration g.E.Ord.cmp c.args.time g.C.Counter.made c.args.asked g.met.C.Counter.law c.args.steps.now c.loop-cursor.steps c.next_in_chunk-found.new.steps (copies_in c.args.chunks.now) c.args.cursor.now.left c.args.cursor.now.index c.loop-cursor.chunks c.loop-cursor.cursor.left c.loop-cursor.cursor.index c.loop-cursor.invariant
-    c.lowest_node-node.result (c.lowest_node-node.ensures.lowest (omega arith)) c.index-chunks-node.result c.next_in_chunk-found.new.chunk c.next_in_chunk-found.new.index c.next_in_chunk-found.ensures.live c.next_in_chunk-found.ensures.steps
+    c.lowest_node-node.result (c.lowest_node-node.ensures.lowest (omega arith)) c.index-chunks-node.result c.next_in_chunk-found.new.chunk c.next_in_chunk-found.new.index c.next_in_chunk-found.ensures.live c.next_in_chunk-found.ensures.loses c.next_in_chunk-found.ensures.passed c.next_in_chunk-found.ensures.steps
+
+pub returns-then-is_some-clause-loses : goal.returns-then-is_some-clause-loses
+returns-then-is_some-clause-loses g c =
+    InChunks-loses g.V.ExpiredVal.expiration g.E.Ord.cmp c.args.time g.C.Counter.made c.args.asked g.met.C.Counter.law c.args.steps.now c.loop-cursor.steps c.next_in_chunk-found.new.steps (copies_in c.args.chunks.now) c.args.cursor.now.left c.args.cursor.now.index c.loop-cursor.chunks c.loop-cursor.cursor.left c.loop-cursor.cursor.index c.loop-cursor.invariant
+    c.lowest_node-node.result (c.lowest_node-node.ensures.lowest (omega arith)) c.index-chunks-node.result c.next_in_chunk-found.new.chunk c.next_in_chunk-found.new.index c.next_in_chunk-found.ensures.live c.next_in_chunk-found.ensures.loses c.next_in_chunk-found.ensures.passed c.next_in_chunk-found.ensures.steps
+
+pub returns-then-is_some-clause-passed : goal.returns-then-is_some-clause-passed
+returns-then-is_some-clause-passed g c =
+    InChunks-passed g.V.ExpiredVal.expiration g.E.Ord.cmp c.args.time g.C.Counter.made c.args.asked g.met.C.Counter.law c.args.steps.now c.loop-cursor.steps c.next_in_chunk-found.new.steps (copies_in c.args.chunks.now) c.args.cursor.now.left c.args.cursor.now.index c.loop-cursor.chunks c.loop-cursor.cursor.left c.loop-cursor.cursor.index c.loop-cursor.invariant
+    c.lowest_node-node.result (c.lowest_node-node.ensures.lowest (omega arith)) c.index-chunks-node.result c.next_in_chunk-found.new.chunk c.next_in_chunk-found.new.index c.next_in_chunk-found.ensures.live c.next_in_chunk-found.ensures.loses c.next_in_chunk-found.ensures.passed c.next_in_chunk-found.ensures.steps
 
 pub returns-then-is_some-clause-steps : goal.returns-then-is_some-clause-steps
 returns-then-is_some-clause-steps g c =
     InChunks-steps g.V.ExpiredVal.expiration g.E.Ord.cmp c.args.time g.C.Counter.made c.args.asked g.met.C.Counter.law c.args.steps.now c.loop-cursor.steps c.next_in_chunk-found.new.steps (copies_in c.args.chunks.now) c.args.cursor.now.left c.args.cursor.now.index c.loop-cursor.chunks c.loop-cursor.cursor.left c.loop-cursor.cursor.index c.loop-cursor.invariant
-    c.lowest_node-node.result (c.lowest_node-node.ensures.lowest (omega arith)) c.index-chunks-node.result c.next_in_chunk-found.new.chunk c.next_in_chunk-found.new.index c.next_in_chunk-found.ensures.live c.next_in_chunk-found.ensures.steps
+    c.lowest_node-node.result (c.lowest_node-node.ensures.lowest (omega arith)) c.index-chunks-node.result c.next_in_chunk-found.new.chunk c.next_in_chunk-found.new.index c.next_in_chunk-found.ensures.live c.next_in_chunk-found.ensures.loses c.next_in_chunk-found.ensures.passed c.next_in_chunk-found.ensures.steps
 
 pub loop-cursor-smaller : goal.loop-cursor-smaller
 loop-cursor-smaller g c = nodes_of-fewer c.loop-cursor.cursor.left c.lowest_node-node.result (c.lowest_node-node.ensures.lowest (omega arith))
@@ -76,8 +87,8 @@ pub loop-cursor-preserved : goal.loop-cursor-preserved
 loop-cursor-preserved g c =
     let none = none_found c.next_in_chunk-found.result _ _ (sym c.is_some.ensures ∙ c.if-is_some.false) c.next_in_chunk-found.ensures.found in
     InChunks-next g.V.ExpiredVal.expiration g.E.Ord.cmp c.args.time g.C.Counter.made c.args.asked g.met.C.Counter.law c.args.steps.now c.loop-cursor.steps c.next_in_chunk-found.new.steps (copies_in c.args.chunks.now) c.args.cursor.now.left c.args.cursor.now.index c.loop-cursor.chunks c.loop-cursor.cursor.left c.loop-cursor.cursor.index c.loop-cursor.invariant
-    c.lowest_node-node.result (c.lowest_node-node.ensures.lowest (omega arith)) c.index-chunks-node.result c.next_in_chunk-found.new.chunk c.next_in_chunk-found.new.index c.next_in_chunk-found.ensures.live c.next_in_chunk-found.ensures.steps
-    (c.next_in_chunk-found.ensures.ended none.0) none.1
+    c.lowest_node-node.result (c.lowest_node-node.ensures.lowest (omega arith)) c.index-chunks-node.result c.next_in_chunk-found.new.chunk c.next_in_chunk-found.new.index c.next_in_chunk-found.ensures.live c.next_in_chunk-found.ensures.loses c.next_in_chunk-found.ensures.passed c.next_in_chunk-found.ensures.steps
+    c.ranges.asked.fits (c.next_in_chunk-found.ensures.ended none.0) none.1
 
 pub returns-clause-found : goal.returns-clause-found
 returns-clause-found g c =
@@ -87,6 +98,12 @@ returns-clause-found g c =
 
 pub returns-clause-live : goal.returns-clause-live
 returns-clause-live g c = c.loop-cursor.invariant.live
+
+pub returns-clause-loses : goal.returns-clause-loses
+returns-clause-loses g c = c.loop-cursor.invariant.loses
+
+pub returns-clause-passed : goal.returns-clause-passed
+returns-clause-passed g c = c.loop-cursor.invariant.passed
 
 pub returns-clause-steps : goal.returns-clause-steps
 returns-clause-steps g c = c.loop-cursor.invariant.steps

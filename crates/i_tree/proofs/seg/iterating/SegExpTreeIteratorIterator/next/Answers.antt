@@ -3,6 +3,7 @@ use Rattle.std.specs.Iterator.{at_most, MakesProgress}
 use Rattle.std.proofs.lemmas.List.Sorted.{IsPermutation-map, length_permutation}
 use Rattle.i_tree.specs.Seg.Iterating.{CanGo, still_to_come}
 use Rattle.i_tree.specs.Seg.Members.{Member, values_of}
+use Rattle.i_tree.proofs.SegLemmas.Losing.{Cleans-ended}
 use Rattle.i_tree.proofs.SegLemmas.NodesWalk.{to_come-ended}
 use Rattle.i_tree.proofs.seg.iterating.SegExpTreeIteratorIterator.next.Goals as goal
 
@@ -32,16 +33,22 @@ returns-clause-steps g c =
       tree = refl;
       latest = c.next_found.ensures.latest;
       buckets = c.next_found.ensures.buckets;
+      asked = refl;
+      time = refl;
       members = c.next_found.ensures.members;
+      loses = c.next_found.ensures.loses;
+      cleans = λ none.
+          Cleans-ended g.V.ExpiredVal.expiration g.E.Ord.cmp c.args.self.now.time c.args.self.now.asked c.next_found.new.cursor.left c.next_found.new.cursor.index c.args.self.now.tree.now.chunks c.next_found.new.self.chunks
+          (c.next_found.ensures.ended none) c.next_found.ensures.loses c.next_found.ensures.passed;
+      can = record {
+        few = let few = c.requires.few in let same = c.next_found.ensures.count in omega arith;
+        within = c.next_found.ensures.within;
+        latest = c.next_found.ensures.latest ∙ c.requires.latest;
+        passed = c.next_found.ensures.passed;
+      };
       copies = let gone = c.next_found.ensures.steps.removals in omega arith;
     }
 
 pub returns-clause-goes : goal.returns-clause-goes
 returns-clause-goes g c =
-    one_fewer CanGo (still_to_come g.V.ExpiredVal.expiration g.E.Ord.cmp) _ _ c.next_found.result
-    (record {
-      few = let few = c.requires.few in let same = c.next_found.ensures.count in omega arith;
-      within = c.next_found.ensures.within;
-      latest = c.next_found.ensures.latest ∙ c.requires.latest;
-    })
-    (returns-clause-steps g c).yields
+    one_fewer (CanGo g.V.ExpiredVal.expiration g.E.Ord.cmp) (still_to_come g.V.ExpiredVal.expiration g.E.Ord.cmp) _ _ c.next_found.result (returns-clause-steps g c).can (returns-clause-steps g c).yields

@@ -3,6 +3,7 @@ use Rattle.i_tree.specs.Seg.Buckets.{Accepts, chunk_count}
 use Rattle.i_tree.specs.Seg.Copies.{copies_in, members_in, Holds}
 use Rattle.i_tree.specs.Seg.Members.{live_members}
 use Rattle.i_tree.proofs.SegLemmas.Asking.{asked-found, asked-reads}
+use Rattle.i_tree.proofs.SegLemmas.Filters.{filters}
 use Rattle.i_tree.proofs.SegLemmas.Found.{holds-members_in, holds-own}
 use Rattle.i_tree.proofs.SegLemmas.Inserting.{accepted-order, accepted-below}
 use Rattle.i_tree.proofs.SegLemmas.Later.{Holds-later}
@@ -35,6 +36,9 @@ invariant_of-self g c =
 pub returns-clause-few : goal.returns-clause-few
 returns-clause-few g c = let long = c.self.invariant.chunk_for_each in let few = c.bucket-first.ensures.chunks in omega arith
 
+pub returns-clause-asked : goal.returns-clause-asked
+returns-clause-asked g c = rw (← c.self.view_is, ← c.bucket-first.ensures.value, ← c.bucket-last.ensures.value) c.meeting_mask.ensures.value
+
 pub returns-clause-within : goal.returns-clause-within
 returns-clause-within g c =
     subst (λ (count : ℕ). c.meeting_mask.result < 2 ^ count) (sym c.self.invariant.chunk_for_each)
@@ -51,6 +55,9 @@ returns-clause-found g c =
     rw (← c.self.view_is, ← c.bucket-first.ensures.value, ← c.bucket-last.ensures.value)
     (asked-found g.V.ExpiredVal.expiration g.E.Ord.cmp c.args.time (chunk_count c.self.inside.layout) (copies_in c.self.inside.chunks.items) _ c.bucket-first.ensures.chunks (later g c)
     c.bucket-first.result c.bucket-last.result (first_upto_last g c) c.bucket-last.ensures.within c.meeting_mask.result c.meeting_mask.ensures.value)
+
+pub returns-clause-filters : goal.returns-clause-filters
+returns-clause-filters g c = filters c.args.self.now.buckets (rw (← c.self.view_is) c.bucket-first.ensures.wide)
 
 pub returns-clause-reads : goal.returns-clause-reads
 returns-clause-reads g c =

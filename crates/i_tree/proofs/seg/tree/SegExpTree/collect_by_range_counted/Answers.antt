@@ -1,12 +1,13 @@
 use Rattle.std.proofs.Common.{◌≡◌, ◌-◌, ℕ, not, List, [], ◌∷◌, ◌++◌, length, take, ap, sym, ◌∙◌, subst, length-append, arith}
-use Rattle.std.proofs.lemmas.Bool.{cond-true, cond-false}
+use Rattle.std.proofs.lemmas.Bool.{cond-true, cond-false, false≢true}
 use Rattle.std.proofs.lemmas.List.{append-nil, take_at}
 use Rattle.std.proofs.lemmas.List.Sorted.{length_permutation}
 use Rattle.i_tree.specs.Seg.Buckets.{interval}
 use Rattle.i_tree.specs.Seg.Copies.{stored_copies}
 use Rattle.i_tree.specs.Seg.Members.{answer}
 use Rattle.i_tree.specs.Seg.Walk.{to_come, Collects}
-use Rattle.i_tree.proofs.SegLemmas.Collecting.{IsWalked, IsWalked-on, IsWalked-ended, IsWalked-left, reads-few, reads-each, IsAppended, IsAppended-more, IsAppended-all}
+use Rattle.i_tree.proofs.SegLemmas.Collecting.{IsWalked, IsWalked-on, IsWalked-ended, IsWalked-cleans, IsWalked-left, reads-few, reads-each, IsAppended, IsAppended-more, IsAppended-fewer, IsAppended-all}
+use Rattle.i_tree.proofs.SegLemmas.Losing.{LosesExpiredAt-none, HasPassed-start}
 use Rattle.i_tree.proofs.SegLemmas.Walk.{Reads-none}
 use Rattle.i_tree.proofs.seg.tree.SegExpTree.collect_by_range_counted.Goals as goal
 
@@ -21,9 +22,12 @@ loop-value-init g c =
         latest = asked.latest;
         buckets = asked.buckets;
         members = asked.members;
+        loses = rw asked.chunks (LosesExpiredAt-none g.V.ExpiredVal.expiration g.E.Ord.cmp c.args.time c.ask-asked.result c.args.self.now.chunks);
+        passed = HasPassed-start g.V.ExpiredVal.expiration g.E.Ord.cmp c.args.time c.ask-asked.result c.ask-asked.new.self.chunks;
         steps = rw asked.chunks (Reads-none g.met.C.Counter.law c.args.steps.now _ _);
       };
       appended = record { found = []; is = sym (append-nil c.args.out.now.items); rest = asked.found };
+      room = omega arith;
     })
 
 pub next_found-requires-clause-few : goal.next_found-requires-clause-few
@@ -35,11 +39,14 @@ next_found-requires-clause-within g c = c.loop-value.invariant.walked.within
 pub next_found-requires-clause-latest : goal.next_found-requires-clause-latest
 next_found-requires-clause-latest g c = c.loop-value.invariant.walked.latest
 
+pub next_found-requires-clause-passed : goal.next_found-requires-clause-passed
+next_found-requires-clause-passed g c = c.loop-value.invariant.walked.passed
+
 -- the walk after a refused growth
 refused : (g : _) (c : goal.After-truncate g) → IsWalked g.V.ExpiredVal.expiration g.E.Ord.cmp c.args.time g.C.Counter.made c.ask-asked.result c.args.self.now c.args.steps.now c.next_found.new.self c.next_found.new.cursor.left c.next_found.new.cursor.index c.next_found.new.steps
 refused g c =
     IsWalked-on g.V.ExpiredVal.expiration g.E.Ord.cmp c.args.time g.C.Counter.made c.ask-asked.result c.args.self.now c.args.steps.now g.met.C.Counter.law c.loop-value.steps c.next_found.new.steps c.loop-value.self c.next_found.new.self c.loop-value.cursor.left c.loop-value.cursor.index c.next_found.new.cursor.left c.next_found.new.cursor.index c.loop-value.invariant.walked
-    c.next_found.ensures.count c.next_found.ensures.within c.next_found.ensures.latest c.next_found.ensures.buckets c.next_found.ensures.members c.next_found.ensures.steps
+    c.next_found.ensures.count c.next_found.ensures.within c.next_found.ensures.latest c.next_found.ensures.buckets c.next_found.ensures.members c.next_found.ensures.loses c.next_found.ensures.passed c.next_found.ensures.steps
 
 pub returns-then-is_err-clause-err : goal.returns-then-is_err-clause-err
 returns-then-is_err-clause-err g c =
@@ -47,6 +54,17 @@ returns-then-is_err-clause-err g c =
     let not_ok = c.is_err.ensures.negation ∙ ap not c.if-is_err.true in
     let same = c.push.ensures.items ∙ cond-false _ (c.loop-value.out.items ++ c.in-Some.value ∷ []) c.loop-value.out.items not_ok ∙ so_far.is in
     c.truncate.ensures.items ∙ ap (take c.len-start.result) same ∙ take_at c.args.out.now.items so_far.found c.len-start.result (omega (arith, c.len-start.ensures, c.args.out.now.ok.0))
+
+-- the list had room for less than the answer
+pub returns-then-is_err-clause-with_room : goal.returns-then-is_err-clause-with_room
+returns-then-is_err-clause-with_room g c room =
+    let not_ok = c.is_err.ensures.negation ∙ ap not c.if-is_err.true in
+    let fewer = IsAppended-fewer (answer g.V.ExpiredVal.expiration g.E.Ord.cmp c.args.time (interval c.args.self.now.buckets (g.R.LayoutNumber.whole c.args.range.min) (g.R.LayoutNumber.whole c.args.range.max)) c.args.self.now.members) c.args.out.now.items c.loop-value.out.items (to_come g.V.ExpiredVal.expiration g.E.Ord.cmp c.args.time c.ask-asked.result c.loop-value.cursor.left c.loop-value.cursor.index c.loop-value.self.chunks) c.loop-value.invariant.appended c.in-Some.ensures.found in
+    let grown = c.loop-value.invariant.room in
+    let was = c.args.out.now.ok.0 in
+    let is = c.loop-value.out.ok.0 in
+    let ok = c.push.ensures.succeeds (omega arith) in
+    absurd (false≢true (sym not_ok ∙ ok))
 
 pub returns-then-is_err-clause-members : goal.returns-then-is_err-clause-members
 returns-then-is_err-clause-members g c = (refused g c).members
@@ -56,6 +74,9 @@ returns-then-is_err-clause-latest g c = (refused g c).latest
 
 pub returns-then-is_err-clause-buckets : goal.returns-then-is_err-clause-buckets
 returns-then-is_err-clause-buckets g c = (refused g c).buckets
+
+pub returns-then-is_err-clause-loses : goal.returns-then-is_err-clause-loses
+returns-then-is_err-clause-loses g c = rw (← c.ask-asked.ensures.asked) (refused g c).loses
 
 pub returns-then-is_err-clause-err_steps : goal.returns-then-is_err-clause-err_steps
 returns-then-is_err-clause-err_steps g c =
@@ -74,16 +95,17 @@ loop-value-preserved g c =
     let more = c.push.ensures.items ∙ cond-true _ (c.loop-value.out.items ++ c.in-Some.value ∷ []) c.loop-value.out.items ok in
     record {
       walked = IsWalked-on g.V.ExpiredVal.expiration g.E.Ord.cmp c.args.time g.C.Counter.made c.ask-asked.result c.args.self.now c.args.steps.now g.met.C.Counter.law c.loop-value.steps c.next_found.new.steps c.loop-value.self c.next_found.new.self c.loop-value.cursor.left c.loop-value.cursor.index c.next_found.new.cursor.left c.next_found.new.cursor.index c.loop-value.invariant.walked
-          c.next_found.ensures.count c.next_found.ensures.within c.next_found.ensures.latest c.next_found.ensures.buckets c.next_found.ensures.members c.next_found.ensures.steps;
+          c.next_found.ensures.count c.next_found.ensures.within c.next_found.ensures.latest c.next_found.ensures.buckets c.next_found.ensures.members c.next_found.ensures.loses c.next_found.ensures.passed c.next_found.ensures.steps;
       appended = subst (λ (items : List g.row.V.Denot). IsAppended (answer g.V.ExpiredVal.expiration g.E.Ord.cmp c.args.time (interval c.args.self.now.buckets (g.R.LayoutNumber.whole c.args.range.min) (g.R.LayoutNumber.whole c.args.range.max)) c.args.self.now.members) c.args.out.now.items items (to_come g.V.ExpiredVal.expiration g.E.Ord.cmp c.args.time c.ask-asked.result c.next_found.new.cursor.left c.next_found.new.cursor.index c.next_found.new.self.chunks)) (sym more)
           (IsAppended-more (answer g.V.ExpiredVal.expiration g.E.Ord.cmp c.args.time (interval c.args.self.now.buckets (g.R.LayoutNumber.whole c.args.range.min) (g.R.LayoutNumber.whole c.args.range.max)) c.args.self.now.members) c.args.out.now.items c.loop-value.out.items (to_come g.V.ExpiredVal.expiration g.E.Ord.cmp c.args.time c.ask-asked.result c.loop-value.cursor.left c.loop-value.cursor.index c.loop-value.self.chunks) c.loop-value.invariant.appended c.in-Some.value (to_come g.V.ExpiredVal.expiration g.E.Ord.cmp c.args.time c.ask-asked.result c.next_found.new.cursor.left c.next_found.new.cursor.index c.next_found.new.self.chunks) c.in-Some.ensures.found);
+      room = let before = c.loop-value.invariant.room in let grown = c.push.ensures.capacity in omega arith;
     }
 
 -- the finished walk
 walked : (g : _) (c : goal.In_default g) → IsWalked g.V.ExpiredVal.expiration g.E.Ord.cmp c.args.time g.C.Counter.made c.ask-asked.result c.args.self.now c.args.steps.now c.next_found.new.self c.next_found.new.cursor.left c.next_found.new.cursor.index c.next_found.new.steps
 walked g c =
     IsWalked-on g.V.ExpiredVal.expiration g.E.Ord.cmp c.args.time g.C.Counter.made c.ask-asked.result c.args.self.now c.args.steps.now g.met.C.Counter.law c.loop-value.steps c.next_found.new.steps c.loop-value.self c.next_found.new.self c.loop-value.cursor.left c.loop-value.cursor.index c.next_found.new.cursor.left c.next_found.new.cursor.index c.loop-value.invariant.walked
-    c.next_found.ensures.count c.next_found.ensures.within c.next_found.ensures.latest c.next_found.ensures.buckets c.next_found.ensures.members c.next_found.ensures.steps
+    c.next_found.ensures.count c.next_found.ensures.within c.next_found.ensures.latest c.next_found.ensures.buckets c.next_found.ensures.members c.next_found.ensures.loses c.next_found.ensures.passed c.next_found.ensures.steps
 
 pub returns-clause-ok : goal.returns-clause-ok
 returns-clause-ok g c =
@@ -97,6 +119,15 @@ returns-clause-latest g c = (walked g c).latest
 
 pub returns-clause-buckets : goal.returns-clause-buckets
 returns-clause-buckets g c = (walked g c).buckets
+
+pub returns-clause-loses : goal.returns-clause-loses
+returns-clause-loses g c = rw (← c.ask-asked.ensures.asked) (walked g c).loses
+
+pub returns-clause-cleans : goal.returns-clause-cleans
+returns-clause-cleans g c =
+    rw (← c.ask-asked.ensures.asked)
+    (IsWalked-cleans g.V.ExpiredVal.expiration g.E.Ord.cmp c.args.time g.C.Counter.made c.ask-asked.result c.args.self.now c.args.steps.now c.next_found.new.self c.next_found.new.cursor.left c.next_found.new.cursor.index c.next_found.new.steps
+    (c.next_found.ensures.ended c.in_default.is) (walked g c))
 
 pub returns-clause-steps : goal.returns-clause-steps
 returns-clause-steps g c =

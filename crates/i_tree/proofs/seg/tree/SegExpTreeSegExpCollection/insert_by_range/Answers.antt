@@ -33,7 +33,7 @@ invariant_of-self g c = rw (refused-copies g c) c.self.invariant
 
 pub returns-in_err-make_room-clause-filters : goal.returns-in_err-make_room-clause-filters
 returns-in_err-make_room-clause-filters g c =
-    filters c.args.self.now.buckets (g.R.LayoutNumber.whole c.args.range.min) (g.R.LayoutNumber.whole c.args.range.max) (rw (← c.self.view_is) c.bucket-first.ensures.wide) c.requires
+    filters c.args.self.now.buckets (rw (← c.self.view_is) c.bucket-first.ensures.wide)
 
 -- the copies are placed among those of before
 placed : (g : _) (c : goal.After-self-2-1 g)
@@ -63,6 +63,9 @@ returns-clause-ok g c =
     rw (kept g c, ← c.self.view_is)
     (inserted-members c.self.inside.layout _ _ c.bucket-first.ensures.wide (own g c) g.V.ExpiredVal.expiration g.E.Ord.cmp c.self.inside.latest c.args.val (copies_in c.self.inside.chunks.items) (copies_in c.place_copies.new.chunks) _ c.bucket-first.ensures.chunks c.self.invariant (placed g c))
 
+pub returns-clause-placed : goal.returns-clause-placed
+returns-clause-placed g c = rw (kept g c, ← c.self.view_is) (placed g c)
+
 pub returns-clause-few : goal.returns-clause-few
 returns-clause-few g c =
     rw (kept g c, ← c.self.view_is)
@@ -70,4 +73,4 @@ returns-clause-few g c =
 
 pub returns-clause-filters : goal.returns-clause-filters
 returns-clause-filters g c =
-    filters c.args.self.now.buckets (g.R.LayoutNumber.whole c.args.range.min) (g.R.LayoutNumber.whole c.args.range.max) (rw (← c.self.view_is) c.bucket-first.ensures.wide) c.requires
+    filters c.args.self.now.buckets (rw (← c.self.view_is) c.bucket-first.ensures.wide)

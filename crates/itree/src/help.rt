@@ -1,0 +1,65 @@
+//! The help that the program prints.
+
+ghost use Rattle.std.specs.Prelude.{◌↔◌, IsTrue};
+ghost use Rattle.itree.specs.Modes.{MeansHelp, AsksForHelp};
+
+/// Each mode with its lines and their replies, and the statuses. Behind each form of a line stand the forms of its reply.
+pub const HELP: &str = "\
+The program itree reads lines of text, and answers them by the containers of a sweep line.
+
+usage: itree MODE < LINES    reads all lines first, then prints the replies, each on its own line
+
+itree keytree, itree keylist: keys that expire, in a tree or in a sorted list. A key is live up to
+its expiration. less gives the value of the greatest live key below KEY, and leq of the greatest at
+most KEY; where there is none, it is DEFAULT. present: KEY is live already. late: TIME is before
+that of an earlier line, and no clear came since.
+  insert KEY EXPIRATION VALUE TIME     inserted | present | late | refused
+  less TIME DEFAULT KEY                value VALUE | late
+  leq TIME DEFAULT KEY                 value VALUE | late
+  clear                                cleared
+
+itree settree, itree setlist: a set of keys, in a tree or in a sorted list. find gives the greatest
+key at most KEY, and before the greatest below KEY, which is absent where the set doesn't have it.
+  insert KEY                           inserted | present | refused
+  delete KEY                           deleted | absent
+  find KEY                             key FOUND | none
+  before KEY                           key FOUND | none | absent
+
+itree seg MIN MAX: values over ranges from FIRST to LAST, within MIN to MAX, which are at least 31
+apart. query gives the live values whose ranges meet its own, rising, and some that lie near.
+outside: the range isn't within MIN to MAX, or goes down.
+  insert FIRST LAST EXPIRATION VALUE   inserted | outside | refused
+  query FIRST LAST TIME                values VALUE .. | outside | late | refused
+  clear                                cleared
+
+itree sweep: for each point the greatest height, at most its own, of the segments that cover its X.
+  segment X0 X1 Y
+  point X Y                            below HEIGHT | none
+
+itree help, itree --help, itree -h: this text
+
+Numbers are whole, from -2147483648 to 2147483647. A line without words counts, and has no reply.
+refused: there is no memory. The status is 0 where all is answered, 1 where memory, reading or
+writing failed, and 2 where nothing is answered. Standard error then has one of these lines:
+  itree: arguments                     they are none of those above
+  itree: line N                        line N is the first that is no line of the mode
+  itree: overlap N                     the segment of line N overlaps another at one height
+There are examples in docs/COMMANDS.md.
+";
+
+/// Whether the arguments ask for help.
+pub fn asks_for_help(words: &[&str]) -> bool
+    ensures { IsTrue result ↔ AsksForHelp words.now }
+{
+    match words {
+        [word] => is_help(word),
+        _ => false,
+    }
+}
+
+// Whether the word asks for help.
+fn is_help(word: &str) -> bool
+    ensures { IsTrue result ↔ MeansHelp word.now }
+{
+    word == "help" || word == "--help" || word == "-h"
+}

@@ -1,0 +1,176 @@
+//! A lease table: names that are held until a time. It stands over either kind of collection of keys that expire.
+
+ghost use Rattle.std.specs.Prelude.{◌≡◌, Option, Some, None};
+ghost use Rattle.std.specs.Ordering.{nat_cmp};
+ghost use Rattle.std.specs.declared.cmp.Ordering.{Ordering};
+ghost use Rattle.std.specs.declared.cmp.Ordering.TheVariants.{Greater};
+
+use i_tree::key::exp::KeyExpCollection;
+use i_tree::{ExpiredKey, Refusal};
+use std::cmp::Ordering;
+
+/// A name, and the last moment at which it is held. Leases stand by name, and those of one name by that moment.
+#[derive(Clone, Copy, Debug, PartialEq, Eq, PartialOrd, Ord)]
+pub struct Lease {
+    pub name: u32,
+    pub until: u64,
+}
+
+impl ExpiredKey<u64> for Lease {
+    ghost expiration = { λ lease. lease.until };
+
+    fn expiration(&self) -> u64 {
+        self.until
+    }
+}
+
+/// Until when the name is held, if it is held now. Of a lease that was renewed there are several: this is the last of them.
+pub fn held_until<C: KeyExpCollection<Lease, u64, Option<Lease>>>(
+    leases: &mut C,
+    name: u32,
+    now: u64,
+) -> Option<u64> {
+    let stands = |lease: Lease| -> Ordering
+        ensures { result ≡ nat_cmp lease.name name }
+    { lease.name.cmp(&name) };
+    match leases.first_less_or_equal_by(now, None, stands) {
+        Some(lease) if lease.name == name => Some(lease.until),
+        _ => None,
+    }
+}
+
+/// Takes the name until a time. False where it is held now.
+pub fn take<C: KeyExpCollection<Lease, u64, Option<Lease>>>(
+    leases: &mut C,
+    name: u32,
+    until: u64,
+    now: u64,
+) -> Result<bool, Refusal> {
+    if held_until(leases, name, now).is_some() {
+        return Ok(false);
+    }
+    hold(leases, Lease { name, until }, now)?;
+    Ok(true)
+}
+
+/// Holds the name until a later time. False where it is not held now.
+pub fn renew<C: KeyExpCollection<Lease, u64, Option<Lease>>>(
+    leases: &mut C,
+    name: u32,
+    until: u64,
+    now: u64,
+) -> Result<bool, Refusal> {
+    if held_until(leases, name, now).is_none() {
+        return Ok(false);
+    }
+    hold(leases, Lease { name, until }, now)?;
+    Ok(true)
+}
+
+// Stores the lease, unless the same one is there and live.
+fn hold<C: KeyExpCollection<Lease, u64, Option<Lease>>>(
+    leases: &mut C,
+    lease: Lease,
+    now: u64,
+) -> Result<(), Refusal> {
+    if !leases.contains_key(now, lease) {
+        leases.insert(lease, Some(lease), now)?;
+    }
+    Ok(())
+}
+
+/// How many names are held now, counted up to `most`: from one name to the next above it.
+pub fn count_held<C: KeyExpCollection<Lease, u64, Option<Lease>>>(
+    leases: &mut C,
+    most: usize,
+    now: u64,
+) -> usize {
+    let mut last = None;
+    for count in 0..most {
+        match next_lease(leases, last, now) {
+            Some(lease) => last = Some(lease.name),
+            None => return count,
+        }
+    }
+    most
+}
+
+// A lease of the first name above the last one that is held now, or of the first of all.
+fn next_lease<C: KeyExpCollection<Lease, u64, Option<Lease>>>(
+    leases: &mut C,
+    last: Option<u32>,
+    now: u64,
+) -> Option<Lease> {
+    match last {
+        Some(name) => leases.first_greater_by(now, None, |lease| lease.name.cmp(&name)),
+        None => leases.first_greater_by(now, None, |_| Ordering::Greater),
+    }
+}
+
+#[cfg(test)]
+mod tests {
+    use super::*;
+    use i_tree::key::list::KeyExpList;
+    use i_tree::key::tree::KeyExpTree;
+    use std::process::Abort;
+    use std::test::Fail;
+
+    // Name 7 is taken until 10, renewed at 4 until 20; name 3 is taken until 5.
+    fn takes_and_renews<C: KeyExpCollection<Lease, u64, Option<Lease>>>(
+        rt: &impl Abort,
+        leases: &mut C,
+    ) -> Result<(), Fail> {
+        assert!(rt; take(leases, 7, 10, 0)?);
+        assert!(rt; take(leases, 3, 5, 0)?);
+        assert!(rt; !take(leases, 7, 30, 4)?, "held");
+        assert!(rt; renew(leases, 7, 20, 4)?);
+        assert!(rt; !renew(leases, 5, 20, 4)?, "not held");
+        for (name, now, until) in [
+            (7, 4, Some(20)),
+            (3, 5, Some(5)),
+            (3, 6, None),
+            (5, 6, None),
+            (7, 20, Some(20)),
+            (7, 21, None),
+        ] {
+            assert!(rt; held_until(leases, name, now) == until, "{name} at {now}");
+        }
+        Ok(())
+    }
+
+    fn counts_names<C: KeyExpCollection<Lease, u64, Option<Lease>>>(
+        rt: &impl Abort,
+        leases: &mut C,
+    ) -> Result<(), Fail> {
+        for (name, until) in [(7, 10), (3, 5), (9, 10)] {
+            assert!(rt; take(leases, name, until, 0)?);
+        }
+        assert!(rt; renew(leases, 7, 20, 0)?);
+        for (now, held) in [(0, 3), (5, 3), (6, 2), (11, 1), (21, 0)] {
+            assert_eq!(rt; count_held(leases, 100, now), held, "at {now}");
+        }
+        Ok(())
+    }
+
+    #[test]
+    fn a_tree_and_a_list_hold_leases_alike(rt: HostRuntime) -> Result<(), Fail> {
+        takes_and_renews(&rt, &mut KeyExpTree::new(rt.alloc(), 0)?)?;
+        takes_and_renews(&rt, &mut KeyExpList::new(rt.alloc(), 0)?)
+    }
+
+    #[test]
+    fn a_renewed_name_is_counted_once(rt: HostRuntime) -> Result<(), Fail> {
+        counts_names(&rt, &mut KeyExpTree::new(rt.alloc(), 0)?)?;
+        counts_names(&rt, &mut KeyExpList::new(rt.alloc(), 0)?)
+    }
+
+    #[test]
+    fn counts_up_to_a_bound(rt: HostRuntime) -> Result<(), Fail> {
+        let mut leases = KeyExpTree::new(rt.alloc(), 0)?;
+        for name in [4, 8] {
+            assert!(rt; take(&mut leases, name, 9, 0)?);
+        }
+        assert_eq!(rt; count_held(&mut leases, 1, 0), 1);
+        Ok(())
+    }
+}

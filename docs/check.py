@@ -1,0 +1,189 @@
+#!/usr/bin/env python3
+"""Checks what the documents quote: programs, proof files, signatures and clauses stand in the sources as they say.
+
+usage: docs/check.py
+
+- A block of Rust or of antt in README.md or docs/CALLING.md is a part of a file of crates/uses, line for line, or has
+  signatures, each of which stands in the sources of its section.
+- In a table of calls of docs/CALLING.md, each word in brackets that is code is the name of a clause at one of the row's calls, of
+  a ghost member there, or of a field of a record that the row names.
+- In the tables of docs/DEFINITIONS.md, each name of a definition is one of specs/, in its module where it names one; and each
+  clause is some function's.
+- The pictures are what docs/pictures/draw.py draws.
+
+The last line is 'N passed, M failed'.
+"""
+
+import glob
+import os
+import re
+import subprocess
+import sys
+
+TOP = os.path.normpath(os.path.join(os.path.dirname(os.path.abspath(__file__)), ".."))
+
+# The sources of each section of docs/CALLING.md, by the beginning of its heading.
+SOURCES = {
+    "The root": ["i_tree/src/lib.rt"],
+    "`LayoutUInt`": ["i_tree/src/layout_number/*.rt"],
+    "`steps::": ["i_tree/src/steps.rt"],
+    "`key::exp::": ["i_tree/src/key/exp.rt"],
+    "`key::list::": ["i_tree/src/key/list.rt"],
+    "`key::tree::": ["i_tree/src/key/tree.rt"],
+    "`rb::": ["i_tree/src/rb/tree.rt", "i_tree/src/rb/removal.rt", "i_tree/src/rb/clearing.rt"],
+    "`set::sort::": ["i_tree/src/set/sort.rt"],
+    "`set::tree::": ["i_tree/src/set/tree.rt"],
+    "`set::list::": ["i_tree/src/set/list.rt"],
+    "`seg::exp::": ["i_tree/src/seg/exp.rt"],
+    "`seg::tree::": ["i_tree/src/seg/*.rt"],
+    "`itree_lib::run": ["itree_lib/src/run/*.rt"],
+    "`itree_lib::sweep": ["itree_lib/src/sweep/mod.rt"],
+    "`itree`": ["itree/src/program.rt"],
+}
+
+FUNCTION = re.compile(r"\bfn (\w+)")
+CLAUSE = re.compile(r"^\s*(?:ensures|requires)\*? (\w+) \{", re.M)
+CONSTANT = re.compile(r"^pub const (\w+):", re.M)
+GHOST = re.compile(r"^\s*ghost (\w+) =", re.M)
+DEFINITION = re.compile(r"^\s*(?:abbrev |unfoldable )?pub (?:abbrev |record |data )?([^\s:({]+)", re.M)
+CRATES = {os.path.basename(path) for path in glob.glob(os.path.join(TOP, "crates", "*"))}
+FIELD = re.compile(r"^\s*pub (\w+) :", re.M)
+
+
+def text_of(path):
+    with open(os.path.join(TOP, path), encoding="utf-8") as file:
+        return file.read()
+
+
+def files(pattern):
+    return [os.path.relpath(path, TOP) for path in sorted(glob.glob(os.path.join(TOP, pattern), recursive=True))]
+
+
+def sources_of(heading):
+    """The text of the sources of a section, or of none."""
+    for beginning, patterns in SOURCES.items():
+        if heading.startswith(beginning):
+            return "\n".join(text_of(path) for pattern in patterns for path in files(f"crates/{pattern}"))
+    return ""
+
+
+def squeezed(text):
+    """The text on one line, its comments and attributes left out, as a signature is compared."""
+    text = re.sub(r"^\s*(//.*|#\[.*\])$", "", text, flags=re.M)
+    text = re.sub(r"\s+", " ", text)
+    return re.sub(r"([({<]) | ([)}>])|,( ?[)}>])", lambda found: "".join(filter(None, found.groups())).strip(), text)
+
+
+def blocks(text):
+    """The sections of a text, each with its heading and its blocks of code."""
+    for section in re.split(r"^## ", text, flags=re.M):
+        yield section.partition("\n")[0], re.findall(r"^```(?:rust|antt)\n(.*?)^```$", section, re.M | re.S)
+
+
+def signatures(block):
+    """The items of a block, each as the sources have it."""
+    for item in re.split(r";\n|\{\n|\}\n", block + "\n"):
+        item = squeezed(item.replace("impl<", "\nimpl<")).strip()
+        if "fn " in item or item.startswith("pub "):
+            yield item
+
+
+def quoted_failures():
+    programs = [text_of(path) for path in files("crates/uses/**/*.rt") + files("crates/uses/**/*.antt")]
+    for document in "README.md", "docs/CALLING.md":
+        for heading, found in blocks(text_of(document)):
+            sources = squeezed(sources_of(heading))
+            for block in found:
+                if any(block in program for program in programs):
+                    yield None
+                    continue
+                for item in signatures(block):
+                    yield None if item in sources else f"{document}, {heading}: no source has {item!r}"
+
+
+def clauses_by_function(text):
+    """The names of the clauses of each function of a text, all functions of one name together."""
+    found = {}
+    starts = [(it.start(), it.group(1)) for it in FUNCTION.finditer(text)]
+    for (start, name), (end, _) in zip(starts, [*starts[1:], (len(text), None)]):
+        found.setdefault(name, set()).update(CLAUSE.findall(text[start:end]))
+    return found
+
+
+def fields_of_records():
+    """The names of the fields of each record of the specs."""
+    found = {}
+    for path in files("crates/*/specs/**/*.antt"):
+        for part in re.split(r"^\s*pub record ", text_of(path), flags=re.M)[1:]:
+            body = re.split(r"^\s*(?:--|abbrev|unfoldable)", part, flags=re.M)[0]
+            found.setdefault(re.match(r"\w+", part).group(), set()).update(FIELD.findall(body))
+    return found
+
+
+def clause_failures():
+    records = fields_of_records()
+    for section in re.split(r"^## ", text_of("docs/CALLING.md"), flags=re.M):
+        heading = section.partition("\n")[0]
+        sources = sources_of(heading)
+        known, ghosts = clauses_by_function(sources), set(GHOST.findall(sources))
+        for row in re.findall(r"^\| (`.*) \|$", section, re.M):
+            calls, _, said = row.partition(" | ")
+            names = [name.rpartition("::")[2] for name in re.findall(r"`([\w:]+)`", calls)]
+            clauses = ghosts.union(*(known.get(name, set()) for name in names))
+            clauses = clauses.union(*(records.get(name, set()) for name in re.findall(r"`(\w+)`", said)))
+            for brackets in re.findall(r"\(([^()]*)\)", said):
+                for name in re.findall(r"`([a-z_]+)`", brackets):
+                    ok = name in clauses or name in known or "of `" in brackets
+                    yield None if ok else f"docs/CALLING.md, {heading}: {calls} has no clause {name}"
+
+
+def definitions():
+    """The definitions of all specs: the names of each module, by its path with dots."""
+    found = {}
+    for path in files("crates/*/specs/**/*.antt"):
+        module = path.partition("/specs/")[2].removesuffix(".antt").replace("/", ".")
+        found.setdefault(module, set()).update(DEFINITION.findall(text_of(path)), FIELD.findall(text_of(path)))
+    return found
+
+
+def is_defined(name, modules):
+    module, _, last = name.rpartition(".")
+    if module:
+        return last in modules.get(module, ()) or any(it.endswith("." + module) and last in modules[it] for it in modules)
+    return any(last in names for names in modules.values())
+
+
+def definition_failures():
+    modules = definitions()
+    modules["constants"] = {name for path in files("crates/*/src/**/*.rt") for name in CONSTANT.findall(text_of(path))}
+    for row in re.findall(r"^\|[^|]+\|[^|]+\| ([^|]*) \|$", text_of("docs/DEFINITIONS.md"), re.M):
+        for name in re.findall(r"`([A-Za-z][\w.-]*)`", row):
+            yield None if is_defined(name, modules) else f"docs/DEFINITIONS.md: specs have no {name}"
+
+
+def promise_failures():
+    sources = "\n".join(text_of(path) for path in files("crates/*/src/**/*.rt"))
+    known = {*CLAUSE.findall(sources), *GHOST.findall(sources), *FUNCTION.findall(sources), *re.findall(r"\bghost (\w+):", sources)}
+    known.update(*fields_of_records().values())
+    promises = text_of("docs/DEFINITIONS.md").partition("## Promises")[2]
+    for row in re.findall(r"^\|[^|]+\| ([^|]*) \|$", promises, re.M):
+        for name in re.findall(r"`([a-z]\w*)`", row):
+            yield None if name in known or name in CRATES else f"docs/DEFINITIONS.md: no function has a clause {name}"
+
+
+def picture_failures():
+    ran = subprocess.run([sys.executable, os.path.join(TOP, "docs/pictures/draw.py"), "--check"], capture_output=True, text=True)
+    yield ran.stdout + ran.stderr if ran.returncode else None
+
+
+def main():
+    found = [*quoted_failures(), *clause_failures(), *definition_failures(), *promise_failures(), *picture_failures()]
+    failed = [failure for failure in found if failure]
+    for failure in failed:
+        print(f"FAILED {failure}")
+    print(f"{len(found) - len(failed)} passed, {len(failed)} failed")
+    return 1 if failed else 0
+
+
+if __name__ == "__main__":
+    sys.exit(main())

@@ -1,0 +1,276 @@
+#!/usr/bin/env python3
+"""Draws the pictures of the documents, each as a small SVG beside this script.
+
+usage: draw.py            writes them all
+       draw.py --check    compares each with what it would write, and ends with 'N passed, M failed'
+
+`sweep.svg` shows `sweep.lines`, with the answers that `sweep.replies` has: the process tests run the program over the one
+and compare what it prints with the other.
+"""
+
+import os
+import sys
+from html import escape
+
+HERE = os.path.dirname(os.path.abspath(__file__))
+
+INK, SOFT, PALE, PAPER = "#222222", "#777777", "#f2f4f7", "#ffffff"
+BLUE, RED, BLACK, GREEN = "#1f5fa8", "#c0392b", "#3a3a3a", "#2e7d4f"
+
+
+def text(x, y, words, size=13, anchor="middle", fill=INK, weight="normal"):
+    return (
+        f'<text x="{x}" y="{y}" font-size="{size}" text-anchor="{anchor}" fill="{fill}" font-weight="{weight}">'
+        f"{escape(words)}</text>"
+    )
+
+
+def box(x, y, width, height, fill=PALE, stroke=SOFT, dashed=False):
+    dash = ' stroke-dasharray="4 3"' if dashed else ""
+    return f'<rect x="{x}" y="{y}" width="{width}" height="{height}" rx="4" fill="{fill}" stroke="{stroke}"{dash}/>'
+
+
+def line(x0, y0, x1, y1, stroke=SOFT, width=1.5, dashed=False, arrow=False):
+    dash = ' stroke-dasharray="4 3"' if dashed else ""
+    head = ' marker-end="url(#head)"' if arrow else ""
+    return f'<line x1="{x0}" y1="{y0}" x2="{x1}" y2="{y1}" stroke="{stroke}" stroke-width="{width}"{dash}{head}/>'
+
+
+def dot(x, y, radius, fill, stroke=PAPER):
+    return f'<circle cx="{x}" cy="{y}" r="{radius}" fill="{fill}" stroke="{stroke}"/>'
+
+
+def picture(title, width, height, parts):
+    """The whole drawing, on paper of its own, so that it reads on a dark page too."""
+    head = (
+        '<marker id="head" viewBox="0 0 8 8" refX="7" refY="4" markerWidth="7" markerHeight="7" orient="auto">'
+        f'<path d="M0 0L8 4L0 8z" fill="{SOFT}"/></marker>'
+    )
+    lines = [
+        f'<svg xmlns="http://www.w3.org/2000/svg" width="{width}" height="{height}" viewBox="0 0 {width} {height}" '
+        'font-family="Helvetica, Arial, sans-serif">',
+        f"<title>{escape(title)}</title>",
+        f"<defs>{head}</defs>",
+        f'<rect width="{width}" height="{height}" fill="{PAPER}"/>',
+        *parts,
+        "</svg>",
+    ]
+    return "\n".join(lines) + "\n"
+
+
+# The crates and layers.
+
+
+def titled(x, y, width, height, name, said, fill=PALE):
+    return [
+        box(x, y, width, height, fill),
+        text(x + width / 2, y + 20, name, 14, weight="bold"),
+        text(x + width / 2, y + 37, said, 12, fill=SOFT),
+    ]
+
+
+def layers():
+    parts = [
+        *titled(20, 15, 330, 50, "itree", "the program: lines in, one reply each"),
+        *titled(370, 15, 330, 50, "uses", "small programs, as callers write them"),
+        *titled(20, 80, 680, 50, "itree_lib", "run: commands over a collection; sweep: what lies below each point"),
+        box(20, 145, 680, 170, PAPER),
+        text(30, 163, "i_tree", 14, "start", weight="bold"),
+        *titled(35, 172, 205, 60, "key", "keys that expire: KeyExp…", "#e8f0fa"),
+        *titled(257, 172, 205, 60, "set", "ordered sets: Set…", "#e8f0fa"),
+        *titled(480, 172, 205, 60, "seg", "segments that expire: SegExpTree", "#e8f0fa"),
+        text(137, 226, "list and tree", 12, fill=SOFT),
+        text(359, 226, "list and tree", 12, fill=SOFT),
+        text(582, 226, "a heap of buckets", 12, fill=SOFT),
+        *titled(35, 248, 427, 50, "rb", "the red-black core, which both kinds of tree stand on", "#e8f0fa"),
+        *titled(480, 248, 205, 50, "steps", "what a call counts by", "#e8f0fa"),
+        *titled(20, 330, 680, 45, "std", "nothing else", PAPER),
+    ]
+    return picture("The crates and their layers, each on the one below", 720, 390, parts)
+
+
+# A red-black tree.
+
+
+def node(x, y, name, colour, expired=False, faded=False):
+    fill = RED if colour == "r" else BLACK
+    parts = [dot(x, y, 16, fill)]
+    if expired:
+        parts.append(f'<circle cx="{x}" cy="{y}" r="20" fill="none" stroke="{SOFT}" stroke-dasharray="4 3"/>')
+    parts.append(text(x, y + 5, str(name), 14, fill=PAPER, weight="bold"))
+    return parts
+
+
+def edges(pairs):
+    return [line(*one, *other) for one, other in pairs]
+
+
+# Slots and the free chain.
+
+
+def slots():
+    """Keys 1 to 4 were inserted in this order, and 3 was removed: slot 5, which it had, is the first free one."""
+    said = ["reserved", "free", "free", "free", "4", "free", "2", "1"]
+    colours = {4: RED, 6: BLACK, 7: RED}
+    parts = [text(20, 24, "the tree", 13, "start", SOFT)]
+    places = {6: (360, 40), 7: (290, 95), 4: (430, 95)}
+    parts += edges([(places[6], places[7]), (places[6], places[4])])
+    for slot, key, colour in [(6, 2, "b"), (7, 1, "r"), (4, 4, "r")]:
+        x, y = places[slot]
+        parts += [*node(x, y, key, colour), text(x + 24, y + 4, f"slot {slot}", 12, "start", SOFT)]
+    parts.append(text(20, 160, "its slots", 13, "start", SOFT))
+    for slot in range(8):
+        x = 30 + 84 * slot
+        used = slot in colours
+        parts.append(box(x, 180, 76, 40, PAPER if not used else "#e8f0fa", SOFT, dashed=not used))
+        if used:
+            parts += [dot(x + 22, 200, 11, colours[slot]), text(x + 22, 205, said[slot], 13, fill=PAPER, weight="bold")]
+            parts.append(text(x + 53, 205, "used", 12, fill=SOFT))
+        else:
+            parts.append(text(x + 38, 205, said[slot], 12, fill=SOFT))
+        parts.append(text(x + 38, 236, f"slot {slot}", 12, fill=SOFT))
+    for start, end in [(5, 3), (3, 2), (2, 1)]:
+        x0, x1 = 30 + 84 * start + 38, 30 + 84 * end + 38
+        lift = 14 + 7 * (start - end)
+        parts.append(
+            f'<path d="M{x0 - 8} 242C{x0 - 14} {246 + lift} {x1 + 14} {246 + lift} {x1 + 8} 242" fill="none" '
+            f'stroke="{SOFT}" stroke-width="1.5" marker-end="url(#head)"/>'
+        )
+    parts.append(text(488, 262, "the first free slot", 12, "start", SOFT))
+    parts.append(text(30, 290, "A handle is a slot's number. A free slot holds the number of the next one; slot 0 is never used.", 13, "start"))
+    return picture("A tree of three keys in eight slots, and the chain of the free ones", 720, 305, parts)
+
+
+# A descent that removes.
+
+
+def frame(x, said, nodes, links, route):
+    parts = [box(x, 12, 218, 205, PAPER)]
+    parts += [line(*nodes[one][:2], *nodes[other][:2]) for one, other in links]
+    parts += [line(*nodes[one][:2], *nodes[other][:2], BLUE, 4) for one, other in route]
+    for key, (at_x, at_y, colour, expired) in nodes.items():
+        parts += node(at_x, at_y, key, colour, expired)
+    for row, words in enumerate(said):
+        parts.append(text(x + 10, 168 + 18 * row, words, 12, "start"))
+    return parts
+
+
+def descent():
+    """Keys 1 to 4, of which 3 is expired, are asked for the greatest below 9."""
+    first = {2: (129, 45, "r", False), 1: (84, 90, "b", False), 3: (174, 90, "b", True), 4: (205, 135, "r", False)}
+    second = {2: (360, 45, "b", False), 1: (315, 90, "r", False), 4: (405, 90, "r", False)}
+    third = {2: (591, 45, "b", False), 1: (546, 90, "r", False), 4: (636, 90, "r", False)}
+    parts = [
+        *frame(20, ["2 is live and below 9: go right.", "3 is expired."], first, [(2, 1), (3, 4)], [(2, 3)]),
+        *frame(251, ["3 is removed, and the tree mended.", "The right child of 2 is read again."], second, [(2, 1), (2, 4)], []),
+        *frame(482, ["4 is live and below 9: go right.", "Nothing is there: 4 is the answer."], third, [(2, 1)], [(2, 4)]),
+        text(360, 240, "2 comparisons, 1 removal, 3 tests whether a key is live; over four keys the bound is 4 comparisons.", 13),
+    ]
+    return picture("A search below 9 that removes the expired key 3 on its way", 720, 255, parts)
+
+
+# Buckets and canonical nodes.
+
+
+def covered(number):
+    """The buckets that a node of the heap covers."""
+    if number == 0:
+        return 0, 31
+    first, last = covered((number - 1) // 2)
+    middle = (first + last) // 2
+    return (first, middle) if number % 2 == 1 else (middle + 1, last)
+
+
+def canonical(first, last):
+    """The nodes all of whose buckets are of the interval, and not all of their parent's."""
+
+    def within(number):
+        low, high = covered(number)
+        return first <= low and high <= last
+
+    return [number for number in range(63) if within(number) and not (number and within((number - 1) // 2))]
+
+
+def buckets():
+    chosen = canonical(1, 30)
+    left, unit = 24, 21
+    parts = [text(left, 20, "a segment over the buckets 1 to 30", 13, "start", BLUE)]
+    parts.append(line(left + unit * 1 + 2, 32, left + unit * 31 - 2, 32, BLUE, 5))
+    for number in range(63):
+        first, last = covered(number)
+        level = (number + 1).bit_length() - 1
+        x, y = left + unit * first + 1, 46 + 28 * level
+        here = number in chosen
+        parts.append(box(x, y, unit * (last - first + 1) - 2, 22, BLUE if here else PALE, BLUE if here else SOFT))
+        parts.append(text(x + unit * (last - first + 1) / 2 - 1, y + 15, str(number), 11, fill=PAPER if here else SOFT))
+    for bucket in range(0, 32):
+        parts.append(text(left + unit * bucket + unit / 2, 230, str(bucket), 10, fill=SOFT))
+    parts.append(text(360, 250, f"32 buckets below 63 nodes. The {len(chosen)} nodes in blue together cover the buckets 1 to 30, and no other.", 13))
+    return picture("The canonical nodes of the buckets 1 to 30", 720, 265, parts)
+
+
+# A sweep, from lines that the program answers.
+
+
+def words_of(name):
+    with open(os.path.join(HERE, name), encoding="utf-8") as lines:
+        return [line.split() for line in lines.read().splitlines() if line.split()]
+
+
+def sweep():
+    said = words_of("sweep.lines")
+    segments = [tuple(map(int, words[1:])) for words in said if words[0] == "segment"]
+    points = [tuple(map(int, words[1:])) for words in said if words[0] == "point"]
+    replies = [" ".join(words) for words in words_of("sweep.replies")]
+    if len(points) != len(replies):
+        sys.exit("sweep.replies has another number of replies than sweep.lines has points")
+    left, unit, floor, step = 60, 54, 290, 26
+
+    def at(x, y):
+        return left + unit * x, floor - step * y
+
+    parts = [line(left, floor, left + unit * 11.5, floor, INK, 1), line(left, floor, left, 30, INK, 1)]
+    parts += [text(left + unit * x, floor + 18, str(x), 12, fill=SOFT) for x in range(0, 12)]
+    parts += [text(left - 12, floor - step * y + 4, str(y), 12, "end", SOFT) for y in range(0, 10)]
+    for x0, x1, y in segments:
+        (from_x, at_y), (to_x, _) = at(x0, y), at(x1, y)
+        parts.append(line(from_x, at_y, to_x, at_y, BLUE, 4))
+        parts += [dot(from_x, at_y, 4, BLUE), dot(to_x, at_y, 4, BLUE)]
+    for (x, y), reply in zip(points, replies):
+        at_x, at_y = at(x, y)
+        found = reply.startswith("below ")
+        below = at(x, int(reply.split()[1]))[1] if found else floor
+        parts.append(line(at_x, at_y, at_x, below, GREEN if found else SOFT, 1.5, dashed=True))
+        parts += [dot(at_x, at_y, 5, GREEN if found else SOFT), text(at_x + 9, at_y - 5, reply, 12, "start", GREEN if found else SOFT)]
+    return picture("Three segments, and what lies straight below each of six points", 720, 320, parts)
+
+
+PICTURES = {"layers": layers, "slots": slots, "descent": descent, "buckets": buckets, "sweep": sweep}
+
+
+def kept(path):
+    try:
+        with open(path, encoding="utf-8") as held:
+            return held.read()
+    except FileNotFoundError:
+        return None
+
+
+def main():
+    failed = 0
+    for name, draw in PICTURES.items():
+        path = os.path.join(HERE, f"{name}.svg")
+        if sys.argv[1:] == ["--check"]:
+            if kept(path) != draw():
+                print(f"FAILED {name}.svg is not what draw.py draws")
+                failed += 1
+        else:
+            with open(path, "w", encoding="utf-8") as held:
+                held.write(draw())
+    if sys.argv[1:] == ["--check"]:
+        print(f"{len(PICTURES) - failed} passed, {failed} failed")
+    return 1 if failed else 0
+
+
+if __name__ == "__main__":
+    sys.exit(main())
