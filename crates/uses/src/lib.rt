@@ -1,5 +1,5 @@
-//! Complete small programs over `i_tree`, as its users write them: each is proved and tested. A loop in `tickets` has an
-//! invariant in a proof file, and `kept_booking` a proof file for what it promises; the others need none.
+//! Complete small programs over `i_tree`, as its users write them: each is proved and tested. A loop in `tickets` and one in
+//! `own_descent` have an invariant in a proof file, and `kept_booking` has one for what it promises; the others need none.
 #![tactic(auto)]
 
 pub mod crossing_candidates;
@@ -7,6 +7,7 @@ pub mod kept_booking;
 pub mod kept_handles;
 pub mod leases;
 pub mod level_below;
+pub mod own_descent;
 pub mod own_error;
 pub mod seen_below;
 pub mod sweep_events;

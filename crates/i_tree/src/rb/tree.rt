@@ -4,7 +4,7 @@ ghost use Rattle.i_tree.specs.Core.Context.{beside, part_on};
 ghost use Rattle.i_tree.specs.Core.RbTree.{slots, slots_with_room};
 ghost use Rattle.i_tree.specs.Core.RbTreeLends.{lends_item};
 ghost use Rattle.i_tree.specs.Core.Balance.{IsCore};
-ghost use Rattle.i_tree.specs.Core.Shape.{Shape, leaf, fork, top, entries, occurs, IsLive, part_at, left_at, right_at, last_handle};
+ghost use Rattle.i_tree.specs.Core.Shape.{Shape, leaf, fork, top, entries, occurs, IsLive, part_at, left_at, right_at, last_handle, rank};
 ghost use Rattle.i_tree.specs.Root.Steps.{OnlyRotates};
 
 use super::arena::Arena;
@@ -111,11 +111,13 @@ impl<T, A: Allocator + Copy> RbTree<T, A> {
         self.arena.root()
     }
 
-    /// The root of the part on the left below the handle, or `EMPTY_REF` where that part is empty.
+    /// The root of the part on the left below the handle, or `EMPTY_REF` where that part is empty. The rank of the part falls,
+    /// which bounds a descent.
     pub fn left(&self, handle: u32) -> u32
         requires { IsLive self.now.shape handle }
         ensures value { result ≡ top (left_at handle self.now.shape) }
         ensures part { part_at result self.now.shape ≡ left_at handle self.now.shape }
+        ensures lower { rank (part_at result self.now.shape) < rank (part_at handle self.now.shape) }
         ensures live { result ≢ EMPTY_REF → IsLive self.now.shape result }
         ensures empty { result ≡ EMPTY_REF → left_at handle self.now.shape ≡ leaf }
         ensures core { IsCore self.now.shape }
@@ -123,11 +125,13 @@ impl<T, A: Allocator + Copy> RbTree<T, A> {
         self.arena.child(handle, Side::Left)
     }
 
-    /// The root of the part on the right below the handle, or `EMPTY_REF` where that part is empty.
+    /// The root of the part on the right below the handle, or `EMPTY_REF` where that part is empty. The rank of the part falls,
+    /// as on the left.
     pub fn right(&self, handle: u32) -> u32
         requires { IsLive self.now.shape handle }
         ensures value { result ≡ top (right_at handle self.now.shape) }
         ensures part { part_at result self.now.shape ≡ right_at handle self.now.shape }
+        ensures lower { rank (part_at result self.now.shape) < rank (part_at handle self.now.shape) }
         ensures live { result ≢ EMPTY_REF → IsLive self.now.shape result }
         ensures empty { result ≡ EMPTY_REF → right_at handle self.now.shape ≡ leaf }
         ensures core { IsCore self.now.shape }
