@@ -1,4 +1,4 @@
-//! For tests alone: an allocator that counts the requests for memory made of it, and refuses some of them.
+//! For tests alone: an allocator that counts the requests for memory made of it and their bytes, and refuses some of them.
 #![tactic(auto)]
 
 ghost use Rattle.std.specs.Prelude.{◌≡◌, ℕ, ◌↔◌, IsTrue};
@@ -40,6 +40,8 @@ impl Refused {
 pub struct Refusing<A: Allocator> {
     inner: A,
     requests: Cell<u64>,
+    asked: Cell<usize>,
+    held: Cell<usize>,
     refused: Cell<Refused>,
 }
 
@@ -49,6 +51,8 @@ impl<A: Allocator> Refusing<A> {
         Refusing {
             inner,
             requests: Cell::new(0),
+            asked: Cell::new(0),
+            held: Cell::new(0),
             refused: Cell::new(Refused::Nothing),
         }
     }
@@ -73,16 +77,37 @@ impl<A: Allocator> Refusing<A> {
         self.requests.get()
     }
 
+    /// How many bytes were asked for, by refused requests too, since it was made or last told what to refuse.
+    pub fn bytes_asked(&self) -> usize {
+        self.asked.get()
+    }
+
+    /// How many bytes are held: those of all requests that were passed on, without those of the blocks that were freed.
+    pub fn bytes_held(&self) -> usize {
+        self.held.get()
+    }
+
     fn restart(&self, refused: Refused) {
         self.requests.set(0);
+        self.asked.set(0);
         self.refused.set(refused);
     }
 
-    /// Counts one more request, and answers whether it is refused.
-    fn refuses_next(&self) -> bool {
+    /// Counts one more request of this size, and answers whether it is refused.
+    fn refuses_next(&self, size: usize) -> bool {
         let number = self.requests.get().saturating_add(1);
         self.requests.set(number);
-        self.refused.get().includes(number)
+        self.asked.set(self.asked.get().saturating_add(size));
+        if self.refused.get().includes(number) {
+            return true;
+        }
+        self.held.set(self.held.get().saturating_add(size));
+        false
+    }
+
+    /// Counts that a block of this size is freed.
+    fn count_freed(&self, size: usize) {
+        self.held.set(self.held.get().saturating_sub(size));
     }
 }
 
@@ -91,13 +116,14 @@ unsafe impl<A: Allocator> Allocator for Refusing<A> {
     ghost dealloc_token = { λ memory. A.dealloc_token memory.inner };
 
     fn allocate(&self, size: usize, align: usize) -> Result<*mut u8, AllocError> {
-        if self.refuses_next() {
+        if self.refuses_next(size) {
             return Err(AllocError);
         }
         self.inner.allocate(size, align)
     }
 
     unsafe fn deallocate(&self, ptr: *mut u8, size: usize, align: usize) {
+        self.count_freed(size);
         self.inner.deallocate(ptr, size, align);
     }
 }
@@ -140,6 +166,44 @@ mod tests {
         let items: Vec<u8, &Refusing<Global>> = Vec::with_capacity(&memory, 10)?;
         assert!(rt; items.capacity() >= 10);
         assert_eq!(rt; memory.requests(), 1);
+        Ok(())
+    }
+
+    #[test]
+    fn counts_the_bytes_that_are_asked_for_and_those_that_are_held(
+        rt: HostRuntime,
+    ) -> Result<(), Fail> {
+        let memory = Refusing::new(rt.alloc());
+        assert_eq!(rt; (memory.bytes_asked(), memory.bytes_held()), (0, 0));
+        // A number has eight bytes.
+        let numbers: Vec<u64, &Refusing<Global>> = Vec::with_capacity(&memory, 10)?;
+        let bytes = numbers.capacity().saturating_mul(8);
+        assert!(rt; bytes >= 80);
+        assert_eq!(rt; (memory.bytes_asked(), memory.bytes_held()), (bytes, bytes));
+        let boxed = Box::new(&memory, 7u64)?;
+        let both = bytes.saturating_add(8);
+        assert_eq!(rt; (memory.bytes_asked(), memory.bytes_held()), (both, both));
+        drop(numbers);
+        assert_eq!(rt; (memory.bytes_asked(), memory.bytes_held()), (both, 8));
+        memory.refuse_all();
+        assert_eq!(rt; (memory.bytes_asked(), memory.bytes_held()), (0, 8));
+        assert!(rt; Box::new(&memory, 8u64).is_err());
+        assert_eq!(rt; (memory.bytes_asked(), memory.bytes_held()), (8, 8));
+        drop(boxed);
+        assert_eq!(rt; (memory.bytes_asked(), memory.bytes_held()), (8, 0));
+        Ok(())
+    }
+
+    #[test]
+    fn holds_the_last_block_of_a_vec_that_grew(rt: HostRuntime) -> Result<(), Fail> {
+        let memory = Refusing::new(rt.alloc());
+        let mut numbers = Vec::new(&memory);
+        for number in 0..1000u64 {
+            numbers.push(number)?;
+        }
+        assert_eq!(rt; memory.bytes_held(), numbers.capacity().saturating_mul(8));
+        assert!(rt; memory.bytes_asked() > memory.bytes_held());
+        assert!(rt; memory.requests() > 1);
         Ok(())
     }
 

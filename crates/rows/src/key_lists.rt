@@ -73,6 +73,12 @@ fn takes_the_ends_of_the_type(rt: HostRuntime) -> Result<(), Fail> {
 }
 
 #[test]
+fn is_live_to_the_end_of_the_type(rt: HostRuntime) -> Result<(), Fail> {
+    let mut list: KeyList<Global> = KeyExpList::new(rt.alloc(), 0)?;
+    keys::is_live_to_the_end_of_the_type(&rt, &mut list)
+}
+
+#[test]
 fn agrees_with_a_plain_vector(rt: HostRuntime) -> Result<(), Fail> {
     let mut list: KeyList<Global> = KeyExpList::new(rt.alloc(), 0)?;
     key_histories::agrees_with_a_plain_vector(&rt, &mut list, rt.alloc())

@@ -178,3 +178,15 @@ pub fn takes_the_ends_of_the_type<C: KeyStore>(rt: &impl Abort, keys: &mut C) ->
     assert_eq!(rt; keys.first_less(i32::MAX, -1, key(4)), 3);
     Ok(())
 }
+
+/// Inserts a key that stays live to the end of time, and no other.
+pub fn is_live_to_the_end_of_the_type<C: KeyStore>(
+    rt: &impl Abort,
+    keys: &mut C,
+) -> Result<(), Fail> {
+    insert(rt, keys, expiring(1, i32::MAX), 0)?;
+    assert_eq!(rt; keys.first_less(i32::MAX - 1, -1, key(2)), 1);
+    assert_eq!(rt; keys.first_less(i32::MAX, -1, key(2)), 1);
+    assert_eq!(rt; keys.count(), 1);
+    Ok(())
+}

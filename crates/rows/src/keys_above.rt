@@ -2,6 +2,7 @@
 
 ghost use Rattle.std.specs.Prelude.{◌≡◌};
 
+use crate::counted_key::{CountedKey, Tally};
 use crate::keys::{KeyStore, insert, insert_all, insert_four, insert_rising};
 use crate::timed_key::{TimedKey, expiring, key};
 use i_tree::Refusal;
@@ -89,19 +90,6 @@ fn four_of_a_row(rt: &impl Abort, tree: &mut KeyTree) -> Result<(), Refusal> {
     insert_all(rt, tree, &[key(1), key(2), expiring(3, 1), key(4)])
 }
 
-// Asks at 2 by the counted call, which is to make two comparisons each time, and one removal in all.
-fn above_one_and_nine<L: Ledger>(blank: Blank, tree: &mut KeyTree) -> (i32, usize, i32, usize)
-    requires name { blank.name ≡ L.name }
-    requires parts { blank.parts ≡ L.parts }
-    requires four { blank.parts ≡ 4 }
-{
-    let mut steps = Steps::<L>::new(blank);
-    let first = tree.first_greater_by_counted(&mut steps, 2, -1, |timed| timed.key.cmp(&1));
-    let stored = tree.stored();
-    let second = tree.first_greater_by_counted(&mut steps, 2, -1, |timed| timed.key.cmp(&9));
-    (first, stored, second, tree.stored())
-}
-
 #[test]
 fn goes_down_the_way_of_the_other_searches(rt: HostRuntime) -> Result<(), Fail> {
     let mut tree: KeyTree = KeyExpTree::new(rt.alloc(), 0)?;
@@ -110,11 +98,71 @@ fn goes_down_the_way_of_the_other_searches(rt: HostRuntime) -> Result<(), Fail> 
     assert_eq!(rt; tree.stored(), 4);
     assert_eq!(rt; above(&mut tree, 2, 9), (-1, 2));
     assert_eq!(rt; tree.stored(), 3);
-    let mut tree: KeyTree = KeyExpTree::new(rt.alloc(), 0)?;
-    four_of_a_row(&rt, &mut tree)?;
+    Ok(())
+}
+
+type CountedTree<'a> = KeyExpTree<CountedKey<'a>, i32, i32, Global>;
+
+// The same four keys, which count.
+fn insert_counted_keys<'a>(
+    rt: &impl Abort,
+    tree: &mut CountedTree<'a>,
+    tally: &'a Tally,
+) -> Result<(), Refusal> {
+    for (number, expiration) in [(1, 10), (2, 10), (3, 1), (4, 10)] {
+        let key = CountedKey {
+            number,
+            expiration,
+            tally,
+        };
+        assert!(rt; !tree.contains_key(0, key));
+        tree.insert(key, number, 0)?;
+    }
+    Ok(())
+}
+
+// An answer, how often the closure was called and how often an expiration was asked for, and how many pairs were left.
+type Asked = (i32, u64, u64, usize);
+
+// Asks at 2 by the counted call.
+fn above_counted<'a, L: Ledger>(
+    steps: &mut Steps<L>,
+    tree: &mut CountedTree<'a>,
+    tally: &'a Tally,
+    sought: i32,
+) -> Asked {
+    let calls = Cell::new(0u64);
+    tally.take();
+    let answer = tree.first_greater_by_counted(steps, 2, -1, |counted| {
+        calls.set(calls.get().saturating_add(1));
+        counted.number.cmp(&sought)
+    });
+    (answer, calls.get(), tally.take().1, tree.stored())
+}
+
+fn above_one_and_nine<'a, L: Ledger>(
+    blank: Blank,
+    tree: &mut CountedTree<'a>,
+    tally: &'a Tally,
+) -> [Asked; 2]
+    requires name { blank.name ≡ L.name }
+    requires parts { blank.parts ≡ L.parts }
+    requires four { blank.parts ≡ 4 }
+{
+    let mut steps = Steps::<L>::new(blank);
+    let first = above_counted(&mut steps, tree, tally, 1);
+    [first, above_counted(&mut steps, tree, tally, 9)]
+}
+
+#[test]
+fn compares_tests_and_removes_on_its_way_alone(rt: HostRuntime) -> Result<(), Fail> {
+    let tally = Tally::new();
+    let mut tree: CountedTree = KeyExpTree::new(rt.alloc(), 0)?;
+    insert_counted_keys(&rt, &mut tree, &tally)?;
+    // First two comparisons and no removal, so two tests; then two comparisons and one removal, so three.
     assert_eq!(rt;
-        above_one_and_nine::<Brand>(Blank::new(4), &mut tree),
-        (2, 4, -1, 3)
+        above_one_and_nine::<Brand>(Blank::new(4), &mut tree, &tally),
+        [(2, 2, 2, 4), (-1, 2, 3, 3)]
     );
     Ok(())
 }

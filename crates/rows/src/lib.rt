@@ -7,6 +7,7 @@ mod alike_runs;
 mod clears;
 #[cfg(test)]
 mod cores;
+pub mod counted_key;
 #[cfg(test)]
 mod counted_runs;
 #[cfg(test)]
@@ -33,6 +34,8 @@ mod key_ways;
 mod keys;
 #[cfg(test)]
 mod keys_above;
+#[cfg(test)]
+mod list_searches;
 #[cfg(test)]
 mod live_closures;
 #[cfg(test)]

@@ -2,10 +2,12 @@
 
 use crate::short_number::Short;
 use crate::trees::{Tree, assert_places, insert, tree_over};
-use crate::until::number;
+use crate::until::{Until, number};
 use i_tree::seg::exp::SegRange;
 use i_tree::{LayoutNumber, LayoutUInt};
+use refusing::Refusing;
 use std::alloc::Global;
+use std::process::Abort;
 use std::test::Fail;
 
 // Whether the range has a layout.
@@ -46,6 +48,38 @@ fn a_number_type_of_ones_own_sets_its_least_span(rt: HostRuntime) -> Result<(), 
     insert(&rt, &mut pairs, Short::new(40), Short::new(40), number(7))?;
     assert_places(&rt, rt.alloc(), &pairs, &[51])?;
     Ok(())
+}
+
+// Asserts that a tree over short numbers from 0 to `end` takes one block, of so many chunks, and keeps a value at its last
+// bucket alone at this leaf, whose chunk is the last one.
+fn assert_chunks(
+    rt: &impl Abort,
+    alloc: Global,
+    end: u16,
+    leaf: u32,
+    count: usize,
+) -> Result<(), Fail> {
+    let memory = Refusing::new(alloc);
+    let chunks: Vec<Vec<(u64, Until), &Refusing<Global>>, &Refusing<Global>> = Vec::with_capacity(
+        &memory, count,
+    )?;
+    assert_eq!(rt; chunks.capacity(), count);
+    let bytes = memory.bytes_held();
+    drop(chunks);
+    memory.refuse_none();
+    let mut tree = tree_over(&memory, Short::new(0), Short::new(end))?;
+    assert_eq!(rt; memory.requests(), 1);
+    assert_eq!(rt; memory.bytes_held(), bytes, "for {count} chunks");
+    insert(rt, &mut tree, Short::new(end), Short::new(end), number(7))?;
+    assert_places(rt, alloc, &tree, &[leaf])
+}
+
+#[test]
+fn has_a_chunk_for_each_node_up_to_the_leaf_of_the_last_bucket(
+    rt: HostRuntime,
+) -> Result<(), Fail> {
+    assert_chunks(&rt, rt.alloc(), 16, 47, 48)?;
+    assert_chunks(&rt, rt.alloc(), 40, 51, 52)
 }
 
 #[test]

@@ -96,3 +96,26 @@ pub fn found<R: LayoutNumber, A: Allocator + Copy>(
     numbers.sort_unstable();
     Ok(numbers)
 }
+
+/// The numbers that a walk to its end yields, in rising order, of a range that the tree accepts, at a time that isn't before
+/// the latest.
+pub fn walked<R: LayoutNumber, A: Allocator + Copy>(
+    rt: &impl Abort,
+    alloc: Global,
+    tree: &mut Tree<R, A>,
+    min: R,
+    max: R,
+    time: i32,
+) -> Result<Vec<i32>, Fail> {
+    let range = SegRange { min, max };
+    assert!(rt; tree.accepts(range));
+    if let Some(latest) = tree.latest_time() {
+        assert!(rt; latest <= time);
+    }
+    let mut numbers = Vec::new(alloc);
+    for value in tree.iter_by_range(range, time) {
+        numbers.push(value.number)?;
+    }
+    numbers.sort_unstable();
+    Ok(numbers)
+}

@@ -1,6 +1,6 @@
 //! Walks over segments: what a query finds, and what it leaves.
 
-use crate::trees::{Tree, collect, found, insert, tree_over};
+use crate::trees::{Tree, collect, found, insert, tree_over, walked};
 use crate::until::{Ticking, Until, number};
 use i_tree::seg::exp::{SegExpCollection, SegRange};
 use i_tree::seg::tree::SegExpTree;
@@ -102,13 +102,19 @@ fn finds_a_value_up_to_its_expiration(rt: HostRuntime) -> Result<(), Fail> {
 }
 
 #[test]
-fn leaves_all_that_is_live_where_a_walk_is_dropped(rt: HostRuntime) -> Result<(), Fail> {
+fn yields_each_value_of_a_walk_though_one_before_was_dropped(rt: HostRuntime) -> Result<(), Fail> {
     let mut tree = two_values(&rt, rt.alloc())?;
     let range = SegRange { min: 15, max: 90 };
     assert!(rt; tree.accepts(range));
     assert_eq!(rt; tree.latest_time(), None);
     let first = tree.iter_by_range(range, 0).next();
-    assert!(rt; first.is_some());
+    assert!(rt; first == Some(number(1)) || first == Some(number(2)));
+    for _ in 0..2 {
+        assert_eq!(rt;
+            walked(&rt, rt.alloc(), &mut tree, 15, 90, 0)?.as_slice(),
+            [1, 2].as_slice()
+        );
+    }
     assert_eq!(rt;
         found(&rt, rt.alloc(), &mut tree, 15, 90, 0)?.as_slice(),
         [1, 2].as_slice()
@@ -116,30 +122,56 @@ fn leaves_all_that_is_live_where_a_walk_is_dropped(rt: HostRuntime) -> Result<()
     Ok(())
 }
 
-#[test]
-fn sets_the_latest_time_before_any_step(rt: HostRuntime) -> Result<(), Fail> {
-    let mut tree = tree_over(rt.alloc(), 0, 31)?;
+// The values 1, 2 and 3 over 0 to 31, which are live up to the times 0, 1 and 2.
+fn three_lives(rt: &impl Abort, alloc: Global) -> Result<Tree<i32, Global>, Fail> {
+    let mut tree = tree_over(alloc, 0, 31)?;
     for value in [1, 2, 3] {
         let until = Until {
             number: value,
             expiration: value - 1,
         };
-        insert(&rt, &mut tree, 0, 31, until)?;
+        insert(rt, &mut tree, 0, 31, until)?;
     }
+    Ok(tree)
+}
+
+// Begins a walk over 0 to 31 at time 1, and drops it before any step.
+fn drop_a_walk_at_one(rt: &impl Abort, tree: &mut Tree<i32, Global>) {
     let range = SegRange { min: 0, max: 31 };
     assert!(rt; tree.accepts(range));
     assert_eq!(rt; tree.latest_time(), None);
     drop(tree.iter_by_range(range, 1));
-    assert_eq!(rt; tree.latest_time(), Some(1));
+}
+
+#[test]
+fn takes_no_value_before_a_step(rt: HostRuntime) -> Result<(), Fail> {
+    let mut tree = three_lives(&rt, rt.alloc())?;
+    drop_a_walk_at_one(&rt, &mut tree);
     assert_eq!(rt; tree.chunk(0).len(), 3);
+    assert_eq!(rt;
+        walked(&rt, rt.alloc(), &mut tree, 0, 31, 1)?.as_slice(),
+        [2, 3].as_slice()
+    );
+    assert_eq!(rt;
+        walked(&rt, rt.alloc(), &mut tree, 0, 31, 2)?.as_slice(),
+        [3].as_slice()
+    );
+    Ok(())
+}
+
+#[test]
+fn sets_the_latest_time_before_a_step_and_forgets_it_at_a_clear(
+    rt: HostRuntime,
+) -> Result<(), Fail> {
+    let mut tree = three_lives(&rt, rt.alloc())?;
+    assert_eq!(rt; tree.latest_time(), None);
+    drop_a_walk_at_one(&rt, &mut tree);
+    assert_eq!(rt; tree.latest_time(), Some(1));
     assert_eq!(rt;
         found(&rt, rt.alloc(), &mut tree, 0, 31, 1)?.as_slice(),
         [2, 3].as_slice()
     );
-    assert_eq!(rt;
-        found(&rt, rt.alloc(), &mut tree, 0, 31, 2)?.as_slice(),
-        [3].as_slice()
-    );
+    assert_eq!(rt; tree.latest_time(), Some(1));
     tree.clear();
     assert_eq!(rt; tree.latest_time(), None);
     Ok(())
@@ -158,11 +190,14 @@ fn appends_what_it_collects(rt: HostRuntime) -> Result<(), Fail> {
     Ok(())
 }
 
-#[test]
-fn asks_each_copy_that_it_reads_once(rt: HostRuntime) -> Result<(), Fail> {
-    let ticks = Cell::new(0);
-    let range = SegRange { min: 0, max: 31 };
-    let Some(mut tree) = SegExpTree::new(rt.alloc(), range)? else {
+// Ten values at 5 and one at 1 to 30, over 0 to 31, that count how often an expiration is asked for.
+fn ticking_tree<'a>(
+    rt: &impl Abort,
+    alloc: Global,
+    ticks: &'a Cell<u64>,
+) -> Result<SegExpTree<i32, i32, Ticking<'a>, Global>, Fail> {
+    let whole = SegRange { min: 0, max: 31 };
+    let Some(mut tree) = SegExpTree::new(alloc, whole)? else {
         return Err(Fail::from("the range has no layout"));
     };
     for place in 0..11 {
@@ -173,21 +208,86 @@ fn asks_each_copy_that_it_reads_once(rt: HostRuntime) -> Result<(), Fail> {
         };
         let value = Ticking {
             number: place,
-            ticks: &ticks,
+            ticks,
         };
         assert!(rt; tree.accepts(range));
         tree.insert_by_range(range, value)?;
     }
+    Ok(tree)
+}
+
+// How many values a query at 0 collects, and how often an expiration is asked for meanwhile.
+fn collected<'a>(
+    rt: &impl Abort,
+    alloc: Global,
+    tree: &mut SegExpTree<i32, i32, Ticking<'a>, Global>,
+    range: SegRange<i32>,
+    ticks: &Cell<u64>,
+) -> Result<(usize, u64), Fail> {
+    assert!(rt; tree.accepts(range));
+    assert!(rt; tree.is_in_time(0));
+    let mut out = Vec::new(alloc);
+    ticks.set(0);
+    tree.collect_by_range(range, 0, &mut out)?;
+    Ok((out.len(), ticks.get()))
+}
+
+// The same of a walk to its end.
+fn counted_walk<'a>(
+    rt: &impl Abort,
+    tree: &mut SegExpTree<i32, i32, Ticking<'a>, Global>,
+    range: SegRange<i32>,
+    ticks: &Cell<u64>,
+) -> (usize, u64) {
+    assert!(rt; tree.accepts(range));
+    assert!(rt; tree.is_in_time(0));
+    ticks.set(0);
+    let mut count = 0usize;
+    for _ in tree.iter_by_range(range, 0) {
+        count = count.saturating_add(1);
+    }
+    (count, ticks.get())
+}
+
+#[test]
+fn asks_each_copy_that_it_reads_once(rt: HostRuntime) -> Result<(), Fail> {
+    let ticks = Cell::new(0);
+    let mut tree = ticking_tree(&rt, rt.alloc(), &ticks)?;
+    // A query reads the copies at the nodes that it meets. The value at 1 to 30 has eight: among them one at the node over
+    // 4 to 7, one at that over 8 to 15 and one at that over 16 to 23. Those at 5 have one each, at its leaf.
+    for (min, max, values, copies) in [
+        (20, 20, 1, 1),
+        (5, 5, 11, 11),
+        (4, 8, 11, 12),
+        (0, 31, 11, 18),
+        (0, 0, 0, 0),
+    ] {
+        let range = SegRange { min, max };
+        assert_eq!(rt;
+            collected(&rt, rt.alloc(), &mut tree, range, &ticks)?,
+            (values, copies),
+            "{min} to {max}"
+        );
+        assert_eq!(rt;
+            counted_walk(&rt, &mut tree, range, &ticks),
+            (values, copies),
+            "a walk over {min} to {max}"
+        );
+    }
+    Ok(())
+}
+
+#[test]
+fn finds_one_value_of_ten_others_at_another_place(rt: HostRuntime) -> Result<(), Fail> {
+    let ticks = Cell::new(0);
+    let mut tree = ticking_tree(&rt, rt.alloc(), &ticks)?;
     let asked = SegRange { min: 20, max: 20 };
     assert!(rt; tree.accepts(asked));
-    assert_eq!(rt; tree.latest_time(), None);
+    assert!(rt; tree.is_in_time(0));
     let mut out = Vec::new(rt.alloc());
-    ticks.set(0);
     tree.collect_by_range(asked, 0, &mut out)?;
     assert_eq!(rt; out.len(), 1);
     assert_eq!(rt; out[0].number, 0);
-    assert!(rt; ticks.get() >= 1);
-    assert!(rt; ticks.get() <= 8);
     Ok(())
 }
 

@@ -1,6 +1,6 @@
 -- `allocate` calls `refuses_next`, and then either ends with `Err` or calls `inner`. Both methods go through a `&self`, of
 -- which the walk makes a second one first: one is for `refuses_next`, and the other narrows to a `&` to `inner`.
-use Rattle.std.proofs.Common.{◌≡◌, Bool, true, false, List, [], ◌∷◌, Ok, Err, refl, ap, w64}
+use Rattle.std.proofs.Common.{◌≡◌, ◌^◌, Bool, true, false, List, [], ◌∷◌, Ok, Err, refl, ap, w64}
 use mir.Syntax.{Fn}
 use mir.MapTy.{inst_fn}
 use mir.Val.{Val, vint}
@@ -10,7 +10,7 @@ use prog.Memory.{size, align, capped}
 use contract.BorrowLft.{◌⊑◌, ⊑_trans}
 use contract.Monad.{fact, fact_i}
 use contract.Running.{tables}
-use types.Kit.{‵, raw, ◌⊛◌, some, later, prop, at_ret, Sq, ◌$◌, ◌∵◌, !, qed, move, keep, drop, use0, use1, use2, split, join, pick, fsplit, fjoin, feq_i, feq_l, suffices, group, await, done}
+use types.Kit.{‵, raw, ◌⊛◌, some, later, prop, at_ret, Sq, ◌$◌, ◌∵◌, !, qed, move, keep, drop, use0, use1, use2, split, join, pick, fsplit, fjoin, feq_i, feq_l, flt_i, suffices, group, await, done}
 use types.Part.{agg}
 use types.Run.{stop, fld, addr, lit, no_more, and_then, first, branches, skips, exec, returns, returns_within, enter}
 use types.ByLocal.{alloc_all, pass_all, free_all, look_at, get, through, sets, lands_as, env}
@@ -66,14 +66,15 @@ allocate_spec 𝓤 𝓛 𝓜 𝓡 wired Y L g d dd takes drops =
     use1 𝓛 (‵ (seen Z κ p h.inner)) (inner_seen Z 𝓛 κ h b o) $
     -- [a `&` to `inner`; a `&` to the whole; the tokens]
     enter ! _ _ _ _ _ $ alloc_all ! (λ l. pass_all ! refl ((tt, tt), ((tt, record { fits = are.1.0.1 }), ((tt, record { fits = are.1.1.0.1 }), tt))) $
-    -- the call of `refuses_next`: its `requires` is the bound on the lifetime, and it is lent the whole
+    -- the call of `refuses_next`: its `requires` is the bound on the lifetime, it is lent the whole, and it has the size
     let G = triple_of 𝓛 (next.signature Y) (next.spec Y g d dd 𝓛 𝓜.mem 𝓡.returns) in
-    let z : G.Ghost = ((κs, qs, bounds, (a.0, tt), (shr_vals a.0, tt)), tt) in
+    let z : G.Ghost = ((κs, qs, bounds, (a.0, (a.1.0, tt)), (shr_vals a.0, (vint w64 a.1.0 ∷ [], tt))), tt) in
     nothing ! $ use0 𝓛 (raw (fact 𝓤 (κs.1.0 ⊑ Y.lives))) (fact_i 𝓤 _ (emp 𝓤) long) $ join ! $
-    nothing ! $ move ! (3 ∷ []) $ feq_i ! (List Val) (shr_vals a.0) (shr_vals a.0) refl $ fjoin ! $ fjoin ! $
+    nothing ! $ flt_i ! a.1.0 (2 ^ 64) are.1.0.1 $ feq_i ! (List Val) (vint w64 a.1.0 ∷ []) (vint w64 a.1.0 ∷ []) refl $ fjoin ! $ fjoin ! $
+    move ! (3 ∷ []) $ feq_i ! (List Val) (shr_vals a.0) (shr_vals a.0) refl $ fjoin ! $ fjoin ! $
     move ! (3 ∷ 0 ∷ []) $ join ! $ join ! $ use1 𝓛 (raw (G.pre z)) (id⊢ 𝓤 _) $
-    calls_at ! (framed 𝓤 𝓛.H 𝓜 𝓣) G (met 𝓤 𝓛 𝓜 𝓡 (code.calls-refusing::Refusing::refuses_next 𝓡.env wired) Y L g d dd takes drops) z (and_then ! (get ! refl) (no_more !)) (λ v.
-    use1 𝓛 (later (some (λ (r : Bool). (tokens ⊛ ‵ (bool.own_val r (v ∷ []))) ⊛ some (λ (ws : Unit {0} × Unit {0}). ‵ (fsep ftrue ftrue) ⊛ ‵ ftrue)))) (id⊢ 𝓤 _) $
+    calls_at ! (framed 𝓤 𝓛.H 𝓜 𝓣) G (met 𝓤 𝓛 𝓜 𝓡 (code.calls-refusing::Refusing::refuses_next 𝓡.env wired) Y L g d dd takes drops) z (and_then ! (get ! refl) (and_then ! (get ! refl) (no_more !))) (λ v.
+    use1 𝓛 (later (some (λ (r : Bool). (tokens ⊛ ‵ (bool.own_val r (v ∷ []))) ⊛ some (λ (ws : Unit {0} × (Unit {0} × Unit {0})). ‵ (fsep ftrue (fsep ftrue ftrue)) ⊛ ‵ ftrue)))) (id⊢ 𝓤 _) $
     await ! tt $ pick ! (λ refused. split ! $ split ! $ move ! (1 ∷ []) $ feq_l ! (λ is. move ! (1 ∷ []) $ drop ! $
     lands_as ! (ap only is) refl (tt, tt) $
     -- [the tokens; a `&` to `inner`]

@@ -1,33 +1,42 @@
--- `deallocate` calls `inner.deallocate` and no more, so the walk hands on the block as it got it.
-use Rattle.std.proofs.Common.{◌≡◌, List, [], ◌∷◌, refl, w64}
+-- `deallocate` calls `count_freed`, and then `inner.deallocate`, so the walk hands on the block as it got it. Both methods go
+-- through a `&self`, of which the walk makes a second one first: one is for `count_freed`, and the other narrows to a `&` to
+-- `inner`.
+use Rattle.std.proofs.Common.{◌≡◌, ◌^◌, List, [], ◌∷◌, refl, ap, w64}
 use mir.Syntax.{Fn}
 use mir.MapTy.{inst_fn}
 use mir.Val.{Val, vunit, vint}
-use base.Logic.{fst∗, never}
+use base.Logic.{id⊢, fst∗, never, emp}
 use base.Fml.{Fml, ftrue, fsep, flft}
 use prog.Memory.{size, align, capped}
 use prog.Wp.{WpFn}
 use contract.BorrowLft.{◌⊑◌, ⊑_trans}
-use contract.Monad.{fact}
+use contract.Monad.{fact, fact_i}
 use contract.Running.{tables}
 use types.Logic.{sem}
-use types.Kit.{‵, raw, ◌⊛◌, later, given, prop, ◌$◌, ◌∵◌, !, qed, move, keep, use1, split, split3, join, learn, fsplit, fjoin, feq_i, regoal, suffices, group, await, done}
+use types.Kit.{‵, raw, ◌⊛◌, some, later, given, prop, ◌$◌, ◌∵◌, !, qed, move, keep, drop, use0, use1, split, split3, join, pick, learn, fsplit, fjoin, feq_i, feq_l, flt_i, regoal, suffices, group, await, done}
 use types.Run.{stop, fld, addr, of_opd, unit_lit, no_more, and_then, returns, enter}
 use types.ByLocal.{alloc_all, pass_all, free_all, look_at, get, through, sets, lands_as}
-use denote.Builtin.{usize, RawPtr, RefOf}
+use denote.Builtin.{unit, usize, RawPtr, RefOf}
 use denote.Exit.{yes}
+use denote.Opens.{shr_dup}
+use denote.Param.{param}
+use denote.Param.Laws.{param_laws}
 use denote.Plain.{uint_vals, uint_Tells}
 use denote.RattleType.{owns}
 use denote.RawPtr.{Ptr, block_ptr, null_ptr, room_for, in_a_block, rawptr_vals, rawptr_Tells}
 use denote.Ref.{shr_vals}
 use denote.Signature.{plain, types_at}
-use denote.Steps.{heard, nothing}
+use denote.Steps.{heard, nothing, only}
 use denote.Triple.Call.{calls_at}
+use denote.Triple.Spec.{triple_of}
 use denote.Triple.Table.{framed}
 use denote.Triple.Walked.{Stays, stay_dropped, walk_of, ends_at, Goes-dropped}
 use Rattle.std.proofs.alloc.Calls.{Al, seen, token, Gives, at_gives, Gives-goes, Gives-Gives}
 use Rattle.std.proofs.raw_atomic.Walks.{proved}
 use Rattle.refusing.proofs.Inner.{arguments, Whole, inner_at, inner_seen}
+use Rattle.refusing.proofs.Refusing.TheLaws.{the_row_laws}
+use Rattle.refusing.specs.contracts.Refusing.count_freed as freed
+use Rattle.refusing.proofs.Refusing.count_freed.Met.{met}
 use Rattle.refusing.specs.contracts.RefusingAllocator.deallocate as f
 use Rattle.refusing.proofs.RefusingAllocator.deallocate.Statement.{statement}
 use Rattle.refusing.proofs.RefusingAllocator.deallocate.Code as code
@@ -57,10 +66,23 @@ deallocate_spec 𝓤 𝓛 𝓜 𝓡 wired Y L g d dd gives drops =
     -- a block has memory, so its pointer is not null
     in_a_block ! a.1.0 Block (fst∗ 𝓤 (never 𝓤) (sem 𝓛 (token Z h.inner τ null_ptr))) (λ b o is.
     regoal ! (λ x. prop (WpFn 𝓤 𝓛.H 𝓣.C 𝓣.Λ e (W.args (y x)) (W.post (y x)))) is refl $
-    fsplit ! $ move ! (2 ∷ []) $ split ! $ move ! (1 ∷ []) $ fsplit ! $ fsplit ! $ keep ! (1 ∷ 3 ∷ 4 ∷ 5 ∷ []) $
+    fsplit ! $ move ! (2 ∷ []) $ split ! $ move ! (1 ∷ []) $ fsplit ! $ fsplit ! $ move ! (1 ∷ []) $
+    shr_dup ! (Whole Z) (the_row_laws (param 0 Y) (param_laws 0 Y L)).shr_laws h a.0.ref_ptr.0 a.0.ref_ptr.1 κ $ keep ! (0 ∷ 1 ∷ 4 ∷ 5 ∷ 6 ∷ []) $
     use1 𝓛 (‵ (seen Z κ p h.inner)) (inner_seen Z 𝓛 κ h a.0.ref_ptr.0 a.0.ref_ptr.1) $
-    -- [a `&` to `inner`; the tokens; the block's memory; the right to free it]
+    -- [a `&` to `inner`; a `&` to the whole; the tokens; the block's memory; the right to free it]
     enter ! _ _ _ _ _ $ alloc_all ! (λ l. pass_all ! refl ((tt, tt), ((tt, tt), ((tt, record { fits = are.1.1.0.1 }), ((tt, record { fits = are.1.1.1.0.1 }), tt)))) $
+    -- the call of `count_freed`: its `requires` is the bound on the lifetime, it is lent the whole, and it has the size
+    let F = triple_of 𝓛 (freed.signature Y) (freed.spec Y g d dd 𝓛 𝓜.mem 𝓡.returns) in
+    let w : F.Ghost = ((κs, qs, bounds, (a.0, (n, tt)), (shr_vals a.0, (vint w64 n ∷ [], tt))), tt) in
+    nothing ! $ use0 𝓛 (raw (fact 𝓤 (κs.1.0 ⊑ Y.lives))) (fact_i 𝓤 _ (emp 𝓤) long) $ join ! $
+    nothing ! $ flt_i ! n (2 ^ 64) are.1.1.0.1 $ feq_i ! (List Val) (vint w64 n ∷ []) (vint w64 n ∷ []) refl $ fjoin ! $ fjoin ! $
+    move ! (3 ∷ []) $ feq_i ! (List Val) (shr_vals a.0) (shr_vals a.0) refl $ fjoin ! $ fjoin ! $
+    move ! (3 ∷ 0 ∷ []) $ join ! $ join ! $ use1 𝓛 (raw (F.pre w)) (id⊢ 𝓤 _) $
+    calls_at ! (framed 𝓤 𝓛.H 𝓜 𝓣) F (met 𝓤 𝓛 𝓜 𝓡 (code.calls-refusing::Refusing::count_freed 𝓡.env wired) Y L g d dd gives drops) w (and_then ! (get ! refl) (and_then ! (get ! refl) (no_more !))) (λ u.
+    use1 𝓛 (later (some (λ (r : Unit {0}). (tokens ⊛ ‵ (unit.own_val r (u ∷ []))) ⊛ some (λ (ws : Unit {0} × (Unit {0} × Unit {0})). ‵ (fsep ftrue (fsep ftrue ftrue)) ⊛ ‵ ftrue)))) (id⊢ 𝓤 _) $
+    await ! tt $ pick ! (λ none. split ! $ split ! $ move ! (1 ∷ []) $ feq_l ! (λ is_unit. move ! (1 ∷ []) $ drop ! $
+    lands_as ! (ap only is_unit) refl (tt, tt) $ move ! (1 ∷ []) $
+    -- [a `&` to `inner`; the tokens; the block's memory; the right to free it]
     sets ! (addr ! (through ! refl (fld ! refl (stop !)))) refl (tt, tt) $
     let G = Gives Z 𝓛 𝓜.mem 𝓡.returns in let z = at_gives Z 𝓛 𝓜.mem 𝓡.returns κ qs.0 p h.inner b o n m τ in
     move ! (1 ∷ []) $ split ! $ move ! (3 ∷ 4 ∷ 2 ∷ 0 ∷ []) $ group ! 4 $ use1 𝓛 (raw (G.pre z))
@@ -70,4 +92,4 @@ deallocate_spec 𝓤 𝓛 𝓜 𝓡 wired Y L g d dd gives drops =
     lands_as ! unit refl (tt, tt) $ sets ! (of_opd ! (unit_lit !)) refl (tt, tt) $ returns ! (look_at ! 0 refl) $ free_all ! refl $
     suffices ! _ (ends_at 𝓛 T stays c (y (block_ptr b o)) vunit tt (tt, (tt, (tt, (tt, tt)))) (tt, (tt, (tt, (tt, tt))))) $
     nothing ! $ feq_i ! (List Val) (vunit ∷ []) (vunit ∷ []) refl $
-    nothing ! $ nothing ! $ fjoin ! $ nothing ! $ fjoin ! $ nothing ! $ fjoin ! $ nothing ! $ fjoin ! $ move ! (3 ∷ 0 ∷ 1 ∷ []) $ group ! 3 $ done !)))))))
+    nothing ! $ nothing ! $ fjoin ! $ nothing ! $ fjoin ! $ nothing ! $ fjoin ! $ nothing ! $ fjoin ! $ move ! (3 ∷ 0 ∷ 1 ∷ []) $ group ! 3 $ done !))))))))))

@@ -1,4 +1,4 @@
-use Rattle.rows.proofs.keys_above.goes_down_the_way_of_the_other_searches.Given as goal
+use Rattle.rows.proofs.keys_above.compares_tests_and_removes_on_its_way_alone.Given as goal
 
 -- the ledger is the blank one
 abbrev pub ghosts-above_one_and_nine : goal.ghosts-above_one_and_nine
