@@ -90,8 +90,8 @@ def main():
     cases = [case for part in PARTS for case in part() if is_plain(case)]
     came, said = outcomes(cases)
     failed = [told("rt try", case, got) for case, got in zip(cases, came) if not case.wanted == got]
-    print(said, *failed, sep="\n", end="\n")
-    print(f"{len(cases) - len(failed)} passed, {len(failed)} failed")
+    counts = f"{len(cases) - len(failed)} passed, {len(failed)} failed"
+    print(*filter(None, [said, *failed]), counts, sep="\n")
     return 1 if failed else 0
 
 

@@ -105,7 +105,7 @@ fn serve<A: Allocator + Copy, I: Read, O: Write>(
         → Appends (O.contents output.old) (O.contents output.new) HELP.now) }
     ensures help_err { AsksForHelp words.now → IfErr result (λ fault. fault ≡ Fault.Stopped) }
     ensures unwritten { IfErr result (λ fault. fault ≢ Fault.Stopped → output.new ≡ output.old) }
-    ensures faulty_words { ¬ (AsksForHelp words.now) → (result ≡ Err Fault.Arguments) ↔ ¬ (NamesMode words.now) }
+    ensures faulty_words { ¬ (AsksForHelp words.now) → ((result ≡ Err Fault.Arguments) ↔ ¬ (NamesMode words.now)) }
     ensures faulty_line { (number : ℕ) → result ≡ Err (Fault.Line number) → (mode : Mode) → Names words.now mode →
         IfSome (I.remaining input.old) (λ text. HasFirstFaulty mode text number) }
     ensures overlap { (number : ℕ) → result ≡ Err (Fault.Overlap number) → (mode : Mode) → Names words.now mode →
