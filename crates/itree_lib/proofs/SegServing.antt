@@ -1,5 +1,5 @@
 -- Each reply that the runner of segment commands gives is a step of the machine, and a run goes on by a step.
-use Rattle.std.proofs.Common.{◌≡◌, ℤ, Bool, true, false, cond, Option, Some, None, List, [], ◌∷◌, ◌++◌, refl, sym, ap, ◌∙◌, subst}
+use Rattle.std.proofs.Common.{◌≡◌, ◌<◌, ℤ, Bool, true, false, cond, Option, Some, None, List, [], ◌∷◌, ◌++◌, length, refl, sym, ap, ◌∙◌, subst, arith}
 use Rattle.std.specs.Cmp.{IsTotalOrder, upto}
 use Rattle.std.specs.List.{filter}
 use Rattle.std.specs.List.Sorted.{IsPermutation}
@@ -7,7 +7,7 @@ use Rattle.std.specs.Ordering.{is_ge, is_gt, is_lt, ordering_reverse}
 use Rattle.std.specs.declared.cmp.Ordering.{Ordering}
 use Rattle.std.specs.declared.cmp.Ordering.TheVariants.{Less, Equal, Greater}
 use Rattle.std.proofs.lemmas.Bool.{both_ways}
-use Rattle.std.proofs.lemmas.List.Sorted.{IsPermutation-refl, IsPermutation-trans, IsPermutation-cons, IsPermutation-map}
+use Rattle.std.proofs.lemmas.List.Sorted.{length_permutation, IsPermutation-refl, IsPermutation-trans, IsPermutation-cons, IsPermutation-map}
 use Rattle.i_tree.specs.Seg.Buckets.{Buckets, Interval, interval, overlap}
 use Rattle.i_tree.specs.Seg.Members.{Member, member_over, is_live, is_live_yet, live_members, with_member, answer, NotBefore}
 use Rattle.i_tree.specs.declared.seg.exp.SegRange.{SegRange}
@@ -121,8 +121,11 @@ module _ {E V : Type 0} (expiration : V → E) {cmp : E → E → Ordering} (o :
       moved_on bag = ap (λ (t : Option E). let state : State E V = record { bag = bag; latest = t } in state) moved
 
       -- a query whose list was refused memory
-      pub serves_refused_query : Serves expiration cmp whole buckets held latest (Query range time) Refused held' latest'
-      serves_refused_query bag stands = (bag, (accepted, in_time, moved_on bag), stands_queried bag stands)
+      pub serves_refused_query : 0 < length (answer expiration cmp time (interval buckets (whole range.min) (whole range.max)) held) → Serves expiration cmp whole buckets held latest (Query range time) Refused held' latest'
+      serves_refused_query some bag stands =
+          let asked = interval buckets (whole range.min) (whole range.max) in
+          let as_many = length_permutation _ _ (answer_held held latest bag stands time in_time asked) in
+          (bag, (accepted, in_time, (λ none. absurd (omega (arith, some, as_many, ap length none))), moved_on bag), stands_queried bag stands)
 
       -- a query that is answered
       pub serves_values : (values : List V) → (found : List V) × IsPermutation (answer expiration cmp time (interval buckets (whole range.min) (whole range.max)) held) found × (values ≡ found)

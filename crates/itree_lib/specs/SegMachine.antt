@@ -1,5 +1,5 @@
 -- The machine of segment commands: what it may reply, and the state that it goes on to.
-use Rattle.std.specs.Prelude.{◌≡◌, ℤ, true, false, List, [], ◌∷◌, Option, Some, None, filter, IsPermutation}
+use Rattle.std.specs.Prelude.{◌≡◌, ◌≢◌, ℤ, true, false, List, [], ◌∷◌, Option, Some, None, filter, IsPermutation}
 use Rattle.std.specs.declared.cmp.Ordering.{Ordering}
 use Rattle.i_tree.specs.Seg.Buckets.{Buckets, Accepts, interval}
 use Rattle.i_tree.specs.Seg.Members.{Member, member_over, is_live_yet, answer}
@@ -65,6 +65,7 @@ module _ {E V : Type 0} (expiration : V → E) (cmp : E → E → Ordering) wher
     Step old (Query range time) Refused new =
         IsAccepted whole buckets range
         × (is_late cmp old.latest time ≡ false)
+        × (answer expiration cmp time (interval buckets (whole range.min) (whole range.max)) old.bag ≢ [])
         × (new ≡ record { bag = old.bag; latest = Some time })
     Step old Clear Cleared new = new ≡ nothing
     -- no other reply is given

@@ -31,7 +31,7 @@ pub enum SegReply<V, B: Allocator = Global> {
     Outside,
     /// The query's time is before the latest time; nothing was done.
     Late,
-    /// Memory was refused. A value was not stored; the time of a query is the latest time all the same.
+    /// Memory was refused. A value was not stored; a query found something, and its time is the latest time all the same.
     Refused,
     /// The values that a query found, in any order.
     Values(Vec<V, B>),
@@ -43,8 +43,9 @@ pub enum SegReply<V, B: Allocator = Global> {
 ///
 /// The run begins with what the tree holds and with its latest time. A range that isn't accepted is answered `Outside`,
 /// and else a query whose time is before the latest one `Late`; both change nothing. Every other query makes its time the
-/// latest one, also where it is refused. Room for all replies is taken first: where it is refused, the answer is
-/// `OutOfMemory`, and `tree` and `out` are as they were. The runner is our own, and not of the Rust crate.
+/// latest one, also where it is refused, which is only where it finds something. Room for all replies is taken first: where
+/// it is refused, the answer is `OutOfMemory`, and `tree` and `out` are as they were. The runner is our own, and not of the
+/// Rust crate.
 pub fn run_segments<R, E, V, A, B>(
     tree: &mut SegExpTree<R, E, V, A>,
     commands: &[SegCommand<R, E, V>],
