@@ -4,6 +4,7 @@ use super::*;
 use std::io::{self, ErrorKind};
 use std::process::Abort;
 
+mod help;
 mod long;
 mod memory;
 mod sample;
@@ -222,6 +223,15 @@ fn refuses_other_arguments_before_it_reads(rt: HostRuntime) {
         &["sweep", "0", "128"],
         &["Sweep"],
         &["sweep "],
+        &["help", "x"],
+        &["help", "help"],
+        &["keylist", "--help"],
+        &["-h", "keylist"],
+        &["Help"],
+        &["-help"],
+        &["--h"],
+        &["-H"],
+        &["help "],
     ] {
         let mut input = BrokenReader {
             bytes: b"",
