@@ -2,9 +2,13 @@
 #![tactic(auto)]
 
 #[cfg(test)]
+mod answer_room;
+#[cfg(test)]
 mod core_calls;
 #[cfg(test)]
 mod cores;
+#[cfg(test)]
+mod growth;
 pub mod item;
 #[cfg(test)]
 mod key_calls;
