@@ -1,9 +1,10 @@
--- Lemmas on lists, rising keys, halving and counts.
+-- Lemmas on lists, rising keys, orders, halving and counts.
 pub mod Counts
 pub mod Cuts
 pub mod Halving
 pub mod Joined
 pub mod Lists
 pub mod Monotone
+pub mod Orders
 pub mod RisingKeys
 pub mod Withouts

@@ -2,13 +2,14 @@
 use Rattle.std.proofs.Common.{◌≡◌, ◌≢◌, ◌⊎◌, ◌&&◌, zero, suc, Bool, true, false, List, [], ◌∷◌, length, Option, Some, None, refl, sym, subst, ap, ◌∙◌, inl, inr, arith}
 use Rattle.std.specs.Cmp.{IsTotalOrder, upto, tied_back}
 use Rattle.std.specs.Cmp.Lexicographic.{pointwise}
-use Rattle.std.specs.Ordering.{is_gt, is_lt, ordering_reverse}
+use Rattle.std.specs.Ordering.{is_lt, ordering_reverse}
 use Rattle.std.specs.declared.cmp.Ordering.{Ordering}
 use Rattle.std.specs.declared.cmp.Ordering.TheVariants as ordering
 use Rattle.std.specs.List.{AllPairs, Contains}
 use Rattle.std.proofs.lemmas.Bool.{both_ways, cond_both, true_from_ne_false}
 use Rattle.std.proofs.lemmas.List.Elements.{All-contains, All-head, All-tail, All-weaker}
 use Rattle.std.proofs.lemmas.List.Kept.{AllPairs-cons}
+use Rattle.i_tree.proofs.RootLemmas.Orders.{gt-turned}
 use Rattle.i_tree.proofs.RootLemmas.Lists.{AllPairs-head, AllPairs-tail, Contains-filter}
 use Rattle.i_tree.specs.declared.Refusal.TheVariants.{OutOfMemory, NoHandle}
 use Rattle.i_tree.specs.Root.Answer.{GreatestOr, Below, AtMost}
@@ -99,17 +100,9 @@ module _ {K E V : Type 0} (expiration : K → E) {cmp_time : E → E → Orderin
     still_not_late : is_late cmp_time old.last later ≡ false
     still_not_late = by_last old.last not_late
       where
-        turned : (a b : E) → is_gt (cmp_time a b) ≡ is_lt (cmp_time b a)
-        turned a b = ap is_gt (times.antisymm a b) ∙ by_answer (cmp_time b a)
-          where
-            by_answer : (r : Ordering) → is_gt (ordering_reverse r) ≡ is_lt r
-            by_answer ordering.Less = refl
-            by_answer ordering.Equal = refl
-            by_answer ordering.Greater = refl
-
         by_last : (last : Option E) → is_late cmp_time last time ≡ false → is_late cmp_time last later ≡ false
         by_last None h = refl
-        by_last (Some last) h = sym (turned last later) ∙ upto times last time later (turned last time ∙ h) (turned time later ∙ after)
+        by_last (Some last) h = sym (gt-turned times last later) ∙ upto times last time later (gt-turned times last time ∙ h) (gt-turned times time later ∙ after)
 
     -- what is live then was live
     live_before : Within (live_pairs expiration cmp_time later old.accepted) (live_pairs expiration cmp_time time old.accepted)

@@ -3,11 +3,11 @@ use Rattle.std.proofs.Common.{◌≡◌, ◌<◌, ℤ, Bool, true, false, cond, 
 use Rattle.std.specs.Cmp.{IsTotalOrder, upto}
 use Rattle.std.specs.List.{filter}
 use Rattle.std.specs.List.Sorted.{IsPermutation}
-use Rattle.std.specs.Ordering.{is_ge, is_gt, is_lt, ordering_reverse}
+use Rattle.std.specs.Ordering.{is_lt}
 use Rattle.std.specs.declared.cmp.Ordering.{Ordering}
-use Rattle.std.specs.declared.cmp.Ordering.TheVariants.{Less, Equal, Greater}
 use Rattle.std.proofs.lemmas.Bool.{both_ways}
 use Rattle.std.proofs.lemmas.List.Sorted.{length_permutation, IsPermutation-refl, IsPermutation-trans, IsPermutation-cons, IsPermutation-map}
+use Rattle.i_tree.proofs.RootLemmas.Orders.{gt-turned, at_or_after-turned, not_after-turned}
 use Rattle.i_tree.specs.Seg.Buckets.{Buckets, Interval, interval, overlap}
 use Rattle.i_tree.specs.Seg.Members.{Member, member_over, is_live, is_live_yet, live_members, with_member, answer, NotBefore}
 use Rattle.i_tree.specs.declared.seg.exp.SegRange.{SegRange}
@@ -40,35 +40,11 @@ pub not_late : {E : Type 0} (cmp : E → E → Ordering) (told latest : Option E
 not_late cmp told latest time is in_time = subst (λ last. is_late cmp last time ≡ false) is (sym in_time)
 
 module _ {E V : Type 0} (expiration : V → E) {cmp : E → E → Ordering} (o : IsTotalOrder cmp) where
-  -- the first isn't before the second, so the second isn't after the first
-  turned : (a b : E) → is_lt (cmp a b) ≡ false → is_gt (cmp b a) ≡ false
-  turned a b h = ap is_gt (o.antisymm b a) ∙ by_cases (cmp a b) h
-    where
-      by_cases : (r : Ordering) → is_lt r ≡ false → is_gt (ordering_reverse r) ≡ false
-      by_cases Less h = absurd (both_ways true h refl)
-      by_cases Equal h = refl
-      by_cases Greater h = refl
-
-  -- and back
-  turned_back : (a b : E) → is_gt (cmp b a) ≡ false → is_ge (cmp a b) ≡ true
-  turned_back a b h = ap is_ge (o.antisymm a b) ∙ by_cases (cmp b a) h
-    where
-      by_cases : (r : Ordering) → is_gt r ≡ false → is_ge (ordering_reverse r) ≡ true
-      by_cases Less h = refl
-      by_cases Equal h = refl
-      by_cases Greater h = absurd (both_ways true h refl)
-
-  -- what is at or after isn't before
-  not_less : (r : Ordering) → is_ge r ≡ true → is_lt r ≡ false
-  not_less Less h = absurd (both_ways false refl h)
-  not_less Equal h = refl
-  not_less Greater h = refl
-
   -- what is live at a time was live at one that isn't after it
   live_before : (latest : Option E) (time : E) → is_late cmp latest time ≡ false → (value : V) → is_live expiration cmp time value ≡ true → is_live_yet expiration cmp latest value ≡ true
   live_before None time in_time value live = refl
   live_before (Some last) time in_time value live =
-      turned_back (expiration value) last (upto o last time (expiration value) (turned time last in_time) (turned (expiration value) time (not_less (cmp (expiration value) time) live)))
+      not_after-turned o (expiration value) last (upto o last time (expiration value) (gt-turned o last time ∙ in_time) (at_or_after-turned o (expiration value) time live))
 
   module _ (held : List (Member V)) (latest : Option E) (bag : List (Member V)) (stands : StandsFor expiration cmp held latest bag) where
     -- what the bag has live at a time that isn't late is held

@@ -1,12 +1,15 @@
 -- What holds of each red-black tree.
-use Rattle.std.proofs.Common.{◌≡◌, ℕ, ◌+◌, ◌*◌, ◌^◌, ◌<◌, ◌≤◌, ◌⊎◌, inl, inr, true, ◌∷◌, length, refl, ap, ◌∙◌, add-one, arith}
+use Rattle.std.proofs.Common.{◌≡◌, ℕ, ◌+◌, ◌*◌, ◌^◌, ◌<◌, ◌≤◌, ◌⊎◌, inl, inr, true, ◌∷◌, length, refl, ap, ◌∙◌, add-one, arith, List}
 use Rattle.std.proofs.Math.Nat.{two-pow-succ}
 use Rattle.std.proofs.Math.Pow.{pow_mono}
 use Rattle.std.proofs.lemmas.Bool.{cases_lt}
 use Rattle.std.proofs.lemmas.List.{length-append}
 use Rattle.i_tree.specs.declared.rb.links.Colour.{Colour}
 use Rattle.i_tree.specs.declared.rb.links.Colour.TheVariants.{Red, Black}
-use Rattle.i_tree.specs.Core.Balance.{IsCore, is_black, IsRedBlack}
+use Rattle.i_tree.specs.declared.rb.links.Side.{Side}
+use Rattle.i_tree.specs.declared.rb.links.Side.TheVariants.{Left, Right}
+use Rattle.i_tree.specs.Core.Balance.{IsCore, is_black, IsRedBlack, is_black_colour, is_black_around, level_of, MayStand}
+use Rattle.i_tree.specs.Core.Context.{Frame, fork_on}
 use Rattle.i_tree.specs.Core.Shape.{Shape, leaf, fork, entries, black_levels, rank, height, RanksFall, AreHandles}
 
 pub pow_more : (n : ℕ) → 2 ^ (n + 1) ≡ 2 ^ n + 2 ^ n
@@ -21,6 +24,24 @@ pow_below_pow low high below = by_order (cases_lt low high)
     by_order (inr over) = absurd (omega (arith, pow_mono over))
 
 module _ {T : Type 0} where
+  pub is_black-fork_on : (side : Side) (colour : Colour) (near : Shape T) (handle : ℕ) (item : T) (far : Shape T)
+      → is_black (fork_on side colour near handle item far) ≡ is_black_colour colour
+  is_black-fork_on Left colour near handle item far = refl
+  is_black-fork_on Right colour near handle item far = refl
+
+  -- how many levels a node has, along its near side
+  pub levels-fork_on : (side : Side) (colour : Colour) (near : Shape T) (handle : ℕ) (item : T) (far : Shape T)
+      → black_levels far ≡ black_levels near → black_levels (fork_on side colour near handle item far) ≡ black_levels near + level_of colour
+  levels-fork_on Left Red near handle item far even = omega arith
+  levels-fork_on Left Black near handle item far even = refl
+  levels-fork_on Right Red near handle item far even = omega arith
+  levels-fork_on Right Black near handle item far even = ap (λ (levels : ℕ). levels + 1) even
+
+  -- what a red node asks of its surroundings
+  pub red_stands : (colour : Colour) (sibling : Shape T) (around : List (Frame T)) → MayStand colour sibling around → colour ≡ Red → (is_black sibling ≡ true) × (is_black_around around ≡ true)
+  red_stands Red sibling around stands red = stands
+  red_stands Black sibling around stands red = cc
+
   pub rank-black : (tree : Shape T) → is_black tree ≡ true → rank tree ≡ 2 * black_levels tree
   rank-black leaf black = refl
   rank-black (fork Red before handle item after) black = cc

@@ -13,15 +13,6 @@ use Rattle.i_tree.specs.Core.Mending.{one_if_red, red_nodes, IsPart, IsBlackPart
 use Rattle.i_tree.proofs.CoreLemmas.Contexts.{one_if_same-same, occurs-fork_on, occurs-plug, before_hole, after_hole, entries-plug, cut_at}
 
 module _ {T : Type 0} where
-  pub top-fork_on : (side : Side) (colour : Colour) (near : Shape T) (handle : ℕ) (item : T) (far : Shape T) → top (fork_on side colour near handle item far) ≡ handle
-  top-fork_on Left colour near handle item far = refl
-  top-fork_on Right colour near handle item far = refl
-
-  pub is_black-fork_on : (side : Side) (colour : Colour) (near : Shape T) (handle : ℕ) (item : T) (far : Shape T)
-      → is_black (fork_on side colour near handle item far) ≡ is_black_colour colour
-  is_black-fork_on Left colour near handle item far = refl
-  is_black-fork_on Right colour near handle item far = refl
-
   pub IsPart-from_black : {levels : ℕ} {part : Shape T} → IsBlackPart levels part → IsPart levels part
   IsPart-from_black black_part = record { balanced = black_part.balanced; deep = black_part.deep }
 

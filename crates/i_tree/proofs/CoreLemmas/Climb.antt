@@ -6,8 +6,7 @@ use Rattle.i_tree.specs.declared.rb.links.Side.{Side}
 use Rattle.i_tree.specs.declared.rb.links.Side.TheVariants.{Left, Right}
 use Rattle.i_tree.specs.Core.Shape.{Shape, leaf, fork, top, entries, part_at, left_part, left_at, last_handle, occurs, one_if_same, IsLive, AreHandles}
 use Rattle.i_tree.specs.Core.Context.{Frame, fork_on, fill, plug, hole_parent}
-use Rattle.i_tree.proofs.CoreLemmas.BalanceFrames.{top-fork_on}
-use Rattle.i_tree.proofs.CoreLemmas.Contexts.{cut_at, one_if_same-same, occurs-plug, occurs-fork_on, before_hole, own_before}
+use Rattle.i_tree.proofs.CoreLemmas.Contexts.{cut_at, one_if_same-same, occurs-plug, occurs-fork_on, before_hole, own_before, top-fork_on}
 use Rattle.i_tree.proofs.CoreLemmas.Parts.{part_at-of_cut, IsTopOf-part, list_cut, last_handle-append, live-top, live-not_empty, length-part}
 
 module _ {T : Type 0} where

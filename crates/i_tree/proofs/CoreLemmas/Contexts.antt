@@ -1,10 +1,10 @@
 -- A part of a tree inside its frames: what stands in the whole, and where a handle is.
-use Rattle.std.proofs.Common.{◌≡◌, ◌≢◌, ℕ, ◌+◌, ◌<◌, ◌≤◌, Bool, true, false, eqb, cond, List, [], ◌∷◌, ◌++◌, zero, suc, append-nil, refl, sym, ap, ◌∙◌, subst, append_assoc, arith}
+use Rattle.std.proofs.Common.{◌≡◌, ◌≢◌, ℕ, ◌+◌, ◌<◌, ◌≤◌, Bool, true, false, eqb, cond, List, [], ◌∷◌, ◌++◌, zero, suc, append-nil, refl, sym, ap, ◌∙◌, subst, append_assoc, arith, length, length-append}
 use Rattle.std.proofs.lemmas.Bool.{eqb-true, eqb-false, eq-eqb}
 use Rattle.i_tree.specs.declared.rb.links.Colour.{Colour}
 use Rattle.i_tree.specs.declared.rb.links.Side.{Side}
 use Rattle.i_tree.specs.declared.rb.links.Side.TheVariants.{Left, Right}
-use Rattle.i_tree.specs.Core.Shape.{Shape, leaf, fork, entries, or_else, part_at, occurs, one_if_same, IsLive}
+use Rattle.i_tree.specs.Core.Shape.{Shape, leaf, fork, entries, or_else, part_at, occurs, one_if_same, IsLive, top}
 use Rattle.i_tree.specs.Core.Context.{Frame, fork_on, fill, plug, other_side}
 
 pub one_if_same-same : (handle : ℕ) → one_if_same handle handle ≡ 1
@@ -98,6 +98,19 @@ module _ {T : Type 0} where
   entries-plug [] part = simp append-nil
   entries-plug (frame ∷ around) part =
       simp (entries-plug around (fill frame part), entries-fork_on frame.side frame.colour part frame.handle frame.item frame.sibling, append_assoc)
+
+  pub top-fork_on : (side : Side) (colour : Colour) (near : Shape T) (handle : ℕ) (item : T) (far : Shape T) → top (fork_on side colour near handle item far) ≡ handle
+  top-fork_on Left colour near handle item far = refl
+  top-fork_on Right colour near handle item far = refl
+
+  -- frames in frames
+  pub plug-append : (inner outer : List (Frame T)) (part : Shape T) → plug (inner ++ outer) part ≡ plug outer (plug inner part)
+  plug-append [] outer part = refl
+  plug-append (frame ∷ inner) outer part = plug-append inner outer (fill frame part)
+
+  pub length-plug : (around : List (Frame T)) (part : Shape T) → length (entries (plug around part)) ≡ length (before_hole around) + length (entries part) + length (after_hole around)
+  length-plug around part =
+      ap length (entries-plug around part) ∙ omega (arith, length-append (before_hole around) (entries part ++ after_hole around), length-append (entries part) (after_hole around))
 
   -- the other side of a node seen from the one
   pub fork_on-other : (side : Side) (colour : Colour) (near : Shape T) (handle : ℕ) (item : T) (far : Shape T) →

@@ -12,10 +12,9 @@ use Rattle.i_tree.specs.Core.Context.{Frame, fork_on, plug, hole_parent, HasOneP
 use Rattle.i_tree.specs.Core.Shape.{Shape, leaf, fork, top, entries, occurs, one_if_same}
 use Rattle.i_tree.specs.Core.Slots.{slot_links, links_of, IsUsed, IsAt, IsSound, one_if_slot}
 use Rattle.i_tree.specs.Core.Turns.{Rehangs, Reparents}
-use Rattle.i_tree.proofs.CoreLemmas.Contexts.{one_if_same-same, occurs_around, occurs-fork_on, occurs-plug}
-use Rattle.i_tree.proofs.CoreLemmas.Placed.{links_on, one_if_slot-le, IsAround, top-fork_on, IsAt-from_fork_on, IsAt-from_plug, IsAt-plug, IsAt-same, IsAround-same, AreHandles-sound}
-use Rattle.i_tree.proofs.CoreLemmas.Room.{size-plug, written_back}
-use Rattle.i_tree.proofs.CoreLemmas.Turning.{IsChain-same}
+use Rattle.i_tree.proofs.CoreLemmas.Contexts.{one_if_same-same, occurs_around, occurs-fork_on, occurs-plug, top-fork_on, length-plug}
+use Rattle.i_tree.proofs.CoreLemmas.Placed.{links_on, one_if_slot-le, IsAround, IsAt-from_fork_on, IsAt-from_plug, IsAt-plug, IsAt-same, IsAround-same, AreHandles-sound, IsChain-same}
+use Rattle.i_tree.proofs.CoreLemmas.Room.{written_back}
 use Rattle.i_tree.proofs.CoreLemmas.TurningRound.{parent-on, apart_by, used_by, rehung, rehung-root, reparented, IsUsed-top, IsUsed-hole}
 
 -- a list as it is lent again, after another one was written back whole
@@ -157,7 +156,7 @@ module _ {T : Type 0} where
         );
         counted = omega (arith, sound.counted);
         each_once = λ other. omega (arith, sound.each_once other, count other, occurs-plug other around part, ap (λ size. one_if_slot size other) long);
-        total = omega (arith, sound.total, size-plug around node, size-plug around part, size-one side colour part handle item);
+        total = omega (arith, sound.total, length-plug around node, length-plug around part, size-one side colour part handle item);
         few = omega (arith, sound.few);
         reserved = same 0 (AreHandles-sound s0 root first_free free (plug around node) sound).none_reserved ∙ sound.reserved;
       }

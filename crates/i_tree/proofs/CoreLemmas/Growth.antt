@@ -7,8 +7,9 @@ use Rattle.i_tree.specs.declared.rb.links.Side.{Side}
 use Rattle.i_tree.specs.declared.rb.links.Side.TheVariants.{Left, Right}
 use Rattle.i_tree.specs.Core.Shape.{Shape, leaf, fork, entries, black_levels, left_part, right_part, IsLive, AreHandles}
 use Rattle.i_tree.specs.Core.Context.{Frame, fork_on, fill, plug, part_on, beside, Replaces, HasRoomOn}
-use Rattle.i_tree.specs.Core.Balance.{level_of, is_black_colour, is_black, MayHold, IsRedBlack, is_black_around, MayStand, Fits, IsRaised}
-use Rattle.i_tree.proofs.CoreLemmas.Contexts.{Cut, cut_at, before_hole, after_hole, entries-plug}
+use Rattle.i_tree.specs.Core.Balance.{is_black_colour, is_black, MayHold, IsRedBlack, is_black_around, MayStand, Fits, IsRaised}
+use Rattle.i_tree.proofs.CoreLemmas.Contexts.{Cut, cut_at, before_hole, after_hole, entries-plug, length-plug}
+use Rattle.i_tree.proofs.CoreLemmas.Balance.{levels-fork_on}
 use Rattle.i_tree.proofs.CoreLemmas.Parts.{list_cut, part_at-of_cut}
 
 module _ {T : Type 0} where
@@ -21,13 +22,6 @@ module _ {T : Type 0} where
       → IsRedBlack near × IsRedBlack far × (black_levels far ≡ black_levels near) × MayHold colour near far
   near_balanced Left colour near handle item far balanced = (balanced.0, balanced.1, sym balanced.2, balanced.3)
   near_balanced Right colour near handle item far balanced = (balanced.1, balanced.0, balanced.2, MayHold-swap colour far near balanced.3)
-
-  levels-fork_on : (side : Side) (colour : Colour) (near : Shape T) (handle : ℕ) (item : T) (far : Shape T) → black_levels far ≡ black_levels near
-      → black_levels (fork_on side colour near handle item far) ≡ black_levels near + level_of colour
-  levels-fork_on Left Red near handle item far same = omega arith
-  levels-fork_on Left Black near handle item far same = refl
-  levels-fork_on Right Red near handle item far same = omega arith
-  levels-fork_on Right Black near handle item far same = omega arith
 
   -- each part of a red-black tree is one
   part_balanced : (around : List (Frame T)) (part : Shape T) → IsRedBlack (plug around part) → IsRedBlack part
@@ -122,13 +116,6 @@ module _ {T : Type 0} where
       → entries new ≡ front ++ beside side (handle, item) (parent, held) back
   entries-joined tree new parent side handle item handles room joins =
       entries-beside side tree new parent handle item room.around room.colour room.item room.far handles room.is (joins room.colour room.item room.far room.around room.is)
-
-  length-plug : (around : List (Frame T)) (part : Shape T) → length (entries (plug around part)) ≡ length (before_hole around) + length (entries part) + length (after_hole around)
-  length-plug around part =
-      let whole = ap length (entries-plug around part) in
-      let outer = length-append (before_hole around) (entries part ++ after_hole around) in
-      let inner = length-append (entries part) (after_hole around) in
-      omega arith
 
   length-node : (side : Side) (colour : Colour) (near : Shape T) (handle : ℕ) (item : T) (far : Shape T)
       → length (entries (fork_on side colour near handle item far)) ≡ length (entries near) + length (entries far) + 1

@@ -1,11 +1,10 @@
 -- A new key among keys that rise.
-use Rattle.std.proofs.Common.{◌≡◌, ◌≢◌, ℕ, List, [], ◌∷◌, ◌++◌, get_or, length, refl, sym, ap, ◌∙◌, subst, arith, append_assoc, length-append}
+use Rattle.std.proofs.Common.{◌≡◌, ℕ, List, [], ◌∷◌, ◌++◌, get_or, length, refl, sym, ap, ◌∙◌, subst, arith, append_assoc, length-append}
 use Rattle.std.proofs.Math.Seq.{take-append_seam, drop-append_seam}
 use Rattle.std.specs.Cmp.{IsTotalOrder}
 use Rattle.std.specs.List.{All, AllPairs, insert}
-use Rattle.std.specs.Ordering.{ordering_reverse}
 use Rattle.std.specs.declared.cmp.Ordering.{Ordering}
-use Rattle.std.specs.declared.cmp.Ordering.TheVariants.{Less, Equal, Greater}
+use Rattle.std.specs.declared.cmp.Ordering.TheVariants.{Less}
 use Rattle.std.proofs.lemmas.List.{map-append}
 use Rattle.std.proofs.lemmas.List.Elements.{All-cons}
 use Rattle.std.proofs.lemmas.List.Kept.{AllPairs-cons}
@@ -20,14 +19,6 @@ use Rattle.i_tree.specs.declared.place.Place.{Place}
 use Rattle.i_tree.specs.declared.place.Place.TheVariants.{Root, Left, Right}
 
 module _ {K V : Type 0} (key_of : V → K) {cmp : K → K → Ordering} (o : IsTotalOrder cmp) where
-  pub above : (x y : K) → cmp x y ≢ Less → cmp x y ≢ Equal → cmp y x ≡ Less
-  above x y not_less not_equal = turned (cmp x y) (cmp y x) (o.antisymm y x) not_less not_equal
-    where
-      turned : (r s : Ordering) → s ≡ ordering_reverse r → r ≢ Less → r ≢ Equal → s ≡ Less
-      turned Less s e not_less not_equal = absurd (not_less refl)
-      turned Equal s e not_less not_equal = absurd (not_equal refl)
-      turned Greater s e not_less not_equal = e
-
   module _ (key : K) where
     abbrev pub IsLower : ℕ × V → Type 0
     IsLower pair = cmp (key_of pair.1) key ≡ Less

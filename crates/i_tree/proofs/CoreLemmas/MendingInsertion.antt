@@ -10,8 +10,9 @@ use Rattle.i_tree.specs.Core.Balance.{is_black, is_black_colour, is_black_around
 use Rattle.i_tree.specs.Core.Context.{Frame, fork_on, fill, plug, other_side, hole_parent}
 use Rattle.i_tree.specs.Core.Turns.{CanTurn}
 use Rattle.i_tree.specs.Core.Mending.{red_nodes, IsPart, IsBlackPart, IsUnderRed}
-use Rattle.i_tree.proofs.CoreLemmas.Contexts.{one_if_same-same, fork_on-other}
-use Rattle.i_tree.proofs.CoreLemmas.BalanceFrames.{top-fork_on, is_black-fork_on, IsPart-from_black, IsBlackPart-from, IsPart-red, IsBlackPart-black, IsRedBlack-plug, leaf_inside, IsLive-in, IsLive-at, occurs-own, occurs_top, top_apart, red_nodes-fork_on, red_nodes-plug, Paints, painted, entries-painted, IsLive-painted, Turns, entries-turned}
+use Rattle.i_tree.proofs.CoreLemmas.Contexts.{one_if_same-same, fork_on-other, top-fork_on}
+use Rattle.i_tree.proofs.CoreLemmas.Balance.{is_black-fork_on}
+use Rattle.i_tree.proofs.CoreLemmas.BalanceFrames.{IsPart-from_black, IsBlackPart-from, IsPart-red, IsBlackPart-black, IsRedBlack-plug, leaf_inside, IsLive-in, IsLive-at, occurs-own, occurs_top, top_apart, red_nodes-fork_on, red_nodes-plug, Paints, painted, entries-painted, IsLive-painted, Turns, entries-turned}
 
 other_other : (side : Side) → other_side (other_side side) ≡ side
 other_other Left = refl

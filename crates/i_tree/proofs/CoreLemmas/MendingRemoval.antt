@@ -6,16 +6,17 @@ use Rattle.i_tree.specs.declared.rb.links.Colour.{Colour}
 use Rattle.i_tree.specs.declared.rb.links.Colour.TheVariants.{Red, Black}
 use Rattle.i_tree.specs.declared.rb.links.Side.{Side}
 use Rattle.i_tree.specs.declared.rb.links.Side.TheVariants.{Left, Right}
-use Rattle.i_tree.specs.Core.Balance.{is_black, is_black_around, level_of, IsRedBlack, MayStand, Fits, IsShort}
+use Rattle.i_tree.specs.Core.Balance.{is_black, is_black_around, level_of, IsRedBlack, Fits, IsShort}
 use Rattle.i_tree.specs.Core.Context.{Frame, fork_on, fill, plug, hole_parent}
 use Rattle.i_tree.specs.Core.Mending.{one_if_red, red_nodes, IsPart}
 use Rattle.i_tree.specs.Core.Removal.{KeepsPart, MendsPart}
 use Rattle.i_tree.specs.Core.Rising.{IsEnded, IsRisen}
 use Rattle.i_tree.specs.Core.Shape.{Shape, leaf, fork, entries, occurs, black_levels, rank, IsLive, AreHandles}
-use Rattle.i_tree.proofs.CoreLemmas.Balance.{rank-black, rank-at_most}
+use Rattle.i_tree.proofs.CoreLemmas.Balance.{rank-black, rank-at_most, levels-fork_on, red_stands}
 use Rattle.i_tree.proofs.CoreLemmas.BalanceFrames.{IsRedBlack-plug, IsLive-at, top_apart, entries-replaced}
+use Rattle.i_tree.proofs.CoreLemmas.Contexts.{plug-append}
 use Rattle.i_tree.proofs.CoreLemmas.MendingInsertion.{IsParent, IsSide}
-use Rattle.i_tree.proofs.CoreLemmas.MendingRemovalStep.{plug-append, KeepsPart-inside, entries-same_near}
+use Rattle.i_tree.proofs.CoreLemmas.MendingRemovalStep.{KeepsPart-inside, entries-same_near}
 
 module _ {X : Type 0} where
   some_not_none : (inner : List X) (x : X) (outer : List X) → [] ≡ inner ++ x ∷ outer → ⊥
@@ -43,13 +44,11 @@ module _ {X : Type 0} where
       by_rest head (inr (rest, here)) = inr (rest, cc)
 
 module _ {T : Type 0} where
-  -- a node's levels and rank, where both parts have as many levels
-  levels-fork_on : (side : Side) (colour : Colour) (near : Shape T) (handle : ℕ) (item : T) (far : Shape T) → black_levels near ≡ black_levels far
+  -- a node's levels and rank, by its far part, where both have as many levels
+  levels-far : (side : Side) (colour : Colour) (near : Shape T) (handle : ℕ) (item : T) (far : Shape T) → black_levels near ≡ black_levels far
       → black_levels (fork_on side colour near handle item far) ≡ black_levels far + level_of colour
-  levels-fork_on Left Red near handle item far even = omega arith
-  levels-fork_on Left Black near handle item far even = omega arith
-  levels-fork_on Right Red near handle item far even = omega arith
-  levels-fork_on Right Black near handle item far even = omega arith
+  levels-far side colour near handle item far even =
+      levels-fork_on side colour near handle item far (sym even) ∙ ap (λ levels. levels + level_of colour) even
 
   rank-fork_on : (side : Side) (colour : Colour) (near : Shape T) (handle : ℕ) (item : T) (far : Shape T) → black_levels near ≡ black_levels far
       → rank (fork_on side colour near handle item far) ≡ 2 * (black_levels far + level_of colour) + one_if_red colour
@@ -96,10 +95,6 @@ module _ {T : Type 0} where
         entries_are = mends.entries_are;
         ranks = mends.ranks;
       }
-
-  red_stands : (colour : Colour) (sibling : Shape T) (around : List (Frame T)) → MayStand colour sibling around → colour ≡ Red → (is_black sibling ≡ true) × (is_black_around around ≡ true)
-  red_stands Red sibling around stands red = stands
-  red_stands Black sibling around stands red = cc
 
   module _ (tree new : Shape T) (node : ℕ) (side : Side) (cut : IsShort tree node side) where
     pub entries-risen : IsRisen tree node side cut new → entries new ≡ entries tree
@@ -259,7 +254,7 @@ module _ {T : Type 0} where
           present = first;
           passed = [];
           frames = refl;
-          levels = λ fuller deep. levels-fork_on short first.colour fuller parent first.item first.far (deep ∙ sym first.one_less);
+          levels = λ fuller deep. levels-far short first.colour fuller parent first.item first.far (deep ∙ sym first.one_less);
           ranks = λ fuller deep. rank-fork_on short first.colour fuller parent first.item first.far (deep ∙ sym first.one_less);
           mends = λ part kept same low. record {
             own = kept;
@@ -336,7 +331,7 @@ module _ {T : Type 0} where
                 frames = progress.frames ∙ ap (λ list. progress.passed ++ list) around_is ∙ sym (append_assoc progress.passed (frame ∷ []) rest);
                 levels = λ fuller deep.
                     ap black_levels (plug-append progress.passed (frame ∷ []) (full fuller))
-                    ∙ levels-fork_on frame.side frame.colour (plug progress.passed (full fuller)) frame.handle frame.item frame.sibling (even fuller deep);
+                    ∙ levels-far frame.side frame.colour (plug progress.passed (full fuller)) frame.handle frame.item frame.sibling (even fuller deep);
                 ranks = λ fuller deep.
                     ap rank (plug-append progress.passed (frame ∷ []) (full fuller))
                     ∙ rank-fork_on frame.side frame.colour (plug progress.passed (full fuller)) frame.handle frame.item frame.sibling (even fuller deep);

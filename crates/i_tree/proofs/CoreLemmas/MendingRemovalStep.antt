@@ -7,14 +7,15 @@ use Rattle.i_tree.specs.declared.rb.links.Colour.TheVariants.{Red, Black}
 use Rattle.i_tree.specs.declared.rb.links.Side.{Side}
 use Rattle.i_tree.specs.declared.rb.links.Side.TheVariants.{Left, Right}
 use Rattle.i_tree.specs.Core.Balance.{is_black, is_black_colour, level_of, IsRedBlack, MayStand, Fits, IsShort}
-use Rattle.i_tree.specs.Core.Context.{Frame, fork_on, fill, plug, other_side}
+use Rattle.i_tree.specs.Core.Context.{Frame, fork_on, plug, other_side}
 use Rattle.i_tree.specs.Core.Turns.{CanTurn}
 use Rattle.i_tree.specs.Core.Mending.{red_nodes, IsPart, IsBlackPart}
 use Rattle.i_tree.specs.Core.Removal.{KeepsPart}
 use Rattle.i_tree.specs.Core.Rising.{IsEnded, IsRisen, HasBlackSibling}
 use Rattle.i_tree.specs.Core.Shape.{Shape, leaf, fork, top, entries, black_levels, IsLive}
-use Rattle.i_tree.proofs.CoreLemmas.Contexts.{fork_on-other}
-use Rattle.i_tree.proofs.CoreLemmas.BalanceFrames.{top-fork_on, is_black-fork_on, IsPart-from_black, IsBlackPart-from, IsPart-red, IsBlackPart-black, IsLive-in, IsLive-at, occurs_top, red_nodes-fork_on, red_nodes-plug, Paints, painted, Turns}
+use Rattle.i_tree.proofs.CoreLemmas.Contexts.{fork_on-other, top-fork_on, plug-append}
+use Rattle.i_tree.proofs.CoreLemmas.Balance.{is_black-fork_on}
+use Rattle.i_tree.proofs.CoreLemmas.BalanceFrames.{IsPart-from_black, IsBlackPart-from, IsPart-red, IsBlackPart-black, IsLive-in, IsLive-at, occurs_top, red_nodes-fork_on, red_nodes-plug, Paints, painted, Turns}
 use Rattle.i_tree.proofs.CoreLemmas.MendingInsertion.{IsChild, SaysBlack}
 
 black_colour : (colour : Colour) → colour ≢ Red → colour ≡ Black
@@ -105,10 +106,6 @@ module _ {T : Type 0} where
       → entries (fork_on side colour near node node_item (fork_on side Black inner sibling item one)) ≡ entries (fork_on side colour near node node_item (fork_on side Black inner sibling item other))
   entries-same_outer Left colour near node node_item inner sibling item one other same = ap (λ list. entries near ++ (node, node_item) ∷ (entries inner ++ (sibling, item) ∷ list)) same
   entries-same_outer Right colour near node node_item inner sibling item one other same = ap (λ list. (list ++ (sibling, item) ∷ entries inner) ++ (node, node_item) ∷ entries near) same
-
-  pub plug-append : (inner around : List (Frame T)) (part : Shape T) → plug (inner ++ around) part ≡ plug around (plug inner part)
-  plug-append [] around part = refl
-  plug-append (frame ∷ inner) around part = plug-append inner around (fill frame part)
 
   pub KeepsPart-inside : (around : List (Frame T)) (part : Shape T) (handle : ℕ) (side : Side) (near : Shape T) (item : T)
       → KeepsPart part handle side near item → KeepsPart (plug around part) handle side near item

@@ -11,8 +11,8 @@ use Rattle.i_tree.specs.declared.rb.links.Slot.{Slot}
 use Rattle.i_tree.specs.declared.rb.links.Slot.TheVariants.{Used}
 use Rattle.i_tree.specs.Core.Shape.{Shape, leaf, fork, top, entries, occurs, AreHandles}
 use Rattle.i_tree.specs.Core.Context.{Frame, fork_on, fill, plug, hole_parent}
-use Rattle.i_tree.specs.Core.Slots.{slot_links, IsUsed, IsAt, IsSound, read_slot, read_tree, one_if_slot}
-use Rattle.i_tree.proofs.CoreLemmas.Contexts.{one_if_same-same, occurs_where, occurs_around}
+use Rattle.i_tree.specs.Core.Slots.{slot_links, IsUsed, IsAt, IsSound, read_slot, read_tree, one_if_slot, IsChain, occurs_in}
+use Rattle.i_tree.proofs.CoreLemmas.Contexts.{one_if_same-same, occurs_where, occurs_around, top-fork_on}
 
 -- the links of a node by its side
 abbrev pub links_on : Side → ℕ → ℕ → ℕ → Colour → Links
@@ -40,9 +40,13 @@ module _ {T : Type 0} where
       (slice_get slots frame.handle ≡ Some (Used (links_on frame.side (hole_parent around) child (top frame.sibling) frame.colour) frame.item))
       × IsAt slots frame.handle frame.sibling × IsAround slots around frame.handle
 
-  pub top-fork_on : (side : Side) (shade : Colour) (near : Shape T) (handle : ℕ) (item : T) (far : Shape T) → top (fork_on side shade near handle item far) ≡ handle
-  top-fork_on Left shade near handle item far = refl
-  top-fork_on Right shade near handle item far = refl
+  -- a chain in slots that are the same along it
+  pub IsChain-same : (old new : List (Slot T)) (first : ℕ) (chain : List ℕ) → ((handle : ℕ) → 0 < occurs_in handle chain → slice_get new handle ≡ slice_get old handle)
+      → IsChain old first chain → IsChain new first chain
+  IsChain-same old new first [] same linked = linked
+  IsChain-same old new first (handle ∷ rest) same linked =
+      let here = one_if_same-same handle in
+      (linked.0, (linked.1.0, same handle (omega arith) ∙ linked.1.1, IsChain-same old new linked.1.0 rest (λ other some. same other (omega arith)) linked.1.2))
 
   pub IsAt-from_fork_on : (slots : List (Slot T)) (above : ℕ) (side : Side) (shade : Colour) (near : Shape T) (handle : ℕ) (item : T) (far : Shape T)
       → IsAt slots above (fork_on side shade near handle item far)

@@ -1,5 +1,5 @@
 -- A red-black part inside its frames: what is known of it and of them, and how ranks grow with it.
-use Rattle.std.proofs.Common.{◌≡◌, ℕ, ◌+◌, ◌<◌, ◌≤◌, ◌⊎◌, inl, inr, Bool, true, List, [], ◌∷◌, ◌++◌, refl, sym, ap, subst, arith}
+use Rattle.std.proofs.Common.{◌≡◌, ℕ, ◌+◌, ◌<◌, ◌≤◌, ◌⊎◌, inl, inr, Bool, true, List, [], ◌∷◌, refl, sym, subst, arith}
 use Rattle.i_tree.specs.declared.rb.links.Colour.{Colour}
 use Rattle.i_tree.specs.declared.rb.links.Colour.TheVariants.{Red, Black}
 use Rattle.i_tree.specs.declared.rb.links.Side.{Side}
@@ -7,13 +7,9 @@ use Rattle.i_tree.specs.declared.rb.links.Side.TheVariants.{Left, Right}
 use Rattle.i_tree.specs.Core.Shape.{Shape, leaf, fork, black_levels, rank}
 use Rattle.i_tree.specs.Core.Balance.{is_black, is_black_colour, is_black_around, level_of, IsRedBlack, MayStand, Fits}
 use Rattle.i_tree.specs.Core.Context.{Frame, fork_on, fill, plug}
-use Rattle.i_tree.proofs.CoreLemmas.Balance.{RanksFall-from_red_black}
+use Rattle.i_tree.proofs.CoreLemmas.Balance.{RanksFall-from_red_black, is_black-fork_on, levels-fork_on}
 
 module _ {T : Type 0} where
-  pub plug-append : (inner outer : List (Frame T)) (part : Shape T) → plug (inner ++ outer) part ≡ plug outer (plug inner part)
-  plug-append [] outer part = refl
-  plug-append (frame ∷ inner) outer part = plug-append inner outer (fill frame part)
-
   -- the parts of a red-black node
   pub record HasParts (colour : Colour) (near far : Shape T) : Type 0 where
     pub near_balanced : IsRedBlack near
@@ -32,19 +28,6 @@ module _ {T : Type 0} where
       record { near_balanced = balanced.1; far_balanced = balanced.0; even = balanced.2; black_near = λ _. balanced.3.1; black_far = λ _. balanced.3.0 }
   HasParts-from Right Black near handle item far balanced =
       record { near_balanced = balanced.1; far_balanced = balanced.0; even = balanced.2; black_near = λ red. cc; black_far = λ red. cc }
-
-  -- how many levels a node has, along its near side
-  pub levels-fork_on : (side : Side) (colour : Colour) (near : Shape T) (handle : ℕ) (item : T) (far : Shape T)
-      → black_levels far ≡ black_levels near → black_levels (fork_on side colour near handle item far) ≡ black_levels near + level_of colour
-  levels-fork_on Left Red near handle item far even = omega arith
-  levels-fork_on Left Black near handle item far even = refl
-  levels-fork_on Right Red near handle item far even = omega arith
-  levels-fork_on Right Black near handle item far even = ap (λ (levels : ℕ). levels + 1) even
-
-  pub is_black-fork_on : (side : Side) (colour : Colour) (near : Shape T) (handle : ℕ) (item : T) (far : Shape T)
-      → is_black (fork_on side colour near handle item far) ≡ is_black_colour colour
-  is_black-fork_on Left colour near handle item far = refl
-  is_black-fork_on Right colour near handle item far = refl
 
   -- what frames and their part are, where they make a red-black tree
   pub record IsSplit (around : List (Frame T)) (part : Shape T) : Type 0 where

@@ -5,13 +5,14 @@ use Rattle.i_tree.specs.declared.rb.links.Colour.{Colour}
 use Rattle.i_tree.specs.declared.rb.links.Colour.TheVariants.{Red, Black}
 use Rattle.i_tree.specs.declared.rb.links.Side.{Side}
 use Rattle.i_tree.specs.Core.Shape.{Shape, leaf, top, entries, occurs, one_if_same, black_levels, rank, IsLive, AreHandles}
-use Rattle.i_tree.specs.Core.Balance.{is_black, is_black_colour, is_black_around, level_of, IsRedBlack, MayStand, Fits, IsShort}
+use Rattle.i_tree.specs.Core.Balance.{is_black, is_black_colour, level_of, IsRedBlack, Fits, IsShort}
 use Rattle.i_tree.specs.Core.Context.{Frame, fork_on, fill, plug, hole_parent, Replaces, HasOnePart}
 use Rattle.i_tree.specs.Core.Removal.{KeepsPart, MendsPart}
 use Rattle.i_tree.specs.Core.Taking.{TakesOut}
-use Rattle.i_tree.proofs.CoreLemmas.Contexts.{one_if_same-same, occurs-plug, occurs-fork_on}
-use Rattle.i_tree.proofs.CoreLemmas.BalanceFrames.{top-fork_on, is_black-fork_on, IsRedBlack-plug, top_apart, occurs-own, IsLive-at}
-use Rattle.i_tree.proofs.CoreLemmas.RemovalFrames.{plug-append, IsSplit-of, IsLower-plug, IsGone, IsGone-from}
+use Rattle.i_tree.proofs.CoreLemmas.Contexts.{one_if_same-same, occurs-plug, occurs-fork_on, top-fork_on, plug-append}
+use Rattle.i_tree.proofs.CoreLemmas.Balance.{is_black-fork_on, red_stands}
+use Rattle.i_tree.proofs.CoreLemmas.BalanceFrames.{IsRedBlack-plug, top_apart, occurs-own, IsLive-at}
+use Rattle.i_tree.proofs.CoreLemmas.RemovalFrames.{IsSplit-of, IsLower-plug, IsGone, IsGone-from}
 
 red_colour : (colour : Colour) → is_black_colour colour ≡ false → colour ≡ Red
 red_colour Red is = refl
@@ -132,10 +133,6 @@ module _ {T : Type 0} where
         black = black_colour colour (sym (is_black-fork_on side colour part gone item leaf) ∙ sym (leaves.black_is (frame ∷ rest) node is at_top));
       }
 
-  may_stand : (colour : Colour) (sibling : Shape T) (around : List (Frame T)) → MayStand colour sibling around → colour ≡ Red → (is_black sibling ≡ true) × (is_black_around around ≡ true)
-  may_stand Red sibling around stands red = stands
-  may_stand Black sibling around stands red = cc
-
   -- where the node was, the parent's side is a level short
   abbrev short_cut : (old mid : Shape T) (gone parent : ℕ) (short : Side) → LeavesShort old gone parent short mid
       → (frame : Frame T) (rest : List (Frame T)) (side : Side) (colour : Colour) (part : Shape T) (item : T)
@@ -161,7 +158,7 @@ module _ {T : Type 0} where
         near_balanced = whole.part_balanced;
         far_balanced = split.fits.0;
         one_less = omega arith;
-        red_holds = may_stand frame.colour frame.sibling rest split.fits.2;
+        red_holds = red_stands frame.colour frame.sibling rest split.fits.2;
         fits = subst P (sym deep) split.fits.3;
       }
 

@@ -9,10 +9,9 @@ use Rattle.i_tree.specs.Core.Shape.{Shape, leaf, fork, top, entries, part_at, le
 use Rattle.i_tree.specs.Core.Context.{Frame, fork_on, plug, HasOnePart}
 use Rattle.i_tree.specs.Core.Removal.{LosesAt, MendsPart, ChangesSide}
 use Rattle.i_tree.specs.Core.Taking.{IsFirst, TakesOut}
-use Rattle.i_tree.proofs.CoreLemmas.Contexts.{cut_at, before_hole, after_hole, entries-plug, occurs_among, occurs_among-append, occurs_among-entries, one_if_same-same}
+use Rattle.i_tree.proofs.CoreLemmas.Contexts.{cut_at, before_hole, after_hole, entries-plug, occurs_among, occurs_among-append, occurs_among-entries, one_if_same-same, top-fork_on, plug-append}
 use Rattle.i_tree.proofs.CoreLemmas.Parts.{part_at-of_cut, part_at-empty, list_cut, IsTopOf-part}
-use Rattle.i_tree.proofs.CoreLemmas.BalanceFrames.{top-fork_on, IsLive-at}
-use Rattle.i_tree.proofs.CoreLemmas.RemovalFrames.{plug-append}
+use Rattle.i_tree.proofs.CoreLemmas.BalanceFrames.{IsLive-at}
 use Rattle.i_tree.proofs.CoreLemmas.RemovalItems.{set_item, set_item-append, set_item-none, set_item-cut, entries-with_item, rank-with_item}
 use Rattle.i_tree.proofs.CoreLemmas.RemovalSides.{side_at, HasOnSide-from, HasOnSide-with_item, MakesSide, ChangesSide-from}
 

@@ -1,5 +1,5 @@
 -- Free slots of the arena: a slot that is taken from the chain, and the tree that gains a node in it.
-use Rattle.std.proofs.Common.{◌≡◌, ◌≢◌, ℕ, ◌+◌, ◌-◌, ◌<◌, ◌≤◌, List, [], ◌∷◌, ◌++◌, Option, Some, IsSome, length, slice_get, get_or, take, drop, refl, sym, ap, ◌∙◌, subst, length-append, arith}
+use Rattle.std.proofs.Common.{◌≡◌, ◌≢◌, ℕ, ◌+◌, ◌-◌, ◌<◌, ◌≤◌, List, [], ◌∷◌, ◌++◌, Option, Some, IsSome, length, slice_get, get_or, take, drop, refl, sym, ap, ◌∙◌, subst, arith}
 use Rattle.std.proofs.lemmas.Option.{slice_get_within, slice_get-get_or}
 use Rattle.std.proofs.Math.Seq.{take-append_seam}
 use Rattle.i_tree.specs.declared.TheConstants.{EMPTY_REF}
@@ -10,11 +10,11 @@ use Rattle.i_tree.specs.declared.rb.links.Side.{Side}
 use Rattle.i_tree.specs.declared.rb.links.Side.TheVariants.{Left, Right}
 use Rattle.i_tree.specs.declared.rb.links.Slot.{Slot}
 use Rattle.i_tree.specs.declared.rb.links.Slot.TheVariants.{Free, Used}
-use Rattle.i_tree.specs.Core.Shape.{Shape, leaf, fork, top, entries, occurs, one_if_same}
+use Rattle.i_tree.specs.Core.Shape.{Shape, leaf, fork, top, occurs, one_if_same}
 use Rattle.i_tree.specs.Core.Context.{Frame, plug, hole_parent}
 use Rattle.i_tree.specs.Core.Slots.{with_child_link, slot_links, read_tree, IsUsed, IsChain, IsSound, Relinks, occurs_in, one_if_slot}
-use Rattle.i_tree.proofs.CoreLemmas.Contexts.{one_if_same-same, occurs_around, occurs-plug, entries-plug, before_hole, after_hole}
-use Rattle.i_tree.proofs.CoreLemmas.Placed.{links_on, one_if_slot-le, IsAround-child, IsAt-plug, IsAt-from_plug, top-plug, read_sound, IsUsed-live}
+use Rattle.i_tree.proofs.CoreLemmas.Contexts.{one_if_same-same, occurs_around, occurs-plug, length-plug}
+use Rattle.i_tree.proofs.CoreLemmas.Placed.{links_on, one_if_slot-le, IsAround-child, IsAt-plug, IsAt-from_plug, top-plug, read_sound, IsUsed-live, IsChain-same}
 
 -- numbers that stand in two ways differ
 pub apart_in : (counted : ℕ → ℕ) (first second : ℕ) → 0 < counted first → counted second ≡ 0 → first ≢ second
@@ -39,14 +39,6 @@ module _ {T : Type 0} where
   read_not_used slots handle next read links item free is =
       let used : slice_get slots handle ≡ Some (Used links item) = slice_get-get_or slots handle read (slice_get_within slots handle (Free next) free) ∙ ap Some is in
       let both : ◌≡◌ {A = Option (Slot T)} (Some (Free next)) (Some (Used links item)) = sym free ∙ used in cc
-
-  -- slots that are the same at each number of the chain are linked the same
-  pub IsChain-same : (old new : List (Slot T)) (first : ℕ) (chain : List ℕ) → ((handle : ℕ) → 0 < occurs_in handle chain → slice_get new handle ≡ slice_get old handle)
-      → IsChain old first chain → IsChain new first chain
-  IsChain-same old new first [] same linked = linked
-  IsChain-same old new first (handle ∷ rest) same linked =
-      let here = one_if_same-same handle in
-      (linked.0, (linked.1.0, same handle (omega arith) ∙ linked.1.1, IsChain-same old new linked.1.0 rest (λ other some. same other (omega arith)) linked.1.2))
 
   -- the first free slot, and the chain behind it
   pub record Head (slots : List (Slot T)) (first free : ℕ) (tree : Shape T) : Type 0 where
@@ -88,10 +80,6 @@ module _ {T : Type 0} where
   pub same_next : (slots : List (Slot T)) (handle next other : ℕ) → slice_get slots handle ≡ Some (Free next) → slice_get slots handle ≡ Some (Free other) → next ≡ other
   same_next slots handle next other first second =
       let both : ◌≡◌ {A = Option (Slot T)} (Some (Free next)) (Some (Free other)) = sym first ∙ second in cc
-
-  pub size-plug : (around : List (Frame T)) (part : Shape T) → length (entries (plug around part)) ≡ length (before_hole around) + length (entries part) + length (after_hole around)
-  size-plug around part =
-      ap length (entries-plug around part) ∙ omega (arith, length-append (before_hole around) (entries part ++ after_hole around), length-append (entries part) (after_hole around))
 
   -- the tree that is read from slots known to be sound ones
   pub read_back : (slots new : List (Slot T)) (root first free : ℕ) (tree : Shape T) → slots ≡ new → IsSound new root first free tree
@@ -193,7 +181,7 @@ module _ {T : Type 0} where
             (subst Linked (same_next old first head.next next head.is_free was_free) head.linked);
         counted = omega (arith, head.counted);
         each_once = λ handle. omega (arith, head.each_once handle, outside handle, occurs-plug handle (frame ∷ around) part, ap (λ count. one_if_slot count handle) same_length);
-        total = omega (arith, sound.total, size-plug (frame ∷ around) leaf, size-plug (frame ∷ around) part);
+        total = omega (arith, sound.total, length-plug (frame ∷ around) leaf, length-plug (frame ∷ around) part);
         few = omega (arith, sound.few);
         reserved = same 0 (head_not_reserved old first free tree head)
             (λ is. let moved = ap (λ number. occurs_around number (frame ∷ around)) is in omega (arith, outside 0, sound.each_once 0)) ∙ sound.reserved;

@@ -8,9 +8,9 @@ use Rattle.i_tree.specs.declared.rb.links.Slot.{Slot}
 use Rattle.i_tree.specs.declared.rb.links.Slot.TheVariants.{Free, Used}
 use Rattle.i_tree.specs.Core.Context.{Frame, plug, hole_parent}
 use Rattle.i_tree.specs.Core.Shape.{Shape, fork, top, entries, occurs}
-use Rattle.i_tree.specs.Core.Slots.{slot_links, IsUsed, Relinks, IsAt, IsChain, IsSound, with_colour, read_tree, occurs_in, one_if_slot}
+use Rattle.i_tree.specs.Core.Slots.{slot_links, IsUsed, Relinks, IsAt, IsSound, with_colour, read_tree, one_if_slot}
 use Rattle.i_tree.proofs.CoreLemmas.Contexts.{one_if_same-same, occurs_around, occurs_among, occurs_among-entries, occurs-plug, before_hole, after_hole, entries-plug}
-use Rattle.i_tree.proofs.CoreLemmas.Placed.{one_if_slot-le, IsAt-from_plug, IsAt-plug, top-plug, IsAt-same, IsAround-same, AreHandles-sound, read_sound}
+use Rattle.i_tree.proofs.CoreLemmas.Placed.{one_if_slot-le, IsAt-from_plug, IsAt-plug, top-plug, IsAt-same, IsAround-same, AreHandles-sound, read_sound, IsChain-same}
 
 module _ {T : Type 0} where
   -- a slot in use, with what is in it
@@ -64,14 +64,6 @@ module _ {T : Type 0} where
   IsSound-read slots root first_free free tree sound =
       let Sound : Shape T → Type 0 = λ other. IsSound slots root first_free free other in
       subst Sound (sym (read_sound slots root first_free free tree sound)) sound
-
-  -- a chain in slots that are the same along it
-  pub IsChain-same : (old new : List (Slot T)) (first : ℕ) (chain : List ℕ) → ((handle : ℕ) → 0 < occurs_in handle chain → slice_get new handle ≡ slice_get old handle)
-      → IsChain old first chain → IsChain new first chain
-  IsChain-same old new first [] same linked = linked
-  IsChain-same old new first (handle ∷ rest) same linked =
-      let here = one_if_same-same handle in
-      (linked.0, (linked.1.0, same handle (omega arith) ∙ linked.1.1, IsChain-same old new linked.1.0 rest (λ other some. same other (omega arith)) linked.1.2))
 
   pub occurs-same : (handle : ℕ) (first second : Shape T) → entries first ≡ entries second → occurs handle first ≡ occurs handle second
   occurs-same handle first second same = sym (occurs_among-entries handle first) ∙ ap (occurs_among handle) same ∙ occurs_among-entries handle second

@@ -11,8 +11,8 @@ use Rattle.i_tree.specs.Core.Context.{Frame, fork_on, plug, other_side, hole_par
 use Rattle.i_tree.specs.Core.Shape.{Shape, leaf, fork, top, entries, occurs, one_if_same}
 use Rattle.i_tree.specs.Core.Slots.{child_link, with_child_link, hung_links, slot_links, links_of, IsUsed, Relinks, IsAt, IsSound}
 use Rattle.i_tree.specs.Core.Turns.{Turn, unturned, turned, Rehangs, Reparents}
-use Rattle.i_tree.proofs.CoreLemmas.Contexts.{one_if_same-same, one_if_same-cases, occurs_around, occurs-fork_on, occurs-plug}
-use Rattle.i_tree.proofs.CoreLemmas.Placed.{links_on, IsAround, top-fork_on, IsAt-from_fork_on, IsAt-fork_on, IsAt-from_plug, IsAt-plug, top-plug, IsAt-same, IsAround-same, IsAround-child, IsAt-parent, AreHandles-sound}
+use Rattle.i_tree.proofs.CoreLemmas.Contexts.{one_if_same-same, one_if_same-cases, occurs_around, occurs-fork_on, occurs-plug, top-fork_on}
+use Rattle.i_tree.proofs.CoreLemmas.Placed.{links_on, IsAround, IsAt-from_fork_on, IsAt-fork_on, IsAt-from_plug, IsAt-plug, top-plug, IsAt-same, IsAround-same, IsAround-child, IsAt-parent, AreHandles-sound}
 use Rattle.i_tree.proofs.CoreLemmas.Turning.{IsSound-changed, entries-plug-same}
 use Rattle.i_tree.proofs.CoreLemmas.TurningReads.{child_link-on}
 

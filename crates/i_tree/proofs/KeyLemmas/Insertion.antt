@@ -8,7 +8,8 @@ use Rattle.std.specs.declared.cmp.Ordering.TheVariants.{Less, Equal}
 use Rattle.std.proofs.lemmas.Bool.{both_ways, false≢true}
 use Rattle.std.proofs.lemmas.List.{length-map}
 use Rattle.std.proofs.lemmas.List.Elements.{All-nil, All-cons, All-head, All-tail}
-use Rattle.i_tree.proofs.CoreLemmas.Insertion.{IsBetween, Joins-values, above, below_joined, keys_between}
+use Rattle.i_tree.proofs.CoreLemmas.Insertion.{IsBetween, Joins-values, below_joined, keys_between}
+use Rattle.i_tree.proofs.RootLemmas.Orders.{above}
 use Rattle.i_tree.proofs.RootLemmas.Joined.{All-of_map, AllPairs-of_map, AllPairs-to_map}
 use Rattle.i_tree.proofs.RootLemmas.Cuts.{StartsIn-found}
 use Rattle.i_tree.proofs.RootLemmas.RisingKeys.{less_from_is_lt, not_less_from_is_lt}
@@ -82,7 +83,7 @@ module _ {K V : Type 0} {cmp : K → K → Ordering} (o : IsTotalOrder cmp) (key
               last = end.before;
               first = StartsIn-found (FindsCalled is_live May false) (IsCalled is_live May false) (λ entry handle finds. finds.0) EMPTY_REF next end.back end.after;
               lower = λ entry differs finds. less_from_is_lt (cmp entry.1.0 key) (sym finds.0.1);
-              higher = λ entry differs misses. above key_of o entry.1.0 key (not_less_from_is_lt (cmp entry.1.0 key) (sym misses.1)) (differs misses.0);
+              higher = λ entry differs misses. above o entry.1.0 key (not_less_from_is_lt (cmp entry.1.0 key) (sym misses.1)) (differs misses.0);
             }
 
   pub one_more : length (entries tree') ≡ length (entries tree) + 1

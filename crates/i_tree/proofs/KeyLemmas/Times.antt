@@ -1,14 +1,15 @@
 -- Facts on times and on what is live at them.
-use Rattle.std.proofs.Common.{◌≡◌, ℕ, ◌+◌, ◌<◌, true, false, not, Option, Some, List, length, get_or, take, refl, sym, ap, ◌∙◌, subst}
+use Rattle.std.proofs.Common.{◌≡◌, ℕ, ◌+◌, ◌<◌, true, false, not, Option, Some, List, length, get_or, take, refl, ap, ◌∙◌, subst}
 use Rattle.std.specs.Cmp.{IsTotalOrder, upto, tied_itself}
-use Rattle.std.specs.Ordering.{is_ge, is_gt, is_lt, is_some_and, ord_min, ordering_reverse, partial_ge}
+use Rattle.std.specs.Ordering.{is_ge, is_gt, is_lt, is_some_and, ord_min, partial_ge}
 use Rattle.std.specs.declared.cmp.Ordering.{Ordering}
 use Rattle.std.specs.declared.cmp.Ordering.TheVariants.{Less, Equal, Greater}
 use Rattle.std.specs.List.{insert}
-use Rattle.std.proofs.lemmas.Bool.{cond_both, both_ways, not-true}
+use Rattle.std.proofs.lemmas.Bool.{cond_both, both_ways}
 use Rattle.std.proofs.lemmas.List.Elements.{All-more, All-weaker}
 use Rattle.i_tree.specs.Key.Live.{is_live, live_pairs, NoneExpiresBefore}
 use Rattle.i_tree.proofs.RootLemmas.Lists.{All-insert, filter_all}
+use Rattle.i_tree.proofs.RootLemmas.Orders.{gt-turned, ge-turned, at_or_after-turned, not_after-turned}
 
 -- what `>=` answers, by `cmp`
 pub ge_from_cmp : {E : Type 0} (partial-cmp : E → E → Option Ordering) (cmp : E → E → Ordering) → ((x y : E) → partial-cmp x y ≡ Some (cmp x y)) → (x y : E) → partial_ge partial-cmp x y ≡ is_ge (cmp x y)
@@ -32,28 +33,11 @@ module _ {E : Type 0} {cmp : E → E → Ordering} (o : IsTotalOrder cmp) where
   not_after-min_second a b =
       cond_both (is_lt (cmp b a)) b a (λ m. is_gt (cmp m b) ≡ false)
       (λ _. ap is_gt (tied_itself o b))
-      (λ level. ap is_gt (o.antisymm a b) ∙ turned (cmp b a) level)
-    where
-      turned : (r : Ordering) → is_lt r ≡ false → is_gt (ordering_reverse r) ≡ false
-      turned Less h = absurd (both_ways true h refl)
-      turned Equal h = refl
-      turned Greater h = refl
-
-  -- a time is at or after another one exactly where that is not after it
-  ge_turned : (a b : E) → is_ge (cmp a b) ≡ not (is_gt (cmp b a))
-  ge_turned a b = ap is_ge (o.antisymm a b) ∙ turned (cmp b a)
-    where
-      turned : (r : Ordering) → is_ge (ordering_reverse r) ≡ not (is_gt r)
-      turned Less = refl
-      turned Equal = refl
-      turned Greater = refl
+      (λ level. gt-turned o a b ∙ level)
 
   -- times in descending order
   ge-trans : (a b c : E) → is_ge (cmp a b) ≡ true → is_ge (cmp b c) ≡ true → is_ge (cmp a c) ≡ true
-  ge-trans a b c ab bc = ge_turned a c ∙ ap not (upto o c b a (not_after b c bc) (not_after a b ab))
-    where
-      not_after : (later time : E) → is_ge (cmp later time) ≡ true → is_gt (cmp time later) ≡ false
-      not_after later time h = not-true (is_gt (cmp time later)) (sym (ge_turned later time) ∙ h)
+  ge-trans a b c ab bc = not_after-turned o a c (upto o c b a (at_or_after-turned o b c bc) (at_or_after-turned o a b ab))
 
   -- what is live at a time was live before
   pub is_live-before : {K : Type 0} (expiration : K → E) (time later : E) (key : K) → is_ge (cmp later time) ≡ true → is_live expiration cmp later key ≡ true → is_live expiration cmp time key ≡ true
@@ -88,5 +72,5 @@ module _ {E : Type 0} {cmp : E → E → Ordering} (o : IsTotalOrder cmp) where
     live_pairs-early bound time pairs early h =
         filter_all (λ pair. is_live expiration cmp time pair.0) pairs
         (All-weaker (λ pair. is_gt (cmp bound (expiration pair.0)) ≡ false) (λ pair. is_live expiration cmp time pair.0 ≡ true)
-        (λ pair not_after. is_live-before expiration time bound pair.0 early (ge_turned (expiration pair.0) bound ∙ ap not not_after))
+        (λ pair not_after. is_live-before expiration time bound pair.0 early (ge-turned o (expiration pair.0) bound ∙ ap not not_after))
         pairs h)

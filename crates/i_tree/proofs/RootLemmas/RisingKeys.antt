@@ -11,6 +11,7 @@ use Rattle.std.proofs.lemmas.List.Elements.{All-from_get_or}
 use Rattle.std.proofs.lemmas.Option.{get_or_from_slice_get}
 use Rattle.std.proofs.lemmas.List.{length-take-le, get_or-take, get_or-drop}
 use Rattle.i_tree.proofs.RootLemmas.Lists.{All-filter_passing, AllPairs-insert, Contains-filter}
+use Rattle.i_tree.proofs.RootLemmas.Orders.{above}
 use Rattle.i_tree.specs.Key.KeyExpList.{Contents}
 use Rattle.i_tree.specs.Key.Live.{is_live, live_pairs}
 use Rattle.i_tree.specs.Root.Pairs.{HasKey, NoKey, IsRising}
@@ -222,15 +223,7 @@ module _ {K V : Type 0} {cmp : K → K → Ordering} (o : IsTotalOrder cmp) wher
       rw (get_or-take place pairs k d (omega arith)) (before k d (omega arith) (omega arith)))
       (λ k d inside.
       let short = length-drop place pairs in
-      rw (get_or-drop place pairs k d) (above (get_or pairs (place + k) d).0 pair.0 (from (place + k) d (omega arith) (omega arith)) (free (place + k) d (omega arith))))
-    where
-      above : (x y : K) → cmp x y ≢ Less → cmp x y ≢ Equal → cmp y x ≡ Less
-      above x y not_less not_equal = turned (cmp x y) (cmp y x) (o.antisymm y x) not_less not_equal
-        where
-          turned : (r s : Ordering) → s ≡ ordering_reverse r → r ≢ Less → r ≢ Equal → s ≡ Less
-          turned Less s e not_less not_equal = absurd (not_less refl)
-          turned Equal s e not_less not_equal = absurd (not_equal refl)
-          turned Greater s e not_less not_equal = e
+      rw (get_or-drop place pairs k d) (above o (get_or pairs (place + k) d).0 pair.0 (from (place + k) d (omega arith) (omega arith)) (free (place + k) d (omega arith))))
 
   module _ {E : Type 0} (expiration : K → E) (cmp_time : E → E → Ordering) (time : E) where
     pub HasKey-live : (pairs : List (K × V)) (key : K) (pair : K × V) → Contains pairs pair → is_live expiration cmp_time time pair.0 ≡ true → cmp pair.0 key ≡ Equal → HasKey cmp (live_pairs expiration cmp_time time pairs) key

@@ -1,5 +1,5 @@
 -- What a caller of segments wants of its clauses, in a caller's words.
-use Rattle.std.proofs.Common.{◌≡◌, ℕ, zero, suc, ◌<◌, Bool, ℤ, ◌≤ℤ◌, true, ◌⊎◌, inl, inr, List, [], ◌∷◌, map, length, get_or, Option, ap, sym, subst, arith, IsPermutation}
+use Rattle.std.proofs.Common.{◌≡◌, zero, suc, Bool, ℤ, ◌≤ℤ◌, true, ◌⊎◌, inl, inr, List, [], ◌∷◌, map, Option, ap, sym, subst, arith, IsPermutation}
 use Rattle.std.specs.List.{Contains, filter}
 use Rattle.std.specs.declared.cmp.Ordering.{Ordering}
 use Rattle.std.proofs.lemmas.Bool.{cond-true}

@@ -4,7 +4,7 @@ use Rattle.std.proofs.Math.Nat.{lt-div-mul-add, div-mul-le_self}
 use Rattle.std.proofs.lemmas.Nat.{mul-le, le-div}
 use Rattle.std.proofs.lemmas.Int.{ints}
 use Rattle.std.proofs.lemmas.Bool.Decides.{nat_tests}
-use Rattle.i_tree.specs.Seg.Buckets.{Buckets, distance, bucket, Accepts, Filters}
+use Rattle.i_tree.specs.Seg.Buckets.{Buckets, distance, bucket, Filters}
 
 distance_is : (start value : ℤ) → start ≤ℤ value → pos (distance start value) ≡ value -ℤ start
 distance_is start value upwards = omega (arith, ints)

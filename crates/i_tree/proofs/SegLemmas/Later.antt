@@ -1,16 +1,15 @@
 -- What chunks hold at a later time, and after a walk.
-use Rattle.std.proofs.Common.{◌≡◌, ◌≢◌, ℕ, ◌+◌, ◌≤◌, Bool, true, false, cond, Option, None, Some, List, [], ◌∷◌, map, refl, ap, sym, ◌∙◌, subst, IsPermutation}
+use Rattle.std.proofs.Common.{◌≡◌, ℕ, ◌+◌, ◌≤◌, Bool, true, false, cond, Option, None, Some, List, [], ◌∷◌, map, refl, ap, sym, ◌∙◌, subst, IsPermutation}
 use Rattle.std.specs.Cmp.{IsTotalOrder, upto}
 use Rattle.std.specs.List.{filter}
-use Rattle.std.specs.Ordering.{is_ge, is_gt, ordering_reverse}
 use Rattle.std.specs.declared.cmp.Ordering.{Ordering}
-use Rattle.std.specs.declared.cmp.Ordering.TheVariants.{Less, Equal, Greater}
 use Rattle.std.proofs.lemmas.Bool.{cond-true, cond-false, false≢true}
 use Rattle.std.proofs.lemmas.List.Elements.{All-filter}
 use Rattle.std.proofs.lemmas.List.Sorted.{IsPermutation-trans}
 use Rattle.i_tree.specs.Seg.Copies.{chunk_at, copies_at, copy_of, is_at, live_copies, Holds}
 use Rattle.i_tree.specs.Seg.Members.{Member, is_live, is_live_yet, live_members, NotBefore}
 use Rattle.i_tree.specs.Seg.Walk.{SameLive}
+use Rattle.i_tree.proofs.RootLemmas.Orders.{not_before-turned, at_or_after-turned, not_after-turned}
 use Rattle.i_tree.proofs.SegLemmas.Bags.{IsPermutation-filter}
 
 module _ {X : Type 0} (p q : X → Bool) where
@@ -49,35 +48,11 @@ module _ {X Y : Type 0} (test : Y → Bool) (f : X → Y) where
       told false rest = rest
 
 module _ {E V : Type 0} {cmp : E → E → Ordering} (o : IsTotalOrder cmp) (expiration : V → E) where
-  not_after : (expires time : E) → is_ge (cmp expires time) ≡ true → is_gt (cmp time expires) ≡ false
-  not_after expires time live = ap is_gt (o.antisymm time expires) ∙ told (cmp expires time) live
-    where
-      told : (r : Ordering) → is_ge r ≡ true → is_gt (ordering_reverse r) ≡ false
-      told Less h = absurd (false≢true h)
-      told Equal h = refl
-      told Greater h = refl
-
-  not_late : (time last : E) → cmp time last ≢ Less → is_gt (cmp last time) ≡ false
-  not_late time last later = ap is_gt (o.antisymm last time) ∙ told (cmp time last) later
-    where
-      told : (r : Ordering) → r ≢ Less → is_gt (ordering_reverse r) ≡ false
-      told Less h = absurd (h refl)
-      told Equal h = refl
-      told Greater h = refl
-
-  is_still : (expires last : E) → is_gt (cmp last expires) ≡ false → is_ge (cmp expires last) ≡ true
-  is_still expires last h = ap is_ge (o.antisymm expires last) ∙ told (cmp last expires) h
-    where
-      told : (r : Ordering) → is_gt r ≡ false → is_ge (ordering_reverse r) ≡ true
-      told Less h = refl
-      told Equal h = refl
-      told Greater h = absurd (false≢true (sym h))
-
   -- what is live at a time is live at each earlier one
   pub live-before : (latest : Option E) (time : E) → NotBefore cmp latest time → (value : V) → is_live expiration cmp time value ≡ true → is_live_yet expiration cmp latest value ≡ true
   live-before None time later value live = refl
   live-before (Some last) time later value live =
-      is_still (expiration value) last (upto o last time (expiration value) (not_late time last later) (not_after (expiration value) time live))
+      not_after-turned o (expiration value) last (upto o last time (expiration value) (not_before-turned o time last later) (at_or_after-turned o (expiration value) time live))
 
   -- chunks hold at a later time those of the members that are live then
   pub Holds-later : (latest : Option E) (time : E) (count : ℕ) (chunks : List (List (ℕ × V))) (members : List (Member V)) → NotBefore cmp latest time

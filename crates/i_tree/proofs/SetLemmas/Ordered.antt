@@ -31,6 +31,7 @@ module _ {K V : Type 0} (key_of : V → K) (cmp : K → K → Ordering) where
     pub lower : V
     pub cut : pairs ≡ front ++ (before, lower) ∷ ((here, value) ∷ back)
 
+  -- pairs end with the one at their last handle
   cut_last : (pairs : List (ℕ × V)) → 0 < length pairs → (front : List (ℕ × V)) × (value : V) × (pairs ≡ front ++ (last_handle pairs, value) ∷ [])
   cut_last [] some = absurd (omega (arith, some))
   cut_last (first ∷ rest) some =
@@ -50,13 +51,10 @@ module _ {K V : Type 0} (key_of : V → K) (cmp : K → K → Ordering) where
         counted = omega arith;
       }
 
-  some_before : (front : List (ℕ × V)) → 0 < length front → (rest : List (ℕ × V)) × (value : V) × (front ≡ rest ++ (last_handle front, value) ∷ [])
-  some_before front some = cut_last front some
-
   pub before_rising : (pairs : List (ℕ × V)) (before here count : ℕ) (rising : IsRisingFrom pairs here count) → count < length pairs → before ≡ last_handle rising.front → IsBefore pairs before here rising.value rising.back
   before_rising pairs before here count rising inside is =
       let pair : ℕ × V = (here, rising.value) in
-      let found = some_before rising.front (omega (arith, inside, rising.counted, ap length rising.cut, length-append rising.front (pair ∷ rising.back))) in
+      let found = cut_last rising.front (omega (arith, inside, rising.counted, ap length rising.cut, length-append rising.front (pair ∷ rising.back))) in
       record {
         front = found.0;
         lower = found.1;

@@ -4,7 +4,7 @@ use Rattle.std.specs.Borrow.{Bor}
 use Rattle.std.specs.Cmp.{IsTotalOrder}
 use Rattle.std.specs.List.{All, AllPairs, insert, remove, enumerate_from}
 use Rattle.std.specs.List.Sorted.{IsPartitionPoint, IsPartitionedBy}
-use Rattle.std.specs.Ordering.{is_ge, is_gt, is_lt, ordering_reverse}
+use Rattle.std.specs.Ordering.{is_ge, is_gt, is_lt}
 use Rattle.std.specs.declared.cmp.Ordering.{Ordering}
 use Rattle.std.specs.declared.cmp.Ordering.TheVariants.{Less, Equal, Greater}
 use Rattle.std.proofs.Math.Nat.{min-le_left, min-le_right}
@@ -15,6 +15,7 @@ use Rattle.std.proofs.lemmas.List.Edits.{remove-append_right}
 use Rattle.std.proofs.lemmas.List.FromFn.{length-enumerate_from, get_or-enumerate_from}
 use Rattle.std.proofs.lemmas.Option.{slice_get-get_or}
 use Rattle.i_tree.proofs.RootLemmas.RisingKeys.{AtMost-at_count, IsPartitionedBy-monotone, IsPartitionedBy-rising}
+use Rattle.i_tree.proofs.RootLemmas.Orders.{above}
 use Rattle.i_tree.proofs.RootLemmas.Lists.{AllPairs-insert}
 use Rattle.i_tree.proofs.RootLemmas.Joined.{last_cut}
 use Rattle.i_tree.proofs.SetLemmas.Search.{last_handle-end}
@@ -205,18 +206,10 @@ module _ {K V : Type 0} (key_of : V → K) where
         rw (get_or-take place xs k d (omega arith)) (before k d (omega arith) (omega arith)))
         (λ k d inside.
         let short = length-drop place xs in
-        rw (get_or-drop place xs k d) (above (key_of (get_or xs (place + k) d)) (key_of x) (from (place + k) d (omega arith) (omega arith)) (free (place + k) d (omega arith)))))
+        rw (get_or-drop place xs k d) (above o (key_of (get_or xs (place + k) d)) (key_of x) (from (place + k) d (omega arith) (omega arith)) (free (place + k) d (omega arith)))))
       where
         free : All (λ y. cmp (key_of y) (key_of x) ≢ Equal) xs
         free = All-keys (λ key. cmp key (key_of x) ≢ Equal) xs absent
-
-        above : (a b : K) → cmp a b ≢ Less → cmp a b ≢ Equal → cmp b a ≡ Less
-        above a b not_less not_equal = turned (cmp a b) (cmp b a) (o.antisymm b a) not_less not_equal
-          where
-            turned : (r s : Ordering) → s ≡ ordering_reverse r → r ≢ Less → r ≢ Equal → s ≡ Less
-            turned Less s e not_less not_equal = absurd (not_less refl)
-            turned Equal s e not_less not_equal = absurd (not_equal refl)
-            turned Greater s e not_less not_equal = e
 
     module _ (order : K → Ordering) where
       -- the keys that a monotone order doesn't call Greater stand in front
