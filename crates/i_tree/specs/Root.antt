@@ -7,5 +7,6 @@ pub mod Ends
 pub mod Halving
 pub mod LayoutNumbers
 pub mod Levels
+pub mod Live
 pub mod Pairs
 pub mod Steps

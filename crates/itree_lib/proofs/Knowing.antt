@@ -8,7 +8,8 @@ use Rattle.std.specs.List.{All, Contains}
 use Rattle.std.proofs.lemmas.List.Elements.{All-contains_itself, All-weaker, All-same}
 use Rattle.i_tree.specs.Root.Answer.{IsMonotone}
 use Rattle.i_tree.specs.Root.Change.{Without}
-use Rattle.i_tree.specs.Key.Live.{is_live, live_pairs}
+use Rattle.i_tree.specs.Key.Live.{live_pairs}
+use Rattle.i_tree.specs.Root.Live.{is_live}
 use Rattle.i_tree.proofs.RootLemmas.Lists.{All-insert, Contains-filter, Contains-here, Contains-there}
 use Rattle.itree_lib.specs.KeyMachine.{Inserts}
 use Rattle.itree_lib.specs.Probes.{CanProbe, CanProbeAll, ProbesBy, ProbesAllBy, known_after}

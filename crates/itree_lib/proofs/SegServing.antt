@@ -9,7 +9,8 @@ use Rattle.std.proofs.lemmas.Bool.{both_ways}
 use Rattle.std.proofs.lemmas.List.Sorted.{length_permutation, IsPermutation-refl, IsPermutation-trans, IsPermutation-cons, IsPermutation-map}
 use Rattle.i_tree.proofs.RootLemmas.Orders.{gt-turned, at_or_after-turned, not_after-turned}
 use Rattle.i_tree.specs.Seg.Buckets.{Buckets, Interval, interval, overlap}
-use Rattle.i_tree.specs.Seg.Members.{Member, member_over, is_live, is_live_yet, live_members, with_member, answer, NotBefore}
+use Rattle.i_tree.specs.Seg.Members.{Member, member_over, is_live_yet, live_members, with_member, answer, NotBefore}
+use Rattle.i_tree.specs.Root.Live.{is_live}
 use Rattle.i_tree.specs.declared.seg.exp.SegRange.{SegRange}
 use Rattle.i_tree.proofs.SegLemmas.Bags.{IsPermutation-filter}
 use Rattle.itree_lib.specs.KeyMachine.{is_late}

@@ -2,7 +2,7 @@
 
 ghost use Rattle.std.specs.Prelude.{◌≡◌, ◌++◌, ◌∷◌, [], ℕ, true, List, OnOk};
 ghost use Rattle.std.specs.Ordering.{nat_cmp};
-ghost use Rattle.i_tree.specs.Key.Live.{is_live};
+ghost use Rattle.i_tree.specs.Root.Live.{is_live};
 ghost use Rattle.itree_lib.specs.KeyMachine.{State, beginning, Run};
 ghost use Rattle.itree_lib.specs.declared.run.keys.KeyReply.{KeyReply};
 ghost use Rattle.rows.specs.declared.live_closures.Numbered.{Numbered};

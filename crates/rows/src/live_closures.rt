@@ -3,7 +3,8 @@
 ghost use Rattle.std.specs.Prelude.{◌≡◌, true};
 ghost use Rattle.std.specs.Ordering.{nat_cmp};
 ghost use Rattle.i_tree.specs.Root.Answer.{AtMost};
-ghost use Rattle.i_tree.specs.Key.Live.{is_live, live_pairs};
+ghost use Rattle.i_tree.specs.Key.Live.{live_pairs};
+ghost use Rattle.i_tree.specs.Root.Live.{is_live};
 ghost use Rattle.rows.specs.declared.live_closures.Numbered.{Numbered};
 
 use i_tree::ExpiredKey;

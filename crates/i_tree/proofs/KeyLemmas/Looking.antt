@@ -15,7 +15,8 @@ use Rattle.i_tree.proofs.RootLemmas.Lists.{All-filter_passing, AllPairs-head, Ma
 use Rattle.i_tree.proofs.RootLemmas.Joined.{Any-behind, Any-here, AllPairs-across, AllPairs-behind, AllPairs-of_map, All-to_map, Contains-middle}
 use Rattle.i_tree.proofs.CoreLemmas.Entries.{IsBelow}
 use Rattle.i_tree.specs.Key.KeyExpTree.{items}
-use Rattle.i_tree.specs.Key.Live.{is_live, live_pairs}
+use Rattle.i_tree.specs.Key.Live.{live_pairs}
+use Rattle.i_tree.specs.Root.Live.{is_live}
 use Rattle.i_tree.specs.Root.Pairs.{HasKey, IsRising, NoKey}
 use Rattle.i_tree.specs.Set.Pairs.{values}
 use Rattle.i_tree.specs.Core.Shape.{Shape, entries}

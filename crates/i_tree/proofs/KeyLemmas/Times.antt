@@ -7,7 +7,8 @@ use Rattle.std.specs.declared.cmp.Ordering.TheVariants.{Less, Equal, Greater}
 use Rattle.std.specs.List.{insert}
 use Rattle.std.proofs.lemmas.Bool.{cond_both, both_ways}
 use Rattle.std.proofs.lemmas.List.Elements.{All-more, All-weaker}
-use Rattle.i_tree.specs.Key.Live.{is_live, live_pairs, NoneExpiresBefore}
+use Rattle.i_tree.specs.Key.Live.{live_pairs, NoneExpiresBefore}
+use Rattle.i_tree.specs.Root.Live.{is_live}
 use Rattle.i_tree.proofs.RootLemmas.Lists.{All-insert, filter_all}
 use Rattle.i_tree.proofs.RootLemmas.Orders.{gt-turned, ge-turned, at_or_after-turned, not_after-turned}
 

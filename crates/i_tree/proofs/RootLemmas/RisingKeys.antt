@@ -13,7 +13,8 @@ use Rattle.std.proofs.lemmas.List.{length-take-le, get_or-take, get_or-drop}
 use Rattle.i_tree.proofs.RootLemmas.Lists.{All-filter_passing, AllPairs-insert, Contains-filter}
 use Rattle.i_tree.proofs.RootLemmas.Orders.{above}
 use Rattle.i_tree.specs.Key.KeyExpList.{Contents}
-use Rattle.i_tree.specs.Key.Live.{is_live, live_pairs}
+use Rattle.i_tree.specs.Key.Live.{live_pairs}
+use Rattle.i_tree.specs.Root.Live.{is_live}
 use Rattle.i_tree.specs.Root.Pairs.{HasKey, NoKey, IsRising}
 use Rattle.i_tree.specs.Root.Answer.{Above, GreatestOr, AtMost, IsMonotone}
 

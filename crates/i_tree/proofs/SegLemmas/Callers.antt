@@ -6,7 +6,8 @@ use Rattle.std.proofs.lemmas.Bool.{cond-true}
 use Rattle.std.proofs.lemmas.List.Elements.{Contains-append_cases}
 use Rattle.std.proofs.lemmas.List.Sorted.{Contains-permutation}
 use Rattle.i_tree.specs.Seg.Buckets.{Buckets, Filters, Accepts, interval, overlap}
-use Rattle.i_tree.specs.Seg.Members.{Member, is_live, is_live_yet, live_members, member_over, with_member, answer}
+use Rattle.i_tree.specs.Seg.Members.{Member, is_live_yet, live_members, member_over, with_member, answer}
+use Rattle.i_tree.specs.Root.Live.{is_live}
 use Rattle.i_tree.proofs.RootLemmas.Lists.{Contains-here, Contains-there, Contains-filter}
 -- What is live at a time is live at each earlier one.
 pub use Rattle.i_tree.proofs.SegLemmas.Later.{live-before}

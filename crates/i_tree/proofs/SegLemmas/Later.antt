@@ -7,7 +7,8 @@ use Rattle.std.proofs.lemmas.Bool.{cond-true, cond-false, false≢true}
 use Rattle.std.proofs.lemmas.List.Elements.{All-filter}
 use Rattle.std.proofs.lemmas.List.Sorted.{IsPermutation-trans}
 use Rattle.i_tree.specs.Seg.Copies.{chunk_at, copies_at, copy_of, is_at, live_copies, Holds}
-use Rattle.i_tree.specs.Seg.Members.{Member, is_live, is_live_yet, live_members, NotBefore}
+use Rattle.i_tree.specs.Seg.Members.{Member, is_live_yet, live_members, NotBefore}
+use Rattle.i_tree.specs.Root.Live.{is_live}
 use Rattle.i_tree.specs.Seg.Walk.{SameLive}
 use Rattle.i_tree.proofs.RootLemmas.Orders.{not_before-turned, at_or_after-turned, not_after-turned}
 use Rattle.i_tree.proofs.SegLemmas.Bags.{IsPermutation-filter}

@@ -10,7 +10,7 @@ use Rattle.std.proofs.lemmas.List.Elements.{All-nil, All-cons, All-head, All-tai
 use Rattle.std.proofs.lemmas.List.Sorted.{IsPermutation-refl, IsPermutation-trans, IsPermutation-append_right, IsPermutation-swap_remove}
 use Rattle.std.proofs.lemmas.Nat.Bits.{bit_at-zero}
 use Rattle.i_tree.specs.Seg.Copies.{chunk_at, live_copies}
-use Rattle.i_tree.specs.Seg.Members.{is_live}
+use Rattle.i_tree.specs.Root.Live.{is_live}
 use Rattle.i_tree.specs.Seg.Nodes.{has_node}
 use Rattle.i_tree.specs.Seg.Walk.{AllLive, LosesExpired, LosesExpiredAt, Cleans, HasPassed}
 use Rattle.i_tree.proofs.RootLemmas.Lists.{filter_all}

@@ -14,7 +14,8 @@ use Rattle.std.proofs.lemmas.Nat.{and_le_l}
 use Rattle.std.proofs.lemmas.Nat.Bits.{bit_at_clear_same, bit_at_clear_other}
 use Rattle.i_tree.specs.Root.Steps.{Counts, Accumulates}
 use Rattle.i_tree.specs.Seg.Copies.{chunk_at, copies_in, found_at, found_among, live_copies, stored_copies}
-use Rattle.i_tree.specs.Seg.Members.{Member, is_live}
+use Rattle.i_tree.specs.Seg.Members.{Member}
+use Rattle.i_tree.specs.Root.Live.{is_live}
 use Rattle.i_tree.specs.Seg.Nodes.{has_node, lowest as first, nodes_of, IsLowest}
 use Rattle.i_tree.specs.Seg.Walk.{found_from, to_come, live_from, AllLive, LosesExpired, LosesExpiredAt, HasPassed, SameLive, Reads}
 use Rattle.i_tree.proofs.SegLemmas.Among.{shared}

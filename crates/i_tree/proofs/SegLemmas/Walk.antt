@@ -12,7 +12,8 @@ use Rattle.std.proofs.lemmas.List.Elements.{All-more, All-same}
 use Rattle.std.proofs.lemmas.List.Sorted.{IsPermutation-refl, IsPermutation-trans, IsPermutation-map, IsPermutation-swap_remove, length_permutation}
 use Rattle.i_tree.specs.Root.Steps.{Counts, nothing, one_test, one_removal, together, Accumulates}
 use Rattle.i_tree.specs.Seg.Copies.{found_at, live_copies, member_of}
-use Rattle.i_tree.specs.Seg.Members.{Member, is_live}
+use Rattle.i_tree.specs.Seg.Members.{Member}
+use Rattle.i_tree.specs.Root.Live.{is_live}
 use Rattle.i_tree.specs.Seg.Nodes.{lowest}
 use Rattle.i_tree.specs.Seg.Walk.{AllLive, LosesExpired, Reads}
 use Rattle.i_tree.proofs.SegLemmas.Bags.{IsPermutation-filter}

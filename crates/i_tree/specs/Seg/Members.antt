@@ -1,10 +1,10 @@
 -- What a tree of segments holds: a bag of values, each over some buckets. Lists of members are bags: their order is open.
 use Rattle.std.specs.Prelude.{◌≡◌, ◌≢◌, ℤ, Bool, true, if◌then◌else◌, List, ◌∷◌, map, filter, All, MatchOption, ⊤}
-use Rattle.std.specs.Ordering.{is_ge}
 use Rattle.std.specs.declared.cmp.Ordering.{Ordering}
 use Rattle.std.specs.declared.cmp.Ordering.TheVariants.{Less}
 use Rattle.std.specs.declared.option.Option.{Option}
 use Rattle.std.specs.declared.option.Option.TheVariants.{None, Some}
+use Rattle.i_tree.specs.Root.Live.{is_live}
 use Rattle.i_tree.specs.Seg.Buckets.{Buckets, Interval, interval, overlap}
 
 -- a value over the buckets of its range
@@ -22,14 +22,10 @@ values_of members = map (λ member. member.value) members
 
 -- `expiration` gives a value's expiration, and `cmp` compares expirations.
 module _ {E V : Type 0} (expiration : V → E) (cmp : E → E → Ordering) where
-  -- a value is live at each time up to its expiration, and still at the equal moment
-  abbrev pub is_live : E → V → Bool
-  is_live time value = is_ge (cmp (expiration value) time)
-
   -- a value is live at the latest time; where no time has come yet, each is
   abbrev pub is_live_yet : Option E → V → Bool
   is_live_yet None value = true
-  is_live_yet (Some time) value = is_live time value
+  is_live_yet (Some time) value = is_live expiration cmp time value
 
   -- each member is live at the latest time
   abbrev pub AllLiveYet : Option E → List (Member V) → Type 0
@@ -37,7 +33,7 @@ module _ {E V : Type 0} (expiration : V → E) (cmp : E → E → Ordering) wher
 
   -- the members that are live at a time
   abbrev pub live_members : E → List (Member V) → List (Member V)
-  live_members time members = filter (λ member. is_live time member.value) members
+  live_members time members = filter (λ member. is_live expiration cmp time member.value) members
 
   -- the members and one more, which joins them where it is live at the latest time
   abbrev pub with_member : Option E → Member V → List (Member V) → List (Member V)

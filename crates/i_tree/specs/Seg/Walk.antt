@@ -5,7 +5,8 @@ use Rattle.std.specs.declared.cmp.Ordering.{Ordering}
 use Rattle.std.specs.declared.option.Option.TheVariants.{Some}
 use Rattle.i_tree.specs.Root.Steps.{Counts}
 use Rattle.i_tree.specs.Seg.Copies.{chunk_at, found_at, found_among, live_copies}
-use Rattle.i_tree.specs.Seg.Members.{Member, is_live}
+use Rattle.i_tree.specs.Seg.Members.{Member}
+use Rattle.i_tree.specs.Root.Live.{is_live}
 use Rattle.i_tree.specs.Seg.Nodes.{has_node, lowest, nodes_of}
 
 module _ {E V : Type 0} (expiration : V → E) (cmp : E → E → Ordering) (time : E) where

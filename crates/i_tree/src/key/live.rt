@@ -1,7 +1,8 @@
 //! Which keys are live at a time.
 
 ghost use Rattle.std.specs.Prelude.{◌≡◌, vec_capacity};
-ghost use Rattle.i_tree.specs.Key.Live.{is_live, live_pairs, NoneExpiresBefore};
+ghost use Rattle.i_tree.specs.Key.Live.{live_pairs, NoneExpiresBefore};
+ghost use Rattle.i_tree.specs.Root.Live.{is_live};
 
 use crate::{Expiration, ExpiredKey};
 use std::alloc::Allocator;

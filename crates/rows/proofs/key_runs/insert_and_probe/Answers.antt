@@ -4,7 +4,8 @@ use Rattle.std.specs.Cmp.{nat_cmp_total}
 use Rattle.std.specs.Ordering.{nat_cmp}
 use Rattle.std.proofs.lemmas.List.Elements.{filter_passes}
 use Rattle.std.proofs.lemmas.Result.{on_ok_weaker}
-use Rattle.i_tree.specs.Key.Live.{is_live, live_pairs}
+use Rattle.i_tree.specs.Key.Live.{live_pairs}
+use Rattle.i_tree.specs.Root.Live.{is_live}
 use Rattle.i_tree.proofs.RootLemmas.Monotone.{IsMonotone-compare}
 use Rattle.rows.specs.declared.live_closures.Numbered.{Numbered}
 use Rattle.rows.proofs.key_runs.insert_and_probe.Goals as goal

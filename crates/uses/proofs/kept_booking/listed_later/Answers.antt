@@ -6,7 +6,8 @@ use Rattle.std.specs.declared.cmp.Ordering.{Ordering}
 use Rattle.std.specs.declared.cmp.Ordering.TheVariants.{Less, Equal, Greater}
 use Rattle.std.proofs.lemmas.Cmp.{nat_cmp_total, ranked}
 use Rattle.i_tree.specs.Seg.Buckets.{Buckets, Accepts}
-use Rattle.i_tree.specs.Seg.Members.{Member, NotBefore, is_live, is_live_yet, member_over}
+use Rattle.i_tree.specs.Seg.Members.{Member, NotBefore, is_live_yet, member_over}
+use Rattle.i_tree.specs.Root.Live.{is_live}
 use Rattle.i_tree.proofs.SegLemmas.Callers.{finds_overlapping, is_stored, stays_member, live-before}
 use Rattle.uses.specs.declared.kept_booking.Booking.{Booking}
 use Rattle.uses.proofs.kept_booking.listed_later.Goals as goal

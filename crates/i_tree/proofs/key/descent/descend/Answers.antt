@@ -8,7 +8,8 @@ use Rattle.i_tree.proofs.KeyLemmas.Ways.{IsRemoved, sought_none, sought_on, plac
 use Rattle.i_tree.proofs.RootLemmas.Withouts.{Without-refl, Without-trans}
 use Rattle.i_tree.specs.Key.Descent.{DescendsBetween, FindsCalled, IsCalled}
 use Rattle.i_tree.specs.Key.KeyExpTree.{items}
-use Rattle.i_tree.specs.Key.Live.{is_live, IsExpired}
+use Rattle.i_tree.specs.Key.Live.{IsExpired}
+use Rattle.i_tree.specs.Root.Live.{is_live}
 use Rattle.i_tree.specs.Core.Shape.{entries, rank, left_at, right_at, part_at, occurs}
 use Rattle.i_tree.specs.Core.Ways.{place_below}
 use Rattle.i_tree.specs.Root.Ends.{FirstFinds}

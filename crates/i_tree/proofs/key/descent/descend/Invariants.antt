@@ -1,7 +1,7 @@
 use Rattle.std.proofs.Common.{◌+◌, length}
 use Rattle.i_tree.proofs.KeyLemmas.Ways.{IsDescent}
 use Rattle.i_tree.specs.Core.Ways.{place_below}
-use Rattle.i_tree.specs.Key.Live.{is_live}
+use Rattle.i_tree.specs.Root.Live.{is_live}
 use Rattle.i_tree.specs.Core.Shape.{entries, rank, part_at}
 use Rattle.i_tree.proofs.key.descent.descend.Given as goal
 

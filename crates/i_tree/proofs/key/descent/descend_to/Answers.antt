@@ -1,7 +1,7 @@
 use Rattle.std.proofs.Common.{◌≡◌, ℕ, sym, subst}
 use Rattle.std.specs.Ordering.{is_lt}
 use Rattle.i_tree.specs.Key.Descent.{DescendsBetween}
-use Rattle.i_tree.specs.Key.Live.{is_live}
+use Rattle.i_tree.specs.Root.Live.{is_live}
 use Rattle.i_tree.specs.Core.Ways.{place_below}
 use Rattle.i_tree.proofs.key.descent.descend_to.Goals as goal
 

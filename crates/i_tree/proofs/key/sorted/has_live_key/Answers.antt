@@ -3,7 +3,7 @@ use Rattle.std.proofs.Common.{sym, ap, ◌∙◌, arith}
 use Rattle.std.specs.Cmp.{Equal-is}
 use Rattle.std.specs.Ordering.{is_eq}
 use Rattle.std.proofs.lemmas.Bool.{both_ways}
-use Rattle.i_tree.specs.Key.Live.{is_live}
+use Rattle.i_tree.specs.Root.Live.{is_live}
 use Rattle.i_tree.proofs.RootLemmas.Lists.{MatchBool-by}
 use Rattle.i_tree.proofs.RootLemmas.RisingKeys.{HasKey-live, NoKey-live}
 use Rattle.i_tree.proofs.key.sorted.has_live_key.Goals as goal

@@ -5,7 +5,7 @@ use Rattle.std.proofs.lemmas.Bool.Decides.{nat_tests}
 use Rattle.std.proofs.lemmas.List.{drop_all, get_or_default, nil_from_length}
 use Rattle.std.proofs.lemmas.List.Sorted.{length_permutation}
 use Rattle.i_tree.specs.Seg.Copies.{found_at, member_of}
-use Rattle.i_tree.specs.Seg.Members.{is_live}
+use Rattle.i_tree.specs.Root.Live.{is_live}
 use Rattle.i_tree.specs.Seg.Nodes.{lowest}
 use Rattle.i_tree.proofs.SegLemmas.Walk.{live_from_lt, InChunk, InChunk-start, InChunk-removed, InChunk-passed, InChunk-found, passed-more, Reads-past}
 use Rattle.i_tree.proofs.seg.walk.next_in_chunk.Goals as goal

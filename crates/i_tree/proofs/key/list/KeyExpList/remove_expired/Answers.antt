@@ -2,7 +2,8 @@ use Rattle.std.proofs.Common.{◌≡◌, sym, subst, ap, ◌∙◌, length, arit
 use Rattle.std.specs.declared.cmp.Ordering.TheVariants.{Less}
 use Rattle.std.proofs.lemmas.List.Kept.{AllPairs-filter}
 use Rattle.i_tree.specs.Root.Change.{Without}
-use Rattle.i_tree.specs.Key.Live.{is_live, live_pairs, IsExpired, NoneExpiresBefore}
+use Rattle.i_tree.specs.Key.Live.{live_pairs, IsExpired, NoneExpiresBefore}
+use Rattle.i_tree.specs.Root.Live.{is_live}
 use Rattle.i_tree.specs.Root.Pairs.{IsRising}
 use Rattle.i_tree.proofs.RootLemmas.Lists.{length-filter_le, Without-filter}
 use Rattle.i_tree.proofs.KeyLemmas.Times.{ge_from_cmp, live_pairs-early}

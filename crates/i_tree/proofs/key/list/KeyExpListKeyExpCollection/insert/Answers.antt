@@ -3,7 +3,8 @@ use Rattle.std.specs.List.{insert}
 use Rattle.std.specs.declared.cmp.Ordering.TheVariants.{Less}
 use Rattle.std.specs.List.Sorted.{IsPartitionPoint}
 use Rattle.std.proofs.lemmas.Result.{MatchResult-from_err, err_from_is_err_and}
-use Rattle.i_tree.specs.Key.Live.{is_live, live_pairs, NoneExpiresBefore}
+use Rattle.i_tree.specs.Key.Live.{live_pairs, NoneExpiresBefore}
+use Rattle.i_tree.specs.Root.Live.{is_live}
 use Rattle.i_tree.specs.Root.Pairs.{IsRising, NoKey}
 use Rattle.i_tree.proofs.RootLemmas.RisingKeys.{IsRising-insert, same_contents}
 use Rattle.i_tree.proofs.RootLemmas.Lists.{filter_same_length, length-filter_le, length-filter_lt, Without-filter}

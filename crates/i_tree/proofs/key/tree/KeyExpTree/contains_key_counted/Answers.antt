@@ -9,7 +9,8 @@ use Rattle.i_tree.proofs.CoreLemmas.Looking.{keys_around, found_equal, equal_fro
 use Rattle.i_tree.proofs.KeyLemmas.Looking.{absent_between, below_of_items, cases_equal, missing_between, not_both, stored_equal}
 use Rattle.i_tree.specs.Root.Descent.{LooksFor}
 use Rattle.i_tree.specs.Key.KeyExpTree.{items}
-use Rattle.i_tree.specs.Key.Live.{is_live, live_pairs}
+use Rattle.i_tree.specs.Key.Live.{live_pairs}
+use Rattle.i_tree.specs.Root.Live.{is_live}
 use Rattle.i_tree.specs.Root.Pairs.{HasKey, NoKey, IsRising}
 use Rattle.i_tree.specs.Core.RbTree.{Contents}
 use Rattle.i_tree.specs.Core.Ways.{place_below}

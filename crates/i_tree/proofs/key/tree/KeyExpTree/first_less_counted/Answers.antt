@@ -7,7 +7,8 @@ use Rattle.i_tree.specs.Root.Answer.{Below}
 use Rattle.i_tree.specs.Root.Change.{Without}
 use Rattle.i_tree.specs.Root.Descent.{Descends}
 use Rattle.i_tree.specs.Key.KeyExpTree.{items}
-use Rattle.i_tree.specs.Key.Live.{is_live, live_pairs, IsExpired}
+use Rattle.i_tree.specs.Key.Live.{live_pairs, IsExpired}
+use Rattle.i_tree.specs.Root.Live.{is_live}
 use Rattle.i_tree.specs.Core.RbTree.{Contents, slots}
 use Rattle.i_tree.specs.Core.Ways.{place_below}
 use Rattle.i_tree.specs.Core.Shape.{entries}

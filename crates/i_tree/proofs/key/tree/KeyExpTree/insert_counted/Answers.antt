@@ -7,7 +7,8 @@ use Rattle.i_tree.proofs.RootLemmas.Withouts.{AllPairs-without}
 use Rattle.i_tree.specs.Root.Change.{Gains}
 use Rattle.i_tree.specs.Root.Descent.{Descends}
 use Rattle.i_tree.specs.Key.KeyExpTree.{items, slots_for}
-use Rattle.i_tree.specs.Key.Live.{is_live, live_pairs, AllLive, IsExpired}
+use Rattle.i_tree.specs.Key.Live.{live_pairs, AllLive, IsExpired}
+use Rattle.i_tree.specs.Root.Live.{is_live}
 use Rattle.i_tree.specs.Key.Way.{way_to}
 use Rattle.i_tree.specs.Root.Pairs.{IsRising, NoKey}
 use Rattle.i_tree.specs.Core.RbTree.{Contents, slots}
