@@ -1,7 +1,7 @@
--- Lemmas on keys that expire, and on the ways down their tree.
-pub mod Following
+-- Lemmas on keys that expire, and on the descents their tree.
+pub mod Descents
 pub mod Insertion
-pub mod Looking
+pub mod Lookup
 pub mod Search
+pub mod SearchPath
 pub mod Times
-pub mod Ways

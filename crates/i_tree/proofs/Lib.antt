@@ -1,5 +1,5 @@
 pub mod RootLemmas
 pub mod KeyLemmas
-pub mod CoreLemmas
+pub mod RbLemmas
 pub mod SetLemmas
 pub mod SegLemmas

@@ -1,7 +1,7 @@
 -- Lemmas on lists, rising keys, orders, halving and counts.
+pub mod BinarySearch
 pub mod Counts
 pub mod Cuts
-pub mod Halving
 pub mod Joined
 pub mod Lists
 pub mod Monotone

@@ -1,19 +1,20 @@
 -- Lemmas on layout numbers, buckets, heap nodes and masks.
 pub mod Alive
-pub mod Among
 pub mod Asking
 pub mod Bags
 pub mod Callers
 pub mod Chunks
+pub mod ChunksWalk
 pub mod Collecting
 pub mod Empty
 pub mod Filters
 pub mod Found
 pub mod Inserting
 pub mod Later
-pub mod Lent
+pub mod LentChunks
 pub mod Losing
 pub mod Masks
+pub mod NodesAmong
 pub mod NodesOf
 pub mod NodesWalk
 pub mod NodesWhere

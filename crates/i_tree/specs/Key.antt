@@ -3,4 +3,4 @@ pub mod Descent
 pub mod KeyExpList
 pub mod KeyExpTree
 pub mod Live
-pub mod Way
+pub mod SearchPath

@@ -1,5 +1,6 @@
 pub mod Root
 pub mod Key
-pub mod Core
+pub mod Rb
 pub mod Set
 pub mod Seg
+pub mod Laws

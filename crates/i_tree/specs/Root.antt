@@ -1,11 +1,10 @@
 -- Definitions that all containers share: lists of keys and values, what a query answers, and counts.
 pub mod Answer
+pub mod BinarySearch
 pub mod Change
-pub mod Counting
 pub mod Descent
 pub mod Ends
-pub mod Halving
-pub mod LayoutNumbers
+pub mod Late
 pub mod Levels
 pub mod Live
 pub mod Pairs

@@ -1,6 +1,4 @@
 -- Definitions of the ordered sets with handles.
-pub mod ListLends
-pub mod ListPairs
 pub mod Pairs
 pub mod SetList
-pub mod TreePairs
+pub mod SetTree

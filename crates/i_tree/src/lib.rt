@@ -7,13 +7,12 @@
 
 ghost use Rattle.std.specs.Prelude.{◌≡◌};
 ghost use Rattle.i_tree.specs.declared.Refusal.TheVariants.{OutOfMemory};
+ghost use Rattle.i_tree.specs.Root.Late.{is_late};
 
-mod halving;
-mod inserting;
+mod binary_search;
 pub mod key;
 mod layout_number;
-mod looking;
-mod place;
+mod list_insertion;
 pub mod rb;
 pub mod seg;
 mod select;
@@ -169,6 +168,16 @@ impl Expiration for usize {
         ensures { result ≡ usize.MAX }
     {
         usize::MAX
+    }
+}
+
+/// Whether a time is late: before the last one, if there was one. It is our own.
+pub fn is_late<E: Expiration>(last: Option<E>, time: E) -> bool
+    ensures { result ≡ is_late E.cmp last time }
+{
+    match last {
+        Some(last) => time < last,
+        None => false,
     }
 }
 

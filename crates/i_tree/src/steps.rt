@@ -14,7 +14,7 @@ pub trait Counter {
     /// Which counts were made from an old state to a new one.
     ghost made: { Self → Self → Counts → Type 0 };
 
-    /// Counts one comparison of two keys, or of a key with what is looked for.
+    /// Counts one comparison of two keys, or of a key with what is sought.
     fn add_comparison(&mut self)
         ensures { made self.old self.new one_comparison };
 
@@ -89,7 +89,7 @@ impl<L: Ledger> Steps<L> {
 /// The new counts are the old ones and what was made since.
 impl<L: Ledger> Counter for Steps<L> {
     ghost use Rattle.i_tree.specs.Root.Steps.{Adds};
-    ghost use Rattle.i_tree.specs.Root.Counting.{Adds-accumulate};
+    ghost use Rattle.i_tree.specs.Laws.Counters.{Adds-accumulate};
 
     ghost made = { Adds };
 
@@ -120,7 +120,7 @@ pub struct Uncounted;
 /// Any counts may have been made.
 impl Counter for Uncounted {
     ghost use Rattle.std.specs.Prelude.{⊤};
-    ghost use Rattle.i_tree.specs.Root.Counting.{any-accumulate};
+    ghost use Rattle.i_tree.specs.Laws.Counters.{any-accumulate};
 
     ghost made = { λ _ _ _. ⊤ };
 

@@ -8,23 +8,23 @@ use Rattle.std.specs.declared.cmp.Ordering.TheVariants.{Less, Equal}
 use Rattle.std.proofs.lemmas.Bool.{both_ways, false≢true}
 use Rattle.std.proofs.lemmas.List.{length-map}
 use Rattle.std.proofs.lemmas.List.Elements.{All-nil, All-cons, All-head, All-tail}
-use Rattle.i_tree.proofs.CoreLemmas.Insertion.{IsBetween, Joins-values, below_joined, keys_between}
+use Rattle.i_tree.proofs.RbLemmas.SearchPath.Insertion.{IsBetween, Joins-values, below_joined, keys_between}
 use Rattle.i_tree.proofs.RootLemmas.Orders.{above}
 use Rattle.i_tree.proofs.RootLemmas.Joined.{All-of_map, AllPairs-of_map, AllPairs-to_map}
 use Rattle.i_tree.proofs.RootLemmas.Cuts.{StartsIn-found}
 use Rattle.i_tree.proofs.RootLemmas.RisingKeys.{less_from_is_lt, not_less_from_is_lt}
-use Rattle.i_tree.proofs.CoreLemmas.Entries.{IsBelow}
+use Rattle.i_tree.proofs.RbLemmas.SearchPath.Entries.{IsBelow}
 use Rattle.i_tree.proofs.RootLemmas.Withouts.{AllPairs-without, filter-without}
 use Rattle.i_tree.specs.Root.Change.{Gains, Without}
 use Rattle.i_tree.specs.Root.Descent.{Descends}
 use Rattle.i_tree.specs.Key.Descent.{DescendsBetween, FindsCalled, IsCalled}
 use Rattle.i_tree.specs.Key.KeyExpTree.{items, slots_for}
 use Rattle.i_tree.specs.Root.Pairs.{IsRising, NoKey}
-use Rattle.i_tree.specs.Core.RbTree.{Contents, slots, slots_grown, slots_with_room}
-use Rattle.i_tree.specs.Core.Shape.{Shape, entries}
+use Rattle.i_tree.specs.Rb.RbTree.{Contents, slots, slots_grown, slots_with_room}
+use Rattle.i_tree.specs.Rb.Shape.{Shape, entries}
 use Rattle.i_tree.specs.Root.Steps.{Counts}
 use Rattle.i_tree.specs.declared.TheConstants.{EMPTY_REF}
-use Rattle.i_tree.specs.declared.place.Place.{Place}
+use Rattle.i_tree.specs.declared.rb.place.Place.{Place}
 
 -- what holds of all that a filter lets through
 All-from_filter : {X : Type 0} (p : X → Bool) (P : X → Type 0) (xs : List X) → All P (filter p xs) → All (λ x. p x ≡ true → P x) xs
@@ -95,7 +95,7 @@ slots_joined first mid last same grown more =
     let left : mid.spare ≡ slots first - length (items last.shape) = omega (arith, same, more, length-map (entries last.shape) (λ (entry : ℕ × _). entry.1)) in
     grown ∙ ap (slots_grown mid.spare) same ∙ ap (λ spare. slots_grown spare (slots first)) left
 
--- a way down after which no slot is free has removed nothing
+-- a descent after which no slot is free has removed nothing
 pub none_removed : {S T : Type 0} {Made : S → S → Counts → Type 0} (first mid : Contents T) (old new : S) → slots mid ≡ slots first → (0 < mid.spare → false ≡ true) → Descends Made old new (length (entries first.shape)) (length (entries mid.shape)) 0
     → (mid.spare ≡ 0) × (length (entries mid.shape) ≡ length (entries first.shape))
 none_removed first mid old new same spare way =

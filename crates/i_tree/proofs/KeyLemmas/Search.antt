@@ -1,4 +1,4 @@
--- What a way down answers: it cuts the live pairs.
+-- What a descent answers: it cuts the live pairs.
 use Rattle.std.proofs.Common.{◌≡◌, ◌≢◌, ℕ, Bool, true, false, not, List, [], ◌∷◌, ◌++◌, refl, sym, ap, ◌∙◌, subst, inl, inr, append_assoc, arith}
 use Rattle.std.specs.Cmp.{IsTotalOrder}
 use Rattle.std.specs.List.{All, filter}
@@ -20,10 +20,10 @@ use Rattle.i_tree.specs.Root.Pairs.{IsRising}
 use Rattle.i_tree.specs.Key.Descent.{DescendsBetween, DescendsTo, FindsCalled, IsCalled}
 use Rattle.i_tree.specs.Key.KeyExpTree.{items}
 use Rattle.i_tree.specs.Set.Pairs.{values}
-use Rattle.i_tree.specs.Core.Shape.{Shape, entries, occurs, IsLive}
-use Rattle.i_tree.proofs.CoreLemmas.PartHandles.{live_from_cut}
+use Rattle.i_tree.specs.Rb.Shape.{Shape, entries, occurs, IsHandle}
+use Rattle.i_tree.proofs.RbLemmas.Shape.SubtreeHandles.{live_from_cut}
 use Rattle.i_tree.specs.declared.TheConstants.{EMPTY_REF}
-use Rattle.i_tree.specs.declared.place.Place.{Place}
+use Rattle.i_tree.specs.declared.rb.place.Place.{Place}
 
 module _ {K V : Type 0} (is_live : K → Bool) where
   abbrev live : List (K × V) → List (K × V)
@@ -42,24 +42,24 @@ module _ {K V : Type 0} (is_live : K → Bool) where
       end.between.cut ∙ ap (λ list. list ++ end.back) cut ∙ append_assoc rest (last ∷ []) end.back ∙ ap (λ handle. rest ++ (handle, last.1) ∷ end.back) (sym is)
 
   -- and it is live there
-  last_found : (May : K → Bool → Type 0) (tree : Shape (K × V)) (place : Place) (found next : ℕ) → DescendsBetween is_live May tree place found next → found ≢ EMPTY_REF → IsLive tree found
+  last_found : (May : K → Bool → Type 0) (tree : Shape (K × V)) (place : Place) (found next : ℕ) → DescendsBetween is_live May tree place found next → found ≢ EMPTY_REF → IsHandle tree found
   last_found May tree place found next end some = by_last end.before
     where
-      by_last : LastFinds (FindsCalled is_live May true) EMPTY_REF end.front found → IsLive tree found
+      by_last : LastFinds (FindsCalled is_live May true) EMPTY_REF end.front found → IsHandle tree found
       by_last (inl (none, is)) = absurd (some is)
       by_last (inr (rest, last, cut, (called, is))) = live_from_cut found tree rest last.1 end.back (cut_last May tree place found next end rest last cut is)
 
   -- so it is where the next one was found
-  next_found : (May : K → Bool → Type 0) (tree : Shape (K × V)) (front back : List (ℕ × (K × V))) (found : ℕ) → entries tree ≡ front ++ back → FirstFinds (FindsCalled is_live May false) EMPTY_REF back found → found ≢ EMPTY_REF → IsLive tree found
+  next_found : (May : K → Bool → Type 0) (tree : Shape (K × V)) (front back : List (ℕ × (K × V))) (found : ℕ) → entries tree ≡ front ++ back → FirstFinds (FindsCalled is_live May false) EMPTY_REF back found → found ≢ EMPTY_REF → IsHandle tree found
   next_found May tree front [] found cut is some = absurd (some is)
   next_found May tree front (next ∷ rest) found cut (called, is) some = live_from_cut found tree front next.1 rest (cut ∙ ap (λ handle. front ++ (handle, next.1) ∷ rest) (sym is))
 
   -- whichever of them was found is live
-  pub sought_live : (May : K → Bool → Type 0) (sought : Bool) (tree : Shape (K × V)) (place : Place) (found : ℕ) → DescendsTo is_live May sought tree place found → found ≢ EMPTY_REF → IsLive tree found
+  pub sought_live : (May : K → Bool → Type 0) (sought : Bool) (tree : Shape (K × V)) (place : Place) (found : ℕ) → DescendsTo is_live May sought tree place found → found ≢ EMPTY_REF → IsHandle tree found
   sought_live May true tree place found (last, next, end, is) some =
-      subst (IsLive tree) (sym is) (last_found May tree place last next end (λ empty. some (is ∙ empty)))
+      subst (IsHandle tree) (sym is) (last_found May tree place last next end (λ empty. some (is ∙ empty)))
   sought_live May false tree place found (last, next, end, is) some =
-      subst (IsLive tree) (sym is) (next_found May tree end.front end.back next end.between.cut end.after (λ empty. some (is ∙ empty)))
+      subst (IsHandle tree) (sym is) (next_found May tree end.front end.back next end.between.cut end.after (λ empty. some (is ∙ empty)))
 
   module _ (May : K → Bool → Type 0) (test : K → Bool) (default : V) where
     -- what may be answered about the pair is what the test says
@@ -148,7 +148,7 @@ module _ {K V : Type 0} (is_live : K → Bool) where
         AllPairs-without (λ (earlier : K × V) later. cmp earlier.0 later.0 ≡ Less) (Without-filter (λ (pair : K × V). is_live pair.0) (items tree))
         (AllPairs-without (λ (earlier : K × V) later. cmp earlier.0 later.0 ≡ Less) kept rising)
 
-    -- what a way down to a key answers, by what was stored before
+    -- what a descent to a key answers, by what was stored before
     pub answer_below : (key : K) (next : ℕ) → DescendsBetween is_live (λ other answer. answer ≡ is_lt (cmp other key)) tree place found next → Below cmp (live before) key default value
     answer_below key next end =
         rw same_live
@@ -156,7 +156,7 @@ module _ {K V : Type 0} (is_live : K → Bool) where
         (cut_live (λ other answer. answer ≡ is_lt (cmp other key)) (λ other. is_lt (cmp other key)) default tree place found next value end read
         (λ k d within answer is. is) (IsPartitionedBy-rising o (live (items tree)) key rising_live)))
 
-    -- and what a way down by a closure does: an answer of the closure stands behind each of the test
+    -- and what a descent by a closure does: an answer of the closure stands behind each of the test
     module _ (May : K → Bool → Type 0) (Given : K → Ordering → Type 0) (behind : (key : K) (answer : Bool) → May key answer → (given : Ordering) × Given key given × (answer ≡ not (is_gt given))) (order : K → Ordering) where
       says_order : AnswersBy Given order (live (items tree)) → All (Says May (λ key. not (is_gt (order key))) default) (live (items tree))
       says_order answers =

@@ -10,7 +10,7 @@ use Rattle.std.proofs.lemmas.List.Elements.{All-more, All-weaker}
 use Rattle.i_tree.specs.Key.Live.{live_pairs, NoneExpiresBefore}
 use Rattle.i_tree.specs.Root.Live.{is_live}
 use Rattle.i_tree.proofs.RootLemmas.Lists.{All-insert, filter_all}
-use Rattle.i_tree.proofs.RootLemmas.Orders.{gt-turned, ge-turned, at_or_after-turned, not_after-turned}
+use Rattle.i_tree.proofs.RootLemmas.Orders.{gt-reversed, ge-reversed, at_or_after-reversed, not_after-reversed}
 
 -- what `>=` answers, by `cmp`
 pub ge_from_cmp : {E : Type 0} (partial-cmp : E → E → Option Ordering) (cmp : E → E → Ordering) → ((x y : E) → partial-cmp x y ≡ Some (cmp x y)) → (x y : E) → partial_ge partial-cmp x y ≡ is_ge (cmp x y)
@@ -34,11 +34,11 @@ module _ {E : Type 0} {cmp : E → E → Ordering} (o : IsTotalOrder cmp) where
   not_after-min_second a b =
       cond_both (is_lt (cmp b a)) b a (λ m. is_gt (cmp m b) ≡ false)
       (λ _. ap is_gt (tied_itself o b))
-      (λ level. gt-turned o a b ∙ level)
+      (λ level. gt-reversed o a b ∙ level)
 
   -- times in descending order
   ge-trans : (a b c : E) → is_ge (cmp a b) ≡ true → is_ge (cmp b c) ≡ true → is_ge (cmp a c) ≡ true
-  ge-trans a b c ab bc = not_after-turned o a c (upto o c b a (at_or_after-turned o b c bc) (at_or_after-turned o a b ab))
+  ge-trans a b c ab bc = not_after-reversed o a c (upto o c b a (at_or_after-reversed o b c bc) (at_or_after-reversed o a b ab))
 
   -- what is live at a time was live before
   pub is_live-before : {K : Type 0} (expiration : K → E) (time later : E) (key : K) → is_ge (cmp later time) ≡ true → is_live expiration cmp later key ≡ true → is_live expiration cmp time key ≡ true
@@ -73,5 +73,5 @@ module _ {E : Type 0} {cmp : E → E → Ordering} (o : IsTotalOrder cmp) where
     live_pairs-early bound time pairs early h =
         filter_all (λ pair. is_live expiration cmp time pair.0) pairs
         (All-weaker (λ pair. is_gt (cmp bound (expiration pair.0)) ≡ false) (λ pair. is_live expiration cmp time pair.0 ≡ true)
-        (λ pair not_after. is_live-before expiration time bound pair.0 early (ge-turned o (expiration pair.0) bound ∙ ap not not_after))
+        (λ pair not_after. is_live-before expiration time bound pair.0 early (ge-reversed o (expiration pair.0) bound ∙ ap not not_after))
         pairs h)

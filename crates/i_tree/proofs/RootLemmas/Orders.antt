@@ -22,22 +22,22 @@ not_less Equal apart = refl
 not_less Greater apart = refl
 
 module _ {T : Type 0} {cmp : T → T → Ordering} (o : IsTotalOrder cmp) where
-  pub gt-turned : (a b : T) → is_gt (cmp a b) ≡ is_lt (cmp b a)
-  gt-turned a b = ap is_gt (o.antisymm a b) ∙ gt-reverse (cmp b a)
+  pub gt-reversed : (a b : T) → is_gt (cmp a b) ≡ is_lt (cmp b a)
+  gt-reversed a b = ap is_gt (o.antisymm a b) ∙ gt-reverse (cmp b a)
 
-  pub ge-turned : (a b : T) → is_ge (cmp a b) ≡ not (is_gt (cmp b a))
-  ge-turned a b = ap is_ge (o.antisymm a b) ∙ ge-reverse (cmp b a)
+  pub ge-reversed : (a b : T) → is_ge (cmp a b) ≡ not (is_gt (cmp b a))
+  ge-reversed a b = ap is_ge (o.antisymm a b) ∙ ge-reverse (cmp b a)
 
   -- what isn't before another isn't exceeded by it
-  pub not_before-turned : (a b : T) → cmp a b ≢ Less → is_gt (cmp b a) ≡ false
-  not_before-turned a b apart = gt-turned b a ∙ not_less (cmp a b) apart
+  pub not_before-reversed : (a b : T) → cmp a b ≢ Less → is_gt (cmp b a) ≡ false
+  not_before-reversed a b apart = gt-reversed b a ∙ not_less (cmp a b) apart
 
   -- what is at or after another isn't exceeded by it, and the other way round
-  pub at_or_after-turned : (a b : T) → is_ge (cmp a b) ≡ true → is_gt (cmp b a) ≡ false
-  at_or_after-turned a b h = not-true (is_gt (cmp b a)) (sym (ge-turned a b) ∙ h)
+  pub at_or_after-reversed : (a b : T) → is_ge (cmp a b) ≡ true → is_gt (cmp b a) ≡ false
+  at_or_after-reversed a b h = not-true (is_gt (cmp b a)) (sym (ge-reversed a b) ∙ h)
 
-  pub not_after-turned : (a b : T) → is_gt (cmp b a) ≡ false → is_ge (cmp a b) ≡ true
-  not_after-turned a b h = ge-turned a b ∙ ap not h
+  pub not_after-reversed : (a b : T) → is_gt (cmp b a) ≡ false → is_ge (cmp a b) ≡ true
+  not_after-reversed a b h = ge-reversed a b ∙ ap not h
 
   -- what is neither less nor equal is greater
   pub above : (a b : T) → cmp a b ≢ Less → cmp a b ≢ Equal → cmp b a ≡ Less

@@ -48,7 +48,7 @@ IsPartitionedBy-monotone cmp pairs order rising monotone i j d le within passes 
     to_test Greater h = absurd (omega arith)
 
 module _ {K V : Type 0} {cmp : K → K → Ordering} (o : IsTotalOrder cmp) where
-  -- keys that rise stand in two parts, those below a key and the others
+  -- keys that rise stand in two subtrees, those below a key and the others
   pub IsPartitionedBy-rising : (pairs : List (K × V)) (key : K) → IsRising cmp pairs → IsPartitionedBy (λ pair. is_lt (cmp pair.0 key)) pairs
   IsPartitionedBy-rising pairs key rising i j d le within below =
       ⊎_elim
@@ -81,8 +81,8 @@ module _ {K V : Type 0} {cmp : K → K → Ordering} (o : IsTotalOrder cmp) wher
       absurd (cc (level, again)))
       (λ apart.
       let above = rising place k pair (omega arith) inside in
-      let turned = o.antisymm (get_or pairs place pair).0 (get_or pairs k pair).0 ∙ ap ordering_reverse below_first in
-      absurd (cc (above, turned)))
+      let rotated = o.antisymm (get_or pairs place pair).0 (get_or pairs k pair).0 ∙ ap ordering_reverse below_first in
+      absurd (cc (above, rotated)))
       (cases_eq k place)
 
   -- where the keys at the front meet P and the others don't, the last at the front is the greatest that does

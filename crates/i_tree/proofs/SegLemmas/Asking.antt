@@ -11,7 +11,7 @@ use Rattle.std.proofs.lemmas.Nat.Bits.{bit_at_and, bit_at-zero}
 use Rattle.i_tree.specs.Seg.Buckets.{between, overlap}
 use Rattle.i_tree.specs.Seg.Copies.{chunk_at, copies_at, copy_of, is_at, live_copies, found_among, Holds}
 use Rattle.i_tree.specs.Seg.Members.{Member, values_of}
-use Rattle.i_tree.specs.Seg.Nodes.{has_node, is_met, nodes_from, nodes_of, place_set, meeting_set}
+use Rattle.i_tree.specs.Seg.Nodes.{has_node, is_met, nodes_from, nodes_of, canonical_nodes, meeting_set}
 use Rattle.i_tree.specs.Seg.Walk.{to_come, found_from, live_from}
 use Rattle.i_tree.proofs.SegLemmas.Found.{found_among-shares}
 use Rattle.i_tree.proofs.SegLemmas.Masks.{placed-meets, few-placed}
@@ -61,25 +61,25 @@ few_shared mask asked few = told (nat_eq (bit_and mask asked) 0) refl
 
 module _ {V : Type 0} (asked : ℕ) where
   abbrev shares : Member V → Bool
-  shares member = not (nat_eq (bit_and (place_set member.interval) asked) 0)
+  shares member = not (nat_eq (bit_and (canonical_nodes member.interval) asked) 0)
 
   -- one more member has a copy at each node that it is placed at
   copies_more : (member : Member V) (members : List (Member V)) (nodes : List ℕ)
-      → sum_by (λ node. length (copies_at node (member ∷ members))) nodes ≡ length (filter (has_node (place_set member.interval)) nodes) + sum_by (λ node. length (copies_at node members)) nodes
+      → sum_by (λ node. length (copies_at node (member ∷ members))) nodes ≡ length (filter (has_node (canonical_nodes member.interval)) nodes) + sum_by (λ node. length (copies_at node members)) nodes
   copies_more member members [] = refl
   copies_more member members (node ∷ nodes) =
       sum_by-cons (λ node. length (copies_at node (member ∷ members))) node nodes
       ∙ told (is_at node member) (copies_more member members nodes) (sum_by-cons (λ node. length (copies_at node members)) node nodes)
     where
-      told : (placed : Bool) → sum_by (λ node. length (copies_at node (member ∷ members))) nodes ≡ length (filter (has_node (place_set member.interval)) nodes) + sum_by (λ node. length (copies_at node members)) nodes
+      told : (placed : Bool) → sum_by (λ node. length (copies_at node (member ∷ members))) nodes ≡ length (filter (has_node (canonical_nodes member.interval)) nodes) + sum_by (λ node. length (copies_at node members)) nodes
           → sum_by (λ node. length (copies_at node members)) (node ∷ nodes) ≡ length (copies_at node members) + sum_by (λ node. length (copies_at node members)) nodes
           → length (map copy_of (cond placed (member ∷ filter (is_at node) members) (filter (is_at node) members))) + sum_by (λ node. length (copies_at node (member ∷ members))) nodes
-          ≡ length (cond placed (node ∷ filter (has_node (place_set member.interval)) nodes) (filter (has_node (place_set member.interval)) nodes)) + sum_by (λ node. length (copies_at node members)) (node ∷ nodes)
+          ≡ length (cond placed (node ∷ filter (has_node (canonical_nodes member.interval)) nodes) (filter (has_node (canonical_nodes member.interval)) nodes)) + sum_by (λ node. length (copies_at node members)) (node ∷ nodes)
       told true rest first = omega (arith, rest, first)
       told false rest first = omega (arith, rest, first)
 
   -- the members have at most eight copies at the asked nodes for each that shares one
-  few_copies : (members : List (Member V)) → All (λ member. length (nodes_of (place_set member.interval)) ≤ 8) members → sum_by (λ node. length (copies_at node members)) (nodes_of asked) ≤ 8 * length (filter shares members)
+  few_copies : (members : List (Member V)) → All (λ member. length (nodes_of (canonical_nodes member.interval)) ≤ 8) members → sum_by (λ node. length (copies_at node members)) (nodes_of asked) ≤ 8 * length (filter shares members)
   few_copies [] few = none (nodes_of asked)
     where
       none : (nodes : List ℕ) → sum_by (λ node. length (copies_at {V = V} node [])) nodes ≤ 0
@@ -87,11 +87,11 @@ module _ {V : Type 0} (asked : ℕ) where
       none (node ∷ nodes) = omega (arith, sum_by-cons (λ node. length (copies_at {V = V} node [])) node nodes, none nodes)
   few_copies (member ∷ members) few =
       told (shares member) (copies_more member members (nodes_of asked))
-      (few_shared (place_set member.interval) asked (All-head (λ member. length (nodes_of (place_set member.interval)) ≤ 8) member members few))
-      (few_copies members (All-tail (λ member. length (nodes_of (place_set member.interval)) ≤ 8) member members few))
+      (few_shared (canonical_nodes member.interval) asked (All-head (λ member. length (nodes_of (canonical_nodes member.interval)) ≤ 8) member members few))
+      (few_copies members (All-tail (λ member. length (nodes_of (canonical_nodes member.interval)) ≤ 8) member members few))
     where
-      told : (found : Bool) → sum_by (λ node. length (copies_at node (member ∷ members))) (nodes_of asked) ≡ length (filter (has_node (place_set member.interval)) (nodes_of asked)) + sum_by (λ node. length (copies_at node members)) (nodes_of asked)
-          → length (filter (has_node (place_set member.interval)) (nodes_of asked)) ≤ cond found 8 0
+      told : (found : Bool) → sum_by (λ node. length (copies_at node (member ∷ members))) (nodes_of asked) ≡ length (filter (has_node (canonical_nodes member.interval)) (nodes_of asked)) + sum_by (λ node. length (copies_at node members)) (nodes_of asked)
+          → length (filter (has_node (canonical_nodes member.interval)) (nodes_of asked)) ≤ cond found 8 0
           → sum_by (λ node. length (copies_at node members)) (nodes_of asked) ≤ 8 * length (filter shares members)
           → sum_by (λ node. length (copies_at node (member ∷ members))) (nodes_of asked) ≤ 8 * length (cond found (member ∷ filter shares members) (filter shares members))
       told true more own rest = omega (arith, more, own, rest)
@@ -125,7 +125,7 @@ module _ {E V : Type 0} (expiration : V → E) (cmp : E → E → Ordering) (tim
         (filter-same_tests (shares asked) (λ member. overlap member.interval (between first last)) members
         (λ k d inside.
         let lies = holds.within k d inside in
-        ap (λ (mask : ℕ). not (nat_eq (bit_and (place_set (get_or members k d).interval) mask) 0)) is
+        ap (λ (mask : ℕ). not (nat_eq (bit_and (canonical_nodes (get_or members k d).interval) mask) 0)) is
         ∙ ap not (placed-meets (get_or members k d).interval.first (get_or members k d).interval.last (holds.order k d inside) (omega arith) first last order within)
         ∙ twice (overlap (get_or members k d).interval (between first last))))
         found)

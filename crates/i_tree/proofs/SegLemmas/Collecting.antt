@@ -5,7 +5,7 @@ use Rattle.std.specs.List.{filter, sum_by}
 use Rattle.std.specs.declared.cmp.Ordering.{Ordering}
 use Rattle.std.proofs.lemmas.List.{append-nil, length-map}
 use Rattle.std.proofs.lemmas.List.Sorted.{IsPermutation-trans, IsPermutation-map, IsPermutation-append_right, length_permutation}
-use Rattle.i_tree.specs.Root.Steps.{Counts, Accumulates}
+use Rattle.i_tree.specs.Root.Steps.{Counts, Accumulates, Makes}
 use Rattle.std.proofs.lemmas.List.Sums.{sum_by-cons}
 use Rattle.i_tree.specs.Seg.Copies.{chunk_at, found_at, found_among, live_copies, member_of, stored_copies}
 use Rattle.i_tree.specs.Seg.Members.{Member, live_members, values_of}
@@ -30,13 +30,13 @@ module _ {E V : Type 0} (expiration : V → E) (cmp : E → E → Ordering) (tim
       pub members : IsPermutation (live_members expiration cmp time before.members) tree.members
       pub loses : LosesExpiredAt expiration cmp time asked before.chunks tree.chunks
       pub passed : HasPassed expiration cmp time asked left index tree.chunks
-      pub steps : Reads Made old new (live_from expiration cmp time 0 (nodes_of asked) before.chunks) (live_from expiration cmp time index (nodes_of left) tree.chunks) (stored_copies before.chunks) (stored_copies tree.chunks)
+      pub steps : Makes Made old new (Reads (live_from expiration cmp time 0 (nodes_of asked) before.chunks) (live_from expiration cmp time index (nodes_of left) tree.chunks) (stored_copies before.chunks) (stored_copies tree.chunks))
 
     -- and further
     pub IsWalked-on : Accumulates Made → (mid new : S) (tree tree' : Contents E V) (left index left' index' : ℕ) → IsWalked tree left index mid
         → length tree'.chunks ≡ length tree.chunks → left' < 2 ^ length tree'.chunks → tree'.latest ≡ tree.latest → tree'.buckets ≡ tree.buckets → IsPermutation tree.members tree'.members
         → LosesExpiredAt expiration cmp time asked tree.chunks tree'.chunks → HasPassed expiration cmp time asked left' index' tree'.chunks
-        → Reads Made mid new (live_from expiration cmp time index (nodes_of left) tree.chunks) (live_from expiration cmp time index' (nodes_of left') tree'.chunks) (stored_copies tree.chunks) (stored_copies tree'.chunks)
+        → Makes Made mid new (Reads (live_from expiration cmp time index (nodes_of left) tree.chunks) (live_from expiration cmp time index' (nodes_of left') tree'.chunks) (stored_copies tree.chunks) (stored_copies tree'.chunks))
         → IsWalked tree' left' index' new
     IsWalked-on law mid new tree tree' left index left' index' so_far count within latest buckets members loses passed steps =
         record {
@@ -52,18 +52,20 @@ module _ {E V : Type 0} (expiration : V → E) (cmp : E → E → Ordering) (tim
 
     -- a finished walk's counts, where a live copy is read for each of so many values, and at most eight
     pub IsWalked-ended : (tree : Contents E V) (left index : ℕ) (new : S) (values : ℕ) → live_from expiration cmp time 0 (nodes_of asked) before.chunks ≤ 8 * values → values ≤ live_from expiration cmp time 0 (nodes_of asked) before.chunks
-        → left ≡ 0 → IsWalked tree left index new → Collects Made old new values (stored_copies before.chunks) (stored_copies tree.chunks)
+        → left ≡ 0 → IsWalked tree left index new → Makes Made old new (Collects values (stored_copies before.chunks) (stored_copies tree.chunks))
     IsWalked-ended tree left index new values few each ended walked =
         let steps = walked.steps in
         let none = ap (λ (nodes : List ℕ). live_from expiration cmp time index nodes tree.chunks) (ap nodes_of ended ∙ nodes_of-zero) in
         record {
           made = steps.made;
           counted = steps.counted;
-          comparisons = steps.comparisons;
-          rotations = steps.rotations;
-          tests = omega (arith, few, steps.tests);
-          tested = omega (arith, each, none, steps.tests);
-          removals = steps.removals;
+          holds = record {
+            comparisons = steps.holds.comparisons;
+            rotations = steps.holds.rotations;
+            tests = omega (arith, few, steps.holds.tests);
+            tested = omega (arith, each, none, steps.holds.tests);
+            removals = steps.holds.removals;
+          };
         }
 
     -- and what it cleans up: no node is left
@@ -72,17 +74,19 @@ module _ {E V : Type 0} (expiration : V → E) (cmp : E → E → Ordering) (tim
 
     -- the counts of one that was left
     pub IsWalked-left : (tree : Contents E V) (left index : ℕ) (new : S) (values : ℕ) → live_from expiration cmp time 0 (nodes_of asked) before.chunks ≤ 8 * values → IsWalked tree left index new
-        → StopsCollecting Made old new values (stored_copies before.chunks) (stored_copies tree.chunks)
+        → Makes Made old new (StopsCollecting values (stored_copies before.chunks) (stored_copies tree.chunks))
     IsWalked-left tree left index new values few walked =
         let steps = walked.steps in
         record {
           made = steps.made;
           counted = steps.counted;
-          comparisons = steps.comparisons;
-          rotations = steps.rotations;
-          tests = omega (arith, few, steps.tests);
-          tested = steps.tested;
-          removals = steps.removals;
+          holds = record {
+            comparisons = steps.holds.comparisons;
+            rotations = steps.holds.rotations;
+            tests = omega (arith, few, steps.holds.tests);
+            tested = steps.holds.tested;
+            removals = steps.holds.removals;
+          };
         }
 
   -- each member that is found is of a live copy

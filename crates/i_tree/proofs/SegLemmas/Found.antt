@@ -11,9 +11,9 @@ use Rattle.std.proofs.lemmas.List.Sorted.{IsPermutation-refl, IsPermutation-sym,
 use Rattle.i_tree.specs.Seg.Buckets.{Interval, between}
 use Rattle.i_tree.specs.Seg.Copies.{copy_of, member_of, is_at, copies_at, chunk_at, found_at, found_among, members_in, Holds}
 use Rattle.i_tree.specs.Seg.Members.{Member}
-use Rattle.i_tree.specs.Seg.Nodes.{has_node, lowest, is_placed, nodes_from, nodes_of, place_set, meeting_set, interval_of}
+use Rattle.i_tree.specs.Seg.Nodes.{has_node, lowest, is_canonical, nodes_from, nodes_of, canonical_nodes, meeting_set, interval_of}
 use Rattle.i_tree.proofs.RootLemmas.Lists.{filter_all}
-use Rattle.i_tree.proofs.SegLemmas.Among.{is_among, nodes_from-outside, lowest-among, lowest-placed}
+use Rattle.i_tree.proofs.SegLemmas.NodesAmong.{is_among, nodes_from-outside, lowest-among, lowest-placed}
 use Rattle.i_tree.proofs.SegLemmas.Bags.{IsPermutation-filter, IsPermutation-filter_or}
 use Rattle.i_tree.proofs.SegLemmas.Masks.{placed-decodes, placed-meets}
 use Rattle.i_tree.proofs.SegLemmas.NodesWhere.{nodes_where-lt}
@@ -21,18 +21,18 @@ use Rattle.i_tree.proofs.SegLemmas.NodesWhere.{nodes_where-lt}
 module _ {V : Type 0} where
   -- the member's interval can be read from the mask of its copy
   abbrev Decodes : Member V → Type 0
-  Decodes member = interval_of (place_set member.interval) ≡ member.interval
+  Decodes member = interval_of (canonical_nodes member.interval) ≡ member.interval
 
   -- the lowest node that a member shares with those that are asked
   abbrev first_asked : ℕ → Member V → ℕ
-  first_asked asked member = lowest (bit_and (place_set member.interval) asked)
+  first_asked asked member = lowest (bit_and (canonical_nodes member.interval) asked)
 
   -- the copies at a node whose lowest asked node it is are of the members whose lowest asked node it is
   found-copies : (asked node : ℕ) → node < 64 → (members : List (Member V)) → All Decodes members
       → map member_of (filter (λ copy. lowest (bit_and copy.0 asked) == node) (copies_at node members)) ≡ filter (λ member. first_asked asked member == node) members
   found-copies asked node within [] decode = refl
   found-copies asked node within (member ∷ members) decode =
-      step (is_at node member) (λ away. false_from_ne_true (first_asked asked member == node) (λ first. let at = lowest-placed (place_set member.interval) asked (nodes_where-lt (is_placed member.interval)) node within first in cc))
+      step (is_at node member) (λ away. false_from_ne_true (first_asked asked member == node) (λ first. let at = lowest-placed (canonical_nodes member.interval) asked (nodes_where-lt (is_canonical member.interval)) node within first in cc))
       (found-copies asked node within members (All-tail Decodes member members decode))
     where
       rest : List (ℕ × V)
@@ -53,7 +53,7 @@ module _ {V : Type 0} where
 
   -- each member shares a node with the set of all nodes
   shares_all : (member : Member V) → member.interval.first ≤ member.interval.last → member.interval.last < 32
-      → not (nat_eq (bit_and (place_set member.interval) (meeting_set (between 0 31))) 0) ≡ true
+      → not (nat_eq (bit_and (canonical_nodes member.interval) (meeting_set (between 0 31))) 0) ≡ true
   shares_all member order within =
       ap not (placed-meets member.interval.first member.interval.last order within 0 31 (omega arith) (omega arith)
       ∙ ap not (and_from (leb member.interval.first 31) (leb 0 member.interval.last) (le-leb member.interval.first 31 (omega arith)) (le-leb 0 member.interval.last (omega arith))))
@@ -101,23 +101,23 @@ module _ {E V : Type 0} (expiration : V → E) (cmp : E → E → Ordering) (lat
     unfolding nodes_of
     found-of asked = found-from asked 64 0 (omega arith)
 
-    shares : (asked : ℕ) → IsPermutation (filter (λ member. not (nat_eq (bit_and (place_set member.interval) asked) 0)) members) (found_among expiration cmp latest asked (nodes_of asked) chunks)
+    shares : (asked : ℕ) → IsPermutation (filter (λ member. not (nat_eq (bit_and (canonical_nodes member.interval) asked) 0)) members) (found_among expiration cmp latest asked (nodes_of asked) chunks)
     shares asked =
         subst (λ (found : List (Member V)). IsPermutation found (found_among expiration cmp latest asked (nodes_of asked) chunks))
-        (filter_agree (λ member. is_among (nodes_of asked) (first_asked asked member)) (λ member. not (nat_eq (bit_and (place_set member.interval) asked) 0))
-        (λ member. lowest-among (place_set member.interval) asked (nodes_where-lt (is_placed member.interval))) members)
+        (filter_agree (λ member. is_among (nodes_of asked) (first_asked asked member)) (λ member. not (nat_eq (bit_and (canonical_nodes member.interval) asked) 0))
+        (λ member. lowest-among (canonical_nodes member.interval) asked (nodes_where-lt (is_canonical member.interval))) members)
         (found-of asked)
 
     members-in : IsPermutation members (members_in expiration cmp latest chunks)
     members-in =
         subst (λ (found : List (Member V)). IsPermutation found (members_in expiration cmp latest chunks))
-        (filter_all (λ member. not (nat_eq (bit_and (place_set member.interval) (meeting_set (between 0 31))) 0)) members
+        (filter_all (λ member. not (nat_eq (bit_and (canonical_nodes member.interval) (meeting_set (between 0 31))) 0)) members
         (λ k d within. let below = holds.within k d within in shares_all (get_or members k d) (holds.order k d within) (omega arith)))
         (shares (meeting_set (between 0 31)))
 
   -- the nodes of a mask find each member once that is placed at one of them
   pub found_among-shares : (count : ℕ) (chunks : List (List (ℕ × V))) (members : List (Member V)) (asked : ℕ) → count ≤ 63 → asked < 2 ^ 63 → Holds expiration cmp latest count chunks members
-      → IsPermutation (filter (λ member. not (nat_eq (bit_and (place_set member.interval) asked) 0)) members) (found_among expiration cmp latest asked (nodes_of asked) chunks)
+      → IsPermutation (filter (λ member. not (nat_eq (bit_and (canonical_nodes member.interval) asked) 0)) members) (found_among expiration cmp latest asked (nodes_of asked) chunks)
   found_among-shares count chunks members asked few below holds = shares count chunks members few holds asked
 
   -- chunks hold what is found where all nodes are asked

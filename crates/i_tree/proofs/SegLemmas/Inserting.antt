@@ -8,7 +8,7 @@ use Rattle.std.proofs.lemmas.Int.{ints}
 use Rattle.i_tree.specs.Seg.Buckets.{Buckets, Accepts, interval, bucket, chunk_count}
 use Rattle.i_tree.specs.Seg.Copies.{stored_copies, members_in, Holds, PlacesCopies}
 use Rattle.i_tree.specs.Seg.Members.{Member, member_over, with_member}
-use Rattle.i_tree.specs.Seg.Nodes.{place_set}
+use Rattle.i_tree.specs.Seg.Nodes.{canonical_nodes}
 use Rattle.i_tree.proofs.SegLemmas.Filters.{bucket-rises}
 use Rattle.i_tree.proofs.SegLemmas.Found.{holds-members_in, holds-own}
 use Rattle.i_tree.proofs.SegLemmas.Masks.{few-placed}
@@ -32,7 +32,7 @@ module _ (buckets : Buckets) (low high : ℤ) (wide : 0 < buckets.width) (accept
       omega arith
 
   module _ {E V : Type 0} (expiration : V → E) (cmp : E → E → Ordering) (latest : Option E) (value : V) (before after : List (List (ℕ × V))) (members : List (Member V)) (few : chunk_count buckets ≤ 63)
-      (holds : Holds expiration cmp latest (chunk_count buckets) before members) (placed : PlacesCopies (place_set (interval buckets low high)) value before after) where
+      (holds : Holds expiration cmp latest (chunk_count buckets) before members) (placed : PlacesCopies (canonical_nodes (interval buckets low high)) value before after) where
     holds-joined : Holds expiration cmp latest (chunk_count buckets) after (with_member expiration cmp latest (member_over buckets low high value) members)
     holds-joined =
         placed-holds expiration cmp latest (chunk_count buckets) before after members (member_over buckets low high value) few accepted-order accepted-within holds placed
@@ -50,6 +50,6 @@ module _ (buckets : Buckets) (low high : ℤ) (wide : 0 < buckets.width) (accept
     inserted-few =
         let long = holds.chunk_for_each in
         let within = accepted-within in
-        let more = placed-few (place_set (interval buckets low high)) value before after (omega arith) placed in
+        let more = placed-few (canonical_nodes (interval buckets low high)) value before after (omega arith) placed in
         let eight = few-placed (bucket buckets low) (bucket buckets high) accepted-order (omega arith) in
         omega arith

@@ -10,7 +10,7 @@ use Rattle.i_tree.specs.Seg.Copies.{chunk_at, copies_at, copy_of, is_at, live_co
 use Rattle.i_tree.specs.Seg.Members.{Member, is_live_yet, live_members, NotBefore}
 use Rattle.i_tree.specs.Root.Live.{is_live}
 use Rattle.i_tree.specs.Seg.Walk.{SameLive}
-use Rattle.i_tree.proofs.RootLemmas.Orders.{not_before-turned, at_or_after-turned, not_after-turned}
+use Rattle.i_tree.proofs.RootLemmas.Orders.{gt-reversed, at_or_after-reversed, not_after-reversed}
 use Rattle.i_tree.proofs.SegLemmas.Bags.{IsPermutation-filter}
 
 module _ {X : Type 0} (p q : X → Bool) where
@@ -53,7 +53,7 @@ module _ {E V : Type 0} {cmp : E → E → Ordering} (o : IsTotalOrder cmp) (exp
   pub live-before : (latest : Option E) (time : E) → NotBefore cmp latest time → (value : V) → is_live expiration cmp time value ≡ true → is_live_yet expiration cmp latest value ≡ true
   live-before None time later value live = refl
   live-before (Some last) time later value live =
-      not_after-turned o (expiration value) last (upto o last time (expiration value) (not_before-turned o time last later) (at_or_after-turned o (expiration value) time live))
+      not_after-reversed o (expiration value) last (upto o last time (expiration value) (gt-reversed o last time ∙ later) (at_or_after-reversed o (expiration value) time live))
 
   -- chunks hold at a later time those of the members that are live then
   pub Holds-later : (latest : Option E) (time : E) (count : ℕ) (chunks : List (List (ℕ × V))) (members : List (Member V)) → NotBefore cmp latest time

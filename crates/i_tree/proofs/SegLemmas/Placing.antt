@@ -11,7 +11,7 @@ use Rattle.std.proofs.lemmas.List.Sorted.{IsPermutation-sym, IsPermutation-trans
 use Rattle.std.proofs.lemmas.List.Sums.{sum_by-cons}
 use Rattle.i_tree.specs.Seg.Copies.{stored_copies, copy_of, is_at, copies_at, chunk_at, live_copies, Holds, PlacesCopies}
 use Rattle.i_tree.specs.Seg.Members.{Member, is_live_yet, with_member}
-use Rattle.i_tree.specs.Seg.Nodes.{has_node, nodes_from, nodes_of, place_set}
+use Rattle.i_tree.specs.Seg.Nodes.{has_node, nodes_from, nodes_of, canonical_nodes}
 use Rattle.i_tree.proofs.SegLemmas.Masks.{placed-below}
 use Rattle.i_tree.proofs.SegLemmas.NodesWhere.{has_node-below}
 
@@ -53,18 +53,18 @@ module _ {V : Type 0} where
 module _ {E V : Type 0} (expiration : V → E) (cmp : E → E → Ordering) (latest : Option E) where
   module _ (count : ℕ) (before after : List (List (ℕ × V))) (members : List (Member V)) (member : Member V) (few : count ≤ 63)
       (order : member.interval.first ≤ member.interval.last) (below : 32 + member.interval.last ≤ count)
-      (holds : Holds expiration cmp latest count before members) (placed : PlacesCopies (place_set member.interval) member.value before after) where
+      (holds : Holds expiration cmp latest count before members) (placed : PlacesCopies (canonical_nodes member.interval) member.value before after) where
     -- nodes without a chunk are not in the mask
     no_chunk : (node : ℕ) → length before ≤ node → is_at node member ≡ false
     no_chunk node past =
         false_from_ne_true (is_at node member) (λ has.
         let long = holds.chunk_for_each in
         let small = placed-below member.interval.first member.interval.last order (omega arith) in
-        let within = has_node-below (place_set member.interval) (32 + member.interval.last) node small has in
+        let within = has_node-below (canonical_nodes member.interval) (32 + member.interval.last) node small has in
         absurd (omega arith))
 
     -- what joins the chunk of any node, also where there is no chunk
-    joined : (node : ℕ) → chunk_at node after ≡ chunk_at node before ++ joining (place_set member.interval) member.value node
+    joined : (node : ℕ) → chunk_at node after ≡ chunk_at node before ++ joining (canonical_nodes member.interval) member.value node
     joined node =
         elim (cases_lt node (length before)) [
           | inl less ↦ placed.chunks node less
@@ -78,7 +78,7 @@ module _ {E V : Type 0} (expiration : V → E) (cmp : E → E → Ordering) (lat
     live_joined : (node : ℕ) → IsPermutation (copies_at node (with_member expiration cmp latest member members)) (live_copies expiration cmp latest (chunk_at node after))
     live_joined node =
         subst (λ (copies : List (ℕ × V)). IsPermutation (copies_at node (with_member expiration cmp latest member members)) copies)
-        (sym (ap (live_copies expiration cmp latest) (joined node) ∙ filter-append (λ copy. is_live_yet expiration cmp latest copy.1) (chunk_at node before) (joining (place_set member.interval) member.value node)))
+        (sym (ap (live_copies expiration cmp latest) (joined node) ∙ filter-append (λ copy. is_live_yet expiration cmp latest copy.1) (chunk_at node before) (joining (canonical_nodes member.interval) member.value node)))
         (cases (is_live_yet expiration cmp latest member.value) (is_at node member) refl refl)
       where
         old : List (ℕ × V)

@@ -10,7 +10,7 @@ use Rattle.std.proofs.lemmas.Bool.{cond-true, cond-false}
 use Rattle.std.proofs.lemmas.List.{drop_more}
 use Rattle.std.proofs.lemmas.List.Elements.{All-more, All-same}
 use Rattle.std.proofs.lemmas.List.Sorted.{IsPermutation-refl, IsPermutation-trans, IsPermutation-map, IsPermutation-swap_remove, length_permutation}
-use Rattle.i_tree.specs.Root.Steps.{Counts, nothing, one_test, one_removal, together, Accumulates}
+use Rattle.i_tree.specs.Root.Steps.{Counts, nothing, one_test, one_removal, together, Accumulates, Makes}
 use Rattle.i_tree.specs.Seg.Copies.{found_at, live_copies, member_of}
 use Rattle.i_tree.specs.Seg.Members.{Member}
 use Rattle.i_tree.specs.Root.Live.{is_live}
@@ -34,32 +34,34 @@ module _ {E V : Type 0} (partial-cmp : E → E → Option Ordering) (cmp : E →
 -- `Made` says of two states of a counter which counts were made from the one to the other.
 module _ {S : Type 0} {Made : S → S → Counts → Type 0} (law : Accumulates Made) where
   -- nothing was read yet
-  pub Reads-none : (state : S) (live stored : ℕ) → Reads Made state state live live stored stored
+  pub Reads-none : (state : S) (live stored : ℕ) → Makes Made state state (Reads live live stored stored)
   Reads-none state live stored =
-      record { made = nothing; counted = law.none state; comparisons = refl; rotations = refl; tests = omega arith; tested = omega arith; removals = omega arith }
+      record { made = nothing; counted = law.none state; holds = record { comparisons = refl; rotations = refl; tests = omega arith; tested = omega arith; removals = omega arith } }
 
   -- one part after another
-  pub Reads-trans : (old mid new : S) (live0 live1 live2 stored0 stored1 stored2 : ℕ) → Reads Made old mid live0 live1 stored0 stored1 → Reads Made mid new live1 live2 stored1 stored2 → Reads Made old new live0 live2 stored0 stored2
+  pub Reads-trans : (old mid new : S) (live0 live1 live2 stored0 stored1 stored2 : ℕ) → Makes Made old mid (Reads live0 live1 stored0 stored1) → Makes Made mid new (Reads live1 live2 stored1 stored2) → Makes Made old new (Reads live0 live2 stored0 stored2)
   Reads-trans old mid new live0 live1 live2 stored0 stored1 stored2 first second =
       record {
         made = together first.made second.made;
         counted = law.both old mid new first.made second.made first.counted second.counted;
-        comparisons = omega (arith, first.comparisons, second.comparisons);
-        rotations = omega (arith, first.rotations, second.rotations);
-        tests = omega (arith, first.tests, second.tests);
-        tested = omega (arith, first.tested, second.tested);
-        removals = omega (arith, first.removals, second.removals);
+        holds = record {
+          comparisons = omega (arith, first.holds.comparisons, second.holds.comparisons);
+          rotations = omega (arith, first.holds.rotations, second.holds.rotations);
+          tests = omega (arith, first.holds.tests, second.holds.tests);
+          tested = omega (arith, first.holds.tested, second.holds.tested);
+          removals = omega (arith, first.holds.removals, second.holds.removals);
+        };
       }
 
   -- one live copy was tested
-  pub Reads-live : (old new : S) (live0 live1 stored : ℕ) → Made old new one_test → live0 ≡ live1 + 1 → Reads Made old new live0 live1 stored stored
+  pub Reads-live : (old new : S) (live0 live1 stored : ℕ) → Made old new one_test → live0 ≡ live1 + 1 → Makes Made old new (Reads live0 live1 stored stored)
   Reads-live old new live0 live1 stored tested fewer =
-      record { made = one_test; counted = tested; comparisons = refl; rotations = refl; tests = omega arith; tested = omega arith; removals = omega arith }
+      record { made = one_test; counted = tested; holds = record { comparisons = refl; rotations = refl; tests = omega arith; tested = omega arith; removals = omega arith } }
 
   -- one copy was tested that was no longer live, and was removed
-  pub Reads-dead : (old mid new : S) (live stored0 stored1 : ℕ) → Made old mid one_test → Made mid new one_removal → stored0 ≡ stored1 + 1 → Reads Made old new live live stored0 stored1
+  pub Reads-dead : (old mid new : S) (live stored0 stored1 : ℕ) → Made old mid one_test → Made mid new one_removal → stored0 ≡ stored1 + 1 → Makes Made old new (Reads live live stored0 stored1)
   Reads-dead old mid new live stored0 stored1 tested removed fewer =
-      record { made = together one_test one_removal; counted = law.both old mid new one_test one_removal tested removed; comparisons = refl; rotations = refl; tests = omega arith; tested = omega arith; removals = omega arith }
+      record { made = together one_test one_removal; counted = law.both old mid new one_test one_removal tested removed; holds = record { comparisons = refl; rotations = refl; tests = omega arith; tested = omega arith; removals = omega arith } }
 
 -- a removal leaves one copy fewer
 one_fewer : {X : Type 0} (xs : List X) (i : ℕ) (x : X) → i < length xs → x ≡ get_or xs i x → length xs ≡ length (swap_remove xs i x) + 1
@@ -113,7 +115,7 @@ module _ {E V : Type 0} (expiration : V → E) (cmp : E → E → Ordering) (tim
       pub live : IsPermutation (live_copies expiration cmp (Some time) before) (live_copies expiration cmp (Some time) after)
       pub loses : LosesExpired expiration cmp time before after
       pub passed : AllLive expiration cmp time (take start before) → AllLive expiration cmp time (take index after)
-      pub steps : Reads Made old new (length (live_copies expiration cmp (Some time) (drop start before))) (length (live_copies expiration cmp (Some time) (drop index after))) (length before) (length after)
+      pub steps : Makes Made old new (Reads (length (live_copies expiration cmp (Some time) (drop start before))) (length (live_copies expiration cmp (Some time) (drop index after))) (length before) (length after))
 
     module _ (law : Accumulates Made) where
       pub InChunk-start : (state : S) (copies : List (ℕ × V)) (start : ℕ) → InChunk state state copies start copies start
@@ -142,7 +144,7 @@ module _ {E V : Type 0} (expiration : V → E) (cmp : E → E → Ordering) (tim
               loses = loses-more dead;
               passed = λ first. All-same IsAlive (take i (swap_remove copies i copy)) (take i copies) (take-swap_remove copies i copy within) (so_far.passed first);
               steps = Reads-trans law old mid new _ live_behind live_behind _ (length copies) (length (swap_remove copies i copy))
-                  (subst (λ (live : ℕ). Reads Made old mid (length (live_copies expiration cmp (Some time) (drop start before))) live (length before) (length copies)) (sym (length_permutation _ _ behind)) so_far.steps)
+                  (subst (λ (live : ℕ). Makes Made old mid (Reads (length (live_copies expiration cmp (Some time) (drop start before))) live (length before) (length copies))) (sym (length_permutation _ _ behind)) so_far.steps)
                   (Reads-dead law mid tested new live_behind (length copies) (length (swap_remove copies i copy)) first second (one_fewer copies i copy within is));
             }
 
@@ -151,7 +153,7 @@ module _ {E V : Type 0} (expiration : V → E) (cmp : E → E → Ordering) (tim
         live_on alive = ap (live_copies expiration cmp (Some time)) (drop_more copies i copy within ∙ ap (λ (first : ℕ × V). first ∷ drop (i + 1) copies) (sym is)) ∙ live-alive copy (drop (i + 1) copies) alive
 
         pub Reads-past : (tested : S) → Made mid tested one_test → is_live expiration cmp time copy.1 ≡ true
-            → Reads Made old tested (length (live_copies expiration cmp (Some time) (drop start before))) (length (live_copies expiration cmp (Some time) (drop (i + 1) copies))) (length before) (length copies)
+            → Makes Made old tested (Reads (length (live_copies expiration cmp (Some time) (drop start before))) (length (live_copies expiration cmp (Some time) (drop (i + 1) copies))) (length before) (length copies))
         Reads-past tested first alive =
             Reads-trans law old mid tested _ (length (live_copies expiration cmp (Some time) (drop i copies))) _ _ (length copies) _ so_far.steps
             (Reads-live law mid tested _ (length (live_copies expiration cmp (Some time) (drop (i + 1) copies))) (length copies) first (omega (arith, ap length (live_on alive))))

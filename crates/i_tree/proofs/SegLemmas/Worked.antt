@@ -3,7 +3,7 @@ use Rattle.std.proofs.Common.{◌≡◌, ◌-◌, ◌^◌, ◌≤◌, pos, negsu
 use Rattle.std.proofs.lemmas.Int.{ints}
 use Rattle.i_tree.specs.Seg.Buckets.{Buckets, IsWidth, HasLayout, bucket, chunk_count, between}
 use Rattle.i_tree.proofs.SegLemmas.Widths.{width_of_exponent}
-use Rattle.i_tree.specs.Seg.Nodes.{covered, is_covered, is_placed, is_met, mask_below, nodes_where, place_set, meeting_set, nodes_from, nodes_of}
+use Rattle.i_tree.specs.Seg.Nodes.{covered, is_covered, is_canonical, is_met, mask_below, nodes_where, canonical_nodes, meeting_set, nodes_from, nodes_of}
 
 -- the buckets of some nodes
 node_0 : covered 0 ≡ between 0 31
@@ -31,32 +31,32 @@ unfolding covered
 node_62 = refl
 
 -- where some intervals are placed
-placed_0_31 : nodes_of (place_set (between 0 31)) ≡ 0 ∷ []
-unfolding nodes_of nodes_from nodes_where mask_below is_placed is_covered covered
+placed_0_31 : nodes_of (canonical_nodes (between 0 31)) ≡ 0 ∷ []
+unfolding nodes_of nodes_from nodes_where mask_below is_canonical is_covered covered
 placed_0_31 = refl
 
-placed_0_30 : nodes_of (place_set (between 0 30)) ≡ 1 ∷ 5 ∷ 13 ∷ 29 ∷ 61 ∷ []
-unfolding nodes_of nodes_from nodes_where mask_below is_placed is_covered covered
+placed_0_30 : nodes_of (canonical_nodes (between 0 30)) ≡ 1 ∷ 5 ∷ 13 ∷ 29 ∷ 61 ∷ []
+unfolding nodes_of nodes_from nodes_where mask_below is_canonical is_covered covered
 placed_0_30 = refl
 
-placed_1_30 : nodes_of (place_set (between 1 30)) ≡ 4 ∷ 5 ∷ 8 ∷ 13 ∷ 16 ∷ 29 ∷ 32 ∷ 61 ∷ []
-unfolding nodes_of nodes_from nodes_where mask_below is_placed is_covered covered
+placed_1_30 : nodes_of (canonical_nodes (between 1 30)) ≡ 4 ∷ 5 ∷ 8 ∷ 13 ∷ 16 ∷ 29 ∷ 32 ∷ 61 ∷ []
+unfolding nodes_of nodes_from nodes_where mask_below is_canonical is_covered covered
 placed_1_30 = refl
 
-placed_30_31 : nodes_of (place_set (between 30 31)) ≡ 30 ∷ []
-unfolding nodes_of nodes_from nodes_where mask_below is_placed is_covered covered
+placed_30_31 : nodes_of (canonical_nodes (between 30 31)) ≡ 30 ∷ []
+unfolding nodes_of nodes_from nodes_where mask_below is_canonical is_covered covered
 placed_30_31 = refl
 
-placed_29_31 : nodes_of (place_set (between 29 31)) ≡ 30 ∷ 60 ∷ []
-unfolding nodes_of nodes_from nodes_where mask_below is_placed is_covered covered
+placed_29_31 : nodes_of (canonical_nodes (between 29 31)) ≡ 30 ∷ 60 ∷ []
+unfolding nodes_of nodes_from nodes_where mask_below is_canonical is_covered covered
 placed_29_31 = refl
 
-placed_15_16 : nodes_of (place_set (between 15 16)) ≡ 46 ∷ 47 ∷ []
-unfolding nodes_of nodes_from nodes_where mask_below is_placed is_covered covered
+placed_15_16 : nodes_of (canonical_nodes (between 15 16)) ≡ 46 ∷ 47 ∷ []
+unfolding nodes_of nodes_from nodes_where mask_below is_canonical is_covered covered
 placed_15_16 = refl
 
-placed_0_12 : nodes_of (place_set (between 0 12)) ≡ 3 ∷ 9 ∷ 43 ∷ []
-unfolding nodes_of nodes_from nodes_where mask_below is_placed is_covered covered
+placed_0_12 : nodes_of (canonical_nodes (between 0 12)) ≡ 3 ∷ 9 ∷ 43 ∷ []
+unfolding nodes_of nodes_from nodes_where mask_below is_canonical is_covered covered
 placed_0_12 = refl
 
 -- and where what overlaps some intervals may be placed

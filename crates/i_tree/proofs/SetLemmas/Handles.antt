@@ -6,8 +6,8 @@ use Rattle.std.proofs.lemmas.List.Kept.{AllPairs-cons}
 use Rattle.i_tree.proofs.RootLemmas.Joined.{AllPairs-nil}
 use Rattle.i_tree.specs.declared.TheConstants.{EMPTY_REF}
 use Rattle.i_tree.specs.Set.Pairs.{AreApart}
-use Rattle.i_tree.specs.Core.Shape.{Shape, entries, AreHandles}
-use Rattle.i_tree.proofs.CoreLemmas.Contexts.{one_if_same-same, one_if_same-cases, occurs_among, occurs_among-entries}
+use Rattle.i_tree.specs.Rb.Shape.{Shape, entries, AreHandles}
+use Rattle.i_tree.proofs.RbLemmas.Shape.Contexts.{one_if_same-same, one_if_same-cases, occurs_among, occurs_among-entries}
 
 module _ {V : Type 0} where
   all_other : (handle : ℕ) (pairs : List (ℕ × V)) → occurs_among handle pairs ≡ 0 → All (λ pair. handle ≢ pair.0) pairs

@@ -1,4 +1,4 @@
--- The handles that a set answers are live, a look at one tells whether a key is there, and a set that loses a value stays in
+-- The handles that a set answers are live, a search for one tells whether a key is there, and a set that loses a value stays in
 -- order.
 use Rattle.std.proofs.Common.{◌≡◌, ◌≢◌, ℕ, zero, suc, inl, inr, ◌+◌, List, [], ◌∷◌, ◌++◌, map, length, refl, sym, ap, ◌∙◌, subst, arith, append_assoc, length-append}
 use Rattle.std.specs.Cmp.{IsTotalOrder}
@@ -11,10 +11,10 @@ use Rattle.i_tree.proofs.RootLemmas.Lists.{AllPairs-tail, Contains-here, Contain
 use Rattle.i_tree.proofs.RootLemmas.Joined.{Any-here, Any-there, Any-behind, AllPairs-append, AllPairs-across, AllPairs-behind, AllPairs-front, AllPairs-of_map, AllPairs-to_map, last_cut}
 use Rattle.i_tree.proofs.SetLemmas.Search.{below_from_ordered, ordered_from_below, last_handle-end}
 use Rattle.i_tree.specs.Set.Pairs.{AreApart, values, by_key, HasHandle, IsOrdered, HoldsKey, LacksKey, IsFoundBy}
-use Rattle.i_tree.specs.Core.Shape.{Shape, entries, last_handle}
-use Rattle.i_tree.specs.Core.Ways.{FindsNotAbove, LooksBetween}
+use Rattle.i_tree.specs.Rb.Shape.{Shape, entries, last_handle}
+use Rattle.i_tree.specs.Rb.SearchPath.{FindsNotAbove, SearchesBetween}
 use Rattle.i_tree.specs.Root.Ends.{LastFinds}
-use Rattle.i_tree.specs.declared.place.Place.{Place}
+use Rattle.i_tree.specs.declared.rb.place.Place.{Place}
 use Rattle.i_tree.specs.declared.TheConstants.{EMPTY_REF}
 
 module _ {X : Type 0} where
@@ -65,8 +65,8 @@ module _ {V : Type 0} where
       cut ∙ ap (λ (front : List (ℕ × V)). front ++ back) ends ∙ append_assoc rest (last ∷ []) back ∙ ap (λ (number : ℕ). rest ++ (number, last.1) ∷ back) same in
       subst (λ (ps : List (ℕ × V)). HasHandle ps handle) (sym whole) (HasHandle-middle rest handle last.1 back)
 
-  -- so is one that a look has found
-  pub HasHandle-found : (MayAnswer : V → Ordering → Type 0) (tree : Shape V) (place : Place) (found : ℕ) (said : Ordering) → LooksBetween MayAnswer tree place found said → found ≢ EMPTY_REF → HasHandle (entries tree) found
+  -- so is one that a search has found
+  pub HasHandle-found : (MayAnswer : V → Ordering → Type 0) (tree : Shape V) (place : Place) (found : ℕ) (said : Ordering) → SearchesBetween MayAnswer tree place found said → found ≢ EMPTY_REF → HasHandle (entries tree) found
   HasHandle-found MayAnswer tree place found said end some = by_last end.before
     where
       by_last : LastFinds (FindsNotAbove MayAnswer) (EMPTY_REF, Greater) end.front (found, said) → HasHandle (entries tree) found

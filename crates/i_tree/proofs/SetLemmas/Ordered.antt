@@ -10,7 +10,7 @@ use Rattle.i_tree.proofs.RootLemmas.Lists.{AllPairs-head}
 use Rattle.i_tree.proofs.RootLemmas.Joined.{last_cut, AllPairs-nil, AllPairs-behind}
 use Rattle.i_tree.proofs.SetLemmas.Search.{below_from_ordered, ordered_from_below, last_handle-end}
 use Rattle.i_tree.specs.Set.Pairs.{IsOrdered}
-use Rattle.i_tree.specs.Core.Shape.{last_handle}
+use Rattle.i_tree.specs.Rb.Shape.{last_handle}
 
 module _ {K V : Type 0} (key_of : V → K) (cmp : K → K → Ordering) where
   abbrev Below : ℕ × V → ℕ × V → Type 0
@@ -104,13 +104,13 @@ module _ {K V : Type 0} (key_of : V → K) (cmp : K → K → Ordering) where
     ordered_none (pair ∷ pairs) none = absurd (omega (arith, none))
 
   -- the pairs at this handle and right before it, where the way goes on
-  pub record IsOnWay (pairs : List (ℕ × V)) (before here count : ℕ) : Type 0 where
+  pub record IsOnPath (pairs : List (ℕ × V)) (before here count : ℕ) : Type 0 where
     pub rising : IsRisingFrom pairs here count
     pub lower : IsBefore pairs before here rising.value rising.back
 
-  pub way_on : (pairs old : List (ℕ × V)) (before here count end : ℕ) → old ≡ pairs → (0 < length pairs → IsRisingFrom pairs here count) → count < end → end ≡ length old
-      → ((front : List (ℕ × V)) (value : V) (back : List (ℕ × V)) → old ≡ front ++ (here, value) ∷ back → before ≡ last_handle front) → IsOnWay pairs before here count
-  way_on pairs old before here count end same from inside end_is says =
+  pub path_on : (pairs old : List (ℕ × V)) (before here count end : ℕ) → old ≡ pairs → (0 < length pairs → IsRisingFrom pairs here count) → count < end → end ≡ length old
+      → ((front : List (ℕ × V)) (value : V) (back : List (ℕ × V)) → old ≡ front ++ (here, value) ∷ back → before ≡ last_handle front) → IsOnPath pairs before here count
+  path_on pairs old before here count end same from inside end_is says =
       let rising = from (omega (arith, inside, end_is, ap length same)) in
       record {
         rising = rising;

@@ -23,7 +23,7 @@ use Rattle.i_tree.specs.Root.Answer.{AnswersBy, IsMonotone}
 use Rattle.i_tree.specs.Root.Change.{Joins}
 use Rattle.i_tree.specs.Set.Pairs.{AreApart, values, by_key, HasHandle, LacksHandle, IsOrdered, LacksKey, IsFoundBy, TakesKeys}
 use Rattle.i_tree.specs.Set.SetList.{Contents, numbered, IsPlaceFor}
-use Rattle.i_tree.specs.Core.Shape.{last_handle}
+use Rattle.i_tree.specs.Rb.Shape.{last_handle}
 use Rattle.i_tree.specs.declared.TheConstants.{EMPTY_REF}
 
 module _ {V : Type 0} where

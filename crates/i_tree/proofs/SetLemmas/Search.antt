@@ -1,4 +1,4 @@
--- What a look down says of the keys further out, by their order.
+-- What a search says of the keys further out, by their order.
 use Rattle.std.proofs.Common.{◌≡◌, ℕ, Bool, false, not, List, [], ◌∷◌, ◌++◌, refl, sym, ap, ◌∙◌, subst, inl, inr}
 use Rattle.std.specs.Borrow.{Bor}
 use Rattle.std.specs.Cmp.{IsTotalOrder}
@@ -9,17 +9,17 @@ use Rattle.std.specs.declared.cmp.Ordering.{Ordering}
 use Rattle.std.specs.declared.cmp.Ordering.TheVariants.{Less, Greater}
 use Rattle.std.proofs.lemmas.List.{map-append}
 use Rattle.std.proofs.lemmas.List.Elements.{All-head}
-use Rattle.i_tree.proofs.CoreLemmas.Entries.{IsBelow}
+use Rattle.i_tree.proofs.RbLemmas.SearchPath.Entries.{IsBelow}
 use Rattle.i_tree.proofs.RootLemmas.Cuts.{IsCutBy, FindsPassing, cut_between, at_most_at_cut}
 use Rattle.i_tree.proofs.RootLemmas.Joined.{All-front, All-behind, All-of_map, All-to_map, AllPairs-of_map, AllPairs-to_map}
 use Rattle.i_tree.proofs.RootLemmas.RisingKeys.{IsPartitionedBy-monotone}
 use Rattle.i_tree.specs.Root.Ends.{LastFinds, StartsIn}
 use Rattle.i_tree.specs.Root.Answer.{AnswersBy, IsMonotone}
 use Rattle.i_tree.specs.Set.Pairs.{by_key, values, IsOrdered, IsFoundBy, TakesKeys}
-use Rattle.i_tree.specs.Core.Shape.{Shape, entries, last_handle}
-use Rattle.i_tree.specs.Core.Ways.{FindsNotAbove, LooksBetween}
+use Rattle.i_tree.specs.Rb.Shape.{Shape, entries, last_handle}
+use Rattle.i_tree.specs.Rb.SearchPath.{FindsNotAbove, SearchesBetween}
 use Rattle.i_tree.specs.declared.TheConstants.{EMPTY_REF}
-use Rattle.i_tree.specs.declared.place.Place.{Place}
+use Rattle.i_tree.specs.declared.rb.place.Place.{Place}
 
 pub last_handle-end : {V : Type 0} (front : List (ℕ × V)) (last : ℕ × V) → last_handle (front ++ last ∷ []) ≡ last.0
 last_handle-end [] last = refl
@@ -64,7 +64,7 @@ module _ {K V : Type 0} (key_of : V → K) {cmp : K → K → Ordering} (o : IsT
     first_keyed [] says starts = tt
     first_keyed (pair ∷ rest) says may = ap (λ (r : Ordering). not (is_gt r)) (sym (All-head Says (keyed pair) (by_key key_of rest) says Greater (of_key pair.1 Greater may)))
 
-    found_at_cut : (tree : Shape V) (place : Place) (found : ℕ) (said : Ordering) → LooksBetween MayAnswer tree place found said → IsOrdered key_of cmp (entries tree)
+    found_at_cut : (tree : Shape V) (place : Place) (found : ℕ) (said : Ordering) → SearchesBetween MayAnswer tree place found said → IsOrdered key_of cmp (entries tree)
         → AnswersBy May order (by_key key_of (entries tree)) → IsMonotone cmp order (by_key key_of (entries tree)) → IsFoundBy key_of cmp order (entries tree) found
     found_at_cut tree place found said end ordered answers monotone =
         let whole : by_key key_of (entries tree) ≡ by_key key_of end.front ++ by_key key_of end.back = ap (by_key key_of) end.between.cut ∙ map-append keyed end.front end.back in
@@ -76,8 +76,8 @@ module _ {K V : Type 0} (key_of : V → K) {cmp : K → K → Ordering} (o : IsT
         (last_keyed end.front found said (All-front Says (by_key key_of end.front) (by_key key_of end.back) says_too) end.before)
         (first_keyed end.back (All-behind Says (by_key key_of end.front) (by_key key_of end.back) says_too) end.after)))
 
-  -- a look answers the last pair in front of its cut
-  pub look_finds : (MayAnswer : V → Ordering → Type 0) (tree : Shape V) (place : Place) (found : ℕ) (said : Ordering) → LooksBetween MayAnswer tree place found said → IsOrdered key_of cmp (entries tree)
+  -- a search answers the last pair in front of its cut
+  pub search_finds : (MayAnswer : V → Ordering → Type 0) (tree : Shape V) (place : Place) (found : ℕ) (said : Ordering) → SearchesBetween MayAnswer tree place found said → IsOrdered key_of cmp (entries tree)
       → (May : K → Ordering → Type 0) → ((value : V) (answer : Ordering) → MayAnswer value answer → May (key_of value) answer) → (order : K → Ordering)
       → AnswersBy May order (by_key key_of (entries tree)) → IsMonotone cmp order (by_key key_of (entries tree)) → IsFoundBy key_of cmp order (entries tree) found
-  look_finds MayAnswer tree place found said end ordered May of_key order answers monotone = found_at_cut MayAnswer May of_key order tree place found said end ordered answers monotone
+  search_finds MayAnswer tree place found said end ordered May of_key order answers monotone = found_at_cut MayAnswer May of_key order tree place found said end ordered answers monotone

@@ -1,12 +1,12 @@
--- Where a way down a tree of keys that expire ends. For the private contracts of `KeyExpTree`.
+-- Where a descent of a tree of keys that expire ends. For the private contracts of `KeyExpTree`.
 use Rattle.std.specs.Prelude.{◌≡◌, ℕ, Bool, true, false, if◌then◌else◌, All, length}
-use Rattle.i_tree.specs.Key.Way.{way_by}
-use Rattle.i_tree.specs.Core.RbTree.{Contents}
-use Rattle.i_tree.specs.Core.Shape.{Shape, entries}
-use Rattle.i_tree.specs.Core.Ways.{EndsBetween}
+use Rattle.i_tree.specs.Key.SearchPath.{path_by}
+use Rattle.i_tree.specs.Rb.RbTree.{Contents}
+use Rattle.i_tree.specs.Rb.Shape.{Shape, entries}
+use Rattle.i_tree.specs.Rb.SearchPath.{EndsBetween}
 use Rattle.i_tree.specs.Root.Ends.{FirstFinds}
 use Rattle.i_tree.specs.declared.TheConstants.{EMPTY_REF}
-use Rattle.i_tree.specs.declared.place.Place.{Place}
+use Rattle.i_tree.specs.declared.rb.place.Place.{Place}
 
 -- whatever may be answered is what the test says
 abbrev pub AnswersAs : {K : Type 0} → (K → Bool → Type 0) → (K → Bool) → Type 0
@@ -31,7 +31,7 @@ module _ {K V : Type 0} (is_live : K → Bool) (MayAnswer : K → Bool → Type 
   DescendsTo passed tree place found =
       (last : ℕ) × (next : ℕ) × DescendsBetween tree place last next × (found ≡ (if passed then last else next))
 
-  -- where a test says what is answered, nothing has gone exactly where all pairs on the way by the test are live
-  pub record FollowsWay (old new : Contents (K × V)) : Type 0 where
-    pub all_live : (passes : K → Bool) → AnswersAs MayAnswer passes → length (entries new.shape) ≡ length (entries old.shape) → All (λ pair. is_live pair.0 ≡ true) (way_by passes old.shape)
-    pub none_gone : (passes : K → Bool) → AnswersAs MayAnswer passes → All (λ pair. is_live pair.0 ≡ true) (way_by passes old.shape) → new ≡ old
+  -- where a test says what is answered, nothing has gone exactly where all pairs on the search path by the test are live
+  pub record FollowsPath (old new : Contents (K × V)) : Type 0 where
+    pub all_live : (passes : K → Bool) → AnswersAs MayAnswer passes → length (entries new.shape) ≡ length (entries old.shape) → All (λ pair. is_live pair.0 ≡ true) (path_by passes old.shape)
+    pub none_gone : (passes : K → Bool) → AnswersAs MayAnswer passes → All (λ pair. is_live pair.0 ≡ true) (path_by passes old.shape) → new ≡ old

@@ -1,7 +1,14 @@
--- What contracts see of a `KeyExpTree`, beside its core.
-use Rattle.std.specs.Prelude.{ℕ, ◌-◌, List, map}
-use Rattle.i_tree.specs.Core.RbTree.{Contents, slots, slots_grown}
-use Rattle.i_tree.specs.Core.Shape.{Shape, entries}
+-- What contracts see of a `KeyExpTree`, beside its core, and what it promises beyond the trait.
+use Rattle.std.specs.Prelude.{◌≡◌, ◌≢◌, ℕ, ◌-◌, ◌<◌, List, Result, IsOk, IsErr, IfErr, OnOk, OnErr, length, map, ⊤}
+use Rattle.std.specs.declared.cmp.Ordering.{Ordering}
+use Rattle.i_tree.specs.Rb.Balance.{IsCore}
+use Rattle.i_tree.specs.Rb.RbTree.{Contents, slots, slots_grown}
+use Rattle.i_tree.specs.Rb.Shape.{Shape, leaf, entries}
+use Rattle.i_tree.specs.Key.Live.{AllLive}
+use Rattle.i_tree.specs.Key.SearchPath.{path_to}
+use Rattle.i_tree.specs.declared.Refusal.{Refusal}
+use Rattle.i_tree.specs.declared.Refusal.TheVariants.{OutOfMemory, NoHandle}
+use Rattle.i_tree.specs.declared.TheConstants.{EMPTY_REF}
 
 module _ {T : Type 0} where
   -- the items of a core, in order
@@ -12,3 +19,32 @@ module _ {T : Type 0} where
   -- else twice as many, up to `EMPTY_REF`
   abbrev pub slots_for : Contents T → ℕ → ℕ
   slots_for contents stored = slots_grown (slots contents - stored) (slots contents)
+
+  -- a query keeps the slots
+  pub record KeyTreeLeaves (old new : Contents T) : Type 0 where
+    pub core : IsCore new.shape
+    pub slots : slots new ≡ slots old
+
+  -- `clear` leaves no node, and keeps the slots
+  pub record KeyTreeClears (old new : Contents T) : Type 0 where
+    pub empty : new.shape ≡ leaf
+    pub slots : slots new ≡ slots old
+
+-- `expiration` gives a key's expiration, `compare` compares keys, and `cmp` compares expirations.
+module _ {K V E : Type 0} (expiration : K → E) (compare : K → K → Ordering) (cmp : E → E → Ordering) where
+  -- all pairs on the search path to the key's place are live at the time
+  abbrev pub IsPathLive : K → E → Contents (K × V) → Type 0
+  IsPathLive key time contents = AllLive expiration cmp time (path_to compare key contents.shape)
+
+  -- an insertion succeeds where a slot is free after its search path, else the slots double; a refusal changes nothing, and
+  -- means that all on the path is live
+  pub record KeyTreeInserts (key : K) (time : E) (old : Contents (K × V)) (result : Result ⊤ Refusal) (new : Contents (K × V))
+      : Type 0 where
+    pub core : IsCore new.shape
+    pub err : OnErr result (new ≡ old)
+    pub with_spare : 0 < old.spare → IsOk result
+    pub err_way : OnErr result (IsPathLive key time old)
+    pub full : old.spare ≡ 0 → slots old ≡ EMPTY_REF → IsPathLive key time old → IsErr result
+    pub no_handle : slots old ≡ EMPTY_REF → IfErr result (λ cause. cause ≡ NoHandle)
+    pub refused : slots old ≢ EMPTY_REF → IfErr result (λ cause. cause ≡ OutOfMemory)
+    pub slots : OnOk result (slots new ≡ slots_for old (length (items new.shape)))

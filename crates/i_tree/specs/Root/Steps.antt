@@ -55,3 +55,9 @@ module _ {S : Type 0} (Made : S → S → Counts → Type 0) where
     pub tests : made.tests ≡ 0
     pub removals : made.removals ≡ 0
     pub rotations : made.rotations ≤ most
+
+  -- between the two states counts were made of which this holds
+  pub record Makes (old new : S) (Holds : Counts → Type 0) : Type 0 where
+    pub made : Counts
+    pub counted : Made old new made
+    pub holds : Holds made

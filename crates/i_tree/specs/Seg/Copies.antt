@@ -6,7 +6,7 @@ use Rattle.std.specs.declared.option.Option.{Option}
 use Rattle.std.specs.declared.vec.Vec.{Vec}
 use Rattle.i_tree.specs.Seg.Buckets.{between}
 use Rattle.i_tree.specs.Seg.Members.{Member, is_live_yet}
-use Rattle.i_tree.specs.Seg.Nodes.{has_node, lowest, nodes_of, place_set, meeting_set, interval_of}
+use Rattle.i_tree.specs.Seg.Nodes.{has_node, lowest, nodes_of, canonical_nodes, meeting_set, interval_of}
 
 module _ {V : Type 0} where
   -- the copies of a node, of which there are none where it has no chunk
@@ -19,7 +19,7 @@ module _ {V : Type 0} where
 
   -- the copy of a member: the nodes that its interval is placed at, and its value
   abbrev pub copy_of : Member V → ℕ × V
-  copy_of member = (place_set member.interval, member.value)
+  copy_of member = (canonical_nodes member.interval, member.value)
 
   -- the member that a copy is of
   abbrev pub member_of : ℕ × V → Member V
@@ -27,7 +27,7 @@ module _ {V : Type 0} where
 
   -- the member is placed at the node
   abbrev pub is_at : ℕ → Member V → Bool
-  is_at node member = has_node (place_set member.interval) node
+  is_at node member = has_node (canonical_nodes member.interval) node
 
   -- the copies that members have at a node: one for each that is placed there
   abbrev pub copies_at : ℕ → List (Member V) → List (ℕ × V)

@@ -3,7 +3,7 @@ use Rattle.std.specs.Prelude.{◌≡◌, ◌<◌, ◌≤◌, ◌^◌, List, [], 
 use Rattle.std.specs.declared.cmp.Ordering.{Ordering}
 use Rattle.std.specs.declared.option.Option.{Option}
 use Rattle.std.specs.declared.option.Option.TheVariants.{None, Some}
-use Rattle.i_tree.specs.declared.seg.iterating.SegExpTreeIterator.{SegExpTreeIterator}
+use Rattle.i_tree.specs.declared.seg.iterator.SegExpTreeIterator.{SegExpTreeIterator}
 use Rattle.i_tree.specs.Seg.Copies.{stored_copies}
 use Rattle.i_tree.specs.Seg.Members.{values_of}
 use Rattle.i_tree.specs.Seg.Walk.{to_come, LosesExpiredAt, Cleans, HasPassed}

@@ -1,9 +1,9 @@
 -- What a tree of segments holds: a bag of values, each over some buckets. Lists of members are bags: their order is open.
-use Rattle.std.specs.Prelude.{◌≡◌, ◌≢◌, ℤ, Bool, true, if◌then◌else◌, List, ◌∷◌, map, filter, All, MatchOption, ⊤}
+use Rattle.std.specs.Prelude.{◌≡◌, ℤ, Bool, true, false, if◌then◌else◌, List, ◌∷◌, ◌++◌, map, filter, All, IsPermutation}
 use Rattle.std.specs.declared.cmp.Ordering.{Ordering}
-use Rattle.std.specs.declared.cmp.Ordering.TheVariants.{Less}
 use Rattle.std.specs.declared.option.Option.{Option}
 use Rattle.std.specs.declared.option.Option.TheVariants.{None, Some}
+use Rattle.i_tree.specs.Root.Late.{is_late}
 use Rattle.i_tree.specs.Root.Live.{is_live}
 use Rattle.i_tree.specs.Seg.Buckets.{Buckets, Interval, interval, overlap}
 
@@ -39,11 +39,19 @@ module _ {E V : Type 0} (expiration : V → E) (cmp : E → E → Ordering) wher
   abbrev pub with_member : Option E → Member V → List (Member V) → List (Member V)
   with_member latest member members = if is_live_yet latest member.value then member ∷ members else members
 
+  -- a member joins the others where it is live at the latest time, in some order
+  abbrev pub Joins : Option E → Member V → List (Member V) → List (Member V) → Type 0
+  Joins latest member before after = IsPermutation (with_member latest member before) after
+
   -- the answer to a query, in some order: the values of the members that are live at its time and overlap its interval
   abbrev pub answer : E → Interval → List (Member V) → List V
   answer time asked members =
       values_of (filter (λ member. overlap member.interval asked) (live_members time members))
 
+-- the answers stand behind what a list had before, in some order
+abbrev pub Appends : {V : Type 0} → List V → List V → List V → Type 0
+Appends answers before after = (found : List _) × IsPermutation answers found × (after ≡ before ++ found)
+
 -- the time is not before the latest one
 abbrev pub NotBefore : {E : Type 0} → (E → E → Ordering) → Option E → E → Type 0
-NotBefore cmp latest time = MatchOption latest ⊤ (λ last. cmp time last ≢ Less)
+NotBefore cmp latest time = is_late cmp latest time ≡ false

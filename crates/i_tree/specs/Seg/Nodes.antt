@@ -32,8 +32,8 @@ abbrev pub parent_passes : (ℕ → Bool) → ℕ → Bool
 parent_passes test node = leb 1 node && test ((node - 1) / 2)
 
 -- all buckets of the node are of the interval, and not all of its parent
-unfoldable pub is_placed : Interval → ℕ → Bool
-is_placed whole node = is_covered whole node && not (parent_passes (is_covered whole) node)
+unfoldable pub is_canonical : Interval → ℕ → Bool
+is_canonical whole node = is_covered whole node && not (parent_passes (is_covered whole) node)
 
 -- some bucket of the node is of the interval
 unfoldable pub is_met : Interval → ℕ → Bool
@@ -49,8 +49,8 @@ unfoldable pub nodes_where : (ℕ → Bool) → ℕ
 nodes_where test = mask_below 63 test
 
 -- the nodes that an interval is placed at: they cover it, and it alone
-abbrev pub place_set : Interval → ℕ
-place_set whole = nodes_where (is_placed whole)
+abbrev pub canonical_nodes : Interval → ℕ
+canonical_nodes whole = nodes_where (is_canonical whole)
 
 -- the nodes that something which overlaps the interval may be placed at
 abbrev pub meeting_set : Interval → ℕ
@@ -66,7 +66,7 @@ pub record IsLowest (mask node : ℕ) : Type 0 where
   pub there : has_node mask node ≡ true
   pub none_below : (other : ℕ) → other < node → has_node mask other ≡ false
 
--- the nodes of the mask from one node on, so many of them looked at, in ascending order
+-- the nodes of the mask from one node on, so many of them ended at, in ascending order
 unfoldable pub nodes_from : ℕ → ℕ → ℕ → List ℕ
 nodes_from zero node mask = []
 nodes_from (suc more) node mask =

@@ -1,5 +1,8 @@
-ghost use Rattle.std.specs.Prelude.{◌≡◌, ◌≤◌, ◌<◌, ℕ, List, [], All, length, IsOk, OnOk, OnErr, MatchBool};
+//! The trait of collections of keys that expire: what each of them promises.
+
+ghost use Rattle.std.specs.Prelude.{◌≡◌, ◌≤◌, ◌<◌, ℕ, List, [], All, Result, ⊤, length, IsOk, OnOk, OnErr, MatchBool};
 ghost use Rattle.std.specs.declared.cmp.Ordering.{Ordering};
+ghost use Rattle.i_tree.specs.declared.Refusal.{Refusal};
 ghost use Rattle.i_tree.specs.Key.Live.{live_pairs, IsExpired};
 ghost use Rattle.i_tree.specs.Root.Pairs.{HasKey, NoKey, IsRising};
 ghost use Rattle.i_tree.specs.Root.Answer.{Below, AtMostBy, AboveBy};
@@ -22,6 +25,15 @@ pub trait KeyExpCollection<K: ExpiredKey<E>, E: Expiration, V: Copy> {
     /// For how many pairs in all there is room, the stored ones among them. The default promises none.
     ghost room: { Self → ℕ } = { λ _. 0 };
 
+    /// What each kind promises beyond these clauses of an insertion that gave this result. The default promises nothing.
+    ghost inserts: { K → V → E → Self → Result ⊤ Refusal → Self → Type 0 } = { λ _ _ _ _ _ _. ⊤ };
+
+    /// What each kind promises beyond these clauses of a query at this time. The default promises nothing.
+    ghost leaves: { E → Self → Self → Type 0 } = { λ _ _ _. ⊤ };
+
+    /// What each kind promises beyond these clauses of `clear`. The default promises nothing.
+    ghost clears: { Self → Self → Type 0 } = { λ _ _. ⊤ };
+
     /// Stores the pair, whatever its expiration.
     ///
     /// `contains_key` is the test of the condition: no key that is live at `time` compares Equal. It is refused where
@@ -29,49 +41,61 @@ pub trait KeyExpCollection<K: ExpiredKey<E>, E: Expiration, V: Copy> {
     /// stored as it was.
     fn insert(&mut self, key: K, val: V, time: E) -> Result<(), Refusal>
         requires { NoKey K.cmp (live_pairs K.expiration E.cmp time (stored self.old)) key }
-        ensures ok { OnOk result (Gains (IsExpired K.expiration E.cmp time) (key, val) (stored self.old) (stored self.new)) }
+        ensures ok { OnOk result
+            (Gains (IsExpired K.expiration E.cmp time) (key, val) (stored self.old) (stored self.new)) }
         ensures err { OnErr result (stored self.new ≡ stored self.old) }
         ensures rising { IsRising K.cmp (stored self.new) }
+
+        // When it is never refused, and what each kind adds.
         ensures with_room { length (stored self.old) < room self.old → IsOk result }
-        ensures room { room self.old ≤ room self.new };
+        ensures room { room self.old ≤ room self.new }
+        ensures inserts { inserts key val time self.old result self.new };
 
     /// The value of the greatest live key below `key`, or `default` where no live key is below it.
     fn first_less(&mut self, time: E, default: V, key: K) -> V
         ensures value { Below K.cmp (live_pairs K.expiration E.cmp time (stored self.old)) key default result }
         ensures kept { Without (IsExpired K.expiration E.cmp time) (stored self.old) (stored self.new) }
         ensures rising { IsRising K.cmp (stored self.new) }
-        ensures room { room self.old ≤ room self.new };
+        ensures room { room self.old ≤ room self.new }
+        ensures leaves { leaves time self.old self.new };
 
     /// The value of a live key that `f` calls Equal; where there is none, of the greatest live key that it calls
     /// Less; where there is none of these either, `default`.
     ///
-    /// `f` says how a key stands to what is looked for. It is asked about live keys alone, and on these it is to be
+    /// `f` says how a key stands to what is sought. It is asked about live keys alone, and on these it is to be
     /// monotone: it never answers a lower key by a later of Less, Equal, Greater than a higher one. Which of several
     /// Equal keys is answered is open.
     fn first_less_or_equal_by<F: Fn(K) -> Ordering>(&mut self, time: E, default: V, f: F) -> V
         requires { All (λ pair. F.pre f pair.0) (live_pairs K.expiration E.cmp time (stored self.old)) }
-        ensures value { AtMostBy K.cmp (F.post f) (live_pairs K.expiration E.cmp time (stored self.old)) default result }
+        ensures value { AtMostBy K.cmp (F.post f)
+            (live_pairs K.expiration E.cmp time (stored self.old)) default result }
         ensures kept { Without (IsExpired K.expiration E.cmp time) (stored self.old) (stored self.new) }
         ensures rising { IsRising K.cmp (stored self.new) }
-        ensures room { room self.old ≤ room self.new };
+        ensures room { room self.old ≤ room self.new }
+        ensures leaves { leaves time self.old self.new };
 
     /// The value of the first live key that `f` calls Greater, or `default` where it calls no live key so.
     ///
     /// `f` is asked as by `first_less_or_equal_by`.
     fn first_greater_by<F: Fn(K) -> Ordering>(&mut self, time: E, default: V, f: F) -> V
         requires { All (λ pair. F.pre f pair.0) (live_pairs K.expiration E.cmp time (stored self.old)) }
-        ensures value { AboveBy K.cmp (F.post f) (live_pairs K.expiration E.cmp time (stored self.old)) default result }
+        ensures value { AboveBy K.cmp (F.post f)
+            (live_pairs K.expiration E.cmp time (stored self.old)) default result }
         ensures kept { Without (IsExpired K.expiration E.cmp time) (stored self.old) (stored self.new) }
         ensures rising { IsRising K.cmp (stored self.new) }
-        ensures room { room self.old ≤ room self.new };
+        ensures room { room self.old ≤ room self.new }
+        ensures leaves { leaves time self.old self.new };
 
     /// Whether a key that is live at `time` compares Equal to `key`. It removes nothing.
     fn contains_key(&self, time: E, key: K) -> bool
-        ensures cases { MatchBool result (HasKey K.cmp (live_pairs K.expiration E.cmp time (stored self.now)) key) (NoKey K.cmp (live_pairs K.expiration E.cmp time (stored self.now)) key) }
+        ensures cases { MatchBool result
+            (HasKey K.cmp (live_pairs K.expiration E.cmp time (stored self.now)) key)
+            (NoKey K.cmp (live_pairs K.expiration E.cmp time (stored self.now)) key) }
         ensures rising { IsRising K.cmp (stored self.now) };
 
     /// Removes every pair.
     fn clear(&mut self)
         ensures empty { stored self.new ≡ [] }
-        ensures room { room self.old ≤ room self.new };
+        ensures room { room self.old ≤ room self.new }
+        ensures clears { clears self.old self.new };
 }

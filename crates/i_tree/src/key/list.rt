@@ -1,14 +1,15 @@
-ghost use Rattle.std.specs.Prelude.{◌≡◌, ◌≤◌, ◌<◌, ◌+◌, ℕ, List, [], All, Any, length, IsOk, OnOk, OnErr, IfOk, IfErr, MatchBool};
-ghost use Rattle.std.specs.declared.cmp.Ordering.{Ordering};
-ghost use Rattle.i_tree.specs.Root.Answer.{Below, AtMostBy, AboveBy};
-ghost use Rattle.i_tree.specs.Root.Change.{Joins, Gains, Without};
-ghost use Rattle.i_tree.specs.Key.Live.{live_pairs, IsExpired};
-ghost use Rattle.i_tree.specs.Root.Pairs.{HasKey, NoKey, IsRising};
+//! `KeyExpList`: keys that expire, in a sorted vector.
+
+ghost use Rattle.std.specs.Prelude.{◌≡◌, ◌≤◌, ◌+◌, [], length, IsOk, OnOk, OnErr, IfOk, IfErr};
+ghost use Rattle.i_tree.specs.Root.Change.{Without};
+ghost use Rattle.i_tree.specs.Key.KeyExpList.{KeyListLeaves};
+ghost use Rattle.i_tree.specs.Key.Live.{IsExpired};
+ghost use Rattle.i_tree.specs.Root.Pairs.{IsRising};
 
 use super::exp::KeyExpCollection;
 use super::live::{earliest_expiration, keep_live};
 use super::sorted::{has_live_key, place_of, value_above, value_at_most, value_below};
-use crate::inserting::insert_at;
+use crate::list_insertion::insert_at;
 use crate::{Expiration, ExpiredKey, Refusal};
 use std::alloc::{AllocError, Allocator};
 use std::cmp::Ordering;
@@ -39,7 +40,8 @@ impl<K: ExpiredKey<E>, E: Expiration, V: Copy, A: Allocator + Copy> Model
       spare = vec_capacity list.pairs - vec_len list.pairs;
     } };
 
-    ghost invariant = { λ list. IsRising K.cmp list.pairs.items × NoneExpiresBefore K.expiration E.cmp list.earliest list.pairs.items };
+    ghost invariant = { λ list. IsRising K.cmp list.pairs.items
+        × NoneExpiresBefore K.expiration E.cmp list.earliest list.pairs.items };
 }
 
 impl<K: ExpiredKey<E>, E: Expiration, V: Copy, A: Allocator + Copy> KeyExpList<K, E, V, A> {
@@ -86,10 +88,9 @@ impl<K: ExpiredKey<E>, E: Expiration, V: Copy, A: Allocator + Copy> KeyExpList<K
 
     // Removes what is expired at `time`, unless the bound says that nothing is.
     fn remove_expired(&mut self, time: E)
-        ensures live { self.new.pairs ≡ live_pairs K.expiration E.cmp time self.old.pairs }
         ensures kept { Without (IsExpired K.expiration E.cmp time) self.old.pairs self.new.pairs }
         ensures rising { IsRising K.cmp self.new.pairs }
-        ensures room { length self.new.pairs + self.new.spare ≡ length self.old.pairs + self.old.spare }
+        ensures leaves { KeyListLeaves K.expiration E.cmp time self.old self.new }
     {
         if self.earliest >= time {
             return;
@@ -101,27 +102,23 @@ impl<K: ExpiredKey<E>, E: Expiration, V: Copy, A: Allocator + Copy> KeyExpList<K
 
 impl<K: ExpiredKey<E>, E: Expiration, V: Copy, A: Allocator + Copy> KeyExpCollection<K, E, V>
     for KeyExpList<K, E, V, A> {
+    ghost use Rattle.i_tree.specs.Key.KeyExpList.{KeyListInserts, KeyListLeaves, KeyListClears};
+
     ghost stored = { λ list. list.pairs };
 
     ghost room = { λ list. length list.pairs + list.spare };
+
+    ghost inserts = { λ key val time old result new. KeyListInserts K.expiration E.cmp (key, val) time old result new };
+
+    ghost leaves = { λ time old new. KeyListLeaves K.expiration E.cmp time old new };
+
+    ghost clears = { λ old new. KeyListClears old new };
 
     /// Removes what is expired at `time`, and then stores the pair.
     ///
     /// It is refused for want of memory alone: never while there is room, nor where an expired pair makes room.
     /// A refusal changes nothing at all.
-    fn insert(&mut self, key: K, val: V, time: E) -> Result<(), Refusal>
-        requires { NoKey K.cmp (live_pairs K.expiration E.cmp time self.old.pairs) key }
-        ensures ok { OnOk result (Gains (IsExpired K.expiration E.cmp time) (key, val) self.old.pairs self.new.pairs) }
-        ensures joins_live { OnOk result (Joins (key, val) (live_pairs K.expiration E.cmp time self.old.pairs) self.new.pairs) }
-        ensures err { OnErr result (self.new ≡ self.old) }
-        ensures rising { IsRising K.cmp self.new.pairs }
-
-        // When it is refused, and that the room never shrinks.
-        ensures refused { IfErr result (λ cause. cause ≡ Refusal.OutOfMemory) }
-        ensures with_spare { 0 < self.old.spare → IsOk result }
-        ensures with_expired { Any (IsExpired K.expiration E.cmp time) self.old.pairs → IsOk result }
-        ensures room { length self.old.pairs + self.old.spare ≤ length self.new.pairs + self.new.spare }
-    {
+    fn insert(&mut self, key: K, val: V, time: E) -> Result<(), Refusal> {
         self.remove_expired(time);
         self.pairs.reserve(1)?;
         let place = place_of(&self.pairs, &key);
@@ -132,39 +129,19 @@ impl<K: ExpiredKey<E>, E: Expiration, V: Copy, A: Allocator + Copy> KeyExpCollec
 
     /// Removes what is expired at `time`, and answers the value of the greatest key below `key`, or `default`
     /// where none is below it.
-    fn first_less(&mut self, time: E, default: V, key: K) -> V
-        ensures value { Below K.cmp (live_pairs K.expiration E.cmp time self.old.pairs) key default result }
-        ensures kept { Without (IsExpired K.expiration E.cmp time) self.old.pairs self.new.pairs }
-        ensures keeps_live { self.new.pairs ≡ live_pairs K.expiration E.cmp time self.old.pairs }
-        ensures rising { IsRising K.cmp self.new.pairs }
-        ensures room { length self.new.pairs + self.new.spare ≡ length self.old.pairs + self.old.spare }
-    {
+    fn first_less(&mut self, time: E, default: V, key: K) -> V {
         self.remove_expired(time);
         value_below(&self.pairs, &key, default)
     }
 
     /// Removes what is expired at `time`, and answers by `f`, which is asked about what is left alone.
-    fn first_less_or_equal_by<F: Fn(K) -> Ordering>(&mut self, time: E, default: V, f: F) -> V
-        requires { All (λ pair. F.pre f pair.0) (live_pairs K.expiration E.cmp time self.old.pairs) }
-        ensures value { AtMostBy K.cmp (F.post f) (live_pairs K.expiration E.cmp time self.old.pairs) default result }
-        ensures kept { Without (IsExpired K.expiration E.cmp time) self.old.pairs self.new.pairs }
-        ensures keeps_live { self.new.pairs ≡ live_pairs K.expiration E.cmp time self.old.pairs }
-        ensures rising { IsRising K.cmp self.new.pairs }
-        ensures room { length self.new.pairs + self.new.spare ≡ length self.old.pairs + self.old.spare }
-    {
+    fn first_less_or_equal_by<F: Fn(K) -> Ordering>(&mut self, time: E, default: V, f: F) -> V {
         self.remove_expired(time);
         value_at_most(&self.pairs, f, default)
     }
 
     /// Removes what is expired at `time`, and answers by `f`, which is asked about what is left alone.
-    fn first_greater_by<F: Fn(K) -> Ordering>(&mut self, time: E, default: V, f: F) -> V
-        requires { All (λ pair. F.pre f pair.0) (live_pairs K.expiration E.cmp time self.old.pairs) }
-        ensures value { AboveBy K.cmp (F.post f) (live_pairs K.expiration E.cmp time self.old.pairs) default result }
-        ensures kept { Without (IsExpired K.expiration E.cmp time) self.old.pairs self.new.pairs }
-        ensures keeps_live { self.new.pairs ≡ live_pairs K.expiration E.cmp time self.old.pairs }
-        ensures rising { IsRising K.cmp self.new.pairs }
-        ensures room { length self.new.pairs + self.new.spare ≡ length self.old.pairs + self.old.spare }
-    {
+    fn first_greater_by<F: Fn(K) -> Ordering>(&mut self, time: E, default: V, f: F) -> V {
         self.remove_expired(time);
         value_above(&self.pairs, f, default)
     }
@@ -174,10 +151,7 @@ impl<K: ExpiredKey<E>, E: Expiration, V: Copy, A: Allocator + Copy> KeyExpCollec
     }
 
     /// Removes every pair, and keeps the room.
-    fn clear(&mut self)
-        ensures empty { self.new.pairs ≡ [] }
-        ensures room { self.new.spare ≡ length self.old.pairs + self.old.spare }
-    {
+    fn clear(&mut self) {
         self.pairs.clear();
         self.earliest = E::max_expiration();
     }

@@ -10,7 +10,7 @@ ghost use Rattle.i_tree.specs.Key.Live.{live_pairs};
 ghost use Rattle.i_tree.specs.Root.Pairs.{HasKey, NoKey, IsRising};
 
 use super::live::is_live;
-use crate::halving::count_passing;
+use crate::binary_search::count_passing;
 use crate::{Expiration, ExpiredKey};
 use std::cmp::Ordering;
 
@@ -18,7 +18,8 @@ use std::cmp::Ordering;
 pub(super) fn place_of<K: Ord + Copy, V>(pairs: &[(K, V)], key: &K) -> usize
     requires { IsRising K.cmp pairs.now }
     ensures within { result ≤ length pairs.now }
-    ensures splits { IsPartitionPoint (λ pair. K.cmp pair.0 key.now ≡ Less) (λ pair. K.cmp pair.0 key.now ≢ Less) pairs.now result }
+    ensures splits { IsPartitionPoint
+        (λ pair. K.cmp pair.0 key.now ≡ Less) (λ pair. K.cmp pair.0 key.now ≢ Less) pairs.now result }
 {
     let is_below = |pair: &(K, V)| -> bool
         ensures { result ≡ is_lt (K.cmp pair.entry.now.0 key.entry.now) }
@@ -41,7 +42,8 @@ fn last_value<K, V: Copy>(pairs: &[(K, V)], count: usize, default: V) -> V
 // The value of the first of the pairs behind the first `count`, or `default` where there is none.
 fn next_value<K, V: Copy>(pairs: &[(K, V)], count: usize, default: V) -> V
     ensures none { length pairs.now ≤ count → result ≡ default }
-    ensures next { count < length pairs.now → (pair : K × V) × (slice_get pairs.now count ≡ Some pair) × (result ≡ pair.1) }
+    ensures next { count < length pairs.now
+        → (pair : K × V) × (slice_get pairs.now count ≡ Some pair) × (result ≡ pair.1) }
 {
     match pairs.get(count) {
         Some(pair) => pair.1,
@@ -63,7 +65,8 @@ fn count_at_most<K: Ord + Copy, V, F: Fn(K) -> Ordering>(pairs: &[(K, V)], f: F)
     requires callable { All (λ pair. F.pre f pair.0) pairs.now }
     ensures within { result ≤ length pairs.now }
     ensures splits { (order : K → Ordering) → AnswersBy (F.post f) order pairs.now → IsMonotone K.cmp order pairs.now
-        → IsPartitionPoint (λ pair. not (is_gt (order pair.0)) ≡ true) (λ pair. not (is_gt (order pair.0)) ≡ false) pairs.now result }
+        → IsPartitionPoint (λ pair. not (is_gt (order pair.0)) ≡ true) (λ pair. not (is_gt (order pair.0)) ≡ false)
+        pairs.now result }
 {
     let is_at_most = |pair: &(K, V)| -> bool
         requires { F.pre f pair.now.0 }
@@ -105,7 +108,9 @@ pub(super) fn has_live_key<K: ExpiredKey<E>, E: Expiration, V>(
     key: &K,
 ) -> bool
     requires { IsRising K.cmp pairs.now }
-    ensures { MatchBool result (HasKey K.cmp (live_pairs K.expiration E.cmp time pairs.now) key.now) (NoKey K.cmp (live_pairs K.expiration E.cmp time pairs.now) key.now) }
+    ensures { MatchBool result
+        (HasKey K.cmp (live_pairs K.expiration E.cmp time pairs.now) key.now)
+        (NoKey K.cmp (live_pairs K.expiration E.cmp time pairs.now) key.now) }
 {
     match pairs.get(place_of(pairs, key)) {
         Some(pair) => pair.0 == *key && is_live(&pair.0, time),

@@ -1,24 +1,26 @@
-ghost use Rattle.std.specs.Prelude.{◌≡◌, ◌≢◌, ◌≤◌, ◌<◌, ◌+◌, true, false, All, length, IsOk, OnOk, OnErr, IfOk, IfErr, IsErr, IsErrAnd, MatchBool, max};
+//! `KeyExpTree`: keys that expire, in a red-black tree over the core.
+
+ghost use Rattle.std.specs.Prelude.{◌≡◌, ◌≢◌, ◌≤◌, ◌<◌, ◌+◌, All, length, IsOk, OnOk, OnErr, IfOk, IfErr, IsErr, IsErrAnd, MatchBool, max};
 ghost use Rattle.std.specs.declared.cmp.Ordering.{Ordering};
 ghost use Rattle.i_tree.specs.Root.Answer.{Below, AtMostBy, AboveBy};
 ghost use Rattle.i_tree.specs.Root.Change.{Gains, Without};
-ghost use Rattle.i_tree.specs.Root.Descent.{Descends, LooksFor};
+ghost use Rattle.i_tree.specs.Root.Descent.{Descends, SearchesFor};
 ghost use Rattle.i_tree.specs.Key.KeyExpTree.{items, slots_for};
-ghost use Rattle.i_tree.specs.Key.Way.{way_to};
+ghost use Rattle.i_tree.specs.Key.SearchPath.{path_to};
 ghost use Rattle.i_tree.specs.Key.Live.{live_pairs, AllLive, IsExpired};
-ghost use Rattle.i_tree.specs.Root.Live.{is_live};
 ghost use Rattle.i_tree.specs.Root.Pairs.{HasKey, NoKey, IsRising};
-ghost use Rattle.i_tree.specs.Core.RbTree.{slots};
-ghost use Rattle.i_tree.specs.Core.Balance.{IsCore};
-ghost use Rattle.i_tree.specs.Core.Ways.{place_below};
-ghost use Rattle.i_tree.specs.Core.Shape.{leaf, entries};
+ghost use Rattle.i_tree.specs.Rb.RbTree.{slots};
+ghost use Rattle.i_tree.specs.Rb.Capacity.{MakesEmpty, Reserves};
+ghost use Rattle.i_tree.specs.Rb.Balance.{IsCore};
+ghost use Rattle.i_tree.specs.Rb.Shape.{leaf, entries};
+ghost use Rattle.i_tree.specs.Rb.Place.{place_below};
 
 use super::descent::{descend_by, descend_to, value_at};
 use super::exp::KeyExpCollection;
 use super::live::is_live;
-use crate::looking::{look_down, place_below};
-use crate::place::insert_at;
 use crate::rb::RbTree;
+use crate::rb::place::place_below;
+use crate::rb::search::search_down;
 use crate::steps::{Counter, Uncounted};
 use crate::{EMPTY_REF, Expiration, ExpiredKey, Refusal};
 use std::alloc::Allocator;
@@ -28,7 +30,7 @@ use std::marker::{Model, PhantomData};
 /// A red-black tree of keys that expire, each with a value.
 ///
 /// Contracts see it as its core: the shape of the tree, whose items in order are the stored pairs, and the free slots. As
-/// in the Rust crate `i_tree`, a query or an insertion removes each expired entry that it meets on its way down, and goes
+/// in the Rust crate `i_tree`, a query or an insertion removes each expired entry that it meets on its descent, and goes
 /// on from there; expired entries off its way stay stored.
 #[derive(Drop)]
 pub struct KeyExpTree<K: ExpiredKey<E>, E: Expiration, V: Copy, A: Allocator + Copy> {
@@ -40,7 +42,7 @@ impl<K: ExpiredKey<E>, E: Expiration, V: Copy, A: Allocator + Copy> Model
     for KeyExpTree<K, E, V, A> {
     ghost use Rattle.i_tree.specs.Key.KeyExpTree.{items};
     ghost use Rattle.i_tree.specs.Root.Pairs.{IsRising};
-    ghost use Rattle.i_tree.specs.Core.RbTree.{Contents, contents_code};
+    ghost use Rattle.i_tree.specs.Rb.RbTree.{Contents, contents_code};
     ghost use Rattle.std.specs.Coded.{coded×};
 
     ghost Value = { Contents (K × V) };
@@ -58,11 +60,7 @@ impl<K: ExpiredKey<E>, E: Expiration, V: Copy, A: Allocator + Copy> KeyExpTree<K
     /// It is refused with `NoHandle` exactly where `capacity` is above `EMPTY_REF`, before memory is asked for, and else
     /// only where the allocator refuses the slots. That it takes an allocator and may be refused is our own.
     pub fn new(alloc: A, capacity: usize) -> Result<Self, Refusal>
-        ensures empty { IfOk result (λ tree. tree.shape ≡ leaf) }
-        ensures slots { IfOk result (λ tree. slots tree ≡ max capacity 8) }
-        ensures no_handle { EMPTY_REF < capacity → IsErrAnd result (λ cause. cause ≡ Refusal.NoHandle) }
-        ensures refused { capacity ≤ EMPTY_REF → IfErr result (λ cause. cause ≡ Refusal.OutOfMemory) }
-        ensures core { IfOk result (λ tree. IsCore tree.shape) }
+        ensures makes { MakesEmpty capacity result }
     {
         Ok(KeyExpTree {
             core: RbTree::new(alloc, capacity)?,
@@ -75,12 +73,7 @@ impl<K: ExpiredKey<E>, E: Expiration, V: Copy, A: Allocator + Copy> KeyExpTree<K
     /// It is refused with `NoHandle` exactly where `capacity` is above `EMPTY_REF`, before memory is asked for, and else
     /// only where the allocator refuses the growth. The refusals are our own.
     pub fn reserve_capacity(&mut self, capacity: usize) -> Result<(), Refusal>
-        ensures shape { self.new.shape ≡ self.old.shape }
-        ensures slots { OnOk result (slots self.new ≡ max (slots self.old) capacity) }
-        ensures no_handle { EMPTY_REF < capacity → IsErrAnd result (λ cause. cause ≡ Refusal.NoHandle) }
-        ensures refused { capacity ≤ EMPTY_REF → IfErr result (λ cause. cause ≡ Refusal.OutOfMemory) }
-        ensures err { OnErr result (self.new ≡ self.old) }
-        ensures with_slots { capacity ≤ slots self.old → IsOk result }
+        ensures reserves { Reserves capacity self.old self.new result }
         ensures core { IsCore self.new.shape }
     {
         self.core.reserve(capacity)
@@ -112,7 +105,7 @@ impl<K: ExpiredKey<E>, E: Expiration, V: Copy, A: Allocator + Copy> KeyExpTree<K
 
     /// `insert`, with its steps counted.
     ///
-    /// It goes down to the place of the key, and removes each expired entry that it meets on its way. Only then, where no
+    /// It goes down to the place of the key, and removes each expired entry that it meets on its search path. Only then, where no
     /// slot is free, are the slots doubled, up to `EMPTY_REF` of them: it is refused with `NoHandle` exactly where all of
     /// these are in use then, and with `OutOfMemory` only where the growth was refused. So a refusal means that each entry on
     /// the way to the key's place is live and no slot was free, and it changes nothing; the comparisons and tests were made.
@@ -125,22 +118,30 @@ impl<K: ExpiredKey<E>, E: Expiration, V: Copy, A: Allocator + Copy> KeyExpTree<K
         time: E,
     ) -> Result<(), Refusal>
         requires { NoKey K.cmp (live_pairs K.expiration E.cmp time (items self.old.shape)) key }
-        ensures ok { OnOk result (Gains (IsExpired K.expiration E.cmp time) (key, val) (items self.old.shape) (items self.new.shape)) }
+        ensures ok { OnOk result
+            (Gains (IsExpired K.expiration E.cmp time) (key, val) (items self.old.shape) (items self.new.shape)) }
         ensures err { OnErr result (self.new ≡ self.old) }
         ensures rising { IsRising K.cmp (items self.new.shape) }
+        ensures core { IsCore self.new.shape }
+
+        // The slots, and when it is refused.
         ensures slots { OnOk result (slots self.new ≡ slots_for self.old (length (items self.new.shape))) }
         ensures with_spare { 0 < self.old.spare → IsOk result }
-        ensures err_way { OnErr result (AllLive K.expiration E.cmp time (way_to K.cmp key self.old.shape)) }
-        ensures full { self.old.spare ≡ 0 → slots self.old ≡ EMPTY_REF → AllLive K.expiration E.cmp time (way_to K.cmp key self.old.shape) → IsErr result }
+        ensures err_way { OnErr result (AllLive K.expiration E.cmp time (path_to K.cmp key self.old.shape)) }
+        ensures full { self.old.spare ≡ 0 → slots self.old ≡ EMPTY_REF
+            → AllLive K.expiration E.cmp time (path_to K.cmp key self.old.shape) → IsErr result }
         ensures no_handle { slots self.old ≡ EMPTY_REF → IfErr result (λ cause. cause ≡ Refusal.NoHandle) }
         ensures refused { slots self.old ≢ EMPTY_REF → IfErr result (λ cause. cause ≡ Refusal.OutOfMemory) }
-        ensures steps { OnOk result (Descends C.made steps.old steps.new (length (items self.old.shape)) (length (items self.new.shape)) 1) }
-        ensures err_steps { OnErr result (Descends C.made steps.old steps.new (length (items self.old.shape)) (length (items self.new.shape)) 0) }
-        ensures core { IsCore self.new.shape }
+
+        // What was counted.
+        ensures steps { OnOk result
+            (Descends C.made steps.old steps.new (length (items self.old.shape)) (length (items self.new.shape)) 1) }
+        ensures err_steps { OnErr result
+            (Descends C.made steps.old steps.new (length (items self.old.shape)) (length (items self.new.shape)) 0) }
     {
         let end = descend_to(&mut self.core, steps, time, key);
         let place = place_below(end.above, end.on_right);
-        if let Err(refused) = insert_at(&mut self.core, steps, place, (key, val)) {
+        if let Err(refused) = self.core.insert_at(steps, place, (key, val)) {
             return Err(refused.cause);
         }
         Ok(())
@@ -157,9 +158,12 @@ impl<K: ExpiredKey<E>, E: Expiration, V: Copy, A: Allocator + Copy> KeyExpTree<K
         ensures value { Below K.cmp (live_pairs K.expiration E.cmp time (items self.old.shape)) key default result }
         ensures kept { Without (IsExpired K.expiration E.cmp time) (items self.old.shape) (items self.new.shape) }
         ensures rising { IsRising K.cmp (items self.new.shape) }
-        ensures slots { slots self.new ≡ slots self.old }
-        ensures steps { Descends C.made steps.old steps.new (length (items self.old.shape)) (length (items self.new.shape)) 0 }
         ensures core { IsCore self.new.shape }
+
+        // The slots, and what was counted.
+        ensures slots { slots self.new ≡ slots self.old }
+        ensures steps { Descends C.made steps.old steps.new
+            (length (items self.old.shape)) (length (items self.new.shape)) 0 }
     {
         let end = descend_to(&mut self.core, steps, time, key);
         value_at(&self.core, end.found, default)
@@ -174,12 +178,16 @@ impl<K: ExpiredKey<E>, E: Expiration, V: Copy, A: Allocator + Copy> KeyExpTree<K
         f: F,
     ) -> V
         requires { All (λ pair. F.pre f pair.0) (live_pairs K.expiration E.cmp time (items self.old.shape)) }
-        ensures value { AtMostBy K.cmp (F.post f) (live_pairs K.expiration E.cmp time (items self.old.shape)) default result }
+        ensures value { AtMostBy K.cmp (F.post f)
+            (live_pairs K.expiration E.cmp time (items self.old.shape)) default result }
         ensures kept { Without (IsExpired K.expiration E.cmp time) (items self.old.shape) (items self.new.shape) }
         ensures rising { IsRising K.cmp (items self.new.shape) }
-        ensures slots { slots self.new ≡ slots self.old }
-        ensures steps { Descends C.made steps.old steps.new (length (items self.old.shape)) (length (items self.new.shape)) 0 }
         ensures core { IsCore self.new.shape }
+
+        // The slots, and what was counted.
+        ensures slots { slots self.new ≡ slots self.old }
+        ensures steps { Descends C.made steps.old steps.new
+            (length (items self.old.shape)) (length (items self.new.shape)) 0 }
     {
         let end = descend_by(&mut self.core, steps, time, f, true);
         value_at(&self.core, end.found, default)
@@ -194,12 +202,16 @@ impl<K: ExpiredKey<E>, E: Expiration, V: Copy, A: Allocator + Copy> KeyExpTree<K
         f: F,
     ) -> V
         requires { All (λ pair. F.pre f pair.0) (live_pairs K.expiration E.cmp time (items self.old.shape)) }
-        ensures value { AboveBy K.cmp (F.post f) (live_pairs K.expiration E.cmp time (items self.old.shape)) default result }
+        ensures value { AboveBy K.cmp (F.post f)
+            (live_pairs K.expiration E.cmp time (items self.old.shape)) default result }
         ensures kept { Without (IsExpired K.expiration E.cmp time) (items self.old.shape) (items self.new.shape) }
         ensures rising { IsRising K.cmp (items self.new.shape) }
-        ensures slots { slots self.new ≡ slots self.old }
-        ensures steps { Descends C.made steps.old steps.new (length (items self.old.shape)) (length (items self.new.shape)) 0 }
         ensures core { IsCore self.new.shape }
+
+        // The slots, and what was counted.
+        ensures slots { slots self.new ≡ slots self.old }
+        ensures steps { Descends C.made steps.old steps.new
+            (length (items self.old.shape)) (length (items self.new.shape)) 0 }
     {
         let end = descend_by(&mut self.core, steps, time, f, false);
         value_at(&self.core, end.found, default)
@@ -208,85 +220,64 @@ impl<K: ExpiredKey<E>, E: Expiration, V: Copy, A: Allocator + Copy> KeyExpTree<K
     /// `contains_key`, with its steps counted. Expired entries are compared too, and one alone is tested: that whose key
     /// compares Equal, live or not, if there is one. The counts are our own.
     pub fn contains_key_counted<C: Counter>(&self, steps: &mut C, time: E, key: K) -> bool
-        ensures cases { MatchBool result (HasKey K.cmp (live_pairs K.expiration E.cmp time (items self.now.shape)) key) (NoKey K.cmp (live_pairs K.expiration E.cmp time (items self.now.shape)) key) }
+        ensures cases { MatchBool result
+            (HasKey K.cmp (live_pairs K.expiration E.cmp time (items self.now.shape)) key)
+            (NoKey K.cmp (live_pairs K.expiration E.cmp time (items self.now.shape)) key) }
         ensures rising { IsRising K.cmp (items self.now.shape) }
-        ensures steps { LooksFor C.made steps.old steps.new (length (items self.now.shape)) (HasKey K.cmp (items self.now.shape) key) (NoKey K.cmp (items self.now.shape) key) }
+        ensures steps { SearchesFor C.made steps.old steps.new (length (items self.now.shape))
+            (HasKey K.cmp (items self.now.shape) key) (NoKey K.cmp (items self.now.shape) key) }
         ensures core { IsCore self.now.shape }
     {
         let stands = |pair: &(K, V)| -> Ordering
             ensures { result ≡ K.cmp pair.entry.now.0 key }
         { pair.0.cmp(&key) };
-        let looked = look_down(&self.core, steps, &stands);
-        if !looked.said.is_eq() {
+        let ended = search_down(&self.core, steps, &stands);
+        if !ended.said.is_eq() {
             return false;
         }
         steps.add_test();
-        is_live(&self.core.item(looked.found).0, time)
+        is_live(&self.core.item(ended.found).0, time)
     }
 }
 
 impl<K: ExpiredKey<E>, E: Expiration, V: Copy, A: Allocator + Copy> KeyExpCollection<K, E, V>
     for KeyExpTree<K, E, V, A> {
+    ghost use Rattle.i_tree.specs.Key.KeyExpTree.{KeyTreeInserts, KeyTreeLeaves, KeyTreeClears};
+
     ghost stored = { λ tree. items tree.shape };
 
     ghost room = { λ tree. length (items tree.shape) + tree.spare };
 
-    /// Goes down to the place of the key, removes each expired entry that it meets on its way, and stores the pair.
+    ghost inserts = { λ key val time old result new. KeyTreeInserts K.expiration K.cmp E.cmp key time old result new };
+
+    ghost leaves = { λ time old new. KeyTreeLeaves old new };
+
+    ghost clears = { λ old new. KeyTreeClears old new };
+
+    /// Goes down to the place of the key, removes each expired entry that it meets on its search path, and stores the pair.
     ///
     /// Where a slot is free after that it succeeds. Else the slots double, up to `EMPTY_REF` of them: it is refused with
     /// `NoHandle` exactly where all of these are in use, and with `OutOfMemory` only where the growth was refused. A refusal
     /// changes nothing at all.
-    fn insert(&mut self, key: K, val: V, time: E) -> Result<(), Refusal>
-        requires { NoKey K.cmp (live_pairs K.expiration E.cmp time (items self.old.shape)) key }
-        ensures ok { OnOk result (Gains (IsExpired K.expiration E.cmp time) (key, val) (items self.old.shape) (items self.new.shape)) }
-        ensures err { OnErr result (self.new ≡ self.old) }
-        ensures rising { IsRising K.cmp (items self.new.shape) }
-        ensures slots { OnOk result (slots self.new ≡ slots_for self.old (length (items self.new.shape))) }
-        ensures with_spare { 0 < self.old.spare → IsOk result }
-        ensures err_way { OnErr result (AllLive K.expiration E.cmp time (way_to K.cmp key self.old.shape)) }
-        ensures full { self.old.spare ≡ 0 → slots self.old ≡ EMPTY_REF → AllLive K.expiration E.cmp time (way_to K.cmp key self.old.shape) → IsErr result }
-        ensures no_handle { slots self.old ≡ EMPTY_REF → IfErr result (λ cause. cause ≡ Refusal.NoHandle) }
-        ensures refused { slots self.old ≢ EMPTY_REF → IfErr result (λ cause. cause ≡ Refusal.OutOfMemory) }
-        ensures core { IsCore self.new.shape }
-    {
+    fn insert(&mut self, key: K, val: V, time: E) -> Result<(), Refusal> {
         self.insert_counted(&mut Uncounted, key, val, time)
     }
 
     /// Answers the value of the greatest live key below `key`, or `default` where none is below it. Each expired entry on
     /// the way is removed, and its slot is free.
-    fn first_less(&mut self, time: E, default: V, key: K) -> V
-        ensures value { Below K.cmp (live_pairs K.expiration E.cmp time (items self.old.shape)) key default result }
-        ensures kept { Without (IsExpired K.expiration E.cmp time) (items self.old.shape) (items self.new.shape) }
-        ensures rising { IsRising K.cmp (items self.new.shape) }
-        ensures slots { slots self.new ≡ slots self.old }
-        ensures core { IsCore self.new.shape }
-    {
+    fn first_less(&mut self, time: E, default: V, key: K) -> V {
         self.first_less_counted(&mut Uncounted, time, default, key)
     }
 
-    /// Answers by `f`, which is asked about the live keys on the way alone. Each expired entry on the way is removed, and
+    /// Answers by `f`, which is asked about the live keys on the search path alone. Each expired entry on the search path is removed, and
     /// its slot is free.
-    fn first_less_or_equal_by<F: Fn(K) -> Ordering>(&mut self, time: E, default: V, f: F) -> V
-        requires { All (λ pair. F.pre f pair.0) (live_pairs K.expiration E.cmp time (items self.old.shape)) }
-        ensures value { AtMostBy K.cmp (F.post f) (live_pairs K.expiration E.cmp time (items self.old.shape)) default result }
-        ensures kept { Without (IsExpired K.expiration E.cmp time) (items self.old.shape) (items self.new.shape) }
-        ensures rising { IsRising K.cmp (items self.new.shape) }
-        ensures slots { slots self.new ≡ slots self.old }
-        ensures core { IsCore self.new.shape }
-    {
+    fn first_less_or_equal_by<F: Fn(K) -> Ordering>(&mut self, time: E, default: V, f: F) -> V {
         self.first_less_or_equal_by_counted(&mut Uncounted, time, default, f)
     }
 
-    /// Answers the value of the first live key that `f` calls Greater, or `default`; `f` is asked about the live keys on the way
-    /// alone. Each expired entry on the way is removed, and its slot is free.
-    fn first_greater_by<F: Fn(K) -> Ordering>(&mut self, time: E, default: V, f: F) -> V
-        requires { All (λ pair. F.pre f pair.0) (live_pairs K.expiration E.cmp time (items self.old.shape)) }
-        ensures value { AboveBy K.cmp (F.post f) (live_pairs K.expiration E.cmp time (items self.old.shape)) default result }
-        ensures kept { Without (IsExpired K.expiration E.cmp time) (items self.old.shape) (items self.new.shape) }
-        ensures rising { IsRising K.cmp (items self.new.shape) }
-        ensures slots { slots self.new ≡ slots self.old }
-        ensures core { IsCore self.new.shape }
-    {
+    /// Answers the value of the first live key that `f` calls Greater, or `default`; `f` is asked about the live keys on the search path
+    /// alone. Each expired entry on the search path is removed, and its slot is free.
+    fn first_greater_by<F: Fn(K) -> Ordering>(&mut self, time: E, default: V, f: F) -> V {
         self.first_greater_by_counted(&mut Uncounted, time, default, f)
     }
 
@@ -295,10 +286,7 @@ impl<K: ExpiredKey<E>, E: Expiration, V: Copy, A: Allocator + Copy> KeyExpCollec
     }
 
     /// Removes every pair, and keeps the slots. It asks for no memory.
-    fn clear(&mut self)
-        ensures empty { self.new.shape ≡ leaf }
-        ensures slots { slots self.new ≡ slots self.old }
-    {
+    fn clear(&mut self) {
         self.core.clear();
     }
 }

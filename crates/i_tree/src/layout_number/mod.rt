@@ -1,4 +1,4 @@
-// Numbers that a layout of segments can be laid over, and the unsigned numbers of their differences.
+//! Numbers that a layout of segments can be laid over, and the unsigned numbers of their differences.
 
 ghost use Rattle.std.specs.Prelude.{◌≡◌, ◌<◌, ◌≤◌, ◌+◌, ◌/◌, ◌^◌, ℕ, ℤ, pos, true, MatchOption, ◌-ℤ◌, ◌<ℤ◌, ◌≤ℤ◌};
 ghost use Rattle.std.specs.Ordering.{nat_cmp, int_cmp};
@@ -53,7 +53,8 @@ pub trait LayoutUInt: Copy + Ord + Shr<u32, Output = Self> {
     ghost shift_allowed: { (value : Self) (places : ℕ) → places < BITS → Self.can_shr value places };
 
     /// A shift by less than `BITS` divides by a power of two.
-    ghost shift_divides: { (value : Self) (places : ℕ) (shifted : Self) → places < BITS → Self.shr_gives value places shifted → number shifted ≡ number value / 2 ^ places };
+    ghost shift_divides: { (value : Self) (places : ℕ) (shifted : Self) → places < BITS
+        → Self.shr_gives value places shifted → number shifted ≡ number value / 2 ^ places };
 
     /// The least span is at least 1.
     ghost least_span: { 1 ≤ number HEAP_MIN_SPAN };
@@ -73,7 +74,8 @@ pub trait LayoutNumber: Copy + Ord {
 
     /// How far `end` lies above `start`, or `None` where it lies below.
     fn range_span(start: Self, end: Self) -> Option<Self::UInt>
-        ensures { MatchOption result (whole end <ℤ whole start) (λ span. pos (Self.UInt.number span) ≡ whole end -ℤ whole start) };
+        ensures { MatchOption result (whole end <ℤ whole start)
+            (λ span. pos (Self.UInt.number span) ≡ whole end -ℤ whole start) };
 
     /// How far the value lies above `min`, which is to be at most the value.
     fn offset_from(self, min: Self) -> Self::UInt

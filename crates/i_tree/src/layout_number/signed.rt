@@ -1,4 +1,4 @@
-// The layout numbers of the signed types, whose differences are of the unsigned type of the same length.
+//! The layout numbers of the signed types, whose differences are of the unsigned type of the same length.
 
 ghost use Rattle.std.specs.Prelude.{refl};
 

@@ -1,7 +1,7 @@
-// The layout numbers of the unsigned types: each holds the differences of its own values.
+//! The layout numbers of the unsigned types: each holds the differences of its own values.
 
 ghost use Rattle.std.specs.Prelude.{pos, refl};
-ghost use Rattle.i_tree.specs.Root.LayoutNumbers.{nat_cmp-is_int_cmp, some-31};
+ghost use Rattle.i_tree.specs.Laws.LayoutNumbers.{nat_cmp-is_int_cmp, some-31};
 
 use crate::{LayoutNumber, LayoutUInt};
 

@@ -1,14 +1,17 @@
-ghost use Rattle.std.specs.Prelude.{◌≡◌, ◌≢◌, ◌≤◌, ◌<◌, ◌+◌, ◌-◌, ℕ, List, length, Some, slice_get, IsOk, OnOk, OnErr, IfOk, IfErr, IsErrAnd, MatchBool, IsTrue, max, vec_len, vec_capacity};
+//! `Arena`: nodes in slots, tied by handles to a tree; free slots, growth and rotation.
+
+ghost use Rattle.std.specs.Prelude.{⊤, ◌≡◌, ◌≢◌, ◌≤◌, ◌<◌, ◌+◌, ◌-◌, ℕ, List, length, Some, slice_get, OnOk, MatchBool, IsTrue, max, vec_len, vec_capacity};
 ghost use Rattle.std.specs.Borrow.{sem};
-ghost use Rattle.i_tree.specs.Core.Balance.{is_black};
-ghost use Rattle.i_tree.specs.Core.Context.{Frame, fork_on, plug, hole_parent, Replaces, HasOnePart, HasRoomOn};
-ghost use Rattle.i_tree.specs.Core.ArenaLends.{lends_item};
-ghost use Rattle.i_tree.specs.Core.RbTree.{slots, slots_with_room};
-ghost use Rattle.i_tree.specs.Core.Room.{IsFree, Keeps, with_numbers};
-ghost use Rattle.i_tree.specs.Core.Shape.{Shape, leaf, fork, top, entries, IsLive, AreHandles, occurs};
-ghost use Rattle.i_tree.specs.Core.Slots.{IsChain, IsSound, IsUsed};
+ghost use Rattle.i_tree.specs.Rb.Balance.{is_black};
+ghost use Rattle.i_tree.specs.Rb.Capacity.{MakesEmpty, Reserves, TakesSlotBy};
+ghost use Rattle.i_tree.specs.Rb.Context.{Frame, fork_on, plug, hole_parent, Replaces, HasOneSubtree, HasRoomOn};
+ghost use Rattle.i_tree.specs.Rb.ArenaLends.{lends_item};
+ghost use Rattle.i_tree.specs.Rb.RbTree.{slots};
+ghost use Rattle.i_tree.specs.Rb.FreeSlots.{IsFree, Keeps, with_numbers};
+ghost use Rattle.i_tree.specs.Rb.Shape.{Shape, leaf, fork, top, entries, IsHandle, AreHandles, occurs};
+ghost use Rattle.i_tree.specs.Rb.Slots.{IsChain, IsSound, IsUsed};
 ghost use Rattle.i_tree.specs.Root.Steps.{one_rotation};
-ghost use Rattle.i_tree.specs.Core.Turns.{Turn, unturned, turned, CanTurn, HoldsTurn, Rehangs, Reparents};
+ghost use Rattle.i_tree.specs.Rb.Rotation.{Rotation, unrotated, rotated, CanRotation, HoldsRotation, Rehangs, Reparents};
 
 use super::links::{
     Colour, Links, Side, Slot, hang, links_at, write_child, write_colour, write_parent,
@@ -36,13 +39,13 @@ pub struct Arena<T, A: Allocator + Copy> {
 
 impl<T, A: Allocator + Copy> Model for Arena<T, A> {
     ghost use Rattle.std.specs.Prelude.{length};
-    ghost use Rattle.i_tree.specs.Core.RbTree.{Contents, contents_code};
+    ghost use Rattle.i_tree.specs.Rb.RbTree.{Contents, contents_code};
 
     ghost Value = { Contents T };
 
     ghost coded = { contents_code T.code };
 
-    ghost use Rattle.i_tree.specs.Core.Slots.{IsSound, read_tree};
+    ghost use Rattle.i_tree.specs.Rb.Slots.{IsSound, read_tree};
 
     ghost view = { λ arena. record {
       shape = read_tree arena.slots.items (length arena.slots.items) arena.root;
@@ -61,7 +64,8 @@ fn add_slots<T, A: Allocator + Copy>(
     requires room { count ≤ vec_capacity slots.old }
     requires fewer { vec_len slots.old ≤ count }
     ensures kept { Keeps slots.old.items slots.new.items }
-    ensures linked { (chain : List ℕ) → IsChain slots.old.items first_free chain → IsChain slots.new.items result (with_numbers (vec_len slots.old) (count - vec_len slots.old) chain) }
+    ensures linked { (chain : List ℕ) → IsChain slots.old.items first_free chain →
+        IsChain slots.new.items result (with_numbers (vec_len slots.old) (count - vec_len slots.old) chain) }
     ensures len { vec_len slots.new ≡ count }
 {
     let mut first = first_free;
@@ -72,7 +76,7 @@ fn add_slots<T, A: Allocator + Copy>(
     first
 }
 
-// Puts a node without parts into the first free slot, and answers its number.
+// Puts a node without subtrees into the first free slot, and answers its number.
 fn take_slot<T>(
     slots: &mut [Slot<T>],
     first_free: &mut u32,
@@ -83,7 +87,8 @@ fn take_slot<T>(
     requires { IsFree slots.old first_free.old }
     ensures handle { result ≡ first_free.old }
     ensures next { slice_get slots.old result ≡ Some (Slot.Free first_free.new) }
-    ensures used { slice_get slots.new result ≡ Some (Slot.Used (record { parent = parent; left = EMPTY_REF; right = EMPTY_REF; colour = colour }) item) }
+    ensures used { slice_get slots.new result ≡ Some
+        (Slot.Used (record { parent = parent; left = EMPTY_REF; right = EMPTY_REF; colour = colour }) item) }
     ensures others { (other : ℕ) → other ≢ result → slice_get slots.new other ≡ slice_get slots.old other }
 {
     let handle = *first_free;
@@ -106,7 +111,8 @@ fn take_slot<T>(
 // Puts the slot of a node before the free ones, and answers its item.
 fn free_slot<T>(slots: &mut [Slot<T>], first_free: u32, handle: u32) -> T
     requires { IsUsed slots.old handle }
-    ensures item { (links : Links) (item : T) → slice_get slots.old handle ≡ Some (Slot.Used links item) → result ≡ item }
+    ensures item { (links : Links) (item : T) → slice_get slots.old handle ≡ Some (Slot.Used links item) →
+        result ≡ item }
     ensures freed { slice_get slots.new handle ≡ Some (Slot.Free first_free) }
     ensures others { (other : ℕ) → other ≢ handle → slice_get slots.new other ≡ slice_get slots.old other }
 {
@@ -142,11 +148,12 @@ fn set_parent<T>(slots: &mut [Slot<T>], handle: u32, parent: u32)
     }
 }
 
-// Turns the node down to the side, and its part's top on the other side up to its place. The two change colours.
-fn turn<T>(slots: &mut [Slot<T>], root: &mut u32, handle: u32, side: Side)
-    requires { HoldsTurn slots.old root.old handle side }
-    ensures { (turn : Turn T handle side) (first_free : ℕ) (free : ℕ) →
-        IsSound slots.old root.old first_free free (plug turn.around (unturned turn)) → IsSound slots.new root.new first_free free (plug turn.around (turned turn)) }
+// Rotates the node down to the side, and its subtree's top on the other side up to its place. The two change colours.
+fn rotate_slots<T>(slots: &mut [Slot<T>], root: &mut u32, handle: u32, side: Side)
+    requires { HoldsRotation slots.old root.old handle side }
+    ensures { (rotation : Rotation T handle side) (first_free : ℕ) (free : ℕ) →
+        IsSound slots.old root.old first_free free (plug rotation.around (unrotated rotation)) →
+        IsSound slots.new root.new first_free free (plug rotation.around (rotated rotation)) }
 {
     let links = links_at(slots, handle);
     let raised = links.child(side.other());
@@ -166,14 +173,11 @@ fn turn<T>(slots: &mut [Slot<T>], root: &mut u32, handle: u32, side: Side)
 }
 
 impl<T, A: Allocator + Copy> Arena<T, A> {
-    ghost use Rattle.i_tree.specs.Core.ArenaLends.{lends_item};
+    ghost use Rattle.i_tree.specs.Rb.ArenaLends.{lends_item};
 
     /// No node, and `max(capacity, 8)` slots.
     pub fn new(alloc: A, capacity: usize) -> Result<Self, Refusal>
-        ensures empty { IfOk result (λ arena. arena.shape ≡ leaf) }
-        ensures slots { IfOk result (λ arena. slots arena ≡ max capacity 8) }
-        ensures no_handle { EMPTY_REF < capacity → IsErrAnd result (λ cause. cause ≡ Refusal.NoHandle) }
-        ensures refused { capacity ≤ EMPTY_REF → IfErr result (λ cause. cause ≡ Refusal.OutOfMemory) }
+        ensures makes { MakesEmpty capacity result }
     {
         let count = capacity.max(LEAST_SLOTS);
         if count > EMPTY_REF as usize {
@@ -192,12 +196,7 @@ impl<T, A: Allocator + Copy> Arena<T, A> {
 
     /// Makes so many slots in all, where there are fewer. A refusal changes nothing.
     pub fn reserve(&mut self, capacity: usize) -> Result<(), Refusal>
-        ensures shape { self.new.shape ≡ self.old.shape }
-        ensures slots { OnOk result (slots self.new ≡ max (slots self.old) capacity) }
-        ensures no_handle { EMPTY_REF < capacity → IsErrAnd result (λ cause. cause ≡ Refusal.NoHandle) }
-        ensures refused { capacity ≤ EMPTY_REF → IfErr result (λ cause. cause ≡ Refusal.OutOfMemory) }
-        ensures err { OnErr result (self.new ≡ self.old) }
-        ensures with_slots { capacity ≤ slots self.old → IsOk result }
+        ensures reserves { Reserves capacity self.old self.new result }
     {
         let before = self.slots.len();
         if capacity > EMPTY_REF as usize {
@@ -215,12 +214,8 @@ impl<T, A: Allocator + Copy> Arena<T, A> {
     #[inline]
     pub fn make_room(&mut self) -> Result<(), Refusal>
         ensures shape { self.new.shape ≡ self.old.shape }
-        ensures slots { OnOk result (slots self.new ≡ slots_with_room self.old) }
         ensures room { OnOk result (0 < self.new.spare) }
-        ensures err { OnErr result (self.new ≡ self.old) }
-        ensures with_spare { 0 < self.old.spare → IsOk result }
-        ensures no_handle { self.old.spare ≡ 0 → slots self.old ≡ EMPTY_REF → IsErrAnd result (λ cause. cause ≡ Refusal.NoHandle) }
-        ensures refused { slots self.old ≢ EMPTY_REF → IfErr result (λ cause. cause ≡ Refusal.OutOfMemory) }
+        ensures takes { TakesSlotBy (λ cause. cause) (λ _. ⊤) self.old self.new result }
     {
         if self.free > 0 {
             return Ok(());
@@ -234,11 +229,8 @@ impl<T, A: Allocator + Copy> Arena<T, A> {
     fn grow(&mut self) -> Result<(), Refusal>
         requires { self.old.spare ≡ 0 }
         ensures shape { self.new.shape ≡ self.old.shape }
-        ensures slots { OnOk result (slots self.new ≡ slots_with_room self.old) }
         ensures room { OnOk result (0 < self.new.spare) }
-        ensures err { OnErr result (self.new ≡ self.old) }
-        ensures no_handle { slots self.old ≡ EMPTY_REF → IsErrAnd result (λ cause. cause ≡ Refusal.NoHandle) }
-        ensures refused { slots self.old ≢ EMPTY_REF → IfErr result (λ cause. cause ≡ Refusal.OutOfMemory) }
+        ensures takes { TakesSlotBy (λ cause. cause) (λ _. ⊤) self.old self.new result }
     {
         let count = self.slots.len();
         if count >= EMPTY_REF as usize {
@@ -263,7 +255,7 @@ impl<T, A: Allocator + Copy> Arena<T, A> {
 
     /// Whether a node has the handle.
     pub fn has(&self, handle: u32) -> bool
-        ensures { MatchBool result (IsLive self.now.shape handle) (occurs handle self.now.shape ≡ 0) }
+        ensures { MatchBool result (IsHandle self.now.shape handle) (occurs handle self.now.shape ≡ 0) }
     {
         match self.slots.get(handle as usize) {
             Some(Slot::Used(_, _)) => true,
@@ -280,27 +272,30 @@ impl<T, A: Allocator + Copy> Arena<T, A> {
         self.root
     }
 
-    /// The handle around the node's part.
+    /// The handle around the node's subtree.
     pub fn parent(&self, handle: u32) -> u32
-        requires { IsLive self.now.shape handle }
-        ensures value { (around : List (Frame T)) (part : Shape T) → self.now.shape ≡ plug around part → top part ≡ handle → result ≡ hole_parent around }
+        requires { IsHandle self.now.shape handle }
+        ensures value { (around : List (Frame T)) (subtree : Shape T) → self.now.shape ≡ plug around subtree →
+            top subtree ≡ handle → result ≡ hole_parent around }
         ensures handles { AreHandles self.now.shape }
     {
         links_at(&self.slots, handle).parent
     }
 
-    /// The top of the node's part on the side.
+    /// The top of the node's subtree on the side.
     pub fn child(&self, handle: u32, side: Side) -> u32
-        requires { IsLive self.now.shape handle }
-        ensures { (around : List (Frame T)) (colour : Colour) (near : Shape T) (item : T) (far : Shape T) → self.now.shape ≡ plug around (fork_on side colour near handle item far) → result ≡ top near }
+        requires { IsHandle self.now.shape handle }
+        ensures { (around : List (Frame T)) (colour : Colour) (near : Shape T) (item : T) (far : Shape T) →
+            self.now.shape ≡ plug around (fork_on side colour near handle item far) → result ≡ top near }
     {
         links_at(&self.slots, handle).child(side)
     }
 
-    /// Whether the node is black, as an empty part is.
+    /// Whether the node is black, as an empty subtree is.
     pub fn is_black(&self, handle: u32) -> bool
-        requires { handle ≢ EMPTY_REF → IsLive self.now.shape handle }
-        ensures value { (around : List (Frame T)) (part : Shape T) → self.now.shape ≡ plug around part → top part ≡ handle → result ≡ is_black part }
+        requires { handle ≢ EMPTY_REF → IsHandle self.now.shape handle }
+        ensures value { (around : List (Frame T)) (subtree : Shape T) → self.now.shape ≡ plug around subtree →
+            top subtree ≡ handle → result ≡ is_black subtree }
         ensures empty { handle ≡ EMPTY_REF → IsTrue result }
     {
         handle == EMPTY_REF || links_at(&self.slots, handle).colour == Colour::Black
@@ -308,8 +303,9 @@ impl<T, A: Allocator + Copy> Arena<T, A> {
 
     /// The item of the node.
     pub fn item(&self, handle: u32) -> &T
-        requires { IsLive self.now.shape handle }
-        ensures { (around : List (Frame T)) (colour : Colour) (before : Shape T) (item : T) (after : Shape T) → self.now.shape ≡ plug around (fork colour before handle item after) → result.now ≡ item }
+        requires { IsHandle self.now.shape handle }
+        ensures { (around : List (Frame T)) (colour : Colour) (before : Shape T) (item : T) (after : Shape T) →
+            self.now.shape ≡ plug around (fork colour before handle item after) → result.now ≡ item }
     {
         match &self.slots[handle as usize] {
             Slot::Used(_, item) => item,
@@ -319,41 +315,49 @@ impl<T, A: Allocator + Copy> Arena<T, A> {
 
     /// The item of the node, to be written. Nothing else changes.
     pub fn item_mut(&mut self, handle: u32) -> &mut T
-        requires { IsLive self.old.shape handle }
+        requires { IsHandle self.old.shape handle }
         ensures* writes_back { sem 𝓛 (lends_item T.row A.row A.Allocator self.entry handle result) }
-        ensures value { (around : List (Frame T)) (colour : Colour) (before : Shape T) (item : T) (after : Shape T) → self.old.shape ≡ plug around (fork colour before handle item after) → result.now ≡ item }
+        ensures value { (around : List (Frame T)) (colour : Colour) (before : Shape T) (item : T)
+            (after : Shape T) → self.old.shape ≡ plug around (fork colour before handle item after) →
+            result.now ≡ item }
     {
         self.slots[handle as usize].item_mut()
     }
 
     /// Gives the node the colour.
     pub fn paint(&mut self, handle: u32, colour: Colour)
-        requires { IsLive self.old.shape handle }
-        ensures shape { (before : Shape T) (item : T) (after : Shape T) (was : Colour) → Replaces self.old.shape self.new.shape (fork was before handle item after) (fork colour before handle item after) }
+        requires { IsHandle self.old.shape handle }
+        ensures shape { (before : Shape T) (item : T) (after : Shape T) (was : Colour) →
+            Replaces self.old.shape self.new.shape (fork was before handle item after)
+            (fork colour before handle item after) }
         ensures spare { self.new.spare ≡ self.old.spare }
         ensures handles { AreHandles self.new.shape }
     {
         write_colour(&mut self.slots, handle, colour);
     }
 
-    /// Turns the node down to the side, and its part's top on the other side up to its place. The two change colours.
+    /// Rotates the node down to the side, and its subtree's top on the other side up to its place. The two change colours.
     #[inline]
     pub fn rotate<C: Counter>(&mut self, steps: &mut C, handle: u32, side: Side)
-        requires { CanTurn self.old.shape handle side }
-        ensures shape { (turn : Turn T handle side) → self.old.shape ≡ plug turn.around (unturned turn) → self.new.shape ≡ plug turn.around (turned turn) }
+        requires { CanRotation self.old.shape handle side }
+        ensures shape { (rotation : Rotation T handle side) →
+            self.old.shape ≡ plug rotation.around (unrotated rotation) →
+            self.new.shape ≡ plug rotation.around (rotated rotation) }
         ensures spare { self.new.spare ≡ self.old.spare }
         ensures handles { AreHandles self.new.shape }
         ensures steps { C.made steps.old steps.new one_rotation }
     {
-        turn(&mut self.slots, &mut self.root, handle, side);
+        rotate_slots(&mut self.slots, &mut self.root, handle, side);
         steps.add_rotation();
     }
 
-    /// Puts a red node on the side of the parent, where it has no part, and answers its handle.
+    /// Puts a red node on the side of the parent, where it has no subtree, and answers its handle.
     pub fn attach(&mut self, parent: u32, side: Side, item: T) -> u32
         requires room { HasRoomOn self.old.shape parent side }
         requires spare { 0 < self.old.spare }
-        ensures shape { (colour : Colour) (at : T) (far : Shape T) → Replaces self.old.shape self.new.shape (fork_on side colour leaf parent at far) (fork_on side colour (fork Colour.Red leaf result item leaf) parent at far) }
+        ensures shape { (colour : Colour) (at : T) (far : Shape T) →
+            Replaces self.old.shape self.new.shape (fork_on side colour leaf parent at far)
+            (fork_on side colour (fork Colour.Red leaf result item leaf) parent at far) }
         ensures fresh { occurs result self.old.shape ≡ 0 }
         ensures spare { self.old.spare ≡ self.new.spare + 1 }
         ensures handles { AreHandles self.new.shape }
@@ -390,22 +394,30 @@ impl<T, A: Allocator + Copy> Arena<T, A> {
         handle
     }
 
-    /// Takes the node out, which has an empty part on some side: its other part takes its place. Its slot is free then.
+    /// Takes the node out, which has an empty subtree on some side: its other subtree takes its place. Its slot is free then.
     pub fn detach(&mut self, handle: u32) -> T
-        requires { HasOnePart self.old.shape handle }
-        ensures shape { (side : Side) (colour : Colour) (part : Shape T) (item : T) → Replaces self.old.shape self.new.shape (fork_on side colour part handle item leaf) part }
-        ensures item { (around : List (Frame T)) (colour : Colour) (before : Shape T) (item : T) (after : Shape T) → self.old.shape ≡ plug around (fork colour before handle item after) → result ≡ item }
+        requires { HasOneSubtree self.old.shape handle }
+        ensures shape { (side : Side) (colour : Colour) (subtree : Shape T) (item : T) →
+            Replaces self.old.shape self.new.shape (fork_on side colour subtree handle item leaf) subtree }
+        ensures item { (around : List (Frame T)) (colour : Colour) (before : Shape T) (item : T) (after : Shape T) →
+            self.old.shape ≡ plug around (fork colour before handle item after) → result ≡ item }
         ensures spare { self.new.spare ≡ self.old.spare + 1 }
         ensures handles { AreHandles self.new.shape }
     {
         let links = links_at(&self.slots, handle);
-        let part = if links.left == EMPTY_REF {
+        let subtree = if links.left == EMPTY_REF {
             links.right
         } else {
             links.left
         };
-        replace_child(&mut self.slots, &mut self.root, links.parent, handle, part);
-        set_parent(&mut self.slots, part, links.parent);
+        replace_child(
+            &mut self.slots,
+            &mut self.root,
+            links.parent,
+            handle,
+            subtree,
+        );
+        set_parent(&mut self.slots, subtree, links.parent);
         let item = free_slot(&mut self.slots, self.first_free, handle);
         self.first_free = handle;
         self.free += 1;

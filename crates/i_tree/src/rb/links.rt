@@ -1,7 +1,9 @@
+//! What a slot holds: a colour, links and an item; how links are read and set.
+
 ghost use Rattle.std.specs.Prelude.{◌≡◌, Some, IsSome};
 ghost use Rattle.std.specs.Borrow.{sem, Lends};
-ghost use Rattle.i_tree.specs.Core.Context.{other_side};
-ghost use Rattle.i_tree.specs.Core.Slots.{IsUsed, Relinks, child_link, with_child_link, with_parent_link, with_colour, hung_links, links_of, slot_links, slot_item, with_slot_item};
+ghost use Rattle.i_tree.specs.Rb.Context.{other_side};
+ghost use Rattle.i_tree.specs.Rb.Slots.{IsUsed, Relinks, child_link, with_child_link, with_parent_link, with_colour, hung_links, links_of, slot_links, slot_item, with_slot_item};
 
 /// The colour of a node, by which the tree keeps its balance.
 #[derive(Clone, Copy, PartialEq, Eq)]
@@ -28,7 +30,7 @@ impl Side {
     }
 }
 
-/// What a node is tied to: the handles of its parent and of the tops of its parts, or `EMPTY_REF`, and its colour.
+/// What a node is tied to: the handles of its parent and of the tops of its subtrees, or `EMPTY_REF`, and its colour.
 #[derive(Clone, Copy)]
 pub struct Links {
     pub parent: u32,
@@ -102,7 +104,7 @@ pub fn write_parent<T>(slots: &mut [Slot<T>], handle: u32, parent: u32)
     }
 }
 
-/// Gives the node in this slot another part on the side.
+/// Gives the node in this slot another subtree on the side.
 pub fn write_child<T>(slots: &mut [Slot<T>], handle: u32, side: Side, child: u32)
     requires { IsUsed slots.old handle }
     ensures { Relinks slots.old slots.new handle (with_child_link side child) }
@@ -124,7 +126,7 @@ pub fn write_colour<T>(slots: &mut [Slot<T>], handle: u32, colour: Colour)
     }
 }
 
-/// Hangs the node in this slot below another parent, in another colour, with another part on the side.
+/// Hangs the node in this slot below another parent, in another colour, with another subtree on the side.
 pub fn hang<T>(
     slots: &mut [Slot<T>],
     handle: u32,

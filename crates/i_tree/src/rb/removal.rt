@@ -1,13 +1,15 @@
+//! `remove` of the core: an entry is taken out.
+
 ghost use Rattle.std.specs.Prelude.{◌≡◌, ◌≤◌, ◌+◌, ◌++◌, ◌∷◌, ℕ, List};
-ghost use Rattle.i_tree.specs.Core.Context.{Frame, plug, HasOnePart};
-ghost use Rattle.i_tree.specs.Core.Removal.{LosesAt, ChangesSide, RemovesOne};
-ghost use Rattle.i_tree.specs.Core.Balance.{IsCore};
-ghost use Rattle.i_tree.specs.Core.Shape.{Shape, fork, top, entries, rank, IsLive, part_at, left_at, right_at};
+ghost use Rattle.i_tree.specs.Rb.Context.{Frame, plug, HasOneSubtree};
+ghost use Rattle.i_tree.specs.Rb.Removal.{LosesAt, ChangesSide, RemovesOne};
+ghost use Rattle.i_tree.specs.Rb.Balance.{IsCore};
+ghost use Rattle.i_tree.specs.Rb.Shape.{Shape, fork, top, entries, rank, IsHandle, subtree_at, left_at, right_at};
 ghost use Rattle.i_tree.specs.Root.Steps.{OnlyRotates};
-ghost use Rattle.i_tree.specs.Core.Taking.{IsFirst, TakesOut};
+ghost use Rattle.i_tree.specs.Rb.Detaching.{IsFirst, TakesOut};
 
 use super::links::{Colour, Side};
-use super::mending::{mend_removal, side_of};
+use super::rebalancing::{rebalance_removal, side_of};
 use super::tree::RbTree;
 use crate::EMPTY_REF;
 use crate::steps::Counter;
@@ -17,16 +19,22 @@ use std::mem;
 impl<T, A: Allocator + Copy> RbTree<T, A> {
     /// Takes the entry out, and answers its item.
     ///
-    /// As in the Rust crate `i_tree`, a node with two parts stays: the next entry's item comes to its handle, and the next
+    /// As in the Rust crate `i_tree`, a node with two subtrees stays: the next entry's item comes to its handle, and the next
     /// entry's node goes. So every other entry keeps its handle, or the next one alone has this handle now. The clauses are
     /// our own. Where the handle was the top of a side of the node `above`, that node stays live, the list changes on that
     /// side alone, and the rank of that side doesn't rise: who walks down can go on from there. At most three rotations are
     /// made.
     pub fn remove<C: Counter>(&mut self, steps: &mut C, handle: u32) -> T
-        requires { IsLive self.old.shape handle }
-        ensures list { (front : List (ℕ × T)) (item : T) (back : List (ℕ × T)) → entries self.old.shape ≡ front ++ (handle, item) ∷ back → (result ≡ item) × LosesAt handle front back (entries self.new.shape) }
-        ensures left { (above : ℕ) → IsLive self.old.shape above → top (left_at above self.old.shape) ≡ handle → ChangesSide self.old.shape self.new.shape above (left_at above self.old.shape) (left_at above self.new.shape) }
-        ensures right { (above : ℕ) → IsLive self.old.shape above → top (right_at above self.old.shape) ≡ handle → ChangesSide self.old.shape self.new.shape above (right_at above self.old.shape) (right_at above self.new.shape) }
+        requires { IsHandle self.old.shape handle }
+        ensures list { (front : List (ℕ × T)) (item : T) (back : List (ℕ × T)) →
+            entries self.old.shape ≡ front ++ (handle, item) ∷ back → (result ≡ item)
+            × LosesAt handle front back (entries self.new.shape) }
+        ensures left { (above : ℕ) → IsHandle self.old.shape above → top (left_at above self.old.shape) ≡ handle →
+            ChangesSide self.old.shape self.new.shape above (left_at above self.old.shape)
+            (left_at above self.new.shape) }
+        ensures right { (above : ℕ) → IsHandle self.old.shape above → top (right_at above self.old.shape) ≡ handle →
+            ChangesSide self.old.shape self.new.shape above (right_at above self.old.shape)
+            (right_at above self.new.shape) }
         ensures rank { rank self.new.shape ≤ rank self.old.shape }
         ensures spare { self.new.spare ≡ self.old.spare + 1 }
         ensures steps { RemovesOne C.made steps.old steps.new 3 }
@@ -43,12 +51,12 @@ impl<T, A: Allocator + Copy> RbTree<T, A> {
         mem::replace(self.item_mut(handle), item)
     }
 
-    // The first handle of the part at this one.
-    fn first_below(&self, part: u32) -> u32
-        requires { IsLive self.now.shape part }
-        ensures { IsFirst (part_at part self.now.shape) result }
+    // The first handle of the subtree at this one.
+    fn first_below(&self, subtree: u32) -> u32
+        requires { IsHandle self.now.shape subtree }
+        ensures { IsFirst (subtree_at subtree self.now.shape) result }
     {
-        let mut first = part;
+        let mut first = subtree;
         loop {
             let left = self.left(first);
             if left == EMPTY_REF {
@@ -58,11 +66,12 @@ impl<T, A: Allocator + Copy> RbTree<T, A> {
         }
     }
 
-    // Takes out a node with an empty part on some side, and mends the tree: where the node is black, its place is a level
+    // Takes out a node with an empty subtree on some side, and rebalances the tree: where the node is black, its place is a level
     // short.
     fn remove_at<C: Counter>(&mut self, steps: &mut C, gone: u32) -> T
-        requires { HasOnePart self.old.shape gone }
-        ensures item { (around : List (Frame T)) (colour : Colour) (before : Shape T) (item : T) (after : Shape T) → self.old.shape ≡ plug around (fork colour before gone item after) → result ≡ item }
+        requires { HasOneSubtree self.old.shape gone }
+        ensures item { (around : List (Frame T)) (colour : Colour) (before : Shape T) (item : T) (after : Shape T) →
+            self.old.shape ≡ plug around (fork colour before gone item after) → result ≡ item }
         ensures shape { TakesOut self.old.shape gone self.new.shape }
         ensures spare { self.new.spare ≡ self.old.spare + 1 }
         ensures steps { OnlyRotates C.made steps.old steps.new 3 }
@@ -75,7 +84,7 @@ impl<T, A: Allocator + Copy> RbTree<T, A> {
         }
         let side = side_of(&self.arena, parent, gone);
         let item = self.arena.detach(gone);
-        mend_removal(&mut self.arena, steps, parent, side);
+        rebalance_removal(&mut self.arena, steps, parent, side);
         item
     }
 }

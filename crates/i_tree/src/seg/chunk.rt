@@ -1,4 +1,4 @@
-// Chunks of copies, one for each node of the heap from node 0 on. A copy is a mask and a value.
+//! Chunks of copies, one for each node of the heap from node 0 on. A copy is a mask and a value.
 
 ghost use Rattle.std.specs.Prelude.{◌≡◌, ◌<◌, ◌^◌, [], All, length, map, replicate, IfOk, OnOk, IsOk};
 ghost use Rattle.i_tree.specs.Seg.Copies.{PlacesCopies, HasRoom, copies_in};

@@ -1,9 +1,12 @@
-ghost use Rattle.std.specs.Prelude.{◌≡◌, ◌≤◌, ◌+◌, ◌++◌, List, [], length, vec_len, vec_capacity, IsOk, OnOk, OnErr, IfErr, IsPermutation};
+//! `SegRange`, and the trait of collections of segments: what each of them promises.
+
+ghost use Rattle.std.specs.Prelude.{◌≡◌, ◌≤◌, ◌+◌, List, [], length, vec_len, vec_capacity, IsOk, OnOk, OnErr, IfErr, IsPermutation};
 ghost use Rattle.std.specs.declared.option.Option.{Option};
 ghost use Rattle.std.specs.declared.option.Option.TheVariants.{None, Some};
 ghost use Rattle.i_tree.specs.declared.Refusal.TheVariants.{OutOfMemory};
-ghost use Rattle.i_tree.specs.Seg.Buckets.{Buckets, Accepts, Filters, interval};
-ghost use Rattle.i_tree.specs.Seg.Members.{Member, NotBefore, answer, live_members, member_over, with_member};
+ghost use Rattle.i_tree.specs.Seg.Buckets.{Buckets, Filters};
+ghost use Rattle.i_tree.specs.Seg.Members.{Member, Appends, Joins, NotBefore, answer, live_members};
+ghost use Rattle.i_tree.specs.Seg.Ranges.{IsAccepted, interval_over, segment_over};
 
 use crate::{Expiration, ExpiredVal, LayoutNumber, Refusal};
 use std::alloc::Allocator;
@@ -39,10 +42,13 @@ pub trait SegExpCollection<R: LayoutNumber, E: Expiration, V: ExpiredVal<E>> {
     /// The condition is that the range is accepted: it goes upwards and lies in the collection's own. It is refused for want
     /// of memory alone, and that changes nothing of what is stored.
     fn insert_by_range(&mut self, range: SegRange<R>, val: V) -> Result<(), Refusal>
-        requires { Accepts (buckets self.old) (R.whole range.min) (R.whole range.max) }
-        ensures ok { OnOk result (IsPermutation (with_member V.expiration E.cmp (latest self.old) (member_over (buckets self.old) (R.whole range.min) (R.whole range.max) val) (members self.old)) (members self.new)) }
+        requires { IsAccepted R.whole (buckets self.old) range }
+        // The segment joins where it is live. A refusal is for want of memory, and changes no member.
+        ensures ok { OnOk result (Joins V.expiration E.cmp (latest self.old)
+            (segment_over R.whole (buckets self.old) range val) (members self.old) (members self.new)) }
         ensures err { OnErr result (members self.new ≡ members self.old) }
         ensures refused { IfErr result (λ cause. cause ≡ OutOfMemory) }
+        // The time and the buckets stay. Buckets miss no segment that overlaps.
         ensures latest { latest self.new ≡ latest self.old }
         ensures buckets { buckets self.new ≡ buckets self.old }
         ensures filters { Filters (buckets self.old) };
@@ -58,14 +64,19 @@ pub trait SegExpCollection<R: LayoutNumber, E: Expiration, V: ExpiredVal<E>> {
         time: E,
         out: &mut Vec<V, B>,
     ) -> Result<(), Refusal>
-        requires accepted { Accepts (buckets self.old) (R.whole range.min) (R.whole range.max) }
+        requires accepted { IsAccepted R.whole (buckets self.old) range }
         requires in_time { NotBefore E.cmp (latest self.old) time }
-        ensures ok { OnOk result ((found : List V) × IsPermutation (answer V.expiration E.cmp time (interval (buckets self.old) (R.whole range.min) (R.whole range.max)) (members self.old)) found × (out.new.items ≡ out.old.items ++ found)) }
+        // The answer is appended. A refusal is for want of memory, and not where there is room for the answer.
+        ensures ok { OnOk result (Appends (answer V.expiration E.cmp time
+            (interval_over R.whole (buckets self.old) range) (members self.old)) out.old.items out.new.items) }
         ensures err { OnErr result (out.new.items ≡ out.old.items) }
         ensures refused { IfErr result (λ cause. cause ≡ OutOfMemory) }
-        ensures with_room { vec_len out.old + length (answer V.expiration E.cmp time (interval (buckets self.old) (R.whole range.min) (R.whole range.max)) (members self.old)) ≤ vec_capacity out.old → IsOk result }
+        ensures with_room { vec_len out.old + length (answer V.expiration E.cmp time
+            (interval_over R.whole (buckets self.old) range) (members self.old)) ≤ vec_capacity out.old → IsOk result }
+        // The live members stay, and the time is the latest.
         ensures members { IsPermutation (live_members V.expiration E.cmp time (members self.old)) (members self.new) }
         ensures latest { latest self.new ≡ Some time }
+        // The buckets stay. They miss no segment that overlaps.
         ensures buckets { buckets self.new ≡ buckets self.old }
         ensures filters { Filters (buckets self.old) };
 

@@ -1,4 +1,4 @@
-// How a range of numbers is cut into at most 32 buckets of one width, a power of two.
+//! How a range of numbers is cut into at most 32 buckets of one width, a power of two.
 
 ghost use Rattle.std.specs.Prelude.{◌≡◌, ◌<◌, ◌≤◌, ◌≤ℤ◌, ◌↔◌, IsTrue, IfSome, MatchOption};
 ghost use Rattle.i_tree.specs.Seg.Buckets.{HasLayout, IsLayout, Accepts, bucket, chunk_count};
@@ -32,7 +32,9 @@ impl<R: LayoutNumber> Model for Layout<R> {
 impl<R: LayoutNumber> Layout<R> {
     // The layout of the range, or `None` where it has none.
     pub fn new(start: R, end: R) -> Option<Self>
-        ensures cases { MatchOption result (¬ (HasLayout (R.UInt.number R.UInt.HEAP_MIN_SPAN) (R.whole start) (R.whole end))) (λ _. HasLayout (R.UInt.number R.UInt.HEAP_MIN_SPAN) (R.whole start) (R.whole end)) }
+        ensures cases { MatchOption result
+            (¬ (HasLayout (R.UInt.number R.UInt.HEAP_MIN_SPAN) (R.whole start) (R.whole end)))
+            (λ _. HasLayout (R.UInt.number R.UInt.HEAP_MIN_SPAN) (R.whole start) (R.whole end)) }
         ensures layout { IfSome result (λ layout. IsLayout (R.whole start) (R.whole end) layout) }
     {
         let span = R::range_span(start, end)?;

@@ -4,7 +4,7 @@
 
 ghost use Rattle.std.specs.Prelude.{◌≡◌, ◌≤◌, ◌<◌, ◌+◌, ◌^◌, ℕ, not, nat_eq, leb, bit_and, length};
 ghost use Rattle.i_tree.specs.Seg.Buckets.{between, overlap};
-ghost use Rattle.i_tree.specs.Seg.Nodes.{covered, parent_passes, nodes_where, place_set, meeting_set, nodes_of, interval_of, IsLowest};
+ghost use Rattle.i_tree.specs.Seg.Nodes.{covered, parent_passes, nodes_where, canonical_nodes, meeting_set, nodes_of, interval_of, IsLowest};
 
 // Word i has the nodes whose first bucket is at most i.
 static BEGIN: [u64; 32] = [
@@ -281,14 +281,16 @@ fn parent_up_to(bucket: u32) -> u64
 }
 
 // The nodes that an interval is placed at.
-pub fn place_mask(first: u32, last: u32) -> u64
+pub fn canonical_mask(first: u32, last: u32) -> u64
     requires order { first ≤ last }
     requires within { last < 32 }
-    ensures value { result ≡ place_set (between first last) }
+    ensures value { result ≡ canonical_nodes (between first last) }
     ensures decodes { interval_of result ≡ between first last }
     ensures few { length (nodes_of result) ≤ 8 }
     ensures below { result < 2 ^ (32 + last) }
-    ensures meets { (low high : ℕ) → low ≤ high → high < 32 → nat_eq (bit_and result (meeting_set (between low high))) 0 ≡ not (overlap (between first last) (between low high)) }
+    ensures meets { (low high : ℕ) → low ≤ high → high < 32
+        → nat_eq (bit_and result (meeting_set (between low high))) 0
+        ≡ not (overlap (between first last) (between low high)) }
 {
     from(first) & up_to(last) & !(parent_from(first) & parent_up_to(last))
 }

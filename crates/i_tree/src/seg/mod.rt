@@ -1,9 +1,9 @@
 //! Segments: values over ranges of numbers, found by the buckets that a range is cut into.
 
 mod chunk;
-mod collecting;
+mod collect;
 pub mod exp;
-mod iterating;
+mod iterator;
 mod layout;
 mod masks;
 mod nodes;

@@ -1,4 +1,4 @@
-// The nodes of a mask, one after the other.
+//! The nodes of a mask, one after the other.
 
 ghost use Rattle.std.specs.Prelude.{◌≡◌, ◌<◌};
 ghost use Rattle.std.specs.Iterator.{YieldsFirst, item_count};

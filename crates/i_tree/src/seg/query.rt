@@ -1,19 +1,19 @@
-// Whether a query may be made, and its steps: it sets the latest time, and goes on from one value that it finds to the next.
+//! Whether a query may be made, and its steps: it sets the latest time, and goes on from one value that it finds to the next.
 
-ghost use Rattle.std.specs.Prelude.{◌≡◌, ◌<◌, ◌≤◌, ◌*◌, ◌^◌, ◌↔◌, [], ◌∷◌, IsTrue, length, MatchOption, IsPermutation};
+ghost use Rattle.std.specs.Prelude.{◌≡◌, ◌<◌, ◌≤◌, ◌*◌, ◌^◌, ◌↔◌, IsTrue, length, IsPermutation};
 ghost use Rattle.std.specs.declared.option.Option.TheVariants.{Some};
-ghost use Rattle.i_tree.specs.Seg.Buckets.{Accepts, Filters, interval};
-ghost use Rattle.i_tree.specs.Seg.Copies.{stored_copies};
-ghost use Rattle.i_tree.specs.Seg.Members.{Member, NotBefore, answer, live_members, values_of};
+ghost use Rattle.i_tree.specs.Seg.Buckets.{Filters};
+ghost use Rattle.i_tree.specs.Seg.Members.{NotBefore, answer, live_members, values_of};
 ghost use Rattle.i_tree.specs.Seg.Nodes.{meeting_set, nodes_of};
-ghost use Rattle.i_tree.specs.Seg.Walk.{to_come, live_from, LosesExpiredAt, HasPassed, Reads};
+ghost use Rattle.i_tree.specs.Seg.Ranges.{IsAccepted, interval_over};
+ghost use Rattle.i_tree.specs.Seg.Walk.{to_come, live_from, HasPassed, StepsOn};
 
 use super::exp::SegRange;
 use super::masks::meeting_mask;
 use super::tree::SegExpTree;
 use super::walk::{Cursor, next_value};
 use crate::steps::Counter;
-use crate::{Expiration, ExpiredVal, LayoutNumber};
+use crate::{Expiration, ExpiredVal, LayoutNumber, is_late};
 use std::alloc::Allocator;
 
 impl<R: LayoutNumber, E: Expiration, V: ExpiredVal<E>, A: Allocator + Copy> SegExpTree<R, E, V, A> {
@@ -21,26 +21,29 @@ impl<R: LayoutNumber, E: Expiration, V: ExpiredVal<E>, A: Allocator + Copy> SegE
     pub fn is_in_time(&self, time: E) -> bool
         ensures { IsTrue result ↔ NotBefore E.cmp self.now.latest time }
     {
-        match self.latest {
-            Some(latest) => time >= latest,
-            None => true,
-        }
+        !is_late(self.latest, time)
     }
 
     // Sets the latest time, and answers the nodes at which values that overlap the range may be placed.
     pub(super) fn ask(&mut self, range: SegRange<R>, time: E) -> u64
-        requires accepted { Accepts self.old.buckets (R.whole range.min) (R.whole range.max) }
+        requires accepted { IsAccepted R.whole self.old.buckets range }
         requires in_time { NotBefore E.cmp self.old.latest time }
+        // It asks the nodes that the range meets. Each has a chunk.
         ensures few { length self.new.chunks ≤ 63 }
-        ensures asked { result ≡ meeting_set (interval self.old.buckets (R.whole range.min) (R.whole range.max)) }
+        ensures asked { result ≡ meeting_set (interval_over R.whole self.old.buckets range) }
         ensures within { result < 2 ^ length self.new.chunks }
+        // The time is the latest, and the live members stay. No copy has changed yet.
         ensures latest { self.new.latest ≡ Some time }
         ensures buckets { self.new.buckets ≡ self.old.buckets }
         ensures chunks { self.new.chunks ≡ self.old.chunks }
         ensures members { IsPermutation (live_members V.expiration E.cmp time self.old.members) self.new.members }
-        ensures found { IsPermutation (answer V.expiration E.cmp time (interval self.old.buckets (R.whole range.min) (R.whole range.max)) self.old.members) (values_of (to_come V.expiration E.cmp time result result 0 self.new.chunks)) }
+        // A walk over these nodes finds the answer, and reads at most eight live copies for each value of it.
+        ensures found { IsPermutation
+            (answer V.expiration E.cmp time (interval_over R.whole self.old.buckets range) self.old.members)
+            (values_of (to_come V.expiration E.cmp time result result 0 self.new.chunks)) }
+        ensures reads { live_from V.expiration E.cmp time 0 (nodes_of result) self.new.chunks
+            ≤ 8 * length (to_come V.expiration E.cmp time result result 0 self.new.chunks) }
         ensures filters { Filters self.old.buckets }
-        ensures reads { live_from V.expiration E.cmp time 0 (nodes_of result) self.new.chunks ≤ 8 * length (to_come V.expiration E.cmp time result result 0 self.new.chunks) }
     {
         let first = self.layout.bucket(range.min);
         let last = self.layout.bucket(range.max);
@@ -60,16 +63,11 @@ impl<R: LayoutNumber, E: Expiration, V: ExpiredVal<E>, A: Allocator + Copy> SegE
         requires within { cursor.old.left < 2 ^ length self.old.chunks }
         requires latest { self.old.latest ≡ Some time }
         requires passed { HasPassed V.expiration E.cmp time asked cursor.old.left cursor.old.index self.old.chunks }
-        ensures count { length self.new.chunks ≡ length self.old.chunks }
-        ensures within { cursor.new.left < 2 ^ length self.new.chunks }
-        ensures found { MatchOption result (to_come V.expiration E.cmp time asked cursor.old.left cursor.old.index self.old.chunks ≡ []) (λ value. (member : Member V) × (member.value ≡ value) × IsPermutation (to_come V.expiration E.cmp time asked cursor.old.left cursor.old.index self.old.chunks) (member ∷ to_come V.expiration E.cmp time asked cursor.new.left cursor.new.index self.new.chunks)) }
-        ensures ended { result ≡ None → cursor.new.left ≡ 0 }
+        ensures walk { StepsOn V.expiration E.cmp time C.made asked
+            cursor.old self.old.chunks steps.old result cursor.new self.new.chunks steps.new }
         ensures latest { self.new.latest ≡ self.old.latest }
         ensures buckets { self.new.buckets ≡ self.old.buckets }
         ensures members { IsPermutation self.old.members self.new.members }
-        ensures loses { LosesExpiredAt V.expiration E.cmp time asked self.old.chunks self.new.chunks }
-        ensures passed { HasPassed V.expiration E.cmp time asked cursor.new.left cursor.new.index self.new.chunks }
-        ensures steps { Reads C.made steps.old steps.new (live_from V.expiration E.cmp time cursor.old.index (nodes_of cursor.old.left) self.old.chunks) (live_from V.expiration E.cmp time cursor.new.index (nodes_of cursor.new.left) self.new.chunks) (stored_copies self.old.chunks) (stored_copies self.new.chunks) }
     {
         next_value(&mut self.chunks, cursor, asked, time, steps)
     }

@@ -1,17 +1,18 @@
-ghost use Rattle.std.specs.Prelude.{◌≡◌, ◌≤◌, ◌+◌, ◌++◌, List, [], length, vec_len, vec_capacity, ◌↔◌, IsTrue, IsOk, IfOk, IfErr, OnOk, OnErr, MatchOption, IfSome, IsPermutation};
-ghost use Rattle.std.specs.declared.option.Option.TheVariants.{None, Some};
+//! `SegExpTree`: segments that expire, in a segment tree over at most 32 buckets.
+
+ghost use Rattle.std.specs.Prelude.{◌≡◌, [], ◌↔◌, IsTrue, IsOk, IfOk, IfErr, MatchOption, IfSome, IsPermutation};
+ghost use Rattle.std.specs.declared.option.Option.TheVariants.{None};
 ghost use Rattle.i_tree.specs.declared.Refusal.TheVariants.{OutOfMemory};
-ghost use Rattle.i_tree.specs.Seg.Buckets.{HasLayout, IsLayout, Accepts, Filters, chunk_count, interval};
-ghost use Rattle.i_tree.specs.Seg.Copies.{chunk_at, copies_at, live_copies, stored_copies, PlacesCopies};
-ghost use Rattle.i_tree.specs.Seg.Members.{AllLiveYet, NotBefore, answer, live_members, member_over, with_member};
-ghost use Rattle.i_tree.specs.Seg.Nodes.{place_set, meeting_set};
-ghost use Rattle.i_tree.specs.Seg.Walk.{LosesExpiredAt, Cleans};
+ghost use Rattle.i_tree.specs.Seg.Changes.{Inserts, Answers, Clears};
+ghost use Rattle.i_tree.specs.Seg.Copies.{chunk_at, copies_at, live_copies, stored_copies};
+ghost use Rattle.i_tree.specs.Seg.Members.{AllLiveYet, NotBefore};
+ghost use Rattle.i_tree.specs.Seg.Ranges.{CanBeCut, IsCutInto, IsAccepted, interval_over, segment_over};
 
 use super::chunk::{clear_chunks, empty_chunks, make_room, place_copies};
 use super::exp::{SegExpCollection, SegRange};
-pub use super::iterating::SegExpTreeIterator;
+pub use super::iterator::SegExpTreeIterator;
 use super::layout::Layout;
-use super::masks::place_mask;
+use super::masks::canonical_mask;
 use crate::steps::Uncounted;
 use crate::{Expiration, ExpiredVal, LayoutNumber, Refusal};
 use std::alloc::Allocator;
@@ -47,7 +48,8 @@ impl<R: LayoutNumber, E: Expiration, V: ExpiredVal<E>, A: Allocator + Copy> Mode
       chunks = copies_in tree.chunks.items;
     } };
 
-    ghost invariant = { λ tree. Holds V.expiration E.cmp tree.latest (chunk_count tree.layout) (copies_in tree.chunks.items) (members_in V.expiration E.cmp tree.latest (copies_in tree.chunks.items)) };
+    ghost invariant = { λ tree. Holds V.expiration E.cmp tree.latest (chunk_count tree.layout)
+        (copies_in tree.chunks.items) (members_in V.expiration E.cmp tree.latest (copies_in tree.chunks.items)) };
 }
 
 impl<R: LayoutNumber, E: Expiration, V: ExpiredVal<E>, A: Allocator + Copy> SegExpTree<R, E, V, A> {
@@ -56,10 +58,14 @@ impl<R: LayoutNumber, E: Expiration, V: ExpiredVal<E>, A: Allocator + Copy> SegE
     ///
     /// `None` is answered before memory is asked for. It is refused for want of memory alone.
     pub fn new(alloc: A, range: SegRange<R>) -> Result<Option<Self>, Refusal>
-        ensures cases { IfOk result (λ made. MatchOption made (¬ (HasLayout (R.UInt.number R.UInt.HEAP_MIN_SPAN) (R.whole range.min) (R.whole range.max))) (λ _. HasLayout (R.UInt.number R.UInt.HEAP_MIN_SPAN) (R.whole range.min) (R.whole range.max))) }
-        ensures without_layout { ¬ (HasLayout (R.UInt.number R.UInt.HEAP_MIN_SPAN) (R.whole range.min) (R.whole range.max)) → IsOk result }
+        // It answers `None` exactly where the range has no layout. A refusal is for want of memory.
+        ensures cases { IfOk result (λ made. MatchOption made
+            (¬ (CanBeCut R.whole (R.UInt.number R.UInt.HEAP_MIN_SPAN) range))
+            (λ _. CanBeCut R.whole (R.UInt.number R.UInt.HEAP_MIN_SPAN) range)) }
+        ensures without_layout { ¬ (CanBeCut R.whole (R.UInt.number R.UInt.HEAP_MIN_SPAN) range) → IsOk result }
         ensures refused { IfErr result (λ cause. cause ≡ OutOfMemory) }
-        ensures layout { IfOk result (λ made. IfSome made (λ tree. IsLayout (R.whole range.min) (R.whole range.max) tree.buckets)) }
+        // The tree is empty.
+        ensures layout { IfOk result (λ made. IfSome made (λ tree. IsCutInto R.whole range tree.buckets)) }
         ensures empty { IfOk result (λ made. IfSome made (λ tree. (tree.members ≡ []) × (tree.latest ≡ None))) }
         ensures copies { IfOk result (λ made. IfSome made (λ tree. stored_copies tree.chunks ≡ 0)) }
     {
@@ -77,7 +83,7 @@ impl<R: LayoutNumber, E: Expiration, V: ExpiredVal<E>, A: Allocator + Copy> SegE
     /// Whether the range goes upwards and lies in the tree's own: the test of the condition of insertions and queries.
     /// It is our own.
     pub fn accepts(&self, range: SegRange<R>) -> bool
-        ensures { IsTrue result ↔ Accepts self.now.buckets (R.whole range.min) (R.whole range.max) }
+        ensures { IsTrue result ↔ IsAccepted R.whole self.now.buckets range }
     {
         self.layout.accepts(range.min, range.max)
     }
@@ -98,7 +104,8 @@ impl<R: LayoutNumber, E: Expiration, V: ExpiredVal<E>, A: Allocator + Copy> SegE
     /// 2 j + 2 cover the halves of what node j covers.
     pub fn chunk(&self, node: u32) -> &[(u64, V)]
         ensures copies { result.now ≡ chunk_at node self.now.chunks }
-        ensures placed { IsPermutation (copies_at node self.now.members) (live_copies V.expiration E.cmp self.now.latest result.now) }
+        ensures placed { IsPermutation (copies_at node self.now.members)
+            (live_copies V.expiration E.cmp self.now.latest result.now) }
     {
         match self.chunks.get(node as usize) {
             Some(chunk) => chunk,
@@ -122,19 +129,13 @@ impl<R: LayoutNumber, E: Expiration, V: ExpiredVal<E>, A: Allocator + Copy> SegE
     /// Each is placed behind the copies of its node. It is refused for want of memory alone, and that changes nothing at all:
     /// all growths come before the first copy is placed.
     fn insert_by_range(&mut self, range: SegRange<R>, val: V) -> Result<(), Refusal>
-        requires { Accepts self.old.buckets (R.whole range.min) (R.whole range.max) }
-        ensures ok { OnOk result (IsPermutation (with_member V.expiration E.cmp self.old.latest (member_over self.old.buckets (R.whole range.min) (R.whole range.max) val) self.old.members) self.new.members) }
-        ensures err { OnErr result (self.new ≡ self.old) }
-        ensures refused { IfErr result (λ cause. cause ≡ OutOfMemory) }
-        ensures latest { self.new.latest ≡ self.old.latest }
-        ensures buckets { self.new.buckets ≡ self.old.buckets }
-        ensures filters { Filters self.old.buckets }
-        ensures placed { OnOk result (PlacesCopies (place_set (interval self.old.buckets (R.whole range.min) (R.whole range.max))) val self.old.chunks self.new.chunks) }
-        ensures few { stored_copies self.new.chunks ≤ stored_copies self.old.chunks + 8 }
+        requires { IsAccepted R.whole self.old.buckets range }
+        ensures { Inserts V.expiration E.cmp (segment_over R.whole self.old.buckets range val) result
+            self.old self.new }
     {
         let first = self.layout.bucket(range.min);
         let last = self.layout.bucket(range.max);
-        let mask = place_mask(first, last);
+        let mask = canonical_mask(first, last);
         make_room(&mut self.chunks, mask)?;
         place_copies(&mut self.chunks, mask, val);
         Ok(())
@@ -149,29 +150,17 @@ impl<R: LayoutNumber, E: Expiration, V: ExpiredVal<E>, A: Allocator + Copy> SegE
         time: E,
         out: &mut Vec<V, B>,
     ) -> Result<(), Refusal>
-        requires accepted { Accepts self.old.buckets (R.whole range.min) (R.whole range.max) }
+        requires accepted { IsAccepted R.whole self.old.buckets range }
         requires in_time { NotBefore E.cmp self.old.latest time }
-        ensures ok { OnOk result ((found : List V) × IsPermutation (answer V.expiration E.cmp time (interval self.old.buckets (R.whole range.min) (R.whole range.max)) self.old.members) found × (out.new.items ≡ out.old.items ++ found)) }
-        ensures err { OnErr result (out.new.items ≡ out.old.items) }
-        ensures refused { IfErr result (λ cause. cause ≡ OutOfMemory) }
-        ensures with_room { vec_len out.old + length (answer V.expiration E.cmp time (interval self.old.buckets (R.whole range.min) (R.whole range.max)) self.old.members) ≤ vec_capacity out.old → IsOk result }
-        ensures members { IsPermutation (live_members V.expiration E.cmp time self.old.members) self.new.members }
-        ensures latest { self.new.latest ≡ Some time }
-        ensures buckets { self.new.buckets ≡ self.old.buckets }
-        ensures filters { Filters self.old.buckets }
-        ensures cleans { OnOk result (Cleans V.expiration E.cmp time (meeting_set (interval self.old.buckets (R.whole range.min) (R.whole range.max))) self.old.chunks self.new.chunks) }
-        ensures loses { LosesExpiredAt V.expiration E.cmp time (meeting_set (interval self.old.buckets (R.whole range.min) (R.whole range.max))) self.old.chunks self.new.chunks }
-        ensures fewer { stored_copies self.new.chunks ≤ stored_copies self.old.chunks }
+        ensures { Answers V.expiration E.cmp time (interval_over R.whole self.old.buckets range) result
+            self.old self.new out.old out.new }
     {
         self.collect_by_range_counted(&mut Uncounted, range, time, out)
     }
 
     /// Removes every copy, live or not, and keeps the room.
     fn clear(&mut self)
-        ensures empty { self.new.members ≡ [] }
-        ensures latest { self.new.latest ≡ None }
-        ensures buckets { self.new.buckets ≡ self.old.buckets }
-        ensures copies { stored_copies self.new.chunks ≡ 0 }
+        ensures { Clears self.old self.new }
     {
         clear_chunks(&mut self.chunks);
         self.latest = None;

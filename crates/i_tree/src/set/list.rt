@@ -1,17 +1,16 @@
-ghost use Rattle.std.specs.Prelude.{◌≡◌, ◌≢◌, ◌≤◌, ◌<◌, ◌-◌, ◌+◌, ◌++◌, ◌∷◌, ℕ, List, [], length, not, IsOk, OnOk, OnErr, IfOk, IfErr, IsErrAnd, MatchBool, min};
-ghost use Rattle.std.specs.Borrow.{Bor, sem};
+//! `SetList`: an ordered set in a sorted vector.
+
+ghost use Rattle.std.specs.Prelude.{◌≡◌, ◌≤◌, ◌<◌, ◌-◌, ◌+◌, [], length, not, IsOk, IfOk, IfErr, MatchBool, min};
+ghost use Rattle.std.specs.Borrow.{Bor};
 ghost use Rattle.std.specs.Fn.{FnReturnsAt};
 ghost use Rattle.std.specs.Ordering.{is_gt, is_lt};
-ghost use Rattle.std.specs.List.{insert, remove};
 ghost use Rattle.std.specs.declared.cmp.Ordering.{Ordering};
-ghost use Rattle.i_tree.specs.Root.Change.{Joins};
-ghost use Rattle.i_tree.specs.Set.Pairs.{AreApart, values, HasHandle, LacksHandle, IsOrdered, LacksKey, TakesKeys, IsFound};
+ghost use Rattle.i_tree.specs.Set.Pairs.{AreApart, IsOrdered};
 ghost use Rattle.i_tree.specs.Set.SetList.{numbered, IsPlaceFor};
-ghost use Rattle.i_tree.specs.Core.Shape.{last_handle};
 
 use super::sort::{KeyValue, SetCollection};
-use crate::halving::count_passing;
-use crate::inserting::insert_at;
+use crate::binary_search::count_passing;
+use crate::list_insertion::insert_at;
 use crate::{EMPTY_REF, Refusal, Refused};
 use std::alloc::Allocator;
 use std::cmp::Ordering;
@@ -64,7 +63,8 @@ fn position_before(position: u32) -> u32
 
 // Whether the keys rise from each value to the next.
 fn keys_rise<K: Ord, V: KeyValue<K>>(values: &[V]) -> bool
-    ensures { MatchBool result (IsOrdered V.key_of K.cmp (numbered values.now)) (¬ (IsOrdered V.key_of K.cmp (numbered values.now))) }
+    ensures { MatchBool result
+        (IsOrdered V.key_of K.cmp (numbered values.now)) (¬ (IsOrdered V.key_of K.cmp (numbered values.now))) }
 {
     for next in 1..values.len() {
         if *values[next - 1].key() >= *values[next].key() {
@@ -101,15 +101,18 @@ impl<V, A: Allocator + Copy> SetList<V, A> {
 
 impl<K: Ord, V: KeyValue<K> + Drop, A: Allocator + Copy> SetCollection<K, V> for SetList<V, A> {
     ghost use Rattle.i_tree.specs.declared.TheConstants.{EMPTY_REF};
-    ghost use Rattle.i_tree.specs.Set.SetList.{numbered, value_put};
-    ghost use Rattle.i_tree.specs.Set.ListPairs.{with_value-numbered};
-    ghost use Rattle.i_tree.specs.Set.ListLends.{lends_value};
+    ghost use Rattle.i_tree.specs.Set.SetList.{numbered, value_put, SetListInserts, SetListDeletes};
+    ghost use Rattle.i_tree.specs.Laws.ListPairs.{with_value-numbered};
 
     ghost pairs = { λ list. numbered list.values };
 
     ghost room = { λ list. min EMPTY_REF (length list.values + list.spare) };
 
     ghost put = { λ list handle value. value_put list handle value };
+
+    ghost inserts = { λ val old result new. SetListInserts V.key_of K.cmp val old result new };
+
+    ghost deletes = { λ index old new. SetListDeletes index old new };
 
     ghost put_pairs = { λ list handle value. with_value-numbered handle value list.values };
 
@@ -118,21 +121,7 @@ impl<K: Ord, V: KeyValue<K> + Drop, A: Allocator + Copy> SetCollection<K, V> for
     /// It is refused with `NoHandle` exactly where `EMPTY_REF` values are stored, before memory is asked for, and with
     /// `OutOfMemory` only where there was no room and the growth was refused. A refusal changes nothing and hands the
     /// value back. The place is that of the Rust crate `i_tree`, and the refusals are our own.
-    fn insert(&mut self, val: V) -> Result<(), Refused<V>>
-        requires in_order { IsOrdered V.key_of K.cmp (numbered self.old.values) }
-        requires absent { LacksKey V.key_of K.cmp (numbered self.old.values) (V.key_of val) }
-        ensures ok { OnOk result (Joins val (values (numbered self.old.values)) (values (numbered self.new.values))) }
-        ensures joins { OnOk result ((place : ℕ) × (place ≤ length self.old.values) × IsPlaceFor V.key_of K.cmp (V.key_of val) self.old.values place × (self.new.values ≡ insert self.old.values place val)) }
-        ensures in_order { IsOrdered V.key_of K.cmp (numbered self.new.values) }
-        ensures with_spare { length self.old.values < EMPTY_REF → 0 < self.old.spare → IsOk result }
-        ensures with_room { length (numbered self.old.values) < min EMPTY_REF (length self.old.values + self.old.spare) → IsOk result }
-        ensures err { OnErr result (self.new ≡ self.old) }
-        ensures handed { IfErr result (λ refused. refused.value ≡ val) }
-        ensures no_handle { length self.old.values ≡ EMPTY_REF → IsErrAnd result (λ refused. refused.cause ≡ Refusal.NoHandle) }
-        ensures refused { length self.old.values ≢ EMPTY_REF → IfErr result (λ refused. refused.cause ≡ Refusal.OutOfMemory) }
-        ensures room { length self.old.values + self.old.spare ≤ length self.new.values + self.new.spare }
-        ensures handles { AreApart (numbered self.new.values) }
-    {
+    fn insert(&mut self, val: V) -> Result<(), Refused<V>> {
         if self.values.len() >= EMPTY_REF as usize {
             return Err(Refused {
                 value: val,
@@ -153,27 +142,14 @@ impl<K: Ord, V: KeyValue<K> + Drop, A: Allocator + Copy> SetCollection<K, V> for
     /// Removes the value at the position, and drops it. The handles of those behind it fall by one.
     ///
     /// It takes no memory. The rule is that of the Rust crate `i_tree`.
-    fn delete_by_index(&mut self, index: u32)
-        requires { HasHandle (numbered self.old.values) index }
-        ensures value { (front : List (ℕ × V)) (value : V) (back : List (ℕ × V)) → numbered self.old.values ≡ front ++ (index, value) ∷ back → values (numbered self.new.values) ≡ values front ++ values back }
-        ensures removed { self.new.values ≡ remove self.old.values index }
-        ensures spare { self.new.spare ≡ self.old.spare + 1 }
-        ensures room { length self.new.values + self.new.spare ≡ length self.old.values + self.old.spare }
-        ensures in_order { IsOrdered V.key_of K.cmp (numbered self.old.values) → IsOrdered V.key_of K.cmp (numbered self.new.values) }
-        ensures handles { AreApart (numbered self.new.values) }
-    {
+    fn delete_by_index(&mut self, index: u32) {
         self.values.remove(index as usize);
     }
 
     /// The position before, or `EMPTY_REF` where the index is 0.
     ///
     /// The Rust crate goes wrong at 0. The answer there is our own.
-    fn index_before(&self, index: u32) -> u32
-        requires { HasHandle (numbered self.now.values) index }
-        ensures value { (front : List (ℕ × V)) (value : V) (back : List (ℕ × V)) → numbered self.now.values ≡ front ++ (index, value) ∷ back → result ≡ last_handle front }
-        ensures live { result ≢ EMPTY_REF → HasHandle (numbered self.now.values) result }
-        ensures handles { AreApart (numbered self.now.values) }
-    {
+    fn index_before(&self, index: u32) -> u32 {
         // That the list is short enough for its handles is known once a field is read.
         let _values = &self.values;
         position_before(index)
@@ -181,48 +157,28 @@ impl<K: Ord, V: KeyValue<K> + Drop, A: Allocator + Copy> SetCollection<K, V> for
 
     /// The position of a value whose key `f` calls Equal; where there is none, of the last whose key it calls Less; where
     /// there is none of these either, `EMPTY_REF`.
-    fn first_index_less_by<F: Fn(&K) -> Ordering>(&self, f: F) -> u32
-        requires in_order { IsOrdered V.key_of K.cmp (numbered self.now.values) }
-        requires callable { TakesKeys V.key_of (λ key. F.pre f key) (numbered self.now.values) }
-        ensures value { IsFound V.key_of K.cmp (λ key answer. FnReturnsAt F.Fn f key answer) (numbered self.now.values) result }
-        ensures live { result ≢ EMPTY_REF → HasHandle (numbered self.now.values) result }
-        ensures handles { AreApart (numbered self.now.values) }
-    {
+    fn first_index_less_by<F: Fn(&K) -> Ordering>(&self, f: F) -> u32 {
         let is_at_most = |value: &V| -> bool
             requires { (key : Bor K) → key.now ≡ V.key_of value.now → F.pre f key }
-            ensures { (answer : Ordering) × FnReturnsAt F.Fn f (V.key_of value.now) answer × (result ≡ not (is_gt answer)) }
+            ensures { (answer : Ordering) × FnReturnsAt F.Fn f (V.key_of value.now) answer
+                × (result ≡ not (is_gt answer)) }
         { f(value.key()) != Ordering::Greater };
         position_before(count_passing(&self.values, is_at_most) as u32)
     }
 
-    fn value_by_index(&self, index: u32) -> &V
-        requires { HasHandle (numbered self.now.values) index }
-        ensures value { (front : List (ℕ × V)) (value : V) (back : List (ℕ × V)) → numbered self.now.values ≡ front ++ (index, value) ∷ back → result.now ≡ value }
-        ensures handles { AreApart (numbered self.now.values) }
-    {
+    fn value_by_index(&self, index: u32) -> &V {
         &self.values[index as usize]
     }
 
-    fn value_by_index_mut(&mut self, index: u32) -> &mut V
-        requires { HasHandle (numbered self.old.values) index }
-        ensures* writes_back { sem 𝓛 (lends_value V.row A.row A.Allocator self.entry index result) }
-        ensures value { (front : List (ℕ × V)) (value : V) (back : List (ℕ × V)) → numbered self.old.values ≡ front ++ (index, value) ∷ back → result.now ≡ value }
-        ensures handles { AreApart (numbered self.old.values) }
-    {
+    fn value_by_index_mut(&mut self, index: u32) -> &mut V {
         &mut self.values[index as usize]
     }
 
-    fn has_index(&self, index: u32) -> bool
-        ensures cases { MatchBool result (HasHandle (numbered self.now.values) index) (LacksHandle (numbered self.now.values) index) }
-        ensures handles { AreApart (numbered self.now.values) }
-    {
+    fn has_index(&self, index: u32) -> bool {
         (index as usize) < self.values.len()
     }
 
-    fn is_ordered(&self) -> bool
-        ensures cases { MatchBool result (IsOrdered V.key_of K.cmp (numbered self.now.values)) (¬ (IsOrdered V.key_of K.cmp (numbered self.now.values))) }
-        ensures handles { AreApart (numbered self.now.values) }
-    {
+    fn is_ordered(&self) -> bool {
         keys_rise(&self.values)
     }
 }

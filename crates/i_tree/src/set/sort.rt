@@ -1,10 +1,13 @@
-ghost use Rattle.std.specs.Prelude.{◌≡◌, ◌≢◌, ◌≤◌, ◌<◌, ◌++◌, ◌∷◌, ℕ, List, length, IsOk, IfErr, MatchBool, OnErr, OnOk};
+//! The traits of values that have a key, and of ordered sets of them.
+
+ghost use Rattle.std.specs.Prelude.{◌≡◌, ◌≢◌, ◌≤◌, ◌<◌, ◌++◌, ◌∷◌, ℕ, List, Result, ⊤, length, IsOk, IfErr, MatchBool, OnErr, OnOk};
 ghost use Rattle.std.specs.Borrow.{Lends, sem};
 ghost use Rattle.std.specs.Fn.{FnReturnsAt};
 ghost use Rattle.std.specs.declared.cmp.Ordering.{Ordering};
 ghost use Rattle.i_tree.specs.Root.Change.{Joins};
 ghost use Rattle.i_tree.specs.Set.Pairs.{values, AreApart, HasHandle, LacksHandle, with_value, IsOrdered, HoldsKey, LacksKey, TakesKeys, IsFound};
-ghost use Rattle.i_tree.specs.Core.Shape.{last_handle};
+ghost use Rattle.i_tree.specs.Rb.Shape.{last_handle};
+ghost use Rattle.i_tree.specs.declared.Refused.{Refused};
 
 use crate::{EMPTY_REF, Refused};
 use std::cmp::Ordering;
@@ -38,6 +41,12 @@ pub trait SetCollection<K: Ord, V: KeyValue<K> + Drop> {
     /// For how many values in all there is room, those that are there among them. The default promises none.
     ghost room: { Self → ℕ } = { λ _. 0 };
 
+    /// What each kind promises beyond these clauses of an insertion that gave this result. The default promises nothing.
+    ghost inserts: { V → Self → Result ⊤ (Refused V) → Self → Type 0 } = { λ _ _ _ _. ⊤ };
+
+    /// What each kind promises beyond these clauses of the deletion at this handle. The default promises nothing.
+    ghost deletes: { ℕ → Self → Self → Type 0 } = { λ _ _ _. ⊤ };
+
     /// Puts the value at the place of its key. No key of the collection may compare Equal to it: `contains_key` is the test.
     ///
     /// Which handles the values then have is said by each collection. It is refused where the collection gets no room
@@ -46,37 +55,45 @@ pub trait SetCollection<K: Ord, V: KeyValue<K> + Drop> {
     fn insert(&mut self, val: V) -> Result<(), Refused<V>>
         requires in_order { IsOrdered V.key_of K.cmp (pairs self.old) }
         requires absent { LacksKey V.key_of K.cmp (pairs self.old) (V.key_of val) }
+
+        // The value joins the others, or nothing has changed.
         ensures ok { OnOk result (Joins val (values (pairs self.old)) (values (pairs self.new))) }
         ensures err { OnErr result (pairs self.new ≡ pairs self.old) }
         ensures handed { IfErr result (λ refused. refused.value ≡ val) }
         ensures in_order { IsOrdered V.key_of K.cmp (pairs self.new) }
         ensures handles { AreApart (pairs self.new) }
+
+        // When it is never refused, and what each kind adds.
         ensures with_room { length (pairs self.old) < room self.old → IsOk result }
-        ensures room { room self.old ≤ room self.new };
+        ensures room { room self.old ≤ room self.new }
+        ensures inserts { inserts val self.old result self.new };
 
     /// Removes the value at the handle, and drops it.
     ///
     /// Which handles the others then have is said by each collection. It takes no memory.
     fn delete_by_index(&mut self, index: u32)
         requires { HasHandle (pairs self.old) index }
-        ensures value { (front : List (ℕ × V)) (value : V) (back : List (ℕ × V)) → pairs self.old ≡ front ++ (index, value) ∷ back → values (pairs self.new) ≡ values front ++ values back }
+        ensures value { (front : List (ℕ × V)) (value : V) (back : List (ℕ × V))
+            → pairs self.old ≡ front ++ (index, value) ∷ back → values (pairs self.new) ≡ values front ++ values back }
         ensures in_order { IsOrdered V.key_of K.cmp (pairs self.old) → IsOrdered V.key_of K.cmp (pairs self.new) }
         ensures handles { AreApart (pairs self.new) }
-        ensures room { room self.old ≤ room self.new };
+        ensures room { room self.old ≤ room self.new }
+        ensures deletes { deletes index self.old self.new };
 
     /// The handle of the value before this one, or `EMPTY_REF` where it is the first.
     ///
     /// The Rust crate goes wrong at the first one. The answer there is our own.
     fn index_before(&self, index: u32) -> u32
         requires { HasHandle (pairs self.now) index }
-        ensures value { (front : List (ℕ × V)) (value : V) (back : List (ℕ × V)) → pairs self.now ≡ front ++ (index, value) ∷ back → result ≡ last_handle front }
+        ensures value { (front : List (ℕ × V)) (value : V) (back : List (ℕ × V))
+            → pairs self.now ≡ front ++ (index, value) ∷ back → result ≡ last_handle front }
         ensures live { result ≢ EMPTY_REF → HasHandle (pairs self.now) result }
         ensures handles { AreApart (pairs self.now) };
 
     /// The handle of a value whose key `f` calls Equal; where there is none, of the last whose key it calls Less; where
     /// there is none of these either, `EMPTY_REF`.
     ///
-    /// `f` says how a key stands to what is looked for. It is asked about keys of the collection alone, and on these it is
+    /// `f` says how a key stands to what is sought. It is asked about keys of the collection alone, and on these it is
     /// to be monotone: it never answers a lower key by a later of Less, Equal, Greater than a higher one. Which of several
     /// Equal keys is answered is open.
     fn first_index_less_by<F: Fn(&K) -> Ordering>(&self, f: F) -> u32
@@ -89,20 +106,23 @@ pub trait SetCollection<K: Ord, V: KeyValue<K> + Drop> {
     /// The value at the handle.
     fn value_by_index(&self, index: u32) -> &V
         requires { HasHandle (pairs self.now) index }
-        ensures value { (front : List (ℕ × V)) (value : V) (back : List (ℕ × V)) → pairs self.now ≡ front ++ (index, value) ∷ back → result.now ≡ value }
+        ensures value { (front : List (ℕ × V)) (value : V) (back : List (ℕ × V))
+            → pairs self.now ≡ front ++ (index, value) ∷ back → result.now ≡ value }
         ensures handles { AreApart (pairs self.now) };
 
     /// The value at the handle, for writing. No other value changes, and no handle does.
     fn value_by_index_mut(&mut self, index: u32) -> &mut V
         requires { HasHandle (pairs self.old) index }
         ensures* writes_back { sem 𝓛 (Lends Self.row V.row self.entry result (put self.old index)) }
-        ensures value { (front : List (ℕ × V)) (value : V) (back : List (ℕ × V)) → pairs self.old ≡ front ++ (index, value) ∷ back → result.now ≡ value }
+        ensures value { (front : List (ℕ × V)) (value : V) (back : List (ℕ × V))
+            → pairs self.old ≡ front ++ (index, value) ∷ back → result.now ≡ value }
         ensures handles { AreApart (pairs self.old) };
 
     /// Whether a value's key compares Equal to `key`. It is our own.
     fn contains_key(&self, key: &K) -> bool
         requires in_order { IsOrdered V.key_of K.cmp (pairs self.now) }
-        ensures cases { MatchBool result (HoldsKey V.key_of K.cmp (pairs self.now) key.now) (LacksKey V.key_of K.cmp (pairs self.now) key.now) }
+        ensures cases { MatchBool result
+            (HoldsKey V.key_of K.cmp (pairs self.now) key.now) (LacksKey V.key_of K.cmp (pairs self.now) key.now) }
         ensures in_order { IsOrdered V.key_of K.cmp (pairs self.now) }
         ensures handles { AreApart (pairs self.now) }
     {
@@ -123,9 +143,11 @@ pub trait SetCollection<K: Ord, V: KeyValue<K> + Drop> {
 
     /// Whether the keys rise from each value to the next.
     fn is_ordered(&self) -> bool
-        ensures cases { MatchBool result (IsOrdered V.key_of K.cmp (pairs self.now)) (¬ (IsOrdered V.key_of K.cmp (pairs self.now))) }
+        ensures cases { MatchBool result
+            (IsOrdered V.key_of K.cmp (pairs self.now)) (¬ (IsOrdered V.key_of K.cmp (pairs self.now))) }
         ensures handles { AreApart (pairs self.now) };
 
     /// A value that is put at a handle takes the place of the one there.
-    ghost put_pairs: { (collection : Self) (handle : ℕ) (value : V) → pairs (put collection handle value) ≡ with_value handle value (pairs collection) };
+    ghost put_pairs: { (collection : Self) (handle : ℕ) (value : V)
+        → pairs (put collection handle value) ≡ with_value handle value (pairs collection) };
 }

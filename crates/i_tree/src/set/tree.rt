@@ -1,20 +1,23 @@
-ghost use Rattle.std.specs.Prelude.{◌≡◌, ◌≢◌, ◌≤◌, ◌<◌, ◌+◌, ◌++◌, ◌∷◌, ℕ, List, All, length, IsOk, OnOk, OnErr, IfOk, IfErr, IsErrAnd, max};
+//! `SetTree`: an ordered set in a red-black tree over the core.
+
+ghost use Rattle.std.specs.Prelude.{◌≡◌, ◌≢◌, ◌<◌, ◌+◌, ◌++◌, ◌∷◌, ℕ, List, All, length, IsOk, OnOk, OnErr, IfErr, IsErrAnd, max};
 ghost use Rattle.std.specs.Borrow.{Bor};
 ghost use Rattle.std.specs.Fn.{FnReturnsAt};
 ghost use Rattle.std.specs.declared.cmp.Ordering.{Ordering};
 ghost use Rattle.std.specs.declared.cmp.Ordering.TheVariants.{Less};
-ghost use Rattle.i_tree.specs.Root.Descent.{LooksDown};
-ghost use Rattle.i_tree.specs.Core.RbTree.{slots, slots_with_room};
-ghost use Rattle.i_tree.specs.Core.Removal.{LosesAt};
+ghost use Rattle.i_tree.specs.Root.Descent.{Searches};
+ghost use Rattle.i_tree.specs.Rb.RbTree.{slots, slots_with_room};
+ghost use Rattle.i_tree.specs.Rb.Capacity.{MakesEmpty, TakesSlot};
+ghost use Rattle.i_tree.specs.Rb.Removal.{LosesAt};
 ghost use Rattle.i_tree.specs.Set.Pairs.{HasHandle, IsOrdered, LacksKey, TakesKeys, IsFound};
-ghost use Rattle.i_tree.specs.Core.Place.{IsPlaceBetween};
-ghost use Rattle.i_tree.specs.Core.Balance.{IsCore};
-ghost use Rattle.i_tree.specs.Core.Shape.{leaf, entries, occurs, IsLive, last_handle};
+ghost use Rattle.i_tree.specs.Rb.Place.{IsPlaceBetween};
+ghost use Rattle.i_tree.specs.Rb.Balance.{IsCore};
+ghost use Rattle.i_tree.specs.Rb.Shape.{entries, occurs, IsHandle, last_handle};
 
 use super::sort::{KeyValue, SetCollection};
-use crate::looking::{look_down, place_below};
-use crate::place::{Place, insert_at};
 use crate::rb::RbTree;
+use crate::rb::place::{Place, place_below};
+use crate::rb::search::search_down;
 use crate::steps::{Counter, Uncounted};
 use crate::{EMPTY_REF, Refusal, Refused};
 use std::alloc::Allocator;
@@ -31,7 +34,7 @@ pub struct SetTree<K, V, A: Allocator + Copy> {
 }
 
 impl<K, V, A: Allocator + Copy> Model for SetTree<K, V, A> {
-    ghost use Rattle.i_tree.specs.Core.RbTree.{Contents, contents_code};
+    ghost use Rattle.i_tree.specs.Rb.RbTree.{Contents, contents_code};
 
     ghost Value = { Contents V };
 
@@ -46,11 +49,7 @@ impl<K: Ord, V: KeyValue<K> + Drop, A: Allocator + Copy> SetTree<K, V, A> {
     /// It is refused with `NoHandle` exactly where `capacity` is above `EMPTY_REF`, before memory is asked for, and else
     /// only where the allocator refuses the slots. That it takes an allocator and may be refused is our own.
     pub fn new(alloc: A, capacity: usize) -> Result<Self, Refusal>
-        ensures empty { IfOk result (λ set. set.shape ≡ leaf) }
-        ensures slots { IfOk result (λ set. slots set ≡ max capacity 8) }
-        ensures no_handle { EMPTY_REF < capacity → IsErrAnd result (λ cause. cause ≡ Refusal.NoHandle) }
-        ensures refused { capacity ≤ EMPTY_REF → IfErr result (λ cause. cause ≡ Refusal.OutOfMemory) }
-        ensures core { IfOk result (λ set. IsCore set.shape) }
+        ensures makes { MakesEmpty capacity result }
     {
         Ok(SetTree {
             core: RbTree::new(alloc, capacity)?,
@@ -83,21 +82,19 @@ impl<K: Ord, V: KeyValue<K> + Drop, A: Allocator + Copy> SetTree<K, V, A> {
     pub fn insert_counted<C: Counter>(&mut self, steps: &mut C, val: V) -> Result<(), Refused<V>>
         requires in_order { IsOrdered V.key_of K.cmp (entries self.old.shape) }
         requires absent { LacksKey V.key_of K.cmp (entries self.old.shape) (V.key_of val) }
-        ensures joins { OnOk result ((front : List (ℕ × V)) × (handle : ℕ) × (back : List (ℕ × V)) × (entries self.old.shape ≡ front ++ back) × (entries self.new.shape ≡ front ++ (handle, val) ∷ back) × (occurs handle self.old.shape ≡ 0)) }
-        ensures keeps { (handle : ℕ) → HasHandle (entries self.old.shape) handle → HasHandle (entries self.new.shape) handle }
+        ensures joins { OnOk result ((front : List (ℕ × V)) × (handle : ℕ) × (back : List (ℕ × V))
+            × (entries self.old.shape ≡ front ++ back) × (entries self.new.shape ≡ front ++ (handle, val) ∷ back)
+            × (occurs handle self.old.shape ≡ 0)) }
+        ensures keeps { (handle : ℕ) → HasHandle (entries self.old.shape) handle →
+            HasHandle (entries self.new.shape) handle }
         ensures in_order { IsOrdered V.key_of K.cmp (entries self.new.shape) }
-        ensures slots { OnOk result (slots self.new ≡ slots_with_room self.old) }
-        ensures with_spare { 0 < self.old.spare → IsOk result }
-        ensures err { OnErr result (self.new ≡ self.old) }
-        ensures handed { IfErr result (λ refused. refused.value ≡ val) }
-        ensures no_handle { self.old.spare ≡ 0 → slots self.old ≡ EMPTY_REF → IsErrAnd result (λ refused. refused.cause ≡ Refusal.NoHandle) }
-        ensures refused { slots self.old ≢ EMPTY_REF → IfErr result (λ refused. refused.cause ≡ Refusal.OutOfMemory) }
-        ensures steps { LooksDown C.made steps.old steps.new (length (entries self.old.shape)) 0 2 }
-        ensures err_steps { OnErr result (LooksDown C.made steps.old steps.new (length (entries self.old.shape)) 0 0) }
+        ensures takes { TakesSlot val self.old self.new result }
+        ensures steps { Searches C.made steps.old steps.new (length (entries self.old.shape)) 0 2 }
+        ensures err_steps { OnErr result (Searches C.made steps.old steps.new (length (entries self.old.shape)) 0 0) }
         ensures core { IsCore self.new.shape }
     {
         let place = self.place_of(steps, val.key());
-        insert_at(&mut self.core, steps, place, val)?;
+        self.core.insert_at(steps, place, val)?;
         Ok(())
     }
 
@@ -106,14 +103,15 @@ impl<K: Ord, V: KeyValue<K> + Drop, A: Allocator + Copy> SetTree<K, V, A> {
         requires in_order { IsOrdered V.key_of K.cmp (entries self.now.shape) }
         requires absent { LacksKey V.key_of K.cmp (entries self.now.shape) key.now }
         ensures place { (front : List (ℕ × V)) × (back : List (ℕ × V)) × IsPlaceBetween self.now.shape front back result
-            × All (λ pair. K.cmp (V.key_of pair.1) key.now ≡ Less) front × All (λ pair. K.cmp key.now (V.key_of pair.1) ≡ Less) back }
-        ensures steps { LooksDown C.made steps.old steps.new (length (entries self.now.shape)) 0 0 }
+            × All (λ pair. K.cmp (V.key_of pair.1) key.now ≡ Less) front
+            × All (λ pair. K.cmp key.now (V.key_of pair.1) ≡ Less) back }
+        ensures steps { Searches C.made steps.old steps.new (length (entries self.now.shape)) 0 0 }
     {
         let stands = |value: &V| -> Ordering
             ensures { result ≡ K.cmp (V.key_of value.entry.now) key.entry.now }
         { value.key().cmp(key) };
-        let looked = look_down(&self.core, steps, &stands);
-        place_below(looked.above, looked.on_right)
+        let ended = search_down(&self.core, steps, &stands);
+        place_below(ended.above, ended.on_right)
     }
 
     /// `first_index_less_by`, with its steps counted: each comparison is one call of `f`. The counts are our own.
@@ -124,22 +122,24 @@ impl<K: Ord, V: KeyValue<K> + Drop, A: Allocator + Copy> SetTree<K, V, A> {
     ) -> u32
         requires in_order { IsOrdered V.key_of K.cmp (entries self.now.shape) }
         requires callable { TakesKeys V.key_of (λ key. F.pre f key) (entries self.now.shape) }
-        ensures value { IsFound V.key_of K.cmp (λ key answer. FnReturnsAt F.Fn f key answer) (entries self.now.shape) result }
+        ensures value { IsFound V.key_of K.cmp (λ key answer. FnReturnsAt F.Fn f key answer)
+            (entries self.now.shape) result }
         ensures live { result ≢ EMPTY_REF → HasHandle (entries self.now.shape) result }
         ensures core { IsCore self.now.shape }
-        ensures steps { LooksDown C.made steps.old steps.new (length (entries self.now.shape)) 0 0 }
+        ensures steps { Searches C.made steps.old steps.new (length (entries self.now.shape)) 0 0 }
     {
         let stands = |value: &V| -> Ordering
             requires { (key : Bor K) → key.now ≡ V.key_of value.now → F.pre f key }
             ensures { FnReturnsAt F.Fn f (V.key_of value.entry.now) result }
         { f(value.key()) };
-        look_down(&self.core, steps, &stands).found
+        search_down(&self.core, steps, &stands).found
     }
 
     // The key of the value at the handle.
     fn key_at(&self, handle: u32) -> &K
-        requires { IsLive self.now.shape handle }
-        ensures { (front : List (ℕ × V)) (value : V) (back : List (ℕ × V)) → entries self.now.shape ≡ front ++ (handle, value) ∷ back → result.now ≡ V.key_of value }
+        requires { IsHandle self.now.shape handle }
+        ensures { (front : List (ℕ × V)) (value : V) (back : List (ℕ × V)) →
+            entries self.now.shape ≡ front ++ (handle, value) ∷ back → result.now ≡ V.key_of value }
     {
         self.core.item(handle).key()
     }
@@ -159,20 +159,19 @@ impl<K: Ord, V: KeyValue<K> + Drop, A: Allocator + Copy> SetTree<K, V, A> {
 }
 
 impl<K: Ord, V: KeyValue<K> + Drop, A: Allocator + Copy> SetCollection<K, V> for SetTree<K, V, A> {
-    ghost use Rattle.std.specs.Prelude.{◌≡◌, ◌≢◌, ◌++◌, ◌∷◌, ◌≤◌, ◌<◌, ℕ, List, OnOk, OnErr, IfErr, IsOk, IsErrAnd};
-    ghost use Rattle.i_tree.specs.Core.Balance.{IsCore};
-    ghost use Rattle.i_tree.specs.Core.Shape.{entries, with_item, occurs};
-    ghost use Rattle.i_tree.specs.Core.RbTree.{slots, slots_with_room};
-    ghost use Rattle.i_tree.specs.Root.Change.{Joins};
-    ghost use Rattle.i_tree.specs.Core.Removal.{LosesAt};
-    ghost use Rattle.i_tree.specs.Set.Pairs.{values, AreApart, HasHandle, IsOrdered, LacksKey};
-    ghost use Rattle.i_tree.specs.Set.TreePairs.{with_value-entries};
+    ghost use Rattle.i_tree.specs.Rb.Shape.{entries, with_item};
+    ghost use Rattle.i_tree.specs.Set.SetTree.{SetTreeInserts, SetTreeDeletes};
+    ghost use Rattle.i_tree.specs.Laws.TreePairs.{with_value-entries};
 
     ghost pairs = { λ set. entries set.shape };
 
     ghost room = { λ set. length (entries set.shape) + set.spare };
 
     ghost put = { λ set handle value. record set { shape = with_item handle value set.shape } };
+
+    ghost inserts = { λ val old result new. SetTreeInserts val old result new };
+
+    ghost deletes = { λ index old new. SetTreeDeletes index old new };
 
     ghost put_pairs = { λ set handle value. with_value-entries handle value set.shape };
 
@@ -181,22 +180,7 @@ impl<K: Ord, V: KeyValue<K> + Drop, A: Allocator + Copy> SetCollection<K, V> for
     /// Where a slot is free it succeeds. Else the slots double, up to `EMPTY_REF` of them: it is refused with `NoHandle`
     /// exactly where all of these are in use, and with `OutOfMemory` only where the growth was refused. A refusal changes
     /// nothing and hands the value back. The rule is that of the Rust crate `i_tree`, and the refusals are our own.
-    fn insert(&mut self, val: V) -> Result<(), Refused<V>>
-        requires in_order { IsOrdered V.key_of K.cmp (entries self.old.shape) }
-        requires absent { LacksKey V.key_of K.cmp (entries self.old.shape) (V.key_of val) }
-        ensures ok { OnOk result (Joins val (values (entries self.old.shape)) (values (entries self.new.shape))) }
-        ensures joins { OnOk result ((front : List (ℕ × V)) × (handle : ℕ) × (back : List (ℕ × V)) × (entries self.old.shape ≡ front ++ back) × (entries self.new.shape ≡ front ++ (handle, val) ∷ back) × (occurs handle self.old.shape ≡ 0)) }
-        ensures keeps { (handle : ℕ) → HasHandle (entries self.old.shape) handle → HasHandle (entries self.new.shape) handle }
-        ensures in_order { IsOrdered V.key_of K.cmp (entries self.new.shape) }
-        ensures handles { AreApart (entries self.new.shape) }
-        ensures slots { OnOk result (slots self.new ≡ slots_with_room self.old) }
-        ensures with_spare { 0 < self.old.spare → IsOk result }
-        ensures err { OnErr result (self.new ≡ self.old) }
-        ensures handed { IfErr result (λ refused. refused.value ≡ val) }
-        ensures no_handle { self.old.spare ≡ 0 → slots self.old ≡ EMPTY_REF → IsErrAnd result (λ refused. refused.cause ≡ Refusal.NoHandle) }
-        ensures refused { slots self.old ≢ EMPTY_REF → IfErr result (λ refused. refused.cause ≡ Refusal.OutOfMemory) }
-        ensures core { IsCore self.new.shape }
-    {
+    fn insert(&mut self, val: V) -> Result<(), Refused<V>> {
         self.insert_counted(&mut Uncounted, val)
     }
 
@@ -205,16 +189,7 @@ impl<K: Ord, V: KeyValue<K> + Drop, A: Allocator + Copy> SetCollection<K, V> for
     ///
     /// It takes no memory: the slot is free for an insertion. Where the Rust crate `i_tree` clones the next value into its
     /// place, this one moves it.
-    fn delete_by_index(&mut self, index: u32)
-        requires { HasHandle (entries self.old.shape) index }
-        ensures value { (front : List (ℕ × V)) (value : V) (back : List (ℕ × V)) → entries self.old.shape ≡ front ++ (index, value) ∷ back → values (entries self.new.shape) ≡ values front ++ values back }
-        ensures loses { (front : List (ℕ × V)) (value : V) (back : List (ℕ × V)) → entries self.old.shape ≡ front ++ (index, value) ∷ back → LosesAt index front back (entries self.new.shape) }
-        ensures spare { self.new.spare ≡ self.old.spare + 1 }
-        ensures slots { slots self.new ≡ slots self.old }
-        ensures in_order { IsOrdered V.key_of K.cmp (entries self.old.shape) → IsOrdered V.key_of K.cmp (entries self.new.shape) }
-        ensures handles { AreApart (entries self.new.shape) }
-        ensures core { IsCore self.new.shape }
-    {
+    fn delete_by_index(&mut self, index: u32) {
         self.core.remove(&mut Uncounted, index);
     }
 

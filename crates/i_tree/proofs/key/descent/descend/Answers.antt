@@ -1,17 +1,17 @@
 use Rattle.std.proofs.Common.{Bool, true, false, ◌<◌, ◌≡◌, ◌++◌, if◌then◌else◌, length, refl, sym, ap, ◌∙◌, subst, arith}
-use Rattle.i_tree.proofs.CoreLemmas.Contexts.{part_at-none}
-use Rattle.i_tree.proofs.CoreLemmas.Descent.{IsTop, cut_here, falls_on, way_top, way_on, way_end}
-use Rattle.i_tree.proofs.CoreLemmas.WayCounts.{counted_none, counted_compare, counted_removal, counted_all}
-use Rattle.i_tree.proofs.KeyLemmas.Following.{followed_top, followed_end, followed_on, followed_gone}
+use Rattle.i_tree.proofs.RbLemmas.Shape.Contexts.{subtree_at-none}
+use Rattle.i_tree.proofs.RbLemmas.SearchPath.Descent.{IsTop, cut_here, falls_on, path_top, path_on, path_end}
+use Rattle.i_tree.proofs.RbLemmas.SearchPath.Counts.{counted_none, counted_compare, counted_removal, counted_all}
+use Rattle.i_tree.proofs.KeyLemmas.SearchPath.{followed_top, followed_end, followed_on, followed_gone}
 use Rattle.i_tree.proofs.KeyLemmas.Search.{sought_live}
-use Rattle.i_tree.proofs.KeyLemmas.Ways.{IsRemoved, sought_none, sought_on, place_stays, way_stays, rank_stays, items_without, one_less, asked_here}
+use Rattle.i_tree.proofs.KeyLemmas.Descents.{IsRemoved, sought_none, sought_on, place_stays, path_stays, rank_stays, items_without, one_less, asked_here}
 use Rattle.i_tree.proofs.RootLemmas.Withouts.{Without-refl, Without-trans}
 use Rattle.i_tree.specs.Key.Descent.{DescendsBetween, FindsCalled, IsCalled}
 use Rattle.i_tree.specs.Key.KeyExpTree.{items}
 use Rattle.i_tree.specs.Key.Live.{IsExpired}
 use Rattle.i_tree.specs.Root.Live.{is_live}
-use Rattle.i_tree.specs.Core.Shape.{entries, rank, left_at, right_at, part_at, occurs}
-use Rattle.i_tree.specs.Core.Ways.{place_below}
+use Rattle.i_tree.specs.Rb.Shape.{entries, rank, left_at, right_at, subtree_at, occurs}
+use Rattle.i_tree.specs.Rb.Place.{place_below}
 use Rattle.i_tree.specs.Root.Ends.{FirstFinds}
 use Rattle.i_tree.specs.declared.TheConstants.{EMPTY_REF}
 use Rattle.i_tree.proofs.key.descent.descend.Goals as goal
@@ -22,7 +22,7 @@ loop-here-init g c =
     record {
       last = EMPTY_REF;
       next = EMPTY_REF;
-      way = way_top _ _ _ tree c.root-here.result refl (record { live = c.root-here.ensures.live; is = c.root-here.ensures.part });
+      way = path_top _ _ _ tree c.root-here.result refl (record { live = c.root-here.ensures.live; is = c.root-here.ensures.part });
       is = sought_none c.args.finds_passed;
       kept = Without-refl (items tree);
       slots = refl;
@@ -84,12 +84,12 @@ loop-here-preserved-then-not-is_live g c =
       last = c.loop-here.invariant.last;
       next = c.loop-here.invariant.next;
       is = c.loop-here.invariant.is;
-      way = way_stays _ _ _ tree tree' here live gone c.loop-here.invariant.last next c.top_below-here.ensures.live place read way;
+      way = path_stays _ _ _ tree tree' here live gone c.loop-here.invariant.last next c.top_below-here.ensures.live place read way;
       kept = Without-trans c.loop-here.invariant.kept (items_without (IsExpired g.K.ExpiredKey.expiration g.E.Ord.cmp c.args.time) tree tree' front here c.item.result.now back cut loses expired);
       slots = omega (arith, c.loop-here.invariant.slots, c.remove.ensures.spare, less);
       same = λ all. absurd (omega (arith, all, less, c.loop-here.invariant.counted.stores));
       follows = followed_gone (is_live g.K.ExpiredKey.expiration g.E.Ord.cmp c.args.time) (goal.F-post g c.args.passes.now) c.args.core.now c.loop-here.core here c.item.result.now c.item.ensures.value c.loop-here.invariant.follows c.remove.new.self next expired (omega (arith, less, c.loop-here.invariant.counted.stores));
-      counted = counted_removal g.met.C.Counter.law _ c.loop-here.steps c.add_test.new.self c.remove.new.steps _ (rank (part_at here tree)) (rank (part_at next tree')) _ (length (entries tree)) (length (entries tree')) c.loop-here.invariant.counted lower less c.add_test.ensures c.remove.ensures.steps;
+      counted = counted_removal g.met.C.Counter.law _ c.loop-here.steps c.add_test.new.self c.remove.new.steps _ (rank (subtree_at here tree)) (rank (subtree_at next tree')) _ (length (entries tree)) (length (entries tree')) c.loop-here.invariant.counted lower less c.add_test.ensures c.remove.ensures.steps;
       core = c.remove.ensures.core;
       first = c.loop-here.invariant.first;
     }
@@ -109,7 +109,7 @@ passes-on_right-requires g c =
     c.loop-here.invariant.kept (cut_here tree c.loop-here.here c.item.result.now c.item.ensures.value way.at) c.requires (sym c.is_live.ensures ∙ c.if-not-is_live.false)
 
 -- the children were read, and one of them is chosen
-falls : (g : _) (c : goal.After-select-here g) → rank (part_at c.select-here.result c.loop-here.core.shape) < rank (part_at c.loop-here.here c.loop-here.core.shape)
+falls : (g : _) (c : goal.After-select-here g) → rank (subtree_at c.select-here.result c.loop-here.core.shape) < rank (subtree_at c.loop-here.here c.loop-here.core.shape)
 falls g c =
     falls_on c.loop-here.core.shape c.loop-here.here c.item.result.now c.item.ensures.value c.item.ensures.core.falls c.left-left.result c.right-right.result
     (record { live = c.left-left.ensures.live; is = c.left-left.ensures.part }) (record { live = c.right-right.ensures.live; is = c.right-right.ensures.part })
@@ -133,7 +133,7 @@ loop-here-preserved g c =
     record {
       last = if passed then here else last;
       next = if passed then next else here;
-      way = way_on _ _ _ _ tree here c.loop-here-test.true pair c.item.ensures.value c.left-left.result c.right-right.result on_left on_right _ last c.loop-here.invariant.way
+      way = path_on _ _ _ _ tree here c.loop-here-test.true pair c.item.ensures.value c.left-left.result c.right-right.result on_left on_right _ last c.loop-here.invariant.way
           passed c.select-here.result (if passed then here else last) (c.select-here.ensures.first, c.select-here.ensures.other)
           (λ is. (called_so true is, ap (λ (b : Bool). if b then here else last) is))
           (λ is. ap (λ (b : Bool). if b then here else last) is)
@@ -145,7 +145,7 @@ loop-here-preserved g c =
       same = c.loop-here.invariant.same;
       follows = followed_on (is_live g.K.ExpiredKey.expiration g.E.Ord.cmp c.args.time) (goal.F-post g c.args.passes.now) c.args.core.now c.loop-here.core here pair c.item.ensures.value c.loop-here.invariant.follows
           c.left-left.result c.right-right.result on_left on_right passed c.select-here.result (c.select-here.ensures.first, c.select-here.ensures.other) called;
-      counted = counted_compare g.met.C.Counter.law _ c.loop-here.steps c.add_test.new.self c.add_comparison.new.self _ (rank (part_at here tree)) (rank (part_at c.select-here.result tree)) _ _ c.loop-here.invariant.counted (falls g c)
+      counted = counted_compare g.met.C.Counter.law _ c.loop-here.steps c.add_test.new.self c.add_comparison.new.self _ (rank (subtree_at here tree)) (rank (subtree_at c.select-here.result tree)) _ _ c.loop-here.invariant.counted (falls g c)
           c.add_test.ensures c.add_comparison.ensures;
       core = c.loop-here.invariant.core;
       first = c.loop-here.invariant.first;
@@ -154,8 +154,8 @@ loop-here-preserved g c =
 ended : (g : _) (c : goal.After-loop-here g) → DescendsBetween (is_live g.K.ExpiredKey.expiration g.E.Ord.cmp c.args.time) (goal.F-post g c.args.passes.now) c.loop-here.core.shape (place_below c.loop-here.above c.loop-here.on_right) c.loop-here.invariant.last c.loop-here.invariant.next
 ended g c =
     let tree = c.loop-here.core.shape in
-    let empty = part_at-none c.loop-here.here tree (ap (λ handle. occurs handle tree) c.loop-here-test.false ∙ c.loop-here.invariant.core.handles.none_empty) in
-    way_end _ _ _ tree c.loop-here.here _ c.loop-here.invariant.last empty c.loop-here.invariant.way
+    let empty = subtree_at-none c.loop-here.here tree (ap (λ handle. occurs handle tree) c.loop-here-test.false ∙ c.loop-here.invariant.core.handles.none_empty) in
+    path_end _ _ _ tree c.loop-here.here _ c.loop-here.invariant.last empty c.loop-here.invariant.way
 
 pub returns-clause-end : goal.returns-clause-end
 returns-clause-end g c = (c.loop-here.invariant.last, c.loop-here.invariant.next, ended g c, c.loop-here.invariant.is)
@@ -170,5 +170,5 @@ returns-clause-steps g c = counted_all g.met.C.Counter.law c.args.core.now.shape
 pub returns-clause-follows : goal.returns-clause-follows
 returns-clause-follows g c =
     let tree = c.loop-here.core.shape in
-    let empty = part_at-none c.loop-here.here tree (ap (λ handle. occurs handle tree) c.loop-here-test.false ∙ c.loop-here.invariant.core.handles.none_empty) in
+    let empty = subtree_at-none c.loop-here.here tree (ap (λ handle. occurs handle tree) c.loop-here-test.false ∙ c.loop-here.invariant.core.handles.none_empty) in
     followed_end (is_live g.K.ExpiredKey.expiration g.E.Ord.cmp c.args.time) (goal.F-post g c.args.passes.now) c.args.core.now c.loop-here.core c.loop-here.here empty c.loop-here.invariant.follows

@@ -2,7 +2,7 @@ use Rattle.std.proofs.Common.{◌≡◌, ℕ, sym, subst}
 use Rattle.std.specs.Ordering.{is_lt}
 use Rattle.i_tree.specs.Key.Descent.{DescendsBetween}
 use Rattle.i_tree.specs.Root.Live.{is_live}
-use Rattle.i_tree.specs.Core.Ways.{place_below}
+use Rattle.i_tree.specs.Rb.Place.{place_below}
 use Rattle.i_tree.proofs.key.descent.descend_to.Goals as goal
 
 pub returns-clause-all_live : goal.returns-clause-all_live

@@ -1,5 +1,5 @@
 use Rattle.std.proofs.Common.{ap}
-use Rattle.i_tree.proofs.CoreLemmas.PartHandles.{value_at}
+use Rattle.i_tree.proofs.RbLemmas.Shape.SubtreeHandles.{value_at}
 use Rattle.i_tree.proofs.key.descent.value_at.Goals as goal
 
 pub returns-clause-some : goal.returns-clause-some

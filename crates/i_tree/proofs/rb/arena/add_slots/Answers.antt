@@ -1,6 +1,6 @@
 use Rattle.std.proofs.Common.{◌≡◌, length, sym, ◌∙◌, arith}
 use Rattle.i_tree.specs.declared.rb.links.Slot.TheVariants.{Free}
-use Rattle.i_tree.proofs.CoreLemmas.RoomGrown.{Keeps-push, chain-push}
+use Rattle.i_tree.proofs.RbLemmas.Slots.Growth.{Keeps-push, chain-push}
 use Rattle.i_tree.proofs.rb.arena.add_slots.Goals as goal
 
 pub loop-number-preserved : goal.loop-number-preserved

@@ -1,6 +1,6 @@
 use Rattle.std.proofs.Common.{◌≡◌, ◌-◌, ℕ, List, vec_len, vec_capacity}
-use Rattle.i_tree.specs.Core.Room.{Keeps, with_numbers}
-use Rattle.i_tree.specs.Core.Slots.{IsChain}
+use Rattle.i_tree.specs.Rb.FreeSlots.{Keeps, with_numbers}
+use Rattle.i_tree.specs.Rb.Slots.{IsChain}
 use Rattle.i_tree.proofs.rb.arena.add_slots.Given as goal
 
 -- The slots up to the number are there, and chained.

@@ -1,7 +1,7 @@
 use Rattle.std.proofs.Common.{◌<◌, length, Some, sym, ap, ◌∙◌, rules}
 use Rattle.std.proofs.lemmas.Option.{slice_get-get_or}
-use Rattle.i_tree.proofs.CoreLemmas.Turning.{IsUsed-within, not_free, slice_get-set_same, slice_get-set_other}
-use Rattle.i_tree.proofs.CoreLemmas.Detaching.{read_item}
+use Rattle.i_tree.proofs.RbLemmas.Slots.Writes.{IsUsed-within, not_free, slice_get-set_same, slice_get-set_other}
+use Rattle.i_tree.proofs.RbLemmas.Slots.Detaching.{read_item}
 use Rattle.i_tree.proofs.rb.arena.free_slot.Goals as goal
 
 pub offset_bounds-slots-handle : goal.offset_bounds-slots-handle

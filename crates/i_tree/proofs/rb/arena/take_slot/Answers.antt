@@ -1,8 +1,8 @@
 use Rattle.std.proofs.Common.{◌<◌, length, Some, sym, ap, ◌∙◌, rules}
 use Rattle.std.proofs.lemmas.Option.{slice_get_within}
 use Rattle.i_tree.specs.declared.rb.links.Slot.TheVariants.{Free}
-use Rattle.i_tree.proofs.CoreLemmas.Turning.{slice_get-set_same, slice_get-set_other}
-use Rattle.i_tree.proofs.CoreLemmas.Room.{read_free, read_not_used}
+use Rattle.i_tree.proofs.RbLemmas.Slots.Writes.{slice_get-set_same, slice_get-set_other}
+use Rattle.i_tree.proofs.RbLemmas.Slots.FreeSlots.{read_free, read_not_used}
 use Rattle.i_tree.proofs.rb.arena.take_slot.Goals as goal
 
 pub offset_bounds-slots-handle : goal.offset_bounds-slots-handle

@@ -1,7 +1,7 @@
 use Rattle.std.proofs.Common.{rules, Some, ◌∙◌, sym, ap, ◌<◌, length}
 use Rattle.std.proofs.lemmas.Option.{slice_get-get_or}
-use Rattle.i_tree.proofs.CoreLemmas.Turning.{IsUsed-within, not_free}
-use Rattle.i_tree.specs.Core.Slots.{slot_links}
+use Rattle.i_tree.proofs.RbLemmas.Slots.Writes.{IsUsed-within, not_free}
+use Rattle.i_tree.specs.Rb.Slots.{slot_links}
 use Rattle.i_tree.proofs.rb.links.links_at.Goals as goal
 
 pub offset_bounds-slots-handle : goal.offset_bounds-slots-handle

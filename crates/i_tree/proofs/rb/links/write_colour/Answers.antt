@@ -1,7 +1,7 @@
 use Rattle.std.proofs.Common.{rules, Some, refl, ◌∙◌, ap, ◌<◌, length}
 use Rattle.std.proofs.lemmas.Option.{slice_get-get_or}
-use Rattle.i_tree.specs.Core.Slots.{with_colour}
-use Rattle.i_tree.proofs.CoreLemmas.Turning.{IsUsed-within, not_free, Relinks-set}
+use Rattle.i_tree.specs.Rb.Slots.{with_colour}
+use Rattle.i_tree.proofs.RbLemmas.Slots.Writes.{IsUsed-within, not_free, Relinks-set}
 use Rattle.i_tree.proofs.rb.links.write_colour.Goals as goal
 
 pub offset_bounds-slots-handle : goal.offset_bounds-slots-handle

@@ -31,33 +31,28 @@ loop-index-preserved-then-lt g c =
     (InChunk-removed g.V.ExpiredVal.expiration g.E.Ord.cmp c.args.time g.C.Counter.made c.args.asked c.args.node g.met.C.Counter.law c.args.steps.now c.loop-index.steps c.args.chunk.now.items c.args.index.now copies c.loop-index.index c.loop-index.invariant c.swap_remove.result within c.swap_remove.ensures.value
     c.add_test.new.self c.add_removal.new.self c.add_test.ensures c.add_removal.ensures dead)
 
-pub returns-then-lowest_node-node-clause-found : goal.returns-then-lowest_node-node-clause-found
-returns-then-lowest_node-node-clause-found g c =
-    let copy = c.index.result.now in (
-      member_of copy,
-      refl,
-      InChunk-found g.V.ExpiredVal.expiration g.E.Ord.cmp c.args.time g.C.Counter.made c.args.asked c.args.node g.met.C.Counter.law c.args.steps.now c.loop-index.steps c.args.chunk.now.items c.args.index.now c.loop-index.chunk.items c.loop-index.index c.loop-index.invariant copy (omega arith) c.index.ensures
-          (live_from_lt g.E.PartialOrd.partial_cmp g.E.Ord.cmp g.met.E.Ord.matches_partial_cmp g.V.ExpiredVal.expiration c.args.time copy.1 c.expiration.result c.expiration.ensures c.lt.result c.lt.ensures false c.if-lt.false)
-          (same_node (lowest (bit_and copy.0 c.args.asked)) c.args.node (sym c.lowest_node.ensures.value ∙ c.if-lowest_node-node.true)),
-    )
-
-pub returns-then-lowest_node-node-clause-live : goal.returns-then-lowest_node-node-clause-live
-returns-then-lowest_node-node-clause-live g c = c.loop-index.invariant.live
-
-pub returns-then-lowest_node-node-clause-loses : goal.returns-then-lowest_node-node-clause-loses
-returns-then-lowest_node-node-clause-loses g c = c.loop-index.invariant.loses
-
-pub returns-then-lowest_node-node-clause-passed : goal.returns-then-lowest_node-node-clause-passed
-returns-then-lowest_node-node-clause-passed g c =
-    let copy = c.index.result.now in
-    passed-more g.V.ExpiredVal.expiration g.E.Ord.cmp c.args.time g.C.Counter.made c.args.asked c.args.node g.met.C.Counter.law c.args.steps.now c.loop-index.steps c.args.chunk.now.items c.args.index.now c.loop-index.chunk.items c.loop-index.index c.loop-index.invariant copy (omega arith) c.index.ensures
-    (live_from_lt g.E.PartialOrd.partial_cmp g.E.Ord.cmp g.met.E.Ord.matches_partial_cmp g.V.ExpiredVal.expiration c.args.time copy.1 c.expiration.result c.expiration.ensures c.lt.result c.lt.ensures false c.if-lt.false)
-
-pub returns-then-lowest_node-node-clause-steps : goal.returns-then-lowest_node-node-clause-steps
-returns-then-lowest_node-node-clause-steps g c =
-    let copy = c.index.result.now in
-    Reads-past g.V.ExpiredVal.expiration g.E.Ord.cmp c.args.time g.C.Counter.made c.args.asked c.args.node g.met.C.Counter.law c.args.steps.now c.loop-index.steps c.args.chunk.now.items c.args.index.now c.loop-index.chunk.items c.loop-index.index c.loop-index.invariant copy (omega arith) c.index.ensures
-    c.add_test.new.self c.add_test.ensures (live_from_lt g.E.PartialOrd.partial_cmp g.E.Ord.cmp g.met.E.Ord.matches_partial_cmp g.V.ExpiredVal.expiration c.args.time copy.1 c.expiration.result c.expiration.ensures c.lt.result c.lt.ensures false c.if-lt.false)
+pub returns-then-lowest_node-node : goal.returns-then-lowest_node-node
+returns-then-lowest_node-node g c = record {
+  found =
+      let copy = c.index.result.now in (
+        member_of copy,
+        refl,
+        InChunk-found g.V.ExpiredVal.expiration g.E.Ord.cmp c.args.time g.C.Counter.made c.args.asked c.args.node g.met.C.Counter.law c.args.steps.now c.loop-index.steps c.args.chunk.now.items c.args.index.now c.loop-index.chunk.items c.loop-index.index c.loop-index.invariant copy (omega arith) c.index.ensures
+            (live_from_lt g.E.PartialOrd.partial_cmp g.E.Ord.cmp g.met.E.Ord.matches_partial_cmp g.V.ExpiredVal.expiration c.args.time copy.1 c.expiration.result c.expiration.ensures c.lt.result c.lt.ensures false c.if-lt.false)
+            (same_node (lowest (bit_and copy.0 c.args.asked)) c.args.node (sym c.lowest_node.ensures.value ∙ c.if-lowest_node-node.true)),
+      );
+  ended = λ none. cc;
+  live = c.loop-index.invariant.live;
+  loses = c.loop-index.invariant.loses;
+  passed =
+      let copy = c.index.result.now in
+      passed-more g.V.ExpiredVal.expiration g.E.Ord.cmp c.args.time g.C.Counter.made c.args.asked c.args.node g.met.C.Counter.law c.args.steps.now c.loop-index.steps c.args.chunk.now.items c.args.index.now c.loop-index.chunk.items c.loop-index.index c.loop-index.invariant copy (omega arith) c.index.ensures
+      (live_from_lt g.E.PartialOrd.partial_cmp g.E.Ord.cmp g.met.E.Ord.matches_partial_cmp g.V.ExpiredVal.expiration c.args.time copy.1 c.expiration.result c.expiration.ensures c.lt.result c.lt.ensures false c.if-lt.false);
+  steps =
+      let copy = c.index.result.now in
+      Reads-past g.V.ExpiredVal.expiration g.E.Ord.cmp c.args.time g.C.Counter.made c.args.asked c.args.node g.met.C.Counter.law c.args.steps.now c.loop-index.steps c.args.chunk.now.items c.args.index.now c.loop-index.chunk.items c.loop-index.index c.loop-index.invariant copy (omega arith) c.index.ensures
+      c.add_test.new.self c.add_test.ensures (live_from_lt g.E.PartialOrd.partial_cmp g.E.Ord.cmp g.met.E.Ord.matches_partial_cmp g.V.ExpiredVal.expiration c.args.time copy.1 c.expiration.result c.expiration.ensures c.lt.result c.lt.ensures false c.if-lt.false);
+}
 
 pub loop-index-preserved : goal.loop-index-preserved
 loop-index-preserved g c =
@@ -66,23 +61,15 @@ loop-index-preserved g c =
     c.add_test.new.self c.add_test.ensures (live_from_lt g.E.PartialOrd.partial_cmp g.E.Ord.cmp g.met.E.Ord.matches_partial_cmp g.V.ExpiredVal.expiration c.args.time copy.1 c.expiration.result c.expiration.ensures c.lt.result c.lt.ensures false c.if-lt.false)
     (other_node (lowest (bit_and copy.0 c.args.asked)) c.args.node (λ same. c.if-lowest_node-node.false (c.lowest_node.ensures.value ∙ same)))
 
-pub returns-clause-found : goal.returns-clause-found
-returns-clause-found g c =
-    let found = found_at g.V.ExpiredVal.expiration g.E.Ord.cmp (Some c.args.time) c.args.asked c.args.node in
-    nil_from_length (found (drop c.args.index.now c.args.chunk.now.items))
-    (sym (length_permutation (found (drop c.args.index.now c.args.chunk.now.items)) (found (drop c.loop-index.index c.loop-index.chunk.items)) c.loop-index.invariant.found) ∙ ap (λ (copies : List (ℕ × g.row.V.Denot)). length (found copies)) (drop_all c.loop-index.index c.loop-index.chunk.items (omega arith)))
-
-pub returns-clause-ended : goal.returns-clause-ended
-returns-clause-ended g c _ = omega arith
-
-pub returns-clause-live : goal.returns-clause-live
-returns-clause-live g c = c.loop-index.invariant.live
-
-pub returns-clause-loses : goal.returns-clause-loses
-returns-clause-loses g c = c.loop-index.invariant.loses
-
-pub returns-clause-passed : goal.returns-clause-passed
-returns-clause-passed g c = c.loop-index.invariant.passed
-
-pub returns-clause-steps : goal.returns-clause-steps
-returns-clause-steps g c = c.loop-index.invariant.steps
+pub returns : goal.returns
+returns g c = record {
+  found =
+      let found = found_at g.V.ExpiredVal.expiration g.E.Ord.cmp (Some c.args.time) c.args.asked c.args.node in
+      nil_from_length (found (drop c.args.index.now c.args.chunk.now.items))
+      (sym (length_permutation (found (drop c.args.index.now c.args.chunk.now.items)) (found (drop c.loop-index.index c.loop-index.chunk.items)) c.loop-index.invariant.found) ∙ ap (λ (copies : List (ℕ × g.row.V.Denot)). length (found copies)) (drop_all c.loop-index.index c.loop-index.chunk.items (omega arith)));
+  ended = λ _. omega arith;
+  live = c.loop-index.invariant.live;
+  loses = c.loop-index.invariant.loses;
+  passed = c.loop-index.invariant.passed;
+  steps = c.loop-index.invariant.steps;
+}

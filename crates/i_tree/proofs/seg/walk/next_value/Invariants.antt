@@ -1,7 +1,7 @@
 use Rattle.std.proofs.Common.{length}
 use Rattle.i_tree.specs.Seg.Copies.{copies_in}
 use Rattle.i_tree.specs.Seg.Nodes.{nodes_of}
-use Rattle.i_tree.proofs.SegLemmas.NodesWalk.{InChunks}
+use Rattle.i_tree.proofs.SegLemmas.ChunksWalk.{InChunks}
 use Rattle.i_tree.proofs.seg.walk.next_value.Given as goal
 
 abbrev pub invariant-loop-cursor : goal.invariant-loop-cursor

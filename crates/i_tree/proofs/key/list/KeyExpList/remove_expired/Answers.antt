@@ -1,4 +1,4 @@
-use Rattle.std.proofs.Common.{◌≡◌, sym, subst, ap, ◌∙◌, length, arith}
+use Rattle.std.proofs.Common.{◌≡◌, ◌+◌, ◌-◌, sym, subst, ap, ◌∙◌, length, vec_capacity, vec_len, arith, rules}
 use Rattle.std.specs.declared.cmp.Ordering.TheVariants.{Less}
 use Rattle.std.proofs.lemmas.List.Kept.{AllPairs-filter}
 use Rattle.i_tree.specs.Root.Change.{Without}
@@ -14,8 +14,8 @@ all_live g c =
     let early = sym (ge_from_cmp g.E.PartialOrd.partial_cmp g.E.Ord.cmp g.met.E.Ord.matches_partial_cmp c.self.inside.earliest c.args.time) ∙ sym c.ge.ensures ∙ c.if-ge.true in
     rw (← c.self.view_is) (live_pairs-early g.met.E.Ord.total g.K.ExpiredKey.expiration c.self.inside.earliest c.args.time c.self.inside.pairs.items early c.self.invariant.1)
 
-pub returns-then-ge-clause-live : goal.returns-then-ge-clause-live
-returns-then-ge-clause-live g c = sym (all_live g c)
+pub returns-then-ge-clause-leaves : goal.returns-then-ge-clause-leaves
+returns-then-ge-clause-leaves g c = record { keeps_live = sym (all_live g c); room = search rules }
 
 pub returns-then-ge-clause-kept : goal.returns-then-ge-clause-kept
 returns-then-ge-clause-kept g c =
@@ -37,11 +37,16 @@ invariant_of-self g c =
 pub returns-clause-rising : goal.returns-clause-rising
 returns-clause-rising g c = kept_rising g c
 
-pub returns-clause-room : goal.returns-clause-room
-returns-clause-room g c =
+-- the pairs that went left their room
+room : (g : _) (c : goal.After-self-1 g) → length c.keep_live.new.pairs.items + (vec_capacity c.keep_live.new.pairs - vec_len c.keep_live.new.pairs) ≡ length c.args.self.now.pairs + c.args.self.now.spare
+room g c =
     let shorter = length-filter_le (λ pair. is_live g.K.ExpiredKey.expiration g.E.Ord.cmp c.args.time pair.0) c.self.inside.pairs.items in
     rw (← c.self.view_is)
     (omega (arith, shorter, ap length c.keep_live.ensures.live, c.keep_live.ensures.capacity, c.self.inside.pairs.ok.0, c.self.inside.pairs.ok.1, c.keep_live.new.pairs.ok.0, c.keep_live.new.pairs.ok.1))
+
+pub returns-clause-leaves : goal.returns-clause-leaves
+returns-clause-leaves g c =
+    record { keeps_live = rw (← c.self.view_is) c.keep_live.ensures.live; room = room g c }
 
 pub returns-clause-kept : goal.returns-clause-kept
 returns-clause-kept g c =

@@ -6,7 +6,7 @@ use Rattle.i_tree.proofs.key.list.KeyExpListKeyExpCollection.first_less.Goals as
 -- what is searched is what is live
 pub returns-clause-value : goal.returns-clause-value
 returns-clause-value g c =
-    subst (λ pairs. Below g.K.Ord.cmp pairs c.args.key c.args.default c.value_below.result) (c.deref.ensures.value ∙ ap (λ list. list.pairs) c.self.view_is ∙ c.remove_expired.ensures.live) c.value_below.ensures
+    subst (λ pairs. Below g.K.Ord.cmp pairs c.args.key c.args.default c.value_below.result) (c.deref.ensures.value ∙ ap (λ list. list.pairs) c.self.view_is ∙ c.remove_expired.ensures.leaves.keeps_live) c.value_below.ensures
 
 pub value_below-requires : goal.value_below-requires
 value_below-requires g c = subst (IsRising g.K.Ord.cmp) (sym c.deref.ensures.value) c.self.invariant.0
@@ -14,11 +14,8 @@ value_below-requires g c = subst (IsRising g.K.Ord.cmp) (sym c.deref.ensures.val
 pub returns-clause-kept : goal.returns-clause-kept
 returns-clause-kept g c = c.remove_expired.ensures.kept
 
-pub returns-clause-keeps_live : goal.returns-clause-keeps_live
-returns-clause-keeps_live g c = c.remove_expired.ensures.live
+pub returns-clause-leaves : goal.returns-clause-leaves
+returns-clause-leaves g c = c.remove_expired.ensures.leaves
 
 pub returns-clause-rising : goal.returns-clause-rising
 returns-clause-rising g c = c.remove_expired.ensures.rising
-
-pub returns-clause-room : goal.returns-clause-room
-returns-clause-room g c = c.remove_expired.ensures.room

@@ -1,10 +1,11 @@
-use Rattle.std.proofs.Common.{◌≡◌, ◌≢◌, ◌+◌, ◌-◌, ◌<◌, ◌≤◌, ℕ, length, sym, subst, ap, ◌∙◌, arith}
+use Rattle.std.proofs.Common.{◌≡◌, ◌≢◌, ◌+◌, ◌-◌, ◌<◌, ◌≤◌, ℕ, length, refl, sym, subst, ap, ◌∙◌, arith}
 use Rattle.std.specs.List.{insert}
 use Rattle.std.specs.declared.cmp.Ordering.TheVariants.{Less}
 use Rattle.std.specs.List.Sorted.{IsPartitionPoint}
 use Rattle.std.proofs.lemmas.Result.{MatchResult-from_err, err_from_is_err_and}
 use Rattle.i_tree.specs.Key.Live.{live_pairs, NoneExpiresBefore}
 use Rattle.i_tree.specs.Root.Live.{is_live}
+use Rattle.i_tree.specs.Root.Change.{Joins}
 use Rattle.i_tree.specs.Root.Pairs.{IsRising, NoKey}
 use Rattle.i_tree.proofs.RootLemmas.RisingKeys.{IsRising-insert, same_contents}
 use Rattle.i_tree.proofs.RootLemmas.Lists.{filter_same_length, length-filter_le, length-filter_lt, Without-filter}
@@ -18,27 +19,36 @@ full g c = sym (ap (λ list. list.spare) c.self.view_is) ∙ omega (arith, (c.in
 nothing_went : (g : _) (c : goal.After-from_residual g) → c.remove_expired.new.self.pairs ≡ c.args.self.now.pairs
 nothing_went g c =
     let live = λ (pair : g.row.K.Denot × g.row.V.Denot). is_live g.K.ExpiredKey.expiration g.E.Ord.cmp c.args.time pair.0 in
-    c.remove_expired.ensures.live ∙ filter_same_length live c.args.self.now.pairs (omega (arith, full g c, c.remove_expired.ensures.room, ap length c.remove_expired.ensures.live, length-filter_le live c.args.self.now.pairs))
+    c.remove_expired.ensures.leaves.keeps_live ∙ filter_same_length live c.args.self.now.pairs (omega (arith, full g c, c.remove_expired.ensures.leaves.room, ap length c.remove_expired.ensures.leaves.keeps_live, length-filter_le live c.args.self.now.pairs))
 
-pub returns-in_err-reserve-clause-with_spare : goal.returns-in_err-reserve-clause-with_spare
-returns-in_err-reserve-clause-with_spare g c room =
-    absurd (omega (arith, full g c, c.remove_expired.ensures.room, ap length (nothing_went g c)))
+none_spare : (g : _) (c : goal.After-from_residual g) → c.args.self.now.spare ≡ 0
+none_spare g c = omega (arith, full g c, c.remove_expired.ensures.leaves.room, ap length (nothing_went g c))
 
-pub returns-in_err-reserve-clause-with_expired : goal.returns-in_err-reserve-clause-with_expired
-returns-in_err-reserve-clause-with_expired g c expired =
+pub returns-in_err-reserve-clause-with_room : goal.returns-in_err-reserve-clause-with_room
+returns-in_err-reserve-clause-with_room g c few = absurd (omega (arith, few, none_spare g c))
+
+pub returns-in_err-reserve-clause-inserts : goal.returns-in_err-reserve-clause-inserts
+returns-in_err-reserve-clause-inserts g c =
     let live = λ (pair : g.row.K.Denot × g.row.V.Denot). is_live g.K.ExpiredKey.expiration g.E.Ord.cmp c.args.time pair.0 in
-    absurd (omega (arith, length-filter_lt live c.args.self.now.pairs expired, ap length c.remove_expired.ensures.live, ap length (nothing_went g c)))
+    record {
+      joins_live = MatchResult-from_err c.from_residual.result _ _ c.from_residual.ensures.0 (λ _. tt);
+      err = MatchResult-from_err c.from_residual.result _ _ c.from_residual.ensures.0 (λ _.
+          same_contents
+          ((c.in_err-reserve.ensures).items ∙ ap (λ list. list.pairs) c.self.view_is ∙ nothing_went g c)
+          (omega (arith, full g c, c.remove_expired.ensures.leaves.room, ap length (nothing_went g c), (c.in_err-reserve.ensures).err, (c.in_err-reserve.ensures).full, (c.in_err-reserve.ensures).len, c.self.inside.pairs.ok.1)));
+      refused = let p = err_from_is_err_and c.from_residual.result c.from_residual.ensures.1 in rw p.1 p.2;
+      with_spare = λ room. absurd (omega (arith, room, none_spare g c));
+      with_expired = λ expired. absurd (omega (arith, length-filter_lt live c.args.self.now.pairs expired, ap length c.remove_expired.ensures.leaves.keeps_live, ap length (nothing_went g c)));
+    }
 
 pub returns-in_err-reserve-clause-err : goal.returns-in_err-reserve-clause-err
 returns-in_err-reserve-clause-err g c =
     MatchResult-from_err c.from_residual.result _ _ c.from_residual.ensures.0 (λ _.
-    same_contents
-    ((c.in_err-reserve.ensures).items ∙ ap (λ list. list.pairs) c.self.view_is ∙ nothing_went g c)
-    (omega (arith, full g c, c.remove_expired.ensures.room, ap length (nothing_went g c), (c.in_err-reserve.ensures).err, (c.in_err-reserve.ensures).full, (c.in_err-reserve.ensures).len, c.self.inside.pairs.ok.1)))
+    (c.in_err-reserve.ensures).items ∙ ap (λ list. list.pairs) c.self.view_is ∙ nothing_went g c)
 
 -- what an insertion that has room leaves: the pair has joined the live ones at its place
 live_items : (g : _) (c : goal.After-self-1 g) → c.self.inside.pairs.items ≡ live_pairs g.K.ExpiredKey.expiration g.E.Ord.cmp c.args.time c.args.self.now.pairs
-live_items g c = ap (λ list. list.pairs) c.self.view_is ∙ c.remove_expired.ensures.live
+live_items g c = ap (λ list. list.pairs) c.self.view_is ∙ c.remove_expired.ensures.leaves.keeps_live
 
 slice_items : (g : _) (c : goal.After-self-1 g) → c.deref.result.now ≡ c.self.inside.pairs.items
 slice_items g c = c.deref.ensures.value ∙ (c.in_ok-reserve.ensures).items
@@ -46,14 +56,18 @@ slice_items g c = c.deref.ensures.value ∙ (c.in_ok-reserve.ensures).items
 inserted : (g : _) (c : goal.After-self-1 g) → c.insert_at.new.items.items ≡ insert c.self.inside.pairs.items c.place_of-place.result (c.args.key, c.args.val)
 inserted g c = c.insert_at.ensures.items ∙ ap (λ pairs. insert pairs c.place_of-place.result (c.args.key, c.args.val)) (c.in_ok-reserve.ensures).items
 
-pub returns-clause-joins_live : goal.returns-clause-joins_live
-returns-clause-joins_live g c =
+joins_live : (g : _) (c : goal.After-self-1 g) → Joins (c.args.key, c.args.val) (live_pairs g.K.ExpiredKey.expiration g.E.Ord.cmp c.args.time c.args.self.now.pairs) c.insert_at.new.items.items
+joins_live g c =
     (c.place_of-place.result, omega (arith, c.place_of-place.ensures.within, ap length (slice_items g c), ap length (live_items g c)), inserted g c ∙ ap (λ pairs. insert pairs c.place_of-place.result (c.args.key, c.args.val)) (live_items g c))
+
+pub returns-clause-inserts : goal.returns-clause-inserts
+returns-clause-inserts g c =
+    record { joins_live = joins_live g c; err = tt; refused = tt; with_spare = λ room. refl; with_expired = λ expired. refl }
 
 pub returns-clause-ok : goal.returns-clause-ok
 returns-clause-ok g c =
     let live = λ (pair : g.row.K.Denot × g.row.V.Denot). is_live g.K.ExpiredKey.expiration g.E.Ord.cmp c.args.time pair.0 in
-    (live_pairs g.K.ExpiredKey.expiration g.E.Ord.cmp c.args.time c.args.self.now.pairs, Without-filter live c.args.self.now.pairs, returns-clause-joins_live g c)
+    (live_pairs g.K.ExpiredKey.expiration g.E.Ord.cmp c.args.time c.args.self.now.pairs, Without-filter live c.args.self.now.pairs, joins_live g c)
 
 rising : (g : _) (c : goal.After-self-1 g) → IsRising g.K.Ord.cmp c.insert_at.new.items.items
 rising g c =
@@ -82,14 +96,8 @@ invariant_of-self g c =
 pub returns-in_err-reserve-clause-ok : goal.returns-in_err-reserve-clause-ok
 returns-in_err-reserve-clause-ok g c = MatchResult-from_err c.from_residual.result _ _ c.from_residual.ensures.0 (λ _. tt)
 
-pub returns-in_err-reserve-clause-joins_live : goal.returns-in_err-reserve-clause-joins_live
-returns-in_err-reserve-clause-joins_live g c = MatchResult-from_err c.from_residual.result _ _ c.from_residual.ensures.0 (λ _. tt)
-
 pub returns-in_err-reserve-clause-rising : goal.returns-in_err-reserve-clause-rising
 returns-in_err-reserve-clause-rising g c = (invariant_of-self g c).0
-
-pub returns-in_err-reserve-clause-refused : goal.returns-in_err-reserve-clause-refused
-returns-in_err-reserve-clause-refused g c = let p = err_from_is_err_and c.from_residual.result c.from_residual.ensures.1 in rw p.1 p.2
 
 pub place_of-place-requires : goal.place_of-place-requires
 place_of-place-requires g c =
@@ -113,12 +121,12 @@ has_one len cap fits = omega arith
 
 pub returns-in_err-reserve-clause-room : goal.returns-in_err-reserve-clause-room
 returns-in_err-reserve-clause-room g c =
-    let room = all_room _ _ _ _ _ _ _ c.remove_expired.ensures.room (ap (λ list. length list.pairs) c.self.view_is) c.self.inside.pairs.ok.0 c.self.inside.pairs.ok.1 (ap (λ list. list.spare) c.self.view_is) in
+    let room = all_room _ _ _ _ _ _ _ c.remove_expired.ensures.leaves.room (ap (λ list. length list.pairs) c.self.view_is) c.self.inside.pairs.ok.0 c.self.inside.pairs.ok.1 (ap (λ list. list.spare) c.self.view_is) in
     of_capacity _ _ _ _ _ room c.reserve.ensures.capacity c.reserve.new.self.ok.0 c.reserve.new.self.ok.1
 
 pub returns-clause-room : goal.returns-clause-room
 returns-clause-room g c =
-    let room = all_room _ _ _ _ _ _ _ c.remove_expired.ensures.room (ap (λ list. length list.pairs) c.self.view_is) c.self.inside.pairs.ok.0 c.self.inside.pairs.ok.1 (ap (λ list. list.spare) c.self.view_is) in
+    let room = all_room _ _ _ _ _ _ _ c.remove_expired.ensures.leaves.room (ap (λ list. length list.pairs) c.self.view_is) c.self.inside.pairs.ok.0 c.self.inside.pairs.ok.1 (ap (λ list. list.spare) c.self.view_is) in
     of_capacity _ _ _ _ _ room (grown _ _ _ c.reserve.ensures.capacity c.insert_at.ensures.capacity) c.insert_at.new.items.ok.0 c.insert_at.new.items.ok.1
 
 pub insert_at-requires-clause-within : goal.insert_at-requires-clause-within

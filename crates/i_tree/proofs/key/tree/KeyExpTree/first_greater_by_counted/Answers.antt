@@ -9,9 +9,9 @@ use Rattle.i_tree.specs.Root.Descent.{Descends}
 use Rattle.i_tree.specs.Key.KeyExpTree.{items}
 use Rattle.i_tree.specs.Key.Live.{live_pairs, IsExpired}
 use Rattle.i_tree.specs.Root.Live.{is_live}
-use Rattle.i_tree.specs.Core.RbTree.{Contents, slots}
-use Rattle.i_tree.specs.Core.Ways.{place_below}
-use Rattle.i_tree.specs.Core.Shape.{entries}
+use Rattle.i_tree.specs.Rb.RbTree.{Contents, slots}
+use Rattle.i_tree.specs.Rb.Place.{place_below}
+use Rattle.i_tree.specs.Rb.Shape.{entries}
 use Rattle.i_tree.proofs.key.tree.KeyExpTree.first_greater_by_counted.Goals as goal
 
 pub returns-clause-value : goal.returns-clause-value

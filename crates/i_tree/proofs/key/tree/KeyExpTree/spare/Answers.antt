@@ -1,5 +1,5 @@
 use Rattle.std.proofs.Common.{ap, ◌∙◌}
-use Rattle.i_tree.specs.Core.RbTree.{Contents}
+use Rattle.i_tree.specs.Rb.RbTree.{Contents}
 use Rattle.i_tree.proofs.key.tree.KeyExpTree.spare.Goals as goal
 
 pub returns-clause-value : goal.returns-clause-value

@@ -2,11 +2,11 @@ use Rattle.std.proofs.Common.{◌≡◌, ◌-◌, ℕ, List, ◌∷◌, length, 
 use Rattle.i_tree.specs.declared.rb.links.Colour.{Colour}
 use Rattle.i_tree.specs.declared.rb.links.Colour.TheVariants.{Red}
 use Rattle.i_tree.specs.declared.rb.links.Slot.{Slot}
-use Rattle.i_tree.specs.Core.Context.{Frame, fork_on, plug}
-use Rattle.i_tree.specs.Core.Shape.{Shape, leaf, fork, occurs}
-use Rattle.i_tree.specs.Core.Slots.{IsSound, Relinks, with_child_link, read_tree}
-use Rattle.i_tree.proofs.CoreLemmas.Placed.{AreHandles-sound}
-use Rattle.i_tree.proofs.CoreLemmas.Room.{head_of, head_fresh, parent_used, sound-attached, written_back, read_back, sound_back}
+use Rattle.i_tree.specs.Rb.Context.{Frame, fork_on, plug}
+use Rattle.i_tree.specs.Rb.Shape.{Shape, leaf, fork, occurs}
+use Rattle.i_tree.specs.Rb.Slots.{IsSound, Relinks, with_child_link, read_tree}
+use Rattle.i_tree.proofs.RbLemmas.Slots.Layout.{AreHandles-sound}
+use Rattle.i_tree.proofs.RbLemmas.Slots.FreeSlots.{head_of, head_fresh, parent_used, sound-attached, written_back, read_back, sound_back}
 use Rattle.i_tree.proofs.rb.arena.Arena.attach.Goals as goal
 
 pub take_slot-handle-requires : goal.take_slot-handle-requires

@@ -1,9 +1,9 @@
 use Rattle.std.proofs.Common.{◌≡◌, ◌-◌, ℕ, length, slice_get, sym, ap, ◌∙◌, subst, arith}
 use Rattle.i_tree.specs.declared.rb.links.Colour.TheVariants.{Black}
-use Rattle.i_tree.specs.Core.Shape.{Shape, leaf, fork}
-use Rattle.i_tree.specs.Core.Slots.{IsSound}
-use Rattle.i_tree.proofs.CoreLemmas.Placed.{AreHandles-sound}
-use Rattle.i_tree.proofs.CoreLemmas.Room.{head_of, sound-rooted, written_back, read_back, sound_back}
+use Rattle.i_tree.specs.Rb.Shape.{Shape, leaf, fork}
+use Rattle.i_tree.specs.Rb.Slots.{IsSound}
+use Rattle.i_tree.proofs.RbLemmas.Slots.Layout.{AreHandles-sound}
+use Rattle.i_tree.proofs.RbLemmas.Slots.FreeSlots.{head_of, sound-rooted, written_back, read_back, sound_back}
 use Rattle.i_tree.proofs.rb.arena.Arena.attach_root.Goals as goal
 
 pub take_slot-handle-requires : goal.take_slot-handle-requires

@@ -1,5 +1,5 @@
 use Rattle.std.proofs.Common.{◌∙◌}
-use Rattle.i_tree.proofs.CoreLemmas.TurningReads.{IsSound-view, IsUsed-sound, child_at}
+use Rattle.i_tree.proofs.RbLemmas.Slots.Reads.{IsSound-view, IsUsed-sound, child_at}
 use Rattle.i_tree.proofs.rb.arena.Arena.child.Goals as goal
 
 pub links_at-requires : goal.links_at-requires

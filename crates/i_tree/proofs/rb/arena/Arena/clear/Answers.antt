@@ -1,11 +1,11 @@
 use Rattle.std.proofs.Common.{arith}
 use Rattle.i_tree.specs.declared.rb.links.Side.TheVariants.{Left}
-use Rattle.i_tree.specs.Core.Shape.{leaf}
-use Rattle.i_tree.proofs.CoreLemmas.Clearing.{IsLive-childless, HasLost-detached}
+use Rattle.i_tree.specs.Rb.Shape.{leaf}
+use Rattle.i_tree.proofs.RbLemmas.Slots.Clear.{IsHandle-childless, HasLost-detached}
 use Rattle.i_tree.proofs.rb.arena.Arena.clear.Goals as goal
 
 pub parent-here-requires : goal.parent-here-requires
-parent-here-requires g c = IsLive-childless c.loop-here.self.shape c.childless_below-last.result c.childless_below-last.ensures
+parent-here-requires g c = IsHandle-childless c.loop-here.self.shape c.childless_below-last.result c.childless_below-last.ensures
 
 pub loop-here-smaller : goal.loop-here-smaller
 loop-here-smaller g c =

@@ -1,14 +1,14 @@
 use Rattle.std.proofs.Common.{◌≡◌, ◌+◌, List, length, slice_get, sym, ap, ◌∙◌}
 use Rattle.i_tree.specs.declared.rb.links.Colour.{Colour}
 use Rattle.i_tree.specs.declared.rb.links.Side.{Side}
-use Rattle.i_tree.specs.Core.Context.{Frame, fork_on, plug}
-use Rattle.i_tree.specs.Core.Shape.{Shape, leaf}
-use Rattle.i_tree.specs.Core.Slots.{IsSound}
-use Rattle.i_tree.proofs.CoreLemmas.Placed.{AreHandles-sound}
-use Rattle.i_tree.proofs.CoreLemmas.Room.{written_back, read_back, sound_back}
-use Rattle.i_tree.proofs.CoreLemmas.TurningReads.{IsSound-view, IsSound-as, node_at}
-use Rattle.i_tree.proofs.CoreLemmas.TurningRound.{used_by}
-use Rattle.i_tree.proofs.CoreLemmas.Detaching.{OnlyPart, alone_in, lent_again, hung_used, part_used, own_kept, own_used, sound-left}
+use Rattle.i_tree.specs.Rb.Context.{Frame, fork_on, plug}
+use Rattle.i_tree.specs.Rb.Shape.{Shape, leaf}
+use Rattle.i_tree.specs.Rb.Slots.{IsSound}
+use Rattle.i_tree.proofs.RbLemmas.Slots.Layout.{AreHandles-sound}
+use Rattle.i_tree.proofs.RbLemmas.Slots.FreeSlots.{written_back, read_back, sound_back}
+use Rattle.i_tree.proofs.RbLemmas.Slots.Reads.{IsSound-view, IsSound-as, node_at}
+use Rattle.i_tree.proofs.RbLemmas.Slots.RotationSteps.{used_by}
+use Rattle.i_tree.proofs.RbLemmas.Slots.Detaching.{OnlySubtree, alone_in, lent_again, hung_used, subtree_used, own_kept, own_used, sound-left}
 use Rattle.i_tree.proofs.rb.arena.Arena.detach.Goals.{then-links, else-links}
 use Rattle.i_tree.proofs.rb.arena.Arena.detach.Goals as goal
 
@@ -25,22 +25,22 @@ replace_child-requires g c =
 pub set_parent-requires : goal.set_parent-requires
 set_parent-requires g c =
     let lies = alone_in c.self.inside.slots.items _ _ _ c.args.self.now.shape c.args.handle c.requires (IsSound-view _ _ _ _ _ c.args.self.now c.self.invariant c.self.view_is) in
-    let only : OnlyPart c.links_at-links.result c.if-links.part = elim c.if-links.branch [
-      | then-links w ↦ record { none = λ _. w.part-is; some = λ some. absurd (some w.if-links.true) }
-      | else-links w ↦ record { none = λ none. absurd (w.if-links.false none); some = λ _. w.part-is }
+    let only : OnlySubtree c.links_at-links.result c.if-links.subtree = elim c.if-links.branch [
+      | then-links w ↦ record { none = λ _. w.subtree-is; some = λ some. absurd (some w.if-links.true) }
+      | else-links w ↦ record { none = λ none. absurd (w.if-links.false none); some = λ _. w.subtree-is }
     ] in
     let lent = lent_again c.self.inside.slots.len c.self.inside.slots.items c.replace_child.new.slots c.deref_mut-2.result.now
     (c.replace_child.auto.slots ∙ ap length c.deref_mut.ensures.value) c.self.inside.slots.ok.0 c.deref_mut-2.ensures.value in
     rw lent
-    (part_used _ c.replace_child.new.slots _ _ _ _ _ _ _ _ c.links_at-links.result c.if-links.part lies (rw c.deref.ensures.value at c.links_at-links.ensures) only
+    (subtree_used _ c.replace_child.new.slots _ _ _ _ _ _ _ _ c.links_at-links.result c.if-links.subtree lies (rw c.deref.ensures.value at c.links_at-links.ensures) only
     (rw c.deref_mut.ensures.value at c.replace_child.ensures))
 
 pub free_slot-item-requires : goal.free_slot-item-requires
 free_slot-item-requires g c =
     let lies = alone_in c.self.inside.slots.items _ _ _ c.args.self.now.shape c.args.handle c.requires (IsSound-view _ _ _ _ _ c.args.self.now c.self.invariant c.self.view_is) in
-    let only : OnlyPart c.links_at-links.result c.if-links.part = elim c.if-links.branch [
-      | then-links w ↦ record { none = λ _. w.part-is; some = λ some. absurd (some w.if-links.true) }
-      | else-links w ↦ record { none = λ none. absurd (w.if-links.false none); some = λ _. w.part-is }
+    let only : OnlySubtree c.links_at-links.result c.if-links.subtree = elim c.if-links.branch [
+      | then-links w ↦ record { none = λ _. w.subtree-is; some = λ some. absurd (some w.if-links.true) }
+      | else-links w ↦ record { none = λ none. absurd (w.if-links.false none); some = λ _. w.subtree-is }
     ] in
     let lent = lent_again c.self.inside.slots.len c.self.inside.slots.items c.replace_child.new.slots c.deref_mut-2.result.now
     (c.replace_child.auto.slots ∙ ap length c.deref_mut.ensures.value) c.self.inside.slots.ok.0 c.deref_mut-2.ensures.value in
@@ -49,14 +49,14 @@ free_slot-item-requires g c =
     (c.set_parent.auto.slots ∙ sym long)
     (c.self.inside.slots.ok.0 ∙ sym (long ∙ ap length lent ∙ c.replace_child.auto.slots ∙ ap length c.deref_mut.ensures.value)) c.deref_mut-3.ensures.value in
     rw again
-    (own_used _ c.replace_child.new.slots c.set_parent.new.slots _ _ _ _ _ _ _ _ c.links_at-links.result c.if-links.part lies (rw c.deref.ensures.value at c.links_at-links.ensures) only
+    (own_used _ c.replace_child.new.slots c.set_parent.new.slots _ _ _ _ _ _ _ _ c.links_at-links.result c.if-links.subtree lies (rw c.deref.ensures.value at c.links_at-links.ensures) only
     (rw c.deref_mut.ensures.value at c.replace_child.ensures) (rw lent at c.set_parent.ensures))
 
--- the part that the code read is the only one
-only_part : (g : _) (c : goal.After-self-5-1 g) → OnlyPart c.links_at-links.result c.if-links.part
-only_part g c = elim c.if-links.branch [
-  | then-links w ↦ record { none = λ _. w.part-is; some = λ some. absurd (some w.if-links.true) }
-  | else-links w ↦ record { none = λ none. absurd (w.if-links.false none); some = λ _. w.part-is }
+-- the subtree that the code read is the only one
+only_subtree : (g : _) (c : goal.After-self-5-1 g) → OnlySubtree c.links_at-links.result c.if-links.subtree
+only_subtree g c = elim c.if-links.branch [
+  | then-links w ↦ record { none = λ _. w.subtree-is; some = λ some. absurd (some w.if-links.true) }
+  | else-links w ↦ record { none = λ none. absurd (w.if-links.false none); some = λ _. w.subtree-is }
 ]
 
 -- the slots after each step, as they are lent to the next
@@ -77,15 +77,15 @@ third_long : (g : _) (c : goal.After-self-5-1 g) → length c.deref_mut-3.result
 third_long g c = ap length (third_lent g c) ∙ c.set_parent.auto.slots ∙ second_long g c
 
 -- the node is out of the tree, and its slot before the free ones
-detached : (g : _) (c : goal.After-self-5-1 g) (side : Side) (colour : Colour) (part : Shape g.row.T.Denot) (item : g.row.T.Denot) (around : List (Frame g.row.T.Denot))
-    → c.args.self.now.shape ≡ plug around (fork_on side colour part c.args.handle item leaf)
-    → IsSound c.free_slot-item.new.slots c.replace_child.new.root c.args.handle (c.self.inside.free + 1) (plug around part)
-detached g c side colour part item around is =
-    let sound = IsSound-as _ _ _ _ _ (plug around (fork_on side colour part c.args.handle item leaf)) is
+detached : (g : _) (c : goal.After-self-5-1 g) (side : Side) (colour : Colour) (subtree : Shape g.row.T.Denot) (item : g.row.T.Denot) (around : List (Frame g.row.T.Denot))
+    → c.args.self.now.shape ≡ plug around (fork_on side colour subtree c.args.handle item leaf)
+    → IsSound c.free_slot-item.new.slots c.replace_child.new.root c.args.handle (c.self.inside.free + 1) (plug around subtree)
+detached g c side colour subtree item around is =
+    let sound = IsSound-as _ _ _ _ _ (plug around (fork_on side colour subtree c.args.handle item leaf)) is
     (IsSound-view _ _ _ _ _ c.args.self.now c.self.invariant c.self.view_is) in
     sound-left c.self.inside.slots.items c.replace_child.new.slots c.set_parent.new.slots c.free_slot-item.new.slots
-    c.self.inside.root c.replace_child.new.root c.self.inside.first_free c.self.inside.free around side colour part c.args.handle item
-    c.links_at-links.result c.if-links.part sound (rw c.deref.ensures.value at c.links_at-links.ensures) (only_part g c)
+    c.self.inside.root c.replace_child.new.root c.self.inside.first_free c.self.inside.free around side colour subtree c.args.handle item
+    c.links_at-links.result c.if-links.subtree sound (rw c.deref.ensures.value at c.links_at-links.ensures) (only_subtree g c)
     (rw c.deref_mut.ensures.value at c.replace_child.ensures) (rw (second_lent g c) at c.set_parent.ensures)
     c.free_slot-item.ensures.freed
     (λ other apart. c.free_slot-item.ensures.others other apart ∙ ap (λ list. slice_get list other) (third_lent g c))
@@ -97,21 +97,21 @@ invariant_of-self g c =
     let long = ap length (sym c.deref_mut-3.ensures.value) in
     sound_back _ _ _ _ _ _
     (written_back _ _ _ (c.free_slot-item.auto.slots ∙ sym long) (c.self.inside.slots.ok.0 ∙ sym (long ∙ third_long g c)))
-    (detached g c room.side room.colour room.part room.item room.around room.is)
+    (detached g c room.side room.colour room.subtree room.item room.around room.is)
 
 pub returns-clause-shape : goal.returns-clause-shape
-returns-clause-shape g c side colour part item around is =
+returns-clause-shape g c side colour subtree item around is =
     let long = ap length (sym c.deref_mut-3.ensures.value) in
     read_back _ _ _ _ _ _
     (written_back _ _ _ (c.free_slot-item.auto.slots ∙ sym long) (c.self.inside.slots.ok.0 ∙ sym (long ∙ third_long g c)))
-    (detached g c side colour part item around is)
+    (detached g c side colour subtree item around is)
 
 pub returns-clause-item : goal.returns-clause-item
 returns-clause-item g c around colour before item after is =
     let sound = IsSound-view _ _ _ _ _ c.args.self.now c.self.invariant c.self.view_is in
     let lies = alone_in c.self.inside.slots.items _ _ _ c.args.self.now.shape c.args.handle c.requires sound in
-    let kept = own_kept _ c.replace_child.new.slots c.set_parent.new.slots _ _ _ _ _ _ _ _ c.links_at-links.result c.if-links.part lies
-    (rw c.deref.ensures.value at c.links_at-links.ensures) (only_part g c)
+    let kept = own_kept _ c.replace_child.new.slots c.set_parent.new.slots _ _ _ _ _ _ _ _ c.links_at-links.result c.if-links.subtree lies
+    (rw c.deref.ensures.value at c.links_at-links.ensures) (only_subtree g c)
     (rw c.deref_mut.ensures.value at c.replace_child.ensures) (rw (second_lent g c) at c.set_parent.ensures) in
     c.free_slot-item.ensures.item _ item
     (ap (λ list. slice_get list c.args.handle) (third_lent g c) ∙ kept

@@ -1,7 +1,7 @@
 use Rattle.std.proofs.Common.{◌∙◌, sym, ap, Some}
 use Rattle.std.proofs.lemmas.Bool.{ltb-true}
 use Rattle.std.proofs.lemmas.Option.{slice_get-get_or}
-use Rattle.i_tree.proofs.CoreLemmas.TurningReads.{IsSound-view, live_used, none_free}
+use Rattle.i_tree.proofs.RbLemmas.Slots.Reads.{IsSound-view, live_used, none_free}
 use Rattle.i_tree.proofs.rb.arena.Arena.has.Goals as goal
 
 pub returns-in-Some-Used : goal.returns-in-Some-Used

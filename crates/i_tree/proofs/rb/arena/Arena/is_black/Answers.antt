@@ -3,9 +3,9 @@ use Rattle.i_tree.specs.contracts.rb.links.Colour.{the_type}
 use denote.Enum.Bare.{sameb}
 use Rattle.i_tree.specs.declared.rb.links.Colour.{Colour}
 use Rattle.i_tree.specs.declared.rb.links.Colour.TheVariants.{Red, Black}
-use Rattle.i_tree.specs.Core.Balance.{is_black_colour}
-use Rattle.i_tree.proofs.CoreLemmas.Placed.{AreHandles-sound}
-use Rattle.i_tree.proofs.CoreLemmas.TurningReads.{IsSound-view, IsUsed-sound, black_at, black_at_none}
+use Rattle.i_tree.specs.Rb.Balance.{is_black_colour}
+use Rattle.i_tree.proofs.RbLemmas.Slots.Layout.{AreHandles-sound}
+use Rattle.i_tree.proofs.RbLemmas.Slots.Reads.{IsSound-view, IsUsed-sound, black_at, black_at_none}
 use Rattle.i_tree.proofs.rb.arena.Arena.is_black.Goals as goal
 
 same_as_black : (colour : Colour) → sameb the_type colour Black ≡ is_black_colour colour
@@ -19,15 +19,15 @@ links_at-requires g c =
 
 pub returns-then-handle-eq-EMPTY_REF-clause-value :
     goal.returns-then-handle-eq-EMPTY_REF-clause-value
-returns-then-handle-eq-EMPTY_REF-clause-value g c = λ around part is here.
+returns-then-handle-eq-EMPTY_REF-clause-value g c = λ around subtree is here.
     let sound = IsSound-view _ _ _ _ _ c.args.self.now c.self.invariant c.self.view_is in
     eq-eqb c.args.handle 4294967295 c.if-handle-eq-EMPTY_REF.true
-    ∙ sym (black_at_none c.args.self.now.shape around part c.args.handle (AreHandles-sound _ _ _ _ _ sound) c.if-handle-eq-EMPTY_REF.true is here)
+    ∙ sym (black_at_none c.args.self.now.shape around subtree c.args.handle (AreHandles-sound _ _ _ _ _ sound) c.if-handle-eq-EMPTY_REF.true is here)
 
 pub returns-else-handle-eq-EMPTY_REF-clause-value :
     goal.returns-else-handle-eq-EMPTY_REF-clause-value
-returns-else-handle-eq-EMPTY_REF-clause-value g c = λ around part is here.
+returns-else-handle-eq-EMPTY_REF-clause-value g c = λ around subtree is here.
     let sound = IsSound-view _ _ _ _ _ c.args.self.now c.self.invariant c.self.view_is in
     c.eq.ensures ∙ same_as_black c.links_at.result.colour
-    ∙ black_at _ _ _ _ c.args.handle c.args.self.now.shape c.links_at.result around part sound (c.requires c.if-handle-eq-EMPTY_REF.false)
+    ∙ black_at _ _ _ _ c.args.handle c.args.self.now.shape c.links_at.result around subtree sound (c.requires c.if-handle-eq-EMPTY_REF.false)
     (rw c.deref.ensures.value at c.links_at.ensures) is here

@@ -1,7 +1,7 @@
 use Rattle.std.proofs.Common.{◌∙◌, ap, sym, Some}
 use Rattle.std.proofs.lemmas.Option.{slice_get-get_or}
-use Rattle.i_tree.proofs.CoreLemmas.Turning.{IsUsed-within, not_free}
-use Rattle.i_tree.proofs.CoreLemmas.TurningReads.{IsSound-view, IsUsed-sound, item_at}
+use Rattle.i_tree.proofs.RbLemmas.Slots.Writes.{IsUsed-within, not_free}
+use Rattle.i_tree.proofs.RbLemmas.Slots.Reads.{IsSound-view, IsUsed-sound, item_at}
 use Rattle.i_tree.proofs.rb.arena.Arena.item.Goals as goal
 
 pub unreachable-requires : goal.unreachable-requires

@@ -1,8 +1,8 @@
 use Rattle.std.proofs.Common.{refl}
-use Rattle.i_tree.proofs.CoreLemmas.Placed.{read_sound}
-use Rattle.i_tree.proofs.CoreLemmas.Turning.{IsSound-read}
-use Rattle.i_tree.proofs.CoreLemmas.TurningReads.{IsSound-view}
-use Rattle.i_tree.proofs.CoreLemmas.TurningItems.{sound-lent, used_lent, item_lent, contents_lent}
+use Rattle.i_tree.proofs.RbLemmas.Slots.Layout.{read_sound}
+use Rattle.i_tree.proofs.RbLemmas.Slots.Writes.{IsSound-read}
+use Rattle.i_tree.proofs.RbLemmas.Slots.Reads.{IsSound-view}
+use Rattle.i_tree.proofs.RbLemmas.Slots.ItemWrites.{sound-lent, used_lent, item_lent, contents_lent}
 use Rattle.i_tree.proofs.rb.arena.Arena.item_mut.Goals as goal
 
 pub item_mut-requires : goal.item_mut-requires

@@ -1,5 +1,5 @@
-use Rattle.std.proofs.Common.{◌≡◌, ◌<◌, ℕ, zero, suc, refl, subst, arith}
-use Rattle.i_tree.specs.Core.RbTree.{Contents, slots, slots_grown, slots_with_room}
+use Rattle.std.proofs.Common.{◌≡◌, ◌<◌, ℕ, zero, suc, refl, subst, arith, rules}
+use Rattle.i_tree.specs.Rb.RbTree.{Contents, slots, slots_grown, slots_with_room}
 use Rattle.i_tree.proofs.rb.arena.Arena.make_room.Goals as goal
 
 -- where a slot is free there is room
@@ -10,8 +10,17 @@ with_spare contents = by_spare contents.spare (slots contents)
     by_spare zero count some = absurd (omega (arith, some))
     by_spare (suc spare) count some = refl
 
-pub returns-then-self-gt0-clause-slots : goal.returns-then-self-gt0-clause-slots
-returns-then-self-gt0-clause-slots g c = with_spare c.args.self.now (subst (λ (contents : Contents g.row.T.Denot). 0 < contents.spare) c.self.view_is c.if-self-gt0.true)
+pub returns-then-self-gt0-clause-takes : goal.returns-then-self-gt0-clause-takes
+returns-then-self-gt0-clause-takes g c =
+    let some = subst (λ (contents : Contents g.row.T.Denot). 0 < contents.spare) c.self.view_is c.if-self-gt0.true in
+    record {
+      with_spare = search rules;
+      err = search rules;
+      handed = search rules;
+      no_handle = λ none _. absurd (omega (arith, some, none));
+      refused = search rules;
+      slots = with_spare c.args.self.now some;
+    }
 
 pub returns-then-self-gt0-clause-room : goal.returns-then-self-gt0-clause-room
 returns-then-self-gt0-clause-room g c = subst (λ (contents : Contents g.row.T.Denot). 0 < contents.spare) c.self.view_is c.if-self-gt0.true

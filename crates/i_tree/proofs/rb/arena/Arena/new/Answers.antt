@@ -1,10 +1,11 @@
-use Rattle.std.proofs.Common.{◌-◌, [], ◌∷◌, ◌++◌, sym, ap, ◌∙◌, refl, arith}
+use Rattle.std.proofs.Common.{◌-◌, [], ◌∷◌, ◌++◌, sym, ap, ◌∙◌, refl, arith, rules}
 use Rattle.i_tree.specs.declared.TheConstants.{EMPTY_REF}
 use Rattle.i_tree.specs.declared.rb.links.Slot.TheVariants.{Free}
-use Rattle.i_tree.specs.Core.Shape.{leaf}
-use Rattle.i_tree.specs.Core.Slots.{IsSound}
-use Rattle.i_tree.proofs.CoreLemmas.Room.{read_back, sound_back}
-use Rattle.i_tree.proofs.CoreLemmas.RoomGrown.{sound-made}
+use Rattle.i_tree.specs.Rb.Shape.{leaf}
+use Rattle.i_tree.specs.Rb.Slots.{IsSound}
+use Rattle.i_tree.proofs.RbLemmas.Balance.Ranks.{IsCore-from_red_black}
+use Rattle.i_tree.proofs.RbLemmas.Slots.FreeSlots.{read_back, sound_back}
+use Rattle.i_tree.proofs.RbLemmas.Slots.Growth.{sound-made}
 use Rattle.i_tree.proofs.rb.arena.Arena.new.Goals as goal
 
 -- the slots hold the empty tree
@@ -20,10 +21,15 @@ made g c =
 pub invariant_of-result : goal.invariant_of-result
 invariant_of-result g c = sound_back _ _ _ _ _ _ refl (made g c)
 
-pub returns-clause-empty : goal.returns-clause-empty
-returns-clause-empty g c = read_back _ _ _ _ _ _ refl (made g c)
-
-pub returns-clause-slots : goal.returns-clause-slots
-returns-clause-slots g c =
+pub returns : goal.returns
+returns g c =
     let added = c.add_slots-first_free.new.slots in
-    (invariant_of-result g c).total ∙ sym added.ok.0 ∙ c.add_slots-first_free.ensures.len ∙ c.max-count.ensures
+    record {
+      makes = record {
+        empty = read_back _ _ _ _ _ _ refl (made g c);
+        core = rw (read_back _ _ _ _ _ _ refl (made g c)) (IsCore-from_red_black leaf (search rules) (search rules));
+        no_handle = λ many. absurd (omega (arith, many));
+        refused = search rules;
+        slots = (invariant_of-result g c).total ∙ sym added.ok.0 ∙ c.add_slots-first_free.ensures.len ∙ c.max-count.ensures;
+      };
+    }

@@ -1,9 +1,9 @@
 use Rattle.std.proofs.Common.{◌∙◌, ap, length}
 use Rattle.std.proofs.lemmas.List.{take_at}
-use Rattle.i_tree.proofs.CoreLemmas.Contexts.{cut_at}
-use Rattle.i_tree.proofs.CoreLemmas.Placed.{AreHandles-sound, read_sound}
-use Rattle.i_tree.proofs.CoreLemmas.Turning.{IsSound-read, sound-painted}
-use Rattle.i_tree.proofs.CoreLemmas.TurningReads.{IsSound-view, IsUsed-sound}
+use Rattle.i_tree.proofs.RbLemmas.Shape.Contexts.{cut_at}
+use Rattle.i_tree.proofs.RbLemmas.Slots.Layout.{AreHandles-sound, read_sound}
+use Rattle.i_tree.proofs.RbLemmas.Slots.Writes.{IsSound-read, sound-painted}
+use Rattle.i_tree.proofs.RbLemmas.Slots.Reads.{IsSound-view, IsUsed-sound}
 use Rattle.i_tree.proofs.rb.arena.Arena.paint.Goals as goal
 
 pub write_colour-requires : goal.write_colour-requires

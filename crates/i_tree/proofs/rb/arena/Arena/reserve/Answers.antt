@@ -1,16 +1,27 @@
-use Rattle.std.proofs.Common.{◌≡◌, ◌+◌, ◌-◌, ℕ, List, length, sym, ap, ◌∙◌, subst, refl, arith}
+use Rattle.std.proofs.Common.{◌≡◌, ◌+◌, ◌-◌, ℕ, List, length, sym, ap, ◌∙◌, subst, refl, arith, rules}
 use Rattle.std.proofs.lemmas.Result.{MatchResult-from_err, err_from_is_err_and}
 use Rattle.i_tree.specs.declared.rb.links.Slot.{Slot}
-use Rattle.i_tree.specs.Core.RbTree.{Contents, slots}
-use Rattle.i_tree.specs.Core.Shape.{Shape}
-use Rattle.i_tree.specs.Core.Slots.{IsSound, read_tree}
-use Rattle.i_tree.proofs.CoreLemmas.Room.{read_back, sound_back}
-use Rattle.i_tree.proofs.CoreLemmas.RoomGrown.{sound-grown}
+use Rattle.i_tree.specs.Rb.RbTree.{Contents, slots}
+use Rattle.i_tree.specs.Rb.Shape.{Shape}
+use Rattle.i_tree.specs.Rb.Slots.{IsSound, read_tree}
+use Rattle.i_tree.proofs.RbLemmas.Slots.FreeSlots.{read_back, sound_back}
+use Rattle.i_tree.proofs.RbLemmas.Slots.Growth.{sound-grown}
 use Rattle.i_tree.proofs.rb.arena.Arena.reserve.Goals as goal
 
-pub returns-then-capacity-clause-with_slots : goal.returns-then-capacity-clause-with_slots
-returns-then-capacity-clause-with_slots g c enough =
-    let as_seen = ap (λ contents. slots contents) c.self.view_is in absurd (omega (arith, c.self.invariant.total, c.self.invariant.few))
+-- there are at most `EMPTY_REF` slots
+pub returns-then-capacity : goal.returns-then-capacity
+returns-then-capacity g c =
+    let as_seen = ap (λ contents. slots contents) c.self.view_is in
+    record {
+      reserves = record {
+        shape = search rules;
+        err = search rules;
+        with_slots = λ enough. absurd (omega (arith, c.self.invariant.total, c.self.invariant.few));
+        no_handle = search rules;
+        refused = λ few. absurd (omega (arith, few));
+        slots = search rules;
+      };
+    }
 
 -- the old tree is in the slots
 grown : (g : _) (c : goal.After-self-then-capacity-before-1 g)
@@ -32,14 +43,20 @@ grown g c =
 pub invariant_of-self-then-capacity-before : goal.invariant_of-self-then-capacity-before
 invariant_of-self-then-capacity-before g c = sound_back _ _ _ _ _ _ refl (grown g c)
 
-pub returns-in_ok-reserve_exact-clause-shape : goal.returns-in_ok-reserve_exact-clause-shape
-returns-in_ok-reserve_exact-clause-shape g c = read_back _ _ _ _ _ _ refl (grown g c)
-
-pub returns-in_ok-reserve_exact-clause-slots : goal.returns-in_ok-reserve_exact-clause-slots
-returns-in_ok-reserve_exact-clause-slots g c =
-    let added = c.add_slots-self-inside in
+pub returns-in_ok-reserve_exact : goal.returns-in_ok-reserve_exact
+returns-in_ok-reserve_exact g c =
+    let added = c.add_slots-self-inside.new.slots in
     let as_seen = ap (λ contents. slots contents) c.self.view_is in
-    (invariant_of-self-then-capacity-before g c).total ∙ sym added.new.slots.ok.0 ∙ omega (arith, c.self.invariant.total, added.ensures.len)
+    record {
+      reserves = record {
+        shape = read_back _ _ _ _ _ _ refl (grown g c);
+        err = search rules;
+        with_slots = search rules;
+        no_handle = λ many. absurd (omega (arith, many));
+        refused = search rules;
+        slots = (invariant_of-self-then-capacity-before g c).total ∙ sym added.ok.0 ∙ omega (arith, c.self.invariant.total, c.add_slots-self-inside.ensures.len);
+      };
+    }
 
 -- a refusal leaves the slots as they are
 pub invariant_of-self : goal.invariant_of-self
@@ -47,12 +64,19 @@ invariant_of-self g c =
     let inside = c.self.inside in
     subst (λ (list : List (Slot g.row.T.Denot)). IsSound list inside.root inside.first_free inside.free (read_tree list (length list) inside.root)) (sym (c.in_err-reserve_exact.ensures).items) c.self.invariant
 
-pub returns-in_err-reserve_exact-clause-shape : goal.returns-in_err-reserve_exact-clause-shape
-returns-in_err-reserve_exact-clause-shape g c =
-    ap (λ (list : List (Slot g.row.T.Denot)). read_tree list (length list) c.self.inside.root) (c.in_err-reserve_exact.ensures).items ∙ ap (λ (contents : Contents g.row.T.Denot). contents.shape) c.self.view_is
-
-pub returns-in_err-reserve_exact-clause-slots : goal.returns-in_err-reserve_exact-clause-slots
-returns-in_err-reserve_exact-clause-slots g c = MatchResult-from_err c.from_residual.result _ _ c.from_residual.ensures.0 (λ _. tt)
-
-pub returns-in_err-reserve_exact-clause-refused : goal.returns-in_err-reserve_exact-clause-refused
-returns-in_err-reserve_exact-clause-refused g c _ = let p = err_from_is_err_and c.from_residual.result c.from_residual.ensures.1 in rw p.1 p.2
+pub returns-in_err-reserve_exact : goal.returns-in_err-reserve_exact
+returns-in_err-reserve_exact g c =
+    let inside = c.self.inside in
+    let as_seen = ap (λ contents. slots contents) c.self.view_is in
+    let Seen : List (Slot g.row.T.Denot) → Contents g.row.T.Denot = λ list. record { shape = read_tree list (length list) inside.root; spare = inside.free } in
+    let same = ap Seen (c.in_err-reserve_exact.ensures).items ∙ c.self.view_is in
+    record {
+      reserves = record {
+        shape = ap (λ (contents : Contents g.row.T.Denot). contents.shape) same;
+        err = let p = err_from_is_err_and c.from_residual.result c.from_residual.ensures.1 in rw p.1 same;
+        with_slots = λ enough. absurd (omega (arith, c.self.invariant.total, enough));
+        no_handle = λ many. absurd (omega (arith, many));
+        refused = λ _. let p = err_from_is_err_and c.from_residual.result c.from_residual.ensures.1 in rw p.1 p.2;
+        slots = MatchResult-from_err c.from_residual.result _ _ c.from_residual.ensures.0 (λ _. tt);
+      };
+    }

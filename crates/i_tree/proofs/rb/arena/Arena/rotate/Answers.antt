@@ -1,15 +1,15 @@
 use Rattle.std.proofs.Common.{◌∙◌}
 use Rattle.std.proofs.lemmas.List.{take_at}
-use Rattle.i_tree.proofs.CoreLemmas.Placed.{AreHandles-sound, read_sound}
-use Rattle.i_tree.proofs.CoreLemmas.Turning.{IsSound-read}
-use Rattle.i_tree.proofs.CoreLemmas.TurningReads.{IsSound-view, IsSound-as}
+use Rattle.i_tree.proofs.RbLemmas.Slots.Layout.{AreHandles-sound, read_sound}
+use Rattle.i_tree.proofs.RbLemmas.Slots.Writes.{IsSound-read}
+use Rattle.i_tree.proofs.RbLemmas.Slots.Reads.{IsSound-view, IsSound-as}
 use Rattle.i_tree.proofs.rb.arena.Arena.rotate.Goals as goal
 
-pub turn-requires : goal.turn-requires
-turn-requires g c =
+pub rotate_slots-requires : goal.rotate_slots-requires
+rotate_slots-requires g c =
     let sound = IsSound-view _ _ _ _ _ c.args.self.now c.self.invariant c.self.view_is in
     rw c.deref_mut.ensures.value (record {
-      turn = c.requires.turn;
+      rotation = c.requires.rotation;
       first_free = c.self.inside.first_free;
       free = c.self.inside.free;
       sound = IsSound-as _ _ _ _ _ _ c.requires.is sound;
@@ -18,19 +18,19 @@ turn-requires g c =
 pub invariant_of-self : goal.invariant_of-self
 invariant_of-self g c =
     let sound = IsSound-view _ _ _ _ _ c.args.self.now c.self.invariant c.self.view_is in
-    let round = c.turn.ensures c.requires.turn c.self.inside.first_free c.self.inside.free
+    let round = c.rotate_slots.ensures c.requires.rotation c.self.inside.first_free c.self.inside.free
     (rw c.deref_mut.ensures.value (IsSound-as _ _ _ _ _ _ c.requires.is sound)) in
-    rw (take_at c.turn.new.slots _ c.self.inside.slots.len (c.turn.auto.slots ∙ c.deref_mut.ensures.len)) (IsSound-read _ _ _ _ _ round)
+    rw (take_at c.rotate_slots.new.slots _ c.self.inside.slots.len (c.rotate_slots.auto.slots ∙ c.deref_mut.ensures.len)) (IsSound-read _ _ _ _ _ round)
 
 pub returns-clause-shape : goal.returns-clause-shape
-returns-clause-shape g c = λ turn is.
+returns-clause-shape g c = λ rotation is.
     let sound = IsSound-view _ _ _ _ _ c.args.self.now c.self.invariant c.self.view_is in
-    let round = c.turn.ensures turn c.self.inside.first_free c.self.inside.free (rw c.deref_mut.ensures.value (IsSound-as _ _ _ _ _ _ is sound)) in
-    rw (take_at c.turn.new.slots _ c.self.inside.slots.len (c.turn.auto.slots ∙ c.deref_mut.ensures.len)) (read_sound _ _ _ _ _ round)
+    let round = c.rotate_slots.ensures rotation c.self.inside.first_free c.self.inside.free (rw c.deref_mut.ensures.value (IsSound-as _ _ _ _ _ _ is sound)) in
+    rw (take_at c.rotate_slots.new.slots _ c.self.inside.slots.len (c.rotate_slots.auto.slots ∙ c.deref_mut.ensures.len)) (read_sound _ _ _ _ _ round)
 
 pub returns-clause-handles : goal.returns-clause-handles
 returns-clause-handles g c =
     let sound = IsSound-view _ _ _ _ _ c.args.self.now c.self.invariant c.self.view_is in
-    let round = c.turn.ensures c.requires.turn c.self.inside.first_free c.self.inside.free
+    let round = c.rotate_slots.ensures c.requires.rotation c.self.inside.first_free c.self.inside.free
     (rw c.deref_mut.ensures.value (IsSound-as _ _ _ _ _ _ c.requires.is sound)) in
-    rw (take_at c.turn.new.slots _ c.self.inside.slots.len (c.turn.auto.slots ∙ c.deref_mut.ensures.len)) (AreHandles-sound _ _ _ _ _ (IsSound-read _ _ _ _ _ round))
+    rw (take_at c.rotate_slots.new.slots _ c.self.inside.slots.len (c.rotate_slots.auto.slots ∙ c.deref_mut.ensures.len)) (AreHandles-sound _ _ _ _ _ (IsSound-read _ _ _ _ _ round))

@@ -1,6 +1,6 @@
-use Rattle.i_tree.proofs.CoreLemmas.Clearing.{IsChildless-here}
-use Rattle.i_tree.proofs.CoreLemmas.Parts.{IsTopOf-left, IsTopOf-right, IsTopOf-none, fewer-to_right}
-use Rattle.i_tree.proofs.CoreLemmas.RemovalFirst.{fewer-to_left}
+use Rattle.i_tree.proofs.RbLemmas.Slots.Clear.{IsChildless-here}
+use Rattle.i_tree.proofs.RbLemmas.Shape.Subtrees.{IsTopOf-left, IsTopOf-right, IsTopOf-none, fewer-to_right}
+use Rattle.i_tree.proofs.RbLemmas.Removal.First.{fewer-to_left}
 use Rattle.i_tree.proofs.rb.arena.Arena.some_child.Goals as goal
 
 pub returns-then-left-clause-live : goal.returns-then-left-clause-live

@@ -1,27 +1,27 @@
 use Rattle.std.proofs.Common.{ap, sym, ◌∙◌}
-use Rattle.i_tree.specs.Core.Shape.{part_at}
-use Rattle.i_tree.proofs.CoreLemmas.Parts.{part_at-empty}
-use Rattle.i_tree.proofs.CoreLemmas.RemovalFirst.{StartsWith-self, StartsWith-left, IsFirst-here, fewer-to_left}
+use Rattle.i_tree.specs.Rb.Shape.{subtree_at}
+use Rattle.i_tree.proofs.RbLemmas.Shape.Subtrees.{subtree_at-empty}
+use Rattle.i_tree.proofs.RbLemmas.Removal.First.{StartsWith-self, StartsWith-left, IsFirst-here, fewer-to_left}
 use Rattle.i_tree.proofs.rb.tree.RbTree.first_below.Goals as goal
 
-pub loop-part-init : goal.loop-part-init
-loop-part-init g c = record { live = c.requires; starts = StartsWith-self (part_at c.args.part c.args.self.now.shape) }
+pub loop-subtree-init : goal.loop-subtree-init
+loop-subtree-init g c = record { live = c.requires; starts = StartsWith-self (subtree_at c.args.subtree c.args.self.now.shape) }
 
 pub returns-then-left : goal.returns-then-left
 returns-then-left g c =
     let tree = c.args.self.now.shape in
     let handles = c.left-left.ensures.core.handles in
-    let empty = sym c.left-left.ensures.part ∙ ap (λ handle. part_at handle tree) c.if-left.true ∙ part_at-empty tree handles in
-    IsFirst-here (part_at c.args.part tree) tree c.loop-part.first handles c.loop-part.invariant.live empty c.loop-part.invariant.starts
+    let empty = sym c.left-left.ensures.part ∙ ap (λ handle. subtree_at handle tree) c.if-left.true ∙ subtree_at-empty tree handles in
+    IsFirst-here (subtree_at c.args.subtree tree) tree c.loop-subtree.first handles c.loop-subtree.invariant.live empty c.loop-subtree.invariant.starts
 
-pub loop-part-smaller : goal.loop-part-smaller
-loop-part-smaller g c =
+pub loop-subtree-smaller : goal.loop-subtree-smaller
+loop-subtree-smaller g c =
     let tree = c.args.self.now.shape in
-    let fewer = fewer-to_left tree c.loop-part.first c.left-left.ensures.core.handles c.loop-part.invariant.live in
+    let fewer = fewer-to_left tree c.loop-subtree.first c.left-left.ensures.core.handles c.loop-subtree.invariant.live in
     rw c.left-left.ensures.part fewer
 
-pub loop-part-preserved : goal.loop-part-preserved
-loop-part-preserved g c =
+pub loop-subtree-preserved : goal.loop-subtree-preserved
+loop-subtree-preserved g c =
     let tree = c.args.self.now.shape in
-    let starts = StartsWith-left (part_at c.args.part tree) tree c.loop-part.first c.left-left.ensures.core.handles c.loop-part.invariant.live c.loop-part.invariant.starts in
+    let starts = StartsWith-left (subtree_at c.args.subtree tree) tree c.loop-subtree.first c.left-left.ensures.core.handles c.loop-subtree.invariant.live c.loop-subtree.invariant.starts in
     record { live = c.left-left.ensures.live c.if-left.false; starts = rw c.left-left.ensures.part starts }

@@ -1,15 +1,15 @@
 use Rattle.std.proofs.Common.{length}
-use Rattle.i_tree.specs.Core.Shape.{IsLive, entries, part_at}
-use Rattle.i_tree.proofs.CoreLemmas.RemovalFirst.{StartsWith}
+use Rattle.i_tree.specs.Rb.Shape.{IsHandle, entries, subtree_at}
+use Rattle.i_tree.proofs.RbLemmas.Removal.First.{StartsWith}
 use Rattle.i_tree.proofs.rb.tree.RbTree.first_below.Given as goal
 
--- The part that was reached stands at the left end of the part that was given.
-abbrev pub invariant-loop-part : goal.invariant-loop-part
-invariant-loop-part g l =
+-- The subtree that was reached stands at the left end of the subtree that was given.
+abbrev pub invariant-loop-subtree : goal.invariant-loop-subtree
+invariant-loop-subtree g l =
     record {
-      live : IsLive l.self.shape l.first;
-      starts : StartsWith (part_at l.part l.self.shape) (part_at l.first l.self.shape);
+      live : IsHandle l.self.shape l.first;
+      starts : StartsWith (subtree_at l.subtree l.self.shape) (subtree_at l.first l.self.shape);
     }
 
-abbrev pub decreases-loop-part : goal.decreases-loop-part
-decreases-loop-part g l = length (entries (part_at l.first l.self.shape))
+abbrev pub decreases-loop-subtree : goal.decreases-loop-subtree
+decreases-loop-subtree g l = length (entries (subtree_at l.first l.self.shape))

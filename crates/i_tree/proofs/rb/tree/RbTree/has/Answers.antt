@@ -1,4 +1,4 @@
-use Rattle.i_tree.proofs.CoreLemmas.Balance.{IsCore-from_red_black}
+use Rattle.i_tree.proofs.RbLemmas.Balance.Ranks.{IsCore-from_red_black}
 use Rattle.i_tree.proofs.rb.tree.RbTree.has.Goals as goal
 
 pub returns-clause-core : goal.returns-clause-core

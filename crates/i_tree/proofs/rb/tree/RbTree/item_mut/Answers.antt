@@ -1,8 +1,8 @@
 use Rattle.std.proofs.Common.{ap, refl}
-use Rattle.i_tree.specs.Core.RbTree.{Contents, contents_with_item}
-use Rattle.i_tree.proofs.CoreLemmas.Parts.{entries-part_at}
-use Rattle.i_tree.proofs.CoreLemmas.Items.{IsRedBlack-with_item, AreHandles-with_item}
-use Rattle.i_tree.proofs.CoreLemmas.Balance.{IsCore-from_red_black}
+use Rattle.i_tree.specs.Rb.RbTree.{Contents, contents_with_item}
+use Rattle.i_tree.proofs.RbLemmas.Shape.Subtrees.{entries-subtree_at}
+use Rattle.i_tree.proofs.RbLemmas.Shape.Items.{IsRedBlack-with_item, AreHandles-with_item}
+use Rattle.i_tree.proofs.RbLemmas.Balance.Ranks.{IsCore-from_red_black}
 use Rattle.i_tree.proofs.rb.tree.RbTree.item_mut.Goals as goal
 
 pub invariant_of-self-lent : goal.invariant_of-self-lent
@@ -14,7 +14,7 @@ invariant_of-self-lent g c w = (
 pub returns : goal.returns
 returns g c =
     let tree = c.self.inside.arena.shape in
-    let own = entries-part_at tree c.args.handle c.item_mut.result.now c.self.invariant.1 (rw c.self.view_is c.requires) c.item_mut.ensures.value in (
+    let own = entries-subtree_at tree c.args.handle c.item_mut.result.now c.self.invariant.1 (rw c.self.view_is c.requires) c.item_mut.ensures.value in (
       (refl, λ w. ap (λ (contents : Contents g.row.T.Denot). contents_with_item c.args.handle contents w) c.self.view_is),
       rw (← c.self.view_is) (record { writes_back = tt; value = own; core = IsCore-from_red_black tree c.self.invariant.1 c.self.invariant.0 }),
     )

@@ -1,6 +1,6 @@
 use Rattle.std.proofs.Common.{arith}
-use Rattle.i_tree.proofs.CoreLemmas.Parts.{leaf-without_entries}
-use Rattle.i_tree.proofs.CoreLemmas.Balance.{IsCore-from_red_black}
+use Rattle.i_tree.proofs.RbLemmas.Shape.Subtrees.{leaf-without_entries}
+use Rattle.i_tree.proofs.RbLemmas.Balance.Ranks.{IsCore-from_red_black}
 use Rattle.i_tree.proofs.rb.tree.RbTree.len.Goals as goal
 
 pub returns-clause-core : goal.returns-clause-core

@@ -1,5 +1,5 @@
 use Rattle.std.proofs.Common.{sym, ◌∙◌, arith}
-use Rattle.i_tree.proofs.CoreLemmas.Climb.{ComesBefore-first, nothing_before, IsParentOf-above}
+use Rattle.i_tree.proofs.RbLemmas.Shape.Before.{ComesBefore-first, nothing_before, IsParentOf-above}
 use Rattle.i_tree.proofs.rb.tree.RbTree.parent_from_right.Goals as goal
 
 pub loop-self-init : goal.loop-self-init
@@ -10,27 +10,27 @@ pub returns-then-parent : goal.returns-then-parent
 returns-then-parent g c =
     let tree = c.self.inside.arena.shape in
     let here = c.loop-self.invariant in
-    let parent_is = c.parent-parent.ensures.value here.around here.part here.is here.at in
-    let nothing = nothing_before tree here.around here.part c.self.invariant.1 here.is (sym c.if-parent.true ∙ parent_is) in
+    let parent_is = c.parent-parent.ensures.value here.around here.subtree here.is here.at in
+    let nothing = nothing_before tree here.around here.subtree c.self.invariant.1 here.is (sym c.if-parent.true ∙ parent_is) in
     rw (← c.self.view_is) (λ front item back is. sym (here.same front item back is ∙ nothing))
 
 pub child-requires : goal.child-requires
 child-requires g c =
     let here = c.loop-self.invariant in
-    let parent_is = c.parent-parent.ensures.value here.around here.part here.is here.at in
+    let parent_is = c.parent-parent.ensures.value here.around here.subtree here.is here.at in
     (IsParentOf-above c.self.inside.arena.shape c.args.handle c.loop-self.child c.parent-parent.result c.self.invariant.1 here parent_is c.if-parent.false).live
 
 pub returns-then-child : goal.returns-then-child
 returns-then-child g c =
     let here = c.loop-self.invariant in
-    let parent_is = c.parent-parent.ensures.value here.around here.part here.is here.at in
+    let parent_is = c.parent-parent.ensures.value here.around here.subtree here.is here.at in
     let above = IsParentOf-above c.self.inside.arena.shape c.args.handle c.loop-self.child c.parent-parent.result c.self.invariant.1 here parent_is c.if-parent.false in
     rw (← c.self.view_is) (above.before c.child.result c.child.ensures c.if-child.true)
 
 pub loop-self-smaller : goal.loop-self-smaller
 loop-self-smaller g c =
     let here = c.loop-self.invariant in
-    let parent_is = c.parent-parent.ensures.value here.around here.part here.is here.at in
+    let parent_is = c.parent-parent.ensures.value here.around here.subtree here.is here.at in
     let above = IsParentOf-above c.self.inside.arena.shape c.args.handle c.loop-self.child c.parent-parent.result c.self.invariant.1 here parent_is c.if-parent.false in
     let grows = above.grows in
     let within = above.within in
@@ -39,6 +39,6 @@ loop-self-smaller g c =
 pub loop-self-preserved : goal.loop-self-preserved
 loop-self-preserved g c =
     let here = c.loop-self.invariant in
-    let parent_is = c.parent-parent.ensures.value here.around here.part here.is here.at in
+    let parent_is = c.parent-parent.ensures.value here.around here.subtree here.is here.at in
     let above = IsParentOf-above c.self.inside.arena.shape c.args.handle c.loop-self.child c.parent-parent.result c.self.invariant.1 here parent_is c.if-parent.false in
     above.further c.child.result c.child.ensures c.if-child.false

@@ -1,5 +1,5 @@
-use Rattle.i_tree.proofs.CoreLemmas.Parts.{IsTopOf-root, IsTopOf-none}
-use Rattle.i_tree.proofs.CoreLemmas.Balance.{IsCore-from_red_black}
+use Rattle.i_tree.proofs.RbLemmas.Shape.Subtrees.{IsTopOf-root, IsTopOf-none}
+use Rattle.i_tree.proofs.RbLemmas.Balance.Ranks.{IsCore-from_red_black}
 use Rattle.i_tree.proofs.rb.tree.RbTree.root.Goals as goal
 
 pub returns : goal.returns

@@ -1,10 +1,11 @@
-use Rattle.std.proofs.Common.{◌≡◌, ◌-◌, ℕ, not, List, [], ◌∷◌, ◌++◌, length, take, ap, sym, ◌∙◌, subst, length-append, arith}
+use Rattle.std.proofs.Common.{rules, ◌≡◌, ◌-◌, ℕ, not, List, [], ◌∷◌, ◌++◌, length, take, ap, sym, ◌∙◌, subst, length-append, arith}
 use Rattle.std.proofs.lemmas.Bool.{cond-true, cond-false, false≢true}
 use Rattle.std.proofs.lemmas.List.{append-nil, take_at}
 use Rattle.std.proofs.lemmas.List.Sorted.{length_permutation}
+use Rattle.i_tree.specs.Root.Steps.{Makes}
 use Rattle.i_tree.specs.Seg.Buckets.{interval}
 use Rattle.i_tree.specs.Seg.Copies.{stored_copies}
-use Rattle.i_tree.specs.Seg.Members.{answer}
+use Rattle.i_tree.specs.Seg.Members.{Appends, answer}
 use Rattle.i_tree.specs.Seg.Walk.{to_come, Collects}
 use Rattle.i_tree.proofs.SegLemmas.Collecting.{IsWalked, IsWalked-on, IsWalked-ended, IsWalked-cleans, IsWalked-left, reads-few, reads-each, IsAppended, IsAppended-more, IsAppended-fewer, IsAppended-all}
 use Rattle.i_tree.proofs.SegLemmas.Losing.{LosesExpiredAt-none, HasPassed-start}
@@ -46,37 +47,34 @@ next_found-requires-clause-passed g c = c.loop-value.invariant.walked.passed
 refused : (g : _) (c : goal.After-truncate g) → IsWalked g.V.ExpiredVal.expiration g.E.Ord.cmp c.args.time g.C.Counter.made c.ask-asked.result c.args.self.now c.args.steps.now c.next_found.new.self c.next_found.new.cursor.left c.next_found.new.cursor.index c.next_found.new.steps
 refused g c =
     IsWalked-on g.V.ExpiredVal.expiration g.E.Ord.cmp c.args.time g.C.Counter.made c.ask-asked.result c.args.self.now c.args.steps.now g.met.C.Counter.law c.loop-value.steps c.next_found.new.steps c.loop-value.self c.next_found.new.self c.loop-value.cursor.left c.loop-value.cursor.index c.next_found.new.cursor.left c.next_found.new.cursor.index c.loop-value.invariant.walked
-    c.next_found.ensures.count c.next_found.ensures.within c.next_found.ensures.latest c.next_found.ensures.buckets c.next_found.ensures.members c.next_found.ensures.loses c.next_found.ensures.passed c.next_found.ensures.steps
-
-pub returns-then-is_err-clause-err : goal.returns-then-is_err-clause-err
-returns-then-is_err-clause-err g c =
-    let so_far = c.loop-value.invariant.appended in
-    let not_ok = c.is_err.ensures.negation ∙ ap not c.if-is_err.true in
-    let same = c.push.ensures.items ∙ cond-false _ (c.loop-value.out.items ++ c.in-Some.value ∷ []) c.loop-value.out.items not_ok ∙ so_far.is in
-    c.truncate.ensures.items ∙ ap (take c.len-start.result) same ∙ take_at c.args.out.now.items so_far.found c.len-start.result (omega (arith, c.len-start.ensures, c.args.out.now.ok.0))
+    c.next_found.ensures.walk.live.count c.next_found.ensures.walk.within c.next_found.ensures.latest c.next_found.ensures.buckets c.next_found.ensures.members c.next_found.ensures.walk.loses c.next_found.ensures.walk.passed c.next_found.ensures.walk.steps
 
 -- the list had room for less than the answer
-pub returns-then-is_err-clause-with_room : goal.returns-then-is_err-clause-with_room
-returns-then-is_err-clause-with_room g c room =
-    let not_ok = c.is_err.ensures.negation ∙ ap not c.if-is_err.true in
-    let fewer = IsAppended-fewer (answer g.V.ExpiredVal.expiration g.E.Ord.cmp c.args.time (interval c.args.self.now.buckets (g.R.LayoutNumber.whole c.args.range.min) (g.R.LayoutNumber.whole c.args.range.max)) c.args.self.now.members) c.args.out.now.items c.loop-value.out.items (to_come g.V.ExpiredVal.expiration g.E.Ord.cmp c.args.time c.ask-asked.result c.loop-value.cursor.left c.loop-value.cursor.index c.loop-value.self.chunks) c.loop-value.invariant.appended c.in-Some.ensures.found in
-    let grown = c.loop-value.invariant.room in
-    let was = c.args.out.now.ok.0 in
-    let is = c.loop-value.out.ok.0 in
-    let ok = c.push.ensures.succeeds (omega arith) in
-    absurd (false≢true (sym not_ok ∙ ok))
-
-pub returns-then-is_err-clause-members : goal.returns-then-is_err-clause-members
-returns-then-is_err-clause-members g c = (refused g c).members
-
-pub returns-then-is_err-clause-latest : goal.returns-then-is_err-clause-latest
-returns-then-is_err-clause-latest g c = (refused g c).latest
-
-pub returns-then-is_err-clause-buckets : goal.returns-then-is_err-clause-buckets
-returns-then-is_err-clause-buckets g c = (refused g c).buckets
-
-pub returns-then-is_err-clause-loses : goal.returns-then-is_err-clause-loses
-returns-then-is_err-clause-loses g c = rw (← c.ask-asked.ensures.asked) (refused g c).loses
+pub returns-then-is_err-clause-answers : goal.returns-then-is_err-clause-answers
+returns-then-is_err-clause-answers g c = record {
+  ok = tt;
+  err =
+      let so_far = c.loop-value.invariant.appended in
+      let not_ok = c.is_err.ensures.negation ∙ ap not c.if-is_err.true in
+      let same = c.push.ensures.items ∙ cond-false _ (c.loop-value.out.items ++ c.in-Some.value ∷ []) c.loop-value.out.items not_ok ∙ so_far.is in
+      c.truncate.ensures.items ∙ ap (take c.len-start.result) same ∙ take_at c.args.out.now.items so_far.found c.len-start.result (omega (arith, c.len-start.ensures, c.args.out.now.ok.0));
+  refused = search rules;
+  with_room = λ room.
+      let not_ok = c.is_err.ensures.negation ∙ ap not c.if-is_err.true in
+      let fewer = IsAppended-fewer (answer g.V.ExpiredVal.expiration g.E.Ord.cmp c.args.time (interval c.args.self.now.buckets (g.R.LayoutNumber.whole c.args.range.min) (g.R.LayoutNumber.whole c.args.range.max)) c.args.self.now.members) c.args.out.now.items c.loop-value.out.items (to_come g.V.ExpiredVal.expiration g.E.Ord.cmp c.args.time c.ask-asked.result c.loop-value.cursor.left c.loop-value.cursor.index c.loop-value.self.chunks) c.loop-value.invariant.appended c.in-Some.ensures.walk.found in
+      let grown = c.loop-value.invariant.room in
+      let was = c.args.out.now.ok.0 in
+      let is = c.loop-value.out.ok.0 in
+      let ok = c.push.ensures.succeeds (omega arith) in
+      absurd (false≢true (sym not_ok ∙ ok));
+  members = (refused g c).members;
+  latest = (refused g c).latest;
+  buckets = (refused g c).buckets;
+  filters = c.ask-asked.ensures.filters;
+  cleans = tt;
+  loses = rw (← c.ask-asked.ensures.asked) (refused g c).loses;
+  fewer = let gone = (refused g c).steps.holds.removals in omega arith;
+}
 
 pub returns-then-is_err-clause-err_steps : goal.returns-then-is_err-clause-err_steps
 returns-then-is_err-clause-err_steps g c =
@@ -85,7 +83,7 @@ returns-then-is_err-clause-err_steps g c =
 
 pub loop-value-smaller : goal.loop-value-smaller
 loop-value-smaller g c =
-    let one = c.in-Some.ensures.found in
+    let one = c.in-Some.ensures.walk.found in
     let fewer = length_permutation (to_come g.V.ExpiredVal.expiration g.E.Ord.cmp c.args.time c.ask-asked.result c.loop-value.cursor.left c.loop-value.cursor.index c.loop-value.self.chunks) (one.0 ∷ (to_come g.V.ExpiredVal.expiration g.E.Ord.cmp c.args.time c.ask-asked.result c.next_found.new.cursor.left c.next_found.new.cursor.index c.next_found.new.self.chunks)) one.2 in
     omega (arith, fewer)
 
@@ -95,9 +93,9 @@ loop-value-preserved g c =
     let more = c.push.ensures.items ∙ cond-true _ (c.loop-value.out.items ++ c.in-Some.value ∷ []) c.loop-value.out.items ok in
     record {
       walked = IsWalked-on g.V.ExpiredVal.expiration g.E.Ord.cmp c.args.time g.C.Counter.made c.ask-asked.result c.args.self.now c.args.steps.now g.met.C.Counter.law c.loop-value.steps c.next_found.new.steps c.loop-value.self c.next_found.new.self c.loop-value.cursor.left c.loop-value.cursor.index c.next_found.new.cursor.left c.next_found.new.cursor.index c.loop-value.invariant.walked
-          c.next_found.ensures.count c.next_found.ensures.within c.next_found.ensures.latest c.next_found.ensures.buckets c.next_found.ensures.members c.next_found.ensures.loses c.next_found.ensures.passed c.next_found.ensures.steps;
+          c.next_found.ensures.walk.live.count c.next_found.ensures.walk.within c.next_found.ensures.latest c.next_found.ensures.buckets c.next_found.ensures.members c.next_found.ensures.walk.loses c.next_found.ensures.walk.passed c.next_found.ensures.walk.steps;
       appended = subst (λ (items : List g.row.V.Denot). IsAppended (answer g.V.ExpiredVal.expiration g.E.Ord.cmp c.args.time (interval c.args.self.now.buckets (g.R.LayoutNumber.whole c.args.range.min) (g.R.LayoutNumber.whole c.args.range.max)) c.args.self.now.members) c.args.out.now.items items (to_come g.V.ExpiredVal.expiration g.E.Ord.cmp c.args.time c.ask-asked.result c.next_found.new.cursor.left c.next_found.new.cursor.index c.next_found.new.self.chunks)) (sym more)
-          (IsAppended-more (answer g.V.ExpiredVal.expiration g.E.Ord.cmp c.args.time (interval c.args.self.now.buckets (g.R.LayoutNumber.whole c.args.range.min) (g.R.LayoutNumber.whole c.args.range.max)) c.args.self.now.members) c.args.out.now.items c.loop-value.out.items (to_come g.V.ExpiredVal.expiration g.E.Ord.cmp c.args.time c.ask-asked.result c.loop-value.cursor.left c.loop-value.cursor.index c.loop-value.self.chunks) c.loop-value.invariant.appended c.in-Some.value (to_come g.V.ExpiredVal.expiration g.E.Ord.cmp c.args.time c.ask-asked.result c.next_found.new.cursor.left c.next_found.new.cursor.index c.next_found.new.self.chunks) c.in-Some.ensures.found);
+          (IsAppended-more (answer g.V.ExpiredVal.expiration g.E.Ord.cmp c.args.time (interval c.args.self.now.buckets (g.R.LayoutNumber.whole c.args.range.min) (g.R.LayoutNumber.whole c.args.range.max)) c.args.self.now.members) c.args.out.now.items c.loop-value.out.items (to_come g.V.ExpiredVal.expiration g.E.Ord.cmp c.args.time c.ask-asked.result c.loop-value.cursor.left c.loop-value.cursor.index c.loop-value.self.chunks) c.loop-value.invariant.appended c.in-Some.value (to_come g.V.ExpiredVal.expiration g.E.Ord.cmp c.args.time c.ask-asked.result c.next_found.new.cursor.left c.next_found.new.cursor.index c.next_found.new.self.chunks) c.in-Some.ensures.walk.found);
       room = let before = c.loop-value.invariant.room in let grown = c.push.ensures.capacity in omega arith;
     }
 
@@ -105,38 +103,39 @@ loop-value-preserved g c =
 walked : (g : _) (c : goal.In_default g) → IsWalked g.V.ExpiredVal.expiration g.E.Ord.cmp c.args.time g.C.Counter.made c.ask-asked.result c.args.self.now c.args.steps.now c.next_found.new.self c.next_found.new.cursor.left c.next_found.new.cursor.index c.next_found.new.steps
 walked g c =
     IsWalked-on g.V.ExpiredVal.expiration g.E.Ord.cmp c.args.time g.C.Counter.made c.ask-asked.result c.args.self.now c.args.steps.now g.met.C.Counter.law c.loop-value.steps c.next_found.new.steps c.loop-value.self c.next_found.new.self c.loop-value.cursor.left c.loop-value.cursor.index c.next_found.new.cursor.left c.next_found.new.cursor.index c.loop-value.invariant.walked
-    c.next_found.ensures.count c.next_found.ensures.within c.next_found.ensures.latest c.next_found.ensures.buckets c.next_found.ensures.members c.next_found.ensures.loses c.next_found.ensures.passed c.next_found.ensures.steps
+    c.next_found.ensures.walk.live.count c.next_found.ensures.walk.within c.next_found.ensures.latest c.next_found.ensures.buckets c.next_found.ensures.members c.next_found.ensures.walk.loses c.next_found.ensures.walk.passed c.next_found.ensures.walk.steps
 
-pub returns-clause-ok : goal.returns-clause-ok
-returns-clause-ok g c =
-    IsAppended-all (answer g.V.ExpiredVal.expiration g.E.Ord.cmp c.args.time (interval c.args.self.now.buckets (g.R.LayoutNumber.whole c.args.range.min) (g.R.LayoutNumber.whole c.args.range.max)) c.args.self.now.members) c.args.out.now.items c.loop-value.out.items (to_come g.V.ExpiredVal.expiration g.E.Ord.cmp c.args.time c.ask-asked.result c.loop-value.cursor.left c.loop-value.cursor.index c.loop-value.self.chunks) c.loop-value.invariant.appended c.in_default.ensures.found
+-- the whole answer is appended
+all_found : (g : _) (c : goal.In_default g) → Appends (answer g.V.ExpiredVal.expiration g.E.Ord.cmp c.args.time (interval c.args.self.now.buckets (g.R.LayoutNumber.whole c.args.range.min) (g.R.LayoutNumber.whole c.args.range.max)) c.args.self.now.members) c.args.out.now.items c.loop-value.out.items
+all_found g c =
+    IsAppended-all (answer g.V.ExpiredVal.expiration g.E.Ord.cmp c.args.time (interval c.args.self.now.buckets (g.R.LayoutNumber.whole c.args.range.min) (g.R.LayoutNumber.whole c.args.range.max)) c.args.self.now.members) c.args.out.now.items c.loop-value.out.items (to_come g.V.ExpiredVal.expiration g.E.Ord.cmp c.args.time c.ask-asked.result c.loop-value.cursor.left c.loop-value.cursor.index c.loop-value.self.chunks) c.loop-value.invariant.appended c.in_default.ensures.walk.found
 
-pub returns-clause-members : goal.returns-clause-members
-returns-clause-members g c = (walked g c).members
-
-pub returns-clause-latest : goal.returns-clause-latest
-returns-clause-latest g c = (walked g c).latest
-
-pub returns-clause-buckets : goal.returns-clause-buckets
-returns-clause-buckets g c = (walked g c).buckets
-
-pub returns-clause-loses : goal.returns-clause-loses
-returns-clause-loses g c = rw (← c.ask-asked.ensures.asked) (walked g c).loses
-
-pub returns-clause-cleans : goal.returns-clause-cleans
-returns-clause-cleans g c =
-    rw (← c.ask-asked.ensures.asked)
-    (IsWalked-cleans g.V.ExpiredVal.expiration g.E.Ord.cmp c.args.time g.C.Counter.made c.ask-asked.result c.args.self.now c.args.steps.now c.next_found.new.self c.next_found.new.cursor.left c.next_found.new.cursor.index c.next_found.new.steps
-    (c.next_found.ensures.ended c.in_default.is) (walked g c))
+pub returns-clause-answers : goal.returns-clause-answers
+returns-clause-answers g c = record {
+  ok = all_found g c;
+  err = tt;
+  refused = tt;
+  with_room = search rules;
+  members = (walked g c).members;
+  latest = (walked g c).latest;
+  buckets = (walked g c).buckets;
+  filters = c.ask-asked.ensures.filters;
+  cleans =
+      rw (← c.ask-asked.ensures.asked)
+      (IsWalked-cleans g.V.ExpiredVal.expiration g.E.Ord.cmp c.args.time g.C.Counter.made c.ask-asked.result c.args.self.now c.args.steps.now c.next_found.new.self c.next_found.new.cursor.left c.next_found.new.cursor.index c.next_found.new.steps
+      (c.next_found.ensures.walk.ended c.in_default.is) (walked g c));
+  loses = rw (← c.ask-asked.ensures.asked) (walked g c).loses;
+  fewer = let gone = (walked g c).steps.holds.removals in omega arith;
+}
 
 pub returns-clause-steps : goal.returns-clause-steps
 returns-clause-steps g c =
-    let all = returns-clause-ok g c in
+    let all = all_found g c in
     let as_many = length_permutation (answer g.V.ExpiredVal.expiration g.E.Ord.cmp c.args.time (interval c.args.self.now.buckets (g.R.LayoutNumber.whole c.args.range.min) (g.R.LayoutNumber.whole c.args.range.max)) c.args.self.now.members) all.0 all.1 in
     let longer = ap length all.2 in
     let both = length-append c.args.out.now.items all.0 in
     let values : length (answer g.V.ExpiredVal.expiration g.E.Ord.cmp c.args.time (interval c.args.self.now.buckets (g.R.LayoutNumber.whole c.args.range.min) (g.R.LayoutNumber.whole c.args.range.max)) c.args.self.now.members) ≡ length c.loop-value.out.items - length c.args.out.now.items = omega (arith, as_many, longer, both) in
-    subst (λ (values : ℕ). Collects g.C.Counter.made c.args.steps.now c.next_found.new.steps values (stored_copies c.args.self.now.chunks) (stored_copies c.next_found.new.self.chunks)) values
+    subst (λ (values : ℕ). Makes g.C.Counter.made c.args.steps.now c.next_found.new.steps (Collects values (stored_copies c.args.self.now.chunks) (stored_copies c.next_found.new.self.chunks))) values
     (IsWalked-ended g.V.ExpiredVal.expiration g.E.Ord.cmp c.args.time g.C.Counter.made c.ask-asked.result c.args.self.now c.args.steps.now c.next_found.new.self c.next_found.new.cursor.left c.next_found.new.cursor.index c.next_found.new.steps (length (answer g.V.ExpiredVal.expiration g.E.Ord.cmp c.args.time (interval c.args.self.now.buckets (g.R.LayoutNumber.whole c.args.range.min) (g.R.LayoutNumber.whole c.args.range.max)) c.args.self.now.members))
     (reads-few g.V.ExpiredVal.expiration g.E.Ord.cmp c.args.time c.ask-asked.result c.args.self.now.chunks c.ask-asked.new.self.chunks (answer g.V.ExpiredVal.expiration g.E.Ord.cmp c.args.time (interval c.args.self.now.buckets (g.R.LayoutNumber.whole c.args.range.min) (g.R.LayoutNumber.whole c.args.range.max)) c.args.self.now.members) c.ask-asked.ensures.chunks c.ask-asked.ensures.found c.ask-asked.ensures.reads)
-    (reads-each g.V.ExpiredVal.expiration g.E.Ord.cmp c.args.time c.ask-asked.result c.args.self.now.chunks c.ask-asked.new.self.chunks (answer g.V.ExpiredVal.expiration g.E.Ord.cmp c.args.time (interval c.args.self.now.buckets (g.R.LayoutNumber.whole c.args.range.min) (g.R.LayoutNumber.whole c.args.range.max)) c.args.self.now.members) c.ask-asked.ensures.chunks c.ask-asked.ensures.found) (c.next_found.ensures.ended c.in_default.is) (walked g c))
+    (reads-each g.V.ExpiredVal.expiration g.E.Ord.cmp c.args.time c.ask-asked.result c.args.self.now.chunks c.ask-asked.new.self.chunks (answer g.V.ExpiredVal.expiration g.E.Ord.cmp c.args.time (interval c.args.self.now.buckets (g.R.LayoutNumber.whole c.args.range.min) (g.R.LayoutNumber.whole c.args.range.max)) c.args.self.now.members) c.ask-asked.ensures.chunks c.ask-asked.ensures.found) (c.next_found.ensures.walk.ended c.in_default.is) (walked g c))

@@ -3,7 +3,7 @@ use Rattle.i_tree.specs.Seg.Buckets.{chunk_count}
 use Rattle.i_tree.specs.Seg.Copies.{copies_in, members_in, Holds}
 use Rattle.i_tree.specs.Seg.Walk.{SameLive}
 use Rattle.i_tree.proofs.SegLemmas.Found.{holds-members_in, holds-own}
-use Rattle.i_tree.proofs.SegLemmas.Lent.{all-back}
+use Rattle.i_tree.proofs.SegLemmas.LentChunks.{all-back}
 use Rattle.i_tree.proofs.SegLemmas.Later.{Holds-walked}
 use Rattle.i_tree.proofs.seg.tree.SegExpTree.next_found.Goals as goal
 
@@ -32,13 +32,10 @@ invariant_of-self g c =
     rw (kept g c)
     (holds-own g.V.ExpiredVal.expiration g.E.Ord.cmp c.self.inside.latest (chunk_count c.self.inside.layout) (copies_in c.next_value.new.chunks) _ (small g c) (holds g c))
 
-pub returns-clause-found : goal.returns-clause-found
-returns-clause-found g c = rw (kept g c, ← c.self.view_is, ← c.deref_mut.ensures.value) c.next_value.ensures.found
-
 pub returns-clause-members : goal.returns-clause-members
 returns-clause-members g c =
     rw (kept g c, ← c.self.view_is)
     (holds-members_in g.V.ExpiredVal.expiration g.E.Ord.cmp c.self.inside.latest (chunk_count c.self.inside.layout) (copies_in c.next_value.new.chunks) _ (small g c) (holds g c))
 
-pub returns-clause-loses : goal.returns-clause-loses
-returns-clause-loses g c = rw (kept g c, ← c.self.view_is, ← c.deref_mut.ensures.value) c.next_value.ensures.loses
+pub returns-clause-walk : goal.returns-clause-walk
+returns-clause-walk g c = rw (kept g c, ← c.self.view_is, ← c.deref_mut.ensures.value) c.next_value.ensures

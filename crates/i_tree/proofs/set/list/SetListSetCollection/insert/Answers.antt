@@ -1,4 +1,4 @@
-use Rattle.std.proofs.Common.{◌≡◌, ◌≤◌, length, sym, ap, ◌∙◌, subst, arith}
+use Rattle.std.proofs.Common.{◌≡◌, ◌≤◌, length, sym, ap, ◌∙◌, subst, arith, rules}
 use Rattle.std.specs.List.{insert}
 use Rattle.std.proofs.lemmas.List.Edits.{length-insert}
 use Rattle.i_tree.specs.Set.Pairs.{IsOrdered}
@@ -10,11 +10,17 @@ use Rattle.i_tree.proofs.set.list.SetListSetCollection.insert.Goals as goal
 pub returns-then-len-clause-handles : goal.returns-then-len-clause-handles
 returns-then-len-clause-handles g c = AreApart-viewed c.self.view_is c.self.invariant
 
-pub returns-in-Err-clause-err : goal.returns-in-Err-clause-err
-returns-in-Err-clause-err g c =
+pub returns-in-Err-clause-inserts : goal.returns-in-Err-clause-inserts
+returns-in-Err-clause-inserts g c =
     let e = c.in-Err.ensures in
-    same_contents (e.items ∙ ap (λ list. list.values) c.self.view_is)
-    (omega (arith, ap (λ list. list.spare) c.self.view_is, e.err, e.full, e.len))
+    record {
+      joins = search rules;
+      with_spare = search rules;
+      err = same_contents (e.items ∙ ap (λ list. list.values) c.self.view_is) (omega (arith, ap (λ list. list.spare) c.self.view_is, e.err, e.full, e.len));
+      no_handle = search rules;
+      refused = search rules;
+      room = search rules;
+    }
 
 pub returns-in-Err-clause-handles : goal.returns-in-Err-clause-handles
 returns-in-Err-clause-handles g c = AreApart-numbered c.reserve.new.self.items (omega (arith, c.self.invariant, ap length (c.in-Err.ensures).items))
@@ -55,10 +61,17 @@ returns-clause-handles g c =
     AreApart-numbered c.insert_at.new.items.items
     (omega (arith, c.if-len.false, c.len.ensures, c.self.inside.values.ok.0, ap (λ list. length list.values) c.self.view_is, ap length (inserted g c), length-insert c.args.self.now.values c.place_of-place.result c.args.val (within g c)))
 
-pub returns-clause-joins : goal.returns-clause-joins
-returns-clause-joins g c =
+pub returns-clause-inserts : goal.returns-clause-inserts
+returns-clause-inserts g c =
     let at_place = subst (λ values. IsPlaceFor g.V.KeyValue.key_of g.K.Ord.cmp c.key.result.now values c.place_of-place.result) (c.deref.ensures.value ∙ old_items g c) c.place_of-place.ensures.splits in
-    (c.place_of-place.result, within g c, subst (λ key. IsPlaceFor g.V.KeyValue.key_of g.K.Ord.cmp key c.args.self.now.values c.place_of-place.result) c.key.ensures at_place, inserted g c)
+    record {
+      joins = (c.place_of-place.result, within g c, subst (λ key. IsPlaceFor g.V.KeyValue.key_of g.K.Ord.cmp key c.args.self.now.values c.place_of-place.result) c.key.ensures at_place, inserted g c);
+      with_spare = search rules;
+      err = search rules;
+      no_handle = search rules;
+      refused = search rules;
+      room = search rules;
+    }
 
 pub returns-in-Err-clause-in_order : goal.returns-in-Err-clause-in_order
 returns-in-Err-clause-in_order g c =

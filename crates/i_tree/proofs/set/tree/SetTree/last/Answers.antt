@@ -1,11 +1,11 @@
 use Rattle.std.proofs.Common.{[], ◌∷◌, ◌++◌, refl, sym, ap, ◌∙◌}
 use Rattle.std.proofs.lemmas.List.{append-nil}
-use Rattle.i_tree.proofs.CoreLemmas.Descent.{IsCutAt-top, cut_at_end, goes_right, falls_right}
-use Rattle.i_tree.proofs.CoreLemmas.Contexts.{part_at-none}
-use Rattle.i_tree.proofs.CoreLemmas.PartHandles.{parts_live}
+use Rattle.i_tree.proofs.RbLemmas.SearchPath.Descent.{IsCutAt-top, cut_at_end, goes_right, falls_right}
+use Rattle.i_tree.proofs.RbLemmas.Shape.Contexts.{subtree_at-none}
+use Rattle.i_tree.proofs.RbLemmas.Shape.SubtreeHandles.{subtrees_live}
 use Rattle.i_tree.proofs.SetLemmas.Search.{last_handle-end}
-use Rattle.i_tree.specs.Core.RbTree.{Contents}
-use Rattle.i_tree.specs.Core.Shape.{entries, left_at, occurs, last_handle}
+use Rattle.i_tree.specs.Rb.RbTree.{Contents}
+use Rattle.i_tree.specs.Rb.Shape.{entries, left_at, occurs, last_handle}
 use Rattle.i_tree.proofs.set.tree.SetTree.last.Goals as goal
 
 pub loop-here-init : goal.loop-here-init
@@ -18,13 +18,13 @@ right-here-requires g c = c.loop-here.invariant.1.live c.loop-here-test.true
 pub loop-here-smaller : goal.loop-here-smaller
 loop-here-smaller g c =
     let tree = c.self.inside.core.shape in
-    let found = parts_live c.loop-here.here tree (c.loop-here.invariant.1.live c.loop-here-test.true) in
+    let found = subtrees_live c.loop-here.here tree (c.loop-here.invariant.1.live c.loop-here-test.true) in
     falls_right tree c.loop-here.here found.0 found.1 c.right-here.result c.right-here.ensures.core.falls c.right-here.ensures.part
 
 pub loop-here-preserved : goal.loop-here-preserved
 loop-here-preserved g c =
     let tree = c.self.inside.core.shape in
-    let found = parts_live c.loop-here.here tree (c.loop-here.invariant.1.live c.loop-here-test.true) in
+    let found = subtrees_live c.loop-here.here tree (c.loop-here.invariant.1.live c.loop-here-test.true) in
     let front = c.loop-here.invariant.0 ++ entries (left_at c.loop-here.here tree) in (
       front ++ (c.loop-here.here, found.0) ∷ [],
       goes_right tree c.loop-here.here found.0 found.1 c.loop-here.invariant.1 c.right-here.result c.right-here.ensures.live c.right-here.ensures.part,
@@ -35,6 +35,6 @@ pub returns : goal.returns
 returns g c =
     let tree = c.self.inside.core.shape in
     let front = c.loop-here.invariant.0 in
-    let empty = part_at-none c.loop-here.here tree (ap (λ handle. occurs handle tree) c.loop-here-test.false ∙ c.root-here.ensures.core.handles.none_empty) in
+    let empty = subtree_at-none c.loop-here.here tree (ap (λ handle. occurs handle tree) c.loop-here-test.false ∙ c.root-here.ensures.core.handles.none_empty) in
     c.loop-here.invariant.2
     ∙ ap last_handle (sym (ap (λ (contents : Contents g.row.V.Denot). entries contents.shape) (sym c.self.view_is) ∙ cut_at_end c.loop-here.invariant.1 empty ∙ append-nil front))

@@ -1,13 +1,12 @@
 use Rattle.std.proofs.Common.{◌≢◌, ℕ, length, sym, ap, ◌∙◌, subst}
 use Rattle.std.specs.declared.cmp.Ordering.TheVariants.{Equal}
-use Rattle.i_tree.proofs.CoreLemmas.Looking.{keys_around}
+use Rattle.i_tree.proofs.RbLemmas.SearchPath.Search.{keys_around}
 use Rattle.i_tree.proofs.RootLemmas.Joined.{All-of_map}
 use Rattle.i_tree.proofs.SetLemmas.Search.{below_from_ordered}
-use Rattle.i_tree.specs.Core.Place.{IsPlaceBetween}
-use Rattle.i_tree.specs.Core.RbTree.{Contents}
-use Rattle.i_tree.specs.Core.Ways.{place_below}
-use Rattle.i_tree.specs.Core.Shape.{entries}
-use Rattle.i_tree.specs.Root.Descent.{LooksDown}
+use Rattle.i_tree.specs.Rb.Place.{IsPlaceBetween, place_below}
+use Rattle.i_tree.specs.Rb.RbTree.{Contents}
+use Rattle.i_tree.specs.Rb.Shape.{entries}
+use Rattle.i_tree.specs.Root.Descent.{Searches}
 use Rattle.i_tree.specs.Set.Pairs.{IsOrdered, LacksKey}
 use Rattle.i_tree.proofs.set.tree.SetTree.place_of.Goals as goal
 
@@ -17,11 +16,11 @@ returns-clause-place g c =
     let total = g.met.K.Ord.total in
     let key = c.args.key.now in
     let tree = c.self.inside.core.shape in
-    let looked = c.look_down-looked.result in
-    let end = c.look_down-looked.ensures.end in
+    let ended = c.search_down-ended.result in
+    let end = c.search_down-ended.ensures.end in
     let ordered = subst (λ (contents : Contents g.row.V.Denot). IsOrdered key_of g.K.Ord.cmp (entries contents.shape)) (sym c.self.view_is) c.requires.in_order in
     let lacks = subst (λ (contents : Contents g.row.V.Denot). LacksKey key_of g.K.Ord.cmp (entries contents.shape) key) (sym c.self.view_is) c.requires.absent in
-    let around = keys_around key_of total key tree (place_below looked.above looked.on_right) looked.found looked.said _ end
+    let around = keys_around key_of total key tree (place_below ended.above ended.on_right) ended.found ended.said _ end
     (λ value answer says. says.says.met ∙ ap (λ (other : g.row.V.Denot). g.K.Ord.cmp (key_of other) key) says.shows)
     (λ (pair : ℕ × g.row.V.Denot). g.K.Ord.cmp (key_of pair.1) key ≢ Equal) (λ pair differs is equal. differs (is ∙ equal))
     (below_from_ordered key_of total (entries tree) ordered)
@@ -30,4 +29,4 @@ returns-clause-place g c =
 
 pub returns-clause-steps : goal.returns-clause-steps
 returns-clause-steps g c =
-    subst (λ (contents : Contents g.row.V.Denot). LooksDown g.C.Counter.made c.args.steps.now c.look_down-looked.new.steps (length (entries contents.shape)) 0 0) c.self.view_is c.look_down-looked.ensures.steps
+    subst (λ (contents : Contents g.row.V.Denot). Searches g.C.Counter.made c.args.steps.now c.search_down-ended.new.steps (length (entries contents.shape)) 0 0) c.self.view_is c.search_down-ended.ensures.steps

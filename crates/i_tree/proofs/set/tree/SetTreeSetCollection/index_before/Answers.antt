@@ -1,14 +1,14 @@
 use Rattle.std.proofs.Common.{ap, sym, ◌∙◌, subst}
-use Rattle.i_tree.proofs.CoreLemmas.PartHandles.{live-HasHandle}
+use Rattle.i_tree.proofs.RbLemmas.Shape.SubtreeHandles.{live-HasHandle}
 use Rattle.i_tree.proofs.SetLemmas.Handles.{AreApart-from_handles}
 use Rattle.i_tree.proofs.SetLemmas.Live.{HasHandle-before}
-use Rattle.i_tree.specs.Core.RbTree.{Contents}
-use Rattle.i_tree.specs.Core.Shape.{entries, IsLive}
+use Rattle.i_tree.specs.Rb.RbTree.{Contents}
+use Rattle.i_tree.specs.Rb.Shape.{entries, IsHandle}
 use Rattle.i_tree.proofs.set.tree.SetTreeSetCollection.index_before.Goals as goal
 
 pub before-requires : goal.before-requires
 before-requires g c =
-    subst (λ (contents : Contents g.row.V.Denot). IsLive contents.shape c.args.index) (sym c.self.view_is) (live-HasHandle c.args.index c.args.self.now.shape c.requires)
+    subst (λ (contents : Contents g.row.V.Denot). IsHandle contents.shape c.args.index) (sym c.self.view_is) (live-HasHandle c.args.index c.args.self.now.shape c.requires)
 
 pub returns-clause-value : goal.returns-clause-value
 returns-clause-value g c front value back is =

@@ -1,7 +1,7 @@
 use Rattle.std.proofs.lemmas.Result.{on_ok_weaker}
-use Rattle.i_tree.proofs.CoreLemmas.Insertion.{Joins-values}
+use Rattle.i_tree.proofs.RbLemmas.SearchPath.Insertion.{Joins-values}
 use Rattle.i_tree.proofs.SetLemmas.Handles.{AreApart-from_handles}
-use Rattle.i_tree.specs.Core.Shape.{entries}
+use Rattle.i_tree.specs.Rb.Shape.{entries}
 use Rattle.i_tree.proofs.set.tree.SetTreeSetCollection.insert.Goals as goal
 
 pub returns-clause-ok : goal.returns-clause-ok

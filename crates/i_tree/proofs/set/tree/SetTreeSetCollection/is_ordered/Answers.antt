@@ -1,10 +1,10 @@
 use Rattle.std.proofs.Common.{◌≡◌, length, ap, sym, ◌∙◌, ⊎_elim, arith}
 use Rattle.std.proofs.lemmas.Bool.{cases_lt}
-use Rattle.i_tree.proofs.SetLemmas.Ordered.{rising_from_last, way_on, rising_more, not_ordered, ordered_all, ordered_none}
-use Rattle.i_tree.proofs.CoreLemmas.PartHandles.{live_from_cut}
+use Rattle.i_tree.proofs.SetLemmas.Ordered.{rising_from_last, path_on, rising_more, not_ordered, ordered_all, ordered_none}
+use Rattle.i_tree.proofs.RbLemmas.Shape.SubtreeHandles.{live_from_cut}
 use Rattle.i_tree.proofs.SetLemmas.Handles.{AreApart-from_handles}
-use Rattle.i_tree.specs.Core.RbTree.{Contents}
-use Rattle.i_tree.specs.Core.Shape.{entries}
+use Rattle.i_tree.specs.Rb.RbTree.{Contents}
+use Rattle.i_tree.specs.Rb.Shape.{entries}
 use Rattle.i_tree.proofs.set.tree.SetTreeSetCollection.is_ordered.Goals as goal
 
 pub loop-init : goal.loop-init
@@ -19,7 +19,7 @@ before-before-requires g c =
 pub key_at-requires : goal.key_at-requires
 key_at-requires g c =
     let pairs_are = ap (λ (contents : Contents g.row.V.Denot). entries contents.shape) c.self.view_is in
-    let way = way_on g.V.KeyValue.key_of g.K.Ord.cmp (entries c.args.self.now.shape) (entries c.self.inside.core.shape) c.before-before.result c.loop.here c.loop.counter c.len-end.result
+    let way = path_on g.V.KeyValue.key_of g.K.Ord.cmp (entries c.args.self.now.shape) (entries c.self.inside.core.shape) c.before-before.result c.loop.here c.loop.counter c.len-end.result
     pairs_are c.loop.invariant c.loop-test.true c.len-end.ensures.value c.before-before.ensures.value in
     live_from_cut c.before-before.result c.args.self.now.shape way.lower.front way.lower.lower _ way.lower.cut
 
@@ -34,7 +34,7 @@ returns-in_default-clause-cases g c =
     let key_of = g.V.KeyValue.key_of in
     let cmp = g.K.Ord.cmp in
     let pairs_are = ap (λ (contents : Contents g.row.V.Denot). entries contents.shape) c.self.view_is in
-    let way = way_on key_of cmp (entries c.args.self.now.shape) (entries c.self.inside.core.shape) c.before-before.result c.loop.here c.loop.counter c.len-end.result
+    let way = path_on key_of cmp (entries c.args.self.now.shape) (entries c.self.inside.core.shape) c.before-before.result c.loop.here c.loop.counter c.len-end.result
     pairs_are c.loop.invariant c.loop-test.true c.len-end.ensures.value c.before-before.ensures.value in
     let lower_is : c.key_at.result.now ≡ key_of way.lower.lower = c.key_at.ensures way.lower.front way.lower.lower _ way.lower.cut in
     let here_is : c.key_at-in-loop.result.now ≡ key_of way.rising.value = c.key_at-in-loop.ensures way.rising.front way.rising.value way.rising.back way.rising.cut in
@@ -46,7 +46,7 @@ loop-preserved g c some =
     let key_of = g.V.KeyValue.key_of in
     let cmp = g.K.Ord.cmp in
     let pairs_are = ap (λ (contents : Contents g.row.V.Denot). entries contents.shape) c.self.view_is in
-    let way = way_on key_of cmp (entries c.args.self.now.shape) (entries c.self.inside.core.shape) c.before-before.result c.loop.here c.loop.counter c.len-end.result
+    let way = path_on key_of cmp (entries c.args.self.now.shape) (entries c.self.inside.core.shape) c.before-before.result c.loop.here c.loop.counter c.len-end.result
     pairs_are c.loop.invariant c.loop-test.true c.len-end.ensures.value c.before-before.ensures.value in
     let lower_is : c.key_at.result.now ≡ key_of way.lower.lower = c.key_at.ensures way.lower.front way.lower.lower _ way.lower.cut in
     let here_is : c.key_at-in-loop.result.now ≡ key_of way.rising.value = c.key_at-in-loop.ensures way.rising.front way.rising.value way.rising.back way.rising.cut in

@@ -1,6 +1,6 @@
 use Rattle.std.proofs.Common.{◌<◌, length}
 use Rattle.i_tree.proofs.SetLemmas.Ordered.{IsRisingFrom}
-use Rattle.i_tree.specs.Core.Shape.{entries}
+use Rattle.i_tree.specs.Rb.Shape.{entries}
 use Rattle.i_tree.proofs.set.tree.SetTreeSetCollection.is_ordered.Given as goal
 
 -- From the handle on, of as many pairs as the counter says, the keys rise.

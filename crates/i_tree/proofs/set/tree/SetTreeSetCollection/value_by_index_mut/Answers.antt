@@ -1,18 +1,18 @@
 use Rattle.std.proofs.Common.{refl, ap, sym, ◌∙◌, subst}
-use Rattle.i_tree.proofs.CoreLemmas.PartHandles.{value_at, live-HasHandle}
+use Rattle.i_tree.proofs.RbLemmas.Shape.SubtreeHandles.{value_at, live-HasHandle}
 use Rattle.i_tree.proofs.SetLemmas.Handles.{AreApart-from_handles}
-use Rattle.i_tree.specs.Core.RbTree.{Contents, contents_with_item}
-use Rattle.i_tree.specs.Core.Shape.{entries, IsLive}
+use Rattle.i_tree.specs.Rb.RbTree.{Contents, contents_with_item}
+use Rattle.i_tree.specs.Rb.Shape.{entries, IsHandle}
 use Rattle.i_tree.proofs.set.tree.SetTreeSetCollection.value_by_index_mut.Goals as goal
 
 pub item_mut-requires : goal.item_mut-requires
 item_mut-requires g c =
-    subst (λ (contents : Contents g.row.V.Denot). IsLive contents.shape c.args.index) (sym c.self.view_is) (live-HasHandle c.args.index c.args.self.now.shape c.requires)
+    subst (λ (contents : Contents g.row.V.Denot). IsHandle contents.shape c.args.index) (sym c.self.view_is) (live-HasHandle c.args.index c.args.self.now.shape c.requires)
 
 pub returns : goal.returns
 returns g c =
     let tree = c.self.inside.core.shape in
-    let live = subst (λ (contents : Contents g.row.V.Denot). IsLive contents.shape c.args.index) (sym c.self.view_is) (live-HasHandle c.args.index c.args.self.now.shape c.requires) in
+    let live = subst (λ (contents : Contents g.row.V.Denot). IsHandle contents.shape c.args.index) (sym c.self.view_is) (live-HasHandle c.args.index c.args.self.now.shape c.requires) in
     let pairs_are = ap (λ (contents : Contents g.row.V.Denot). entries contents.shape) c.self.view_is in (
       (refl, λ value. ap (λ (contents : Contents g.row.V.Denot). contents_with_item c.args.index contents value) c.self.view_is),
       record {

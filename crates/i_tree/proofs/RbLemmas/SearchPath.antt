@@ -1,0 +1,6 @@
+-- Lemmas on search paths and descents.
+pub mod Counts
+pub mod Descent
+pub mod Entries
+pub mod Insertion
+pub mod Search

@@ -1,0 +1,177 @@
+-- A subtree of a tree of handles: where it stands, and how it is reached from the node above it.
+use Rattle.std.proofs.Common.{◌≡◌, ◌≢◌, ℕ, ◌<◌, ◌≤◌, List, [], ◌∷◌, ◌++◌, length, refl, sym, ap, ◌∙◌, subst, append_assoc, length-append, arith}
+use Rattle.i_tree.specs.declared.TheConstants.{EMPTY_REF}
+use Rattle.i_tree.specs.declared.rb.links.Colour.{Colour}
+use Rattle.i_tree.specs.declared.rb.links.Side.TheVariants.{Left, Right}
+use Rattle.i_tree.specs.Rb.Shape.{Shape, leaf, fork, top, entries, subtree_at, left_subtree, right_subtree, left_at, right_at, last_handle, occurs, IsHandle, AreHandles}
+use Rattle.i_tree.specs.Rb.Context.{Frame, plug}
+use Rattle.i_tree.proofs.RbLemmas.Shape.Contexts.{Cut, cut_at, one_if_same-same, occurs-plug, subtree_at-here, subtree_at-none, subtree_at-cut, before_hole, after_hole, entries-plug, same_cut, occurs_among-entries, occurs_among}
+
+module _ {T : Type 0} where
+  pub subtree_at-top : (tree : Shape T) → subtree_at (top tree) tree ≡ tree
+  subtree_at-top leaf = refl
+  subtree_at-top (fork shade before own item after) = subtree_at-here shade before own item after
+
+  pub live-top : (tree : Shape T) → top tree ≢ EMPTY_REF → IsHandle tree (top tree)
+  live-top leaf apart = absurd (apart refl)
+  live-top (fork shade before own item after) apart = let here = one_if_same-same own in omega arith
+
+  -- this subtree of the tree has the handle as its top
+  pub record IsTopOf (tree : Shape T) (handle : ℕ) (subtree : Shape T) : Type 0 where
+    pub value : handle ≡ top subtree
+    pub at : subtree_at handle tree ≡ subtree
+    pub live : handle ≢ EMPTY_REF → IsHandle tree handle
+
+  -- a subtree is the one at its top
+  pub subtree_at-subtree : (around : List (Frame T)) (subtree : Shape T) → AreHandles (plug around subtree) → subtree_at (top subtree) (plug around subtree) ≡ subtree
+  subtree_at-subtree around leaf handles = subtree_at-none EMPTY_REF (plug around leaf) handles.none_empty
+  subtree_at-subtree around (fork shade before own item after) handles = subtree_at-cut around shade before own item after (handles.apart own)
+
+  pub live-subtree : (around : List (Frame T)) (subtree : Shape T) → top subtree ≢ EMPTY_REF → IsHandle (plug around subtree) (top subtree)
+  live-subtree around subtree apart =
+      let inside = live-top subtree apart in
+      let total = occurs-plug (top subtree) around subtree in
+      omega arith
+
+  pub IsTopOf-subtree : (tree : Shape T) (around : List (Frame T)) (subtree : Shape T) → tree ≡ plug around subtree → AreHandles tree → IsTopOf tree (top subtree) subtree
+  IsTopOf-subtree tree around subtree is handles =
+      let P : Shape T → Type 0 = λ whole. AreHandles whole → IsTopOf whole (top subtree) subtree in
+      let whole : P (plug around subtree) = λ inner. record { value = refl; at = subtree_at-subtree around subtree inner; live = live-subtree around subtree } in
+      subst P (sym is) whole handles
+
+  pub IsTopOf-root : (tree : Shape T) (root : ℕ) → AreHandles tree → root ≡ top tree → IsTopOf tree root tree
+  IsTopOf-root tree root handles root_is =
+      let P : ℕ → Type 0 = λ handle. IsTopOf tree handle tree in
+      subst P (sym root_is) (IsTopOf-subtree tree [] tree refl handles)
+
+  -- where there is no handle, the subtree is empty
+  pub IsTopOf-none : (tree : Shape T) (handle : ℕ) (subtree : Shape T) → AreHandles tree → IsTopOf tree handle subtree → handle ≡ EMPTY_REF → subtree ≡ leaf
+  IsTopOf-none tree handle subtree handles top_of none =
+      sym top_of.at ∙ ap (λ number. subtree_at number tree) none ∙ subtree_at-none EMPTY_REF tree handles.none_empty
+
+  -- a tree without entries is empty
+  pub leaf-without_entries : (tree : Shape T) → length (entries tree) ≡ 0 → tree ≡ leaf
+  leaf-without_entries leaf none = refl
+  leaf-without_entries (fork colour before handle item after) none =
+      absurd (omega (arith, length-append (entries before) ((handle, item) ∷ entries after)))
+
+  -- the subtrees at a handle are those of its node
+  pub subtree_at-of_cut : (tree : Shape T) (handle : ℕ) → AreHandles tree → (cut : Cut tree handle)
+      → subtree_at handle tree ≡ fork cut.colour cut.before handle cut.item cut.after
+  subtree_at-of_cut tree handle handles cut =
+      let P : Shape T → Type 0 = λ whole. occurs handle whole ≤ 1 → subtree_at handle whole ≡ fork cut.colour cut.before handle cut.item cut.after in
+      subst P (sym cut.is) (subtree_at-cut cut.around cut.colour cut.before handle cut.item cut.after) (handles.apart handle)
+
+  pub IsTopOf-left : (tree : Shape T) (handle child : ℕ) → AreHandles tree → IsHandle tree handle
+      → ((around : List (Frame T)) (colour : Colour) (near : Shape T) (item : T) (far : Shape T) → tree ≡ plug around (fork colour near handle item far) → child ≡ top near)
+      → IsTopOf tree child (left_at handle tree)
+  IsTopOf-left tree handle child handles live child_is =
+      let cut = cut_at tree handle live in
+      let frame : Frame T = record { side = Left; colour = cut.colour; handle = handle; item = cut.item; sibling = cut.after } in
+      let P : Shape T → Type 0 = λ subtree. IsTopOf tree child subtree in
+      let Q : ℕ → Type 0 = λ number. IsTopOf tree number cut.before in
+      subst P (sym (ap left_subtree (subtree_at-of_cut tree handle handles cut)))
+      (subst Q (sym (child_is cut.around cut.colour cut.before cut.item cut.after cut.is)) (IsTopOf-subtree tree (frame ∷ cut.around) cut.before cut.is handles))
+
+  pub IsTopOf-right : (tree : Shape T) (handle child : ℕ) → AreHandles tree → IsHandle tree handle
+      → ((around : List (Frame T)) (colour : Colour) (near : Shape T) (item : T) (far : Shape T) → tree ≡ plug around (fork colour far handle item near) → child ≡ top near)
+      → IsTopOf tree child (right_at handle tree)
+  IsTopOf-right tree handle child handles live child_is =
+      let cut = cut_at tree handle live in
+      let frame : Frame T = record { side = Right; colour = cut.colour; handle = handle; item = cut.item; sibling = cut.before } in
+      let P : Shape T → Type 0 = λ subtree. IsTopOf tree child subtree in
+      let Q : ℕ → Type 0 = λ number. IsTopOf tree number cut.after in
+      subst P (sym (ap right_subtree (subtree_at-of_cut tree handle handles cut)))
+      (subst Q (sym (child_is cut.around cut.colour cut.after cut.item cut.before cut.is)) (IsTopOf-subtree tree (frame ∷ cut.around) cut.after cut.is handles))
+
+  -- the entries of a subtree are those of the two subtrees below it, around its own
+  pub entries-subtree_at : (tree : Shape T) (handle : ℕ) (item : T) → AreHandles tree → IsHandle tree handle
+      → ((around : List (Frame T)) (colour : Colour) (before : Shape T) (held : T) (after : Shape T) → tree ≡ plug around (fork colour before handle held after) → item ≡ held)
+      → entries (subtree_at handle tree) ≡ entries (left_at handle tree) ++ (handle, item) ∷ entries (right_at handle tree)
+  entries-subtree_at tree handle item handles live item_is =
+      let cut = cut_at tree handle live in
+      let is = subtree_at-of_cut tree handle handles cut in
+      let held : item ≡ cut.item = item_is cut.around cut.colour cut.before cut.item cut.after cut.is in
+      let P : Shape T → Type 0 = λ subtree. entries subtree ≡ entries (left_subtree subtree) ++ (handle, item) ∷ entries (right_subtree subtree) in
+      subst P (sym is) (ap (λ (own : T). entries cut.before ++ (handle, own) ∷ entries cut.after) (sym held))
+
+  -- the last handle of a list that ends so
+  pub last_handle-append : (front : List (ℕ × T)) (entry : ℕ × T) (back : List (ℕ × T)) → last_handle (front ++ entry ∷ back) ≡ last_handle (entry ∷ back)
+  last_handle-append [] entry back = refl
+  last_handle-append (first ∷ []) entry back = refl
+  last_handle-append (first ∷ second ∷ front) entry back = last_handle-append (second ∷ front) entry back
+
+  -- where a list follows, its last handle is the last
+  last_handle-of_append : (front back : List (ℕ × T)) → 0 < length back → last_handle (front ++ back) ≡ last_handle back
+  last_handle-of_append front [] some = absurd (omega arith)
+  last_handle-of_append front (entry ∷ back) some = last_handle-append front entry back
+
+  pub some_entries : (tree : Shape T) → top tree ≢ EMPTY_REF → 0 < length (entries tree)
+  some_entries leaf apart = absurd (apart refl)
+  some_entries (fork shade before own item after) apart = let sum = length-append (entries before) ((own, item) ∷ entries after) in omega arith
+
+  pub last_handle-to_right : (tree : Shape T) (handle : ℕ) → AreHandles tree → IsHandle tree handle → top (right_at handle tree) ≢ EMPTY_REF
+      → last_handle (entries (right_at handle tree)) ≡ last_handle (entries (subtree_at handle tree))
+  last_handle-to_right tree handle handles live apart =
+      let cut = cut_at tree handle live in
+      let P : Shape T → Type 0 = λ subtree. top (right_subtree subtree) ≢ EMPTY_REF → last_handle (entries (right_subtree subtree)) ≡ last_handle (entries subtree) in
+      let at_cut : P (fork cut.colour cut.before handle cut.item cut.after) = λ some.
+      sym (last_handle-append (entries cut.before) (handle, cut.item) (entries cut.after) ∙ last_handle-of_append ((handle, cut.item) ∷ []) (entries cut.after) (some_entries cut.after some)) in
+      subst P (sym (subtree_at-of_cut tree handle handles cut)) at_cut apart
+
+  pub last_handle-here : (tree : Shape T) (handle : ℕ) → AreHandles tree → IsHandle tree handle → right_at handle tree ≡ leaf
+      → last_handle (entries (subtree_at handle tree)) ≡ handle
+  last_handle-here tree handle handles live none =
+      let cut = cut_at tree handle live in
+      let P : Shape T → Type 0 = λ subtree. right_subtree subtree ≡ leaf → last_handle (entries subtree) ≡ handle in
+      let at_cut : P (fork cut.colour cut.before handle cut.item cut.after) = λ empty.
+      last_handle-append (entries cut.before) (handle, cut.item) (entries cut.after) ∙ ap (λ after. last_handle ((handle, cut.item) ∷ entries after)) empty in
+      subst P (sym (subtree_at-of_cut tree handle handles cut)) at_cut none
+
+  pub fewer-to_right : (tree : Shape T) (handle : ℕ) → AreHandles tree → IsHandle tree handle
+      → length (entries (right_at handle tree)) < length (entries (subtree_at handle tree))
+  fewer-to_right tree handle handles live =
+      let cut = cut_at tree handle live in
+      let P : Shape T → Type 0 = λ subtree. length (entries (right_subtree subtree)) < length (entries subtree) in
+      let at_cut : P (fork cut.colour cut.before handle cut.item cut.after) = let sum = length-append (entries cut.before) ((handle, cut.item) ∷ entries cut.after) in omega arith in
+      subst P (sym (subtree_at-of_cut tree handle handles cut)) at_cut
+
+  -- no subtree is at `EMPTY_REF`
+  pub subtree_at-empty : (tree : Shape T) → AreHandles tree → subtree_at EMPTY_REF tree ≡ leaf
+  subtree_at-empty tree handles = subtree_at-none EMPTY_REF tree handles.none_empty
+
+  pub live-not_empty : (tree : Shape T) (handle : ℕ) → AreHandles tree → IsHandle tree handle → handle ≢ EMPTY_REF
+  live-not_empty tree handle handles live same = let none = handles.none_empty in let e = ap (λ number. occurs number tree) same in omega arith
+
+  -- where an entry of the tree is in the list: what is before it and after it, around the node and in its subtrees
+  pub list_cut : (tree : Shape T) (handle : ℕ) → AreHandles tree → (cut : Cut tree handle) (front : List (ℕ × T)) (item : T) (back : List (ℕ × T))
+      → entries tree ≡ front ++ (handle, item) ∷ back
+      → (front ≡ before_hole cut.around ++ entries cut.before) × (item ≡ cut.item) × (back ≡ entries cut.after ++ after_hole cut.around)
+  list_cut tree handle handles cut front item back is =
+      let node : Shape T = fork cut.colour cut.before handle cut.item cut.after in
+      let whole : entries tree ≡ before_hole cut.around ++ (entries node ++ after_hole cut.around) = ap (λ (subtree : Shape T). entries subtree) cut.is ∙ entries-plug cut.around node in
+      let cuts : before_hole cut.around ++ (entries node ++ after_hole cut.around)
+      ≡ (before_hole cut.around ++ entries cut.before) ++ (handle, cut.item) ∷ (entries cut.after ++ after_hole cut.around) = simp append_assoc in
+      let count : occurs_among handle (entries tree) ≡ occurs_among handle (front ++ (handle, item) ∷ back) = ap (occurs_among handle) is in
+      let total = occurs_among-entries handle tree in
+      let apart = handles.apart handle in
+      same_cut handle front back (before_hole cut.around ++ entries cut.before) (entries cut.after ++ after_hole cut.around) item cut.item
+      (omega arith) (sym is ∙ whole ∙ cuts)
+
+  pub length-subtree : (tree : Shape T) (around : List (Frame T)) (subtree : Shape T) → tree ≡ plug around subtree → length (entries subtree) ≤ length (entries tree)
+  length-subtree tree around subtree is =
+      let whole : length (entries tree) ≡ length (before_hole around ++ (entries subtree ++ after_hole around)) = ap (λ (shape : Shape T). length (entries shape)) is ∙ ap length (entries-plug around subtree) in
+      let outer = length-append (before_hole around) (entries subtree ++ after_hole around) in
+      let inner = length-append (entries subtree) (after_hole around) in
+      omega arith
+
+  -- where a left subtree isn't empty, the list before the handle ends with it
+  pub last_handle-to_left : (tree : Shape T) (handle : ℕ) → AreHandles tree → IsHandle tree handle → top (left_at handle tree) ≢ EMPTY_REF
+      → (front : List (ℕ × T)) (item : T) (back : List (ℕ × T)) → entries tree ≡ front ++ (handle, item) ∷ back
+      → last_handle (entries (left_at handle tree)) ≡ last_handle front
+  last_handle-to_left tree handle handles live apart front item back is =
+      let cut = cut_at tree handle live in
+      let left_is : left_at handle tree ≡ cut.before = ap left_subtree (subtree_at-of_cut tree handle handles cut) in
+      let some : 0 < length (entries cut.before) = some_entries cut.before (λ empty. apart (ap top left_is ∙ empty)) in
+      ap (λ subtree. last_handle (entries subtree)) left_is
+      ∙ sym (ap last_handle (list_cut tree handle handles cut front item back is).0 ∙ last_handle-of_append (before_hole cut.around) (entries cut.before) some)

@@ -1,0 +1,20 @@
+-- Definitions of the red-black core, of its slots and of its places.
+pub mod ArenaLends
+pub mod Balance
+pub mod Capacity
+pub mod Clear
+pub mod Context
+pub mod Detaching
+pub mod FreeSlots
+pub mod Items
+pub mod Place
+pub mod RbTree
+pub mod RbTreeLends
+pub mod Rebalancing
+pub mod Removal
+pub mod Rotation
+pub mod SearchPath
+pub mod Shape
+pub mod ShapeCode
+pub mod ShortSides
+pub mod Slots

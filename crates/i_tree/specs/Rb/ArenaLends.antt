@@ -1,0 +1,10 @@
+-- What an `Arena` ends as, where a `&mut` to one of its items is returned.
+use Rattle.std.specs.Prelude.{ℕ}
+use Rattle.std.specs.Borrow.{Lends, Fml, RattleType, MutBor}
+use Rattle.std.specs.declared.alloc.Allocator.{Ghosts}
+use Rattle.i_tree.specs.Rb.RbTree.{Contents, contents_with_item}
+use Rattle.i_tree.specs.contracts.rb.arena.Arena.{the_row}
+
+-- once the borrow r ends, the handle has the last item written through r
+abbrev pub lends_item : (T A : RattleType) (alloc : Ghosts A.Denot) (arena : MutBor (Contents T.Denot)) (handle : ℕ) → MutBor T.Denot → Fml
+lends_item T A alloc arena handle r = Lends (the_row T A alloc) T arena r (contents_with_item handle arena.now)
