@@ -1,6 +1,6 @@
 pub mod Counting
 pub mod Faults
-pub mod Passing
-pub mod Saying
+pub mod SegmentLines
 pub mod Sorting
 pub mod Splitting
+pub mod Words

@@ -1,8 +1,8 @@
 -- The text of replies.
 use Rattle.std.specs.Prelude.{ℕ, ℤ, List, [], ◌∷◌, ◌++◌, Option, Some, None, codes, flat_map}
 use Rattle.std.specs.Fmt.{signed_decimal}
-use Rattle.itree_lib.specs.SegMachine.{Reply}
-use Rattle.itree_lib.specs.SegMachine.{Reply as seg_reply}
+use Rattle.itree_lib.specs.Run.SegMachine.{Reply}
+use Rattle.itree_lib.specs.Run.SegMachine.{Reply as seg_reply}
 use Rattle.itree_lib.specs.declared.run.keys.KeyReply.{KeyReply}
 use Rattle.itree_lib.specs.declared.run.keys.KeyReply.TheVariants as key_reply
 use Rattle.itree_lib.specs.declared.run.sets.SetReply.{SetReply}

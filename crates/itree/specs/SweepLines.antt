@@ -4,7 +4,7 @@ use Rattle.std.specs.List.{filter_map}
 use Rattle.itree.specs.Grammar.{Says, LineSays, LinesSay}
 use Rattle.itree.specs.declared.lines.sweep.SweepLine.{SweepLine}
 use Rattle.itree.specs.declared.lines.sweep.SweepLine.TheVariants as sweep_line
-use Rattle.itree_lib.specs.Sweep.{IsFirstOverlap}
+use Rattle.itree_lib.specs.Sweep.Heights.{IsFirstOverlap}
 use Rattle.itree_lib.specs.declared.sweep.Point.{Point}
 use Rattle.itree_lib.specs.declared.sweep.Segment.{Segment}
 

@@ -7,14 +7,14 @@ use Rattle.std.specs.declared.cmp.Ordering.{Ordering}
 use Rattle.i_tree.specs.Seg.Buckets.{Buckets, IsLayout}
 use Rattle.itree.specs.Grammar.{lines_of, LinesSay, IsFirstFaulty}
 use Rattle.itree.specs.KeyLines.{KeyLine, SaysKeyCommand}
-use Rattle.itree_lib.specs.KeyMachine as keys
+use Rattle.itree_lib.specs.Run.KeyMachine as keys
 use Rattle.itree.specs.Replies.{key_reply_words, seg_reply_words, set_reply_words, height_words, reply_lines}
 use Rattle.itree.specs.SegLines.{SegLine, SaysSegCommand}
-use Rattle.itree_lib.specs.SegMachine as segments
-use Rattle.itree_lib.specs.SegMachine.{Reply as seg_reply}
+use Rattle.itree_lib.specs.Run.SegMachine as segments
+use Rattle.itree_lib.specs.Run.SegMachine.{Reply as seg_reply}
 use Rattle.itree.specs.SetLines.{SetLine, SaysSetCommand}
-use Rattle.itree_lib.specs.SetMachine as sets
-use Rattle.itree_lib.specs.Sweep.{IsHeightBelow, NoneCollide}
+use Rattle.itree_lib.specs.Run.SetMachine as sets
+use Rattle.itree_lib.specs.Sweep.Heights.{IsHeightBelow, NoneCollide}
 use Rattle.itree.specs.SweepLines.{SaysSweepLine, segments_of, points_of, IsOverlapLine}
 use Rattle.itree.specs.declared.lines.sweep.SweepLine.{SweepLine}
 use Rattle.itree.specs.declared.mode.Mode.{Mode}

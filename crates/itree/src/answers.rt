@@ -6,7 +6,7 @@ ghost use Rattle.i_tree.specs.Set.Pairs.{values, IsOrdered};
 ghost use Rattle.itree.specs.Modes.{HasItsLayout};
 ghost use Rattle.itree.specs.Sorting.{Sorts, SortsAll};
 ghost use Rattle.itree.specs.Texts.{AnswersKeys, AnswersSet, AnswersSegments, Answers, HasFirstFaulty, HasOverlapLine};
-ghost use Rattle.itree_lib.specs.SegMachine.{reply_of};
+ghost use Rattle.itree_lib.specs.Run.SegMachine.{reply_of};
 
 use crate::fault::Fault;
 use crate::lines::{KeyLine, SegLine, SetLine, parse_commands, reply_text};
@@ -94,7 +94,8 @@ fn answer_keys<A: Allocator + Copy, C: KeyExpCollection<TimedKey, i32, i32>>(
     collection: &mut C,
     commands: &[KeyLine],
 ) -> Result<String<A>, Fault>
-    ensures answered { IfOk result (λ output. AnswersKeys (C.stored collection.old) commands.now (string_bytes output)) }
+    ensures answered { IfOk result (λ output. AnswersKeys (C.stored collection.old) commands.now
+        (string_bytes output)) }
     ensures err { IfErr result (λ fault. fault ≡ Fault.Stopped) }
 {
     let mut replies = Vec::new(alloc);
@@ -109,7 +110,8 @@ fn answer_set<A: Allocator + Copy, C: SetCollection<i32, SetKey>>(
     commands: Vec<SetLine, A>,
 ) -> Result<String<A>, Fault>
     requires { IsOrdered (λ value. value.key) int_cmp (C.pairs set.old) }
-    ensures answered { IfOk result (λ output. AnswersSet (values (C.pairs set.old)) commands.items (string_bytes output)) }
+    ensures answered { IfOk result (λ output. AnswersSet (values (C.pairs set.old)) commands.items
+        (string_bytes output)) }
     ensures err { IfErr result (λ fault. fault ≡ Fault.Stopped) }
 {
     let mut replies = Vec::new(alloc);

@@ -10,7 +10,7 @@ use crate::answers::answer_text;
 use crate::fault::Fault;
 use crate::help::{HELP, asks_for_help};
 use crate::mode::Mode;
-use std::alloc::{Allocator, Global};
+use std::alloc::Allocator;
 use std::io::{Read, Write};
 
 #[cfg(test)]
@@ -29,31 +29,7 @@ mod tests;
 /// - 2 where the words neither name a mode nor ask for help, before any input is read; where a line is faulty in the mode,
 ///   before any command is run; and where two segments of a sweep overlap. `faults` is told which, and whether it takes that
 ///   changes nothing.
-pub fn run_itree<I: Read, O: Write, X: Write>(
-    alloc: Global,
-    words: &[&str],
-    input: &mut I,
-    output: &mut O,
-    faults: &mut X,
-) -> u8
-    ensures status { result ≤ 2 }
-    ensures answered { result ≡ 0 → ¬ (AsksForHelp words.now) → (mode : Mode) × Names words.now mode
-        × IfSome (I.remaining input.old) (λ text. (replies : List ℕ) × Answers mode text replies
-        × Appends (O.contents output.old) (O.contents output.new) replies) }
-    ensures helped { AsksForHelp words.now → (result ≢ 2)
-        × (result ≡ 0 → Appends (O.contents output.old) (O.contents output.new) HELP.now) }
-    ensures no_replies { result ≡ 2 → output.new ≡ output.old }
-    ensures no_fault { result ≢ 2 → faults.new ≡ faults.old }
-    ensures faulty_words { ¬ (AsksForHelp words.now) → ¬ (NamesMode words.now) → result ≡ 2 }
-    ensures faulty_line { result ≡ 2 → (mode : Mode) → Names words.now mode →
-        IfSome (I.remaining input.old) (HasFault mode) }
-    ensures unread { AsksForHelp words.now ⊎ ¬ (NamesMode words.now) → input.new ≡ input.old }
-{
-    run_over(alloc, words, input, output, faults)
-}
-
-/// As `run_itree`, with the memory of any allocator.
-pub fn run_over<A: Allocator + Copy, I: Read, O: Write, X: Write>(
+pub fn run_itree<A: Allocator + Copy, I: Read, O: Write, X: Write>(
     alloc: A,
     words: &[&str],
     input: &mut I,

@@ -1,14 +1,2 @@
-pub mod Agreeing
-pub mod Counted
-pub mod DoneEvents
-pub mod KeyRooms
-pub mod Knowing
-pub mod Members
-pub mod Scheduling
-pub mod SegServing
-pub mod Serving
-pub mod Served
-pub mod SetRooms
-pub mod SetServing
-pub mod Standing
-pub mod Sweeping
+pub mod RunLemmas
+pub mod SweepLemmas

@@ -1,15 +1,2 @@
-pub mod Agreeing
-pub mod CountedRun
-pub mod CountsLate
-pub mod KeyMachine
-pub mod KeyReplies
-pub mod KeyRoom
-pub mod Levels
-pub mod Probes
-pub mod SegMachine
-pub mod Serving
-pub mod SetMachine
-pub mod SetRoom
-pub mod StandsFor
-pub mod Schedule
+pub mod Run
 pub mod Sweep

@@ -3,7 +3,7 @@
 ghost use Rattle.std.specs.Prelude.{◌≡◌, ◌++◌, ◌∷◌, codes, map, IfSome, IsNone, OnOk, string_bytes};
 ghost use Rattle.itree.specs.Replies.{seg_reply_words, value_words};
 ghost use Rattle.itree.specs.SegLines.{SaysSegCommand, SaysNoSegCommand};
-ghost use Rattle.itree_lib.specs.SegMachine.{reply_of};
+ghost use Rattle.itree_lib.specs.Run.SegMachine.{reply_of};
 
 use super::{LineCommand, LineReply, number, three_numbers};
 use crate::timed_val::TimedVal;

@@ -89,7 +89,8 @@ fn two_numbers(words: &[&str]) -> Option<(i32, i32)>
 pub fn segment_line(text: &[u8], place: usize) -> usize
     requires { (said : List SweepLine) × LinesSay SaysSweepLine (lines_of text.now) said
         × (place < length (segments_of said)) }
-    ensures { (said : List SweepLine) → LinesSay SaysSweepLine (lines_of text.now) said → place < length (segments_of said)
+    ensures { (said : List SweepLine) → LinesSay SaysSweepLine (lines_of text.now) said →
+        place < length (segments_of said)
         → IsSegmentLine (lines_of text.now) said place result }
 {
     let mut number = 0;

@@ -1,6 +1,7 @@
 //! Tests of the whole program over memory, with what no contract says: the texts, and what goes wrong outside.
 
 use super::*;
+use std::alloc::Global;
 use std::io::{self, ErrorKind};
 use std::process::Abort;
 

@@ -3,8 +3,8 @@
 ghost use Rattle.std.specs.Prelude.{◌≡◌, ◌↔◌, [], IsTrue, length};
 ghost use Rattle.std.specs.Cmp.Lexicographic.{pointwise};
 ghost use Rattle.std.specs.declared.cmp.Ordering.{Ordering};
-ghost use Rattle.itree_lib.specs.Agreeing.{NoneRefused, OneEqualEach};
-ghost use Rattle.itree_lib.specs.KeyMachine.{State, beginning, Run};
+ghost use Rattle.itree_lib.specs.Run.Agreement.{NoneRefused, OneEqualEach};
+ghost use Rattle.itree_lib.specs.Run.KeyMachine.{State, beginning, Run};
 
 use super::keys::{KeyCommand, KeyReply};
 use i_tree::{Expiration, ExpiredKey};

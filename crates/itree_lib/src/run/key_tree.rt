@@ -3,12 +3,11 @@
 ghost use Rattle.std.specs.Prelude.{◌≡◌, ◌≤◌, ◌+◌, ◌++◌, List, length, vec_len, vec_capacity, IsOk, OnOk, OnErr, IfErr};
 ghost use Rattle.std.specs.declared.cmp.Ordering.{Ordering};
 ghost use Rattle.i_tree.specs.Key.KeyExpTree.{items};
-ghost use Rattle.itree_lib.specs.CountedRun.{CountsOne, CountsRun};
-ghost use Rattle.itree_lib.specs.KeyMachine.{State, beginning, Run};
-ghost use Rattle.itree_lib.specs.KeyReplies.{RepliesTo};
-ghost use Rattle.itree_lib.specs.KeyRoom.{RefusedOnlyWhereFull};
-ghost use Rattle.itree_lib.specs.Probes.{CanProbeAll, ProbesAllBy};
-ghost use Rattle.itree_lib.specs.StandsFor.{StandsFor};
+ghost use Rattle.itree_lib.specs.Run.Counted.{CountsOne, CountsRun};
+ghost use Rattle.itree_lib.specs.Run.KeyMachine.{RunsOver};
+ghost use Rattle.itree_lib.specs.Run.KeyReplies.{RepliesTo};
+ghost use Rattle.itree_lib.specs.Run.KeyRoom.{RefusedOnlyWhereFull};
+ghost use Rattle.itree_lib.specs.Run.Probes.{CanProbeAll, ProbesAllBy};
 
 use super::keys::{KeyCalls, KeyCommand, KeyReply, run_by};
 use i_tree::key::exp::KeyExpCollection;
@@ -26,7 +25,7 @@ impl<K: ExpiredKey<E>, E: Expiration, V: Copy, A: Allocator + Copy, L: Ledger> K
     V,
     KeyExpTree<K, E, V, A>,
 > for Steps<L> {
-    ghost use Rattle.itree_lib.specs.CountsLate.{counts_late};
+    ghost use Rattle.itree_lib.specs.Run.Late.{counts_late};
 
     ghost does = { λ reply steps tree steps' tree'. CountsOne reply steps tree steps' tree' };
 
@@ -92,12 +91,13 @@ where
     ensures run { OnOk result (
         (replies : List (KeyReply V)) × (out.new.items ≡ out.old.items ++ replies)
         × RepliesTo commands.now replies
-        × CountsRun commands.now replies steps.old steps.new (length (items tree.old.shape)) (length (items tree.new.shape))
+        × CountsRun commands.now replies
+        steps.old steps.new (length (items tree.old.shape)) (length (items tree.new.shape))
         × RefusedOnlyWhereFull tree.old.spare replies
-        × ((order : P → K → Ordering) → ProbesAllBy K.expiration E.cmp K.cmp (G.post probe) order (items tree.old.shape) commands.now
-        → (end : State K E V)
-        × Run K.expiration E.cmp K.cmp order (beginning (items tree.old.shape)) commands.now replies end
-        × StandsFor K.expiration E.cmp (items tree.new.shape) end.accepted end.last)) }
+        × ((order : P → K → Ordering)
+        → ProbesAllBy K.expiration E.cmp K.cmp (G.post probe) order (items tree.old.shape) commands.now
+        → RunsOver K.expiration E.cmp K.cmp order
+        (items tree.old.shape) commands.now replies (items tree.new.shape))) }
     ensures refused { IfErr result (λ cause. cause ≡ Refusal.OutOfMemory) }
     ensures err { OnErr result ((steps.new ≡ steps.old) × (tree.new ≡ tree.old) × (out.new.items ≡ out.old.items)) }
     ensures with_room { vec_len out.old + length commands.now ≤ vec_capacity out.old → IsOk result }

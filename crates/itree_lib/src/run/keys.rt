@@ -2,17 +2,17 @@
 
 ghost use Rattle.std.specs.Prelude.{◌≡◌, ◌≤◌, ◌+◌, ◌-◌, ◌++◌, true, false, Option, List, All, Contains, length, vec_len, vec_capacity, IsOk, OnOk, OnErr, IfErr, MatchBool};
 ghost use Rattle.std.specs.declared.cmp.Ordering.{Ordering};
-ghost use Rattle.itree_lib.specs.KeyMachine.{State, beginning, is_late, Run, Serves};
-ghost use Rattle.itree_lib.specs.KeyReplies.{IsReplyTo, RepliesTo};
-ghost use Rattle.itree_lib.specs.KeyRoom.{RefusedOnlyWhereFull};
-ghost use Rattle.itree_lib.specs.Serving.{DoesAll};
-ghost use Rattle.itree_lib.specs.Probes.{CanProbe, CanProbeAll, ProbesBy, ProbesAllBy, known_after};
-ghost use Rattle.itree_lib.specs.StandsFor.{StandsFor};
+ghost use Rattle.i_tree.specs.Root.Late.{is_late};
+ghost use Rattle.itree_lib.specs.Run.KeyMachine.{RunsOver, Serves};
+ghost use Rattle.itree_lib.specs.Run.KeyReplies.{IsReplyTo, RepliesTo};
+ghost use Rattle.itree_lib.specs.Run.KeyRoom.{RefusedOnlyWhereFull};
+ghost use Rattle.itree_lib.specs.Run.Effects.{DoesAll};
+ghost use Rattle.itree_lib.specs.Run.Probes.{CanProbe, CanProbeAll, ProbesBy, ProbesAllBy, known_after};
 
 pub use calls::KeyCalls;
 use calls::Plainly;
 use i_tree::key::exp::KeyExpCollection;
-use i_tree::{Expiration, ExpiredKey, Refusal};
+use i_tree::{Expiration, ExpiredKey, Refusal, is_late};
 use std::alloc::Allocator;
 use std::cmp::Ordering;
 
@@ -72,15 +72,15 @@ where
     // Each probe may be called on those keys, stored at the start or inserted before, that are live at its time.
     requires { CanProbeAll K.expiration E.cmp (G.pre probe) (C.stored c.old) commands.now }
 
-    // There is one reply for each command, of its kind, and none is a refusal before the room is full. By whatever order the probes answer at these keys, where it is monotone there, the replies are a run.
+    // There is one reply for each command, of its kind, and none is a refusal before the room is full. By whatever
+    // order the probes answer at these keys, where it is monotone there, the replies are a run.
     ensures run { OnOk result (
         (replies : List (KeyReply V)) × (out.new.items ≡ out.old.items ++ replies)
         × RepliesTo commands.now replies
         × RefusedOnlyWhereFull (C.room c.old - length (C.stored c.old)) replies
-        × ((order : P → K → Ordering) → ProbesAllBy K.expiration E.cmp K.cmp (G.post probe) order (C.stored c.old) commands.now
-        → (end : State K E V)
-        × Run K.expiration E.cmp K.cmp order (beginning (C.stored c.old)) commands.now replies end
-        × StandsFor K.expiration E.cmp (C.stored c.new) end.accepted end.last)) }
+        × ((order : P → K → Ordering)
+        → ProbesAllBy K.expiration E.cmp K.cmp (G.post probe) order (C.stored c.old) commands.now
+        → RunsOver K.expiration E.cmp K.cmp order (C.stored c.old) commands.now replies (C.stored c.new))) }
     ensures refused { IfErr result (λ cause. cause ≡ Refusal.OutOfMemory) }
     ensures err { OnErr result ((c.new ≡ c.old) × (out.new.items ≡ out.old.items)) }
     ensures with_room { vec_len out.old + length commands.now ≤ vec_capacity out.old → IsOk result }
@@ -110,10 +110,9 @@ where
         (replies : List (KeyReply V)) × (out.new.items ≡ out.old.items ++ replies)
         × RepliesTo commands.now replies
         × DoesAll S.does replies calls.old c.old calls.new c.new
-        × ((order : P → K → Ordering) → ProbesAllBy K.expiration E.cmp K.cmp (G.post probe) order (C.stored c.old) commands.now
-        → (end : State K E V)
-        × Run K.expiration E.cmp K.cmp order (beginning (C.stored c.old)) commands.now replies end
-        × StandsFor K.expiration E.cmp (C.stored c.new) end.accepted end.last)) }
+        × ((order : P → K → Ordering)
+        → ProbesAllBy K.expiration E.cmp K.cmp (G.post probe) order (C.stored c.old) commands.now
+        → RunsOver K.expiration E.cmp K.cmp order (C.stored c.old) commands.now replies (C.stored c.new))) }
     ensures refused { IfErr result (λ cause. cause ≡ Refusal.OutOfMemory) }
     ensures err { OnErr result ((calls.new ≡ calls.old) × (c.new ≡ c.old) × (out.new.items ≡ out.old.items)) }
     ensures with_room { vec_len out.old + length commands.now ≤ vec_capacity out.old → IsOk result }
@@ -144,7 +143,8 @@ where
     S: KeyCalls<K, E, V, C>,
     G: Fn(P, K) -> Ordering,
     requires { CanProbe K.expiration E.cmp (G.pre probe.now) command (C.stored c.old) }
-    ensures steps { (order : P → K → Ordering) → ProbesBy K.expiration E.cmp K.cmp (G.post probe.now) order command (C.stored c.old)
+    ensures steps { (order : P → K → Ordering)
+        → ProbesBy K.expiration E.cmp K.cmp (G.post probe.now) order command (C.stored c.old)
         → Serves K.expiration E.cmp K.cmp order (C.stored c.old) last.old command result (C.stored c.new) last.new }
     ensures known { All (Contains (known_after command (C.stored c.old))) (C.stored c.new) }
     ensures does { S.does result calls.old c.old calls.new c.new }
@@ -187,12 +187,12 @@ where
 
 // Makes `time` the last time, unless it is before it.
 fn advance<E: Expiration>(last: &mut Option<E>, time: E) -> bool
-    ensures { MatchBool result ((is_late E.cmp last.old time ≡ false) × (last.new ≡ Some time)) ((is_late E.cmp last.old time ≡ true) × (last.new ≡ last.old)) }
+    ensures { MatchBool result
+        ((is_late E.cmp last.old time ≡ false) × (last.new ≡ Some time))
+        ((is_late E.cmp last.old time ≡ true) × (last.new ≡ last.old)) }
 {
-    if let Some(latest) = *last {
-        if time < latest {
-            return false;
-        }
+    if is_late(*last, time) {
+        return false;
     }
     *last = Some(time);
     true

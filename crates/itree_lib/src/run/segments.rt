@@ -1,13 +1,11 @@
 //! Runs of commands over a tree of segments.
 
 ghost use Rattle.std.specs.Prelude.{◌≡◌, ◌≤◌, ◌+◌, ◌++◌, List, length, map, vec_len, vec_capacity, IsOk, OnOk, OnErr, IfErr};
-ghost use Rattle.i_tree.specs.Seg.Members.{Member};
-ghost use Rattle.itree_lib.specs.KeyMachine.{is_late};
-ghost use Rattle.itree_lib.specs.SegMachine.{reply_of, StandsFor, Serves, Run};
+ghost use Rattle.itree_lib.specs.Run.SegMachine.{reply_of, Serves, RunsOver};
 
 use i_tree::seg::exp::{SegExpCollection, SegRange};
 use i_tree::seg::tree::SegExpTree;
-use i_tree::{Expiration, ExpiredVal, LayoutNumber, Refusal};
+use i_tree::{Expiration, ExpiredVal, LayoutNumber, Refusal, is_late};
 use std::alloc::{Allocator, Global};
 
 /// A command to a tree of segments.
@@ -62,10 +60,8 @@ where
     ensures run { OnOk result (
         (replies : List (SegReply V B)) × (out.new.items ≡ out.old.items ++ replies)
         × (length replies ≡ length commands.now)
-        × ((bag : List (Member V)) → StandsFor V.expiration E.cmp tree.old.members tree.old.latest bag
-        → (end : List (Member V))
-        × Run V.expiration E.cmp R.whole tree.old.buckets (record { bag = bag; latest = tree.old.latest }) commands.now (map reply_of replies) (record { bag = end; latest = tree.new.latest })
-        × StandsFor V.expiration E.cmp tree.new.members tree.new.latest end)) }
+        × RunsOver V.expiration E.cmp R.whole tree.old.buckets tree.old.members tree.old.latest
+        commands.now (map reply_of replies) tree.new.members tree.new.latest) }
     ensures buckets { tree.new.buckets ≡ tree.old.buckets }
     ensures refused { IfErr result (λ cause. cause ≡ Refusal.OutOfMemory) }
     ensures err { OnErr result ((tree.new ≡ tree.old) × (out.new.items ≡ out.old.items)) }
@@ -92,7 +88,8 @@ where
     V: ExpiredVal<E>,
     A: Allocator + Copy,
     B: Allocator,
-    ensures serves { Serves V.expiration E.cmp R.whole tree.old.buckets tree.old.members tree.old.latest command (reply_of result) tree.new.members tree.new.latest }
+    ensures serves { Serves V.expiration E.cmp R.whole tree.old.buckets tree.old.members tree.old.latest
+        command (reply_of result) tree.new.members tree.new.latest }
     ensures buckets { tree.new.buckets ≡ tree.old.buckets }
 {
     match command {
@@ -117,7 +114,8 @@ where
     V: ExpiredVal<E>,
     A: Allocator + Copy,
     B: Allocator,
-    ensures serves { Serves V.expiration E.cmp R.whole tree.old.buckets tree.old.members tree.old.latest (SegCommand.Insert range val) (reply_of result) tree.new.members tree.new.latest }
+    ensures serves { Serves V.expiration E.cmp R.whole tree.old.buckets tree.old.members tree.old.latest
+        (SegCommand.Insert range val) (reply_of result) tree.new.members tree.new.latest }
     ensures buckets { tree.new.buckets ≡ tree.old.buckets }
 {
     if !tree.accepts(range) {
@@ -142,28 +140,19 @@ where
     V: ExpiredVal<E>,
     A: Allocator + Copy,
     B: Allocator,
-    ensures serves { Serves V.expiration E.cmp R.whole tree.old.buckets tree.old.members tree.old.latest (SegCommand.Query range time) (reply_of result) tree.new.members tree.new.latest }
+    ensures serves { Serves V.expiration E.cmp R.whole tree.old.buckets tree.old.members tree.old.latest
+        (SegCommand.Query range time) (reply_of result) tree.new.members tree.new.latest }
     ensures buckets { tree.new.buckets ≡ tree.old.buckets }
 {
     if !tree.accepts(range) {
         return SegReply::Outside;
     }
-    if is_before(time, tree.latest_time()) {
+    if is_late(tree.latest_time(), time) {
         return SegReply::Late;
     }
     let mut values = Vec::new(alloc);
     match tree.collect_by_range(range, time, &mut values) {
         Ok(()) => SegReply::Values(values),
         Err(_) => SegReply::Refused,
-    }
-}
-
-// Whether the time is before the latest one.
-fn is_before<E: Expiration>(time: E, latest: Option<E>) -> bool
-    ensures { result ≡ is_late E.cmp latest time }
-{
-    match latest {
-        Some(latest) => time < latest,
-        None => false,
     }
 }

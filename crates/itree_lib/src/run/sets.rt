@@ -4,8 +4,8 @@ ghost use Rattle.std.specs.Prelude.{◌≡◌, ◌≢◌, ◌≤◌, ◌+◌, �
 ghost use Rattle.std.specs.declared.cmp.Ordering.{Ordering};
 ghost use Rattle.i_tree.specs.Root.Answer.{GreatestOr};
 ghost use Rattle.i_tree.specs.Set.Pairs.{values, AreApart, HasHandle, by_key, IsOrdered, LacksKey};
-ghost use Rattle.itree_lib.specs.SetMachine.{Step, Run};
-ghost use Rattle.itree_lib.specs.SetRoom.{RefusedOnlyWhereFull, KeepsRoom};
+ghost use Rattle.itree_lib.specs.Run.SetMachine.{Step, Run};
+ghost use Rattle.itree_lib.specs.Run.SetRoom.{RefusedOnlyWhereFull, KeepsRoom};
 
 use i_tree::set::sort::{KeyValue, SetCollection};
 use i_tree::{EMPTY_REF, Refusal, Refused};
@@ -111,7 +111,8 @@ where
     V: KeyValue<K> + Drop,
     C: SetCollection<K, V>,
     requires { IsOrdered V.key_of K.cmp (C.pairs c.old) }
-    ensures step { Step V.key_of K.cmp (values (C.pairs c.old)) (SetCommand.Insert val) result (values (C.pairs c.new)) }
+    ensures step { Step V.key_of K.cmp (values (C.pairs c.old)) (SetCommand.Insert val) result
+        (values (C.pairs c.new)) }
     ensures in_order { IsOrdered V.key_of K.cmp (C.pairs c.new) }
     ensures room { KeepsRoom result (C.room c.old) (length (C.pairs c.old)) (C.room c.new) (length (C.pairs c.new)) }
 {
@@ -134,7 +135,8 @@ where
     V: KeyValue<K> + Drop,
     C: SetCollection<K, V>,
     requires { IsOrdered V.key_of K.cmp (C.pairs c.old) }
-    ensures step { Step V.key_of K.cmp (values (C.pairs c.old)) (SetCommand.Delete key) result (values (C.pairs c.new)) }
+    ensures step { Step V.key_of K.cmp (values (C.pairs c.old)) (SetCommand.Delete key) result
+        (values (C.pairs c.new)) }
     ensures in_order { IsOrdered V.key_of K.cmp (C.pairs c.new) }
     ensures room { KeepsRoom result (C.room c.old) (length (C.pairs c.old)) (C.room c.new) (length (C.pairs c.new)) }
 {
@@ -170,7 +172,8 @@ where
     V: KeyValue<K> + Drop,
     C: SetCollection<K, V>,
     requires { IsOrdered V.key_of K.cmp (C.pairs c.now) }
-    ensures step { Step V.key_of K.cmp (values (C.pairs c.now)) (SetCommand.Before key) result (values (C.pairs c.now)) }
+    ensures step { Step V.key_of K.cmp (values (C.pairs c.now)) (SetCommand.Before key) result
+        (values (C.pairs c.now)) }
     ensures room { (room : ℕ) → KeepsRoom result room (length (C.pairs c.now)) room (length (C.pairs c.now)) }
 {
     let Some(handle) = handle_of(c, key) else {
@@ -189,7 +192,8 @@ where
     V: KeyValue<K> + Drop,
     C: SetCollection<K, V>,
     requires { IsOrdered V.key_of K.cmp (C.pairs c.now) }
-    ensures { MatchOption result (LacksKey V.key_of K.cmp (C.pairs c.now) key) (λ handle. (value : V) × Contains (C.pairs c.now) (handle, value) × (K.cmp (V.key_of value) key ≡ Ordering.Equal)) }
+    ensures { MatchOption result (LacksKey V.key_of K.cmp (C.pairs c.now) key) (λ handle.
+        (value : V) × Contains (C.pairs c.now) (handle, value) × (K.cmp (V.key_of value) key ≡ Ordering.Equal)) }
 {
     let found = handle_at_most(c, key);
     match key_at(c, found)?.cmp(&key) {
@@ -205,7 +209,8 @@ where
     V: KeyValue<K> + Drop,
     C: SetCollection<K, V>,
     requires { IsOrdered V.key_of K.cmp (C.pairs c.now) }
-    ensures value { GreatestOr K.cmp (λ other. K.cmp other key ≢ Ordering.Greater) (by_key V.key_of (C.pairs c.now)) EMPTY_REF result }
+    ensures value { GreatestOr K.cmp (λ other. K.cmp other key ≢ Ordering.Greater)
+        (by_key V.key_of (C.pairs c.now)) EMPTY_REF result }
     ensures live { result ≢ EMPTY_REF → HasHandle (C.pairs c.now) result }
     ensures handles { AreApart (C.pairs c.now) }
 {
@@ -222,7 +227,8 @@ where
     V: KeyValue<K> + Drop,
     C: SetCollection<K, V>,
     requires { handle ≢ EMPTY_REF → HasHandle (C.pairs c.now) handle }
-    ensures { MatchOption result (handle ≡ EMPTY_REF) (λ key. (handle ≢ EMPTY_REF) × ((value : V) → Contains (C.pairs c.now) (handle, value) → key ≡ V.key_of value)) }
+    ensures { MatchOption result (handle ≡ EMPTY_REF) (λ key.
+        (handle ≢ EMPTY_REF) × ((value : V) → Contains (C.pairs c.now) (handle, value) → key ≡ V.key_of value)) }
 {
     if handle == EMPTY_REF {
         return None;

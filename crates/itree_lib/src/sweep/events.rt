@@ -1,7 +1,7 @@
 //! The events of a sweep, in the order in which they are served.
 
 ghost use Rattle.std.specs.Prelude.{IfOk, OnOk};
-ghost use Rattle.itree_lib.specs.Schedule.{IsSchedule, GainsBegins, GainsAnswers};
+ghost use Rattle.itree_lib.specs.Sweep.Schedule.{IsSchedule, GainsBegins, GainsAnswers};
 
 use super::{Point, Segment};
 use std::alloc::{AllocError, Allocator};

@@ -6,9 +6,9 @@ ghost use Rattle.std.specs.Ordering.{int_cmp};
 ghost use Rattle.i_tree.specs.Root.Answer.{AtMost};
 ghost use Rattle.i_tree.specs.Root.Change.{Gains, Without};
 ghost use Rattle.i_tree.specs.Root.Pairs.{HasKey, NoKey};
-ghost use Rattle.itree_lib.specs.Levels.{cmp_levels, entry_of, level_of, live_entries, HasEnded};
-ghost use Rattle.itree_lib.specs.Schedule.{IsSchedule};
-ghost use Rattle.itree_lib.specs.Sweep.{IsHeightBelow, NoneCollide, IsFirstOverlap};
+ghost use Rattle.itree_lib.specs.Sweep.Levels.{cmp_levels, entry_of, level_of, live_entries, HasEnded};
+ghost use Rattle.itree_lib.specs.Sweep.Schedule.{IsSchedule};
+ghost use Rattle.itree_lib.specs.Sweep.Heights.{IsHeightBelow, NoneCollide, IsFirstOverlap};
 ghost use Rattle.itree_lib.specs.declared.sweep.SweepFault.TheVariants.{Refused};
 ghost use Rattle.i_tree.specs.declared.Refusal.TheVariants.{OutOfMemory};
 
@@ -216,7 +216,8 @@ fn height_below<C: KeyExpCollection<Level, i32, Option<i32>>>(
     store: &mut C,
     point: Point,
 ) -> Option<i32>
-    ensures value { AtMost cmp_levels (live_entries point.x (C.stored store.old)) (λ level. int_cmp level.y point.y) None result }
+    ensures value { AtMost cmp_levels (live_entries point.x (C.stored store.old))
+        (λ level. int_cmp level.y point.y) None result }
     ensures kept { Without (HasEnded point.x) (C.stored store.old) (C.stored store.new) }
 {
     let stands = |level: Level| -> Ordering

@@ -7,7 +7,7 @@ use Rattle.itree.specs.Replies.{key_reply_words, reply_lines}
 use Rattle.itree.specs.Texts.{cmp_keys, cmp_sought}
 use Rattle.itree_lib.specs.declared.run.keys.KeyReply.{KeyReply}
 use Rattle.itree.specs.declared.timed_key.TimedKey.{TimedKey}
-use Rattle.itree_lib.proofs.Knowing.{CanProbeAll-always, ProbesAllBy-always}
+use Rattle.itree_lib.proofs.RunLemmas.KnownPairs.{CanProbeAll-always, ProbesAllBy-always}
 use Rattle.itree.proofs.answers.answer_keys.Goals as goal
 
 pub run_keys-requires : goal.run_keys-requires

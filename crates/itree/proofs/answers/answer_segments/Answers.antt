@@ -2,8 +2,8 @@ use Rattle.std.proofs.Common.{◌≡◌, ℤ, List, Option, [], ◌++◌, length
 use Rattle.std.proofs.lemmas.List.Sorted.{IsPermutation-refl}
 use Rattle.std.specs.List.Sorted.{IsPermutation}
 use Rattle.i_tree.specs.Seg.Members.{Member}
-use Rattle.i_tree.proofs.CoreLemmas.Room.{written_back}
-use Rattle.itree_lib.specs.SegMachine.{State, reply_of}
+use Rattle.i_tree.proofs.RbLemmas.Slots.FreeSlots.{written_back}
+use Rattle.itree_lib.specs.Run.SegMachine.{State, reply_of}
 use Rattle.itree_lib.specs.declared.run.segments.SegReply.{SegReply}
 use Rattle.itree.specs.Replies.{seg_reply_words, reply_lines}
 use Rattle.itree.specs.Sorting.{SortsAll}

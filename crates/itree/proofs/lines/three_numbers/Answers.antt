@@ -1,5 +1,5 @@
 use Rattle.std.proofs.Common.{[], ◌∷◌, refl, arith}
-use Rattle.itree.proofs.Saying.{ReadsAll-length, third_read}
+use Rattle.itree.proofs.Words.{ReadsAll-length, third_read}
 use Rattle.itree.proofs.lines.three_numbers.Goals as goal
 
 pub returns-in_default-clause-unread : goal.returns-in_default-clause-unread

@@ -1,9 +1,9 @@
 //! The whole program where requests for memory are refused.
 
 use super::*;
-use refusing::Refusing;
-use refusing::in_turn::{Trial, refuse_in_turn};
 use std::cell::Cell;
+use test_kit::Refusing;
+use test_kit::in_turn::{Trial, refuse_in_turn};
 
 // A run of the program in a mode, whose last answer is the same whichever of the insertions is refused.
 #[derive(Drop)]
@@ -135,7 +135,7 @@ const SET_REPLIES: &str =
 fn outcome_over(memory: &Refusing<Global>, alloc: Global, mode: &str, input: &str) -> Outcome {
     let mut output = Vec::new(alloc);
     let mut faults = Vec::new(alloc);
-    let status = run_over(
+    let status = run_itree(
         memory,
         &[mode],
         &mut input.as_bytes(),

@@ -1,10 +1,10 @@
 //! Commands of segments.
 
 use super::*;
-use refusing::Refusing;
-use refusing::in_turn::{Trial, refuse_in_turn};
 use std::cell::Cell;
 use std::test::Fail;
+use test_kit::Refusing;
+use test_kit::in_turn::{Trial, refuse_in_turn};
 
 fn assert_answered_over(
     rt: &impl Abort,
@@ -181,7 +181,7 @@ impl Trial for Running<'_> {
     fn call(&self, outcome: &mut Option<Outcome>) {
         let mut output = Vec::new(self.alloc);
         let mut faults = Vec::new(self.alloc);
-        let status = run_over(
+        let status = run_itree(
             self.memory,
             &["seg", "0", "128"],
             &mut b"insert 8 100 9 1\ninsert 0 127 9 2\nquery 0 128 0\n".as_slice(),

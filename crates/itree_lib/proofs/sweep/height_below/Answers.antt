@@ -4,7 +4,7 @@ use Rattle.std.specs.Cmp.{int_cmp_total}
 use Rattle.std.specs.Ordering.{int_cmp}
 use Rattle.std.proofs.lemmas.Int.{to_z-of_z}
 use Rattle.i_tree.proofs.RootLemmas.Monotone.{IsMonotone-compare}
-use Rattle.itree_lib.specs.Levels.{live_entries}
+use Rattle.itree_lib.specs.Sweep.Levels.{live_entries}
 use Rattle.itree_lib.specs.declared.sweep.Level.{Level}
 use Rattle.itree_lib.proofs.sweep.height_below.Goals as goal
 

@@ -1,10 +1,10 @@
 use Rattle.std.proofs.Common.{None, sym, subst, arith, rules}
 use Rattle.std.proofs.lemmas.List.{get_or_default, take_all}
 use Rattle.std.proofs.lemmas.Result.{err_from_is_err_and}
-use Rattle.itree_lib.specs.Sweep.{IsFirstOverlap}
-use Rattle.itree_lib.proofs.DoneEvents.{segment_inside, point_inside, none_collide, AllZip-each}
-use Rattle.itree_lib.proofs.Served.{Served, Served-begun, Served-overlap, Served-answered}
-use Rattle.itree_lib.proofs.Sweeping.{Holds-nothing}
+use Rattle.itree_lib.specs.Sweep.Heights.{IsFirstOverlap}
+use Rattle.itree_lib.proofs.SweepLemmas.DoneEvents.{segment_inside, point_inside, none_collide, AllZip-each}
+use Rattle.itree_lib.proofs.SweepLemmas.Events.{Served, Served-begun, Served-overlap, Served-answered}
+use Rattle.itree_lib.proofs.SweepLemmas.Status.{Holds-nothing}
 use Rattle.itree_lib.proofs.sweep.serve_all.Goals as goal
 use Rattle.itree_lib.proofs.sweep.serve_all.Goals.{in-Begin+in_ok-begin-in-Begin, in-Answer}
 

@@ -1,5 +1,5 @@
 use Rattle.std.proofs.Common.{take}
-use Rattle.itree_lib.proofs.Served.{Served}
+use Rattle.itree_lib.proofs.SweepLemmas.Events.{Served}
 use Rattle.itree_lib.proofs.sweep.serve_all.Given as goal
 
 -- the events gone through are served

@@ -5,8 +5,8 @@ ghost use Rattle.std.specs.declared.cmp.Ordering.{Ordering};
 ghost use Rattle.i_tree.specs.Root.Answer.{Below, AtMostBy};
 ghost use Rattle.i_tree.specs.Root.Change.{Without};
 ghost use Rattle.i_tree.specs.Key.Live.{live_pairs, IsExpired};
-ghost use Rattle.itree_lib.specs.KeyMachine.{Inserts};
-ghost use Rattle.itree_lib.specs.KeyRoom.{KeepsRoom};
+ghost use Rattle.itree_lib.specs.Run.KeyMachine.{Inserts};
+ghost use Rattle.itree_lib.specs.Run.KeyRoom.{KeepsRoom};
 ghost use Rattle.itree_lib.specs.declared.run.keys.KeyReply.{KeyReply};
 ghost use Rattle.itree_lib.specs.declared.run.keys.KeyReply.TheVariants.{Late, Value, Cleared};
 
@@ -59,9 +59,10 @@ pub struct Plainly;
 
 impl<K: ExpiredKey<E>, E: Expiration, V: Copy, C: KeyExpCollection<K, E, V>> KeyCalls<K, E, V, C>
     for Plainly {
-    ghost use Rattle.itree_lib.specs.CountsLate.{keeps_late};
+    ghost use Rattle.itree_lib.specs.Run.Late.{keeps_late};
 
-    ghost does = { λ reply _ c _ c'. KeepsRoom reply (C.room c) (length (C.stored c)) (C.room c') (length (C.stored c')) };
+    ghost does = { λ reply _ c _ c'.
+        KeepsRoom reply (C.room c) (length (C.stored c)) (C.room c') (length (C.stored c')) };
 
     ghost does_late = { λ _ c. keeps_late (C.room c) (length (C.stored c)) };
 

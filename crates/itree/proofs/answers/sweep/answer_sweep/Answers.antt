@@ -2,7 +2,7 @@ use Rattle.std.proofs.Common.{◌≡◌, ◌<◌, ◌∙◌, ℕ, List, Err, ap,
 use Rattle.itree.specs.Grammar.{lines_of, LinesSay}
 use Rattle.itree.specs.SweepLines.{SaysSweepLine, segments_of, IsSegmentLine, IsOverlapLine}
 use Rattle.itree.specs.declared.lines.sweep.SweepLine.{SweepLine}
-use Rattle.itree_lib.specs.Sweep.{IsFirstOverlap}
+use Rattle.itree_lib.specs.Sweep.Heights.{IsFirstOverlap}
 use Rattle.itree_lib.specs.declared.sweep.Segment.{Segment}
 use Rattle.itree.proofs.answers.sweep.answer_sweep.Goals as goal
 

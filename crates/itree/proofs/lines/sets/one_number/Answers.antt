@@ -1,5 +1,5 @@
 use Rattle.std.proofs.Common.{[], ◌∷◌, arith}
-use Rattle.itree.proofs.Saying.{ReadsAll-length}
+use Rattle.itree.proofs.Words.{ReadsAll-length}
 use Rattle.itree.proofs.lines.sets.one_number.Goals as goal
 
 pub returns-in_default-2-clause-unread : goal.returns-in_default-2-clause-unread

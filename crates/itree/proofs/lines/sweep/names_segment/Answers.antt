@@ -1,5 +1,5 @@
 use Rattle.std.proofs.Common.{ℕ, List, ◌∙◌, refl, subst}
-use Rattle.itree.proofs.Saying.{first_is_segment}
+use Rattle.itree.proofs.Words.{first_is_segment}
 use Rattle.itree.proofs.Splitting.{IsFirstWord, IsFirstWord-step}
 use Rattle.itree.proofs.lines.sweep.names_segment.Goals as goal
 

@@ -1,7 +1,7 @@
 use Rattle.std.proofs.Common.{◌++◌, ◌∷◌, [], ◌+◌, Bool, cond, length, length-append, ap, sym, ◌∙◌, subst, arith}
 use Rattle.itree.specs.Grammar.{lines_of, lines_left}
 use Rattle.itree.proofs.Counting.{next_line, shorter}
-use Rattle.itree.proofs.Passing.{Passed, Passed-next}
+use Rattle.itree.proofs.SegmentLines.{Passed, Passed-next}
 use Rattle.itree.proofs.lines.sweep.segment_line.Goals as goal
 
 pub lines-preserved-else-passed-place : goal.lines-preserved-else-passed-place

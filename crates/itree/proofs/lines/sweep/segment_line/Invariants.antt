@@ -2,7 +2,7 @@ use Rattle.std.proofs.Common.{◌≡◌, ◌≤◌, ◌+◌, ◌++◌, ℕ, List
 use Rattle.itree.specs.Grammar.{lines_of, lines_left, LinesSay}
 use Rattle.itree.specs.SweepLines.{SaysSweepLine}
 use Rattle.itree.specs.declared.lines.sweep.SweepLine.{SweepLine}
-use Rattle.itree.proofs.Passing.{Passed}
+use Rattle.itree.proofs.SegmentLines.{Passed}
 use Rattle.itree.proofs.lines.sweep.segment_line.Given as goal
 
 -- the lines so far are counted, and the segments that they say, of which there are at most as many as are to pass

@@ -1,5 +1,5 @@
 use Rattle.std.proofs.Common.{◌≡◌, [], ⊎_elim, length, arith}
-use Rattle.itree.proofs.Saying.{Names-length, Names-three}
+use Rattle.itree.proofs.Words.{Names-length, Names-three}
 use Rattle.itree.proofs.mode.Mode.from_words.Goals as goal
 
 pub returns-in-seg-clause-unnamed : goal.returns-in-seg-clause-unnamed

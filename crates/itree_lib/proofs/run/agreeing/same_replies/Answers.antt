@@ -1,5 +1,5 @@
 use Rattle.std.proofs.Common.{rules, ◌≡◌, ◌∙◌, refl, true, arith}
-use Rattle.itree_lib.proofs.Agreeing.{replies_themselves, runs_agree_from_nothing, length-run}
+use Rattle.itree_lib.proofs.RunLemmas.Agreement.{replies_themselves, runs_agree_from_nothing, length-run}
 use Rattle.itree_lib.proofs.run.agreeing.same_replies.Goals as goal
 
 pub returns-then-first-commands-clause-agree : goal.returns-then-first-commands-clause-agree

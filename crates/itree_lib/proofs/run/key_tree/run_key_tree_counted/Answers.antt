@@ -1,11 +1,11 @@
 use Rattle.std.proofs.Common.{◌≡◌, ℕ, ◌+◌, ◌-◌, length, subst, arith}
 use Rattle.std.proofs.lemmas.Result.{on_ok_weaker}
-use Rattle.i_tree.specs.Core.RbTree.{Contents}
+use Rattle.i_tree.specs.Rb.RbTree.{Contents}
 use Rattle.i_tree.specs.Key.KeyExpTree.{items}
-use Rattle.itree_lib.specs.CountedRun.{CountsOne}
-use Rattle.itree_lib.specs.KeyRoom.{RefusedOnlyWhereFull}
-use Rattle.itree_lib.proofs.Counted.{counts_run, counted_room}
-use Rattle.itree_lib.proofs.KeyRooms.{refused_where_full}
+use Rattle.itree_lib.specs.Run.Counted.{CountsOne}
+use Rattle.itree_lib.specs.Run.KeyRoom.{RefusedOnlyWhereFull}
+use Rattle.itree_lib.proofs.RunLemmas.Counted.{counts_run, counted_room}
+use Rattle.itree_lib.proofs.RunLemmas.KeyRoom.{refused_where_full}
 use Rattle.itree_lib.proofs.run.key_tree.run_key_tree_counted.Goals as goal
 
 -- what there is room for beside what is stored is what is spare

@@ -2,11 +2,12 @@ use Rattle.std.proofs.Common.{◌++◌, [], ◌∷◌, refl, sym, subst, ap, ◌
 use Rattle.std.proofs.lemmas.List.{take_all, take_more}
 use Rattle.std.proofs.lemmas.List.Elements.{All-contains}
 use Rattle.std.specs.List.{Contains}
-use Rattle.itree_lib.specs.KeyMachine.{State, beginning, Run}
-use Rattle.itree_lib.specs.Probes.{CanProbeAll, ProbesAllBy, known_after}
-use Rattle.itree_lib.proofs.Knowing.{CanProbe-within, ProbesBy-within, known_after-within, next_command}
-use Rattle.itree_lib.specs.KeyReplies.{RepliesTo}
-use Rattle.itree_lib.proofs.Serving.{Run-push, RepliesTo-push, DoesAll-push, StandsFor-itself}
+use Rattle.itree_lib.specs.Run.KeyMachine.{State, beginning, Run, Step}
+use Rattle.itree_lib.specs.Run.Probes.{CanProbeAll, ProbesAllBy, known_after}
+use Rattle.itree_lib.proofs.RunLemmas.KnownPairs.{CanProbe-within, ProbesBy-within, known_after-within, next_command}
+use Rattle.itree_lib.specs.Run.KeyReplies.{RepliesTo}
+use Rattle.itree_lib.proofs.RunLemmas.KeySteps.{RepliesTo-push, DoesAll-push, StandsFor-itself}
+use Rattle.itree_lib.proofs.RunLemmas.Chain.{Chain-push}
 use Rattle.itree_lib.proofs.run.keys.run_by.Goals as goal
 
 pub loop-command-init : goal.loop-command-init
@@ -66,7 +67,7 @@ loop-command-preserved g c =
               rest.1,
               accepted',
               subst (λ commands. Run expiration cmp_time cmp_key order began commands (replies ++ reply ∷ []) then) (sym one_more)
-                  (Run-push expiration g.met.E.Ord.total cmp_key order began now then (take c.loop-command.command-index commands) replies command reply so_far step),
+                  (Chain-push (Step expiration cmp_time cmp_key order) began now then (take c.loop-command.command-index commands) replies command reply so_far step),
               stands',
             ),
       );

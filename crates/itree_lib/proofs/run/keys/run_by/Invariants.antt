@@ -1,11 +1,11 @@
 use Rattle.std.proofs.Common.{◌≡◌, ◌≤◌, ◌+◌, ◌++◌, Ordering, List, length, take, drop, vec_len, vec_capacity}
 use Rattle.itree_lib.specs.declared.run.keys.KeyReply.{KeyReply}
-use Rattle.itree_lib.specs.KeyMachine.{beginning, Run}
-use Rattle.itree_lib.specs.Probes.{CanProbeAll, ProbesAllBy}
-use Rattle.itree_lib.specs.KeyReplies.{RepliesTo}
-use Rattle.itree_lib.specs.Serving.{DoesAll}
-use Rattle.itree_lib.specs.StandsFor.{StandsFor}
-use Rattle.itree_lib.proofs.Members.{Within}
+use Rattle.itree_lib.specs.Run.KeyMachine.{beginning, Run}
+use Rattle.itree_lib.specs.Run.Probes.{CanProbeAll, ProbesAllBy}
+use Rattle.itree_lib.specs.Run.KeyReplies.{RepliesTo}
+use Rattle.itree_lib.specs.Run.Effects.{DoesAll}
+use Rattle.itree_lib.specs.Run.StandsFor.{StandsFor}
+use Rattle.itree_lib.proofs.RunLemmas.Members.{Within}
 use Rattle.itree_lib.proofs.run.keys.run_by.Given as goal
 
 -- There is room for the replies to come, and those so far reply to the commands so far. What is stored is among the known pairs, at which the probes to come may be

@@ -1,6 +1,6 @@
 use Rattle.std.proofs.Common.{length}
 use Rattle.std.proofs.lemmas.Result.{on_ok_weaker}
-use Rattle.itree_lib.proofs.KeyRooms.{refused_where_full}
+use Rattle.itree_lib.proofs.RunLemmas.KeyRoom.{refused_where_full}
 use Rattle.itree_lib.proofs.run.keys.run_keys.Goals as goal
 
 -- of what the calls do the room alone is said

@@ -1,6 +1,6 @@
-use Rattle.itree_lib.proofs.Serving.{replies_to_insert, serves_less, serves_at_most, serves_insert}
+use Rattle.itree_lib.proofs.RunLemmas.KeySteps.{replies_to_insert, serves_less, serves_at_most, serves_insert}
 use Rattle.std.proofs.lemmas.List.Elements.{All-contains_itself}
-use Rattle.itree_lib.proofs.Knowing.{known_inserts, known_more, known_without}
+use Rattle.itree_lib.proofs.RunLemmas.KnownPairs.{known_inserts, known_more, known_without}
 use Rattle.itree_lib.proofs.run.keys.serve.Goals as goal
 
 pub returns-then-not-advance-clause-known : goal.returns-then-not-advance-clause-known

@@ -1,5 +1,5 @@
 use Rattle.std.proofs.Common.{rules}
-use Rattle.itree_lib.proofs.SegServing.{serves_inserted}
+use Rattle.itree_lib.proofs.RunLemmas.SegSteps.{serves_inserted}
 use Rattle.itree_lib.proofs.run.segments.insert.Goals as goal
 
 pub returns-in-Ok-clause-serves : goal.returns-in-Ok-clause-serves

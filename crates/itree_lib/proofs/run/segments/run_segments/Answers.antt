@@ -1,8 +1,8 @@
 use Rattle.std.proofs.Common.{◌+◌, ◌++◌, [], ◌∷◌, map, refl, sym, subst, ap, ◌∙◌, arith, append_assoc, append-nil, take, length-append}
 use Rattle.std.proofs.lemmas.List.{take_all, take_more, map-append}
 use Rattle.i_tree.specs.Seg.Buckets.{Buckets}
-use Rattle.itree_lib.specs.SegMachine.{reply_of, State, Step, Run}
-use Rattle.itree_lib.proofs.SegServing.{Run-push}
+use Rattle.itree_lib.specs.Run.SegMachine.{reply_of, State, Step, Run}
+use Rattle.itree_lib.proofs.RunLemmas.Chain.{Chain-push}
 use Rattle.itree_lib.proofs.run.segments.run_segments.Goals as goal
 
 pub loop-command-init : goal.loop-command-init
@@ -39,7 +39,7 @@ loop-command-preserved g c =
               end',
               subst (λ served. Run expiration cmp whole buckets began served (map reply_of (replies ++ reply ∷ [])) then) (sym one_more)
                   (subst (λ replied. Run expiration cmp whole buckets began (commands ++ command ∷ []) replied then) (sym (map-append reply_of replies (reply ∷ [])))
-                  (Run-push expiration g.met.E.Ord.total whole buckets began now then commands (map reply_of replies) command (reply_of reply) so_far
+                  (Chain-push (Step expiration cmp whole buckets) began now then commands (map reply_of replies) command (reply_of reply) so_far
                   (subst (λ (kept : Buckets). Step expiration cmp whole kept now command (reply_of reply) then) c.loop-command.invariant.buckets step))),
               stands',
             ),

@@ -1,6 +1,6 @@
 use Rattle.std.proofs.Common.{◌≡◌, ◌≤◌, ◌+◌, ◌++◌, List, length, map, take, vec_len, vec_capacity}
 use Rattle.i_tree.specs.Seg.Members.{Member}
-use Rattle.itree_lib.specs.SegMachine.{reply_of, StandsFor, Run}
+use Rattle.itree_lib.specs.Run.SegMachine.{reply_of, StandsFor, Run}
 use Rattle.itree_lib.specs.declared.run.segments.SegReply.{SegReply}
 use Rattle.itree_lib.proofs.run.segments.run_segments.Given as goal
 

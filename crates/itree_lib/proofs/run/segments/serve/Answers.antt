@@ -1,4 +1,4 @@
-use Rattle.itree_lib.proofs.SegServing.{serves_cleared}
+use Rattle.itree_lib.proofs.RunLemmas.SegSteps.{serves_cleared}
 use Rattle.itree_lib.proofs.run.segments.serve.Goals as goal
 
 pub returns-in-Clear-clause-serves : goal.returns-in-Clear-clause-serves

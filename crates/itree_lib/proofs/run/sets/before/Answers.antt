@@ -1,5 +1,5 @@
 use Rattle.std.proofs.Common.{refl}
-use Rattle.itree_lib.proofs.SetServing.{NoKey-values, before_step, before_none_step}
+use Rattle.itree_lib.proofs.RunLemmas.SetSteps.{NoKey-values, before_step, before_none_step}
 use Rattle.itree_lib.proofs.run.sets.before.Goals as goal
 
 pub returns-in_default-clause-step : goal.returns-in_default-clause-step

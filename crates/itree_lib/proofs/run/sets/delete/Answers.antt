@@ -1,7 +1,7 @@
 use Rattle.std.proofs.Common.{refl}
 use Rattle.i_tree.proofs.SetLemmas.Live.{length-loses}
-use Rattle.itree_lib.proofs.SetRooms.{keeps_deleted}
-use Rattle.itree_lib.proofs.SetServing.{NoKey-values, HasHandle-contained, deleted_step}
+use Rattle.itree_lib.proofs.RunLemmas.SetRoom.{keeps_deleted}
+use Rattle.itree_lib.proofs.RunLemmas.SetSteps.{NoKey-values, HasHandle-contained, deleted_step}
 use Rattle.itree_lib.proofs.run.sets.delete.Goals as goal
 
 pub delete_by_index-requires : goal.delete_by_index-requires

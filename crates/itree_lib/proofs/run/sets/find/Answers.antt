@@ -1,4 +1,4 @@
-use Rattle.itree_lib.proofs.SetServing.{find_step, find_none_step}
+use Rattle.itree_lib.proofs.RunLemmas.SetSteps.{find_step, find_none_step}
 use Rattle.itree_lib.proofs.run.sets.find.Goals as goal
 
 pub returns-in-Some-clause-step : goal.returns-in-Some-clause-step

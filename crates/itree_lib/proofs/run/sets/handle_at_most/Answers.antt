@@ -1,7 +1,7 @@
 use Rattle.std.proofs.Common.{rules}
 use Rattle.i_tree.proofs.RootLemmas.Monotone.{IsMonotone-compare}
 use Rattle.i_tree.specs.Set.Pairs.{by_key}
-use Rattle.itree_lib.proofs.SetServing.{at_most_from_found}
+use Rattle.itree_lib.proofs.RunLemmas.SetSteps.{at_most_from_found}
 use Rattle.itree_lib.proofs.run.sets.handle_at_most.Goals as goal
 
 pub returns-clause-value : goal.returns-clause-value

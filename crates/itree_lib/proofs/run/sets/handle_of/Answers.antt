@@ -1,5 +1,5 @@
 use Rattle.std.proofs.Common.{sym, ◌∙◌}
-use Rattle.itree_lib.proofs.SetServing.{LacksKey-none, LacksKey-other, contained_equal}
+use Rattle.itree_lib.proofs.RunLemmas.SetSteps.{LacksKey-none, LacksKey-other, contained_equal}
 use Rattle.itree_lib.proofs.run.sets.handle_of.Goals as goal
 
 pub returns-in_err-key_at : goal.returns-in_err-key_at

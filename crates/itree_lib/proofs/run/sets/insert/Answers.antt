@@ -1,6 +1,6 @@
 use Rattle.std.proofs.Common.{◌≡◌, refl, ap, sym, subst, ◌∙◌}
 use Rattle.i_tree.specs.Set.Pairs.{values, LacksKey}
-use Rattle.itree_lib.proofs.SetServing.{NoKey-values, HasKey-values, IsRising-values, from_is_some, from_is_none}
+use Rattle.itree_lib.proofs.RunLemmas.SetSteps.{NoKey-values, HasKey-values, IsRising-values, from_is_some, from_is_none}
 use Rattle.itree_lib.proofs.run.sets.insert.Goals as goal
 
 pub returns-then-is_some-clause-step : goal.returns-then-is_some-clause-step

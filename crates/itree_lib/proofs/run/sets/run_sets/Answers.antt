@@ -1,8 +1,9 @@
 use Rattle.std.proofs.Common.{rules, ◌≡◌, ◌≤◌, ◌+◌, ◌++◌, [], ◌∷◌, refl, sym, ap, ◌∙◌, arith, append_assoc, append-nil, length, vec_len, vec_capacity}
 use Rattle.std.specs.Vec.Iter.{into_iter_items}
 use Rattle.i_tree.specs.Set.Pairs.{values}
-use Rattle.itree_lib.proofs.SetRooms.{keeps_none, keeps-push}
-use Rattle.itree_lib.proofs.SetServing.{Run-push}
+use Rattle.itree_lib.proofs.RunLemmas.SetRoom.{keeps_none, keeps-push}
+use Rattle.itree_lib.proofs.RunLemmas.Chain.{Chain-push}
+use Rattle.itree_lib.specs.Run.SetMachine.{Step}
 use Rattle.itree_lib.proofs.run.sets.run_sets.Goals as goal
 
 pub loop-command-init : goal.loop-command-init
@@ -40,6 +41,6 @@ loop-command-preserved g c =
         replies ++ reply ∷ [],
         rw (c.push_reserved.ensures.items, are) (append_assoc c.args.out.now.items replies (reply ∷ [])),
         keeps-push replies reply (room c.args.c.now) (length (pairs c.args.c.now)) (room c.loop-command.c) (length (pairs c.loop-command.c)) (room c.serve-reply.new.c) (length (pairs c.serve-reply.new.c)) keeps c.serve-reply.ensures.room,
-        Run-push g.V.KeyValue.key_of g.K.Ord.cmp (values (pairs c.args.c.now)) (values (pairs c.loop-command.c)) (values (pairs c.serve-reply.new.c)) c.loop-command.yielded replies command reply run c.serve-reply.ensures.step,
+        Chain-push (Step g.V.KeyValue.key_of g.K.Ord.cmp) (values (pairs c.args.c.now)) (values (pairs c.loop-command.c)) (values (pairs c.serve-reply.new.c)) c.loop-command.yielded replies command reply run c.serve-reply.ensures.step,
       );
     }

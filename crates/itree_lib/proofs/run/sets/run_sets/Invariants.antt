@@ -1,9 +1,9 @@
 use Rattle.std.proofs.Common.{◌≡◌, ◌≤◌, ◌+◌, ◌++◌, List, length, vec_len, vec_capacity}
 use Rattle.std.specs.Vec.Iter.{into_iter_items, into_iter_len}
 use Rattle.i_tree.specs.Set.Pairs.{values, IsOrdered}
-use Rattle.itree_lib.specs.SetMachine.{Run}
+use Rattle.itree_lib.specs.Run.SetMachine.{Run}
 use Rattle.itree_lib.specs.declared.run.sets.SetReply.{SetReply}
-use Rattle.itree_lib.proofs.SetRooms.{KeepsSoFar}
+use Rattle.itree_lib.proofs.RunLemmas.SetRoom.{KeepsSoFar}
 use Rattle.itree_lib.proofs.run.sets.run_sets.Given as goal
 
 -- There is room for the replies to come, and the replies so far are a run over the commands so far. None of them is a refusal

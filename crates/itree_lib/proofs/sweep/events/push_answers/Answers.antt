@@ -1,8 +1,8 @@
 use Rattle.std.proofs.Common.{◌≡◌, get_or, pos, refl, rules, to_z, of_z, w32}
 use Rattle.std.specs.Bool.{⊤}
-use Rattle.itree_lib.specs.Schedule.{answering_of}
+use Rattle.itree_lib.specs.Sweep.Schedule.{answering_of}
 use Rattle.itree_lib.specs.declared.sweep.Point.{Point}
-use Rattle.itree_lib.proofs.Scheduling.{Gains-none, Gains-push, Gains-all}
+use Rattle.itree_lib.proofs.SweepLemmas.Schedule.{Gains-none, Gains-push, Gains-all}
 use Rattle.itree_lib.proofs.sweep.events.push_answers.Goals as goal
 
 pub loop-place-init : goal.loop-place-init

@@ -1,5 +1,5 @@
 use Rattle.std.proofs.Common.{take}
-use Rattle.itree_lib.specs.Schedule.{GainsAnswers}
+use Rattle.itree_lib.specs.Sweep.Schedule.{GainsAnswers}
 use Rattle.itree_lib.proofs.sweep.events.push_answers.Given as goal
 
 -- the events of the points so far

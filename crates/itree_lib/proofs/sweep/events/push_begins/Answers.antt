@@ -1,8 +1,8 @@
 use Rattle.std.proofs.Common.{◌≡◌, ◌+◌, ◌≤ℤ◌, ◌<ℤ◌, arith, take, ap, get_or, pos, refl, rules, to_z, of_z, w32, ◌∙◌, subst, sym}
 use Rattle.std.proofs.lemmas.Int.{ints}
-use Rattle.itree_lib.specs.Schedule.{GainsBegins, beginning_of}
+use Rattle.itree_lib.specs.Sweep.Schedule.{GainsBegins, beginning_of}
 use Rattle.itree_lib.specs.declared.sweep.Segment.{Segment}
-use Rattle.itree_lib.proofs.Scheduling.{Gains-none, Gains-skip, Gains-push, Gains-all}
+use Rattle.itree_lib.proofs.SweepLemmas.Schedule.{Gains-none, Gains-skip, Gains-push, Gains-all}
 use Rattle.itree_lib.proofs.sweep.events.push_begins.Goals.{then-segment+in_ok-push, else-segment}
 use Rattle.itree_lib.proofs.sweep.events.push_begins.Goals as goal
 

@@ -1,5 +1,5 @@
 use Rattle.std.proofs.Common.{take}
-use Rattle.itree_lib.specs.Schedule.{GainsBegins}
+use Rattle.itree_lib.specs.Sweep.Schedule.{GainsBegins}
 use Rattle.itree_lib.proofs.sweep.events.push_begins.Given as goal
 
 -- the events of the segments so far

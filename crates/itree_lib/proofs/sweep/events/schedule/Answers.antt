@@ -1,6 +1,6 @@
 use Rattle.std.proofs.Common.{subst}
-use Rattle.itree_lib.specs.Schedule.{GainsBegins}
-use Rattle.itree_lib.proofs.Scheduling.{IsSchedule-from_sorted}
+use Rattle.itree_lib.specs.Sweep.Schedule.{GainsBegins}
+use Rattle.itree_lib.proofs.SweepLemmas.Schedule.{IsSchedule-from_sorted}
 use Rattle.itree_lib.proofs.sweep.events.schedule.Goals as goal
 
 pub returns : goal.returns

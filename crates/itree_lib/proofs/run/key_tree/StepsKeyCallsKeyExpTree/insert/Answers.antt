@@ -1,6 +1,6 @@
 use Rattle.std.proofs.Common.{false, refl}
 use Rattle.std.proofs.lemmas.Bool.{both_ways}
-use Rattle.itree_lib.proofs.Counted.{counts_inserted, counts_refused}
+use Rattle.itree_lib.proofs.RunLemmas.Counted.{counts_inserted, counts_refused}
 use Rattle.itree_lib.proofs.run.key_tree.StepsKeyCallsKeyExpTree.insert.Goals as goal
 
 pub returns-in-Ok-clause-does : goal.returns-in-Ok-clause-does

@@ -1,4 +1,4 @@
-use Rattle.itree_lib.proofs.KeyRooms.{keeps_answered}
+use Rattle.itree_lib.proofs.RunLemmas.KeyRoom.{keeps_answered}
 use Rattle.itree_lib.proofs.run.keys.calls.PlainlyKeyCalls.first_less_or_equal_by.Goals as goal
 
 pub returns-clause-does : goal.returns-clause-does

@@ -1,4 +1,4 @@
-use Rattle.itree_lib.proofs.KeyRooms.{keeps_inserted}
+use Rattle.itree_lib.proofs.RunLemmas.KeyRoom.{keeps_inserted}
 use Rattle.itree_lib.proofs.run.keys.calls.PlainlyKeyCalls.insert.Goals as goal
 
 pub returns-in-Ok-clause-does : goal.returns-in-Ok-clause-does

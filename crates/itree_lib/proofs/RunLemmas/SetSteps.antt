@@ -1,4 +1,4 @@
--- Each reply that the runner of set commands gives is a step of the machine, and a run goes on by a step.
+-- Each reply that the runner of set commands gives is a step of the machine.
 use Rattle.std.proofs.Common.{◌≡◌, ◌≢◌, ◌⊎◌, ℕ, zero, suc, true, false, Option, Some, None as NoneOf, List, [], ◌∷◌, ◌++◌, map, inl, inr, ⊎_elim, refl, sym, ap, ◌∙◌, subst, arith, append_assoc}
 use Rattle.std.specs.Cmp.{IsTotalOrder, alike_right}
 use Rattle.std.specs.Option.{MatchOption, is_some}
@@ -12,16 +12,14 @@ use Rattle.std.proofs.lemmas.List.Elements.{All-contains, All-map, All-weaker}
 use Rattle.i_tree.specs.Root.Answer.{IsGreatest, GreatestOr}
 use Rattle.i_tree.specs.Root.Pairs.{HasKey, NoKey, IsRising}
 use Rattle.i_tree.specs.Set.Pairs.{AreApart, values, by_key, HasHandle, IsOrdered, LacksKey, IsFoundBy}
-use Rattle.i_tree.specs.Core.Shape.{last_handle}
+use Rattle.i_tree.specs.Rb.Shape.{last_handle}
 use Rattle.i_tree.specs.declared.TheConstants.{EMPTY_REF}
 use Rattle.i_tree.proofs.RootLemmas.Lists.{Contains-here, Contains-there}
 use Rattle.i_tree.proofs.RootLemmas.Joined.{All-of_map, AllPairs-of_map, AllPairs-to_map, Contains-middle, last_cut}
 use Rattle.i_tree.proofs.SetLemmas.Live.{cut_at_item}
 use Rattle.i_tree.proofs.SetLemmas.Search.{last_handle-end}
-use Rattle.itree_lib.specs.SetMachine.{keyed, Step, Run}
-use Rattle.itree_lib.specs.declared.run.sets.SetCommand.{SetCommand}
+use Rattle.itree_lib.specs.Run.SetMachine.{keyed, Step}
 use Rattle.itree_lib.specs.declared.run.sets.SetCommand.TheVariants.{Delete, Find, Before}
-use Rattle.itree_lib.specs.declared.run.sets.SetReply.{SetReply}
 use Rattle.itree_lib.specs.declared.run.sets.SetReply.TheVariants.{Deleted, Key, None}
 
 module _ {X : Type 0} where
@@ -257,15 +255,3 @@ module _ {K V : Type 0} (key_of : V → K) {cmp : K → K → Ordering} (o : IsT
           greatest.none_above i d inside (not_greater _ (inr equal)) (o.congr _ key pair.0 equal ∙ o.antisymm key pair.0 ∙ ap ordering_reverse less))
           (λ none. some none.1)
           answer
-
-module _ {K V : Type 0} (key_of : V → K) (cmp : K → K → Ordering) where
-  -- a run of all but the last command, and a step at that
-  pub Run-push : (old middle new : List V) (commands : List (SetCommand K V)) (replies : List (SetReply K V)) (command : SetCommand K V) (reply : SetReply K V)
-      → Run key_of cmp old commands replies middle → Step key_of cmp middle command reply new
-      → Run key_of cmp old (commands ++ command ∷ []) (replies ++ reply ∷ []) new
-  Run-push old middle new [] [] command reply run step =
-      (new, subst (λ (state : List V). Step key_of cmp state command reply new) run step, refl)
-  Run-push old middle new [] (r ∷ rs) command reply run step = absurd run
-  Run-push old middle new (c ∷ cs) [] command reply run step = absurd run
-  Run-push old middle new (c ∷ cs) (r ∷ rs) command reply (between, first, rest) step =
-      (between, first, Run-push between middle new cs rs command reply rest step)

@@ -11,15 +11,15 @@ use Rattle.std.proofs.lemmas.List.Elements.{Contains-push_cases}
 use Rattle.i_tree.specs.Root.Answer.{AtMost}
 use Rattle.i_tree.specs.Root.Change.{Gains, Without}
 use Rattle.i_tree.specs.Root.Pairs.{HasKey, NoKey}
-use Rattle.itree_lib.specs.Levels.{Entry, level_of, entry_of, cmp_levels, live_entries, HasEnded}
-use Rattle.itree_lib.specs.Schedule.{beginning_of, answering_of, IsSchedule}
-use Rattle.itree_lib.specs.Sweep.{IsHeightBelow, Placed, StandsIn, Overlaps, IsFirstOverlap, StandsAt}
+use Rattle.itree_lib.specs.Sweep.Levels.{Entry, level_of, entry_of, cmp_levels, live_entries, HasEnded}
+use Rattle.itree_lib.specs.Sweep.Schedule.{beginning_of, answering_of, IsSchedule}
+use Rattle.itree_lib.specs.Sweep.Heights.{IsHeightBelow, Placed, StandsIn, Overlaps, IsFirstOverlap, StandsAt}
 use Rattle.itree_lib.specs.declared.sweep.Point.{Point}
 use Rattle.itree_lib.specs.declared.sweep.Segment.{Segment}
 use Rattle.itree_lib.specs.declared.sweep.events.Event.{Event}
 use Rattle.itree_lib.specs.declared.sweep.events.Task.TheVariants.{Begin, Answer}
-use Rattle.itree_lib.proofs.DoneEvents.{none_behind, one_more, begins_of, answers_of, begun_before, begun_upto, comes_before, is_first}
-use Rattle.itree_lib.proofs.Sweeping.{Holds, Holds-begun, Holds-answered, IsHeightBelow-at_most, Overlaps-live, none_overlaps, one_element}
+use Rattle.itree_lib.proofs.SweepLemmas.DoneEvents.{none_behind, one_more, begins_of, answers_of, begun_before, begun_upto, comes_before, is_first}
+use Rattle.itree_lib.proofs.SweepLemmas.Status.{Holds, Holds-begun, Holds-answered, IsHeightBelow-at_most, Overlaps-live, none_overlaps, one_element}
 
 -- The store holds what has begun, none of the segments that have begun overlaps, and the points that are done have their answers.
 pub record Served (segments : List Segment) (points : List Point) (done : List Event) (entries : List Entry) (answers : List (Option ℤ)) : Type 0 where

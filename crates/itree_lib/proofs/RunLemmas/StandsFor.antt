@@ -15,9 +15,9 @@ use Rattle.i_tree.specs.Key.Live.{live_pairs, IsExpired}
 use Rattle.i_tree.specs.Root.Live.{is_live}
 use Rattle.i_tree.proofs.KeyLemmas.Times.{is_live-before}
 use Rattle.i_tree.proofs.RootLemmas.Lists.{Contains-filter}
-use Rattle.itree_lib.specs.KeyMachine.{is_late}
-use Rattle.itree_lib.specs.StandsFor.{StandsFor}
-use Rattle.itree_lib.proofs.Members.{Within, Contains-from_filter}
+use Rattle.i_tree.specs.Root.Late.{is_late}
+use Rattle.itree_lib.specs.Run.StandsFor.{StandsFor}
+use Rattle.itree_lib.proofs.RunLemmas.Members.{Within, Contains-from_filter}
 
 -- what is left and what is lost are together what there was
 pub Without-parts : {X : Type 0} {MayGo : X → Type 0} {before after : List X} → Without MayGo before after → (lost : List X) × IsPermutation before (after ++ lost) × All MayGo lost

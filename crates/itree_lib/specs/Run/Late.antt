@@ -1,9 +1,9 @@
 -- A late command counts nothing, and leaves the room as it is.
 use Rattle.std.proofs.Common.{ℕ, arith}
-use Rattle.i_tree.specs.Core.RbTree.{Contents}
+use Rattle.i_tree.specs.Rb.RbTree.{Contents}
 use Rattle.i_tree.specs.Root.Steps.{Counts}
-use Rattle.itree_lib.specs.CountedRun.{CountsOne}
-use Rattle.itree_lib.specs.KeyRoom.{KeepsRoom}
+use Rattle.itree_lib.specs.Run.Counted.{CountsOne}
+use Rattle.itree_lib.specs.Run.KeyRoom.{KeepsRoom}
 use Rattle.itree_lib.specs.declared.run.keys.KeyReply.TheVariants.{Late}
 
 pub counts_late : {K V : Type 0} (steps : Counts) (tree : Contents (K × V)) → CountsOne Late steps tree steps tree
@@ -12,7 +12,7 @@ counts_late steps tree =
       made = record { comparisons = 0; tests = 0; removals = 0; rotations = 0 };
       adds = record { comparisons = omega arith; tests = omega arith; removals = omega arith; rotations = omega arith };
       compares = λ levels small. omega arith;
-      turns = omega arith;
+      rotations = omega arith;
       stores = λ _. omega arith;
       clears = λ is. absurd (cc (is));
       slots_stay = omega arith;

@@ -1,10 +1,10 @@
 -- What a run of commands over a tree of expiring keys has counted, and what is stored then.
 use Rattle.std.specs.Prelude.{◌≡◌, ◌≢◌, ℕ, ◌+◌, ◌*◌, ◌^◌, ◌<◌, ◌≤◌, List, All, length}
 use Rattle.i_tree.specs.Key.KeyExpTree.{items}
-use Rattle.i_tree.specs.Core.RbTree.{Contents, slots}
+use Rattle.i_tree.specs.Rb.RbTree.{Contents, slots}
 use Rattle.i_tree.specs.Root.Steps.{Counts, Adds}
 use Rattle.i_tree.specs.declared.Refusal.{Refusal}
-use Rattle.itree_lib.specs.KeyRoom.{one_if_inserted, accepted}
+use Rattle.itree_lib.specs.Run.KeyRoom.{one_if_inserted, accepted}
 use Rattle.itree_lib.specs.declared.run.keys.KeyCommand.{KeyCommand}
 use Rattle.itree_lib.specs.declared.run.keys.KeyCommand.TheVariants.{Clear}
 use Rattle.itree_lib.specs.declared.run.keys.KeyReply.{KeyReply}
@@ -15,7 +15,7 @@ use Rattle.itree_lib.specs.declared.run.keys.KeyReply.TheVariants.{Refused, Clea
 pub record CountsRun {K E V P : Type 0} (commands : List (KeyCommand K E V P)) (replies : List (KeyReply V)) (old new : Counts) (stored stored' : ℕ) : Type 0 where
   pub made : Counts
   pub adds : Adds old new made
-  pub turns : made.rotations + 3 * stored' ≤ 5 * accepted replies + 3 * stored
+  pub rotations : made.rotations + 3 * stored' ≤ 5 * accepted replies + 3 * stored
   pub removes : made.removals + stored' ≤ accepted replies + stored
   pub removes_all : All (λ command. command ≢ Clear) commands → made.removals + stored' ≡ accepted replies + stored
   pub compares : (levels : ℕ) → stored + accepted replies + 1 < 2 ^ (levels + 1) → made.comparisons ≤ 4 * levels * length commands
@@ -25,7 +25,7 @@ pub record CountsOne {K V : Type 0} (reply : KeyReply V) (old : Counts) (tree : 
   pub made : Counts
   pub adds : Adds old new made
   pub compares : (levels : ℕ) → length (items tree.shape) + 1 < 2 ^ (levels + 1) → made.comparisons ≤ 4 * levels
-  pub turns : made.rotations ≤ 3 * made.removals + 2 * one_if_inserted reply
+  pub rotations : made.rotations ≤ 3 * made.removals + 2 * one_if_inserted reply
   pub stores : reply ≢ Cleared → length (items tree'.shape) + made.removals ≡ length (items tree.shape) + one_if_inserted reply
   pub clears : reply ≡ Cleared → (length (items tree'.shape) ≡ 0) × (made.removals ≡ 0)
   pub slots_stay : slots tree ≤ slots tree'

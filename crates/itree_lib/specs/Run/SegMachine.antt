@@ -1,10 +1,11 @@
 -- The machine of segment commands: what it may reply, and the state that it goes on to.
 use Rattle.std.specs.Prelude.{◌≡◌, ◌≢◌, ℤ, true, false, List, [], ◌∷◌, Option, Some, None, filter, IsPermutation}
 use Rattle.std.specs.declared.cmp.Ordering.{Ordering}
+use Rattle.i_tree.specs.Root.Late.{is_late}
 use Rattle.i_tree.specs.Seg.Buckets.{Buckets, Accepts, interval}
 use Rattle.i_tree.specs.Seg.Members.{Member, member_over, is_live_yet, answer}
 use Rattle.i_tree.specs.declared.seg.exp.SegRange.{SegRange}
-use Rattle.itree_lib.specs.KeyMachine.{is_late}
+use Rattle.itree_lib.specs.Run.Chain.{Chain}
 use Rattle.itree_lib.specs.declared.run.segments.SegCommand.{SegCommand}
 use Rattle.itree_lib.specs.declared.run.segments.SegCommand.TheVariants.{Insert, Query, Clear}
 use Rattle.itree_lib.specs.declared.run.segments.SegReply.{SegReply}
@@ -82,10 +83,15 @@ module _ {E V : Type 0} (expiration : V → E) (cmp : E → E → Ordering) wher
 
     -- The machine may give these replies to these commands, one step after another.
     abbrev pub Run : State E V → List (SegCommand R E V) → List (Reply V) → State E V → Type 0
-    Run old [] [] new = new ≡ old
-    Run old (command ∷ commands) (reply ∷ replies) new = (middle : State E V) × Step old command reply middle × Run middle commands replies new
-    Run old [] (reply ∷ replies) new = ⊥
-    Run old (command ∷ commands) [] new = ⊥
+    Run = Chain Step
+
+    -- From whichever bag the held members stood for, the replies are a run to one that the members held then stand for.
+    abbrev pub RunsOver : List (Member V) → Option E → List (SegCommand R E V) → List (Reply V) → List (Member V) → Option E → Type 0
+    RunsOver held latest commands replies held' latest' =
+        (bag : List (Member V)) → StandsFor held latest bag
+        → (end : List (Member V))
+        × Run (record { bag = bag; latest = latest }) commands replies (record { bag = end; latest = latest' })
+        × StandsFor held' latest' end
 
     -- From whichever bag the held members stood for, the reply is a step to one that they stand for now.
     abbrev pub Serves : List (Member V) → Option E → SegCommand R E V → Reply V → List (Member V) → Option E → Type 0

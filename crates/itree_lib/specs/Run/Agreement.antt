@@ -4,7 +4,8 @@ use Rattle.std.specs.declared.cmp.Ordering.{Ordering}
 use Rattle.std.specs.declared.cmp.Ordering.TheVariants as ordering
 use Rattle.i_tree.specs.declared.Refusal.{Refusal}
 use Rattle.i_tree.specs.Key.Live.{live_pairs}
-use Rattle.itree_lib.specs.KeyMachine.{State, is_late, Step}
+use Rattle.i_tree.specs.Root.Late.{is_late}
+use Rattle.itree_lib.specs.Run.KeyMachine.{State, Step}
 use Rattle.itree_lib.specs.declared.run.keys.KeyCommand.{KeyCommand}
 use Rattle.itree_lib.specs.declared.run.keys.KeyCommand.TheVariants.{Insert, Less, LessOrEqualBy, Clear}
 use Rattle.itree_lib.specs.declared.run.keys.KeyReply.{KeyReply}

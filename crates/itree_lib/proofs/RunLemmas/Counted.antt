@@ -3,16 +3,16 @@ use Rattle.std.proofs.Common.{◌≡◌, ◌≢◌, ◌⊎◌, ⊎_elim, inl, in
 use Rattle.std.proofs.Math.Nat.{mul-suc}
 use Rattle.std.proofs.lemmas.List.{length-map}
 use Rattle.std.proofs.lemmas.List.Elements.{All-head, All-tail}
-use Rattle.i_tree.specs.Root.Descent.{Descends, LooksFor}
+use Rattle.i_tree.specs.Root.Descent.{Descends, SearchesFor}
 use Rattle.i_tree.specs.Key.KeyExpTree.{items, slots_for}
-use Rattle.i_tree.specs.Core.RbTree.{Contents, slots, slots_grown}
-use Rattle.i_tree.specs.Core.Shape.{entries}
+use Rattle.i_tree.specs.Rb.RbTree.{Contents, slots, slots_grown}
+use Rattle.i_tree.specs.Rb.Shape.{entries}
 use Rattle.i_tree.specs.Root.Steps.{Counts, Adds, nothing, together}
 use Rattle.i_tree.specs.declared.Refusal.{Refusal}
-use Rattle.itree_lib.specs.CountedRun.{CountsOne, CountsRun}
-use Rattle.itree_lib.specs.KeyReplies.{IsReplyTo, RepliesTo}
-use Rattle.itree_lib.specs.KeyRoom.{one_if_inserted, KeepsRoom}
-use Rattle.itree_lib.specs.Serving.{DoesAll}
+use Rattle.itree_lib.specs.Run.Counted.{CountsOne, CountsRun}
+use Rattle.itree_lib.specs.Run.KeyReplies.{IsReplyTo, RepliesTo}
+use Rattle.itree_lib.specs.Run.KeyRoom.{one_if_inserted, KeepsRoom}
+use Rattle.itree_lib.specs.Run.Effects.{DoesAll}
 use Rattle.itree_lib.specs.declared.run.keys.KeyCommand.{KeyCommand}
 use Rattle.itree_lib.specs.declared.run.keys.KeyCommand.TheVariants.{Insert, Less, LessOrEqualBy, Clear}
 use Rattle.itree_lib.specs.declared.run.keys.KeyReply.{KeyReply}
@@ -38,7 +38,7 @@ module _ {K V : Type 0} where
         made = nothing;
         adds = record { comparisons = omega arith; tests = omega arith; removals = omega arith; rotations = omega arith };
         compares = λ levels small. omega arith;
-        turns = omega arith;
+        rotations = omega arith;
         stores = λ other. absurd (other refl);
         clears = λ _. (empty, refl);
         slots_stay = omega (arith, same);
@@ -46,7 +46,7 @@ module _ {K V : Type 0} where
       }
 
   -- a look for the key, and the insertion
-  module _ {IsStored IsMissing : Type 0} (old mid new : Counts) (tree tree' : Contents (K × V)) (look : LooksFor Adds old mid (length (items tree.shape)) IsStored IsMissing) where
+  module _ {IsStored IsMissing : Type 0} (old mid new : Counts) (tree tree' : Contents (K × V)) (look : SearchesFor Adds old mid (length (items tree.shape)) IsStored IsMissing) where
     adds_both : (made : Counts) → Adds mid new made → Adds old new (together look.made made)
     adds_both made adds =
         record {
@@ -63,7 +63,7 @@ module _ {K V : Type 0} where
           made = together look.made way.made;
           adds = adds_both way.made way.counted;
           compares = λ levels small. let first = look.compares levels small in let second = way.compares levels small in omega (arith, first, second);
-          turns = omega (arith, way.turns, look.turns, look.removals);
+          rotations = omega (arith, way.rotations, look.rotations, look.removals);
           stores = λ _. omega (arith, way.stores, look.removals);
           clears = λ is. absurd (cc (is));
           slots_stay = let no_fewer = slots_no_fewer (slots tree - length (items tree'.shape)) (slots tree) (length (items tree'.shape)) tree'.spare refl (omega (arith, grown, of_items)) in omega (arith, no_fewer, of_items);
@@ -76,7 +76,7 @@ module _ {K V : Type 0} where
           made = together look.made way.made;
           adds = adds_both way.made way.counted;
           compares = λ levels small. let first = look.compares levels small in let second = way.compares levels small in omega (arith, first, second);
-          turns = omega (arith, way.turns, look.turns, look.removals);
+          rotations = omega (arith, way.rotations, look.rotations, look.removals);
           stores = λ _. omega (arith, way.stores, look.removals);
           clears = λ is. absurd (cc (is));
           slots_stay = omega (arith, ap slots same);
@@ -118,7 +118,7 @@ module _ {K V : Type 0} where
         record {
           made = nothing;
           adds = record { comparisons = omega (arith, ap (λ (counts : Counts). counts.comparisons) done.0); tests = omega (arith, ap (λ (counts : Counts). counts.tests) done.0); removals = omega (arith, ap (λ (counts : Counts). counts.removals) done.0); rotations = omega (arith, ap (λ (counts : Counts). counts.rotations) done.0) };
-          turns = omega (arith, stored);
+          rotations = omega (arith, stored);
           removes = omega (arith, stored);
           removes_all = λ _. omega (arith, stored);
           compares = λ levels small. omega arith;
@@ -136,7 +136,7 @@ module _ {K V : Type 0} where
             removals = omega (arith, one.adds.removals, more.adds.removals);
             rotations = omega (arith, one.adds.rotations, more.adds.rotations);
           };
-          turns = ⊎_elim (λ is. omega (arith, one.turns, more.turns, (one.clears is).0, (one.clears is).1)) (λ other. omega (arith, one.turns, more.turns, one.stores other)) (is_cleared reply);
+          rotations = ⊎_elim (λ is. omega (arith, one.rotations, more.rotations, (one.clears is).0, (one.clears is).1)) (λ other. omega (arith, one.rotations, more.rotations, one.stores other)) (is_cleared reply);
           removes = ⊎_elim (λ is. omega (arith, more.removes, (one.clears is).0, (one.clears is).1)) (λ other. omega (arith, more.removes, one.stores other)) (is_cleared reply);
           removes_all = λ none.
               let other = one.stores (λ is. All-head (λ (c : KeyCommand K E V P). c ≢ Clear) command commands none (cleared_by_clear command reply each.0 is)) in

@@ -8,8 +8,8 @@ use Rattle.std.proofs.lemmas.Cmp.{ranked, int_ranked}
 use Rattle.std.proofs.lemmas.Int.{ints}
 use Rattle.std.proofs.lemmas.List.{get_or-take, get_or_default, length-take-le, take_more}
 use Rattle.std.proofs.lemmas.List.Elements.{Contains-get_or}
-use Rattle.itree_lib.specs.Schedule.{beginning_of, answering_of, ComesBeforeAt, Precedes, IsEventOf, IsSchedule}
-use Rattle.itree_lib.specs.Sweep.{Covers, NoneCollide, Placed, StandsIn, ComesBefore, Overlaps, IsFirstOverlap, StandsAt}
+use Rattle.itree_lib.specs.Sweep.Schedule.{beginning_of, answering_of, ComesBeforeAt, Precedes, IsEventOf, IsSchedule}
+use Rattle.itree_lib.specs.Sweep.Heights.{Covers, NoneCollide, Placed, StandsIn, ComesBefore, Overlaps, IsFirstOverlap, StandsAt}
 use Rattle.itree_lib.specs.declared.sweep.Point.{Point}
 use Rattle.itree_lib.specs.declared.sweep.Segment.{Segment}
 use Rattle.itree_lib.specs.declared.sweep.events.Event.{Event}

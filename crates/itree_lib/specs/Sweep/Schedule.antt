@@ -1,6 +1,6 @@
 -- In which order a sweep goes through the events of its segments and points. For the private contracts of `below`.
 use Rattle.std.specs.Prelude.{◌≡◌, ◌++◌, ◌⊎◌, ⊤, ℕ, ◌<◌, ◌<ℤ◌, ◌≤ℤ◌, List, All, AllPairs, Contains}
-use Rattle.itree_lib.specs.Sweep.{StandsAt, StandsIn}
+use Rattle.itree_lib.specs.Sweep.Heights.{StandsAt, StandsIn}
 use Rattle.itree_lib.specs.declared.sweep.Point.{Point}
 use Rattle.itree_lib.specs.declared.sweep.Segment.{Segment}
 use Rattle.itree_lib.specs.declared.sweep.events.Event.{Event}

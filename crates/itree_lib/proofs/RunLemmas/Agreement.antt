@@ -9,21 +9,22 @@ use Rattle.std.specs.List.{AllPairs, Contains}
 use Rattle.std.proofs.lemmas.Bool.{both_ways, cond_both, true_from_ne_false}
 use Rattle.std.proofs.lemmas.List.Elements.{All-contains, All-head, All-tail, All-weaker}
 use Rattle.std.proofs.lemmas.List.Kept.{AllPairs-cons}
-use Rattle.i_tree.proofs.RootLemmas.Orders.{gt-turned}
+use Rattle.i_tree.proofs.RootLemmas.Orders.{gt-reversed}
 use Rattle.i_tree.proofs.RootLemmas.Lists.{AllPairs-head, AllPairs-tail, Contains-filter}
 use Rattle.i_tree.specs.declared.Refusal.TheVariants.{OutOfMemory, NoHandle}
 use Rattle.i_tree.specs.Root.Answer.{GreatestOr, Below, AtMost}
 use Rattle.i_tree.specs.Key.Live.{live_pairs}
 use Rattle.i_tree.specs.Root.Live.{is_live}
 use Rattle.i_tree.specs.Root.Pairs.{HasKey, NoKey}
-use Rattle.itree_lib.specs.Agreeing.{IsRefused, NoneRefused, OneEqual, OneEqualEach}
-use Rattle.itree_lib.specs.KeyMachine.{State, beginning, is_late, IsLate, Step, Run}
+use Rattle.itree_lib.specs.Run.Agreement.{IsRefused, NoneRefused, OneEqual, OneEqualEach}
+use Rattle.i_tree.specs.Root.Late.{is_late}
+use Rattle.itree_lib.specs.Run.KeyMachine.{State, beginning, IsLate, Step, Run}
 use Rattle.itree_lib.specs.declared.run.keys.KeyCommand.{KeyCommand}
 use Rattle.itree_lib.specs.declared.run.keys.KeyCommand.TheVariants.{Insert, Less, LessOrEqualBy, Clear}
 use Rattle.itree_lib.specs.declared.run.keys.KeyReply.{KeyReply}
 use Rattle.itree_lib.specs.declared.run.keys.KeyReply.TheVariants.{Inserted, Present, Late, Refused, Value, Cleared}
-use Rattle.itree_lib.proofs.Members.{Within, All-within, Contains-from_filter}
-use Rattle.itree_lib.proofs.Standing.{IsExpired-later}
+use Rattle.itree_lib.proofs.RunLemmas.Members.{Within, All-within, Contains-from_filter}
+use Rattle.itree_lib.proofs.RunLemmas.StandsFor.{IsExpired-later}
 
 -- where each element stands in the relation to all later ones, two members of which neither stands in it to the other are one
 same_member : {X : Type 0} (R : X → X → Type 0) (xs : List X) → AllPairs R xs → (x y : X) → Contains xs x → Contains xs y → ¬ (R x y) → ¬ (R y x) → x ≡ y
@@ -103,7 +104,7 @@ module _ {K E V : Type 0} (expiration : K → E) {cmp_time : E → E → Orderin
       where
         by_last : (last : Option E) → is_late cmp_time last time ≡ false → is_late cmp_time last later ≡ false
         by_last None h = refl
-        by_last (Some last) h = sym (gt-turned times last later) ∙ upto times last time later (gt-turned times last time ∙ h) (gt-turned times time later ∙ after)
+        by_last (Some last) h = sym (gt-reversed times last later) ∙ upto times last time later (gt-reversed times last time ∙ h) (gt-reversed times time later ∙ after)
 
     -- what is live then was live
     live_before : Within (live_pairs expiration cmp_time later old.accepted) (live_pairs expiration cmp_time time old.accepted)

@@ -1,10 +1,11 @@
 -- The machine of set commands: what it may reply, and the list that it goes on to. Its state is the values by rising key.
-use Rattle.std.specs.Prelude.{◌≡◌, ◌≢◌, List, [], ◌∷◌, ◌++◌, All, map}
+use Rattle.std.specs.Prelude.{◌≡◌, ◌≢◌, List, ◌∷◌, ◌++◌, All, map}
 use Rattle.std.specs.declared.cmp.Ordering.{Ordering}
 use Rattle.std.specs.declared.cmp.Ordering.TheVariants.{Equal, Greater}
 use Rattle.i_tree.specs.Root.Answer.{IsGreatest}
 use Rattle.i_tree.specs.Root.Change.{Joins}
 use Rattle.i_tree.specs.Root.Pairs.{HasKey, NoKey, IsRising}
+use Rattle.itree_lib.specs.Run.Chain.{Chain}
 use Rattle.itree_lib.specs.declared.run.sets.SetCommand.{SetCommand}
 use Rattle.itree_lib.specs.declared.run.sets.SetCommand.TheVariants.{Insert, Delete, Find, Before}
 use Rattle.itree_lib.specs.declared.run.sets.SetReply.{SetReply}
@@ -38,7 +39,4 @@ module _ {K V : Type 0} (key_of : V → K) where
 
     -- The machine may give these replies to these commands, one step after another.
     abbrev pub Run : List V → List (SetCommand K V) → List (SetReply K V) → List V → Type 0
-    Run old [] [] new = new ≡ old
-    Run old (command ∷ commands) (reply ∷ replies) new = (middle : List V) × Step old command reply middle × Run middle commands replies new
-    Run old [] (reply ∷ replies) new = ⊥
-    Run old (command ∷ commands) [] new = ⊥
+    Run = Chain Step

@@ -1,4 +1,4 @@
--- Each reply that the runner gives is a step of the machine, and a run goes on by a step.
+-- Each reply that the runner of key commands gives is a step of the machine.
 use Rattle.std.proofs.Common.{◌≡◌, false, List, [], ◌∷◌, ◌++◌, Option, Some, None, refl, sym, subst, append-nil}
 use Rattle.std.specs.Cmp.{IsTotalOrder}
 use Rattle.std.specs.declared.cmp.Ordering.{Ordering}
@@ -9,16 +9,17 @@ use Rattle.i_tree.specs.Root.Answer.{Below, AtMost}
 use Rattle.i_tree.specs.Root.Change.{Without, Gains}
 use Rattle.i_tree.specs.Key.Live.{live_pairs, IsExpired}
 use Rattle.i_tree.specs.Root.Pairs.{HasKey, NoKey}
-use Rattle.itree_lib.specs.KeyMachine.{State, is_late, Step, Run, Serves, Inserts}
-use Rattle.itree_lib.specs.KeyReplies.{IsReplyTo, RepliesTo}
-use Rattle.itree_lib.specs.Serving.{DoesAll}
-use Rattle.itree_lib.specs.StandsFor.{StandsFor}
+use Rattle.i_tree.specs.Root.Late.{is_late}
+use Rattle.itree_lib.specs.Run.KeyMachine.{Serves, Inserts}
+use Rattle.itree_lib.specs.Run.KeyReplies.{IsReplyTo, RepliesTo}
+use Rattle.itree_lib.specs.Run.Effects.{DoesAll}
+use Rattle.itree_lib.specs.Run.StandsFor.{StandsFor}
 use Rattle.itree_lib.specs.declared.run.keys.KeyCommand.{KeyCommand}
 use Rattle.itree_lib.specs.declared.run.keys.KeyCommand.TheVariants.{Insert, Less, LessOrEqualBy}
 use Rattle.itree_lib.specs.declared.run.keys.KeyReply.{KeyReply}
 use Rattle.itree_lib.specs.declared.run.keys.KeyReply.TheVariants.{Inserted, Present, Late, Refused, Value, Cleared}
-use Rattle.itree_lib.proofs.Members.{Within, HasKey-members, NoKey-members, GreatestOr-members, AtMost-members, Without-all}
-use Rattle.itree_lib.proofs.Standing.{StandsFor-later, StandsFor-without, StandsFor-joins, live_accepted, live_stored}
+use Rattle.itree_lib.proofs.RunLemmas.Members.{Within, HasKey-members, NoKey-members, GreatestOr-members, AtMost-members, Without-all}
+use Rattle.itree_lib.proofs.RunLemmas.StandsFor.{StandsFor-later, StandsFor-without, StandsFor-joins, live_accepted, live_stored}
 
 -- a list stands for itself
 pub StandsFor-itself : {K E V : Type 0} (expiration : K → E) (cmp_time : E → E → Ordering) (stored : List (K × V)) → StandsFor expiration cmp_time stored stored None
@@ -75,19 +76,6 @@ module _ {K E V P : Type 0} (expiration : K → E) {cmp_time : E → E → Order
       serves_insert Late none = absurd none
       serves_insert (Value value) none = absurd none
       serves_insert Cleared none = absurd none
-
-  -- a run of all but the last command, and a step at that
-  pub Run-push : (old middle new : State K E V) (commands : List (KeyCommand K E V P)) (replies : List (KeyReply V)) (command : KeyCommand K E V P) (reply : KeyReply V)
-      → Run expiration cmp_time cmp_key order old commands replies middle → Step expiration cmp_time cmp_key order middle command reply new
-      → Run expiration cmp_time cmp_key order old (commands ++ command ∷ []) (replies ++ reply ∷ []) new
-  Run-push old middle new [] [] command reply run step =
-      (new, subst (λ state. Step expiration cmp_time cmp_key order state command reply new) run step, refl)
-  Run-push old middle new [] (r ∷ rs) command reply run step = absurd run
-  Run-push old middle new (c ∷ cs) [] command reply run step = absurd run
-  Run-push old middle new (c ∷ cs) (r ∷ rs) command reply (between, first, rest) step =
-      (between, first, Run-push between middle new cs rs command reply rest step)
-
--- one more reply to one more command
 
 -- an insertion that isn't late has a reply of its kind
 pub replies_to_insert : {K E V : Type 0} (P : Type 0) (expiration : K → E) (cmp_time : E → E → Ordering) (cmp_key : K → K → Ordering) (time : E) (key : K) (val : V) (stored stored' : List (K × V)) (reply : KeyReply V)

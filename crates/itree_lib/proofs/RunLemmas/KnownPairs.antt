@@ -11,13 +11,13 @@ use Rattle.i_tree.specs.Root.Change.{Without}
 use Rattle.i_tree.specs.Key.Live.{live_pairs}
 use Rattle.i_tree.specs.Root.Live.{is_live}
 use Rattle.i_tree.proofs.RootLemmas.Lists.{All-insert, Contains-filter, Contains-here, Contains-there}
-use Rattle.itree_lib.specs.KeyMachine.{Inserts}
-use Rattle.itree_lib.specs.Probes.{CanProbe, CanProbeAll, ProbesBy, ProbesAllBy, known_after}
+use Rattle.itree_lib.specs.Run.KeyMachine.{Inserts}
+use Rattle.itree_lib.specs.Run.Probes.{CanProbe, CanProbeAll, ProbesBy, ProbesAllBy, known_after}
 use Rattle.itree_lib.specs.declared.run.keys.KeyCommand.{KeyCommand}
 use Rattle.itree_lib.specs.declared.run.keys.KeyCommand.TheVariants.{Insert, Less, LessOrEqualBy, Clear}
 use Rattle.itree_lib.specs.declared.run.keys.KeyReply.{KeyReply}
 use Rattle.itree_lib.specs.declared.run.keys.KeyReply.TheVariants.{Inserted, Present, Late, Refused, Value, Cleared}
-use Rattle.itree_lib.proofs.Members.{Within, All-within, Contains-from_filter, Without-within}
+use Rattle.itree_lib.proofs.RunLemmas.Members.{Within, All-within, Contains-from_filter, Without-within}
 
 -- the commands to come are the next one and those after it
 pub next_command : {X : Type 0} (commands : List X) (i : ℕ) (command : X) → i < length commands → command ≡ get_or commands i command → drop i commands ≡ command ∷ drop (i + 1) commands

@@ -16,13 +16,13 @@ use Rattle.i_tree.specs.Root.Change.{Gains, Without}
 use Rattle.i_tree.specs.Root.Pairs.{HasKey, NoKey}
 use Rattle.i_tree.proofs.RootLemmas.Lists.{Contains-filter, Contains-here, Contains-there}
 use Rattle.i_tree.proofs.RootLemmas.Withouts.{filter-without}
-use Rattle.itree_lib.specs.Levels.{Entry, level_of, entry_of, cmp_levels, live_entries, HasEnded}
-use Rattle.itree_lib.specs.Schedule.{beginning_of}
-use Rattle.itree_lib.specs.Sweep.{Covers, IsUnder, IsHeightBelow, Placed, StandsIn, ComesBefore, Overlaps}
+use Rattle.itree_lib.specs.Sweep.Levels.{Entry, level_of, entry_of, cmp_levels, live_entries, HasEnded}
+use Rattle.itree_lib.specs.Sweep.Schedule.{beginning_of}
+use Rattle.itree_lib.specs.Sweep.Heights.{Covers, IsUnder, IsHeightBelow, Placed, StandsIn, ComesBefore, Overlaps}
 use Rattle.itree_lib.specs.declared.sweep.Point.{Point}
 use Rattle.itree_lib.specs.declared.sweep.Segment.{Segment}
 use Rattle.itree_lib.specs.declared.sweep.events.Event.{Event}
-use Rattle.itree_lib.proofs.Members.{Contains-from_filter, Without-within}
+use Rattle.itree_lib.proofs.RunLemmas.Members.{Contains-from_filter, Without-within}
 
 -- an entry is live at an x up to its last one
 is_live-upto : (x last : ℤ) → x ≤ℤ last → is_ge (int_cmp last x) ≡ true

@@ -1,12 +1,13 @@
 -- The machine of key commands: what it may reply, and the state that it goes on to.
-use Rattle.std.specs.Prelude.{◌≡◌, Bool, true, false, List, [], ◌∷◌, Option, Some, None}
-use Rattle.std.specs.Ordering.{is_lt}
+use Rattle.std.specs.Prelude.{◌≡◌, true, false, List, [], ◌∷◌, Option, Some, None}
 use Rattle.std.specs.declared.cmp.Ordering.{Ordering}
 use Rattle.i_tree.specs.Root.Answer.{Below, AtMost}
 use Rattle.i_tree.specs.Root.Change.{Gains}
+use Rattle.i_tree.specs.Root.Late.{is_late}
 use Rattle.i_tree.specs.Key.Live.{live_pairs, IsExpired}
 use Rattle.i_tree.specs.Root.Pairs.{HasKey, NoKey}
-use Rattle.itree_lib.specs.StandsFor.{StandsFor}
+use Rattle.itree_lib.specs.Run.StandsFor.{StandsFor}
+use Rattle.itree_lib.specs.Run.Chain.{Chain}
 use Rattle.itree_lib.specs.declared.run.keys.KeyCommand.{KeyCommand}
 use Rattle.itree_lib.specs.declared.run.keys.KeyCommand.TheVariants.{Insert, Less, LessOrEqualBy, Clear}
 use Rattle.itree_lib.specs.declared.run.keys.KeyReply.{KeyReply}
@@ -20,11 +21,6 @@ pub record State (K E V : Type 0) : Type 0 where
 -- a run begins with the pairs that are stored and with no last time
 abbrev pub beginning : {K E V : Type 0} → List (K × V) → State K E V
 beginning stored = record { accepted = stored; last = None }
-
--- the time is before the last time
-abbrev pub is_late : {E : Type 0} → (E → E → Ordering) → Option E → E → Bool
-is_late cmp_time None time = false
-is_late cmp_time (Some last) time = is_lt (cmp_time time last)
 
 -- the command has a time, and that is before the last time
 abbrev pub IsLate : {K E V P : Type 0} → (E → E → Ordering) → Option E → KeyCommand K E V P → Type 0
@@ -77,10 +73,12 @@ module _ {K E V P : Type 0} (expiration : K → E) (cmp_time : E → E → Order
 
   -- The machine may give these replies to these commands, one step after another.
   abbrev pub Run : State K E V → List (KeyCommand K E V P) → List (KeyReply V) → State K E V → Type 0
-  Run old [] [] new = new ≡ old
-  Run old (command ∷ commands) (reply ∷ replies) new = (middle : State K E V) × Step old command reply middle × Run middle commands replies new
-  Run old [] (reply ∷ replies) new = ⊥
-  Run old (command ∷ commands) [] new = ⊥
+  Run = Chain Step
+
+  -- From the stored pairs and no last time on, the replies are a run to a state that the pairs stored then stand for.
+  abbrev pub RunsOver : List (K × V) → List (KeyCommand K E V P) → List (KeyReply V) → List (K × V) → Type 0
+  RunsOver stored commands replies stored' =
+      (end : State K E V) × Run (beginning stored) commands replies end × StandsFor expiration cmp_time stored' end.accepted end.last
 
   -- From whichever state the stored pairs stood for, the reply is a step to a state that they stand for now.
   abbrev pub Serves : List (K × V) → Option E → KeyCommand K E V P → KeyReply V → List (K × V) → Option E → Type 0

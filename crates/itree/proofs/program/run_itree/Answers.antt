@@ -1,7 +1,7 @@
 use Rattle.std.proofs.Common.{Err, ap}
 use Rattle.std.proofs.lemmas.Option.{IfSome_then}
 use Rattle.itree.proofs.Faults.{HasFault-line, HasFault-overlap}
-use Rattle.itree.proofs.program.run_over.Goals as goal
+use Rattle.itree.proofs.program.run_itree.Goals as goal
 
 pub returns-in-Err-Line-clause-faulty_line : goal.returns-in-Err-Line-clause-faulty_line
 returns-in-Err-Line-clause-faulty_line g c = λ two mode names.

@@ -1,22 +1,20 @@
--- Each reply that the runner of segment commands gives is a step of the machine, and a run goes on by a step.
-use Rattle.std.proofs.Common.{◌≡◌, ◌<◌, ℤ, Bool, true, false, cond, Option, Some, None, List, [], ◌∷◌, ◌++◌, length, refl, sym, ap, ◌∙◌, subst, arith}
+-- Each reply that the runner of segment commands gives is a step of the machine.
+use Rattle.std.proofs.Common.{◌≡◌, ◌<◌, ℤ, Bool, true, false, cond, Option, Some, None, List, [], ◌∷◌, length, refl, sym, ap, ◌∙◌, subst, arith}
 use Rattle.std.specs.Cmp.{IsTotalOrder, upto}
 use Rattle.std.specs.List.{filter}
 use Rattle.std.specs.List.Sorted.{IsPermutation}
-use Rattle.std.specs.Ordering.{is_lt}
 use Rattle.std.specs.declared.cmp.Ordering.{Ordering}
 use Rattle.std.proofs.lemmas.Bool.{both_ways}
 use Rattle.std.proofs.lemmas.List.Sorted.{length_permutation, IsPermutation-refl, IsPermutation-trans, IsPermutation-cons, IsPermutation-map}
-use Rattle.i_tree.proofs.RootLemmas.Orders.{gt-turned, at_or_after-turned, not_after-turned}
+use Rattle.i_tree.proofs.RootLemmas.Orders.{gt-reversed, at_or_after-reversed, not_after-reversed}
 use Rattle.i_tree.specs.Seg.Buckets.{Buckets, Interval, interval, overlap}
 use Rattle.i_tree.specs.Seg.Members.{Member, member_over, is_live_yet, live_members, with_member, answer, NotBefore}
 use Rattle.i_tree.specs.Root.Live.{is_live}
 use Rattle.i_tree.specs.declared.seg.exp.SegRange.{SegRange}
 use Rattle.i_tree.proofs.SegLemmas.Bags.{IsPermutation-filter}
-use Rattle.itree_lib.specs.KeyMachine.{is_late}
-use Rattle.itree_lib.specs.SegMachine.{Reply, State, IsAccepted, StandsFor, Step, Run, Serves}
-use Rattle.itree_lib.specs.SegMachine.Reply.{Inserted, Refused, Values, Cleared}
-use Rattle.itree_lib.specs.declared.run.segments.SegCommand.{SegCommand}
+use Rattle.i_tree.specs.Root.Late.{is_late}
+use Rattle.itree_lib.specs.Run.SegMachine.{State, IsAccepted, StandsFor, Serves}
+use Rattle.itree_lib.specs.Run.SegMachine.Reply.{Inserted, Refused, Values, Cleared}
 use Rattle.itree_lib.specs.declared.run.segments.SegCommand.TheVariants.{Insert, Query, Clear}
 
 -- what passes the narrower of two tests, of what passes the wider
@@ -33,8 +31,8 @@ filter_narrower narrow wide within (x ∷ xs) = at_first (filter_narrower narrow
 
 -- a time that isn't late is not before the latest one
 pub not_before : {E : Type 0} (cmp : E → E → Ordering) (latest : Option E) (time : E) → is_late cmp latest time ≡ false → NotBefore cmp latest time
-not_before cmp None time in_time = tt
-not_before cmp (Some last) time in_time = λ before. both_ways (is_lt (cmp time last)) in_time (ap is_lt before)
+not_before cmp None time in_time = refl
+not_before cmp (Some last) time in_time = in_time
 
 -- the latest time as it was told, which the query's isn't before
 pub not_late : {E : Type 0} (cmp : E → E → Ordering) (told latest : Option E) (time : E) → told ≡ latest → false ≡ is_late cmp told time → is_late cmp latest time ≡ false
@@ -45,7 +43,7 @@ module _ {E V : Type 0} (expiration : V → E) {cmp : E → E → Ordering} (o :
   live_before : (latest : Option E) (time : E) → is_late cmp latest time ≡ false → (value : V) → is_live expiration cmp time value ≡ true → is_live_yet expiration cmp latest value ≡ true
   live_before None time in_time value live = refl
   live_before (Some last) time in_time value live =
-      not_after-turned o (expiration value) last (upto o last time (expiration value) (gt-turned o last time ∙ in_time) (at_or_after-turned o (expiration value) time live))
+      not_after-reversed o (expiration value) last (upto o last time (expiration value) (gt-reversed o last time ∙ in_time) (at_or_after-reversed o (expiration value) time live))
 
   module _ (held : List (Member V)) (latest : Option E) (bag : List (Member V)) (stands : StandsFor expiration cmp held latest bag) where
     -- what the bag has live at a time that isn't late is held
@@ -119,15 +117,3 @@ module _ {E V : Type 0} (expiration : V → E) {cmp : E → E → Ordering} (o :
       ap (λ (t : Option E). let state : State E V = record { bag = []; latest = t } in state) forgotten,
       subst (λ (members : List (Member V)). IsPermutation [] members) (sym empty) (IsPermutation-refl []),
     )
-
-  module _ {R : Type 0} (whole : R → ℤ) (buckets : Buckets) where
-    -- a run of all but the last command, and a step at that
-    pub Run-push : (old middle new : State E V) (commands : List (SegCommand R E V)) (replies : List (Reply V)) (command : SegCommand R E V) (reply : Reply V)
-        → Run expiration cmp whole buckets old commands replies middle → Step expiration cmp whole buckets middle command reply new
-        → Run expiration cmp whole buckets old (commands ++ command ∷ []) (replies ++ reply ∷ []) new
-    Run-push old middle new [] [] command reply run step =
-        (new, subst (λ (state : State E V). Step expiration cmp whole buckets state command reply new) run step, refl)
-    Run-push old middle new [] (r ∷ rs) command reply run step = absurd run
-    Run-push old middle new (c ∷ cs) [] command reply run step = absurd run
-    Run-push old middle new (c ∷ cs) (r ∷ rs) command reply (between, first, rest) step =
-        (between, first, Run-push between middle new cs rs command reply rest step)

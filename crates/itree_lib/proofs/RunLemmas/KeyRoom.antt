@@ -3,8 +3,8 @@ use Rattle.std.proofs.Common.{◌≡◌, ℕ, ◌+◌, ◌-◌, ◌≤◌, List,
 use Rattle.std.proofs.lemmas.List.Edits.{length-insert}
 use Rattle.i_tree.specs.Root.Change.{Without, Gains}
 use Rattle.i_tree.specs.Root.Change.Without.{none, keeps, loses}
-use Rattle.itree_lib.specs.KeyRoom.{one_if_inserted, RefusedOnlyWhereFull, KeepsRoom}
-use Rattle.itree_lib.specs.Serving.{DoesAll}
+use Rattle.itree_lib.specs.Run.KeyRoom.{one_if_inserted, RefusedOnlyWhereFull, KeepsRoom}
+use Rattle.itree_lib.specs.Run.Effects.{DoesAll}
 use Rattle.itree_lib.specs.declared.run.keys.KeyReply.{KeyReply}
 use Rattle.itree_lib.specs.declared.run.keys.KeyReply.TheVariants.{Inserted, Refused, Value}
 

@@ -1,7 +1,7 @@
 -- Values of a set, beside the room for them: after each call, and after all commands of a run.
 use Rattle.std.proofs.Common.{◌≡◌, ℕ, ◌+◌, ◌-◌, ◌≤◌, List, [], ◌∷◌, ◌++◌, length, ap, arith}
 use Rattle.i_tree.specs.declared.Refusal.{Refusal}
-use Rattle.itree_lib.specs.SetRoom.{one_if_inserted, accepted, RefusedOnlyWhereFull, KeepsRoom}
+use Rattle.itree_lib.specs.Run.SetRoom.{one_if_inserted, accepted, RefusedOnlyWhereFull, KeepsRoom}
 use Rattle.itree_lib.specs.declared.run.sets.SetReply.{SetReply}
 use Rattle.itree_lib.specs.declared.run.sets.SetReply.TheVariants.{Refused, Deleted}
 

@@ -1,0 +1,11 @@
+pub mod Agreement
+pub mod Chain
+pub mod Counted
+pub mod KeyRoom
+pub mod KeySteps
+pub mod KnownPairs
+pub mod Members
+pub mod SegSteps
+pub mod SetRoom
+pub mod SetSteps
+pub mod StandsFor

@@ -1,0 +1,4 @@
+pub mod DoneEvents
+pub mod Events
+pub mod Schedule
+pub mod Status

@@ -1,0 +1,13 @@
+pub mod Agreement
+pub mod Chain
+pub mod Counted
+pub mod Effects
+pub mod KeyMachine
+pub mod KeyReplies
+pub mod KeyRoom
+pub mod Late
+pub mod Probes
+pub mod SegMachine
+pub mod SetMachine
+pub mod SetRoom
+pub mod StandsFor
