@@ -1,3 +1,5 @@
+//! Pairs of edges that may cross, by a sweep over a tree of segments.
+
 use i_tree::seg::exp::{SegExpCollection, SegRange};
 use i_tree::seg::tree::SegExpTree;
 use i_tree::{ExpiredVal, Refusal};

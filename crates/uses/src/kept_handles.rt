@@ -1,3 +1,5 @@
+//! A `SetTree` whose handles are kept, and whose values are changed and deleted by them.
+
 use i_tree::set::sort::{KeyValue, SetCollection};
 use i_tree::set::tree::SetTree;
 use i_tree::{EMPTY_REF, Refusal};

@@ -1,3 +1,5 @@
+//! A key type of one's own in a `KeyExpTree`.
+
 use i_tree::key::exp::KeyExpCollection;
 use i_tree::key::tree::KeyExpTree;
 use i_tree::{ExpiredKey, Refusal};

@@ -1,7 +1,7 @@
 //! Numbers in a tree of the core by their order, each at the place that a descent of one's own finds.
 
 ghost use Rattle.std.specs.Prelude.{◌≡◌};
-ghost use Rattle.i_tree.specs.Core.Shape.{IsLive, leaf, left_at, right_at};
+ghost use Rattle.i_tree.specs.Rb.Shape.{IsHandle, leaf, left_at, right_at};
 
 use i_tree::rb::RbTree;
 use i_tree::steps::Uncounted;
@@ -14,8 +14,8 @@ use std::cmp::Ordering;
 // A loop down a tree asks for a file, `Invariants.antt` of this function. It says that the handle that the loop has come to is
 // live, and that the rank of the part there is the measure: `left` and `right` make it fall, by their clause `lower`.
 fn descend(numbers: &RbTree<i32, Global>, top: u32, number: i32) -> (u32, Ordering)
-    requires { IsLive numbers.now.shape top }
-    ensures live { IsLive numbers.now.shape result.0 }
+    requires { IsHandle numbers.now.shape top }
+    ensures live { IsHandle numbers.now.shape result.0 }
     ensures left { result.1 ≡ Ordering.Less → left_at result.0 numbers.now.shape ≡ leaf }
     ensures right { result.1 ≡ Ordering.Greater → right_at result.0 numbers.now.shape ≡ leaf }
 {

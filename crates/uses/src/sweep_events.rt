@@ -104,8 +104,8 @@ pub fn outcomes_by_list<A: Allocator + Copy>(
 #[cfg(test)]
 mod tests {
     use super::*;
-    use refusing::Refusing;
     use std::test::Fail;
+    use test_kit::Refusing;
 
     fn begin(place: i32, height: i32, end: i32, name: u32) -> (i32, Event) {
         let level = Level { height, end };

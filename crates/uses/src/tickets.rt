@@ -1,8 +1,8 @@
-//! A set whose keys are numbers, filled in a loop. The loop's invariant is the one proof file of these programs:
-//! `proofs/tickets/seats_before/Invariants.antt`.
+//! A set whose keys are numbers, filled in a loop. The loop's invariant stands in
+//! `proofs/tickets/seats_before/Invariants.antt`, and the other functions ask for no proof file.
 
 ghost use Rattle.std.specs.Ordering.{nat_cmp};
-ghost use Rattle.i_tree.specs.Core.Shape.{entries};
+ghost use Rattle.i_tree.specs.Rb.Shape.{entries};
 ghost use Rattle.i_tree.specs.Set.Pairs.{HasHandle, IsOrdered};
 
 use i_tree::set::sort::{KeyValue, SetCollection};

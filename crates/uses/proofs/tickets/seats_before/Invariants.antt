@@ -1,5 +1,5 @@
 use Rattle.std.specs.Ordering.{nat_cmp}
-use Rattle.i_tree.specs.Core.Shape.{entries}
+use Rattle.i_tree.specs.Rb.Shape.{entries}
 use Rattle.i_tree.specs.Set.Pairs.{IsOrdered}
 use Rattle.uses.proofs.tickets.seats_before.Given as goal
 

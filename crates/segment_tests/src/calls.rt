@@ -1,0 +1,101 @@
+//! Trees of segments: their calls after a test of their conditions, and all that they hold.
+//!
+//! A call answers `None` where its conditions don't hold.
+
+use i_tree::seg::exp::{SegExpCollection, SegRange};
+use i_tree::seg::tree::SegExpTree;
+use i_tree::{LayoutNumber, Refusal};
+use std::alloc::{Allocator, Global};
+use test_kit::until::Until;
+
+/// A tree of segments.
+pub type Tree<R, A> = SegExpTree<R, i32, Until, A>;
+
+/// A copy: its node, its mask and its value.
+pub type Placed = (u32, u64, Until);
+
+/// An empty tree over the range, or `None` where it has no layout or memory was refused.
+pub fn tree_over<R: LayoutNumber, A: Allocator + Copy>(
+    memory: A,
+    min: R,
+    max: R,
+) -> Option<Tree<R, A>> {
+    SegExpTree::new(memory, SegRange { min, max }).ok()?
+}
+
+/// Inserts the value over a range that the tree accepts, and answers `None` where it doesn't.
+pub fn insert<R: LayoutNumber, A: Allocator + Copy>(
+    tree: &mut Tree<R, A>,
+    min: R,
+    max: R,
+    value: Until,
+) -> Option<Result<(), Refusal>> {
+    let range = SegRange { min, max };
+    if !tree.accepts(range) {
+        return None;
+    }
+    Some(tree.insert_by_range(range, value))
+}
+
+/// Appends to `out` what a query finds, of a range that the tree accepts and at a time that isn't before the latest, and
+/// answers `None` elsewhere.
+pub fn collect<R: LayoutNumber, A: Allocator + Copy, B: Allocator>(
+    tree: &mut Tree<R, A>,
+    min: R,
+    max: R,
+    time: i32,
+    out: &mut Vec<Until, B>,
+) -> Option<Result<(), Refusal>> {
+    let range = SegRange { min, max };
+    if !tree.accepts(range) || tree.latest_time().is_some_and(|latest| time < latest) {
+        return None;
+    }
+    Some(tree.collect_by_range(range, time, out))
+}
+
+/// The numbers of these values, in rising order.
+pub fn numbers_of(values: &[Until], alloc: Global) -> Option<Vec<i32>> {
+    let mut numbers = Vec::new(alloc);
+    for value in values {
+        numbers.push(value.number).ok()?;
+    }
+    numbers.sort_unstable();
+    Some(numbers)
+}
+
+/// The numbers that a query finds, in rising order.
+pub fn found<R: LayoutNumber, A: Allocator + Copy>(
+    tree: &mut Tree<R, A>,
+    alloc: Global,
+    min: R,
+    max: R,
+    time: i32,
+) -> Option<Vec<i32>> {
+    let mut values = Vec::new(alloc);
+    collect(tree, min, max, time, &mut values)?.ok()?;
+    numbers_of(&values, alloc)
+}
+
+// Appends the copies at the node.
+fn push_chunk<R: LayoutNumber, A: Allocator + Copy>(
+    tree: &Tree<R, A>,
+    node: u32,
+    copies: &mut Vec<Placed>,
+) -> Option<()> {
+    for (mask, value) in tree.chunk(node) {
+        copies.push((node, *mask, *value)).ok()?;
+    }
+    Some(())
+}
+
+/// All copies, by rising node.
+pub fn copies<R: LayoutNumber, A: Allocator + Copy>(
+    tree: &Tree<R, A>,
+    alloc: Global,
+) -> Option<Vec<Placed>> {
+    let mut copies = Vec::new(alloc);
+    for node in 0..64 {
+        push_chunk(tree, node, &mut copies)?;
+    }
+    Some(copies)
+}

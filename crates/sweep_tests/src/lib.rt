@@ -1,0 +1,17 @@
+//! For tests alone: worked examples of the public calls of `itree_lib::sweep`.
+#![tactic(auto)]
+
+#[cfg(test)]
+mod by_pairs;
+#[cfg(test)]
+mod chance;
+#[cfg(test)]
+mod refusals;
+#[cfg(test)]
+mod store_use;
+#[cfg(test)]
+mod stores;
+#[cfg(test)]
+mod sweeps;
+#[cfg(test)]
+mod worked;

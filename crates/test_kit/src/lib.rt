@@ -1,0 +1,240 @@
+//! For tests alone: an allocator that counts the requests for memory made of it and their bytes, and refuses some of them;
+//! and keys, values, collections and random numbers that several crates of tests share.
+#![tactic(auto)]
+
+ghost use Rattle.std.specs.Prelude.{◌≡◌, ℕ, ◌↔◌, IsTrue};
+
+use std::alloc::{AllocError, Allocator};
+use std::cell::Cell;
+
+pub mod cores;
+pub mod counted_key;
+pub mod growth;
+pub mod in_turn;
+pub mod item;
+pub mod random;
+pub mod searches;
+pub mod short_number;
+pub mod timed_key;
+pub mod until;
+pub mod watched;
+
+/// Which requests are refused, by their number since the count last began.
+#[derive(Clone, Copy)]
+enum Refused {
+    Nothing,
+    Nth(u64),
+    Everything,
+}
+
+impl Refused {
+    /// Whether the request of this number is among them.
+    fn includes(self, number: u64) -> bool
+        ensures nothing { self ≡ Refused.Nothing → ¬ IsTrue result }
+        ensures nth { (n : ℕ) → self ≡ Refused.Nth n → (IsTrue result ↔ (n ≡ number)) }
+        ensures everything { self ≡ Refused.Everything → IsTrue result }
+    {
+        match self {
+            Refused::Nothing => false,
+            Refused::Nth(n) => n == number,
+            Refused::Everything => true,
+        }
+    }
+}
+
+/// An allocator that passes each request on to `inner`, but for those that it was told to refuse.
+///
+/// A request is a call that asks for a block, be it a new one or one of another size in place of an old one. Freeing a
+/// block is none, and is never refused. A `&` to it is an allocator too, and is `Copy`, so that several collections can
+/// share one count.
+#[derive(Drop)]
+pub struct Refusing<A: Allocator> {
+    inner: A,
+    requests: Cell<u64>,
+    asked: Cell<usize>,
+    held: Cell<usize>,
+    refused: Cell<Refused>,
+}
+
+impl<A: Allocator> Refusing<A> {
+    /// An allocator over `inner` that refuses nothing.
+    pub fn new(inner: A) -> Self {
+        Refusing {
+            inner,
+            requests: Cell::new(0),
+            asked: Cell::new(0),
+            held: Cell::new(0),
+            refused: Cell::new(Refused::Nothing),
+        }
+    }
+
+    /// Refuses the `n`th request from now on, where 1 is the next one, and no other. At 0 it refuses none.
+    pub fn refuse_nth(&self, n: u64) {
+        self.restart(Refused::Nth(n));
+    }
+
+    /// Refuses every request from now on.
+    pub fn refuse_all(&self) {
+        self.restart(Refused::Everything);
+    }
+
+    /// Refuses no request from now on.
+    pub fn refuse_none(&self) {
+        self.restart(Refused::Nothing);
+    }
+
+    /// How many requests were made, refused ones among them, since it was made or last told what to refuse.
+    pub fn requests(&self) -> u64 {
+        self.requests.get()
+    }
+
+    /// How many bytes were asked for, by refused requests too, since it was made or last told what to refuse.
+    pub fn bytes_asked(&self) -> usize {
+        self.asked.get()
+    }
+
+    /// How many bytes are held: those of all requests that were passed on, without those of the blocks that were freed.
+    pub fn bytes_held(&self) -> usize {
+        self.held.get()
+    }
+
+    fn restart(&self, refused: Refused) {
+        self.requests.set(0);
+        self.asked.set(0);
+        self.refused.set(refused);
+    }
+
+    /// Counts one more request of this size, and answers whether it is refused.
+    fn refuses_next(&self, size: usize) -> bool {
+        let number = self.requests.get().saturating_add(1);
+        self.requests.set(number);
+        self.asked.set(self.asked.get().saturating_add(size));
+        if self.refused.get().includes(number) {
+            return true;
+        }
+        self.held.set(self.held.get().saturating_add(size));
+        false
+    }
+
+    /// Counts that a block of this size is freed.
+    fn count_freed(&self, size: usize) {
+        self.held.set(self.held.get().saturating_sub(size));
+    }
+}
+
+// `grow` and `shrink` are the trait's own. Each calls `allocate` once, and so is one request.
+unsafe impl<A: Allocator> Allocator for Refusing<A> {
+    ghost dealloc_token = { λ memory. A.dealloc_token memory.inner };
+
+    fn allocate(&self, size: usize, align: usize) -> Result<*mut u8, AllocError> {
+        if self.refuses_next(size) {
+            return Err(AllocError);
+        }
+        self.inner.allocate(size, align)
+    }
+
+    unsafe fn deallocate(&self, ptr: *mut u8, size: usize, align: usize) {
+        self.count_freed(size);
+        self.inner.deallocate(ptr, size, align);
+    }
+}
+
+#[cfg(test)]
+mod tests {
+    use super::*;
+    use std::alloc::Global;
+    use std::test::Fail;
+
+    #[test]
+    fn refuses_the_nth_request_alone(rt: HostRuntime) {
+        let memory = Refusing::new(rt.alloc());
+        for refused in 0..5 {
+            memory.refuse_nth(refused);
+            for number in 1..=4 {
+                let boxed = Box::new(&memory, number);
+                assert_eq!(rt;
+                    boxed.is_err(),
+                    number == refused,
+                    "at {number}, where {refused} is refused"
+                );
+                assert_eq!(rt; memory.requests(), number);
+            }
+        }
+    }
+
+    #[test]
+    fn refuses_all_until_told_otherwise(rt: HostRuntime) -> Result<(), Fail> {
+        let memory = Refusing::new(rt.alloc());
+        assert_eq!(rt; memory.requests(), 0);
+        memory.refuse_all();
+        for _ in 0..3 {
+            let items = Vec::<u8, _>::with_capacity(&memory, 10);
+            assert!(rt; items.is_err());
+        }
+        assert_eq!(rt; memory.requests(), 3);
+        memory.refuse_none();
+        assert_eq!(rt; memory.requests(), 0);
+        let items: Vec<u8, &Refusing<Global>> = Vec::with_capacity(&memory, 10)?;
+        assert!(rt; items.capacity() >= 10);
+        assert_eq!(rt; memory.requests(), 1);
+        Ok(())
+    }
+
+    #[test]
+    fn counts_the_bytes_that_are_asked_for_and_those_that_are_held(
+        rt: HostRuntime,
+    ) -> Result<(), Fail> {
+        let memory = Refusing::new(rt.alloc());
+        assert_eq!(rt; (memory.bytes_asked(), memory.bytes_held()), (0, 0));
+        // A number has eight bytes.
+        let numbers: Vec<u64, &Refusing<Global>> = Vec::with_capacity(&memory, 10)?;
+        let bytes = numbers.capacity().saturating_mul(8);
+        assert!(rt; bytes >= 80);
+        assert_eq!(rt; (memory.bytes_asked(), memory.bytes_held()), (bytes, bytes));
+        let boxed = Box::new(&memory, 7u64)?;
+        let both = bytes.saturating_add(8);
+        assert_eq!(rt; (memory.bytes_asked(), memory.bytes_held()), (both, both));
+        drop(numbers);
+        assert_eq!(rt; (memory.bytes_asked(), memory.bytes_held()), (both, 8));
+        memory.refuse_all();
+        assert_eq!(rt; (memory.bytes_asked(), memory.bytes_held()), (0, 8));
+        assert!(rt; Box::new(&memory, 8u64).is_err());
+        assert_eq!(rt; (memory.bytes_asked(), memory.bytes_held()), (8, 8));
+        drop(boxed);
+        assert_eq!(rt; (memory.bytes_asked(), memory.bytes_held()), (8, 0));
+        Ok(())
+    }
+
+    #[test]
+    fn holds_the_last_block_of_a_vec_that_grew(rt: HostRuntime) -> Result<(), Fail> {
+        let memory = Refusing::new(rt.alloc());
+        let mut numbers = Vec::new(&memory);
+        for number in 0..1000u64 {
+            numbers.push(number)?;
+        }
+        assert_eq!(rt; memory.bytes_held(), numbers.capacity().saturating_mul(8));
+        assert!(rt; memory.bytes_asked() > memory.bytes_held());
+        assert!(rt; memory.requests() > 1);
+        Ok(())
+    }
+
+    #[test]
+    fn a_vec_keeps_its_items_at_a_refused_push(rt: HostRuntime) -> Result<(), Fail> {
+        let memory = Refusing::new(rt.alloc());
+        let mut items = Vec::new(&memory);
+        let mut last_refused = 0;
+        for item in 0..40u8 {
+            memory.refuse_nth(1);
+            if items.push(item).is_err() {
+                assert!(rt; items.iter().copied().eq(0..item));
+                // The same push is the second request, and goes through.
+                items.push(item)?;
+                assert_eq!(rt; memory.requests(), 2);
+                last_refused = item;
+            }
+        }
+        assert!(rt; last_refused > 0, "the items never moved to a larger block");
+        assert!(rt; items.iter().copied().eq(0..40));
+        Ok(())
+    }
+}
