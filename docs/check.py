@@ -9,7 +9,8 @@ usage: docs/check.py
   a ghost member there, or of a field of a record that the row names.
 - In the tables of docs/DEFINITIONS.md, each name of a definition is one of specs/, in its module where it names one; and each
   clause is some function's.
-- The pictures are what docs/pictures/draw.py draws.
+- Each name in code font in docs/CORE_PROOF.md that is one word is a definition's, a lemma's, a field's or a function's of crates/i_tree.
+- The pictures are what docs/pictures/draw.py draws, and the tables of files of docs/MAP.md what docs/map.py writes.
 
 The last line is 'N passed, M failed'.
 """
@@ -30,7 +31,7 @@ SOURCES = {
     "`key::exp::": ["i_tree/src/key/exp.rt"],
     "`key::list::": ["i_tree/src/key/list.rt"],
     "`key::tree::": ["i_tree/src/key/tree.rt"],
-    "`rb::": ["i_tree/src/rb/tree.rt", "i_tree/src/rb/removal.rt", "i_tree/src/rb/clearing.rt"],
+    "`rb::": ["i_tree/src/rb/tree.rt", "i_tree/src/rb/removal.rt", "i_tree/src/rb/clear.rt"],
     "`set::sort::": ["i_tree/src/set/sort.rt"],
     "`set::tree::": ["i_tree/src/set/tree.rt"],
     "`set::list::": ["i_tree/src/set/list.rt"],
@@ -45,6 +46,7 @@ FUNCTION = re.compile(r"\bfn (\w+)")
 CLAUSE = re.compile(r"^\s*(?:ensures|requires)\*? (\w+) \{", re.M)
 CONSTANT = re.compile(r"^pub const (\w+):", re.M)
 GHOST = re.compile(r"^\s*ghost (\w+) =", re.M)
+LEMMA = re.compile(r"^\s*(?:abbrev )?(?:pub )?(?:abbrev )?(?:record |data )?([^\s:({]+) ?[:({]", re.M)
 DEFINITION = re.compile(r"^\s*(?:abbrev |unfoldable )?pub (?:abbrev |record |data )?([^\s:({]+)", re.M)
 CRATES = {os.path.basename(path) for path in glob.glob(os.path.join(TOP, "crates", "*"))}
 FIELD = re.compile(r"^\s*pub (\w+) :", re.M)
@@ -171,13 +173,22 @@ def promise_failures():
             yield None if name in known or name in CRATES else f"docs/DEFINITIONS.md: no function has a clause {name}"
 
 
-def picture_failures():
-    ran = subprocess.run([sys.executable, os.path.join(TOP, "docs/pictures/draw.py"), "--check"], capture_output=True, text=True)
-    yield ran.stdout + ran.stderr if ran.returncode else None
+def core_failures():
+    lemmas = {name for path in files("crates/i_tree/proofs/*Lemmas/**/*.antt") for name in LEMMA.findall(text_of(path))}
+    sources = "\n".join(text_of(path) for path in files("crates/i_tree/src/**/*.rt"))
+    known = lemmas.union(FUNCTION.findall(sources), re.findall(r"\b(?:struct|enum) (\w+)", sources), *definitions().values())
+    for name in re.findall(r"`([A-Za-z][\w-]*)`", text_of("docs/CORE_PROOF.md")):
+        yield None if name in known else f"docs/CORE_PROOF.md: nothing is named {name}"
+
+
+def written_failures():
+    for script in "docs/pictures/draw.py", "docs/map.py":
+        ran = subprocess.run([sys.executable, os.path.join(TOP, script), "--check"], capture_output=True, text=True)
+        yield ran.stdout + ran.stderr if ran.returncode else None
 
 
 def main():
-    found = [*quoted_failures(), *clause_failures(), *definition_failures(), *promise_failures(), *picture_failures()]
+    found = [*quoted_failures(), *clause_failures(), *definition_failures(), *promise_failures(), *core_failures(), *written_failures()]
     failed = [failure for failure in found if failure]
     for failure in failed:
         print(f"FAILED {failure}")

@@ -34,9 +34,10 @@ def edited(text, pairs):
 
 
 def refusals(said, function):
-    """The lines of a check that say that the function is not proved, and why."""
+    """The lines of a check that say why the function is not proved, or none where it doesn't say that it isn't."""
     lines = said.splitlines()
-    return [line for line in lines if ": error: `" in line or line.startswith((f"fn {function}: no", f"fn {function}: not"))]
+    told = [line for line in lines if line.startswith(f"fn {function}: no")]
+    return told and [*told, *(line for line in lines if ": error: `" in line)]
 
 
 def main():

@@ -78,10 +78,10 @@ def layers():
         text(30, 163, "i_tree", 14, "start", weight="bold"),
         *titled(35, 172, 205, 60, "key", "keys that expire: KeyExp…", "#e8f0fa"),
         *titled(257, 172, 205, 60, "set", "ordered sets: Set…", "#e8f0fa"),
-        *titled(480, 172, 205, 60, "seg", "segments that expire: SegExpTree", "#e8f0fa"),
+        *titled(480, 172, 205, 60, "seg", "segments that expire", "#e8f0fa"),
         text(137, 226, "list and tree", 12, fill=SOFT),
         text(359, 226, "list and tree", 12, fill=SOFT),
-        text(582, 226, "a heap of buckets", 12, fill=SOFT),
+        text(582, 226, "SegExpTree, a heap of buckets", 12, fill=SOFT),
         *titled(35, 248, 427, 50, "rb", "the red-black core, which both kinds of tree stand on", "#e8f0fa"),
         *titled(480, 248, 205, 50, "steps", "what a call counts by", "#e8f0fa"),
         *titled(20, 330, 680, 45, "std", "nothing else", PAPER),
@@ -162,7 +162,7 @@ def descent():
     third = {2: (591, 45, "b", False), 1: (546, 90, "r", False), 4: (636, 90, "r", False)}
     parts = [
         *frame(20, ["2 is live and below 9: go right.", "3 is expired."], first, [(2, 1), (3, 4)], [(2, 3)]),
-        *frame(251, ["3 is removed, and the tree mended.", "The right child of 2 is read again."], second, [(2, 1), (2, 4)], []),
+        *frame(251, ["3 goes, and the tree is mended.", "The right child of 2 is read again."], second, [(2, 1), (2, 4)], []),
         *frame(482, ["4 is live and below 9: go right.", "Nothing is there: 4 is the answer."], third, [(2, 1)], [(2, 4)]),
         text(360, 240, "2 comparisons, 1 removal, 3 tests whether a key is live; over four keys the bound is 4 comparisons.", 13),
     ]
@@ -241,7 +241,9 @@ def sweep():
         found = reply.startswith("below ")
         below = at(x, int(reply.split()[1]))[1] if found else floor
         parts.append(line(at_x, at_y, at_x, below, GREEN if found else SOFT, 1.5, dashed=True))
-        parts += [dot(at_x, at_y, 5, GREEN if found else SOFT), text(at_x + 9, at_y - 5, reply, 12, "start", GREEN if found else SOFT)]
+        # Beside a point one to the right, whose line goes down there, the reply stands on the left.
+        side, anchor = (-9, "end") if any(there == x + 1 and top >= y for there, top in points) else (9, "start")
+        parts += [dot(at_x, at_y, 5, GREEN if found else SOFT), text(at_x + side, at_y - 5, reply, 12, anchor, GREEN if found else SOFT)]
     return picture("Three segments, and what lies straight below each of six points", 720, 320, parts)
 
 
