@@ -42,7 +42,8 @@ pub fn count_passing<X, P: Fn(&X) -> bool>(items: &[X], passes: P) -> usize
 // Halves a window twenty times, or until one item is left: enough for a million items.
 fn halve_often<X, P: Fn(&X) -> bool>(items: &[X], passes: &P, window: Window) -> Window
     requires callable { TakesItems (λ item. P.pre passes.now item) items.now }
-    requires around { Surrounds (λ item answer. FnReturnsAt P.Fn passes.now item answer) items.now window.start window.size }
+    requires around { Surrounds (λ item answer. FnReturnsAt P.Fn passes.now item answer)
+        items.now window.start window.size }
     ensures { Surrounds (λ item answer. FnReturnsAt P.Fn passes.now item answer) items.now result.start result.size }
 {
     let window = halve_four_times(items, passes, window);
@@ -55,7 +56,8 @@ fn halve_often<X, P: Fn(&X) -> bool>(items: &[X], passes: &P, window: Window) ->
 #[inline(always)]
 fn halve_four_times<X, P: Fn(&X) -> bool>(items: &[X], passes: &P, window: Window) -> Window
     requires callable { TakesItems (λ item. P.pre passes.now item) items.now }
-    requires around { Surrounds (λ item answer. FnReturnsAt P.Fn passes.now item answer) items.now window.start window.size }
+    requires around { Surrounds (λ item answer. FnReturnsAt P.Fn passes.now item answer)
+        items.now window.start window.size }
     ensures { Surrounds (λ item answer. FnReturnsAt P.Fn passes.now item answer) items.now result.start result.size }
 {
     let window = halve(items, passes, window);
@@ -68,8 +70,10 @@ fn halve_four_times<X, P: Fn(&X) -> bool>(items: &[X], passes: &P, window: Windo
 #[inline(always)]
 fn halve<X, P: Fn(&X) -> bool>(items: &[X], passes: &P, window: Window) -> Window
     requires callable { TakesItems (λ item. P.pre passes.now item) items.now }
-    requires around { Surrounds (λ item answer. FnReturnsAt P.Fn passes.now item answer) items.now window.start window.size }
-    ensures around { Surrounds (λ item answer. FnReturnsAt P.Fn passes.now item answer) items.now result.start result.size }
+    requires around { Surrounds (λ item answer. FnReturnsAt P.Fn passes.now item answer)
+        items.now window.start window.size }
+    ensures around { Surrounds (λ item answer. FnReturnsAt P.Fn passes.now item answer)
+        items.now result.start result.size }
     ensures less { 1 < window.size → result.size < window.size }
 {
     if window.size <= 1 {

@@ -14,16 +14,6 @@ use Rattle.i_tree.proofs.RbLemmas.Shape.Contexts.{one_if_same-same, fork_on-othe
 use Rattle.i_tree.proofs.RbLemmas.Balance.Ranks.{is_black-fork_on}
 use Rattle.i_tree.proofs.RbLemmas.Balance.Frames.{IsSubtree-from_black, IsBlackSubtree-from, IsSubtree-red, IsBlackSubtree-black, IsRedBlack-plug, leaf_inside, IsHandle-at, Paints, painted, Rotations}
 
-pub other_other : (side : Side) → other_side (other_side side) ≡ side
-other_other Left = refl
-other_other Right = refl
-
-pub same_or_other : (side other : Side) → (other ≡ side) ⊎ (other ≡ other_side side)
-same_or_other Left Left = inl refl
-same_or_other Left Right = inr refl
-same_or_other Right Left = inr refl
-same_or_other Right Right = inl refl
-
 module _ {T : Type 0} where
   -- what the arena answers of a handle in the tree
   abbrev pub IsParent : Shape T → ℕ → ℕ → Type 0

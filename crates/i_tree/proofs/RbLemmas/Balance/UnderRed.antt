@@ -9,9 +9,9 @@ use Rattle.i_tree.specs.Rb.Balance.{is_black, IsRaised}
 use Rattle.i_tree.specs.Rb.Context.{Frame, fork_on, plug, other_side}
 use Rattle.i_tree.specs.Rb.Rotation.{CanRotation}
 use Rattle.i_tree.specs.Rb.Rebalancing.{red_nodes, IsSubtree, IsBlackSubtree, IsUnderRed}
-use Rattle.i_tree.proofs.RbLemmas.Shape.Contexts.{fork_on-other, top-fork_on}
+use Rattle.i_tree.proofs.RbLemmas.Shape.Contexts.{fork_on-other, top-fork_on, other_other, same_or_other}
 use Rattle.i_tree.proofs.RbLemmas.Balance.Frames.{IsSubtree-from_black, IsBlackSubtree-from, IsSubtree-red, IsBlackSubtree-black, IsHandle-in, IsHandle-at, occurs-own, occurs_top, top_apart, red_nodes-fork_on, red_nodes-plug, Paints, painted, entries-painted, IsHandle-painted, Rotations, entries-rotated}
-use Rattle.i_tree.proofs.RbLemmas.Balance.Insertion.{other_other, same_or_other, IsParent, SaysBlack, IsChild, IsSide, HasRedParent, IsUnderRed-from, red_top, occurs-red_top, IsBlackSubtree-painted, IsRaised-from, IsLeaning, IsStraightened}
+use Rattle.i_tree.proofs.RbLemmas.Balance.Insertion.{IsParent, SaysBlack, IsChild, IsSide, HasRedParent, IsUnderRed-from, red_top, occurs-red_top, IsBlackSubtree-painted, IsRaised-from, IsLeaning, IsStraightened}
 
 module _ {T : Type 0} where
   module _ {tree : Shape T} {node parent above : ℕ} {side : Side} (under : IsUnderRed tree node parent above side) where

@@ -1,5 +1,5 @@
 -- A subtree of a tree inside its frames: what stands in the whole, and where a handle is.
-use Rattle.std.proofs.Common.{◌≡◌, ◌≢◌, ℕ, ◌+◌, ◌<◌, ◌≤◌, Bool, true, false, eqb, cond, List, [], ◌∷◌, ◌++◌, zero, suc, append-nil, refl, sym, ap, ◌∙◌, subst, append_assoc, arith, length, length-append}
+use Rattle.std.proofs.Common.{◌≡◌, ◌≢◌, ℕ, ◌+◌, ◌<◌, ◌≤◌, ◌⊎◌, inl, inr, Bool, true, false, eqb, cond, List, [], ◌∷◌, ◌++◌, zero, suc, append-nil, refl, sym, ap, ◌∙◌, subst, append_assoc, arith, length, length-append}
 use Rattle.std.proofs.lemmas.Bool.{eqb-true, eqb-false, eq-eqb}
 use Rattle.i_tree.specs.declared.rb.links.Colour.{Colour}
 use Rattle.i_tree.specs.declared.rb.links.Side.{Side}
@@ -38,6 +38,17 @@ eqb-apart first second apart = by_test (eqb first second) refl
     by_test : (b : Bool) → eqb first second ≡ b → eqb first second ≡ false
     by_test true is = absurd (apart (eqb-true first second is))
     by_test false is = is
+
+-- the sides of a node
+pub other_other : (side : Side) → other_side (other_side side) ≡ side
+other_other Left = refl
+other_other Right = refl
+
+pub same_or_other : (side other : Side) → (other ≡ side) ⊎ (other ≡ other_side side)
+same_or_other Left Left = inl refl
+same_or_other Left Right = inr refl
+same_or_other Right Left = inr refl
+same_or_other Right Right = inl refl
 
 module _ {T : Type 0} where
   -- how often the handle stands in the frames
