@@ -1,3 +1,4 @@
+pub mod Answered
 pub mod Counting
 pub mod Faults
 pub mod SegmentLines

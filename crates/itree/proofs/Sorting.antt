@@ -15,7 +15,7 @@ use Rattle.itree_lib.specs.declared.run.segments.SegCommand.TheVariants.{Insert,
 use Rattle.itree.specs.Replies.{seg_reply_words, reply_lines}
 use Rattle.itree.specs.SegLines.{SegLine}
 use Rattle.itree.specs.Sorting.{Sorts, SortsAll}
-use Rattle.itree.specs.Texts.{ListsRising}
+use Rattle.itree.specs.Answers.{ListsRising}
 use Rattle.itree.specs.declared.timed_val.TimedVal.{TimedVal}
 
 -- one more reply

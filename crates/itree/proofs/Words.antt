@@ -2,8 +2,9 @@
 use Rattle.std.proofs.Common.{◌≡◌, ◌≢◌, ◌⊎◌, inl, inr, ℕ, suc, ℤ, Bool, true, false, List, [], ◌∷◌, Option, Some, None, length, map, codes, get_or, refl, sym, ap, ◌∙◌, subst, arith, Bor}
 use Rattle.itree.specs.Grammar.{ReadsAll, Says, LineSays, words_of}
 use Rattle.itree.specs.KeyLines.{SaysNoKeyCommand}
-use Rattle.itree.specs.Modes.{Names, NamesRange}
+use Rattle.itree.specs.Modes.{row_of, Names, NamesRange}
 use Rattle.itree.specs.SegLines.{SaysNoSegCommand}
+use Rattle.itree.specs.Texts.{HasFirstFaulty}
 use Rattle.itree.specs.declared.mode.Mode.{Mode}
 use Rattle.itree.specs.declared.mode.Mode.TheVariants.{KeyTree, KeyList, SetTree, SetList, Segments, Sweep}
 use Rattle.std.proofs.lemmas.Slice.Eq.{bytes_eq-Decides}
@@ -66,30 +67,38 @@ first_is_segment (Some (sweep_line.Segment segment)) line None name is named say
 first_is_segment (Some (sweep_line.Point point)) line None name is named says = refl
 first_is_segment None line None name is named says = refl
 
--- the arguments that name a mode are one word, or three
+-- the arguments that name a mode are its word and its numbers
+pub Names-numbers : (words : List (Bor (List ℕ))) (mode : Mode) → Names words mode → length words ≡ suc (length (row_of mode).numbers)
+Names-numbers [] mode names = absurd names.0
+Names-numbers (word ∷ words) mode names = ap suc (ReadsAll-length words (row_of mode).numbers names.0.1)
+
+-- so they are one word, or three
 pub Names-length : (words : List (Bor (List ℕ))) (mode : Mode) → Names words mode → (length words ≡ 1) ⊎ (length words ≡ 3)
-Names-length [] KeyTree names = absurd names
-Names-length [] KeyList names = absurd names
-Names-length [] SetTree names = absurd names
-Names-length [] SetList names = absurd names
-Names-length [] (Segments min max) names = absurd names.0
-Names-length [] Sweep names = absurd names
-Names-length (word ∷ words) KeyTree names = inl (ap suc (ReadsAll-length words [] names.1))
-Names-length (word ∷ words) KeyList names = inl (ap suc (ReadsAll-length words [] names.1))
-Names-length (word ∷ words) SetTree names = inl (ap suc (ReadsAll-length words [] names.1))
-Names-length (word ∷ words) SetList names = inl (ap suc (ReadsAll-length words [] names.1))
-Names-length (word ∷ words) (Segments min max) names = inr (ap suc (ReadsAll-length words (min ∷ max ∷ []) names.0.1))
-Names-length (word ∷ words) Sweep names = inl (ap suc (ReadsAll-length words [] names.1))
+Names-length words (Segments min max) names = inr (Names-numbers words (Segments min max) names)
+Names-length words mode names = inl (Names-numbers words mode names)
 
 -- three words that name a mode are `seg` and the ends of its range
 pub Names-three : (words : List (Bor (List ℕ))) (mode : Mode) (word : Bor (List ℕ)) → length words ≡ 3 → Names words mode
     → ((get_or words 0 word).now ≡ codes "seg") × NamesRange (get_or words 1 word).now (get_or words 2 word).now mode
 Names-three [] mode word three names = absurd (omega (arith, three))
-Names-three (first ∷ words) KeyTree word three names = absurd (omega (arith, three, ReadsAll-length words [] names.1))
-Names-three (first ∷ words) KeyList word three names = absurd (omega (arith, three, ReadsAll-length words [] names.1))
-Names-three (first ∷ words) SetTree word three names = absurd (omega (arith, three, ReadsAll-length words [] names.1))
-Names-three (first ∷ words) SetList word three names = absurd (omega (arith, three, ReadsAll-length words [] names.1))
-Names-three (first ∷ words) Sweep word three names = absurd (omega (arith, three, ReadsAll-length words [] names.1))
 Names-three (first ∷ []) (Segments min max) word three names = absurd names.0.1
 Names-three (first ∷ second ∷ []) (Segments min max) word three names = absurd names.0.1.1
-Names-three (first ∷ second ∷ third ∷ words) (Segments min max) word three names = (names.0.0, (names.0.1.0, names.0.1.1.0, names.1))
+Names-three (first ∷ second ∷ third ∷ words) (Segments min max) word three names = (names.0.0, ((names.0.1.0, (names.0.1.1.0, tt)), names.1))
+Names-three (first ∷ words) mode word three names = absurd (omega (arith, three, Names-numbers (first ∷ words) mode names))
+
+-- words name modes of one kind alone, so the line that is faulty in one of them is in each
+pub Names-faulty : (words : List (Bor (List ℕ))) (one other : Mode) (text : List ℕ) (number : ℕ) → Names words one → Names words other → HasFirstFaulty one text number → HasFirstFaulty other text number
+Names-faulty [] one other text number names too faulty = absurd names.0
+Names-faulty (word ∷ words) KeyTree KeyTree text number names too faulty = faulty
+Names-faulty (word ∷ words) KeyTree KeyList text number names too faulty = faulty
+Names-faulty (word ∷ words) KeyList KeyTree text number names too faulty = faulty
+Names-faulty (word ∷ words) KeyList KeyList text number names too faulty = faulty
+Names-faulty (word ∷ words) SetTree SetTree text number names too faulty = faulty
+Names-faulty (word ∷ words) SetTree SetList text number names too faulty = faulty
+Names-faulty (word ∷ words) SetList SetTree text number names too faulty = faulty
+Names-faulty (word ∷ words) SetList SetList text number names too faulty = faulty
+Names-faulty (word ∷ words) (Segments min max) (Segments low high) text number names too faulty = faulty
+Names-faulty (word ∷ words) Sweep Sweep text number names too faulty = faulty
+Names-faulty (word ∷ words) one other text number names too faulty =
+    let same : (row_of one).word ≡ (row_of other).word = sym names.0.0 ∙ too.0.0 in
+    absurd (omega (arith, ap length same, ap (λ (letters : List ℕ). get_or letters 0 0) same))

@@ -1,3 +1,4 @@
+pub mod Answers
 pub mod Grammar
 pub mod KeyLines
 pub mod Modes

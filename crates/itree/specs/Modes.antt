@@ -1,38 +1,96 @@
--- Which arguments name which mode of the program, and which ask for help.
-use Rattle.std.specs.Prelude.{◌≡◌, ◌⊎◌, ⊤, ℕ, List, [], ◌∷◌, map, codes}
+-- The modes of the program, a row each, and which arguments name them or ask for help.
+use Rattle.std.specs.Prelude.{◌≡◌, ◌⊎◌, ⊤, ℕ, ℤ, List, [], ◌∷◌, map, codes}
 use Rattle.std.specs.Borrow.{Bor}
 use Rattle.i_tree.specs.Seg.Buckets.{HasLayout}
-use Rattle.itree.specs.Grammar.{Says}
-use Rattle.itree.specs.Words.{Reads}
+use Rattle.itree.specs.Answers.{AnswersKeys, AnswersSet, AnswersRange, AnswersSweep}
+use Rattle.itree.specs.Grammar.{ReadsAll, Says}
+use Rattle.itree.specs.KeyLines.{KeyLine, SaysKeyCommand}
+use Rattle.itree.specs.SegLines.{SegLine, SaysSegCommand}
+use Rattle.itree.specs.SetLines.{SetLine, SaysSetCommand}
+use Rattle.itree.specs.SweepLines.{SaysSweepLine, IsOverlapLine}
+use Rattle.itree.specs.declared.lines.sweep.SweepLine.{SweepLine}
 use Rattle.itree.specs.declared.mode.Mode.{Mode}
 use Rattle.itree.specs.declared.mode.Mode.TheVariants.{KeyTree, KeyList, SetTree, SetList, Segments, Sweep}
 
--- the range of a mode of segments has a layout
-abbrev pub HasItsLayout : Mode → Type 0
-HasItsLayout KeyTree = ⊤
-HasItsLayout KeyList = ⊤
-HasItsLayout SetTree = ⊤
-HasItsLayout SetList = ⊤
-HasItsLayout (Segments min max) = HasLayout 31 min max
-HasItsLayout Sweep = ⊤
+-- A mode: the word that names it and the numbers behind the word, which are to fit; which words of a line say which command;
+-- which output answers commands; and which line of a text tells a fault beside a faulty one.
+pub record Row : Type 1 where
+  pub word : List ℕ
+  pub numbers : List ℤ
+  pub Fits : Type 0
+  pub Command : Type 0
+  pub SaysCommand : List (List ℕ) → Command → Type 0
+  pub AnswersAll : List Command → List ℕ → Type 0
+  pub IsOverlap : List (List ℕ) → ℕ → Type 0
 
--- the mode is of segments, over the range whose ends the words are read as, and it has a layout
+-- keys that expire, from nothing on
+abbrev pub keys_row : List ℕ → Row
+keys_row word = record {
+  word = word;
+  numbers = [];
+  Fits = ⊤;
+  Command = KeyLine;
+  SaysCommand = SaysKeyCommand;
+  AnswersAll = AnswersKeys [];
+  IsOverlap = λ lines number. ⊥;
+}
+
+-- a set, from nothing on
+abbrev pub set_row : List ℕ → Row
+set_row word = record {
+  word = word;
+  numbers = [];
+  Fits = ⊤;
+  Command = SetLine;
+  SaysCommand = SaysSetCommand;
+  AnswersAll = AnswersSet [];
+  IsOverlap = λ lines number. ⊥;
+}
+
+-- segments over a range that has a layout, from nothing on
+abbrev pub segments_row : ℤ → ℤ → Row
+segments_row min max = record {
+  word = codes "seg";
+  numbers = min ∷ max ∷ [];
+  Fits = HasLayout 31 min max;
+  Command = SegLine;
+  SaysCommand = SaysSegCommand;
+  AnswersAll = AnswersRange min max;
+  IsOverlap = λ lines number. ⊥;
+}
+
+-- the points of a sweep, over its segments
+abbrev pub sweep_row : Row
+sweep_row = record {
+  word = codes "sweep";
+  numbers = [];
+  Fits = ⊤;
+  Command = SweepLine;
+  SaysCommand = SaysSweepLine;
+  AnswersAll = AnswersSweep;
+  IsOverlap = IsOverlapLine;
+}
+
+-- the row of each mode
+abbrev pub row_of : Mode → Row
+row_of KeyTree = keys_row (codes "keytree")
+row_of KeyList = keys_row (codes "keylist")
+row_of SetTree = set_row (codes "settree")
+row_of SetList = set_row (codes "setlist")
+row_of (Segments min max) = segments_row min max
+row_of Sweep = sweep_row
+
+-- the numbers of the mode fit: those of segments are the ends of a range that has a layout
+abbrev pub FitsItsNumbers : Mode → Type 0
+FitsItsNumbers mode = (row_of mode).Fits
+
+-- the two words are read as the numbers of the mode, which fit
 abbrev pub NamesRange : List ℕ → List ℕ → Mode → Type 0
-NamesRange low high KeyTree = ⊥
-NamesRange low high KeyList = ⊥
-NamesRange low high SetTree = ⊥
-NamesRange low high SetList = ⊥
-NamesRange low high (Segments min max) = Reads low min × Reads high max × HasLayout 31 min max
-NamesRange low high Sweep = ⊥
+NamesRange low high mode = ReadsAll (low ∷ high ∷ []) (row_of mode).numbers × (row_of mode).Fits
 
--- the arguments are the word of the mode, which two numbers follow for segments: the ends of a range that has a layout
+-- the arguments are the word of the mode and its numbers, which fit
 abbrev pub NamedBy : Mode → List (List ℕ) → Type 0
-NamedBy KeyTree words = Says words (codes "keytree") []
-NamedBy KeyList words = Says words (codes "keylist") []
-NamedBy SetTree words = Says words (codes "settree") []
-NamedBy SetList words = Says words (codes "setlist") []
-NamedBy (Segments min max) words = Says words (codes "seg") (min ∷ max ∷ []) × HasLayout 31 min max
-NamedBy Sweep words = Says words (codes "sweep") []
+NamedBy mode words = Says words (row_of mode).word (row_of mode).numbers × (row_of mode).Fits
 
 -- the arguments name the mode
 abbrev pub Names : List (Bor (List ℕ)) → Mode → Type 0

@@ -3,7 +3,7 @@ use Rattle.std.specs.Prelude.{◌≡◌, ⊤, List, [], ◌∷◌, IsPermutation
 use Rattle.std.specs.List.Sorted.{IsSorted}
 use Rattle.itree_lib.specs.Run.SegMachine.{Reply}
 use Rattle.itree_lib.specs.Run.SegMachine.Reply.{Inserted, Outside, Late, Refused, Values, Cleared}
-use Rattle.itree.specs.Texts.{cmp_vals}
+use Rattle.itree.specs.Answers.{cmp_vals}
 use Rattle.itree.specs.declared.timed_val.TimedVal.{TimedVal}
 
 -- the reply lists the same values in rising order, or is the same where it lists none

@@ -3,9 +3,10 @@
 ghost use Rattle.std.specs.Prelude.{◌≡◌, ◌≢◌, ℕ, [], map, IfErr, IfOk, string_bytes};
 ghost use Rattle.std.specs.Ordering.{int_cmp};
 ghost use Rattle.i_tree.specs.Set.Pairs.{values, IsOrdered};
-ghost use Rattle.itree.specs.Modes.{HasItsLayout};
+ghost use Rattle.itree.specs.Answers.{AnswersKeys, AnswersSet, AnswersSegments};
+ghost use Rattle.itree.specs.Modes.{FitsItsNumbers};
 ghost use Rattle.itree.specs.Sorting.{Sorts, SortsAll};
-ghost use Rattle.itree.specs.Texts.{AnswersKeys, AnswersSet, AnswersSegments, Answers, HasFirstFaulty, HasOverlapLine};
+ghost use Rattle.itree.specs.Texts.{Answers, HasFirstFaulty, HasOverlapLine};
 ghost use Rattle.itree_lib.specs.Run.SegMachine.{reply_of};
 
 use crate::fault::Fault;
@@ -39,7 +40,7 @@ pub fn answer_text<A: Allocator + Copy>(
     mode: Mode,
     text: &[u8],
 ) -> Result<String<A>, Fault>
-    requires { HasItsLayout mode }
+    requires { FitsItsNumbers mode }
     ensures answered { IfOk result (λ output. Answers mode text.now (string_bytes output)) }
     ensures faulty { (number : ℕ) → result ≡ Err (Fault.Line number) → HasFirstFaulty mode text.now number }
     ensures overlap { (number : ℕ) → result ≡ Err (Fault.Overlap number) → HasOverlapLine mode text.now number }

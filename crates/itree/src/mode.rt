@@ -2,7 +2,7 @@
 
 ghost use Rattle.std.specs.Prelude.{◌↔◌, IfSome, IsNone, IsTrue};
 ghost use Rattle.i_tree.specs.Seg.Buckets.{HasLayout};
-ghost use Rattle.itree.specs.Modes.{Names, NamesMode, HasItsLayout, NamesRange};
+ghost use Rattle.itree.specs.Modes.{Names, NamesMode, FitsItsNumbers, NamesRange};
 
 use crate::lines::number;
 use i_tree::{LayoutNumber, LayoutUInt};
@@ -29,7 +29,7 @@ impl Mode {
     pub fn from_words(words: &[&str]) -> Option<Mode>
         ensures named { IfSome result (Names words.now) }
         ensures unnamed { IsNone result → ¬ (NamesMode words.now) }
-        ensures layout { IfSome result HasItsLayout }
+        ensures layout { IfSome result FitsItsNumbers }
     {
         match words {
             ["keytree"] => Some(Mode::KeyTree),

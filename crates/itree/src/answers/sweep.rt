@@ -3,7 +3,7 @@
 ghost use Rattle.std.specs.Prelude.{◌≡◌, ◌⊎◌, ℕ, IfErr, IfOk, string_bytes};
 ghost use Rattle.itree.specs.Grammar.{lines_of, LinesSay};
 ghost use Rattle.itree.specs.SweepLines.{SaysSweepLine, segments_of, points_of, IsOverlapLine};
-ghost use Rattle.itree.specs.Texts.{AnswersSweep};
+ghost use Rattle.itree.specs.Answers.{AnswersSweep};
 
 use crate::fault::Fault;
 use crate::lines::{SweepLine, reply_text, segment_line};

@@ -4,7 +4,7 @@ use Rattle.std.specs.Cmp.{int_cmp_total}
 use Rattle.std.specs.Ordering.{int_cmp}
 use Rattle.i_tree.proofs.RootLemmas.Monotone.{IsMonotone-compare}
 use Rattle.itree.specs.Replies.{key_reply_words, reply_lines}
-use Rattle.itree.specs.Texts.{cmp_keys, cmp_sought}
+use Rattle.itree.specs.Answers.{cmp_keys, cmp_sought}
 use Rattle.itree_lib.specs.declared.run.keys.KeyReply.{KeyReply}
 use Rattle.itree.specs.declared.timed_key.TimedKey.{TimedKey}
 use Rattle.itree_lib.proofs.RunLemmas.KnownPairs.{CanProbeAll-always, ProbesAllBy-always}

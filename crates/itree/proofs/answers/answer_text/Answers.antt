@@ -1,0 +1,66 @@
+use Rattle.std.proofs.Common.{◌≡◌, ℕ, ℤ, List, [], ap, subst, sym, IfOk, string_bytes, rules}
+use Rattle.std.proofs.lemmas.Result.{IfOk-weaker}
+use Rattle.i_tree.specs.Key.KeyExpTree.{items}
+use Rattle.i_tree.specs.Rb.Shape.{Shape, entries}
+use Rattle.i_tree.specs.Seg.Buckets.{IsLayout}
+use Rattle.i_tree.specs.Set.Pairs.{values}
+use Rattle.i_tree.specs.Set.SetList.{numbered}
+use Rattle.itree.specs.Answers.{AnswersKeys, AnswersSet, AnswersSegments, AnswersSweep}
+use Rattle.itree.specs.Grammar.{lines_of}
+use Rattle.itree.specs.KeyLines.{KeyLine}
+use Rattle.itree.specs.SegLines.{SegLine}
+use Rattle.itree.specs.Texts.{HasOverlapLine}
+use Rattle.itree.specs.declared.lines.sweep.SweepLine.{SweepLine}
+use Rattle.itree.specs.declared.mode.Mode.{Mode}
+use Rattle.itree.specs.declared.mode.Mode.TheVariants.{KeyTree, KeyList, SetTree, SetList, Segments, Sweep}
+use Rattle.itree.specs.declared.set_key.SetKey.{SetKey}
+use Rattle.itree.specs.declared.timed_key.TimedKey.{TimedKey}
+use Rattle.itree.proofs.Answered.{answered}
+use Rattle.itree.proofs.answers.answer_text.Goals as goal
+
+pub returns-in_ok-tree-in-KeyTree-clause-answered : goal.returns-in_ok-tree-in-KeyTree-clause-answered
+returns-in_ok-tree-in-KeyTree-clause-answered g c =
+    let parsed = c.in_ok-commands-in-KeyTree in
+    let tree = c.in_ok-tree-in-KeyTree in
+    answered c.answer_keys.result (λ output. string_bytes output) KeyTree c.args.mode c.in-KeyTree.is c.args.text.now parsed.commands.items parsed.ensures.said
+    (subst (λ (stored : List (TimedKey × ℤ)). IfOk c.answer_keys.result (λ output. AnswersKeys stored parsed.commands.items (string_bytes output))) (ap (λ (shape : Shape (TimedKey × ℤ)). items shape) tree.ensures.makes.empty)
+    (subst (λ (commands : List KeyLine). IfOk c.answer_keys.result (λ output. AnswersKeys (items tree.tree.shape) commands (string_bytes output))) c.deref.ensures.value c.answer_keys.ensures.answered))
+
+pub returns-in_ok-list-in-KeyList-clause-answered : goal.returns-in_ok-list-in-KeyList-clause-answered
+returns-in_ok-list-in-KeyList-clause-answered g c =
+    let parsed = c.in_ok-commands-in-KeyList in
+    let list = c.in_ok-list-in-KeyList in
+    answered c.answer_keys-in-KeyList.result (λ output. string_bytes output) KeyList c.args.mode c.in-KeyList.is c.args.text.now parsed.commands.items parsed.ensures.said
+    (subst (λ (stored : List (TimedKey × ℤ)). IfOk c.answer_keys-in-KeyList.result (λ output. AnswersKeys stored parsed.commands.items (string_bytes output))) list.ensures.empty
+    (subst (λ (commands : List KeyLine). IfOk c.answer_keys-in-KeyList.result (λ output. AnswersKeys list.list.pairs commands (string_bytes output))) c.deref-in-KeyList.ensures.value c.answer_keys-in-KeyList.ensures.answered))
+
+pub returns-in_ok-tree-in-SetTree-clause-answered : goal.returns-in_ok-tree-in-SetTree-clause-answered
+returns-in_ok-tree-in-SetTree-clause-answered g c =
+    let parsed = c.in_ok-commands-in-SetTree in
+    answered c.answer_set.result (λ output. string_bytes output) SetTree c.args.mode c.in-SetTree.is c.args.text.now parsed.commands.items parsed.ensures.said
+    (subst (λ (shape : Shape SetKey). IfOk c.answer_set.result (λ output. AnswersSet (values (entries shape)) parsed.commands.items (string_bytes output))) c.in_ok-tree-in-SetTree.ensures.makes.empty c.answer_set.ensures.answered)
+
+pub returns-in_ok-list-in-SetList-clause-answered : goal.returns-in_ok-list-in-SetList-clause-answered
+returns-in_ok-list-in-SetList-clause-answered g c =
+    let parsed = c.in_ok-commands-in-SetList in
+    answered c.answer_set-in-SetList.result (λ output. string_bytes output) SetList c.args.mode c.in-SetList.is c.args.text.now parsed.commands.items parsed.ensures.said
+    (subst (λ (stored : List SetKey). IfOk c.answer_set-in-SetList.result (λ output. AnswersSet (values (numbered stored)) parsed.commands.items (string_bytes output))) c.in_ok-list-in-SetList.ensures.empty c.answer_set-in-SetList.ensures.answered)
+
+pub returns-in-Some-clause-answered : goal.returns-in-Some-clause-answered
+returns-in-Some-clause-answered g c =
+    let parsed = c.in_ok-commands-in-Segments in
+    let buckets = c.in-Some.tree.buckets in
+    let layout : IsLayout c.in-Segments.min c.in-Segments.max buckets = search rules in
+    answered c.answer_segments.result (λ output. string_bytes output) (Segments c.in-Segments.min c.in-Segments.max) c.args.mode c.in-Segments.is c.args.text.now parsed.commands.items parsed.ensures.said
+    (IfOk-weaker c.answer_segments.result (λ output. AnswersSegments buckets parsed.commands.items (string_bytes output)) _ (λ output answers. (buckets, layout, answers))
+    (subst (λ (commands : List SegLine). IfOk c.answer_segments.result (λ output. AnswersSegments buckets commands (string_bytes output))) c.deref-in-Some.ensures.value c.answer_segments.ensures.answered))
+
+pub returns-in_ok-tree-in-Sweep-clause-answered : goal.returns-in_ok-tree-in-Sweep-clause-answered
+returns-in_ok-tree-in-Sweep-clause-answered g c =
+    let parsed = c.in_ok-said-in-Sweep in
+    answered c.answer_sweep.result (λ output. string_bytes output) Sweep c.args.mode c.in-Sweep.is c.args.text.now parsed.said.items parsed.ensures.said
+    (subst (λ (said : List SweepLine). IfOk c.answer_sweep.result (λ output. AnswersSweep said (string_bytes output))) c.deref-in-Sweep.ensures.value c.answer_sweep.ensures.answered)
+
+pub returns-in_ok-tree-in-Sweep-clause-overlap : goal.returns-in_ok-tree-in-Sweep-clause-overlap
+returns-in_ok-tree-in-Sweep-clause-overlap g c = λ number is.
+    subst (λ (mode : Mode). HasOverlapLine mode c.args.text.now number) (sym c.in-Sweep.is) (c.answer_sweep.ensures.overlap number is)

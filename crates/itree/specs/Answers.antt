@@ -1,0 +1,79 @@
+-- What the program answers to the commands of each kind.
+use Rattle.std.specs.Prelude.{◌≡◌, ⊤, ℕ, ℤ, List, Option, All}
+use Rattle.std.specs.List.{AllZip}
+use Rattle.std.specs.List.Sorted.{IsSorted}
+use Rattle.std.specs.Ordering.{int_cmp}
+use Rattle.std.specs.declared.cmp.Ordering.{Ordering}
+use Rattle.i_tree.specs.Seg.Buckets.{Buckets, IsLayout}
+use Rattle.itree.specs.KeyLines.{KeyLine}
+use Rattle.itree_lib.specs.Run.KeyMachine as keys
+use Rattle.itree.specs.Replies.{key_reply_words, seg_reply_words, set_reply_words, height_words, reply_lines}
+use Rattle.itree.specs.SegLines.{SegLine}
+use Rattle.itree_lib.specs.Run.SegMachine as segments
+use Rattle.itree_lib.specs.Run.SegMachine.{Reply as seg_reply}
+use Rattle.itree.specs.SetLines.{SetLine}
+use Rattle.itree_lib.specs.Run.SetMachine as sets
+use Rattle.itree_lib.specs.Sweep.Heights.{IsHeightBelow, NoneCollide}
+use Rattle.itree.specs.SweepLines.{segments_of, points_of}
+use Rattle.itree.specs.declared.lines.sweep.SweepLine.{SweepLine}
+use Rattle.itree_lib.specs.declared.run.keys.KeyReply.{KeyReply}
+use Rattle.itree_lib.specs.declared.run.sets.SetReply.{SetReply}
+use Rattle.itree.specs.declared.set_key.SetKey.{SetKey}
+use Rattle.itree.specs.declared.timed_key.TimedKey.{TimedKey}
+use Rattle.itree.specs.declared.timed_val.TimedVal.{TimedVal}
+
+-- keys are compared by `key` alone
+abbrev pub cmp_keys : TimedKey → TimedKey → Ordering
+cmp_keys left right = int_cmp left.key right.key
+
+-- how a key stands to the one that is sought
+abbrev pub cmp_sought : ℤ → TimedKey → Ordering
+cmp_sought sought timed = int_cmp timed.key sought
+
+-- the output is the lines of replies that are a run of the key machine over the commands, from these pairs and no last time on
+pub record AnswersKeys (stored : List (TimedKey × ℤ)) (commands : List KeyLine) (output : List ℕ) : Type 0 where
+  pub replies : List (KeyReply ℤ)
+  pub end : keys.State TimedKey ℤ ℤ
+  pub run : keys.Run (λ timed. timed.expiration) int_cmp cmp_keys cmp_sought (keys.beginning stored) commands replies end
+  pub written : output ≡ reply_lines key_reply_words replies
+
+-- the output is the lines of replies that are a run of the set machine over the commands, from these values on
+pub record AnswersSet (values : List SetKey) (commands : List SetLine) (output : List ℕ) : Type 0 where
+  pub replies : List (SetReply ℤ SetKey)
+  pub end : List SetKey
+  pub run : sets.Run (λ value. value.key) int_cmp values commands replies end
+  pub written : output ≡ reply_lines set_reply_words replies
+
+-- values are compared by `val` alone
+abbrev pub cmp_vals : TimedVal → TimedVal → Ordering
+cmp_vals left right = int_cmp left.val right.val
+
+-- where the reply lists values, they are in rising order
+abbrev pub ListsRising : segments.Reply TimedVal → Type 0
+ListsRising (seg_reply.Values values) = IsSorted cmp_vals values
+ListsRising seg_reply.Inserted = ⊤
+ListsRising seg_reply.Outside = ⊤
+ListsRising seg_reply.Late = ⊤
+ListsRising seg_reply.Refused = ⊤
+ListsRising seg_reply.Cleared = ⊤
+
+-- the output is the lines of replies that are a run of the segment machine over the commands, over these buckets from
+-- nothing on, and that list values in rising order
+pub record AnswersSegments (buckets : Buckets) (commands : List SegLine) (output : List ℕ) : Type 0 where
+  pub replies : List (segments.Reply TimedVal)
+  pub end : segments.State ℤ TimedVal
+  pub run : segments.Run (λ timed. timed.expiration) int_cmp (λ number. number) buckets segments.nothing commands replies end
+  pub rising : All ListsRising replies
+  pub written : output ≡ reply_lines seg_reply_words replies
+
+-- no two of the segments that are said collide, and the output is the lines of the answers to the points that are said, over
+-- these segments
+pub record AnswersSweep (said : List SweepLine) (output : List ℕ) : Type 0 where
+  pub answers : List (Option ℤ)
+  pub apart : NoneCollide (segments_of said)
+  pub below : AllZip (IsHeightBelow (segments_of said)) (points_of said) answers
+  pub written : output ≡ reply_lines height_words answers
+
+-- the same over the buckets of the range between these ends
+abbrev pub AnswersRange : ℤ → ℤ → List SegLine → List ℕ → Type 0
+AnswersRange min max commands output = (buckets : Buckets) × IsLayout min max buckets × AnswersSegments buckets commands output
