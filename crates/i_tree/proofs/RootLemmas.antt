@@ -1,4 +1,5 @@
 -- Lemmas on lists, rising keys, orders, halving and counts.
+pub mod Along
 pub mod BinarySearch
 pub mod Counts
 pub mod Cuts
@@ -6,5 +7,6 @@ pub mod Joined
 pub mod Lists
 pub mod Monotone
 pub mod Orders
+pub mod Results
 pub mod RisingKeys
 pub mod Withouts

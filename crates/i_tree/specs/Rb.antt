@@ -7,6 +7,7 @@ pub mod Context
 pub mod Detaching
 pub mod FreeSlots
 pub mod Items
+pub mod Neighbours
 pub mod Place
 pub mod RbTree
 pub mod RbTreeLends

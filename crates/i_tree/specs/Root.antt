@@ -1,4 +1,5 @@
 -- Definitions that all containers share: lists of keys and values, what a query answers, and counts.
+pub mod Along
 pub mod Answer
 pub mod BinarySearch
 pub mod Change

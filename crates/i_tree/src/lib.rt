@@ -1,5 +1,5 @@
-//! The containers of a sweep line: keys that expire and ordered sets, each in a red-black tree and in a sorted vector, and
-//! segments in a heap of buckets.
+//! The containers of a sweep line: keys that expire, statuses and ordered sets, each in a red-black tree and in a sorted
+//! vector, and segments in a heap of buckets.
 //!
 //! A port of the Rust crate `i_tree` 0.20.0, whose names and rules these are. Each call is proved to answer from a plain
 //! list.
@@ -10,13 +10,16 @@ ghost use Rattle.i_tree.specs.declared.Refusal.TheVariants.{OutOfMemory};
 ghost use Rattle.i_tree.specs.Root.Late.{is_late};
 
 mod binary_search;
+mod expiring;
 pub mod key;
 mod layout_number;
+mod list_deletion;
 mod list_insertion;
 pub mod rb;
 pub mod seg;
 mod select;
 pub mod set;
+pub mod status;
 pub mod steps;
 
 pub use layout_number::{LayoutNumber, LayoutUInt};

@@ -14,15 +14,15 @@ use Rattle.i_tree.proofs.RootLemmas.RisingKeys.{HasKey-live}
 use Rattle.i_tree.proofs.RootLemmas.Lists.{All-filter_passing, AllPairs-head, MatchBool-by}
 use Rattle.i_tree.proofs.RootLemmas.Joined.{Any-behind, Any-here, AllPairs-across, AllPairs-behind, AllPairs-of_map, All-to_map, Contains-middle}
 use Rattle.i_tree.proofs.RbLemmas.SearchPath.Entries.{IsBelow}
-use Rattle.i_tree.specs.Key.KeyExpTree.{items}
-use Rattle.i_tree.specs.Key.Live.{live_pairs}
+use Rattle.i_tree.specs.Expiring.Tree.{items}
+use Rattle.i_tree.specs.Expiring.Live.{live_pairs}
 use Rattle.i_tree.specs.Root.Live.{is_live}
 use Rattle.i_tree.specs.Root.Pairs.{HasKey, IsRising, NoKey}
 use Rattle.i_tree.specs.Set.Pairs.{values}
 use Rattle.i_tree.specs.Rb.Shape.{Shape, entries}
 
 module _ {K : Type 0} {cmp : K → K → Ordering} (o : IsTotalOrder cmp) (key : K) where
-  not_equal_above : (other : K) → cmp key other ≡ Less → cmp other key ≢ Equal
+  pub not_equal_above : (other : K) → cmp key other ≡ Less → cmp other key ≢ Equal
   not_equal_above other below equal = let is = o.antisymm key other ∙ ap ordering_reverse equal in absurd (cc (below, is))
 
 -- a key isn't both there and missing

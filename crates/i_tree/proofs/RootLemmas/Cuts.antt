@@ -1,22 +1,16 @@
--- A search cuts a list in two, and answers the last pair in front of the cut, or the first one behind it.
+-- A search cuts a list in two, and answers the last pair in front of the cut.
 use Rattle.std.proofs.Common.{◌≡◌, ℕ, ◌+◌, ◌-◌, ◌<◌, ◌≤◌, Bool, true, false, not, Some, List, [], ◌∷◌, ◌++◌, length, get_or, slice_get, sym, ap, ◌∙◌, inl, inr, arith, append_assoc, length-append}
 use Rattle.std.proofs.Math.Seq.{get_or-append_seam}
 use Rattle.std.specs.Cmp.{IsTotalOrder}
 use Rattle.std.specs.List.Sorted.{IsPartitionPoint, IsPartitionedBy}
-use Rattle.std.specs.Ordering.{is_gt, is_lt}
+use Rattle.std.specs.Ordering.{is_gt}
 use Rattle.std.specs.declared.cmp.Ordering.{Ordering}
-use Rattle.std.specs.declared.cmp.Ordering.TheVariants.{Less}
 use Rattle.std.proofs.lemmas.Bool.{both_ways, false_from_ne_true}
 use Rattle.std.proofs.lemmas.Option.{slice_get-get_or}
-use Rattle.i_tree.proofs.RootLemmas.RisingKeys.{Above-at_count, AtMost-at_count, GreatestOr-at_count, less_from_is_lt, not_less_from_is_lt}
-use Rattle.i_tree.specs.Root.Answer.{Above, AtMost, Below, IsMonotone}
-use Rattle.i_tree.specs.Root.Ends.{FirstFinds, LastFinds, StartsIn}
+use Rattle.i_tree.proofs.RootLemmas.RisingKeys.{AtMost-at_count}
+use Rattle.i_tree.specs.Root.Answer.{AtMost, IsMonotone}
+use Rattle.i_tree.specs.Root.Ends.{LastFinds, StartsIn}
 use Rattle.i_tree.specs.Root.Pairs.{IsRising}
-
--- what was found at the first element says of it
-pub StartsIn-found : {X A : Type 0} (Finds : X → A → Type 0) (P : X → Type 0) → ((x : X) (a : A) → Finds x a → P x) → (nothing found : A) (xs : List X) → FirstFinds Finds nothing xs found → StartsIn P xs
-StartsIn-found Finds P says nothing found [] is = tt
-StartsIn-found Finds P says nothing found (x ∷ xs) finds = says x found finds
 
 module _ {K V : Type 0} where
   -- the pairs that pass stand in front of the cut, and the value is that of the last of them, or the default
@@ -26,13 +20,6 @@ module _ {K V : Type 0} where
     pub splits : IsPartitionPoint (λ pair. test pair.0 ≡ true) (λ pair. test pair.0 ≡ false) pairs count
     pub none : count ≡ 0 → value ≡ default
     pub last : 0 < count → (pair : K × V) × (slice_get pairs (count - 1) ≡ Some pair) × (value ≡ pair.1)
-
-  -- the pairs that pass stand in front of the cut, and the value is that of the first one behind it, or the default
-  pub record IsCutBefore (test : K → Bool) (pairs : List (K × V)) (default value : V) : Type 0 where
-    pub count : ℕ
-    pub splits : IsPartitionPoint (λ pair. test pair.0 ≡ true) (λ pair. test pair.0 ≡ false) pairs count
-    pub none : length pairs ≤ count → value ≡ default
-    pub next : count < length pairs → (pair : K × V) × (slice_get pairs count ≡ Some pair) × (value ≡ pair.1)
 
   -- the value of a pair that passes
   abbrev pub FindsPassing : (K → Bool) → K × V → V → Type 0
@@ -79,40 +66,7 @@ module _ {K V : Type 0} where
           );
         }
 
-  -- so it is where the value is that of the first pair behind the cut
-  module _ (test : K → Bool) (default of_last value : V) where
-    value_behind : (front back : List (K × V)) → FirstFinds (λ (pair : K × V) (held : V). held ≡ pair.1) default back value
-        → (length (front ++ back) ≤ length front → value ≡ default) × (length front < length (front ++ back) → (pair : K × V) × (slice_get (front ++ back) (length front) ≡ Some pair) × (value ≡ pair.1))
-    value_behind front [] is = (λ _. is, λ more. absurd (omega (arith, more, length-append front [])))
-    value_behind front (pair ∷ rest) is = (
-      λ fewer. absurd (omega (arith, fewer, length-append front (pair ∷ rest))),
-      λ more. (pair, slice_get-get_or (front ++ pair ∷ rest) (length front) pair more ∙ ap Some (get_or-append_seam front pair rest pair), is),
-    )
-
-    pub cut_before : (back front : List (K × V)) → IsPartitionedBy (λ (pair : K × V). test pair.0) (front ++ back) → LastFinds (FindsPassing test) default front of_last
-        → StartsIn (λ (pair : K × V). test pair.0 ≡ false) back → FirstFinds (λ (pair : K × V) (held : V). held ≡ pair.1) default back value → IsCutBefore test (front ++ back) default value
-    cut_before back front parted passes starts is =
-        let behind = value_behind front back is in
-        record { count = length front; splits = (in_front passes, from_cut test default value back front parted starts); none = behind.0; next = behind.1 }
-      where
-        in_front : LastFinds (FindsPassing test) default front of_last → (k : ℕ) (d : K × V) → 0 ≤ k → k < length front → test (get_or (front ++ back) k d).0 ≡ true
-        in_front (inl (none, is_none)) k d from below = absurd (omega (arith, below, ap length none))
-        in_front (inr (rest, last, cut, (passed, is_last))) k d from below =
-            let long : length front ≡ length rest + 1 = omega (arith, ap length cut, length-append rest (last ∷ [])) in
-            let whole : front ++ back ≡ rest ++ last ∷ back = ap (λ pairs. pairs ++ back) cut ∙ append_assoc rest (last ∷ []) back in
-            parted k (length rest) d (omega (arith, below, long)) (omega (arith, long, length-append front back))
-            (ap (λ (p : K × V). test p.0) (ap (λ pairs. get_or pairs (length rest) d) whole ∙ get_or-append_seam rest last back d) ∙ passed)
-
 -- what the value of a cut is
 module _ {K V : Type 0} {cmp : K → K → Ordering} (o : IsTotalOrder cmp) (pairs : List (K × V)) (default value : V) (rising : IsRising cmp pairs) where
-  pub below_at_cut : (key : K) → IsCutBy (λ other. is_lt (cmp other key)) pairs default value → Below cmp pairs key default value
-  below_at_cut key cut =
-      GreatestOr-at_count o (λ other. cmp other key ≡ Less) pairs cut.count default value rising
-      (λ k d from below. less_from_is_lt _ (cut.splits.0 k d from below), λ k d from below. not_less_from_is_lt _ (cut.splits.1 k d from below))
-      cut.within cut.none cut.last
-
   pub at_most_at_cut : (order : K → Ordering) → IsMonotone cmp order pairs → IsCutBy (λ other. not (is_gt (order other))) pairs default value → AtMost cmp pairs order default value
   at_most_at_cut order monotone cut = AtMost-at_count o pairs order cut.count default value rising monotone cut.splits cut.within cut.none cut.last
-
-  pub above_at_cut : (order : K → Ordering) → IsCutBefore (λ other. not (is_gt (order other))) pairs default value → Above cmp pairs order default value
-  above_at_cut order cut = Above-at_count o pairs order cut.count default value rising cut.splits cut.none cut.next

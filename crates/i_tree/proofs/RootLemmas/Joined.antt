@@ -1,5 +1,5 @@
 -- Facts on lists that are made of two, where each element stands in a relation to all later ones.
-use Rattle.std.proofs.Common.{◌≡◌, suc, List, [], ◌∷◌, ◌++◌, map, refl, sym, ap, subst, inl, inr, arith}
+use Rattle.std.proofs.Common.{◌≡◌, suc, List, [], ◌∷◌, ◌++◌, get_or, map, refl, sym, ap, subst, inl, inr, arith}
 use Rattle.std.specs.List.{All, AllPairs, Any, Contains}
 use Rattle.std.proofs.lemmas.List.Elements.{All-nil, All-cons, All-head, All-tail, All-append, All-weaker}
 use Rattle.std.proofs.lemmas.List.Kept.{AllPairs-cons}
@@ -68,6 +68,13 @@ module _ {X : Type 0} where
         AllPairs-cons R x (xs ++ ys)
         (All-append (R x) xs ys (AllPairs-head R x xs first) (All-head Q x xs across))
         (AllPairs-append xs ys (AllPairs-tail R x xs first) second (All-tail Q x xs across))
+
+    -- an element joins where the earlier ones stand in the relation to it, and it to the later ones
+    pub AllPairs-joined : (xs : List X) (x : X) (ys : List X) → AllPairs R (xs ++ ys) → All (λ y. R y x) xs → All (R x) ys → AllPairs R (xs ++ x ∷ ys)
+    AllPairs-joined xs x ys h before after =
+        let across = AllPairs-across xs ys h in
+        AllPairs-append xs (x ∷ ys) (AllPairs-front xs ys h) (AllPairs-cons R x ys after (AllPairs-behind xs ys h))
+        (λ k d within. All-cons (R (get_or xs k d)) x ys (before k d within) (across k d within))
 
     pub AllPairs-of_map : {Y : Type 0} (f : Y → X) (ys : List Y) → AllPairs R (map f ys) → AllPairs (λ y z. R (f y) (f z)) ys
     AllPairs-of_map {Y} f [] h = λ i j d below within. absurd (omega arith)

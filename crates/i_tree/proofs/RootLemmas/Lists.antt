@@ -53,6 +53,19 @@ module _ {X : Type 0} where
         let rest = All-filter_passing P xs (All-tail Q x xs h) in
         cond_both (p x) (x ∷ filter p xs) (filter p xs) (All P) (λ passes. All-cons P x (filter p xs) (All-head Q x xs h passes) rest) (λ _. rest)
 
+    -- what holds of all that a filter lets through
+    pub All-from_filter : (P : X → Type 0) (xs : List X) → All P (filter p xs) → All (λ x. p x ≡ true → P x) xs
+    All-from_filter P [] all = All-nil (λ x. p x ≡ true → P x)
+    All-from_filter P (x ∷ xs) all = by_test (p x) refl (All-from_filter P xs)
+      where
+        by_test : (b : Bool) → p x ≡ b → (All P (filter p xs) → All (λ y. p y ≡ true → P y) xs) → All (λ y. p y ≡ true → P y) (x ∷ xs)
+        by_test true passes rest =
+            let all_too : All P (x ∷ filter p xs) = rw passes at all in
+            All-cons (λ y. p y ≡ true → P y) x xs (λ _. All-head P x (filter p xs) all_too) (rest (All-tail P x (filter p xs) all_too))
+        by_test false fails rest =
+            let all_too : All P (filter p xs) = rw fails at all in
+            All-cons (λ y. p y ≡ true → P y) x xs (λ passes. absurd (both_ways (p x) fails passes)) (rest all_too)
+
     pub filter_all : (xs : List X) → All (λ x. p x ≡ true) xs → filter p xs ≡ xs
     filter_all [] h = refl
     filter_all (x ∷ xs) h =

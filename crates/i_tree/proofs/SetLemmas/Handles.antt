@@ -15,7 +15,7 @@ module _ {V : Type 0} where
   all_other handle (pair ∷ rest) none =
       All-cons (λ (other : ℕ × V). handle ≢ other.0) pair rest ((one_if_same-cases handle pair.0).0 (omega arith)) (all_other handle rest (omega arith))
 
-  none_is : (handle : ℕ) (pairs : List (ℕ × V)) → occurs_among handle pairs ≡ 0 → All (λ pair. pair.0 ≢ handle) pairs
+  pub none_is : (handle : ℕ) (pairs : List (ℕ × V)) → occurs_among handle pairs ≡ 0 → All (λ pair. pair.0 ≢ handle) pairs
   none_is handle [] none = All-nil (λ (pair : ℕ × V). pair.0 ≢ handle)
   none_is handle (pair ∷ rest) none =
       All-cons (λ (other : ℕ × V). other.0 ≢ handle) pair rest

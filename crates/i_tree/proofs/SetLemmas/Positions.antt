@@ -23,7 +23,7 @@ use Rattle.i_tree.specs.Root.Answer.{AnswersBy, IsMonotone}
 use Rattle.i_tree.specs.Root.Change.{Joins}
 use Rattle.i_tree.specs.Set.Pairs.{AreApart, values, by_key, HasHandle, LacksHandle, IsOrdered, LacksKey, IsFoundBy, TakesKeys}
 use Rattle.i_tree.specs.Set.SetList.{Contents, numbered, IsPlaceFor}
-use Rattle.i_tree.specs.Rb.Shape.{last_handle}
+use Rattle.i_tree.specs.Rb.Shape.{first_handle, last_handle}
 use Rattle.i_tree.specs.declared.TheConstants.{EMPTY_REF}
 
 module _ {V : Type 0} where
@@ -60,7 +60,7 @@ module _ {V : Type 0} where
   pub values-numbered : (xs : List V) → values (numbered xs) ≡ xs
   values-numbered xs = values_from 0 xs
 
-  some_of : (xs : List V) (k : ℕ) → k < length xs → V
+  pub some_of : (xs : List V) (k : ℕ) → k < length xs → V
   some_of [] k inside = absurd (omega (arith, inside))
   some_of (x ∷ xs) k inside = x
 
@@ -127,12 +127,27 @@ module _ {V : Type 0} where
       let before = handle_is xs front last.0 last.1 ((handle, value) ∷ back) (cut ∙ ap (λ ys. ys ++ (handle, value) ∷ back) is ∙ append_assoc front (last ∷ []) ((handle, value) ∷ back)) in
       omega (arith, here, before, later (omega (arith, here)), ap length is, length-append front (last ∷ []), ap last_handle is, last_handle-end front last)
 
+  -- the first handle behind a position is the position after
+  pub first_handle_is : (xs : List V) (front : List (ℕ × V)) (handle : ℕ) (value : V) (back : List (ℕ × V)) (result : ℕ) → numbered xs ≡ front ++ (handle, value) ∷ back
+      → (length xs ≤ handle + 1 → result ≡ EMPTY_REF) → (handle + 1 < length xs → result ≡ handle + 1) → result ≡ first_handle back
+  first_handle_is xs front handle value [] result cut last later =
+      last (omega (arith, handle_is xs front handle value [] cut, length-numbered xs, ap length cut, length-append front ((handle, value) ∷ [])))
+  first_handle_is xs front handle value (next ∷ rest) result cut last later =
+      let here = handle_is xs front handle value (next ∷ rest) cut in
+      let after = handle_is xs (front ++ (handle, value) ∷ []) next.0 next.1 rest (cut ∙ sym (append_assoc front ((handle, value) ∷ []) (next ∷ rest))) in
+      omega (arith, here, after, length-append front ((handle, value) ∷ []), later (omega (arith, here, length-numbered xs, ap length cut, length-append front ((handle, value) ∷ (next ∷ rest)))))
+
+  -- the first handle of all is 0
+  pub first_of_all : (xs : List V) → 0 < length xs → 0 ≡ first_handle (numbered xs)
+  first_of_all [] some = absurd (omega (arith, some))
+  first_of_all (x ∷ xs) some = refl
+
 module _ {K V : Type 0} (key_of : V → K) where
   pub length-keyed : (xs : List V) → length (by_key key_of (numbered xs)) ≡ length xs
   length-keyed xs = length-map (numbered xs) (λ (pair : ℕ × V). (key_of pair.1, pair.0)) ∙ length-numbered xs
 
   -- the key and the handle at a position
-  keyed_at : (xs : List V) (k : ℕ) (d : K × ℕ) (v : V) → k < length xs → get_or (by_key key_of (numbered xs)) k d ≡ (key_of (get_or xs k v), 0 + k)
+  pub keyed_at : (xs : List V) (k : ℕ) (d : K × ℕ) (v : V) → k < length xs → get_or (by_key key_of (numbered xs)) k d ≡ (key_of (get_or xs k v), 0 + k)
   keyed_at xs k d v inside =
       get_or-map (λ (pair : ℕ × V). (key_of pair.1, pair.0)) (numbered xs) k (0, v) d (omega (arith, length-numbered xs))
       ∙ ap (λ (pair : ℕ × V). (key_of pair.1, pair.0)) (numbered_at xs k (0, v) inside)

@@ -1,34 +1,14 @@
--- What contracts see of a `KeyExpTree`, beside its core, and what it promises beyond the trait.
-use Rattle.std.specs.Prelude.{◌≡◌, ◌≢◌, ℕ, ◌-◌, ◌<◌, List, Result, IsOk, IsErr, IfErr, OnOk, OnErr, length, map, ⊤}
+-- What a `KeyExpTree` promises beyond the trait.
+use Rattle.std.specs.Prelude.{◌≡◌, ◌≢◌, ◌<◌, Result, IsOk, IsErr, IfErr, OnOk, OnErr, length, ⊤}
 use Rattle.std.specs.declared.cmp.Ordering.{Ordering}
 use Rattle.i_tree.specs.Rb.Balance.{IsCore}
-use Rattle.i_tree.specs.Rb.RbTree.{Contents, slots, slots_grown}
-use Rattle.i_tree.specs.Rb.Shape.{Shape, leaf, entries}
-use Rattle.i_tree.specs.Key.Live.{AllLive}
-use Rattle.i_tree.specs.Key.SearchPath.{path_to}
+use Rattle.i_tree.specs.Rb.RbTree.{Contents, slots}
+use Rattle.i_tree.specs.Expiring.Tree.{items, slots_for}
+use Rattle.i_tree.specs.Expiring.Live.{AllLive}
+use Rattle.i_tree.specs.Expiring.SearchPath.{path_to}
 use Rattle.i_tree.specs.declared.Refusal.{Refusal}
 use Rattle.i_tree.specs.declared.Refusal.TheVariants.{OutOfMemory, NoHandle}
 use Rattle.i_tree.specs.declared.TheConstants.{EMPTY_REF}
-
-module _ {T : Type 0} where
-  -- the items of a core, in order
-  abbrev pub items : Shape T → List T
-  items tree = map (λ entry. entry.1) (entries tree)
-
-  -- how many slots there are where so many entries are stored after an insertion: as many as before if these sufficed,
-  -- else twice as many, up to `EMPTY_REF`
-  abbrev pub slots_for : Contents T → ℕ → ℕ
-  slots_for contents stored = slots_grown (slots contents - stored) (slots contents)
-
-  -- a query keeps the slots
-  pub record KeyTreeLeaves (old new : Contents T) : Type 0 where
-    pub core : IsCore new.shape
-    pub slots : slots new ≡ slots old
-
-  -- `clear` leaves no node, and keeps the slots
-  pub record KeyTreeClears (old new : Contents T) : Type 0 where
-    pub empty : new.shape ≡ leaf
-    pub slots : slots new ≡ slots old
 
 -- `expiration` gives a key's expiration, `compare` compares keys, and `cmp` compares expirations.
 module _ {K V E : Type 0} (expiration : K → E) (compare : K → K → Ordering) (cmp : E → E → Ordering) where

@@ -88,6 +88,11 @@ module _ {T : Type 0} where
   with_item wanted new (fork colour before handle item after) =
       fork colour (with_item wanted new before) handle (if wanted == handle then new else item) (with_item wanted new after)
 
+  -- the handle of the first pair
+  abbrev pub first_handle : List (ℕ × T) → ℕ
+  first_handle [] = EMPTY_REF
+  first_handle (entry ∷ _) = entry.0
+
   -- the handle of the last pair
   abbrev pub last_handle : List (ℕ × T) → ℕ
   last_handle [] = EMPTY_REF

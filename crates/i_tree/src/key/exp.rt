@@ -1,9 +1,10 @@
 //! The trait of collections of keys that expire: what each of them promises.
 
-ghost use Rattle.std.specs.Prelude.{◌≡◌, ◌≤◌, ◌<◌, ℕ, List, [], All, Result, ⊤, length, IsOk, OnOk, OnErr, MatchBool};
+ghost use Rattle.std.specs.Prelude.{◌≡◌, ◌≤◌, ◌<◌, ℕ, List, [], All, Result, ⊤, length, IsOk, IfOk, OnOk, OnErr, MatchBool};
 ghost use Rattle.std.specs.declared.cmp.Ordering.{Ordering};
 ghost use Rattle.i_tree.specs.declared.Refusal.{Refusal};
-ghost use Rattle.i_tree.specs.Key.Live.{live_pairs, IsExpired};
+ghost use Rattle.i_tree.specs.Expiring.Insertion.{InsertsOrLeaves};
+ghost use Rattle.i_tree.specs.Expiring.Live.{live_pairs, IsExpired};
 ghost use Rattle.i_tree.specs.Root.Pairs.{HasKey, NoKey, IsRising};
 ghost use Rattle.i_tree.specs.Root.Answer.{Below, AtMostBy, AboveBy};
 ghost use Rattle.i_tree.specs.Root.Change.{Without, Gains};
@@ -16,8 +17,8 @@ use std::cmp::Ordering;
 /// A key is live at each time up to its expiration, and still at the equal moment. A call removes expired keys only, and
 /// answers from the live ones. Each call stands for itself: times may go back.
 ///
-/// The calls are those of the Rust crate `i_tree`, but for `contains_key` and `first_greater_by`, which are our own, and for the
-/// condition of `insert`. In that crate a key is expired at the equal moment.
+/// The calls are those of the Rust crate `i_tree`, but for `insert_new`, `contains_key` and `first_greater_by`, which are our own,
+/// and for the condition of `insert`. In that crate a key is expired at the equal moment.
 pub trait KeyExpCollection<K: ExpiredKey<E>, E: Expiration, V: Copy> {
     /// The pairs that are stored, expired ones among them.
     ghost stored: { Self → List (K × V) };
@@ -50,6 +51,28 @@ pub trait KeyExpCollection<K: ExpiredKey<E>, E: Expiration, V: Copy> {
         ensures with_room { length (stored self.old) < room self.old → IsOk result }
         ensures room { room self.old ≤ room self.new }
         ensures inserts { inserts key val time self.old result self.new };
+
+    /// Stores the pair unless a live key compares Equal, whatever its expiration, and says whether it did.
+    ///
+    /// True: the pair is stored, as by `insert`. False: a key that is live at `time` compares Equal, and nothing is stored;
+    /// expired pairs may have gone. It is refused as `insert` is, and then no live key compares Equal. There is no condition:
+    /// one call stands for `contains_key` and `insert`. It is our own, and answers as std's `BTreeSet::insert`.
+    fn insert_new(&mut self, key: K, val: V, time: E) -> Result<bool, Refusal>
+        ensures cases { IfOk result (λ is_new. MatchBool is_new
+            (NoKey K.cmp (live_pairs K.expiration E.cmp time (stored self.old)) key)
+            (HasKey K.cmp (live_pairs K.expiration E.cmp time (stored self.old)) key)) }
+        ensures ok { IfOk result (λ is_new. MatchBool is_new
+            (Gains (IsExpired K.expiration E.cmp time) (key, val) (stored self.old) (stored self.new))
+            (Without (IsExpired K.expiration E.cmp time) (stored self.old) (stored self.new))) }
+        ensures err { OnErr result (stored self.new ≡ stored self.old) }
+        ensures err_new { OnErr result (NoKey K.cmp (live_pairs K.expiration E.cmp time (stored self.old)) key) }
+        ensures rising { IsRising K.cmp (stored self.new) }
+
+        // When it is never refused, and what each kind adds: of an insertion, or where the key isn't new of a query.
+        ensures with_room { length (stored self.old) < room self.old → IsOk result }
+        ensures room { room self.old ≤ room self.new }
+        ensures inserts { InsertsOrLeaves (λ done. inserts key val time self.old done self.new)
+            (leaves time self.old self.new) result };
 
     /// The value of the greatest live key below `key`, or `default` where no live key is below it.
     fn first_less(&mut self, time: E, default: V, key: K) -> V

@@ -1,15 +1,18 @@
 //! `KeyExpList`: keys that expire, in a sorted vector.
 
-ghost use Rattle.std.specs.Prelude.{◌≡◌, ◌≤◌, ◌+◌, [], length, IsOk, OnOk, OnErr, IfOk, IfErr};
+ghost use Rattle.std.specs.Prelude.{◌≡◌, ◌≢◌, ◌<◌, ◌≤◌, ◌+◌, [], length, IsOk, OnOk, OnErr, IfOk, IfErr};
+ghost use Rattle.std.specs.List.{insert};
+ghost use Rattle.std.specs.List.Sorted.{IsPartitionPoint};
+ghost use Rattle.std.specs.declared.cmp.Ordering.TheVariants.{Less};
 ghost use Rattle.i_tree.specs.Root.Change.{Without};
-ghost use Rattle.i_tree.specs.Key.KeyExpList.{KeyListLeaves};
-ghost use Rattle.i_tree.specs.Key.Live.{IsExpired};
-ghost use Rattle.i_tree.specs.Root.Pairs.{IsRising};
+ghost use Rattle.i_tree.specs.Expiring.List.{ListLeaves};
+ghost use Rattle.i_tree.specs.Expiring.Live.{IsExpired};
+ghost use Rattle.i_tree.specs.Root.Pairs.{IsRising, NoKey};
 
 use super::exp::KeyExpCollection;
-use super::live::{earliest_expiration, keep_live};
-use super::sorted::{has_live_key, place_of, value_above, value_at_most, value_below};
-use crate::list_insertion::insert_at;
+use super::sorted::{has_key_at, has_live_key, place_of, value_above, value_at_most, value_below};
+use crate::expiring::list::ExpiringList;
+use crate::expiring::live::ByKey;
 use crate::{Expiration, ExpiredKey, Refusal};
 use std::alloc::{AllocError, Allocator};
 use std::cmp::Ordering;
@@ -21,27 +24,19 @@ use std::marker::Model;
 /// `i_tree`, an insertion or a query first removes all that is expired at its time.
 #[derive(Drop)]
 pub struct KeyExpList<K: ExpiredKey<E>, E: Expiration, V: Copy, A: Allocator + Copy> {
-    pairs: Vec<(K, V), A>,
-    // No stored key expires before it, so up to this time all of them are live.
-    earliest: E,
+    held: ExpiringList<ByKey, K, E, V, A>,
 }
 
 impl<K: ExpiredKey<E>, E: Expiration, V: Copy, A: Allocator + Copy> Model
     for KeyExpList<K, E, V, A> {
-    ghost use Rattle.std.specs.Prelude.{◌-◌, vec_len, vec_capacity};
-    ghost use Rattle.i_tree.specs.Key.KeyExpList.{Contents};
-    ghost use Rattle.i_tree.specs.Key.Live.{NoneExpiresBefore};
+    ghost use Rattle.i_tree.specs.Expiring.List.{Contents};
     ghost use Rattle.i_tree.specs.Root.Pairs.{IsRising};
 
     ghost Value = { Contents K V };
 
-    ghost view = { λ list. record {
-      pairs = list.pairs.items;
-      spare = vec_capacity list.pairs - vec_len list.pairs;
-    } };
+    ghost view = { λ list. list.held };
 
-    ghost invariant = { λ list. IsRising K.cmp list.pairs.items
-        × NoneExpiresBefore K.expiration E.cmp list.earliest list.pairs.items };
+    ghost invariant = { λ list. IsRising K.cmp list.held.pairs };
 }
 
 impl<K: ExpiredKey<E>, E: Expiration, V: Copy, A: Allocator + Copy> KeyExpList<K, E, V, A> {
@@ -53,8 +48,7 @@ impl<K: ExpiredKey<E>, E: Expiration, V: Copy, A: Allocator + Copy> KeyExpList<K
         ensures takes_none { capacity ≡ 0 → IsOk result }
     {
         Ok(KeyExpList {
-            pairs: Vec::with_capacity(alloc, capacity)?,
-            earliest: E::max_expiration(),
+            held: ExpiringList::new(alloc, capacity)?,
         })
     }
 
@@ -67,42 +61,53 @@ impl<K: ExpiredKey<E>, E: Expiration, V: Copy, A: Allocator + Copy> KeyExpList<K
         ensures refused { IfErr result (λ cause. cause ≡ Refusal.OutOfMemory) }
         ensures with_room { capacity ≤ length self.old.pairs + self.old.spare → IsOk result }
     {
-        self.pairs
-            .reserve(capacity.saturating_sub(self.pairs.len()))?;
-        Ok(())
+        self.held.reserve_capacity(capacity)
     }
 
     /// How many pairs are stored, expired ones among them.
     pub fn stored(&self) -> usize
         ensures { result ≡ length self.now.pairs }
     {
-        self.pairs.len()
+        self.held.stored()
     }
 
     /// For how many more pairs there is room.
     pub fn spare(&self) -> usize
         ensures { result ≡ self.now.spare }
     {
-        self.pairs.capacity() - self.pairs.len()
+        self.held.spare()
     }
 
-    // Removes what is expired at `time`, unless the bound says that nothing is.
+    // Puts the pair at the place of its key, which no stored key compares Equal to.
+    fn put(&mut self, place: usize, key: K, val: V) -> Result<(), Refusal>
+        requires within { place ≤ length self.old.pairs }
+        requires splits { IsPartitionPoint
+            (λ pair. K.cmp pair.0 key ≡ Less) (λ pair. K.cmp pair.0 key ≢ Less) self.old.pairs place }
+        requires free { NoKey K.cmp self.old.pairs key }
+        ensures ok { OnOk result (self.new.pairs ≡ insert self.old.pairs place (key, val)) }
+        ensures err { OnErr result (self.new ≡ self.old) }
+        ensures rising { IsRising K.cmp self.new.pairs }
+        ensures refused { IfErr result (λ cause. cause ≡ Refusal.OutOfMemory) }
+        ensures with_spare { 0 < self.old.spare → IsOk result }
+        ensures room { length self.old.pairs + self.old.spare ≤ length self.new.pairs + self.new.spare }
+    {
+        self.held.put(place, key, val)
+    }
+
+    // Removes what is expired at `time`.
     fn remove_expired(&mut self, time: E)
         ensures kept { Without (IsExpired K.expiration E.cmp time) self.old.pairs self.new.pairs }
         ensures rising { IsRising K.cmp self.new.pairs }
-        ensures leaves { KeyListLeaves K.expiration E.cmp time self.old self.new }
+        ensures leaves { ListLeaves K.expiration E.cmp time self.old self.new }
     {
-        if self.earliest >= time {
-            return;
-        }
-        keep_live(&mut self.pairs, time);
-        self.earliest = earliest_expiration(&self.pairs);
+        self.held.remove_expired(time);
     }
 }
 
 impl<K: ExpiredKey<E>, E: Expiration, V: Copy, A: Allocator + Copy> KeyExpCollection<K, E, V>
     for KeyExpList<K, E, V, A> {
-    ghost use Rattle.i_tree.specs.Key.KeyExpList.{KeyListInserts, KeyListLeaves, KeyListClears};
+    ghost use Rattle.i_tree.specs.Expiring.List.{ListLeaves, ListClears};
+    ghost use Rattle.i_tree.specs.Key.KeyExpList.{KeyListInserts};
 
     ghost stored = { λ list. list.pairs };
 
@@ -110,9 +115,9 @@ impl<K: ExpiredKey<E>, E: Expiration, V: Copy, A: Allocator + Copy> KeyExpCollec
 
     ghost inserts = { λ key val time old result new. KeyListInserts K.expiration E.cmp (key, val) time old result new };
 
-    ghost leaves = { λ time old new. KeyListLeaves K.expiration E.cmp time old new };
+    ghost leaves = { λ time old new. ListLeaves K.expiration E.cmp time old new };
 
-    ghost clears = { λ old new. KeyListClears old new };
+    ghost clears = { λ old new. ListClears old new };
 
     /// Removes what is expired at `time`, and then stores the pair.
     ///
@@ -120,40 +125,52 @@ impl<K: ExpiredKey<E>, E: Expiration, V: Copy, A: Allocator + Copy> KeyExpCollec
     /// A refusal changes nothing at all.
     fn insert(&mut self, key: K, val: V, time: E) -> Result<(), Refusal> {
         self.remove_expired(time);
-        self.pairs.reserve(1)?;
-        let place = place_of(&self.pairs, &key);
-        insert_at(&mut self.pairs, place, (key, val));
-        self.earliest = self.earliest.min(key.expiration());
-        Ok(())
+        let place = place_of(self.held.pairs(), &key);
+        self.put(place, key, val)
+    }
+
+    /// Removes what is expired at `time`, and then stores the pair unless a key that is left compares Equal: one search says so
+    /// and finds the place.
+    ///
+    /// It asks for memory only where the key is new, and is refused then as `insert` is.
+    fn insert_new(&mut self, key: K, val: V, time: E) -> Result<bool, Refusal> {
+        self.remove_expired(time);
+        let place = place_of(self.held.pairs(), &key);
+        if has_key_at(self.held.pairs(), place, &key) {
+            return Ok(false);
+        }
+        if let Err(cause) = self.put(place, key, val) {
+            return Err(cause);
+        }
+        Ok(true)
     }
 
     /// Removes what is expired at `time`, and answers the value of the greatest key below `key`, or `default`
     /// where none is below it.
     fn first_less(&mut self, time: E, default: V, key: K) -> V {
         self.remove_expired(time);
-        value_below(&self.pairs, &key, default)
+        value_below(self.held.pairs(), &key, default)
     }
 
     /// Removes what is expired at `time`, and answers by `f`, which is asked about what is left alone.
     fn first_less_or_equal_by<F: Fn(K) -> Ordering>(&mut self, time: E, default: V, f: F) -> V {
         self.remove_expired(time);
-        value_at_most(&self.pairs, f, default)
+        value_at_most(self.held.pairs(), f, default)
     }
 
     /// Removes what is expired at `time`, and answers by `f`, which is asked about what is left alone.
     fn first_greater_by<F: Fn(K) -> Ordering>(&mut self, time: E, default: V, f: F) -> V {
         self.remove_expired(time);
-        value_above(&self.pairs, f, default)
+        value_above(self.held.pairs(), f, default)
     }
 
     fn contains_key(&self, time: E, key: K) -> bool {
-        has_live_key(&self.pairs, time, &key)
+        has_live_key(self.held.pairs(), time, &key)
     }
 
     /// Removes every pair, and keeps the room.
     fn clear(&mut self) {
-        self.pairs.clear();
-        self.earliest = E::max_expiration();
+        self.held.clear();
     }
 }
 
@@ -165,8 +182,7 @@ impl<K: ExpiredKey<E>, E: Expiration, V: Copy, A: Allocator + Copy> Clone
     /// Copies the pairs, which asks nothing of the clones of keys and values. A refusal leaves nothing behind.
     fn clone(&self) -> Result<Self, AllocError> {
         Ok(KeyExpList {
-            pairs: Vec::from_slice(*self.pairs.allocator(), &self.pairs)?,
-            earliest: self.earliest,
+            held: self.held.copy()?,
         })
     }
 }

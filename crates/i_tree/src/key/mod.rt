@@ -1,8 +1,6 @@
 //! Keys with an expiration.
 
-mod descent;
 pub mod exp;
 pub mod list;
-mod live;
 mod sorted;
 pub mod tree;

@@ -1,13 +1,17 @@
 //! `KeyExpTree`: keys that expire, in a red-black tree over the core.
 
-ghost use Rattle.std.specs.Prelude.{◌≡◌, ◌≢◌, ◌≤◌, ◌<◌, ◌+◌, All, length, IsOk, OnOk, OnErr, IfOk, IfErr, IsErr, IsErrAnd, MatchBool, max};
+ghost use Rattle.std.specs.Prelude.{◌≡◌, ◌≢◌, ◌≤◌, ◌<◌, ◌+◌, All, length, IsOk, OnOk, OnErr, IfOk, IfErr, IsErr, IsErrAnd, MatchBool, max, if◌then◌else◌};
+ghost use Rattle.std.specs.Ordering.{is_lt};
 ghost use Rattle.std.specs.declared.cmp.Ordering.{Ordering};
+ghost use Rattle.std.specs.declared.cmp.Ordering.TheVariants.{Less, Greater};
 ghost use Rattle.i_tree.specs.Root.Answer.{Below, AtMostBy, AboveBy};
 ghost use Rattle.i_tree.specs.Root.Change.{Gains, Without};
 ghost use Rattle.i_tree.specs.Root.Descent.{Descends, SearchesFor};
-ghost use Rattle.i_tree.specs.Key.KeyExpTree.{items, slots_for};
-ghost use Rattle.i_tree.specs.Key.SearchPath.{path_to};
-ghost use Rattle.i_tree.specs.Key.Live.{live_pairs, AllLive, IsExpired};
+ghost use Rattle.i_tree.specs.Expiring.Insertion.{InsertsOrLeaves};
+ghost use Rattle.i_tree.specs.Expiring.Tree.{items, slots_for, TreeLeaves};
+ghost use Rattle.i_tree.specs.Key.KeyExpTree.{KeyTreeInserts};
+ghost use Rattle.i_tree.specs.Expiring.SearchPath.{path_to};
+ghost use Rattle.i_tree.specs.Expiring.Live.{live_pairs, AllLive, IsExpired};
 ghost use Rattle.i_tree.specs.Root.Pairs.{HasKey, NoKey, IsRising};
 ghost use Rattle.i_tree.specs.Rb.RbTree.{slots};
 ghost use Rattle.i_tree.specs.Rb.Capacity.{MakesEmpty, Reserves};
@@ -15,11 +19,11 @@ ghost use Rattle.i_tree.specs.Rb.Balance.{IsCore};
 ghost use Rattle.i_tree.specs.Rb.Shape.{leaf, entries};
 ghost use Rattle.i_tree.specs.Rb.Place.{place_below};
 
-use super::descent::{descend_by, descend_to, value_at};
 use super::exp::KeyExpCollection;
-use super::live::is_live;
+use crate::expiring::descent::{below_or_not, descend, value_at};
+use crate::expiring::insertion::insert_by;
+use crate::expiring::live::{ByKey, LiveAt, is_live};
 use crate::rb::RbTree;
-use crate::rb::place::place_below;
 use crate::rb::search::search_down;
 use crate::steps::{Counter, Uncounted};
 use crate::{EMPTY_REF, Expiration, ExpiredKey, Refusal};
@@ -40,7 +44,7 @@ pub struct KeyExpTree<K: ExpiredKey<E>, E: Expiration, V: Copy, A: Allocator + C
 
 impl<K: ExpiredKey<E>, E: Expiration, V: Copy, A: Allocator + Copy> Model
     for KeyExpTree<K, E, V, A> {
-    ghost use Rattle.i_tree.specs.Key.KeyExpTree.{items};
+    ghost use Rattle.i_tree.specs.Expiring.Tree.{items};
     ghost use Rattle.i_tree.specs.Root.Pairs.{IsRising};
     ghost use Rattle.i_tree.specs.Rb.RbTree.{Contents, contents_code};
     ghost use Rattle.std.specs.Coded.{coded×};
@@ -139,12 +143,69 @@ impl<K: ExpiredKey<E>, E: Expiration, V: Copy, A: Allocator + Copy> KeyExpTree<K
         ensures err_steps { OnErr result
             (Descends C.made steps.old steps.new (length (items self.old.shape)) (length (items self.new.shape)) 0) }
     {
-        let end = descend_to(&mut self.core, steps, time, key);
-        let place = place_below(end.above, end.on_right);
-        if let Err(refused) = self.core.insert_at(steps, place, (key, val)) {
-            return Err(refused.cause);
+        let stands = |other: K| -> Ordering
+            ensures { result ≡ (if is_lt (K.cmp other key) then Less else Greater) }
+        { below_or_not(&other, &key) };
+        let pair = (key, val);
+        if let Err(cause) = insert_by(
+            &mut self.core,
+            steps,
+            &LiveAt { time, by: ByKey },
+            &stands,
+            pair,
+        ) {
+            return Err(cause);
         }
         Ok(())
+    }
+
+    /// `insert_new`, with its steps counted: those of one descent, whether the key is new or not.
+    ///
+    /// It goes down to the place of the key, and removes each expired entry that it meets on its search path. Where a live key
+    /// compares Equal it then answers false. Else it stores the pair and is refused as `insert_counted`. The call and the
+    /// counts are our own.
+    pub fn insert_new_counted<C: Counter>(
+        &mut self,
+        steps: &mut C,
+        key: K,
+        val: V,
+        time: E,
+    ) -> Result<bool, Refusal>
+        ensures cases { IfOk result (λ is_new. MatchBool is_new
+            (NoKey K.cmp (live_pairs K.expiration E.cmp time (items self.old.shape)) key)
+            (HasKey K.cmp (live_pairs K.expiration E.cmp time (items self.old.shape)) key)) }
+        ensures ok { IfOk result (λ is_new. MatchBool is_new
+            (Gains (IsExpired K.expiration E.cmp time) (key, val) (items self.old.shape) (items self.new.shape))
+            (Without (IsExpired K.expiration E.cmp time) (items self.old.shape) (items self.new.shape))) }
+        ensures err { OnErr result (self.new ≡ self.old) }
+        ensures err_new { OnErr result
+            (NoKey K.cmp (live_pairs K.expiration E.cmp time (items self.old.shape)) key) }
+        ensures rising { IsRising K.cmp (items self.new.shape) }
+
+        // The slots, and when it is refused: as `insert_counted` where the key is new, and else as a query.
+        ensures inserts { InsertsOrLeaves
+            (λ done. KeyTreeInserts K.expiration K.cmp E.cmp key time self.old done self.new)
+            (TreeLeaves self.old self.new) result }
+        ensures with_spare { 0 < self.old.spare → IsOk result }
+        ensures core { IsCore self.new.shape }
+
+        // What was counted.
+        ensures steps { IfOk result (λ is_new. Descends C.made steps.old steps.new
+            (length (items self.old.shape)) (length (items self.new.shape)) (if is_new then 1 else 0)) }
+        ensures err_steps { OnErr result
+            (Descends C.made steps.old steps.new (length (items self.old.shape)) (length (items self.new.shape)) 0) }
+    {
+        let stands = |other: K| -> Ordering
+            ensures { result ≡ K.cmp other key }
+        { other.cmp(&key) };
+        let pair = (key, val);
+        insert_by(
+            &mut self.core,
+            steps,
+            &LiveAt { time, by: ByKey },
+            &stands,
+            pair,
+        )
     }
 
     /// `first_less`, with its steps counted. The counts are our own.
@@ -165,8 +226,11 @@ impl<K: ExpiredKey<E>, E: Expiration, V: Copy, A: Allocator + Copy> KeyExpTree<K
         ensures steps { Descends C.made steps.old steps.new
             (length (items self.old.shape)) (length (items self.new.shape)) 0 }
     {
-        let end = descend_to(&mut self.core, steps, time, key);
-        value_at(&self.core, end.found, default)
+        let stands = |other: K| -> Ordering
+            ensures { result ≡ (if is_lt (K.cmp other key) then Less else Greater) }
+        { below_or_not(&other, &key) };
+        let end = descend(&mut self.core, steps, &LiveAt { time, by: ByKey }, &stands);
+        value_at(&self.core, end.last, default)
     }
 
     /// `first_less_or_equal_by`, with its steps counted: each comparison is one call of `f`. The counts are our own.
@@ -189,8 +253,8 @@ impl<K: ExpiredKey<E>, E: Expiration, V: Copy, A: Allocator + Copy> KeyExpTree<K
         ensures steps { Descends C.made steps.old steps.new
             (length (items self.old.shape)) (length (items self.new.shape)) 0 }
     {
-        let end = descend_by(&mut self.core, steps, time, f, true);
-        value_at(&self.core, end.found, default)
+        let end = descend(&mut self.core, steps, &LiveAt { time, by: ByKey }, &f);
+        value_at(&self.core, end.last, default)
     }
 
     /// `first_greater_by`, with its steps counted: each comparison is one call of `f`. The call and the counts are our own.
@@ -213,8 +277,8 @@ impl<K: ExpiredKey<E>, E: Expiration, V: Copy, A: Allocator + Copy> KeyExpTree<K
         ensures steps { Descends C.made steps.old steps.new
             (length (items self.old.shape)) (length (items self.new.shape)) 0 }
     {
-        let end = descend_by(&mut self.core, steps, time, f, false);
-        value_at(&self.core, end.found, default)
+        let end = descend(&mut self.core, steps, &LiveAt { time, by: ByKey }, &f);
+        value_at(&self.core, end.next, default)
     }
 
     /// `contains_key`, with its steps counted. Expired entries are compared too, and one alone is tested: that whose key
@@ -236,13 +300,14 @@ impl<K: ExpiredKey<E>, E: Expiration, V: Copy, A: Allocator + Copy> KeyExpTree<K
             return false;
         }
         steps.add_test();
-        is_live(&self.core.item(ended.found).0, time)
+        is_live::<ByKey, K, E>(&self.core.item(ended.found).0, time)
     }
 }
 
 impl<K: ExpiredKey<E>, E: Expiration, V: Copy, A: Allocator + Copy> KeyExpCollection<K, E, V>
     for KeyExpTree<K, E, V, A> {
-    ghost use Rattle.i_tree.specs.Key.KeyExpTree.{KeyTreeInserts, KeyTreeLeaves, KeyTreeClears};
+    ghost use Rattle.i_tree.specs.Expiring.Tree.{TreeLeaves, TreeClears};
+    ghost use Rattle.i_tree.specs.Key.KeyExpTree.{KeyTreeInserts};
 
     ghost stored = { λ tree. items tree.shape };
 
@@ -250,9 +315,9 @@ impl<K: ExpiredKey<E>, E: Expiration, V: Copy, A: Allocator + Copy> KeyExpCollec
 
     ghost inserts = { λ key val time old result new. KeyTreeInserts K.expiration K.cmp E.cmp key time old result new };
 
-    ghost leaves = { λ time old new. KeyTreeLeaves old new };
+    ghost leaves = { λ time old new. TreeLeaves old new };
 
-    ghost clears = { λ old new. KeyTreeClears old new };
+    ghost clears = { λ old new. TreeClears old new };
 
     /// Goes down to the place of the key, removes each expired entry that it meets on its search path, and stores the pair.
     ///
@@ -261,6 +326,15 @@ impl<K: ExpiredKey<E>, E: Expiration, V: Copy, A: Allocator + Copy> KeyExpCollec
     /// changes nothing at all.
     fn insert(&mut self, key: K, val: V, time: E) -> Result<(), Refusal> {
         self.insert_counted(&mut Uncounted, key, val, time)
+    }
+
+    /// Goes down to the place of the key, removes each expired entry that it meets on its search path, and stores the pair unless
+    /// a live key compares Equal: one descent says so and finds the place.
+    ///
+    /// Where it answers false, the slots of what it removed are free, and no memory is asked for. Else the slots and the
+    /// refusals are those of `insert`.
+    fn insert_new(&mut self, key: K, val: V, time: E) -> Result<bool, Refusal> {
+        self.insert_new_counted(&mut Uncounted, key, val, time)
     }
 
     /// Answers the value of the greatest live key below `key`, or `default` where none is below it. Each expired entry on

@@ -3,6 +3,7 @@
 mod arena;
 mod clear;
 mod links;
+mod neighbours;
 pub(crate) mod place;
 mod rebalancing;
 mod removal;

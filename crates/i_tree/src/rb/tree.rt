@@ -135,57 +135,6 @@ impl<T, A: Allocator + Copy> RbTree<T, A> {
         self.arena.child(handle, Side::Right)
     }
 
-    /// The handle of the entry before this one in order, or `EMPTY_REF` where it is the first.
-    pub fn before(&self, handle: u32) -> u32
-        requires { IsHandle self.now.shape handle }
-        ensures value { (front : List (ℕ × T)) (item : T) (back : List (ℕ × T)) →
-            entries self.now.shape ≡ front ++ (handle, item) ∷ back → result ≡ last_handle front }
-        ensures core { IsCore self.now.shape }
-    {
-        let left = self.left(handle);
-        if left == EMPTY_REF {
-            self.parent_from_right(handle)
-        } else {
-            self.last_below(left)
-        }
-    }
-
-    // The last handle of the subtree at this one.
-    fn last_below(&self, subtree: u32) -> u32
-        requires { IsHandle self.now.shape subtree }
-        ensures { result ≡ last_handle (entries (subtree_at subtree self.now.shape)) }
-    {
-        let mut last = subtree;
-        loop {
-            let right = self.right(last);
-            if right == EMPTY_REF {
-                return last;
-            }
-            last = right;
-        }
-    }
-
-    // The nearest handle above this one from whose right subtree it comes, or `EMPTY_REF` where there is none. It is that
-    // of the entry before this one, whose left subtree is empty.
-    fn parent_from_right(&self, handle: u32) -> u32
-        requires live { IsHandle self.now.shape handle }
-        requires first { left_at handle self.now.shape ≡ leaf }
-        ensures { (front : List (ℕ × T)) (item : T) (back : List (ℕ × T)) →
-            entries self.now.shape ≡ front ++ (handle, item) ∷ back → result ≡ last_handle front }
-    {
-        let mut child = handle;
-        loop {
-            let parent = self.arena.parent(child);
-            if parent == EMPTY_REF {
-                return EMPTY_REF;
-            }
-            if self.arena.child(parent, Side::Right) == child {
-                return parent;
-            }
-            child = parent;
-        }
-    }
-
     /// The item at the handle.
     pub fn item(&self, handle: u32) -> &T
         requires { IsHandle self.now.shape handle }

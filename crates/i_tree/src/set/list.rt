@@ -5,11 +5,12 @@ ghost use Rattle.std.specs.Borrow.{Bor};
 ghost use Rattle.std.specs.Fn.{FnReturnsAt};
 ghost use Rattle.std.specs.Ordering.{is_gt, is_lt};
 ghost use Rattle.std.specs.declared.cmp.Ordering.{Ordering};
-ghost use Rattle.i_tree.specs.Set.Pairs.{AreApart, IsOrdered};
-ghost use Rattle.i_tree.specs.Set.SetList.{numbered, IsPlaceFor};
+ghost use Rattle.i_tree.specs.Set.Pairs.{AreApart, HoldsKey, IsOrdered, LacksKey};
+ghost use Rattle.i_tree.specs.Set.SetList.{numbered, IsPlaceFor, SetListInserts};
 
 use super::sort::{KeyValue, SetCollection};
 use crate::binary_search::count_passing;
+use crate::list_deletion::delete_at;
 use crate::list_insertion::insert_at;
 use crate::{EMPTY_REF, Refusal, Refused};
 use std::alloc::Allocator;
@@ -51,6 +52,20 @@ fn place_of<K: Ord, V: KeyValue<K>>(values: &[V], key: &K) -> usize
         ensures { result ≡ is_lt (K.cmp (V.key_of value.entry.now) key.entry.now) }
     { *value.key() < *key };
     count_passing(values, is_below)
+}
+
+// Whether the value at the place of `key` has it, as no other may.
+fn has_key_at<K: Ord, V: KeyValue<K>>(values: &[V], place: usize, key: &K) -> bool
+    requires in_order { IsOrdered V.key_of K.cmp (numbered values.now) }
+    requires within { place ≤ length values.now }
+    requires place { IsPlaceFor V.key_of K.cmp key.now values.now place }
+    ensures { MatchBool result (HoldsKey V.key_of K.cmp (numbered values.now) key.now)
+        (LacksKey V.key_of K.cmp (numbered values.now) key.now) }
+{
+    match values.get(place) {
+        Some(value) => value.key().cmp(key).is_eq(),
+        None => false,
+    }
 }
 
 // The position before this one, or `EMPTY_REF` where it is the first.
@@ -97,6 +112,32 @@ impl<V, A: Allocator + Copy> SetList<V, A> {
     {
         self.values.capacity() - self.values.len()
     }
+
+    // Puts the value at the place of its key, which is this one. It is refused as `insert` is.
+    fn put<K: Ord>(&mut self, place: usize, val: V) -> Result<(), Refused<V>>
+    where
+        V: KeyValue<K>,
+        requires within { place ≤ length self.old.values }
+        requires place { IsPlaceFor V.key_of K.cmp (V.key_of val) self.old.values place }
+        ensures inserts { SetListInserts V.key_of K.cmp val self.old result self.new }
+        ensures handed { IfErr result (λ refused. refused.value ≡ val) }
+        ensures handles { AreApart (numbered self.new.values) }
+    {
+        if self.values.len() >= EMPTY_REF as usize {
+            return Err(Refused {
+                value: val,
+                cause: Refusal::NoHandle,
+            });
+        }
+        if let Err(refused) = self.values.reserve(1) {
+            return Err(Refused {
+                value: val,
+                cause: refused.into(),
+            });
+        }
+        insert_at(&mut self.values, place, val);
+        Ok(())
+    }
 }
 
 impl<K: Ord, V: KeyValue<K> + Drop, A: Allocator + Copy> SetCollection<K, V> for SetList<V, A> {
@@ -122,28 +163,45 @@ impl<K: Ord, V: KeyValue<K> + Drop, A: Allocator + Copy> SetCollection<K, V> for
     /// `OutOfMemory` only where there was no room and the growth was refused. A refusal changes nothing and hands the
     /// value back. The place is that of the Rust crate `i_tree`, and the refusals are our own.
     fn insert(&mut self, val: V) -> Result<(), Refused<V>> {
-        if self.values.len() >= EMPTY_REF as usize {
-            return Err(Refused {
-                value: val,
-                cause: Refusal::NoHandle,
-            });
-        }
-        if let Err(refused) = self.values.reserve(1) {
-            return Err(Refused {
-                value: val,
-                cause: refused.into(),
-            });
-        }
         let place = place_of(&self.values, val.key());
-        insert_at(&mut self.values, place, val);
-        Ok(())
+        self.put(place, val)
+    }
+
+    /// Puts the value at the place of its key, as `insert` does, unless a value there has it: then the value comes back.
+    fn insert_new(&mut self, val: V) -> Result<Option<V>, Refused<V>> {
+        let place = place_of(&self.values, val.key());
+        if has_key_at(&self.values, place, val.key()) {
+            return Ok(Some(val));
+        }
+        self.put(place, val)?;
+        Ok(None)
     }
 
     /// Removes the value at the position, and drops it. The handles of those behind it fall by one.
     ///
     /// It takes no memory. The rule is that of the Rust crate `i_tree`.
     fn delete_by_index(&mut self, index: u32) {
-        self.values.remove(index as usize);
+        delete_at(&mut self.values, index as usize);
+    }
+
+    fn len(&self) -> usize {
+        self.values.len()
+    }
+
+    /// The position of the first value, which is 0, or `EMPTY_REF` where there is none.
+    fn first_index(&self) -> u32 {
+        if self.values.is_empty() { EMPTY_REF } else { 0 }
+    }
+
+    /// The position after, or `EMPTY_REF` where the index is that of the last value.
+    fn index_after(&self, index: u32) -> u32 {
+        let count = self.values.len();
+        let next = index + 1;
+        if (next as usize) < count {
+            next
+        } else {
+            EMPTY_REF
+        }
     }
 
     /// The position before, or `EMPTY_REF` where the index is 0.

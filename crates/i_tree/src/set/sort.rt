@@ -6,11 +6,15 @@ ghost use Rattle.std.specs.Fn.{FnReturnsAt};
 ghost use Rattle.std.specs.declared.cmp.Ordering.{Ordering};
 ghost use Rattle.i_tree.specs.Root.Change.{Joins};
 ghost use Rattle.i_tree.specs.Set.Pairs.{values, AreApart, HasHandle, LacksHandle, with_value, IsOrdered, HoldsKey, LacksKey, TakesKeys, IsFound};
-ghost use Rattle.i_tree.specs.Rb.Shape.{last_handle};
+ghost use Rattle.i_tree.specs.Set.Insertion.{IfAbsent, IfPresent};
+ghost use Rattle.i_tree.specs.Set.Iterating.{values_left, CanYield, WalksInOrder};
+ghost use Rattle.i_tree.specs.Rb.Shape.{first_handle, last_handle};
 ghost use Rattle.i_tree.specs.declared.Refused.{Refused};
 
+use super::iterator::SetIterator;
 use crate::{EMPTY_REF, Refused};
 use std::cmp::Ordering;
+use std::marker::PhantomData;
 
 /// A value that has a key. The name is that of the Rust crate `i_tree`.
 pub trait KeyValue<K> {
@@ -68,6 +72,31 @@ pub trait SetCollection<K: Ord, V: KeyValue<K> + Drop> {
         ensures room { room self.old ≤ room self.new }
         ensures inserts { inserts val self.old result self.new };
 
+    /// Puts the value at the place of its key, unless a key of the collection compares Equal to it: then the value comes
+    /// back. One search serves both.
+    ///
+    /// It answers `None` where the value was stored, and `Some` with the value that was given where its key is there; the
+    /// collection is as it was then, and no memory was asked for. It is refused as `insert` is, and only where the key is
+    /// absent. std's `BTreeSet::insert` answers a `bool` in place of it, and drops the value. The call is our own.
+    fn insert_new(&mut self, val: V) -> Result<Option<V>, Refused<V>>
+        requires { IsOrdered V.key_of K.cmp (pairs self.old) }
+
+        // The key is there, and nothing has changed.
+        ensures present { IfPresent result (λ given. (given ≡ val)
+            × HoldsKey V.key_of K.cmp (pairs self.old) (V.key_of val) × (self.new ≡ self.old)) }
+
+        // Else it is an insertion of a key that is absent.
+        ensures absent { IfAbsent result (λ _. LacksKey V.key_of K.cmp (pairs self.old) (V.key_of val)) }
+        ensures ok { IfAbsent result (λ insertion.
+            OnOk insertion (Joins val (values (pairs self.old)) (values (pairs self.new)))) }
+        ensures err { OnErr result (pairs self.new ≡ pairs self.old) }
+        ensures handed { IfErr result (λ refused. refused.value ≡ val) }
+        ensures in_order { IsOrdered V.key_of K.cmp (pairs self.new) }
+        ensures handles { AreApart (pairs self.new) }
+        ensures with_room { length (pairs self.old) < room self.old → IsOk result }
+        ensures room { room self.old ≤ room self.new }
+        ensures inserts { IfAbsent result (λ insertion. inserts val self.old insertion self.new) };
+
     /// Removes the value at the handle, and drops it.
     ///
     /// Which handles the others then have is said by each collection. It takes no memory.
@@ -79,6 +108,25 @@ pub trait SetCollection<K: Ord, V: KeyValue<K> + Drop> {
         ensures handles { AreApart (pairs self.new) }
         ensures room { room self.old ≤ room self.new }
         ensures deletes { deletes index self.old self.new };
+
+    /// How many values there are. It is our own.
+    fn len(&self) -> usize
+        ensures value { result ≡ length (pairs self.now) }
+        ensures handles { AreApart (pairs self.now) };
+
+    /// The handle of the first value, or `EMPTY_REF` where there is none. It is our own.
+    fn first_index(&self) -> u32
+        ensures value { result ≡ first_handle (pairs self.now) }
+        ensures live { result ≢ EMPTY_REF → HasHandle (pairs self.now) result }
+        ensures handles { AreApart (pairs self.now) };
+
+    /// The handle of the value after this one, or `EMPTY_REF` where it is the last. It is our own.
+    fn index_after(&self, index: u32) -> u32
+        requires { HasHandle (pairs self.now) index }
+        ensures value { (front : List (ℕ × V)) (value : V) (back : List (ℕ × V))
+            → pairs self.now ≡ front ++ (index, value) ∷ back → result ≡ first_handle back }
+        ensures live { result ≢ EMPTY_REF → HasHandle (pairs self.now) result }
+        ensures handles { AreApart (pairs self.now) };
 
     /// The handle of the value before this one, or `EMPTY_REF` where it is the first.
     ///
@@ -102,6 +150,25 @@ pub trait SetCollection<K: Ord, V: KeyValue<K> + Drop> {
         ensures value { IsFound V.key_of K.cmp (λ key answer. FnReturnsAt F.Fn f key answer) (pairs self.now) result }
         ensures live { result ≢ EMPTY_REF → HasHandle (pairs self.now) result }
         ensures handles { AreApart (pairs self.now) };
+
+    /// The values in order, one after another. It takes no memory, and is our own.
+    fn iter(&self) -> SetIterator<'_, K, V, Self>
+    where
+        Self: Sized,
+        // All values are still to come, and it yields them in order.
+        ensures rest { values_left pairs result ≡ values (pairs self.now) }
+        ensures can { CanYield pairs result }
+        ensures len { result.left ≡ length (pairs self.now) }
+        ensures runs { WalksInOrder K pairs }
+        ensures handles { AreApart (pairs self.now) }
+    {
+        SetIterator {
+            set: self,
+            next: self.first_index(),
+            left: self.len(),
+            types: PhantomData,
+        }
+    }
 
     /// The value at the handle.
     fn value_by_index(&self, index: u32) -> &V

@@ -4,20 +4,23 @@ ghost use Rattle.std.specs.Prelude.{◌≡◌, ◌≢◌, ◌<◌, ◌+◌, ◌+
 ghost use Rattle.std.specs.Borrow.{Bor};
 ghost use Rattle.std.specs.Fn.{FnReturnsAt};
 ghost use Rattle.std.specs.declared.cmp.Ordering.{Ordering};
-ghost use Rattle.std.specs.declared.cmp.Ordering.TheVariants.{Less};
+ghost use Rattle.std.specs.declared.cmp.Ordering.TheVariants.{Equal, Less};
 ghost use Rattle.i_tree.specs.Root.Descent.{Searches};
+ghost use Rattle.i_tree.specs.Root.Steps.{OnlyRotates};
 ghost use Rattle.i_tree.specs.Rb.RbTree.{slots, slots_with_room};
 ghost use Rattle.i_tree.specs.Rb.Capacity.{MakesEmpty, TakesSlot};
 ghost use Rattle.i_tree.specs.Rb.Removal.{LosesAt};
-ghost use Rattle.i_tree.specs.Set.Pairs.{HasHandle, IsOrdered, LacksKey, TakesKeys, IsFound};
-ghost use Rattle.i_tree.specs.Rb.Place.{IsPlaceBetween};
+ghost use Rattle.i_tree.specs.Set.Insertion.{IfAbsent, IfPresent};
+ghost use Rattle.i_tree.specs.Set.Pairs.{HasHandle, HoldsKey, IsOrdered, LacksKey, TakesKeys, IsFound};
+ghost use Rattle.i_tree.specs.Set.SetTree.{JoinsWithHandle, SetTreeInserts};
+ghost use Rattle.i_tree.specs.Rb.Place.{IsPlaceBetween, place_below};
 ghost use Rattle.i_tree.specs.Rb.Balance.{IsCore};
 ghost use Rattle.i_tree.specs.Rb.Shape.{entries, occurs, IsHandle, last_handle};
 
 use super::sort::{KeyValue, SetCollection};
 use crate::rb::RbTree;
-use crate::rb::place::{Place, place_below};
-use crate::rb::search::search_down;
+use crate::rb::place::place_below;
+use crate::rb::search::{SearchEnd, search_down};
 use crate::steps::{Counter, Uncounted};
 use crate::{EMPTY_REF, Refusal, Refused};
 use std::alloc::Allocator;
@@ -93,25 +96,76 @@ impl<K: Ord, V: KeyValue<K> + Drop, A: Allocator + Copy> SetTree<K, V, A> {
         ensures err_steps { OnErr result (Searches C.made steps.old steps.new (length (entries self.old.shape)) 0 0) }
         ensures core { IsCore self.new.shape }
     {
-        let place = self.place_of(steps, val.key());
-        self.core.insert_at(steps, place, val)?;
-        Ok(())
+        let ended = self.search_key(steps, val.key());
+        self.put(steps, ended, val)
     }
 
-    // Goes down the tree to the place of the key, which no value of the set has.
-    fn place_of<C: Counter>(&self, steps: &mut C, key: &K) -> Place
-        requires in_order { IsOrdered V.key_of K.cmp (entries self.now.shape) }
-        requires absent { LacksKey V.key_of K.cmp (entries self.now.shape) key.now }
-        ensures place { (front : List (ℕ × V)) × (back : List (ℕ × V)) × IsPlaceBetween self.now.shape front back result
+    /// `insert_new`, with its steps counted.
+    ///
+    /// The value is put as by `insert_counted`, unless a value of the set has its key: then it comes back, and the set is
+    /// as it was. The comparisons were made in either case.
+    pub fn insert_new_counted<C: Counter>(
+        &mut self,
+        steps: &mut C,
+        val: V,
+    ) -> Result<Option<V>, Refused<V>>
+        requires { IsOrdered V.key_of K.cmp (entries self.old.shape) }
+        ensures present { IfPresent result (λ given. (given ≡ val)
+            × HoldsKey V.key_of K.cmp (entries self.old.shape) (V.key_of val) × (self.new ≡ self.old)) }
+        ensures absent { IfAbsent result (λ _. LacksKey V.key_of K.cmp (entries self.old.shape) (V.key_of val)) }
+        ensures inserts { IfAbsent result (λ insertion. SetTreeInserts val self.old insertion self.new) }
+        ensures handed { IfErr result (λ refused. refused.value ≡ val) }
+        ensures in_order { IsOrdered V.key_of K.cmp (entries self.new.shape) }
+        ensures steps { Searches C.made steps.old steps.new (length (entries self.old.shape)) 0 2 }
+        ensures present_steps { IfPresent result (λ _. Searches C.made steps.old steps.new (length (entries self.old.shape)) 0 0) }
+        ensures err_steps { OnErr result (Searches C.made steps.old steps.new (length (entries self.old.shape)) 0 0) }
+        ensures core { IsCore self.new.shape }
+    {
+        let ended = self.search_key(steps, val.key());
+        if ended.said.is_eq() {
+            return Ok(Some(val));
+        }
+        self.put(steps, ended, val)?;
+        Ok(None)
+    }
+
+    // Goes down the tree to the place of the key. What it ended behind was called Equal where a value of the set has the key.
+    fn search_key<C: Counter>(&self, steps: &mut C, key: &K) -> SearchEnd
+        requires { IsOrdered V.key_of K.cmp (entries self.now.shape) }
+        ensures present { result.said ≡ Equal → HoldsKey V.key_of K.cmp (entries self.now.shape) key.now }
+        ensures absent { result.said ≢ Equal → LacksKey V.key_of K.cmp (entries self.now.shape) key.now }
+        ensures place { result.said ≢ Equal → (front : List (ℕ × V)) × (back : List (ℕ × V))
+            × IsPlaceBetween self.now.shape front back (place_below result.above result.on_right)
             × All (λ pair. K.cmp (V.key_of pair.1) key.now ≡ Less) front
             × All (λ pair. K.cmp key.now (V.key_of pair.1) ≡ Less) back }
+        ensures core { IsCore self.now.shape }
         ensures steps { Searches C.made steps.old steps.new (length (entries self.now.shape)) 0 0 }
     {
         let stands = |value: &V| -> Ordering
             ensures { result ≡ K.cmp (V.key_of value.entry.now) key.entry.now }
         { value.key().cmp(key) };
-        let ended = search_down(&self.core, steps, &stands);
-        place_below(ended.above, ended.on_right)
+        search_down(&self.core, steps, &stands)
+    }
+
+    // Puts the value where the search for its key has ended, a key that no value of the set has.
+    fn put<C: Counter>(&mut self, steps: &mut C, ended: SearchEnd, val: V) -> Result<(), Refused<V>>
+        requires in_order { IsOrdered V.key_of K.cmp (entries self.old.shape) }
+        requires place { (front : List (ℕ × V)) × (back : List (ℕ × V))
+            × IsPlaceBetween self.old.shape front back (place_below ended.above ended.on_right)
+            × All (λ pair. K.cmp (V.key_of pair.1) (V.key_of val) ≡ Less) front
+            × All (λ pair. K.cmp (V.key_of val) (V.key_of pair.1) ≡ Less) back }
+        ensures joins { OnOk result (JoinsWithHandle val self.old.shape self.new.shape) }
+        ensures keeps { (handle : ℕ) → HasHandle (entries self.old.shape) handle →
+            HasHandle (entries self.new.shape) handle }
+        ensures in_order { IsOrdered V.key_of K.cmp (entries self.new.shape) }
+        ensures takes { TakesSlot val self.old self.new result }
+        ensures steps { OnlyRotates C.made steps.old steps.new 2 }
+        ensures err_steps { OnErr result (steps.new ≡ steps.old) }
+        ensures core { IsCore self.new.shape }
+    {
+        self.core
+            .insert_at(steps, place_below(ended.above, ended.on_right), val)?;
+        Ok(())
     }
 
     /// `first_index_less_by`, with its steps counted: each comparison is one call of `f`. The counts are our own.
@@ -184,6 +238,11 @@ impl<K: Ord, V: KeyValue<K> + Drop, A: Allocator + Copy> SetCollection<K, V> for
         self.insert_counted(&mut Uncounted, val)
     }
 
+    /// Puts the value at the place of its key, as `insert` does, unless a value of the set has it: then the value comes back.
+    fn insert_new(&mut self, val: V) -> Result<Option<V>, Refused<V>> {
+        self.insert_new_counted(&mut Uncounted, val)
+    }
+
     /// Removes the value at the handle, and drops it. Every other value keeps its handle, or the next one alone has this
     /// handle now.
     ///
@@ -191,6 +250,18 @@ impl<K: Ord, V: KeyValue<K> + Drop, A: Allocator + Copy> SetCollection<K, V> for
     /// place, this one moves it.
     fn delete_by_index(&mut self, index: u32) {
         self.core.remove(&mut Uncounted, index);
+    }
+
+    fn len(&self) -> usize {
+        self.core.len()
+    }
+
+    fn first_index(&self) -> u32 {
+        self.core.first()
+    }
+
+    fn index_after(&self, index: u32) -> u32 {
+        self.core.after(index)
     }
 
     fn index_before(&self, index: u32) -> u32 {

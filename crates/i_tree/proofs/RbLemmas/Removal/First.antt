@@ -1,5 +1,5 @@
 -- The descent along the left side of a subtree, to its first entry.
-use Rattle.std.proofs.Common.{◌≡◌, ℕ, ◌<◌, List, [], ◌∷◌, ◌++◌, length, refl, sym, ap, ◌∙◌, subst, append-nil, length-append, arith}
+use Rattle.std.proofs.Common.{◌≡◌, ℕ, List, [], ◌∷◌, ◌++◌, refl, sym, ap, ◌∙◌, subst, append-nil}
 use Rattle.i_tree.specs.declared.rb.links.Colour.{Colour}
 use Rattle.i_tree.specs.declared.rb.links.Side.TheVariants.{Left}
 use Rattle.i_tree.specs.Rb.Shape.{Shape, leaf, fork, entries, subtree_at, left_subtree, left_at, IsHandle, AreHandles}
@@ -61,11 +61,3 @@ module _ {T : Type 0} where
       let cut = cut_at tree handle live in
       let subtree_is = subtree_at-of_cut tree handle handles cut in
       starts_first whole (subtree_at handle tree) cut.colour cut.before handle cut.item cut.after subtree_is (sym (ap left_subtree subtree_is) ∙ empty) starts
-
-  pub fewer-to_left : (tree : Shape T) (handle : ℕ) → AreHandles tree → IsHandle tree handle
-      → length (entries (left_at handle tree)) < length (entries (subtree_at handle tree))
-  fewer-to_left tree handle handles live =
-      let cut = cut_at tree handle live in
-      let P : Shape T → Type 0 = λ subtree. length (entries (left_subtree subtree)) < length (entries subtree) in
-      let at_cut : P (fork cut.colour cut.before handle cut.item cut.after) = let sum = length-append (entries cut.before) ((handle, cut.item) ∷ entries cut.after) in omega arith in
-      subst P (sym (subtree_at-of_cut tree handle handles cut)) at_cut

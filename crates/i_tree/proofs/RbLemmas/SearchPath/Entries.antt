@@ -21,7 +21,7 @@ module _ {K V : Type 0} (key_of : V → K) {cmp : K → K → Ordering} (o : IsT
   IsBelow earlier later = cmp (key_of earlier.1) (key_of later.1) ≡ Less
 
 module _ {V : Type 0} where
-  values-append : (front back : List (ℕ × V)) → items_of (front ++ back) ≡ items_of front ++ items_of back
+  pub values-append : (front back : List (ℕ × V)) → items_of (front ++ back) ≡ items_of front ++ items_of back
   values-append front back = map-append (λ (pair : ℕ × V). pair.1) front back
 
   -- a list that loses the pair at a handle loses its value, and no other one

@@ -1,14 +1,12 @@
 -- A new key among keys that rise.
-use Rattle.std.proofs.Common.{◌≡◌, ℕ, List, [], ◌∷◌, ◌++◌, get_or, length, refl, sym, ap, ◌∙◌, subst, arith, append_assoc, length-append}
+use Rattle.std.proofs.Common.{◌≡◌, ℕ, List, [], ◌∷◌, ◌++◌, length, refl, sym, ap, ◌∙◌, subst, arith, append_assoc, length-append}
 use Rattle.std.proofs.Math.Seq.{take-append_seam, drop-append_seam}
 use Rattle.std.specs.Cmp.{IsTotalOrder}
 use Rattle.std.specs.List.{All, AllPairs, insert}
 use Rattle.std.specs.declared.cmp.Ordering.{Ordering}
 use Rattle.std.specs.declared.cmp.Ordering.TheVariants.{Less}
 use Rattle.std.proofs.lemmas.List.{map-append}
-use Rattle.std.proofs.lemmas.List.Elements.{All-cons}
-use Rattle.std.proofs.lemmas.List.Kept.{AllPairs-cons}
-use Rattle.i_tree.proofs.RootLemmas.Joined.{All-front, All-behind, AllPairs-front, AllPairs-behind, AllPairs-across, AllPairs-append, All-from_end, All-from_start}
+use Rattle.i_tree.proofs.RootLemmas.Joined.{All-front, All-behind, AllPairs-front, AllPairs-behind, AllPairs-joined, All-from_end, All-from_start}
 use Rattle.i_tree.proofs.RbLemmas.SearchPath.Entries.{IsBelow, StartsIn-with}
 use Rattle.i_tree.specs.Root.Ends.{LastFinds, StartsIn}
 use Rattle.i_tree.specs.Root.Change.{Joins}
@@ -49,12 +47,7 @@ module _ {K V : Type 0} (key_of : V → K) {cmp : K → K → Ordering} (o : IsT
   -- a pair joins at its place
   pub below_joined : (front : List (ℕ × V)) (handle : ℕ) (value : V) (back : List (ℕ × V)) → AllPairs (IsBelow key_of o) (front ++ back) → All (IsLower (key_of value)) front × All (IsHigher (key_of value)) back
       → AllPairs (IsBelow key_of o) (front ++ (handle, value) ∷ back)
-  below_joined front handle value back below (lows, highs) =
-      let Below : ℕ × V → ℕ × V → Type 0 = IsBelow key_of o in
-      let across = AllPairs-across Below front back below in
-      AllPairs-append Below front ((handle, value) ∷ back) (AllPairs-front Below front back below)
-      (AllPairs-cons Below (handle, value) back highs (AllPairs-behind Below front back below))
-      (λ k d within. All-cons (Below (get_or front k d)) (handle, value) back (lows k d within) (across k d within))
+  below_joined front handle value back below (lows, highs) = AllPairs-joined (IsBelow key_of o) front (handle, value) back below lows highs
 
 -- the value of a pair that joins has joined the items
 pub Joins-values : {V : Type 0} (before after front : List (ℕ × V)) (handle : ℕ) (value : V) (back : List (ℕ × V)) → before ≡ front ++ back → after ≡ front ++ (handle, value) ∷ back → Joins value (items_of before) (items_of after)

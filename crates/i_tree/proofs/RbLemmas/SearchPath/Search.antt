@@ -1,5 +1,5 @@
 -- A search that removes nothing.
-use Rattle.std.proofs.Common.{◌≡◌, ◌≢◌, ℕ, Bool, true, false, List, [], ◌∷◌, ◌++◌, refl, sym, ap, ◌∙◌, subst, inl, inr, append_assoc}
+use Rattle.std.proofs.Common.{◌≡◌, ◌≢◌, ℕ, Bool, true, false, not, List, [], ◌∷◌, ◌++◌, refl, sym, ap, ◌∙◌, subst, inl, inr, append_assoc}
 use Rattle.std.specs.Borrow.{Bor}
 use Rattle.std.specs.Cmp.{IsTotalOrder}
 use Rattle.std.specs.List.{All, AllPairs}
@@ -16,7 +16,7 @@ use Rattle.i_tree.proofs.RbLemmas.SearchPath.Entries.{IsBelow}
 use Rattle.i_tree.specs.Rb.Shape.{Shape, entries, subtree_at, left_at, right_at}
 use Rattle.i_tree.specs.Rb.Place.{place_below}
 use Rattle.i_tree.specs.Rb.SearchPath.{FindsNotAbove, SearchesBetween}
-use Rattle.i_tree.specs.Root.Ends.{LastFinds, StartsIn}
+use Rattle.i_tree.specs.Root.Ends.{LastFinds}
 use Rattle.i_tree.specs.Root.BinarySearch.{TakesItems}
 use Rattle.i_tree.specs.Rb.Items.{items_of}
 use Rattle.i_tree.specs.declared.TheConstants.{EMPTY_REF}
@@ -45,24 +45,32 @@ above_only Greater test = refl
 abbrev pub IsSelected : {X : Type 0} → Bool → X → X → X → Type 0
 IsSelected takes_first first other selected = (takes_first ≡ true → selected ≡ first) × (takes_first ≡ false → selected ≡ other)
 
--- from an entry that was asked about, a search goes on
-module _ {T : Type 0} (May : T → Ordering → Type 0) (tree : Shape T) (here : ℕ) (some : here ≢ EMPTY_REF) (item : T)
+-- a test that passes is one whose answer isn't Greater
+pub le-not_gt : (answer : Ordering) → is_le answer ≡ not (is_gt answer)
+le-not_gt Less = refl
+le-not_gt Equal = refl
+le-not_gt Greater = refl
+
+-- From an entry that was asked about, a search goes on: what holds of the entries behind it then, it holds where the entry passed,
+-- and where it was called Greater.
+module _ {T : Type 0} (May : T → Ordering → Type 0) (HoldsBehind HoldsThen : List (ℕ × T) → Type 0) (tree : Shape T) (here : ℕ) (some : here ≢ EMPTY_REF) (item : T)
     (subtrees : entries (subtree_at here tree) ≡ entries (left_at here tree) ++ (here, item) ∷ entries (right_at here tree))
     (left right : ℕ) (on_left : IsTop tree (left_at here tree) left) (on_right : IsTop tree (right_at here tree) right) where
-  pub search_on : (place : Place) (found : ℕ) (said : Ordering) → IsPath (FindsNotAbove May) (StartsIn (λ entry. May entry.1 Greater)) (EMPTY_REF, Greater) tree here place (found, said)
-      → (answer : Ordering) → May item answer → (passed : Bool) → passed ≡ is_le answer → (found' : ℕ) (said' : Ordering) (next : ℕ)
-      → IsSelected passed here found found' → IsSelected passed answer said said' → IsChosen passed right left next
-      → IsPath (FindsNotAbove May) (StartsIn (λ entry. May entry.1 Greater)) (EMPTY_REF, Greater) tree next (place_below here passed) (found', said')
-  search_on place found said way answer may passed is found' said' next found_is said_is chosen =
-      path_on (FindsNotAbove May) (StartsIn (λ entry. May entry.1 Greater)) (StartsIn (λ entry. May entry.1 Greater)) (EMPTY_REF, Greater) tree here some item subtrees left right on_left on_right place (found, said) way passed next (found', said') chosen
+  pub search_on : (place : Place) (found : ℕ) (said : Ordering) → IsPath (FindsNotAbove May) HoldsBehind (EMPTY_REF, Greater) tree here place (found, said)
+      → (answer : Ordering) → May item answer → (passed : Bool) → passed ≡ is_le answer
+      → (passed ≡ true → (back : List (ℕ × T)) → HoldsBehind back → HoldsThen back) → (passed ≡ false → May item Greater → (back : List (ℕ × T)) → HoldsThen ((here, item) ∷ back))
+      → (found' : ℕ) (said' : Ordering) (next : ℕ) → IsSelected passed here found found' → IsSelected passed answer said said' → IsChosen passed right left next
+      → IsPath (FindsNotAbove May) HoldsThen (EMPTY_REF, Greater) tree next (place_below here passed) (found', said')
+  search_on place found said way answer may passed is stays misses found' said' next found_is said_is chosen =
+      path_on (FindsNotAbove May) HoldsBehind HoldsThen (EMPTY_REF, Greater) tree here some item subtrees left right on_left on_right place (found, said) way passed next (found', said') chosen
       (λ yes. (
         found_is.0 yes,
         subst (May item) (sym (said_is.0 yes)) may,
         ap is_gt (said_is.0 yes) ∙ not_above answer (sym is ∙ yes),
       ))
       (λ no. let found_same = found_is.1 no in let said_same = said_is.1 no in cc (found_same, said_same))
-      (λ yes back holds. holds)
-      (λ no back. subst (May item) (above_only answer (sym is ∙ no)) may)
+      stays
+      (λ no. misses no (subst (May item) (above_only answer (sym is ∙ no)) may))
 
 -- the tests whether an answer is Equal
 pub equal_from : (r : Ordering) → is_eq r ≡ true → r ≡ Equal
@@ -74,7 +82,7 @@ pub not_equal_from : (r : Ordering) → is_eq r ≡ false → r ≢ Equal
 not_equal_from r test equal = both_ways (is_eq r) test (ap is_eq equal)
 
 -- what is not called Greater and isn't Equal either
-less_left : (r : Ordering) → is_gt r ≡ false → r ≢ Equal → r ≡ Less
+pub less_left : (r : Ordering) → is_gt r ≡ false → r ≢ Equal → r ≡ Less
 less_left Less test differs = refl
 less_left Equal test differs = absurd (differs refl)
 less_left Greater test differs = cc

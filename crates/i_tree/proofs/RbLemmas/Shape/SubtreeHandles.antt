@@ -7,7 +7,6 @@ use Rattle.std.proofs.lemmas.List.Elements.{All-nil, All-cons}
 use Rattle.i_tree.proofs.RbLemmas.Shape.Contexts.{occurs_among, occurs_among-append, occurs_among-entries, subtree_at-none}
 use Rattle.i_tree.proofs.RootLemmas.Joined.{Any-here, Any-there}
 use Rattle.i_tree.specs.declared.rb.links.Colour.{Colour}
-use Rattle.i_tree.specs.Set.Pairs.{HasHandle, LacksHandle}
 use Rattle.i_tree.specs.Rb.Shape.{Shape, leaf, fork, entries, left_subtree, right_subtree, or_else, subtree_at, rank, RanksFall, occurs, one_if_same}
 
 pub one_from_same : (wanted handle : ℕ) → wanted ≡ handle → one_if_same wanted handle ≡ 1
@@ -116,40 +115,9 @@ module _ {V : Type 0} where
   ranks_below leaf (first ∷ rest) pair back falls is = absurd (cc)
   ranks_below (fork colour before handle item after) front pair back falls is = (falls.0, falls.1)
 
-  -- a handle that stands in the pairs has a value there, and one that does not has none
-  HasHandle-among : (wanted : ℕ) (pairs : List (ℕ × V)) → 0 < occurs_among wanted pairs → HasHandle pairs wanted
-  HasHandle-among wanted [] some = absurd (omega (arith, some))
-  HasHandle-among wanted (pair ∷ rest) some = by_test (wanted == pair.0) refl (HasHandle-among wanted rest)
-    where
-      by_test : (b : Bool) → wanted == pair.0 ≡ b → (0 < occurs_among wanted rest → HasHandle rest wanted) → HasHandle (pair ∷ rest) wanted
-      by_test true same in_rest = Any-here (λ other. other.0 ≡ wanted) pair rest (sym (eqb-true wanted pair.0 same))
-      by_test false differs in_rest =
-          let apart : one_if_same wanted pair.0 ≡ 0 = rw differs refl in
-          Any-there (λ other. other.0 ≡ wanted) pair rest (in_rest (omega (arith, some, apart)))
-
-  LacksHandle-none : (wanted : ℕ) (pairs : List (ℕ × V)) → occurs_among wanted pairs ≡ 0 → LacksHandle pairs wanted
-  LacksHandle-none wanted [] none = All-nil (λ pair. pair.0 ≢ wanted)
-  LacksHandle-none wanted (pair ∷ rest) none =
-      All-cons (λ other. other.0 ≢ wanted) pair rest
-      (λ same. absurd (omega (arith, none, one_from_same wanted pair.0 (sym same))))
-      (LacksHandle-none wanted rest (omega (arith, none)))
-
   pub occurs_among-middle : (wanted : ℕ) (front : List (ℕ × V)) (value : V) (back : List (ℕ × V)) → 0 < occurs_among wanted (front ++ (wanted, value) ∷ back)
   occurs_among-middle wanted front value back =
       omega (arith, occurs_among-append wanted front ((wanted, value) ∷ back), one_from_same wanted wanted refl)
-
-  pub HasHandle-live : (wanted : ℕ) (tree : Shape V) → 0 < occurs wanted tree → HasHandle (entries tree) wanted
-  HasHandle-live wanted tree live = HasHandle-among wanted (entries tree) (omega (arith, occurs_among-entries wanted tree, live))
-
-  pub LacksHandle-absent : (wanted : ℕ) (tree : Shape V) → occurs wanted tree ≡ 0 → LacksHandle (entries tree) wanted
-  LacksHandle-absent wanted tree none = LacksHandle-none wanted (entries tree) (occurs_among-entries wanted tree ∙ none)
-
-  live_from-lacks : (wanted : ℕ) (pairs : List (ℕ × V)) → HasHandle pairs wanted → LacksHandle pairs wanted → ⊥
-  live_from-lacks wanted pairs (k, pair, within, is, same) none = none k pair within (ap (λ (other : ℕ × V). other.0) is ∙ same)
-
-  pub live-HasHandle : (wanted : ℕ) (tree : Shape V) → HasHandle (entries tree) wanted → 0 < occurs wanted tree
-  live-HasHandle wanted tree has =
-      ⊎_elim (λ live. live) (λ none. absurd (live_from-lacks wanted (entries tree) has (LacksHandle-absent wanted tree (omega arith)))) (cases_lt 0 (occurs wanted tree))
 
   -- a handle that stands once has one value
   pub same_value : (wanted : ℕ) (front : List (ℕ × V)) (value : V) (back : List (ℕ × V)) (front_too : List (ℕ × V)) (value_too : V) (back_too : List (ℕ × V))

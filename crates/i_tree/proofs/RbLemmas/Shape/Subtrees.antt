@@ -3,7 +3,7 @@ use Rattle.std.proofs.Common.{◌≡◌, ◌≢◌, ℕ, ◌<◌, ◌≤◌, Lis
 use Rattle.i_tree.specs.declared.TheConstants.{EMPTY_REF}
 use Rattle.i_tree.specs.declared.rb.links.Colour.{Colour}
 use Rattle.i_tree.specs.declared.rb.links.Side.TheVariants.{Left, Right}
-use Rattle.i_tree.specs.Rb.Shape.{Shape, leaf, fork, top, entries, subtree_at, left_subtree, right_subtree, left_at, right_at, last_handle, occurs, IsHandle, AreHandles}
+use Rattle.i_tree.specs.Rb.Shape.{Shape, leaf, fork, top, entries, subtree_at, left_subtree, right_subtree, left_at, right_at, first_handle, last_handle, occurs, IsHandle, AreHandles}
 use Rattle.i_tree.specs.Rb.Context.{Frame, plug}
 use Rattle.i_tree.proofs.RbLemmas.Shape.Contexts.{Cut, cut_at, one_if_same-same, occurs-plug, subtree_at-here, subtree_at-none, subtree_at-cut, before_hole, after_hole, entries-plug, same_cut, occurs_among-entries, occurs_among}
 
@@ -102,39 +102,18 @@ module _ {T : Type 0} where
   last_handle-append (first ∷ second ∷ front) entry back = last_handle-append (second ∷ front) entry back
 
   -- where a list follows, its last handle is the last
-  last_handle-of_append : (front back : List (ℕ × T)) → 0 < length back → last_handle (front ++ back) ≡ last_handle back
+  pub last_handle-of_append : (front back : List (ℕ × T)) → 0 < length back → last_handle (front ++ back) ≡ last_handle back
   last_handle-of_append front [] some = absurd (omega arith)
   last_handle-of_append front (entry ∷ back) some = last_handle-append front entry back
+
+  -- where a list stands in front, its first handle is the first
+  pub first_handle-of_append : (front back : List (ℕ × T)) → 0 < length front → first_handle (front ++ back) ≡ first_handle front
+  first_handle-of_append [] back some = absurd (omega arith)
+  first_handle-of_append (entry ∷ front) back some = refl
 
   pub some_entries : (tree : Shape T) → top tree ≢ EMPTY_REF → 0 < length (entries tree)
   some_entries leaf apart = absurd (apart refl)
   some_entries (fork shade before own item after) apart = let sum = length-append (entries before) ((own, item) ∷ entries after) in omega arith
-
-  pub last_handle-to_right : (tree : Shape T) (handle : ℕ) → AreHandles tree → IsHandle tree handle → top (right_at handle tree) ≢ EMPTY_REF
-      → last_handle (entries (right_at handle tree)) ≡ last_handle (entries (subtree_at handle tree))
-  last_handle-to_right tree handle handles live apart =
-      let cut = cut_at tree handle live in
-      let P : Shape T → Type 0 = λ subtree. top (right_subtree subtree) ≢ EMPTY_REF → last_handle (entries (right_subtree subtree)) ≡ last_handle (entries subtree) in
-      let at_cut : P (fork cut.colour cut.before handle cut.item cut.after) = λ some.
-      sym (last_handle-append (entries cut.before) (handle, cut.item) (entries cut.after) ∙ last_handle-of_append ((handle, cut.item) ∷ []) (entries cut.after) (some_entries cut.after some)) in
-      subst P (sym (subtree_at-of_cut tree handle handles cut)) at_cut apart
-
-  pub last_handle-here : (tree : Shape T) (handle : ℕ) → AreHandles tree → IsHandle tree handle → right_at handle tree ≡ leaf
-      → last_handle (entries (subtree_at handle tree)) ≡ handle
-  last_handle-here tree handle handles live none =
-      let cut = cut_at tree handle live in
-      let P : Shape T → Type 0 = λ subtree. right_subtree subtree ≡ leaf → last_handle (entries subtree) ≡ handle in
-      let at_cut : P (fork cut.colour cut.before handle cut.item cut.after) = λ empty.
-      last_handle-append (entries cut.before) (handle, cut.item) (entries cut.after) ∙ ap (λ after. last_handle ((handle, cut.item) ∷ entries after)) empty in
-      subst P (sym (subtree_at-of_cut tree handle handles cut)) at_cut none
-
-  pub fewer-to_right : (tree : Shape T) (handle : ℕ) → AreHandles tree → IsHandle tree handle
-      → length (entries (right_at handle tree)) < length (entries (subtree_at handle tree))
-  fewer-to_right tree handle handles live =
-      let cut = cut_at tree handle live in
-      let P : Shape T → Type 0 = λ subtree. length (entries (right_subtree subtree)) < length (entries subtree) in
-      let at_cut : P (fork cut.colour cut.before handle cut.item cut.after) = let sum = length-append (entries cut.before) ((handle, cut.item) ∷ entries cut.after) in omega arith in
-      subst P (sym (subtree_at-of_cut tree handle handles cut)) at_cut
 
   -- no subtree is at `EMPTY_REF`
   pub subtree_at-empty : (tree : Shape T) → AreHandles tree → subtree_at EMPTY_REF tree ≡ leaf
@@ -164,14 +143,3 @@ module _ {T : Type 0} where
       let outer = length-append (before_hole around) (entries subtree ++ after_hole around) in
       let inner = length-append (entries subtree) (after_hole around) in
       omega arith
-
-  -- where a left subtree isn't empty, the list before the handle ends with it
-  pub last_handle-to_left : (tree : Shape T) (handle : ℕ) → AreHandles tree → IsHandle tree handle → top (left_at handle tree) ≢ EMPTY_REF
-      → (front : List (ℕ × T)) (item : T) (back : List (ℕ × T)) → entries tree ≡ front ++ (handle, item) ∷ back
-      → last_handle (entries (left_at handle tree)) ≡ last_handle front
-  last_handle-to_left tree handle handles live apart front item back is =
-      let cut = cut_at tree handle live in
-      let left_is : left_at handle tree ≡ cut.before = ap left_subtree (subtree_at-of_cut tree handle handles cut) in
-      let some : 0 < length (entries cut.before) = some_entries cut.before (λ empty. apart (ap top left_is ∙ empty)) in
-      ap (λ subtree. last_handle (entries subtree)) left_is
-      ∙ sym (ap last_handle (list_cut tree handle handles cut front item back is).0 ∙ last_handle-of_append (before_hole cut.around) (entries cut.before) some)

@@ -1,7 +1,7 @@
-use Rattle.i_tree.proofs.RootLemmas.RisingKeys.{Above-at_count}
+use Rattle.i_tree.proofs.RootLemmas.RisingKeys.{Above-from_along, IsMonotoneAlong-rising}
 use Rattle.i_tree.proofs.key.sorted.value_above.Goals as goal
 
 pub returns : goal.returns
 returns g c order answers monotone =
-    Above-at_count g.met.K.Ord.total c.args.pairs.now order c.count_at_most.result c.args.default c.next_value.result c.requires.rising
-    (c.count_at_most.ensures.splits order answers monotone) c.next_value.ensures.none c.next_value.ensures.next
+    Above-from_along g.met.K.Ord.total c.args.pairs.now order c.args.default c.value_above.result c.requires.rising
+    (c.value_above.ensures order answers (IsMonotoneAlong-rising g.K.Ord.cmp c.args.pairs.now order c.requires.rising monotone))

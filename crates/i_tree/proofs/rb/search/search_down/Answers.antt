@@ -1,7 +1,9 @@
-use Rattle.std.proofs.Common.{refl, sym, ap, ◌∙◌, arith}
+use Rattle.std.proofs.Common.{ℕ, refl, sym, ap, ◌∙◌, arith}
 use Rattle.std.specs.Fn.{FnReturnsAt}
 use Rattle.std.proofs.lemmas.Fn.{says_at}
 use Rattle.std.specs.declared.cmp.Ordering.{Ordering}
+use Rattle.std.specs.declared.cmp.Ordering.TheVariants.{Greater}
+use Rattle.i_tree.specs.Root.Ends.{StartsIn}
 use Rattle.i_tree.proofs.RbLemmas.Shape.Contexts.{subtree_at-none}
 use Rattle.i_tree.proofs.RbLemmas.SearchPath.Descent.{IsChosen, IsTop, cut_here, falls_left, falls_on, path_top, path_end}
 use Rattle.i_tree.proofs.RbLemmas.SearchPath.Search.{takes_item, search_on}
@@ -48,8 +50,8 @@ loop-here-preserved g c =
     let chosen : IsChosen c.is_le-on_right.result c.right-right.result c.left-left.result c.select-here.result = (c.select-here.ensures.first, c.select-here.ensures.other) in
     let lower = falls_on tree here item c.item.ensures.value c.item.ensures.core.falls c.left-left.result c.right-right.result on_left on_right c.is_le-on_right.result c.select-here.result chosen in
     record {
-      way = search_on (λ (value : g.row.T.Denot) (answer : Ordering). FnReturnsAt g.F.Fn c.args.f.now value answer) tree here c.loop-here-test.true item c.item.ensures.value c.left-left.result c.right-right.result on_left on_right
-          (place_below c.loop-here.above c.loop-here.on_right) c.loop-here.found c.loop-here.said c.loop-here.invariant.way c.f-answer.result (says_at g.F.Fn c.f-answer.ensures refl) c.is_le-on_right.result c.is_le-on_right.ensures
+      way = search_on (λ (value : g.row.T.Denot) (answer : Ordering). FnReturnsAt g.F.Fn c.args.f.now value answer) (StartsIn (λ (entry : ℕ × g.row.T.Denot). FnReturnsAt g.F.Fn c.args.f.now entry.1 Greater)) (StartsIn (λ (entry : ℕ × g.row.T.Denot). FnReturnsAt g.F.Fn c.args.f.now entry.1 Greater)) tree here c.loop-here-test.true item c.item.ensures.value c.left-left.result c.right-right.result on_left on_right
+          (place_below c.loop-here.above c.loop-here.on_right) c.loop-here.found c.loop-here.said c.loop-here.invariant.way c.f-answer.result (says_at g.F.Fn c.f-answer.ensures refl) c.is_le-on_right.result c.is_le-on_right.ensures (λ _ back holds. holds) (λ _ above back. above)
           c.select-found.result c.select-said.result c.select-here.result (c.select-found.ensures.first, c.select-found.ensures.other) (c.select-said.ensures.first, c.select-said.ensures.other) chosen;
       counted = compared_more g.met.C.Counter.law _ c.loop-here.steps c.add_comparison.new.self _ _ _ c.loop-here.invariant.counted lower c.add_comparison.ensures;
     }
@@ -63,8 +65,8 @@ returns-then-right-clause-end g c =
     let left = c.left-left.result in
     let on_left : IsTop tree (left_at here tree) left = record { live = c.left-left.ensures.live; is = c.left-left.ensures.part } in
     let on_right : IsTop tree (right_at here tree) c.right-right.result = record { live = c.right-right.ensures.live; is = c.right-right.ensures.part } in
-    let way = search_on (λ (value : g.row.T.Denot) (answer : Ordering). FnReturnsAt g.F.Fn c.args.f.now value answer) tree here c.loop-here-test.true item c.item.ensures.value left c.right-right.result on_left on_right
-    (place_below c.loop-here.above c.loop-here.on_right) c.loop-here.found c.loop-here.said c.loop-here.invariant.way c.f-answer.result (says_at g.F.Fn c.f-answer.ensures refl) c.is_le-on_right.result c.is_le-on_right.ensures
+    let way = search_on (λ (value : g.row.T.Denot) (answer : Ordering). FnReturnsAt g.F.Fn c.args.f.now value answer) (StartsIn (λ (entry : ℕ × g.row.T.Denot). FnReturnsAt g.F.Fn c.args.f.now entry.1 Greater)) (StartsIn (λ (entry : ℕ × g.row.T.Denot). FnReturnsAt g.F.Fn c.args.f.now entry.1 Greater)) tree here c.loop-here-test.true item c.item.ensures.value left c.right-right.result on_left on_right
+    (place_below c.loop-here.above c.loop-here.on_right) c.loop-here.found c.loop-here.said c.loop-here.invariant.way c.f-answer.result (says_at g.F.Fn c.f-answer.ensures refl) c.is_le-on_right.result c.is_le-on_right.ensures (λ _ back holds. holds) (λ _ above back. above)
     c.select-found.result c.select-said.result left (c.select-found.ensures.first, c.select-found.ensures.other) (c.select-said.ensures.first, c.select-said.ensures.other) (λ _. c.if-left.true ∙ sym c.if-right.true, λ _. refl) in
     path_end _ _ _ tree left _ (c.select-found.result, c.select-said.result) (c.left-left.ensures.part ∙ c.left-left.ensures.empty c.if-left.true) way
 

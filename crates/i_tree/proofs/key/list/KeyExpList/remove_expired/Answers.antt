@@ -1,54 +1,10 @@
-use Rattle.std.proofs.Common.{◌≡◌, ◌+◌, ◌-◌, sym, subst, ap, ◌∙◌, length, vec_capacity, vec_len, arith, rules}
 use Rattle.std.specs.declared.cmp.Ordering.TheVariants.{Less}
-use Rattle.std.proofs.lemmas.List.Kept.{AllPairs-filter}
-use Rattle.i_tree.specs.Root.Change.{Without}
-use Rattle.i_tree.specs.Key.Live.{live_pairs, IsExpired, NoneExpiresBefore}
-use Rattle.i_tree.specs.Root.Live.{is_live}
-use Rattle.i_tree.specs.Root.Pairs.{IsRising}
-use Rattle.i_tree.proofs.RootLemmas.Lists.{length-filter_le, Without-filter}
-use Rattle.i_tree.proofs.KeyLemmas.Times.{ge_from_cmp, live_pairs-early}
+use Rattle.std.proofs.Common.{◌≡◌, subst}
+use Rattle.i_tree.proofs.RootLemmas.Withouts.{AllPairs-without}
 use Rattle.i_tree.proofs.key.list.KeyExpList.remove_expired.Goals as goal
 
-all_live : (g : _) (c : goal.Then-ge g) → live_pairs g.K.ExpiredKey.expiration g.E.Ord.cmp c.args.time c.args.self.now.pairs ≡ c.args.self.now.pairs
-all_live g c =
-    let early = sym (ge_from_cmp g.E.PartialOrd.partial_cmp g.E.Ord.cmp g.met.E.Ord.matches_partial_cmp c.self.inside.earliest c.args.time) ∙ sym c.ge.ensures ∙ c.if-ge.true in
-    rw (← c.self.view_is) (live_pairs-early g.met.E.Ord.total g.K.ExpiredKey.expiration c.self.inside.earliest c.args.time c.self.inside.pairs.items early c.self.invariant.1)
-
-pub returns-then-ge-clause-leaves : goal.returns-then-ge-clause-leaves
-returns-then-ge-clause-leaves g c = record { keeps_live = sym (all_live g c); room = search rules }
-
-pub returns-then-ge-clause-kept : goal.returns-then-ge-clause-kept
-returns-then-ge-clause-kept g c =
-    subst (Without (IsExpired g.K.ExpiredKey.expiration g.E.Ord.cmp c.args.time) c.args.self.now.pairs) (all_live g c)
-    (Without-filter (λ pair. is_live g.K.ExpiredKey.expiration g.E.Ord.cmp c.args.time pair.0) c.args.self.now.pairs)
-
-pub returns-then-ge-clause-rising : goal.returns-then-ge-clause-rising
-returns-then-ge-clause-rising g c = rw (← c.self.view_is) c.self.invariant.0
-
-kept_rising : (g : _) (c : goal.After-self-1 g) → IsRising g.K.Ord.cmp c.keep_live.new.pairs.items
-kept_rising g c =
-    rw c.keep_live.ensures.live
-    (AllPairs-filter (λ earlier later. g.K.Ord.cmp earlier.0 later.0 ≡ Less) (λ pair. is_live g.K.ExpiredKey.expiration g.E.Ord.cmp c.args.time pair.0) c.self.inside.pairs.items c.self.invariant.0)
-
 pub invariant_of-self : goal.invariant_of-self
-invariant_of-self g c =
-    (kept_rising g c, subst (NoneExpiresBefore g.K.ExpiredKey.expiration g.E.Ord.cmp c.earliest_expiration-self-inside.result) c.deref.ensures.value c.earliest_expiration-self-inside.ensures)
+invariant_of-self g c = AllPairs-without (λ (earlier : g.row.K.Denot × g.row.V.Denot) later. g.K.Ord.cmp earlier.0 later.0 ≡ Less) c.remove_expired.ensures.kept c.self.invariant
 
 pub returns-clause-rising : goal.returns-clause-rising
-returns-clause-rising g c = kept_rising g c
-
--- the pairs that went left their room
-room : (g : _) (c : goal.After-self-1 g) → length c.keep_live.new.pairs.items + (vec_capacity c.keep_live.new.pairs - vec_len c.keep_live.new.pairs) ≡ length c.args.self.now.pairs + c.args.self.now.spare
-room g c =
-    let shorter = length-filter_le (λ pair. is_live g.K.ExpiredKey.expiration g.E.Ord.cmp c.args.time pair.0) c.self.inside.pairs.items in
-    rw (← c.self.view_is)
-    (omega (arith, shorter, ap length c.keep_live.ensures.live, c.keep_live.ensures.capacity, c.self.inside.pairs.ok.0, c.self.inside.pairs.ok.1, c.keep_live.new.pairs.ok.0, c.keep_live.new.pairs.ok.1))
-
-pub returns-clause-leaves : goal.returns-clause-leaves
-returns-clause-leaves g c =
-    record { keeps_live = rw (← c.self.view_is) c.keep_live.ensures.live; room = room g c }
-
-pub returns-clause-kept : goal.returns-clause-kept
-returns-clause-kept g c =
-    rw (c.keep_live.ensures.live, ← c.self.view_is)
-    (Without-filter (λ pair. is_live g.K.ExpiredKey.expiration g.E.Ord.cmp c.args.time pair.0) c.self.inside.pairs.items)
+returns-clause-rising g c = AllPairs-without (λ (earlier : g.row.K.Denot × g.row.V.Denot) later. g.K.Ord.cmp earlier.0 later.0 ≡ Less) c.remove_expired.ensures.kept c.self.invariant

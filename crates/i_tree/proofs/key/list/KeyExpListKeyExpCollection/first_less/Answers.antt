@@ -6,10 +6,10 @@ use Rattle.i_tree.proofs.key.list.KeyExpListKeyExpCollection.first_less.Goals as
 -- what is searched is what is live
 pub returns-clause-value : goal.returns-clause-value
 returns-clause-value g c =
-    subst (λ pairs. Below g.K.Ord.cmp pairs c.args.key c.args.default c.value_below.result) (c.deref.ensures.value ∙ ap (λ list. list.pairs) c.self.view_is ∙ c.remove_expired.ensures.leaves.keeps_live) c.value_below.ensures
+    subst (λ pairs. Below g.K.Ord.cmp pairs c.args.key c.args.default c.value_below.result) (c.pairs.ensures ∙ ap (λ list. list.pairs) c.self.view_is ∙ c.remove_expired.ensures.leaves.keeps_live) c.value_below.ensures
 
 pub value_below-requires : goal.value_below-requires
-value_below-requires g c = subst (IsRising g.K.Ord.cmp) (sym c.deref.ensures.value) c.self.invariant.0
+value_below-requires g c = subst (IsRising g.K.Ord.cmp) (sym c.pairs.ensures) c.self.invariant
 
 pub returns-clause-kept : goal.returns-clause-kept
 returns-clause-kept g c = c.remove_expired.ensures.kept

@@ -8,15 +8,15 @@ use Rattle.i_tree.proofs.key.list.KeyExpListKeyExpCollection.first_less_or_equal
 pub returns-clause-value : goal.returns-clause-value
 returns-clause-value g c order =
     subst (λ pairs. AnswersBy (goal.F-post g c.args.f) order pairs → IsMonotone g.K.Ord.cmp order pairs → AtMost g.K.Ord.cmp pairs order c.args.default c.value_at_most.result)
-    (c.deref.ensures.value ∙ ap (λ list. list.pairs) c.self.view_is ∙ c.remove_expired.ensures.leaves.keeps_live)
+    (c.pairs.ensures ∙ ap (λ list. list.pairs) c.self.view_is ∙ c.remove_expired.ensures.leaves.keeps_live)
     (c.value_at_most.ensures order)
 
 pub value_at_most-requires-clause-rising : goal.value_at_most-requires-clause-rising
-value_at_most-requires-clause-rising g c = subst (IsRising g.K.Ord.cmp) (sym c.deref.ensures.value) c.self.invariant.0
+value_at_most-requires-clause-rising g c = subst (IsRising g.K.Ord.cmp) (sym c.pairs.ensures) c.self.invariant
 
 pub value_at_most-requires-clause-callable : goal.value_at_most-requires-clause-callable
 value_at_most-requires-clause-callable g c =
-    subst (All (λ (pair : g.row.K.Denot × g.row.V.Denot). goal.F-pre g c.args.f pair.0)) (sym (c.deref.ensures.value ∙ ap (λ list. list.pairs) c.self.view_is ∙ c.remove_expired.ensures.leaves.keeps_live)) c.requires
+    subst (All (λ (pair : g.row.K.Denot × g.row.V.Denot). goal.F-pre g c.args.f pair.0)) (sym (c.pairs.ensures ∙ ap (λ list. list.pairs) c.self.view_is ∙ c.remove_expired.ensures.leaves.keeps_live)) c.requires
 
 pub returns-clause-kept : goal.returns-clause-kept
 returns-clause-kept g c = c.remove_expired.ensures.kept

@@ -8,8 +8,8 @@ use Rattle.i_tree.proofs.RbLemmas.SearchPath.Counts.{searches_at, searches_past}
 use Rattle.i_tree.proofs.RbLemmas.SearchPath.Search.{keys_around, found_equal, equal_from, not_equal_from}
 use Rattle.i_tree.proofs.KeyLemmas.Lookup.{absent_between, below_of_items, cases_equal, missing_between, not_both, stored_equal}
 use Rattle.i_tree.specs.Root.Descent.{SearchesFor}
-use Rattle.i_tree.specs.Key.KeyExpTree.{items}
-use Rattle.i_tree.specs.Key.Live.{live_pairs}
+use Rattle.i_tree.specs.Expiring.Tree.{items}
+use Rattle.i_tree.specs.Expiring.Live.{live_pairs}
 use Rattle.i_tree.specs.Root.Live.{is_live}
 use Rattle.i_tree.specs.Root.Pairs.{HasKey, NoKey, IsRising}
 use Rattle.i_tree.specs.Rb.RbTree.{Contents}

@@ -1,6 +1,7 @@
 use Rattle.i_tree.proofs.RbLemmas.Slots.Clear.{IsChildless-here}
-use Rattle.i_tree.proofs.RbLemmas.Shape.Subtrees.{IsTopOf-left, IsTopOf-right, IsTopOf-none, fewer-to_right}
-use Rattle.i_tree.proofs.RbLemmas.Removal.First.{fewer-to_left}
+use Rattle.i_tree.proofs.RbLemmas.Shape.Ends.{fewer-further}
+use Rattle.i_tree.proofs.RbLemmas.Shape.Subtrees.{IsTopOf-left, IsTopOf-right, IsTopOf-none}
+use Rattle.i_tree.specs.declared.rb.links.Side.TheVariants.{Left, Right}
 use Rattle.i_tree.proofs.rb.arena.Arena.some_child.Goals as goal
 
 pub returns-then-left-clause-live : goal.returns-then-left-clause-live
@@ -11,7 +12,7 @@ pub returns-then-left-clause-fewer : goal.returns-then-left-clause-fewer
 returns-then-left-clause-fewer g c some =
     let tree = c.args.self.now.shape in
     let below = IsTopOf-left tree c.args.node c.child-left.result c.requires.handles c.requires.live c.child-left.ensures in
-    rw below.at (fewer-to_left tree c.args.node c.requires.handles c.requires.live)
+    rw below.at (fewer-further Left tree c.args.node c.requires.handles c.requires.live)
 
 pub returns-clause-none : goal.returns-clause-none
 returns-clause-none g c none =
@@ -30,4 +31,4 @@ pub returns-clause-fewer : goal.returns-clause-fewer
 returns-clause-fewer g c some =
     let tree = c.args.self.now.shape in
     let below = IsTopOf-right tree c.args.node c.child.result c.requires.handles c.requires.live c.child.ensures in
-    rw below.at (fewer-to_right tree c.args.node c.requires.handles c.requires.live)
+    rw below.at (fewer-further Right tree c.args.node c.requires.handles c.requires.live)

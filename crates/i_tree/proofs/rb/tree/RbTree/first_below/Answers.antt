@@ -1,7 +1,9 @@
 use Rattle.std.proofs.Common.{ap, sym, ◌∙◌}
 use Rattle.i_tree.specs.Rb.Shape.{subtree_at}
 use Rattle.i_tree.proofs.RbLemmas.Shape.Subtrees.{subtree_at-empty}
-use Rattle.i_tree.proofs.RbLemmas.Removal.First.{StartsWith-self, StartsWith-left, IsFirst-here, fewer-to_left}
+use Rattle.i_tree.proofs.RbLemmas.Removal.First.{StartsWith-self, StartsWith-left, IsFirst-here}
+use Rattle.i_tree.proofs.RbLemmas.Shape.Ends.{fewer-further}
+use Rattle.i_tree.specs.declared.rb.links.Side.TheVariants.{Left}
 use Rattle.i_tree.proofs.rb.tree.RbTree.first_below.Goals as goal
 
 pub loop-subtree-init : goal.loop-subtree-init
@@ -17,7 +19,7 @@ returns-then-left g c =
 pub loop-subtree-smaller : goal.loop-subtree-smaller
 loop-subtree-smaller g c =
     let tree = c.args.self.now.shape in
-    let fewer = fewer-to_left tree c.loop-subtree.first c.left-left.ensures.core.handles c.loop-subtree.invariant.live in
+    let fewer = fewer-further Left tree c.loop-subtree.first c.left-left.ensures.core.handles c.loop-subtree.invariant.live in
     rw c.left-left.ensures.part fewer
 
 pub loop-subtree-preserved : goal.loop-subtree-preserved

@@ -2,7 +2,7 @@ use Rattle.std.proofs.Common.{◌≡◌, ◌+◌, ◌++◌, ◌∷◌, ℕ, List
 use Rattle.i_tree.proofs.RbLemmas.SearchPath.Entries.{values-LosesAt}
 use Rattle.i_tree.proofs.SetLemmas.Handles.{AreApart-from_handles}
 use Rattle.i_tree.proofs.SetLemmas.Live.{IsOrdered-loses, length-loses}
-use Rattle.i_tree.proofs.RbLemmas.Shape.SubtreeHandles.{live-HasHandle}
+use Rattle.i_tree.proofs.SetLemmas.LiveHandles.{live-HasHandle}
 use Rattle.i_tree.specs.Rb.RbTree.{Contents, slots}
 use Rattle.i_tree.specs.Rb.Removal.{LosesAt}
 use Rattle.i_tree.specs.Rb.Shape.{entries}

@@ -1,6 +1,7 @@
 use Rattle.std.proofs.Common.{◌≡◌, subst}
 use Rattle.std.specs.Bool.{MatchBool}
-use Rattle.i_tree.proofs.RbLemmas.Shape.SubtreeHandles.{HasHandle-live, LacksHandle-absent, MatchBool-weaker}
+use Rattle.i_tree.proofs.RbLemmas.Shape.SubtreeHandles.{MatchBool-weaker}
+use Rattle.i_tree.proofs.SetLemmas.LiveHandles.{HasHandle-live, LacksHandle-absent}
 use Rattle.i_tree.proofs.SetLemmas.Handles.{AreApart-from_handles}
 use Rattle.i_tree.specs.Rb.RbTree.{Contents}
 use Rattle.i_tree.specs.Set.Pairs.{HasHandle, LacksHandle}

@@ -1,5 +1,5 @@
 use Rattle.std.proofs.Common.{ap, sym, ◌∙◌, subst}
-use Rattle.i_tree.proofs.RbLemmas.Shape.SubtreeHandles.{live-HasHandle}
+use Rattle.i_tree.proofs.SetLemmas.LiveHandles.{live-HasHandle}
 use Rattle.i_tree.proofs.SetLemmas.Handles.{AreApart-from_handles}
 use Rattle.i_tree.proofs.SetLemmas.Live.{HasHandle-before}
 use Rattle.i_tree.specs.Rb.RbTree.{Contents}

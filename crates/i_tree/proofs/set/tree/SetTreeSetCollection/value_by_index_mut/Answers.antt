@@ -1,5 +1,6 @@
 use Rattle.std.proofs.Common.{refl, ap, sym, ◌∙◌, subst}
-use Rattle.i_tree.proofs.RbLemmas.Shape.SubtreeHandles.{value_at, live-HasHandle}
+use Rattle.i_tree.proofs.RbLemmas.Shape.SubtreeHandles.{value_at}
+use Rattle.i_tree.proofs.SetLemmas.LiveHandles.{live-HasHandle}
 use Rattle.i_tree.proofs.SetLemmas.Handles.{AreApart-from_handles}
 use Rattle.i_tree.specs.Rb.RbTree.{Contents, contents_with_item}
 use Rattle.i_tree.specs.Rb.Shape.{entries, IsHandle}

@@ -1,0 +1,100 @@
+-- A pair that joins a tree at the place that a descent has come to.
+use Rattle.std.proofs.Common.{◌≡◌, ◌≢◌, ℕ, ◌+◌, ◌-◌, ◌<◌, ◌≤◌, zero, suc, Bool, true, false, if◌then◌else◌, Result, Ok, Err, List, [], ◌∷◌, ◌++◌, length, refl, sym, ap, ◌∙◌, subst, inl, inr, arith, append_assoc, length-append}
+use Rattle.std.proofs.Math.Seq.{take-append_seam, drop-append_seam}
+use Rattle.std.specs.Cmp.{IsTotalOrder}
+use Rattle.std.specs.Bool.{MatchBool}
+use Rattle.std.specs.Result.{IfOk, OnErr, OnOk}
+use Rattle.std.specs.List.{All, filter, insert}
+use Rattle.std.specs.Ordering.{is_lt, ordering_reverse}
+use Rattle.std.specs.declared.cmp.Ordering.{Ordering}
+use Rattle.std.specs.declared.cmp.Ordering.TheVariants.{Less, Equal, Greater}
+use Rattle.std.proofs.lemmas.Bool.{false≢true}
+use Rattle.std.proofs.lemmas.List.{length-map}
+use Rattle.std.proofs.lemmas.List.Elements.{All-append, All-filter, All-weaker}
+use Rattle.i_tree.proofs.ExpiringLemmas.List.{none_spare}
+use Rattle.i_tree.proofs.RbLemmas.SearchPath.Entries.{StartsIn-with, values-append}
+use Rattle.i_tree.proofs.RbLemmas.SearchPath.Search.{less_left}
+use Rattle.i_tree.proofs.RootLemmas.Joined.{All-behind, All-front, All-from_end, All-from_start, AllPairs-behind, AllPairs-front, AllPairs-joined, Any-behind, Any-here}
+use Rattle.i_tree.proofs.RootLemmas.Lists.{All-from_filter, Contains-filter}
+use Rattle.i_tree.proofs.RootLemmas.Orders.{above}
+use Rattle.i_tree.proofs.RootLemmas.Withouts.{AllPairs-without, filter-without}
+use Rattle.i_tree.specs.Root.Change.{Gains, Without}
+use Rattle.i_tree.specs.Root.Descent.{Descends}
+use Rattle.i_tree.specs.Root.Ends.{EndsIn, FirstFinds, LastFinds, StartsIn}
+use Rattle.i_tree.specs.Expiring.Descent.{DescendsBetween, FindsAbove, MayCall}
+use Rattle.i_tree.specs.Expiring.Insertion.{CallsEqual, HasPlace, IsBetween, JoinsBetween}
+use Rattle.i_tree.specs.Expiring.Tree.{items, slots_for}
+use Rattle.i_tree.specs.Root.Pairs.{HasKey, IsRising, NoKey}
+use Rattle.i_tree.specs.Rb.RbTree.{Contents, slots, slots_grown, slots_with_room}
+use Rattle.i_tree.specs.Rb.SearchPath.{FindsNotAbove}
+use Rattle.i_tree.specs.Rb.Shape.{Shape, entries}
+use Rattle.i_tree.specs.Root.Steps.{Counts}
+use Rattle.i_tree.specs.Set.Pairs.{values}
+use Rattle.i_tree.specs.declared.TheConstants.{EMPTY_REF}
+use Rattle.i_tree.specs.declared.rb.place.Place.{Place}
+
+-- what a descent has come to
+module _ {K V : Type 0} (is_live : K → Bool) (May : K → Ordering → Type 0) (tree : Shape (K × V)) (place : Place) (last : ℕ) (said : Ordering) (next : ℕ)
+    (end : DescendsBetween is_live May tree place last said next) where
+  pub items_cut : items tree ≡ values end.front ++ values end.back
+  items_cut = ap values end.between.cut ∙ values-append end.front end.back
+
+  -- the key that was called Equal
+  pub calls_equal : said ≡ Equal → CallsEqual is_live May (items tree)
+  calls_equal equal = by_last end.before
+    where
+      by_last : LastFinds (FindsNotAbove (MayCall is_live May)) (EMPTY_REF, Greater) end.front (last, said) → CallsEqual is_live May (items tree)
+      by_last (inl (none, is)) = let greater : said ≡ Greater = ap (λ (at : ℕ × Ordering). at.1) is in absurd (cc (greater, equal))
+      by_last (inr (rest, entry, cut, (is, may, passes))) =
+          let Called : K × V → Type 0 = λ pair. MayCall is_live May pair Equal in
+          let whole = end.between.cut ∙ ap (λ list. list ++ end.back) cut ∙ append_assoc rest (entry ∷ []) end.back in
+          rw (ap values whole ∙ values-append rest (entry ∷ end.back))
+          (Any-behind Called (values rest) (entry.1 ∷ values end.back) (Any-here Called entry.1 (values end.back) (subst (MayCall is_live May entry.1) equal may)))
+
+  -- where none was called Equal
+  pub place_between : said ≢ Equal → IsBetween is_live May (values end.front) (values end.back)
+  place_between differs = record { last = by_last end.before; first = by_first end.back end.after }
+    where
+      by_last : LastFinds (FindsNotAbove (MayCall is_live May)) (EMPTY_REF, Greater) end.front (last, said) → EndsIn (λ pair. MayCall is_live May pair Less) (values end.front)
+      by_last (inl (none, is)) = inl (ap values none)
+      by_last (inr (rest, entry, cut, (is, may, passes))) =
+          inr (values rest, entry.1, ap values cut ∙ values-append rest (entry ∷ []), subst (MayCall is_live May entry.1) (less_left said passes differs) may)
+
+      by_first : (back : List (ℕ × (K × V))) → FirstFinds (FindsAbove is_live May) EMPTY_REF back next → StartsIn (λ pair. MayCall is_live May pair Greater) (values back)
+      by_first [] is = tt
+      by_first (entry ∷ rest) (called, is) = called
+
+-- a pair that joins between two lists
+pub one_more : {X : Type 0} (before after front : List X) (x : X) (back : List X) → before ≡ front ++ back → after ≡ front ++ x ∷ back → length after ≡ length before + 1
+one_more before after front x back is joined = omega (arith, ap length joined, ap length is, length-append front (x ∷ back), length-append front back)
+
+-- how many slots there are after a pair has joined
+pub slots_joined : {T : Type 0} (first mid last : Contents T) → slots mid ≡ slots first → slots last ≡ slots_with_room mid → length (entries last.shape) ≡ length (entries mid.shape) + 1 → slots last ≡ slots_for first (length (items last.shape))
+slots_joined first mid last same grown more =
+    let left : mid.spare ≡ slots first - length (items last.shape) = omega (arith, same, more, length-map (entries last.shape) (λ (entry : ℕ × _). entry.1)) in
+    grown ∙ ap (slots_grown mid.spare) same ∙ ap (λ spare. slots_grown spare (slots first)) left
+
+-- a descent after which no slot is free has removed nothing
+pub none_removed : {S T : Type 0} {Made : S → S → Counts → Type 0} (first mid : Contents T) (old new : S) → slots mid ≡ slots first → (0 < mid.spare → false ≡ true) → Descends Made old new (length (entries first.shape)) (length (entries mid.shape)) 0
+    → (mid.spare ≡ 0) × (length (entries mid.shape) ≡ length (entries first.shape))
+none_removed first mid old new same spare way =
+    let none : mid.spare ≡ 0 = none_spare mid.spare spare in
+    (none, omega (arith, none, same, way.stores))
+
+-- there is no less room where there are as many slots as before, or so many as a pair that joined asked for
+module _ {T : Type 0} (old new : Contents T) where
+  abbrev room_in : Contents T → ℕ
+  room_in contents = length (items contents.shape) + contents.spare
+
+  in_slots : (contents : Contents T) → slots contents ≡ room_in contents + 1
+  in_slots contents = omega (arith, length-map (entries contents.shape) (λ (entry : ℕ × T). entry.1))
+
+  pub room_same : slots new ≡ slots old → room_in old ≤ room_in new
+  room_same same = omega (arith, same, in_slots old, in_slots new)
+
+  pub room_grown : slots new ≡ slots_for old (length (items new.shape)) → room_in old ≤ room_in new
+  room_grown grown = by_left (slots old - length (items new.shape)) refl grown
+    where
+      by_left : (left : ℕ) → slots old - length (items new.shape) ≡ left → slots new ≡ slots_grown left (slots old) → room_in old ≤ room_in new
+      by_left zero is more = omega (arith, is, more, in_slots old, in_slots new)
+      by_left (suc n) is more = omega (arith, more, in_slots old, in_slots new)

@@ -1,0 +1,77 @@
+-- Facts on times and on what is live at them.
+use Rattle.std.proofs.Common.{◌≡◌, ℕ, ◌+◌, ◌<◌, true, false, not, Option, Some, List, length, get_or, take, refl, ap, ◌∙◌, subst}
+use Rattle.std.specs.Cmp.{IsTotalOrder, upto, tied_itself}
+use Rattle.std.specs.Ordering.{is_ge, is_gt, is_lt, is_some_and, ord_min, partial_ge}
+use Rattle.std.specs.declared.cmp.Ordering.{Ordering}
+use Rattle.std.specs.declared.cmp.Ordering.TheVariants.{Less, Equal, Greater}
+use Rattle.std.specs.List.{insert}
+use Rattle.std.proofs.lemmas.Bool.{cond_both, both_ways}
+use Rattle.std.proofs.lemmas.List.Elements.{All-more, All-weaker}
+use Rattle.i_tree.specs.Expiring.Live.{live_pairs, NoneExpiresBefore}
+use Rattle.i_tree.specs.Root.Live.{is_live}
+use Rattle.i_tree.proofs.RootLemmas.Lists.{All-insert, filter_all}
+use Rattle.i_tree.proofs.RootLemmas.Orders.{gt-reversed, ge-reversed, at_or_after-reversed, not_after-reversed}
+
+-- what `>=` answers, by `cmp`
+pub ge_from_cmp : {E : Type 0} (partial-cmp : E → E → Option Ordering) (cmp : E → E → Ordering) → ((x y : E) → partial-cmp x y ≡ Some (cmp x y)) → (x y : E) → partial_ge partial-cmp x y ≡ is_ge (cmp x y)
+ge_from_cmp partial-cmp cmp same x y = ap (is_some_and is_ge) (same x y)
+
+module _ {E : Type 0} {cmp : E → E → Ordering} (o : IsTotalOrder cmp) where
+  -- the lesser of two times is after nothing that the first is not after
+  pub not_after-min : (a b x : E) → is_gt (cmp a x) ≡ false → is_gt (cmp (ord_min cmp a b) x) ≡ false
+  not_after-min a b x h =
+      cond_both (is_lt (cmp b a)) b a (λ m. is_gt (cmp m x) ≡ false)
+      (λ below. upto o b a x (not_gt (cmp b a) below) h)
+      (λ _. h)
+    where
+      not_gt : (r : Ordering) → is_lt r ≡ true → is_gt r ≡ false
+      not_gt Less h = refl
+      not_gt Equal h = refl
+      not_gt Greater h = absurd (both_ways false refl h)
+
+  -- nor is it after the second
+  pub not_after-min_second : (a b : E) → is_gt (cmp (ord_min cmp a b) b) ≡ false
+  not_after-min_second a b =
+      cond_both (is_lt (cmp b a)) b a (λ m. is_gt (cmp m b) ≡ false)
+      (λ _. ap is_gt (tied_itself o b))
+      (λ level. gt-reversed o a b ∙ level)
+
+  -- times in descending order
+  ge-trans : (a b c : E) → is_ge (cmp a b) ≡ true → is_ge (cmp b c) ≡ true → is_ge (cmp a c) ≡ true
+  ge-trans a b c ab bc = not_after-reversed o a c (upto o c b a (at_or_after-reversed o b c bc) (at_or_after-reversed o a b ab))
+
+  -- what is live at a time was live before
+  pub is_live-before : {K : Type 0} (expiration : K → E) (time later : E) (key : K) → is_ge (cmp later time) ≡ true → is_live expiration cmp later key ≡ true → is_live expiration cmp time key ≡ true
+  is_live-before expiration time later key after live = ge-trans (expiration key) later time live after
+
+  module _ {K V : Type 0} (expiration : K → E) where
+    -- none expires before a bound, and so none before the lesser of it and another time
+    NoneExpiresBefore-min : (bound other : E) (pairs : List (K × V)) → NoneExpiresBefore expiration cmp bound pairs → NoneExpiresBefore expiration cmp (ord_min cmp bound other) pairs
+    NoneExpiresBefore-min bound other pairs =
+        All-weaker (λ pair. is_gt (cmp bound (expiration pair.0)) ≡ false) (λ pair. is_gt (cmp (ord_min cmp bound other) (expiration pair.0)) ≡ false)
+        (λ pair. not_after-min bound other (expiration pair.0))
+        pairs
+
+    -- a loop's step, which takes the lesser of the bound and the next expiration
+    pub NoneExpiresBefore-more : (bound : E) (pairs : List (K × V)) (i : ℕ) (pair : K × V) → i < length pairs → pair ≡ get_or pairs i pair → NoneExpiresBefore expiration cmp bound (take i pairs) → NoneExpiresBefore expiration cmp (ord_min cmp bound (expiration pair.0)) (take (i + 1) pairs)
+    NoneExpiresBefore-more bound pairs i pair within is h =
+        let least = ord_min cmp bound (expiration pair.0) in
+        let NotBefore : K × V → Type 0 = λ other. is_gt (cmp least (expiration other.0)) ≡ false in
+        All-more NotBefore pairs i pair within
+        (NoneExpiresBefore-min bound (expiration pair.0) (take i pairs) h)
+        (subst NotBefore is (not_after-min_second bound (expiration pair.0)))
+
+    -- a pair joins, and the bound becomes the lesser of it and the pair's expiration
+    pub NoneExpiresBefore-insert : (bound : E) (pairs : List (K × V)) (place : ℕ) (pair : K × V) → NoneExpiresBefore expiration cmp bound pairs → NoneExpiresBefore expiration cmp (ord_min cmp bound (expiration pair.0)) (insert pairs place pair)
+    NoneExpiresBefore-insert bound pairs place pair h =
+        All-insert (λ other. is_gt (cmp (ord_min cmp bound (expiration pair.0)) (expiration other.0)) ≡ false) pairs place pair
+        (NoneExpiresBefore-min bound (expiration pair.0) pairs h)
+        (not_after-min_second bound (expiration pair.0))
+
+    -- up to a time before which nothing expires all are live
+    pub live_pairs-early : (bound time : E) (pairs : List (K × V)) → is_ge (cmp bound time) ≡ true → NoneExpiresBefore expiration cmp bound pairs → live_pairs expiration cmp time pairs ≡ pairs
+    live_pairs-early bound time pairs early h =
+        filter_all (λ pair. is_live expiration cmp time pair.0) pairs
+        (All-weaker (λ pair. is_gt (cmp bound (expiration pair.0)) ≡ false) (λ pair. is_live expiration cmp time pair.0 ≡ true)
+        (λ pair not_after. is_live-before expiration time bound pair.0 early (ge-reversed o (expiration pair.0) bound ∙ ap not not_after))
+        pairs h)

@@ -1,0 +1,89 @@
+use Rattle.std.proofs.Common.{◌≡◌, Bool, true, false, not, Result, Ok, Err, refl, sym, ap, ◌∙◌}
+use Rattle.std.specs.Ordering.{is_gt, is_lt}
+use Rattle.i_tree.proofs.KeyLemmas.Insertion.{gains_or_loses, is_new, new_or_present, refused_new, rising_after}
+use Rattle.i_tree.proofs.RootLemmas.Results.{IfOk-both, OnErr-weaker}
+use Rattle.std.specs.declared.cmp.Ordering.{Ordering}
+use Rattle.i_tree.proofs.ExpiringLemmas.SearchPath.{not_gt-lt, path_live}
+use Rattle.i_tree.specs.Expiring.Insertion.{InsertsOrLeaves}
+use Rattle.i_tree.specs.Expiring.Tree.{items, TreeLeaves}
+use Rattle.i_tree.specs.Key.KeyExpTree.{KeyTreeInserts}
+use Rattle.i_tree.specs.Root.Live.{is_live}
+use Rattle.i_tree.specs.Root.Pairs.{IsRising}
+use Rattle.i_tree.specs.declared.Refusal.{Refusal}
+use Rattle.i_tree.proofs.key.tree.KeyExpTree.insert_new_counted.Goals as goal
+
+pub returns-clause-cases : goal.returns-clause-cases
+returns-clause-cases g c =
+    rw (← c.self.view_is)
+    (IfOk-both c.insert_by.result c.insert_by.ensures.joins c.insert_by.ensures.equal
+    (λ joined joins equal. new_or_present g.met.K.Ord.total c.args.key (is_live g.K.ExpiredKey.expiration g.E.Ord.cmp c.args.time) c.args.val (items c.self.inside.core.shape) (items c.insert_by.new.core.shape) c.self.invariant joined joins equal))
+
+pub returns-clause-ok : goal.returns-clause-ok
+returns-clause-ok g c =
+    rw (← c.self.view_is)
+    (IfOk-both c.insert_by.result c.insert_by.ensures.joins c.insert_by.ensures.equal
+    (λ joined joins equal. gains_or_loses g.met.K.Ord.total c.args.key (is_live g.K.ExpiredKey.expiration g.E.Ord.cmp c.args.time) c.args.val (items c.self.inside.core.shape) (items c.insert_by.new.core.shape) c.self.invariant joined joins))
+
+pub returns-clause-err : goal.returns-clause-err
+returns-clause-err g c = OnErr-weaker c.insert_by.result c.insert_by.ensures.err (λ same. same ∙ c.self.view_is)
+
+pub returns-clause-err_new : goal.returns-clause-err_new
+returns-clause-err_new g c =
+    rw (← c.self.view_is)
+    (OnErr-weaker c.insert_by.result c.insert_by.ensures.err_place
+    (refused_new g.met.K.Ord.total c.args.key (is_live g.K.ExpiredKey.expiration g.E.Ord.cmp c.args.time) (items c.self.inside.core.shape) c.self.invariant))
+
+rising : (g : _) (c : goal.After-insert_by g) (result : Result Bool Refusal) → c.insert_by.result ≡ result → IsRising g.K.Ord.cmp (items c.insert_by.new.core.shape)
+rising g c (Ok joined) is =
+    rising_after g.met.K.Ord.total c.args.key (is_live g.K.ExpiredKey.expiration g.E.Ord.cmp c.args.time) c.args.val (items c.self.inside.core.shape) (items c.insert_by.new.core.shape) c.self.invariant joined
+    (rw is at c.insert_by.ensures.joins)
+rising g c (Err cause) is =
+    let same : c.insert_by.new.core ≡ c.self.inside.core = rw is at c.insert_by.ensures.err in
+    rw same c.self.invariant
+
+pub returns-clause-rising : goal.returns-clause-rising
+returns-clause-rising g c = rising g c c.insert_by.result refl
+
+pub invariant_of-self : goal.invariant_of-self
+invariant_of-self g c = rising g c c.insert_by.result refl
+
+-- a key passes where it isn't greater, which is where it is lower, but for one that compares Equal
+adds : (g : _) (c : goal.After-insert_by g) (result : Result Bool Refusal) → c.insert_by.result ≡ result
+    → InsertsOrLeaves (λ done. KeyTreeInserts g.K.ExpiredKey.expiration g.K.Ord.cmp g.E.Ord.cmp c.args.key c.args.time c.self.inside.core done c.insert_by.new.core) (TreeLeaves c.self.inside.core c.insert_by.new.core) result
+adds g c (Ok true) is =
+    let lives = is_live g.K.ExpiredKey.expiration g.E.Ord.cmp c.args.time in
+    let old = c.self.inside.core in
+    let absent = is_new g.met.K.Ord.total c.args.key lives (items old.shape) c.self.invariant c.args.val (items c.insert_by.new.core.shape) (rw is at c.insert_by.ensures.joins) in
+    record {
+      core = c.insert_by.ensures.core;
+      err = tt;
+      with_spare = λ _. refl;
+      err_way = tt;
+      full = λ none full all.
+          let refused : true ≡ false = rw is at (c.insert_by.ensures.full none full (λ other. not (is_gt (g.K.Ord.cmp other c.args.key))) (λ other answer says. ap (λ (r : Ordering). not (is_gt r)) says)
+          (path_live g.K.Ord.cmp c.args.key lives (λ other. is_lt (g.K.Ord.cmp other c.args.key)) (λ other. not (is_gt (g.K.Ord.cmp other c.args.key))) (λ other differs. sym (not_gt-lt _ differs)) old.shape absent all)) in
+          sym refused;
+      no_handle = λ _. tt;
+      refused = λ _. tt;
+      slots = rw is at c.insert_by.ensures.slots;
+    }
+adds g c (Ok false) is = record { core = c.insert_by.ensures.core; slots = rw is at c.insert_by.ensures.slots }
+adds g c (Err cause) is =
+    let lives = is_live g.K.ExpiredKey.expiration g.E.Ord.cmp c.args.time in
+    let old = c.self.inside.core in
+    let absent = refused_new g.met.K.Ord.total c.args.key lives (items old.shape) c.self.invariant (rw is at c.insert_by.ensures.err_place) in
+    record {
+      core = c.insert_by.ensures.core;
+      err = rw is at c.insert_by.ensures.err;
+      with_spare = rw is at c.insert_by.ensures.with_spare;
+      err_way =
+          path_live g.K.Ord.cmp c.args.key lives (λ other. not (is_gt (g.K.Ord.cmp other c.args.key))) (λ other. is_lt (g.K.Ord.cmp other c.args.key)) (λ other. not_gt-lt _) old.shape absent
+          ((rw is at c.insert_by.ensures.err_way) (λ other. not (is_gt (g.K.Ord.cmp other c.args.key))) (λ other answer says. ap (λ (r : Ordering). not (is_gt r)) says));
+      full = λ none full all. refl;
+      no_handle = rw is at c.insert_by.ensures.no_handle;
+      refused = rw is at c.insert_by.ensures.refused;
+      slots = tt;
+    }
+
+pub returns-clause-inserts : goal.returns-clause-inserts
+returns-clause-inserts g c = rw (← c.self.view_is) (adds g c c.insert_by.result refl)

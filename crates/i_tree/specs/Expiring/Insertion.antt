@@ -1,0 +1,37 @@
+-- What an insertion adds that may find its key there already, and where its pair stands.
+use Rattle.std.specs.Prelude.{◌≡◌, Bool, true, false, List, ◌∷◌, ◌++◌, Any, Result, Ok, Err, ⊤}
+use Rattle.std.specs.declared.cmp.Ordering.{Ordering}
+use Rattle.std.specs.declared.cmp.Ordering.TheVariants.{Less, Equal, Greater}
+use Rattle.i_tree.specs.Expiring.Descent.{MayCall}
+use Rattle.i_tree.specs.Root.Change.{Without}
+use Rattle.i_tree.specs.Root.Ends.{EndsIn, StartsIn}
+use Rattle.i_tree.specs.declared.Refusal.{Refusal}
+
+-- what an insertion adds where its pair joins or is refused, and what a query adds where the key is there already
+abbrev pub InsertsOrLeaves : (Result ⊤ Refusal → Type 0) → Type 0 → Result Bool Refusal → Type 0
+InsertsOrLeaves Inserts Leaves (Ok true) = Inserts (Ok tt)
+InsertsOrLeaves Inserts Leaves (Ok false) = Leaves
+InsertsOrLeaves Inserts Leaves (Err cause) = Inserts (Err cause)
+
+-- For the private contracts of `KeyExpTree`. `is_live` says which keys are live, and `MayAnswer` how a key may be called by what
+-- is sought.
+module _ {K V : Type 0} (is_live : K → Bool) (MayAnswer : K → Ordering → Type 0) where
+  -- some pair's key is live, and may be called Equal
+  abbrev pub CallsEqual : List (K × V) → Type 0
+  CallsEqual pairs = Any (λ pair. MayCall is_live MayAnswer pair Equal) pairs
+
+  -- a place between two lists: behind a live pair that was called Less and before a live one that was called Greater, if there
+  -- are such
+  pub record IsBetween (front back : List (K × V)) : Type 0 where
+    pub last : EndsIn (λ pair. MayCall is_live MayAnswer pair Less) front
+    pub first : StartsIn (λ pair. MayCall is_live MayAnswer pair Greater) back
+
+  -- the list has such a place
+  abbrev pub HasPlace : List (K × V) → Type 0
+  HasPlace pairs = (front : List (K × V)) × (back : List (K × V)) × (pairs ≡ front ++ back) × IsBetween front back
+
+  -- some pairs are gone that were not live, and the pair has joined the others at such a place
+  abbrev pub JoinsBetween : K × V → List (K × V) → List (K × V) → Type 0
+  JoinsBetween pair before after =
+      (front : List (K × V)) × (back : List (K × V)) × Without (λ other. is_live other.0 ≡ false) before (front ++ back)
+      × IsBetween front back × (after ≡ front ++ pair ∷ back)

@@ -1,0 +1,21 @@
+-- What a `StatusList` promises beyond the trait. `expiration` gives a key's expiration, and `cmp` compares expirations.
+use Rattle.std.specs.Prelude.{◌≡◌, ◌<◌, Bool, List, Any, Result, IsOk, IfErr, IfOk, OnErr, MatchBool}
+use Rattle.std.specs.declared.cmp.Ordering.{Ordering}
+use Rattle.i_tree.specs.Expiring.List.{Contents}
+use Rattle.i_tree.specs.Expiring.Live.{live_pairs, IsExpired}
+use Rattle.i_tree.specs.Root.Change.{Joins}
+use Rattle.i_tree.specs.declared.Refusal.{Refusal}
+use Rattle.i_tree.specs.declared.Refusal.TheVariants.{OutOfMemory}
+
+module _ {K V E : Type 0} (expiration : K → E) (cmp : E → E → Ordering) where
+  -- exactly the pairs that are live at the time are left, which an accepted pair has joined; a refusal changes nothing, and is
+  -- for want of memory alone, never while there is room, nor where an expired pair makes room
+  pub record StatusListInserts (pair : K × V) (time : E) (old : Contents K V) (result : Result Bool Refusal) (new : Contents K V)
+      : Type 0 where
+    pub keeps_live : IfOk result (λ is_new. MatchBool is_new
+        (Joins pair (live_pairs expiration cmp time old.pairs) new.pairs)
+        (new.pairs ≡ live_pairs expiration cmp time old.pairs))
+    pub err : OnErr result (new ≡ old)
+    pub refused : IfErr result (λ cause. cause ≡ OutOfMemory)
+    pub with_spare : 0 < old.spare → IsOk result
+    pub with_expired : Any (IsExpired expiration cmp time) old.pairs → IsOk result

@@ -1,0 +1,134 @@
+//! `StatusList`: the status of a sweep line, in a vector sorted along it.
+
+ghost use Rattle.std.specs.Prelude.{◌≡◌, ◌≤◌, ◌+◌, [], length, IsOk, OnOk, OnErr, IfOk, IfErr};
+
+use super::exp::StatusCollection;
+use crate::expiring::along::{neighbours, place_by, value_above, value_at_most};
+use crate::expiring::list::ExpiringList;
+use crate::expiring::live::ByVal;
+use crate::{Expiration, ExpiredVal, Refusal};
+use std::alloc::Allocator;
+use std::cmp::Ordering;
+use std::marker::Model;
+
+/// The status of a sweep line, in a vector sorted along it.
+///
+/// Contracts see the stored pairs in their order along the line, and `spare`, for how many more there is room. An insertion
+/// or a query first removes all that is expired at its time, as a `KeyExpList` does. It is our own, and not of the Rust
+/// crate.
+#[derive(Drop)]
+pub struct StatusList<K: ExpiredVal<E>, E: Expiration, V: Copy, A: Allocator + Copy> {
+    held: ExpiringList<ByVal, K, E, V, A>,
+}
+
+impl<K: ExpiredVal<E>, E: Expiration, V: Copy, A: Allocator + Copy> Model
+    for StatusList<K, E, V, A> {
+    ghost use Rattle.i_tree.specs.Expiring.List.{Contents};
+
+    ghost Value = { Contents K V };
+
+    ghost view = { λ list. list.held };
+}
+
+impl<K: ExpiredVal<E>, E: Expiration, V: Copy, A: Allocator + Copy> StatusList<K, E, V, A> {
+    /// An empty status with room for at least `capacity` pairs, refused where the allocator refuses that room.
+    pub fn new(alloc: A, capacity: usize) -> Result<Self, Refusal>
+        ensures empty { IfOk result (λ list. list.pairs ≡ []) }
+        ensures room { IfOk result (λ list. capacity ≤ list.spare) }
+        ensures refused { IfErr result (λ cause. cause ≡ Refusal.OutOfMemory) }
+        ensures takes_none { capacity ≡ 0 → IsOk result }
+    {
+        Ok(StatusList {
+            held: ExpiringList::new(alloc, capacity)?,
+        })
+    }
+
+    /// Makes room for `capacity` pairs in all, those that are stored among them. A refusal changes nothing.
+    pub fn reserve_capacity(&mut self, capacity: usize) -> Result<(), Refusal>
+        ensures pairs { self.new.pairs ≡ self.old.pairs }
+        ensures room { OnOk result (capacity ≤ length self.new.pairs + self.new.spare) }
+        ensures kept { self.old.spare ≤ self.new.spare }
+        ensures err { OnErr result (self.new ≡ self.old) }
+        ensures refused { IfErr result (λ cause. cause ≡ Refusal.OutOfMemory) }
+        ensures with_room { capacity ≤ length self.old.pairs + self.old.spare → IsOk result }
+    {
+        self.held.reserve_capacity(capacity)
+    }
+
+    /// How many pairs are stored, expired ones among them.
+    pub fn stored(&self) -> usize
+        ensures { result ≡ length self.now.pairs }
+    {
+        self.held.stored()
+    }
+
+    /// For how many more pairs there is room.
+    pub fn spare(&self) -> usize
+        ensures { result ≡ self.now.spare }
+    {
+        self.held.spare()
+    }
+}
+
+impl<K: ExpiredVal<E>, E: Expiration, V: Copy, A: Allocator + Copy> StatusCollection<K, E, V>
+    for StatusList<K, E, V, A> {
+    ghost use Rattle.i_tree.specs.Expiring.List.{ListLeaves, ListClears};
+    ghost use Rattle.i_tree.specs.Status.StatusList.{StatusListInserts};
+
+    ghost stored = { λ list. list.pairs };
+
+    ghost room = { λ list. length list.pairs + list.spare };
+
+    ghost inserts = { λ may_answer key val time old result new.
+        StatusListInserts K.expiration E.cmp (key, val) time old result new };
+
+    ghost leaves = { λ time old new. ListLeaves K.expiration E.cmp time old new };
+
+    ghost clears = { λ old new. ListClears old new };
+
+    /// Removes what is expired at `time`, and then stores the pair unless `f` calls a key that is left Equal.
+    ///
+    /// It is refused for want of memory alone: never while there is room, nor where an expired pair makes room. A refusal
+    /// changes nothing at all.
+    fn insert_by<F: Fn(K) -> Ordering>(
+        &mut self,
+        time: E,
+        f: F,
+        key: K,
+        val: V,
+    ) -> Result<bool, Refusal> {
+        self.held.remove_expired(time);
+        let Some(place) = place_by(self.held.pairs(), f) else {
+            return Ok(false);
+        };
+        self.held.put(place, key, val)?;
+        Ok(true)
+    }
+
+    /// Removes what is expired at `time`, and answers by `f`, which is asked about what is left alone.
+    fn first_less_or_equal_by<F: Fn(K) -> Ordering>(&mut self, time: E, default: V, f: F) -> V {
+        self.held.remove_expired(time);
+        value_at_most(self.held.pairs(), f, default)
+    }
+
+    /// Removes what is expired at `time`, and answers by `f`, which is asked about what is left alone.
+    fn first_greater_by<F: Fn(K) -> Ordering>(&mut self, time: E, default: V, f: F) -> V {
+        self.held.remove_expired(time);
+        value_above(self.held.pairs(), f, default)
+    }
+
+    /// Removes what is expired at `time`, and answers by `f`, which is asked about what is left alone.
+    fn neighbours_by<F: Fn(K) -> Ordering>(
+        &mut self,
+        time: E,
+        f: F,
+    ) -> (Option<(K, V)>, Option<(K, V)>) {
+        self.held.remove_expired(time);
+        neighbours(self.held.pairs(), f)
+    }
+
+    /// Removes every pair, and keeps the room.
+    fn clear(&mut self) {
+        self.held.clear();
+    }
+}
