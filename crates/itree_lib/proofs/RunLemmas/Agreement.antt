@@ -13,7 +13,7 @@ use Rattle.i_tree.proofs.RootLemmas.Orders.{gt-reversed}
 use Rattle.i_tree.proofs.RootLemmas.Lists.{AllPairs-head, AllPairs-tail, Contains-filter}
 use Rattle.i_tree.specs.declared.Refusal.TheVariants.{OutOfMemory, NoHandle}
 use Rattle.i_tree.specs.Root.Answer.{GreatestOr, Below, AtMost}
-use Rattle.i_tree.specs.Key.Live.{live_pairs}
+use Rattle.i_tree.specs.Expiring.Live.{live_pairs}
 use Rattle.i_tree.specs.Root.Live.{is_live}
 use Rattle.i_tree.specs.Root.Pairs.{HasKey, NoKey}
 use Rattle.itree_lib.specs.Run.Agreement.{IsRefused, NoneRefused, OneEqual, OneEqualEach}

@@ -3,8 +3,8 @@ use Rattle.std.proofs.Common.{◌≡◌, ◌≢◌, ◌⊎◌, ⊎_elim, inl, in
 use Rattle.std.proofs.Math.Nat.{mul-suc}
 use Rattle.std.proofs.lemmas.List.{length-map}
 use Rattle.std.proofs.lemmas.List.Elements.{All-head, All-tail}
-use Rattle.i_tree.specs.Root.Descent.{Descends, SearchesFor}
-use Rattle.i_tree.specs.Key.KeyExpTree.{items, slots_for}
+use Rattle.i_tree.specs.Root.Descent.{Descends}
+use Rattle.i_tree.specs.Expiring.Tree.{items, slots_for}
 use Rattle.i_tree.specs.Rb.RbTree.{Contents, slots, slots_grown}
 use Rattle.i_tree.specs.Rb.Shape.{entries}
 use Rattle.i_tree.specs.Root.Steps.{Counts, Adds, nothing, together}
@@ -45,39 +45,43 @@ module _ {K V : Type 0} where
         refused = λ cause is. absurd (cc (is));
       }
 
-  -- a look for the key, and the insertion
-  module _ {IsStored IsMissing : Type 0} (old mid new : Counts) (tree tree' : Contents (K × V)) (look : SearchesFor Adds old mid (length (items tree.shape)) IsStored IsMissing) where
-    adds_both : (made : Counts) → Adds mid new made → Adds old new (together look.made made)
-    adds_both made adds =
-        record {
-          comparisons = omega (arith, look.counted.comparisons, adds.comparisons);
-          tests = omega (arith, look.counted.tests, adds.tests);
-          removals = omega (arith, look.counted.removals, adds.removals);
-          rotations = omega (arith, look.counted.rotations, adds.rotations);
-        }
-
-    pub counts_inserted : Descends Adds mid new (length (items tree.shape)) (length (items tree'.shape)) 1 → slots tree' ≡ slots_for tree (length (items tree'.shape)) → CountsOne Inserted old tree new tree'
+  -- an insertion that finds the key new, or present, or is refused
+  module _ (old new : Counts) (tree tree' : Contents (K × V)) where
+    pub counts_inserted : Descends Adds old new (length (items tree.shape)) (length (items tree'.shape)) 1 → slots tree' ≡ slots_for tree (length (items tree'.shape)) → CountsOne Inserted old tree new tree'
     counts_inserted way grown =
         let of_items = length-map (entries tree'.shape) (λ (entry : ℕ × (K × V)). entry.1) in
         record {
-          made = together look.made way.made;
-          adds = adds_both way.made way.counted;
-          compares = λ levels small. let first = look.compares levels small in let second = way.compares levels small in omega (arith, first, second);
-          rotations = omega (arith, way.rotations, look.rotations, look.removals);
-          stores = λ _. omega (arith, way.stores, look.removals);
+          made = way.made;
+          adds = way.counted;
+          compares = way.compares;
+          rotations = omega (arith, way.rotations);
+          stores = λ _. omega (arith, way.stores);
           clears = λ is. absurd (cc (is));
           slots_stay = let no_fewer = slots_no_fewer (slots tree - length (items tree'.shape)) (slots tree) (length (items tree'.shape)) tree'.spare refl (omega (arith, grown, of_items)) in omega (arith, no_fewer, of_items);
           refused = λ cause is. absurd (cc (is));
         }
 
-    pub counts_refused : (cause : Refusal) → Descends Adds mid new (length (items tree.shape)) (length (items tree'.shape)) 0 → tree' ≡ tree → (0 < tree.spare → ⊥) → CountsOne (Refused cause) old tree new tree'
+    pub counts_present : Descends Adds old new (length (items tree.shape)) (length (items tree'.shape)) 0 → slots tree' ≡ slots tree → CountsOne Present old tree new tree'
+    counts_present way same =
+        record {
+          made = way.made;
+          adds = way.counted;
+          compares = way.compares;
+          rotations = omega (arith, way.rotations);
+          stores = λ _. omega (arith, way.stores);
+          clears = λ is. absurd (cc (is));
+          slots_stay = omega (arith, same);
+          refused = λ cause is. absurd (cc (is));
+        }
+
+    pub counts_refused : (cause : Refusal) → Descends Adds old new (length (items tree.shape)) (length (items tree'.shape)) 0 → tree' ≡ tree → (0 < tree.spare → ⊥) → CountsOne (Refused cause) old tree new tree'
     counts_refused cause way same full =
         record {
-          made = together look.made way.made;
-          adds = adds_both way.made way.counted;
-          compares = λ levels small. let first = look.compares levels small in let second = way.compares levels small in omega (arith, first, second);
-          rotations = omega (arith, way.rotations, look.rotations, look.removals);
-          stores = λ _. omega (arith, way.stores, look.removals);
+          made = way.made;
+          adds = way.counted;
+          compares = way.compares;
+          rotations = omega (arith, way.rotations);
+          stores = λ _. omega (arith, way.stores);
           clears = λ is. absurd (cc (is));
           slots_stay = omega (arith, ap slots same);
           refused = λ _ _. by_spare tree.spare full;
@@ -145,5 +149,5 @@ module _ {K V : Type 0} where
           compares = λ levels small.
               let here = one.compares levels (omega (arith, small)) in
               let later = more.compares levels (omega (arith, small, no_more)) in
-              omega (arith, here, later, mul-suc (4 * levels) (length commands));
+              omega (arith, here, later, mul-suc (2 * levels) (length commands));
         }

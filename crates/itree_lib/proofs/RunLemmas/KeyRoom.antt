@@ -6,7 +6,7 @@ use Rattle.i_tree.specs.Root.Change.Without.{none, keeps, loses}
 use Rattle.itree_lib.specs.Run.KeyRoom.{one_if_inserted, RefusedOnlyWhereFull, KeepsRoom}
 use Rattle.itree_lib.specs.Run.Effects.{DoesAll}
 use Rattle.itree_lib.specs.declared.run.keys.KeyReply.{KeyReply}
-use Rattle.itree_lib.specs.declared.run.keys.KeyReply.TheVariants.{Inserted, Refused, Value}
+use Rattle.itree_lib.specs.declared.run.keys.KeyReply.TheVariants.{Inserted, Present, Refused, Value}
 
 module _ {X : Type 0} {MayGo : X → Type 0} where
   length-without : {before after : List X} → Without MayGo before after → length after ≤ length before
@@ -23,6 +23,11 @@ module _ {X V : Type 0} {MayGo : X → Type 0} (room room' : ℕ) (stored stored
   keeps_inserted x gains =
       let longer = length-gains x stored stored' gains in
       record { no_less = more; stores = omega (arith, longer); refused = λ cause is. absurd (cc (is)) }
+
+  pub keeps_present : Without MayGo stored stored' → KeepsRoom {V = V} Present room (length stored) room' (length stored')
+  keeps_present without =
+      let fewer = length-without without in
+      record { no_less = more; stores = omega (arith, fewer); refused = λ cause is. absurd (cc (is)) }
 
   pub keeps_answered : (value : V) → Without MayGo stored stored' → KeepsRoom {V = V} (Value value) room (length stored) room' (length stored')
   keeps_answered value without =

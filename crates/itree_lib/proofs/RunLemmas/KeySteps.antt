@@ -7,7 +7,7 @@ use Rattle.std.proofs.lemmas.List.Sorted.{IsPermutation-refl}
 use Rattle.i_tree.specs.declared.Refusal.{Refusal}
 use Rattle.i_tree.specs.Root.Answer.{Below, AtMost}
 use Rattle.i_tree.specs.Root.Change.{Without, Gains}
-use Rattle.i_tree.specs.Key.Live.{live_pairs, IsExpired}
+use Rattle.i_tree.specs.Expiring.Live.{live_pairs, IsExpired}
 use Rattle.i_tree.specs.Root.Pairs.{HasKey, NoKey}
 use Rattle.i_tree.specs.Root.Late.{is_late}
 use Rattle.itree_lib.specs.Run.KeyMachine.{Serves, Inserts}
@@ -53,10 +53,10 @@ module _ {K E V P : Type 0} (expiration : K → E) {cmp_time : E → E → Order
         (accepted, (not_late, moved, refl), stands')
 
     module _ (key : K) (val : V) (stored' : List (K × V)) where
-      serves_present : HasKey cmp_key (live_pairs expiration cmp_time time stored) key → stored' ≡ stored → Serves expiration cmp_time cmp_key order stored last (Insert key val time) Present stored' (Some time)
-      serves_present has same accepted stands =
-          let (moved, stands') = answers (λ pairs. HasKey cmp_key pairs key) (λ xs ys into back. HasKey-members cmp_key xs ys into back key) stored has (Without-all stored) accepted stands in
-          (accepted, (not_late, moved, refl), subst (λ pairs. StandsFor expiration cmp_time pairs accepted (Some time)) (sym same) stands')
+      serves_present : HasKey cmp_key (live_pairs expiration cmp_time time stored) key → Without (IsExpired expiration cmp_time time) stored stored' → Serves expiration cmp_time cmp_key order stored last (Insert key val time) Present stored' (Some time)
+      serves_present has without accepted stands =
+          let (moved, stands') = answers (λ pairs. HasKey cmp_key pairs key) (λ xs ys into back. HasKey-members cmp_key xs ys into back key) stored' has without accepted stands in
+          (accepted, (not_late, moved, refl), stands')
 
       serves_refused : (cause : Refusal) → NoKey cmp_key (live_pairs expiration cmp_time time stored) key → stored' ≡ stored → Serves expiration cmp_time cmp_key order stored last (Insert key val time) (Refused cause) stored' (Some time)
       serves_refused cause free same accepted stands =
@@ -70,7 +70,7 @@ module _ {K E V P : Type 0} (expiration : K → E) {cmp_time : E → E → Order
 
       -- whatever an insertion replies
       pub serves_insert : (reply : KeyReply V) → Inserts expiration cmp_time cmp_key time key val stored reply stored' → Serves expiration cmp_time cmp_key order stored last (Insert key val time) reply stored' (Some time)
-      serves_insert Present (has, same) = serves_present has same
+      serves_insert Present (has, without) = serves_present has without
       serves_insert Inserted (free, gains) = serves_inserted free gains
       serves_insert (Refused cause) (free, same) = serves_refused cause free same
       serves_insert Late none = absurd none

@@ -8,7 +8,7 @@ use Rattle.std.specs.List.{All, Contains}
 use Rattle.std.proofs.lemmas.List.Elements.{All-contains_itself, All-weaker, All-same}
 use Rattle.i_tree.specs.Root.Answer.{IsMonotone}
 use Rattle.i_tree.specs.Root.Change.{Without}
-use Rattle.i_tree.specs.Key.Live.{live_pairs}
+use Rattle.i_tree.specs.Expiring.Live.{live_pairs}
 use Rattle.i_tree.specs.Root.Live.{is_live}
 use Rattle.i_tree.proofs.RootLemmas.Lists.{All-insert, Contains-filter, Contains-here, Contains-there}
 use Rattle.itree_lib.specs.Run.KeyMachine.{Inserts}
@@ -43,7 +43,7 @@ known_inserts {K = K} {V = V} expiration cmp_time cmp_key time key val stored st
     all_known = known_more (key, val) stored
 
     by_reply : (reply : KeyReply V) → Inserts expiration cmp_time cmp_key time key val stored reply stored' → All Known stored'
-    by_reply Present (has, same) = All-same Known stored' stored same all_known
+    by_reply Present (has, without) = All-within Known stored stored' (Without-within without) all_known
     by_reply (Refused cause) (free, same) = All-same Known stored' stored same all_known
     by_reply Inserted (free, (kept, without, (place, within, is))) =
         All-same Known stored' (insert kept place (key, val)) is

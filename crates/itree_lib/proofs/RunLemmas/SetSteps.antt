@@ -1,22 +1,20 @@
 -- Each reply that the runner of set commands gives is a step of the machine.
-use Rattle.std.proofs.Common.{◌≡◌, ◌≢◌, ◌⊎◌, ℕ, zero, suc, true, false, Option, Some, None as NoneOf, List, [], ◌∷◌, ◌++◌, map, inl, inr, ⊎_elim, refl, sym, ap, ◌∙◌, subst, arith, append_assoc}
+use Rattle.std.proofs.Common.{◌≡◌, ◌≢◌, ◌⊎◌, ℕ, zero, suc, List, [], ◌∷◌, ◌++◌, map, inl, inr, ⊎_elim, refl, sym, ap, ◌∙◌, subst, arith, append_assoc}
 use Rattle.std.specs.Cmp.{IsTotalOrder, alike_right}
-use Rattle.std.specs.Option.{MatchOption, is_some}
 use Rattle.std.specs.Ordering.{ordering_reverse}
 use Rattle.std.specs.declared.cmp.Ordering.{Ordering}
 use Rattle.std.specs.declared.cmp.Ordering.TheVariants.{Less, Equal, Greater}
 use Rattle.std.specs.List.{All, AllPairs, Contains}
-use Rattle.std.proofs.lemmas.Bool.{both_ways}
 use Rattle.std.proofs.lemmas.List.{map-append}
 use Rattle.std.proofs.lemmas.List.Elements.{All-contains, All-map, All-weaker}
 use Rattle.i_tree.specs.Root.Answer.{IsGreatest, GreatestOr}
 use Rattle.i_tree.specs.Root.Pairs.{HasKey, NoKey, IsRising}
-use Rattle.i_tree.specs.Set.Pairs.{AreApart, values, by_key, HasHandle, IsOrdered, LacksKey, IsFoundBy}
+use Rattle.i_tree.specs.Set.Pairs.{AreApart, values, by_key, HasHandle, HoldsKey, IsOrdered, LacksKey, IsFoundBy}
 use Rattle.i_tree.specs.Rb.Shape.{last_handle}
 use Rattle.i_tree.specs.declared.TheConstants.{EMPTY_REF}
 use Rattle.i_tree.proofs.RootLemmas.Lists.{Contains-here, Contains-there}
 use Rattle.i_tree.proofs.RootLemmas.Joined.{All-of_map, AllPairs-of_map, AllPairs-to_map, Contains-middle, last_cut}
-use Rattle.i_tree.proofs.SetLemmas.Live.{cut_at_item}
+use Rattle.i_tree.proofs.SetLemmas.Live.{Any-of_map, cut_at_item}
 use Rattle.i_tree.proofs.SetLemmas.Search.{last_handle-end}
 use Rattle.itree_lib.specs.Run.SetMachine.{keyed, Step}
 use Rattle.itree_lib.specs.declared.run.sets.SetCommand.TheVariants.{Delete, Find, Before}
@@ -91,16 +89,6 @@ less_else Less g e = refl
 less_else Equal g e = absurd (e refl)
 less_else Greater g e = absurd (g refl)
 
--- what a test by `is_some` says
-module _ {A : Type 0} (P : Type 0) (Q : A → Type 0) where
-  pub from_is_some : (answer : Option A) → MatchOption answer P Q → is_some answer ≡ true → (x : A) × Q x
-  from_is_some NoneOf h test = absurd (both_ways false refl test)
-  from_is_some (Some x) h test = (x, h)
-
-  pub from_is_none : (answer : Option A) → MatchOption answer P Q → is_some answer ≡ false → P
-  from_is_none NoneOf h test = h
-  from_is_none (Some x) h test = absurd (both_ways true test refl)
-
 module _ {K V : Type 0} (key_of : V → K) where
   module _ (P : K → Type 0) (pairs : List (ℕ × V)) (all : All (λ (pair : K × ℕ). P pair.0) (by_key key_of pairs)) where
     -- what holds of the key of each pair holds of that of each value
@@ -139,6 +127,11 @@ module _ {K V : Type 0} (key_of : V → K) where
     HasKey-values pairs handle value key there equal =
         let (k, within, is) = Contains-keyed pairs handle value there in
         (k, (key_of value, value), within, is, equal)
+
+    pub HasKey-held : (pairs : List (ℕ × V)) (key : K) → HoldsKey key_of cmp pairs key → HasKey cmp (keyed key_of (values pairs)) key
+    HasKey-held pairs key holds =
+        let (pair, there, equal) = Any-of_map (λ (pair : K × ℕ). cmp pair.0 key ≡ Equal) (λ (pair : ℕ × V). (key_of pair.1, pair.0)) pairs holds in
+        HasKey-values pairs pair.0 pair.1 key there equal
 
     -- the value at a handle goes
     module _ (old : List (ℕ × V)) (handle : ℕ) (value : V) (there : Contains old (handle, value)) (new : List (ℕ × V))

@@ -11,9 +11,9 @@ use Rattle.std.proofs.lemmas.List.Elements.{All-nil, All-cons, All-append, All-c
 use Rattle.std.proofs.lemmas.List.Sorted.{IsPermutation-refl, IsPermutation-sym, IsPermutation-trans, IsPermutation-cons, IsPermutation-middle, IsPermutation-append_left, IsPermutation-insert, Contains-permutation}
 use Rattle.i_tree.specs.Root.Change.{Without, Joins}
 use Rattle.i_tree.specs.Root.Change.Without.{none, keeps, loses}
-use Rattle.i_tree.specs.Key.Live.{live_pairs, IsExpired}
+use Rattle.i_tree.specs.Expiring.Live.{live_pairs, IsExpired}
 use Rattle.i_tree.specs.Root.Live.{is_live}
-use Rattle.i_tree.proofs.KeyLemmas.Times.{is_live-before}
+use Rattle.i_tree.proofs.ExpiringLemmas.Times.{is_live-before}
 use Rattle.i_tree.proofs.RootLemmas.Lists.{Contains-filter}
 use Rattle.i_tree.specs.Root.Late.{is_late}
 use Rattle.itree_lib.specs.Run.StandsFor.{StandsFor}

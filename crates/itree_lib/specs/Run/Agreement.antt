@@ -3,7 +3,7 @@ use Rattle.std.specs.Prelude.{◌≡◌, ⊤, false, List, [], ◌∷◌, All, A
 use Rattle.std.specs.declared.cmp.Ordering.{Ordering}
 use Rattle.std.specs.declared.cmp.Ordering.TheVariants as ordering
 use Rattle.i_tree.specs.declared.Refusal.{Refusal}
-use Rattle.i_tree.specs.Key.Live.{live_pairs}
+use Rattle.i_tree.specs.Expiring.Live.{live_pairs}
 use Rattle.i_tree.specs.Root.Late.{is_late}
 use Rattle.itree_lib.specs.Run.KeyMachine.{State, Step}
 use Rattle.itree_lib.specs.declared.run.keys.KeyCommand.{KeyCommand}

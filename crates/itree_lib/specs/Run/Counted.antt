@@ -1,6 +1,6 @@
 -- What a run of commands over a tree of expiring keys has counted, and what is stored then.
 use Rattle.std.specs.Prelude.{◌≡◌, ◌≢◌, ℕ, ◌+◌, ◌*◌, ◌^◌, ◌<◌, ◌≤◌, List, All, length}
-use Rattle.i_tree.specs.Key.KeyExpTree.{items}
+use Rattle.i_tree.specs.Expiring.Tree.{items}
 use Rattle.i_tree.specs.Rb.RbTree.{Contents, slots}
 use Rattle.i_tree.specs.Root.Steps.{Counts, Adds}
 use Rattle.i_tree.specs.declared.Refusal.{Refusal}
@@ -18,13 +18,13 @@ pub record CountsRun {K E V P : Type 0} (commands : List (KeyCommand K E V P)) (
   pub rotations : made.rotations + 3 * stored' ≤ 5 * accepted replies + 3 * stored
   pub removes : made.removals + stored' ≤ accepted replies + stored
   pub removes_all : All (λ command. command ≢ Clear) commands → made.removals + stored' ≡ accepted replies + stored
-  pub compares : (levels : ℕ) → stored + accepted replies + 1 < 2 ^ (levels + 1) → made.comparisons ≤ 4 * levels * length commands
+  pub compares : (levels : ℕ) → stored + accepted replies + 1 < 2 ^ (levels + 1) → made.comparisons ≤ 2 * levels * length commands
 
 -- What serving one command has counted, by its reply, and what it leaves. For the private contracts of the run.
 pub record CountsOne {K V : Type 0} (reply : KeyReply V) (old : Counts) (tree : Contents (K × V)) (new : Counts) (tree' : Contents (K × V)) : Type 0 where
   pub made : Counts
   pub adds : Adds old new made
-  pub compares : (levels : ℕ) → length (items tree.shape) + 1 < 2 ^ (levels + 1) → made.comparisons ≤ 4 * levels
+  pub compares : (levels : ℕ) → length (items tree.shape) + 1 < 2 ^ (levels + 1) → made.comparisons ≤ 2 * levels
   pub rotations : made.rotations ≤ 3 * made.removals + 2 * one_if_inserted reply
   pub stores : reply ≢ Cleared → length (items tree'.shape) + made.removals ≡ length (items tree.shape) + one_if_inserted reply
   pub clears : reply ≡ Cleared → (length (items tree'.shape) ≡ 0) × (made.removals ≡ 0)

@@ -2,9 +2,9 @@
 use Rattle.std.specs.Prelude.{◌≡◌, true, false, List, [], ◌∷◌, Option, Some, None}
 use Rattle.std.specs.declared.cmp.Ordering.{Ordering}
 use Rattle.i_tree.specs.Root.Answer.{Below, AtMost}
-use Rattle.i_tree.specs.Root.Change.{Gains}
+use Rattle.i_tree.specs.Root.Change.{Gains, Without}
 use Rattle.i_tree.specs.Root.Late.{is_late}
-use Rattle.i_tree.specs.Key.Live.{live_pairs, IsExpired}
+use Rattle.i_tree.specs.Expiring.Live.{live_pairs, IsExpired}
 use Rattle.i_tree.specs.Root.Pairs.{HasKey, NoKey}
 use Rattle.itree_lib.specs.Run.StandsFor.{StandsFor}
 use Rattle.itree_lib.specs.Run.Chain.{Chain}
@@ -91,7 +91,7 @@ module _ {K E V P : Type 0} (expiration : K → E) (cmp_time : E → E → Order
 -- What an insertion that is not late replies, and what is stored then.
 abbrev pub Inserts : {K E V : Type 0} → (K → E) → (E → E → Ordering) → (K → K → Ordering) → E → K → V → List (K × V) → KeyReply V → List (K × V) → Type 0
 Inserts expiration cmp_time cmp_key time key val stored Present stored' =
-    HasKey cmp_key (live_pairs expiration cmp_time time stored) key × (stored' ≡ stored)
+    HasKey cmp_key (live_pairs expiration cmp_time time stored) key × Without (IsExpired expiration cmp_time time) stored stored'
 Inserts expiration cmp_time cmp_key time key val stored Inserted stored' =
     NoKey cmp_key (live_pairs expiration cmp_time time stored) key × Gains (IsExpired expiration cmp_time time) (key, val) stored stored'
 Inserts expiration cmp_time cmp_key time key val stored (Refused cause) stored' =

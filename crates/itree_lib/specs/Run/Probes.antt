@@ -3,7 +3,7 @@
 use Rattle.std.specs.Prelude.{⊤, List, [], ◌∷◌, All}
 use Rattle.std.specs.declared.cmp.Ordering.{Ordering}
 use Rattle.i_tree.specs.Root.Answer.{AnswersBy, IsMonotone}
-use Rattle.i_tree.specs.Key.Live.{live_pairs}
+use Rattle.i_tree.specs.Expiring.Live.{live_pairs}
 use Rattle.itree_lib.specs.declared.run.keys.KeyCommand.{KeyCommand}
 use Rattle.itree_lib.specs.declared.run.keys.KeyCommand.TheVariants.{Insert, Less, LessOrEqualBy, Clear}
 

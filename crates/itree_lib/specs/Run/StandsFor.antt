@@ -1,7 +1,7 @@
 -- When the stored pairs stand for the accepted ones.
 use Rattle.std.specs.Prelude.{◌≡◌, List, [], ◌++◌, Option, All, MatchOption, IsPermutation}
 use Rattle.std.specs.declared.cmp.Ordering.{Ordering}
-use Rattle.i_tree.specs.Key.Live.{IsExpired}
+use Rattle.i_tree.specs.Expiring.Live.{IsExpired}
 
 module _ {K E V : Type 0} (expiration : K → E) (cmp_time : E → E → Ordering) where
   -- The accepted pairs are the stored ones and some that are gone, each once. Nothing that is gone is live at the last

@@ -2,7 +2,7 @@
 use Rattle.std.specs.Prelude.{ℤ, List, Option, Some}
 use Rattle.std.specs.Ordering.{int_cmp}
 use Rattle.std.specs.declared.cmp.Ordering.{Ordering}
-use Rattle.i_tree.specs.Key.Live.{live_pairs, IsExpired}
+use Rattle.i_tree.specs.Expiring.Live.{live_pairs, IsExpired}
 use Rattle.itree_lib.specs.declared.sweep.Level.{Level}
 use Rattle.itree_lib.specs.declared.sweep.Segment.{Segment}
 

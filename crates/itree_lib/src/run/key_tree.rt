@@ -2,7 +2,7 @@
 
 ghost use Rattle.std.specs.Prelude.{◌≡◌, ◌≤◌, ◌+◌, ◌++◌, List, length, vec_len, vec_capacity, IsOk, OnOk, OnErr, IfErr};
 ghost use Rattle.std.specs.declared.cmp.Ordering.{Ordering};
-ghost use Rattle.i_tree.specs.Key.KeyExpTree.{items};
+ghost use Rattle.i_tree.specs.Expiring.Tree.{items};
 ghost use Rattle.itree_lib.specs.Run.Counted.{CountsOne, CountsRun};
 ghost use Rattle.itree_lib.specs.Run.KeyMachine.{RunsOver};
 ghost use Rattle.itree_lib.specs.Run.KeyReplies.{RepliesTo};
@@ -32,11 +32,9 @@ impl<K: ExpiredKey<E>, E: Expiration, V: Copy, A: Allocator + Copy, L: Ledger> K
     ghost does_late = { λ steps tree. counts_late steps tree };
 
     fn insert(&mut self, c: &mut KeyExpTree<K, E, V, A>, key: K, val: V, time: E) -> KeyReply<V> {
-        if c.contains_key_counted(self, time, key) {
-            return KeyReply::Present;
-        }
-        match c.insert_counted(self, key, val, time) {
-            Ok(()) => KeyReply::Inserted,
+        match c.insert_new_counted(self, key, val, time) {
+            Ok(true) => KeyReply::Inserted,
+            Ok(false) => KeyReply::Present,
             Err(cause) => KeyReply::Refused(cause),
         }
     }
@@ -64,8 +62,8 @@ impl<K: ExpiredKey<E>, E: Expiration, V: Copy, A: Allocator + Copy, L: Ledger> K
 ///
 /// From an empty tree and new steps, over m commands of which `accepted` pairs came to be stored: `rotations` and three times
 /// what is stored at the end are at most five times `accepted`; `removals` and what is stored are at most `accepted`, and
-/// as many where no command is `Clear`; `comparisons` are at most 4k times m, k the greatest with `2^k <= accepted + 1`,
-/// the tests for `Present` among them. No insertion is refused before as many were accepted as slots were free at first.
+/// as many where no command is `Clear`; `comparisons` are at most 2k times m, k the greatest with `2^k <= accepted + 1`: each
+/// command goes down once. No insertion is refused before as many were accepted as slots were free at first.
 /// Where room for the replies is refused, the answer is `OutOfMemory`, and `steps`, `tree` and `out` are as they were. The
 /// runner is our own, and not of the Rust crate.
 pub fn run_key_tree_counted<K, E, V, P, A, L, G, B>(

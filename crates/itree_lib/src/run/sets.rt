@@ -116,11 +116,9 @@ where
     ensures in_order { IsOrdered V.key_of K.cmp (C.pairs c.new) }
     ensures room { KeepsRoom result (C.room c.old) (length (C.pairs c.old)) (C.room c.new) (length (C.pairs c.new)) }
 {
-    if handle_of(c, *val.key()).is_some() {
-        return SetReply::Present(val);
-    }
-    match c.insert(val) {
-        Ok(()) => SetReply::Inserted,
+    match c.insert_new(val) {
+        Ok(None) => SetReply::Inserted,
+        Ok(Some(given)) => SetReply::Present(given),
         Err(refused) => {
             let Refused { value, cause } = refused;
             SetReply::Refused(value, cause)

@@ -23,6 +23,7 @@ use std::fmt::{self, Display, Formatter};
 mod events;
 
 /// A horizontal segment at the height `y`, from `x0` to `x1`, both of which it covers. One with `x1 < x0` covers nothing.
+#[repr(C)]
 #[derive(Clone, Copy, Debug, PartialEq, Eq)]
 pub struct Segment {
     pub x0: i32,
@@ -31,6 +32,7 @@ pub struct Segment {
 }
 
 /// A point, for which the sweep answers.
+#[repr(C)]
 #[derive(Clone, Copy, Debug, PartialEq, Eq)]
 pub struct Point {
     pub x: i32,
@@ -112,7 +114,7 @@ impl Error for SweepFault {}
 /// the sweep, in every case. The memory is that of `out`.
 ///
 /// For s segments and p points it compares O((s + p) log (s + p)) times beside the calls of the store, which are at most
-/// two for each segment and one for each point. The sweep is our own, and not of the Rust crate; it is the textbook's sweep
+/// one for each segment and one for each point. The sweep is our own, and not of the Rust crate; it is the textbook's sweep
 /// line, whose status the store is.
 pub fn below<C, A>(
     store: &mut C,
@@ -204,10 +206,9 @@ fn begin<C: KeyExpCollection<Level, i32, Option<i32>>>(
         y: segment.y,
         last: segment.x1,
     };
-    if store.contains_key(segment.x0, level) {
+    if !store.insert_new(level, Some(segment.y), segment.x0)? {
         return Err(SweepFault::Overlap(place));
     }
-    store.insert(level, Some(segment.y), segment.x0)?;
     Ok(())
 }
 

@@ -4,7 +4,7 @@ ghost use Rattle.std.specs.Prelude.{◌≡◌, List, [], All, length};
 ghost use Rattle.std.specs.declared.cmp.Ordering.{Ordering};
 ghost use Rattle.i_tree.specs.Root.Answer.{Below, AtMostBy};
 ghost use Rattle.i_tree.specs.Root.Change.{Without};
-ghost use Rattle.i_tree.specs.Key.Live.{live_pairs, IsExpired};
+ghost use Rattle.i_tree.specs.Expiring.Live.{live_pairs, IsExpired};
 ghost use Rattle.itree_lib.specs.Run.KeyMachine.{Inserts};
 ghost use Rattle.itree_lib.specs.Run.KeyRoom.{KeepsRoom};
 ghost use Rattle.itree_lib.specs.declared.run.keys.KeyReply.{KeyReply};
@@ -67,11 +67,9 @@ impl<K: ExpiredKey<E>, E: Expiration, V: Copy, C: KeyExpCollection<K, E, V>> Key
     ghost does_late = { λ _ c. keeps_late (C.room c) (length (C.stored c)) };
 
     fn insert(&mut self, c: &mut C, key: K, val: V, time: E) -> KeyReply<V> {
-        if c.contains_key(time, key) {
-            return KeyReply::Present;
-        }
-        match c.insert(key, val, time) {
-            Ok(()) => KeyReply::Inserted,
+        match c.insert_new(key, val, time) {
+            Ok(true) => KeyReply::Inserted,
+            Ok(false) => KeyReply::Present,
             Err(cause) => KeyReply::Refused(cause),
         }
     }

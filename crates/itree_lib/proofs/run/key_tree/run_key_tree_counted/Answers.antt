@@ -1,7 +1,7 @@
 use Rattle.std.proofs.Common.{◌≡◌, ℕ, ◌+◌, ◌-◌, length, subst, arith}
 use Rattle.std.proofs.lemmas.Result.{on_ok_weaker}
 use Rattle.i_tree.specs.Rb.RbTree.{Contents}
-use Rattle.i_tree.specs.Key.KeyExpTree.{items}
+use Rattle.i_tree.specs.Expiring.Tree.{items}
 use Rattle.itree_lib.specs.Run.Counted.{CountsOne}
 use Rattle.itree_lib.specs.Run.KeyRoom.{RefusedOnlyWhereFull}
 use Rattle.itree_lib.proofs.RunLemmas.Counted.{counts_run, counted_room}

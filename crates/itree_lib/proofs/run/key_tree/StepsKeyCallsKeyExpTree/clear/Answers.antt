@@ -1,6 +1,6 @@
 use Rattle.std.proofs.Common.{length, ap}
 use Rattle.itree_lib.proofs.RunLemmas.Counted.{counts_clear}
-use Rattle.i_tree.specs.Key.KeyExpTree.{items}
+use Rattle.i_tree.specs.Expiring.Tree.{items}
 use Rattle.itree_lib.proofs.run.key_tree.StepsKeyCallsKeyExpTree.clear.Goals as goal
 
 pub returns-clause-does : goal.returns-clause-does
