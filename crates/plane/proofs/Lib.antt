@@ -1,0 +1,3 @@
+pub mod LocateLemmas
+pub mod MeetLemmas
+pub mod MeetingsLemmas

@@ -1,0 +1,6 @@
+-- Lemmas on edges that meet.
+pub mod Along
+pub mod Boxes
+pub mod Identities
+pub mod Shares
+pub mod Tests

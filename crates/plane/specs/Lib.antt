@@ -1,0 +1,2 @@
+pub mod Locate
+pub mod Meet

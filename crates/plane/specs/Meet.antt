@@ -1,0 +1,8 @@
+pub mod Boxes
+pub mod Crosses
+pub mod Edges
+pub mod Ends
+pub mod Meetings
+pub mod Parts
+pub mod Strips
+pub mod Sweep

@@ -1,0 +1,6 @@
+//! Edges along x, by their heights: which of them cross.
+
+pub use crossing::cross;
+
+mod crossing;
+mod heights;
