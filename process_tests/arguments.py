@@ -30,6 +30,7 @@ FAULTY = (
     ("one too many after settree", ["settree", "setlist"]),
     ("one too many after setlist", ["setlist", ""]),
     ("one too many after sweep", ["sweep", "extra"]),
+    ("one too many after cross", ["cross", "cross"]),
     ("seg alone", ["seg"]),
     ("seg and one number", ["seg", "0"]),
     ("seg and three numbers", ["seg", "0", "128", "256"]),

@@ -27,6 +27,7 @@ GROUPS = (
     "streams",
     "many",
     "sweeps",
+    "crosses",
 )
 
 # So many parts of modules run side by side.

@@ -14,6 +14,7 @@ import tempfile
 sys.dont_write_bytecode = True
 
 import arguments
+import crosses
 import documents
 import sweeps
 import text
@@ -23,7 +24,7 @@ from run import told
 
 # The parts whose cases are tried.
 PARTS = (
-    *(*documents.PARTS, *worked.PARTS, *arguments.PARTS, sweeps.worked),
+    *(*documents.PARTS, *worked.PARTS, *arguments.PARTS, sweeps.worked, crosses.worked),
     *(text.empty_texts, text.plain_lines, text.faulty_lines, text.numbers),
 )
 

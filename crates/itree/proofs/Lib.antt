@@ -1,7 +1,10 @@
 pub mod Answered
 pub mod Counting
+pub mod EdgeLines
 pub mod Faults
+pub mod Meetings
 pub mod SegmentLines
 pub mod Sorting
 pub mod Splitting
+pub mod Telling
 pub mod Words

@@ -1,13 +1,14 @@
 -- What the program answers to the commands of each kind.
-use Rattle.std.specs.Prelude.{◌≡◌, ⊤, ℕ, ℤ, List, Option, All}
+use Rattle.std.specs.Prelude.{◌≡◌, ⊤, ℕ, ℤ, List, Option, Some, All, length, slice_get}
 use Rattle.std.specs.List.{AllZip}
 use Rattle.std.specs.List.Sorted.{IsSorted}
 use Rattle.std.specs.Ordering.{int_cmp}
 use Rattle.std.specs.declared.cmp.Ordering.{Ordering}
 use Rattle.i_tree.specs.Seg.Buckets.{Buckets, IsLayout}
+use Rattle.itree.specs.CrossLines.{AreMetLines}
 use Rattle.itree.specs.KeyLines.{KeyLine}
 use Rattle.itree_lib.specs.Run.KeyMachine as keys
-use Rattle.itree.specs.Replies.{key_reply_words, seg_reply_words, set_reply_words, height_words, reply_lines}
+use Rattle.itree.specs.Replies.{key_reply_words, seg_reply_words, set_reply_words, height_words, met_words, reply_lines}
 use Rattle.itree.specs.SegLines.{SegLine}
 use Rattle.itree_lib.specs.Run.SegMachine as segments
 use Rattle.itree_lib.specs.Run.SegMachine.{Reply as seg_reply}
@@ -16,6 +17,7 @@ use Rattle.itree_lib.specs.Run.SetMachine as sets
 use Rattle.itree_lib.specs.Sweep.Heights.{IsHeightBelow, NoneCollide}
 use Rattle.itree.specs.SweepLines.{segments_of, points_of}
 use Rattle.itree.specs.declared.lines.sweep.SweepLine.{SweepLine}
+use Rattle.plane.specs.declared.edge.Edge.{Edge}
 use Rattle.itree_lib.specs.declared.run.keys.KeyReply.{KeyReply}
 use Rattle.itree_lib.specs.declared.run.sets.SetReply.{SetReply}
 use Rattle.itree.specs.declared.set_key.SetKey.{SetKey}
@@ -77,3 +79,11 @@ pub record AnswersSweep (said : List SweepLine) (output : List ℕ) : Type 0 whe
 -- the same over the buckets of the range between these ends
 abbrev pub AnswersRange : ℤ → ℤ → List SegLine → List ℕ → Type 0
 AnswersRange min max commands output = (buckets : Buckets) × IsLayout min max buckets × AnswersSegments buckets commands output
+
+-- each edge has one reply, which lists the lines of the earlier edges that it meets, and the output is the lines of these
+-- replies
+pub record AnswersCross (lines : List (List ℕ)) (edges : List Edge) (output : List ℕ) : Type 0 where
+  pub replies : List (List ℕ)
+  pub one_each : length replies ≡ length edges
+  pub met : (place : ℕ) (numbers : List ℕ) → slice_get replies place ≡ Some numbers → AreMetLines lines edges place numbers
+  pub written : output ≡ reply_lines met_words replies

@@ -1,4 +1,5 @@
 pub mod Answers
+pub mod CrossLines
 pub mod Grammar
 pub mod KeyLines
 pub mod Modes
@@ -8,4 +9,5 @@ pub mod SetLines
 pub mod Sorting
 pub mod SweepLines
 pub mod Texts
+pub mod Told
 pub mod Words

@@ -2,25 +2,27 @@
 use Rattle.std.specs.Prelude.{◌≡◌, ◌⊎◌, ⊤, ℕ, ℤ, List, [], ◌∷◌, map, codes}
 use Rattle.std.specs.Borrow.{Bor}
 use Rattle.i_tree.specs.Seg.Buckets.{HasLayout}
-use Rattle.itree.specs.Answers.{AnswersKeys, AnswersSet, AnswersRange, AnswersSweep}
+use Rattle.itree.specs.Answers.{AnswersKeys, AnswersSet, AnswersRange, AnswersSweep, AnswersCross}
+use Rattle.itree.specs.CrossLines.{SaysEdge}
 use Rattle.itree.specs.Grammar.{ReadsAll, Says}
 use Rattle.itree.specs.KeyLines.{KeyLine, SaysKeyCommand}
 use Rattle.itree.specs.SegLines.{SegLine, SaysSegCommand}
 use Rattle.itree.specs.SetLines.{SetLine, SaysSetCommand}
 use Rattle.itree.specs.SweepLines.{SaysSweepLine, IsOverlapLine}
 use Rattle.itree.specs.declared.lines.sweep.SweepLine.{SweepLine}
+use Rattle.plane.specs.declared.edge.Edge.{Edge}
 use Rattle.itree.specs.declared.mode.Mode.{Mode}
-use Rattle.itree.specs.declared.mode.Mode.TheVariants.{KeyTree, KeyList, SetTree, SetList, Segments, Sweep}
+use Rattle.itree.specs.declared.mode.Mode.TheVariants.{KeyTree, KeyList, SetTree, SetList, Segments, Sweep, Cross}
 
 -- A mode: the word that names it and the numbers behind the word, which are to fit; which words of a line say which command;
--- which output answers commands; and which line of a text tells a fault beside a faulty one.
+-- which output answers lines and the commands that they say; and which line of a text tells a fault beside a faulty one.
 pub record Row : Type 1 where
   pub word : List ℕ
   pub numbers : List ℤ
   pub Fits : Type 0
   pub Command : Type 0
   pub SaysCommand : List (List ℕ) → Command → Type 0
-  pub AnswersAll : List Command → List ℕ → Type 0
+  pub AnswersAll : List (List ℕ) → List Command → List ℕ → Type 0
   pub IsOverlap : List (List ℕ) → ℕ → Type 0
 
 -- keys that expire, from nothing on
@@ -31,7 +33,7 @@ keys_row word = record {
   Fits = ⊤;
   Command = KeyLine;
   SaysCommand = SaysKeyCommand;
-  AnswersAll = AnswersKeys [];
+  AnswersAll = λ lines. AnswersKeys [];
   IsOverlap = λ lines number. ⊥;
 }
 
@@ -43,7 +45,7 @@ set_row word = record {
   Fits = ⊤;
   Command = SetLine;
   SaysCommand = SaysSetCommand;
-  AnswersAll = AnswersSet [];
+  AnswersAll = λ lines. AnswersSet [];
   IsOverlap = λ lines number. ⊥;
 }
 
@@ -55,7 +57,7 @@ segments_row min max = record {
   Fits = HasLayout 31 min max;
   Command = SegLine;
   SaysCommand = SaysSegCommand;
-  AnswersAll = AnswersRange min max;
+  AnswersAll = λ lines. AnswersRange min max;
   IsOverlap = λ lines number. ⊥;
 }
 
@@ -67,8 +69,20 @@ sweep_row = record {
   Fits = ⊤;
   Command = SweepLine;
   SaysCommand = SaysSweepLine;
-  AnswersAll = AnswersSweep;
+  AnswersAll = λ lines. AnswersSweep;
   IsOverlap = IsOverlapLine;
+}
+
+-- edges of the plane, each beside the earlier ones
+abbrev pub cross_row : Row
+cross_row = record {
+  word = codes "cross";
+  numbers = [];
+  Fits = ⊤;
+  Command = Edge;
+  SaysCommand = SaysEdge;
+  AnswersAll = AnswersCross;
+  IsOverlap = λ lines number. ⊥;
 }
 
 -- the row of each mode
@@ -79,6 +93,7 @@ row_of SetTree = set_row (codes "settree")
 row_of SetList = set_row (codes "setlist")
 row_of (Segments min max) = segments_row min max
 row_of Sweep = sweep_row
+row_of Cross = cross_row
 
 -- the numbers of the mode fit: those of segments are the ends of a range that has a layout
 abbrev pub FitsItsNumbers : Mode → Type 0

@@ -1,6 +1,6 @@
 -- The text of replies.
 use Rattle.std.specs.Prelude.{ℕ, ℤ, List, [], ◌∷◌, ◌++◌, Option, Some, None, codes, flat_map}
-use Rattle.std.specs.Fmt.{signed_decimal}
+use Rattle.std.specs.Fmt.{decimal, signed_decimal}
 use Rattle.itree_lib.specs.Run.SegMachine.{Reply}
 use Rattle.itree_lib.specs.Run.SegMachine.{Reply as seg_reply}
 use Rattle.itree_lib.specs.declared.run.keys.KeyReply.{KeyReply}
@@ -46,6 +46,10 @@ seg_reply_words (seg_reply.Values values) = value_words values
 abbrev pub height_words : Option ℤ → List ℕ
 height_words (Some y) = codes "below " ++ signed_decimal y
 height_words None = codes "none"
+
+-- the words of the reply to an edge: the numbers of the lines that say the earlier edges which it meets
+abbrev pub met_words : List ℕ → List ℕ
+met_words numbers = codes "meets" ++ flat_map (λ number. codes " " ++ decimal number) numbers
 
 -- the lines of the replies, each of which ends with a line feed
 abbrev pub reply_lines : {Reply : Type 0} → (Reply → List ℕ) → List Reply → List ℕ

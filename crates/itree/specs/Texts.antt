@@ -8,7 +8,7 @@ use Rattle.itree.specs.declared.mode.Mode.{Mode}
 abbrev pub Answers : Mode → List ℕ → List ℕ → Type 0
 Answers mode text output =
     (commands : List (row_of mode).Command) × LinesSay (row_of mode).SaysCommand (lines_of text) commands
-    × (row_of mode).AnswersAll commands output
+    × (row_of mode).AnswersAll (lines_of text) commands output
 
 -- the line of this number is the first one that is faulty in the mode
 abbrev pub HasFirstFaulty : Mode → List ℕ → ℕ → Type 0

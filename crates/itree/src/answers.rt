@@ -15,6 +15,7 @@ use crate::mode::Mode;
 use crate::set_key::SetKey;
 use crate::timed_key::TimedKey;
 use crate::timed_val::TimedVal;
+use cross::answer_cross;
 use i_tree::key::exp::KeyExpCollection;
 use i_tree::key::list::KeyExpList;
 use i_tree::key::tree::KeyExpTree;
@@ -28,6 +29,7 @@ use std::alloc::Allocator;
 use std::cmp::Ordering;
 use sweep::answer_sweep;
 
+mod cross;
 mod sweep;
 
 /// The text of the replies to the commands of a text, from an empty collection of the mode on.
@@ -78,6 +80,10 @@ pub fn answer_text<A: Allocator + Copy>(
             let said = parse_commands(alloc, text)?;
             let mut tree = KeyExpTree::new(alloc, 0)?;
             answer_sweep(alloc, &mut tree, text, &said)
+        }
+        Mode::Cross => {
+            let edges = parse_commands(alloc, text)?;
+            answer_cross(alloc, text, &edges)
         }
     }
 }

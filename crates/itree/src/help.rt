@@ -36,6 +36,10 @@ itree sweep: for each point the greatest height, at most its own, of the segment
   segment X0 X1 Y
   point X Y                            below HEIGHT | none
 
+itree cross: for each edge between two points of the plane the lines of the earlier edges that share
+a point with it, rising. An edge has both its ends, and may be a point.
+  edge X0 Y0 X1 Y1                     meets LINE ..
+
 itree help, itree --help, itree -h: this text
 
 Numbers are whole, from -2147483648 to 2147483647. A line without words counts, and has no reply.

@@ -22,6 +22,8 @@ pub enum Mode {
     Segments { min: i32, max: i32 },
     /// A sweep over horizontal segments.
     Sweep,
+    /// Edges of the plane, and which of them meet.
+    Cross,
 }
 
 impl Mode {
@@ -38,6 +40,7 @@ impl Mode {
             ["setlist"] => Some(Mode::SetList),
             ["seg", min, max] => segments(min, max),
             ["sweep"] => Some(Mode::Sweep),
+            ["cross"] => Some(Mode::Cross),
             _ => None,
         }
     }

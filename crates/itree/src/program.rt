@@ -16,16 +16,16 @@ use std::io::{Read, Write};
 #[cfg(test)]
 mod tests;
 
-/// Runs the program: reads all of `input`, and writes one reply line for each command to `output`. In a sweep each point has
-/// one, and a segment has none. Where the words ask for help it reads nothing, and writes `HELP`.
+/// Runs the program: reads all of `input`, and writes one reply line for each command or edge to `output`. In a sweep each
+/// point has one, and a segment has none. Where the words ask for help it reads nothing, and writes `HELP`.
 ///
 /// `words` are the arguments without the program's name, which are to be the one word of a mode: `keytree`, `keylist`,
-/// `settree`, `setlist` or `sweep`; or `seg`, `MIN` and `MAX`, the ends of a range that has a layout; or one word that asks for
-/// help: `help`, `--help` or `-h`. `faults` stands for standard error, and the answer is the process's status:
+/// `settree`, `setlist`, `sweep` or `cross`; or `seg`, `MIN` and `MAX`, the ends of a range that has a layout; or one word that
+/// asks for help: `help`, `--help` or `-h`. `faults` stands for standard error, and the answer is the process's status:
 ///
 /// - 0 where all replies, or the help, were written and flushed. An insertion that was refused has a reply too.
-/// - 1 where reading, writing, flushing or memory outside the commands failed, or memory for a sweep; nothing goes to
-///   `faults`, and a failed write may have taken a part of the text.
+/// - 1 where reading, writing, flushing or memory outside the commands failed, or memory for a sweep or for edges; nothing
+///   goes to `faults`, and a failed write may have taken a part of the text.
 /// - 2 where the words neither name a mode nor ask for help, before any input is read; where a line is faulty in the mode,
 ///   before any command is run; and where two segments of a sweep overlap. `faults` is told which, and whether it takes that
 ///   changes nothing.

@@ -10,11 +10,13 @@ use crate::fault::Fault;
 use std::alloc::{AllocError, Allocator};
 use std::str;
 
+mod cross;
 mod keys;
 mod segments;
 mod sets;
 mod sweep;
 
+pub use cross::{MetLines, edge_lines};
 pub use keys::KeyLine;
 pub use segments::SegLine;
 pub use sets::SetLine;

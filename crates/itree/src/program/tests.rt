@@ -5,6 +5,7 @@ use std::alloc::Global;
 use std::io::{self, ErrorKind};
 use std::process::Abort;
 
+mod cross;
 mod help;
 mod long;
 mod memory;

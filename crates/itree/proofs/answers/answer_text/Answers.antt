@@ -1,18 +1,19 @@
-use Rattle.std.proofs.Common.{◌≡◌, ℕ, ℤ, List, [], ap, subst, sym, IfOk, string_bytes, rules}
+use Rattle.std.proofs.Common.{ℤ, List, ap, subst, sym, IfOk, string_bytes, rules}
 use Rattle.std.proofs.lemmas.Result.{IfOk-weaker}
-use Rattle.i_tree.specs.Key.KeyExpTree.{items}
+use Rattle.i_tree.specs.Expiring.Tree.{items}
 use Rattle.i_tree.specs.Rb.Shape.{Shape, entries}
 use Rattle.i_tree.specs.Seg.Buckets.{IsLayout}
 use Rattle.i_tree.specs.Set.Pairs.{values}
 use Rattle.i_tree.specs.Set.SetList.{numbered}
-use Rattle.itree.specs.Answers.{AnswersKeys, AnswersSet, AnswersSegments, AnswersSweep}
+use Rattle.itree.specs.Answers.{AnswersKeys, AnswersSet, AnswersSegments, AnswersSweep, AnswersCross}
 use Rattle.itree.specs.Grammar.{lines_of}
 use Rattle.itree.specs.KeyLines.{KeyLine}
 use Rattle.itree.specs.SegLines.{SegLine}
 use Rattle.itree.specs.Texts.{HasOverlapLine}
 use Rattle.itree.specs.declared.lines.sweep.SweepLine.{SweepLine}
 use Rattle.itree.specs.declared.mode.Mode.{Mode}
-use Rattle.itree.specs.declared.mode.Mode.TheVariants.{KeyTree, KeyList, SetTree, SetList, Segments, Sweep}
+use Rattle.itree.specs.declared.mode.Mode.TheVariants.{KeyTree, KeyList, SetTree, SetList, Segments, Sweep, Cross}
+use Rattle.plane.specs.declared.edge.Edge.{Edge}
 use Rattle.itree.specs.declared.set_key.SetKey.{SetKey}
 use Rattle.itree.specs.declared.timed_key.TimedKey.{TimedKey}
 use Rattle.itree.proofs.Answered.{answered}
@@ -64,3 +65,9 @@ returns-in_ok-tree-in-Sweep-clause-answered g c =
 pub returns-in_ok-tree-in-Sweep-clause-overlap : goal.returns-in_ok-tree-in-Sweep-clause-overlap
 returns-in_ok-tree-in-Sweep-clause-overlap g c = λ number is.
     subst (λ (mode : Mode). HasOverlapLine mode c.args.text.now number) (sym c.in-Sweep.is) (c.answer_sweep.ensures.overlap number is)
+
+pub returns-in_ok-edges-in-Cross-clause-answered : goal.returns-in_ok-edges-in-Cross-clause-answered
+returns-in_ok-edges-in-Cross-clause-answered g c =
+    let parsed = c.in_ok-edges-in-Cross in
+    answered c.answer_cross.result (λ output. string_bytes output) Cross c.args.mode c.in-Cross.is c.args.text.now parsed.edges.items parsed.ensures.said
+    (subst (λ (edges : List Edge). IfOk c.answer_cross.result (λ output. AnswersCross (lines_of c.args.text.now) edges (string_bytes output))) c.deref-in-Cross.ensures.value c.answer_cross.ensures.answered)

@@ -1,4 +1,4 @@
-use Rattle.std.proofs.Common.{ℕ, IfSome, rules}
+use Rattle.std.proofs.Common.{IfSome, rules}
 use Rattle.std.proofs.lemmas.Option.{IfSome_then}
 use Rattle.itree.specs.Modes.{Names}
 use Rattle.itree.specs.Texts.{HasFirstFaulty}

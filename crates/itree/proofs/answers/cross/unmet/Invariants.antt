@@ -1,0 +1,7 @@
+use Rattle.std.proofs.Common.{◌≡◌, [], replicate}
+use Rattle.itree.specs.Told.{lists_of}
+use Rattle.itree.proofs.answers.cross.unmet.Given as goal
+
+-- the replies so far list no line
+abbrev pub invariant-loop : goal.invariant-loop
+invariant-loop g l = lists_of l.replies.items ≡ replicate l.counter []
