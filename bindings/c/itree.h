@@ -1,0 +1,82 @@
+/* What itree_c exports, for C: sweeps over horizontal segments, and pairs of edges that meet.
+ *
+ * Each call is proved in Rattle: it answers as said here for every input, reads and writes inside the arrays that it is
+ * given, and returns. Link it with bindings/built/libitree.a, which bindings/build makes.
+ *
+ * The caller owns every array. An array is a pointer and how many items it has. The pointer is not null and is aligned,
+ * also where there are no items; what is read has values, and what is written overlaps nothing else that the call is
+ * given. No other thread writes an array during the call. Arrays that are written need no values before. The library
+ * keeps no pointer, has no state, and gives back what it takes from malloc before it returns: so several threads may
+ * call it at once.
+ *
+ * Numbers are 32-bit and whole, in a unit of the caller's: pixels, or millionths of a degree. Places count from 0. */
+#ifndef ITREE_H
+#define ITREE_H
+
+#include <stddef.h>
+#include <stdint.h>
+
+#ifdef __cplusplus
+extern "C" {
+#endif
+
+/* What a call returns. At every status but ITREE_ANSWERED no array is written. */
+enum itree_status {
+    ITREE_ANSWERED = 0, /* The answers are written. */
+    ITREE_REFUSED = 1,  /* malloc or realloc gave no memory, or more than 4,294,967,295 segments are met at once. */
+    ITREE_OVERLAP = 2,  /* Two segments collide. */
+    ITREE_LENGTHS = 3   /* The lengths of two arrays don't fit each other. */
+};
+
+/* A horizontal segment at the height y, from x0 to x1, both of which it covers. One with x1 < x0 covers nothing. */
+struct itree_segment {
+    int32_t x0, x1, y;
+};
+
+struct itree_point {
+    int32_t x, y;
+};
+
+/* What lies straight below a point: found is 1 and y a height, or both are 0 where nothing does. */
+struct itree_height {
+    int32_t found, y;
+};
+
+/* Writes for each point, in order, the greatest height at most its own among the segments that cover its x.
+ *
+ * Two segments collide where they have one height and both cover some x. The call returns
+ *   ITREE_ANSWERED  and no two collide;
+ *   ITREE_OVERLAP   where two do: *overlap is the place of the first segment, in the order of x0 and then of place,
+ *                   that collides with one before it;
+ *   ITREE_REFUSED   where memory was refused, also where two collide;
+ *   ITREE_LENGTHS   exactly where height_count isn't point_count.
+ * *overlap is written at ITREE_OVERLAP alone, and heights at ITREE_ANSWERED alone. For n segments and points it takes
+ * O(n log n) steps, and room for n events and answers. */
+int32_t itree_below(const struct itree_segment *segments, size_t segment_count, const struct itree_point *points,
+                    size_t point_count, struct itree_height *heights, size_t height_count, size_t *overlap);
+
+/* A straight line from (x0, y0) to (x1, y1), both of which are of it. It may be a point. */
+struct itree_edge {
+    int32_t x0, y0, x1, y1;
+};
+
+/* The places of two edges, first below second. */
+struct itree_pair {
+    size_t first, second;
+};
+
+/* Writes the pairs of edges that share a point, each once, in no particular order, as many as fit: *count is how many
+ * there are, which may be more than pair_count. A call with room for *count pairs then writes all; one with
+ * pair_count 0 counts.
+ *
+ * It is exact: nothing is rounded. The call returns
+ *   ITREE_ANSWERED  the first of the pairs are written, and *count is; what is left of the room stays as it was;
+ *   ITREE_REFUSED   where memory was refused: nothing is written. */
+int32_t itree_meetings(const struct itree_edge *edges, size_t edge_count, struct itree_pair *pairs, size_t pair_count,
+                       size_t *count);
+
+#ifdef __cplusplus
+}
+#endif
+
+#endif

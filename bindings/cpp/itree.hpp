@@ -1,0 +1,96 @@
+// The calls of itree.h for C++17: spans in, a vector out, or an exception.
+//
+//     c++ -std=c++17 -Ibindings/c -Ibindings/cpp program.cpp bindings/built/libitree.a
+#ifndef ITREE_HPP
+#define ITREE_HPP
+
+#include <itree.h>
+
+#include <cstddef>
+#include <cstdint>
+#include <new>
+#include <optional>
+#include <stdexcept>
+#include <string>
+#include <type_traits>
+#include <utility>
+#include <vector>
+
+namespace itree {
+
+using Segment = ::itree_segment;
+using Point = ::itree_point;
+using Edge = ::itree_edge;
+
+/// The places of two edges that meet, `first` below `second`.
+using Pair = ::itree_pair;
+
+/// Items that stand one behind the other in memory and are only read: of a vector, an array, or a pointer and a length.
+/// It owns nothing, so what it is made of has to live as long.
+template <typename T>
+class Span {
+public:
+    Span() = default;
+    Span(const T *items, std::size_t count) : items_(items), count_(count) {}
+    template <std::size_t count>
+    Span(const T (&items)[count]) : items_(items), count_(count) {}
+    template <typename Items, typename Data = decltype(std::declval<const Items &>().data()),
+              typename = std::enable_if_t<std::is_convertible_v<Data, const T *>>>
+    Span(const Items &items) : items_(items.data()), count_(items.size()) {}
+
+    std::size_t size() const { return count_; }
+    /// Never null, also where there are no items.
+    const T *data() const { return items_ ? items_ : &none_; }
+
+private:
+    static inline const T none_{};
+    const T *items_ = nullptr;
+    std::size_t count_ = 0;
+};
+
+/// Two segments have one height and cover one x.
+class Overlap : public std::invalid_argument {
+public:
+    explicit Overlap(std::size_t index)
+        : std::invalid_argument("the segment at place " + std::to_string(index) + " overlaps an earlier one"),
+          index_(index) {}
+    /// The place of the first segment, in the order of `x0` and then of place, that collides with one before it.
+    std::size_t index() const { return index_; }
+
+private:
+    std::size_t index_;
+};
+
+/// For each point, in order, the greatest height at most its own among the segments that cover its x, if there is one.
+/// Throws `Overlap` where two segments collide, and `std::bad_alloc` where memory was refused.
+inline std::vector<std::optional<std::int32_t>> below(Span<Segment> segments, Span<Point> points) {
+    std::vector<::itree_height> heights(points.size() + 1);
+    std::size_t overlap = 0;
+    const auto status = ::itree_below(segments.data(), segments.size(), points.data(), points.size(), heights.data(),
+                                      points.size(), &overlap);
+    if (status == ITREE_OVERLAP) throw Overlap(overlap);
+    if (status != ITREE_ANSWERED) throw std::bad_alloc();
+    std::vector<std::optional<std::int32_t>> found(points.size());
+    for (std::size_t place = 0; place < found.size(); place++) {
+        if (heights[place].found) found[place] = heights[place].y;
+    }
+    return found;
+}
+
+/// The pairs of edges that share a point, each once, in no particular order. Throws `std::bad_alloc` where memory was
+/// refused.
+inline std::vector<Pair> meetings(Span<Edge> edges) {
+    std::vector<Pair> pairs(edges.size() + 1);
+    while (true) {
+        std::size_t count = 0;
+        const auto status = ::itree_meetings(edges.data(), edges.size(), pairs.data(), pairs.size(), &count);
+        if (status != ITREE_ANSWERED) throw std::bad_alloc();
+        const bool all = count <= pairs.size();
+        pairs.resize(count);
+        if (all) return pairs;
+    }
+}
+
+}  // namespace itree
+
+#endif

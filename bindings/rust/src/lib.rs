@@ -1,0 +1,205 @@
+//! Sweeps over horizontal segments, and pairs of edges that meet, by the proved library of this repository: slices in,
+//! a `Result` out.
+//!
+//! ```
+//! use itree::{below, Point, Segment};
+//!
+//! let segments = [Segment { x0: 0, x1: 10, y: 5 }, Segment { x0: 2, x1: 6, y: 8 }];
+//! let points = [Point { x: 6, y: 7 }, Point { x: 11, y: 9 }];
+//! assert_eq!(below(&segments, &points), Ok(vec![Some(5), None]));
+//! ```
+
+#![warn(missing_docs)]
+
+use std::collections::TryReserveError;
+use std::error::Error;
+use std::fmt::{self, Display, Formatter};
+
+/// A horizontal segment at the height `y`, from `x0` to `x1`, both of which it covers. One with `x1 < x0` covers
+/// nothing.
+#[repr(C)]
+#[derive(Clone, Copy, Debug, PartialEq, Eq)]
+pub struct Segment {
+    /// The first x that it covers.
+    pub x0: i32,
+    /// The last x that it covers.
+    pub x1: i32,
+    /// Its height.
+    pub y: i32,
+}
+
+/// A point, for which the sweep answers.
+#[repr(C)]
+#[derive(Clone, Copy, Debug, PartialEq, Eq)]
+pub struct Point {
+    /// How far it lies along the segments.
+    pub x: i32,
+    /// Its height.
+    pub y: i32,
+}
+
+/// A straight line from `(x0, y0)` to `(x1, y1)`, both of which are of it. It may be a point.
+#[repr(C)]
+#[derive(Clone, Copy, Debug, PartialEq, Eq)]
+pub struct Edge {
+    /// Where the one end lies along the first axis.
+    pub x0: i32,
+    /// Where it lies along the second axis.
+    pub y0: i32,
+    /// Where the other end lies along the first axis.
+    pub x1: i32,
+    /// Where it lies along the second axis.
+    pub y1: i32,
+}
+
+/// Memory was refused.
+#[derive(Clone, Copy, Debug, PartialEq, Eq)]
+pub struct Refused;
+
+impl Display for Refused {
+    fn fmt(&self, f: &mut Formatter<'_>) -> fmt::Result {
+        write!(f, "memory was refused")
+    }
+}
+
+impl Error for Refused {}
+
+impl From<TryReserveError> for Refused {
+    fn from(_refused: TryReserveError) -> Refused {
+        Refused
+    }
+}
+
+/// Why a sweep has no answers.
+#[derive(Clone, Copy, Debug, PartialEq, Eq)]
+pub enum Fault {
+    /// Memory was refused.
+    Refused,
+    /// The segment at this place is the first, in the order of `x0` and then of place, that collides with one before
+    /// it.
+    Overlap(usize),
+}
+
+impl Display for Fault {
+    fn fmt(&self, f: &mut Formatter<'_>) -> fmt::Result {
+        match self {
+            Fault::Refused => write!(f, "memory was refused"),
+            Fault::Overlap(place) => write!(f, "the segment at place {place} overlaps an earlier one"),
+        }
+    }
+}
+
+impl Error for Fault {}
+
+impl From<TryReserveError> for Fault {
+    fn from(_refused: TryReserveError) -> Fault {
+        Fault::Refused
+    }
+}
+
+/// The calls of `itree.h`.
+mod calls {
+    use super::{Edge, Point, Segment};
+
+    pub const ANSWERED: i32 = 0;
+    pub const OVERLAP: i32 = 2;
+
+    #[repr(C)]
+    #[derive(Clone, Copy)]
+    pub struct Height {
+        pub found: i32,
+        pub y: i32,
+    }
+
+    #[repr(C)]
+    #[derive(Clone, Copy)]
+    pub struct Pair {
+        pub first: usize,
+        pub second: usize,
+    }
+
+    extern "C" {
+        pub fn itree_below(
+            segments: *const Segment,
+            segment_count: usize,
+            points: *const Point,
+            point_count: usize,
+            heights: *mut Height,
+            height_count: usize,
+            overlap: *mut usize,
+        ) -> i32;
+
+        pub fn itree_meetings(
+            edges: *const Edge,
+            edge_count: usize,
+            pairs: *mut Pair,
+            pair_count: usize,
+            count: *mut usize,
+        ) -> i32;
+    }
+}
+
+/// For each point, in order, the greatest height at most its own among the segments that cover its x, if there is one.
+///
+/// Two segments collide where they have one height and both cover some x: then the answer is `Fault::Overlap`. It may
+/// be `Fault::Refused` in that case too, where there is little memory.
+pub fn below(segments: &[Segment], points: &[Point]) -> Result<Vec<Option<i32>>, Fault> {
+    let mut heights = items(points.len(), calls::Height { found: 0, y: 0 })?;
+    let mut overlap = 0;
+    // SAFETY: each pointer and length are those of a slice, and those that are written are of values of this call.
+    let status = unsafe {
+        calls::itree_below(
+            segments.as_ptr(),
+            segments.len(),
+            points.as_ptr(),
+            points.len(),
+            heights.as_mut_ptr(),
+            heights.len(),
+            &mut overlap,
+        )
+    };
+    match status {
+        calls::ANSWERED => {
+            let mut found = items(points.len(), None)?;
+            for (answer, height) in found.iter_mut().zip(&heights) {
+                *answer = (height.found != 0).then_some(height.y);
+            }
+            Ok(found)
+        }
+        calls::OVERLAP => Err(Fault::Overlap(overlap)),
+        _ => Err(Fault::Refused),
+    }
+}
+
+/// The pairs `(i, j)`, `i` below `j`, of places of edges that share a point, each once, in no particular order.
+///
+/// It is exact: nothing is rounded.
+pub fn meetings(edges: &[Edge]) -> Result<Vec<(usize, usize)>, Refused> {
+    let mut room = edges.len();
+    loop {
+        let mut pairs = items(room, calls::Pair { first: 0, second: 0 })?;
+        let mut count = 0;
+        // SAFETY: as in `below`.
+        let status =
+            unsafe { calls::itree_meetings(edges.as_ptr(), edges.len(), pairs.as_mut_ptr(), pairs.len(), &mut count) };
+        if status != calls::ANSWERED {
+            return Err(Refused);
+        }
+        if count <= room {
+            let mut found = items(count, (0, 0))?;
+            for (places, pair) in found.iter_mut().zip(&pairs) {
+                *places = (pair.first, pair.second);
+            }
+            return Ok(found);
+        }
+        room = count;
+    }
+}
+
+/// So many of one item. Refused memory is an error here, and doesn't end the program.
+fn items<T: Clone>(count: usize, item: T) -> Result<Vec<T>, TryReserveError> {
+    let mut items = Vec::new();
+    items.try_reserve_exact(count)?;
+    items.resize(count, item);
+    Ok(items)
+}

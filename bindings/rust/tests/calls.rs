@@ -1,0 +1,238 @@
+//! The calls beside a plain model, at faults, and with each request for memory refused in turn.
+
+use itree::{below, meetings, Edge, Fault, Point, Refused, Segment};
+use std::cell::Cell;
+use std::ffi::c_void;
+
+thread_local! {
+    /// How many requests for memory of this thread are granted before the others are refused.
+    static GRANTED: Cell<usize> = const { Cell::new(usize::MAX) };
+}
+
+extern "C" {
+    fn __real_malloc(size: usize) -> *mut c_void;
+    fn __real_realloc(block: *mut c_void, size: usize) -> *mut c_void;
+}
+
+/// Whether one more request is granted.
+fn grants() -> bool {
+    GRANTED.with(|left| {
+        let granted = left.get();
+        left.set(granted.saturating_sub((granted != usize::MAX) as usize));
+        granted != 0
+    })
+}
+
+#[no_mangle]
+extern "C" fn __wrap_malloc(size: usize) -> *mut c_void {
+    if grants() {
+        unsafe { __real_malloc(size) }
+    } else {
+        std::ptr::null_mut()
+    }
+}
+
+#[no_mangle]
+unsafe extern "C" fn __wrap_realloc(block: *mut c_void, size: usize) -> *mut c_void {
+    if grants() {
+        unsafe { __real_realloc(block, size) }
+    } else {
+        std::ptr::null_mut()
+    }
+}
+
+/// What a call answers where so many requests for memory are granted.
+fn granted<T>(requests: usize, call: impl FnOnce() -> T) -> T {
+    GRANTED.with(|left| left.set(requests));
+    let answer = call();
+    GRANTED.with(|left| left.set(usize::MAX));
+    answer
+}
+
+/// Numbers without visible order.
+struct Random(u64);
+
+impl Random {
+    fn below(&mut self, limit: u64) -> i32 {
+        self.0 = self
+            .0
+            .wrapping_mul(6364136223846793005)
+            .wrapping_add(1442695040888963407);
+        ((self.0 >> 33) % limit) as i32
+    }
+
+    fn segments(&mut self, count: usize) -> Vec<Segment> {
+        let segment = |_| {
+            let x0 = self.below(40) - 20;
+            Segment {
+                x0,
+                x1: x0 + self.below(12) - 2,
+                y: self.below(8) - 4,
+            }
+        };
+        (0..count).map(segment).collect()
+    }
+
+    fn points(&mut self, count: usize) -> Vec<Point> {
+        (0..count)
+            .map(|_| Point {
+                x: self.below(60) - 30,
+                y: self.below(12) - 6,
+            })
+            .collect()
+    }
+}
+
+fn side_of(edge: &Edge, x: i32, y: i32) -> i64 {
+    let Edge { x0, y0, x1, y1 } = *edge;
+    ((x1 - x0) as i64 * (y - y0) as i64 - (y1 - y0) as i64 * (x - x0) as i64).signum()
+}
+
+/// Whether the edges meet: their boxes do, and neither has both ends on one side of the other. For small numbers.
+fn plainly_meet(one: &Edge, other: &Edge) -> bool {
+    one.x0.min(one.x1) <= other.x0.max(other.x1)
+        && other.x0.min(other.x1) <= one.x0.max(one.x1)
+        && one.y0.min(one.y1) <= other.y0.max(other.y1)
+        && other.y0.min(other.y1) <= one.y0.max(one.y1)
+        && side_of(one, other.x0, other.y0) * side_of(one, other.x1, other.y1) <= 0
+        && side_of(other, one.x0, one.y0) * side_of(other, one.x1, one.y1) <= 0
+}
+
+fn plain_meetings(edges: &[Edge]) -> Vec<(usize, usize)> {
+    let pairs = (0..edges.len()).flat_map(|first| (first + 1..edges.len()).map(move |second| (first, second)));
+    pairs
+        .filter(|&(first, second)| plainly_meet(&edges[first], &edges[second]))
+        .collect()
+}
+
+fn collide(one: &Segment, other: &Segment) -> bool {
+    one.y == other.y && one.x0.max(other.x0) <= one.x1.min(other.x1)
+}
+
+/// What a sweep answers, by a look at each segment for each point, and at each pair of segments.
+fn plainly_below(segments: &[Segment], points: &[Point]) -> Result<Vec<Option<i32>>, Fault> {
+    let mut order: Vec<usize> = (0..segments.len()).collect();
+    order.sort_by_key(|&place| (segments[place].x0, place));
+    for (count, &place) in order.iter().enumerate() {
+        if order[..count]
+            .iter()
+            .any(|&earlier| collide(&segments[earlier], &segments[place]))
+        {
+            return Err(Fault::Overlap(place));
+        }
+    }
+    let is_under = |it: &&Segment, point: &Point| it.x0 <= point.x && point.x <= it.x1 && it.y <= point.y;
+    let height = |point: &Point| segments.iter().filter(|it| is_under(it, point)).map(|it| it.y).max();
+    Ok(points.iter().map(height).collect())
+}
+
+#[test]
+fn answers_as_the_plain_model() {
+    let mut random = Random(27);
+    let (mut answered, mut overlapping) = (0, 0);
+    for round in 0..4000 {
+        let segments = random.segments(round % 12);
+        let points = random.points(round % 7);
+        let wanted = plainly_below(&segments, &points);
+        if wanted.is_ok() {
+            answered += 1;
+        } else {
+            overlapping += 1;
+        }
+        assert_eq!(below(&segments, &points), wanted, "{segments:?} {points:?}");
+    }
+    assert!(
+        answered > 1000 && overlapping > 1000,
+        "{answered} answered, {overlapping} overlapping"
+    );
+}
+
+#[test]
+fn tells_the_edges_that_meet() {
+    let mut random = Random(28);
+    for round in 0..2000 {
+        let mut number = || random.below(9);
+        let edge = |_| Edge {
+            x0: number(),
+            y0: number(),
+            x1: number(),
+            y1: number(),
+        };
+        let edges: Vec<Edge> = (0..round % 14).map(edge).collect();
+        let mut found = meetings(&edges).unwrap();
+        found.sort_unstable();
+        assert_eq!(found, plain_meetings(&edges), "{edges:?}");
+    }
+    assert_eq!(meetings(&[]), Ok(vec![]));
+}
+
+#[test]
+fn is_refused_pairs_where_memory_is() {
+    let edges: Vec<Edge> = (0..40)
+        .map(|y| Edge {
+            x0: 0,
+            y0: y,
+            x1: 40,
+            y1: 40 - y,
+        })
+        .collect();
+    let mut requests = 0;
+    while granted(requests, || meetings(&edges)) == Err(Refused) {
+        requests += 1;
+    }
+    assert!(requests > 3, "{requests} requests");
+    assert_eq!(meetings(&edges).map(|pairs| pairs.len()), Ok(780));
+}
+
+#[test]
+fn answers_nothing_for_nothing() {
+    assert_eq!(below(&[], &[]), Ok(vec![]));
+    assert_eq!(below(&[], &[Point { x: 1, y: 2 }]), Ok(vec![None]));
+    assert_eq!(below(&[Segment { x0: 1, x1: 2, y: 3 }], &[]), Ok(vec![]));
+}
+
+#[test]
+fn tells_the_first_overlap() {
+    let segments = [(0, 9, 1), (8, 9, 1), (3, 4, 1)].map(|(x0, x1, y)| Segment { x0, x1, y });
+    let fault = below(&segments, &[]).unwrap_err();
+    assert_eq!(fault, Fault::Overlap(2));
+    assert_eq!(fault.to_string(), "the segment at place 2 overlaps an earlier one");
+}
+
+#[test]
+fn is_refused_where_memory_is() {
+    let segments: Vec<Segment> = (0..50).map(|y| Segment { x0: 0, x1: 100, y }).collect();
+    let points: Vec<Point> = (0..50).map(|y| Point { x: 3, y }).collect();
+    let wanted: Vec<Option<i32>> = (0..50).map(Some).collect();
+    let mut requests = 0;
+    while granted(requests, || below(&segments, &points)) == Err(Fault::Refused) {
+        requests += 1;
+    }
+    assert!(requests >= 5, "{requests} requests");
+    assert_eq!(granted(requests, || below(&segments, &points)), Ok(wanted));
+}
+
+#[test]
+fn takes_the_least_and_the_greatest_numbers() {
+    let whole = Segment {
+        x0: i32::MIN,
+        x1: i32::MAX,
+        y: i32::MIN,
+    };
+    let last = Segment {
+        x0: i32::MAX,
+        x1: i32::MAX,
+        y: i32::MAX,
+    };
+    let points = [
+        Point {
+            x: i32::MIN,
+            y: i32::MIN,
+        },
+        Point {
+            x: i32::MAX,
+            y: i32::MAX,
+        },
+    ];
+    assert_eq!(below(&[whole, last], &points), Ok(vec![Some(i32::MIN), Some(i32::MAX)]));
+}

@@ -1,0 +1,243 @@
+/* The calls from C beside a plain model, at faults, and with each request for memory refused in turn. */
+#include <itree.h>
+#include <stdio.h>
+#include <string.h>
+
+#include "refuse.h"
+
+enum { MOST = 12 };
+
+static int passed, failed;
+
+static void check(const char *what, int ok) {
+    if (ok) {
+        passed++;
+    } else {
+        failed++;
+        printf("FAILED %s\n", what);
+    }
+}
+
+static uint64_t state = 27;
+
+/* A number below the limit, without visible order. */
+static int32_t random_below(uint32_t limit) {
+    state = state * 6364136223846793005u + 1442695040888963407u;
+    return (int32_t)((uint32_t)(state >> 33) % limit);
+}
+
+static int collide(struct itree_segment one, struct itree_segment other) {
+    const int32_t first = one.x0 > other.x0 ? one.x0 : other.x0;
+    const int32_t last = one.x1 < other.x1 ? one.x1 : other.x1;
+    return one.y == other.y && first <= last;
+}
+
+static int comes_before(const struct itree_segment *segments, size_t one, size_t other) {
+    return segments[one].x0 < segments[other].x0 || (segments[one].x0 == segments[other].x0 && one < other);
+}
+
+/* The place of the first segment that collides with one before it, or count where none does. */
+static size_t plain_overlap(const struct itree_segment *segments, size_t count) {
+    size_t first = count;
+    for (size_t place = 0; place < count; place++) {
+        for (size_t earlier = 0; earlier < count; earlier++) {
+            if (comes_before(segments, earlier, place) && collide(segments[earlier], segments[place]) &&
+                (first == count || comes_before(segments, place, first))) {
+                first = place;
+            }
+        }
+    }
+    return first;
+}
+
+static struct itree_height plain_height(const struct itree_segment *segments, size_t count, struct itree_point point) {
+    struct itree_height height = {0, 0};
+    for (size_t place = 0; place < count; place++) {
+        const struct itree_segment it = segments[place];
+        if (it.x0 <= point.x && point.x <= it.x1 && it.y <= point.y && (!height.found || height.y < it.y)) {
+            height.found = 1;
+            height.y = it.y;
+        }
+    }
+    return height;
+}
+
+/* Whether a sweep over such segments and points answers as the plain model, and leaves alone what it has to. */
+static int is_as_plain(const struct itree_segment *segments, size_t segment_count, const struct itree_point *points,
+                       size_t point_count) {
+    struct itree_height heights[MOST], before[MOST];
+    size_t overlap = 77;
+    memset(heights, 0x5a, sizeof heights);
+    memcpy(before, heights, sizeof heights);
+    const int32_t status = itree_below(segments, segment_count, points, point_count, heights, point_count, &overlap);
+    const size_t wanted = plain_overlap(segments, segment_count);
+    if (wanted < segment_count) {
+        return status == ITREE_OVERLAP && overlap == wanted && !memcmp(heights, before, sizeof heights);
+    }
+    for (size_t place = 0; place < point_count; place++) {
+        before[place] = plain_height(segments, segment_count, points[place]);
+    }
+    return status == ITREE_ANSWERED && overlap == 77 && !memcmp(heights, before, sizeof heights);
+}
+
+static void checks_random(void) {
+    int ok = 1, overlapping = 0;
+    for (int round = 0; round < 4000; round++) {
+        struct itree_segment segments[MOST];
+        struct itree_point points[MOST];
+        const size_t segment_count = (size_t)random_below(MOST + 1), point_count = (size_t)random_below(MOST + 1);
+        for (size_t place = 0; place < segment_count; place++) {
+            const int32_t x0 = random_below(40) - 20;
+            segments[place] = (struct itree_segment){x0, x0 + random_below(12) - 2, random_below(8) - 4};
+        }
+        for (size_t place = 0; place < point_count; place++) {
+            points[place] = (struct itree_point){random_below(60) - 30, random_below(12) - 6};
+        }
+        ok = ok && is_as_plain(segments, segment_count, points, point_count);
+        overlapping += plain_overlap(segments, segment_count) < segment_count;
+    }
+    check("a sweep answers as the plain model", ok);
+    check("a quarter of random sweeps overlap, and a quarter doesn't", 1000 < overlapping && overlapping < 3000);
+}
+
+static void checks_nothing(void) {
+    const struct itree_segment segment = {1, 2, 3};
+    const struct itree_point point = {1, 2};
+    struct itree_height height = {9, 9};
+    size_t overlap = 7;
+    check("no segments and no points", itree_below(&segment, 0, &point, 0, &height, 0, &overlap) == ITREE_ANSWERED);
+    check("no points", itree_below(&segment, 1, &point, 0, &height, 0, &overlap) == ITREE_ANSWERED);
+    check("neither writes", height.found == 9 && height.y == 9 && overlap == 7);
+    check("no segments", itree_below(&segment, 0, &point, 1, &height, 1, &overlap) == ITREE_ANSWERED);
+    check("nothing lies below", height.found == 0 && height.y == 0 && overlap == 7);
+}
+
+static void checks_lengths(void) {
+    const struct itree_segment segment = {0, 9, 1};
+    const struct itree_point points[] = {{1, 2}, {3, 4}};
+    struct itree_height heights[3] = {{9, 9}, {9, 9}, {9, 9}};
+    size_t overlap = 7;
+    check("fewer heights than points", itree_below(&segment, 1, points, 2, heights, 1, &overlap) == ITREE_LENGTHS);
+    check("more heights than points", itree_below(&segment, 1, points, 2, heights, 3, &overlap) == ITREE_LENGTHS);
+    check("nothing is written then", heights[0].found == 9 && heights[0].y == 9 && overlap == 7);
+}
+
+static void checks_refusals(void) {
+    struct itree_segment segments[50];
+    struct itree_point points[50];
+    struct itree_height heights[50], before[50];
+    size_t overlap = 7, requests = 0;
+    int ok = 1;
+    for (int32_t y = 0; y < 50; y++) {
+        segments[y] = (struct itree_segment){0, 100, y};
+        points[y] = (struct itree_point){3, y};
+    }
+    memset(heights, 0x5a, sizeof heights);
+    memcpy(before, heights, sizeof heights);
+    while (1) {
+        refuse_after(requests);
+        const int32_t status = itree_below(segments, 50, points, 50, heights, 50, &overlap);
+        refuse_after(SIZE_MAX);
+        if (status != ITREE_REFUSED) break;
+        ok = ok && !memcmp(heights, before, sizeof heights) && overlap == 7;
+        requests++;
+    }
+    check("each request is refused in turn", requests > 5);
+    check("nothing is written where memory is refused", ok);
+    for (int32_t y = 0; y < 50; y++) ok = ok && heights[y].found == 1 && heights[y].y == y;
+    check("with all requests granted it answers", ok);
+}
+
+static int sign_of(int64_t number) { return (0 < number) - (number < 0); }
+
+/* On which side of the line through the edge's ends the point lies. */
+static int side_of(struct itree_edge edge, int64_t x, int64_t y) {
+    return sign_of((edge.x1 - edge.x0) * (y - edge.y0) - (edge.y1 - edge.y0) * (x - edge.x0));
+}
+
+static int ranges_meet(int32_t start, int32_t end, int32_t other_start, int32_t other_end) {
+    const int32_t low = start < end ? start : end, high = start < end ? end : start;
+    const int32_t other_low = other_start < other_end ? other_start : other_end;
+    const int32_t other_high = other_start < other_end ? other_end : other_start;
+    return low <= other_high && other_low <= high;
+}
+
+/* Whether the edges meet: neither has both ends on one side of the other, and their boxes meet. */
+static int plainly_meet(struct itree_edge one, struct itree_edge other) {
+    return ranges_meet(one.x0, one.x1, other.x0, other.x1) && ranges_meet(one.y0, one.y1, other.y0, other.y1) &&
+           side_of(one, other.x0, other.y0) * side_of(one, other.x1, other.y1) <= 0 &&
+           side_of(other, one.x0, one.y0) * side_of(other, one.x1, one.y1) <= 0;
+}
+
+/* Whether each of the pairs is one of edges that meet, and none stands there twice. */
+static int are_meetings(const struct itree_edge *edges, const struct itree_pair *pairs, size_t count) {
+    for (size_t place = 0; place < count; place++) {
+        const struct itree_pair it = pairs[place];
+        if (it.second <= it.first || !plainly_meet(edges[it.first], edges[it.second])) return 0;
+        for (size_t other = 0; other < place; other++) {
+            if (pairs[other].first == it.first && pairs[other].second == it.second) return 0;
+        }
+    }
+    return 1;
+}
+
+static size_t plain_count(const struct itree_edge *edges, size_t count) {
+    size_t found = 0;
+    for (size_t second = 0; second < count; second++) {
+        for (size_t first = 0; first < second; first++) found += (size_t)plainly_meet(edges[first], edges[second]);
+    }
+    return found;
+}
+
+static void checks_meetings(void) {
+    enum { ROOM = MOST * MOST / 2 };
+    int ok = 1, full = 0;
+    for (int round = 0; round < 4000; round++) {
+        struct itree_edge edges[MOST];
+        struct itree_pair pairs[ROOM], before[ROOM];
+        const size_t edge_count = (size_t)random_below(MOST + 1), room = (size_t)random_below(16);
+        for (size_t place = 0; place < edge_count; place++) {
+            edges[place] = (struct itree_edge){random_below(9), random_below(9), random_below(9), random_below(9)};
+        }
+        memset(pairs, 0x5a, sizeof pairs);
+        memcpy(before, pairs, sizeof pairs);
+        const size_t wanted = plain_count(edges, edge_count), written = wanted < room ? wanted : room;
+        size_t count = 0;
+        ok = ok && itree_meetings(edges, edge_count, pairs, room, &count) == ITREE_ANSWERED && count == wanted;
+        ok = ok && are_meetings(edges, pairs, written);
+        ok = ok && !memcmp(pairs + written, before + written, (ROOM - written) * sizeof *pairs);
+        full += room < wanted;
+    }
+    check("pairs of edges that meet, as the plain model", ok);
+    check("some had too little room, and some enough", 500 < full && full < 3500);
+}
+
+static void checks_refused_meetings(void) {
+    struct itree_edge edges[40];
+    struct itree_pair pair = {7, 7};
+    size_t count = 7, requests = 0;
+    int ok = 1;
+    for (int32_t place = 0; place < 40; place++) edges[place] = (struct itree_edge){0, place, 40, 40 - place};
+    while (1) {
+        refuse_after(requests);
+        const int32_t status = itree_meetings(edges, 40, &pair, 1, &count);
+        refuse_after(SIZE_MAX);
+        if (status != ITREE_REFUSED) break;
+        ok = ok && pair.first == 7 && pair.second == 7 && count == 7;
+        requests++;
+    }
+    check("each request for pairs is refused in turn", requests > 2);
+    check("nothing is written then", ok);
+    check("with all requests granted all meet", count == 780 && pair.first < pair.second);
+}
+
+int main(void) {
+    checks_random();
+    checks_nothing();
+    checks_lengths();
+    checks_refusals();
+    checks_meetings();
+    checks_refused_meetings();
+    printf("%d passed, %d failed\n", passed, failed);
+    return failed != 0;
+}

@@ -1,0 +1,157 @@
+// The calls from C++ beside a plain sweep over std::map, at faults, with refused memory, and over a million segments.
+#include <algorithm>
+#include <array>
+#include <cstdio>
+#include <itree.hpp>
+#include <map>
+#include <numeric>
+#include <random>
+
+#include "plain_meetings.hpp"
+#include "plain_sweep.hpp"
+#include "refuse.h"
+
+namespace {
+
+int passed = 0, failed = 0;
+
+void check(const char *what, bool ok) {
+    (ok ? passed : failed)++;
+    if (!ok) std::printf("FAILED %s\n", what);
+}
+
+using Heights = std::vector<std::optional<std::int32_t>>;
+
+/// Random segments and points in a box of this width and height.
+struct Scene {
+    std::vector<itree::Segment> segments;
+    std::vector<itree::Point> points;
+
+    Scene(std::mt19937 &random, std::size_t count, std::uint32_t width, std::uint32_t height, std::uint32_t longest) {
+        const auto number = [&](std::uint32_t limit) { return static_cast<std::int32_t>(random() % limit); };
+        for (std::size_t place = 0; place < count; place++) {
+            const auto x0 = number(width);
+            segments.push_back({x0, x0 + number(longest) - 2, number(height)});
+            points.push_back({number(width), number(height)});
+        }
+    }
+};
+
+/// What `below` gives: heights, or the index of an overlap.
+std::pair<Heights, std::optional<std::size_t>> outcome(const Scene &scene) {
+    try {
+        return {itree::below(scene.segments, scene.points), std::nullopt};
+    } catch (const itree::Overlap &overlap) {
+        return {{}, overlap.index()};
+    }
+}
+
+void checks_random() {
+    std::mt19937 random(27);
+    bool ok = true;
+    int overlapping = 0;
+    for (std::size_t round = 0; round < 4000; round++) {
+        const Scene scene(random, round % 14, 40, 8, 12);
+        const auto wanted = plain::below(scene.segments, scene.points);
+        ok = ok && outcome(scene) == wanted;
+        overlapping += wanted.second.has_value();
+    }
+    check("a sweep answers as a plain one", ok);
+    check("a quarter of random sweeps overlap, and a quarter doesn't", 1000 < overlapping && overlapping < 3000);
+}
+
+void checks_a_million() {
+    std::mt19937 random(28);
+    Scene scene(random, 1'000'000, 1'000'000'000, 2'000'000'000, 2000);
+    check("a million segments and points", outcome(scene) == plain::below(scene.segments, scene.points));
+    scene.segments.push_back(scene.segments[500'000]);
+    scene.segments.back().x1 = scene.segments.back().x0 = scene.segments[500'000].x1 = scene.segments[500'000].x0;
+    check("a million segments of which two collide", outcome(scene).second == 1'000'000);
+}
+
+void checks_spans() {
+    const itree::Segment segments[] = {{0, 10, 5}, {2, 6, 8}, {6, 9, 3}};
+    const std::array<itree::Point, 3> points{{{6, 7}, {2, 9}, {11, 9}}};
+    const Heights wanted{5, 8, std::nullopt};
+    check("an array of C, and one of C++", itree::below(segments, points) == wanted);
+    check("a pointer and a length", itree::below({segments, 1}, {points.data(), 1}) == Heights{5});
+    check("no segments", itree::below({}, points) == Heights(3));
+    check("no points", itree::below(segments, {}).empty());
+    check("empty vectors", itree::below(std::vector<itree::Segment>(), std::vector<itree::Point>()).empty());
+}
+
+void checks_faults() {
+    const std::vector<itree::Segment> segments{{0, 9, 1}, {8, 9, 1}, {3, 4, 1}};
+    try {
+        itree::below(segments, {});
+        check("an overlap is thrown", false);
+    } catch (const std::invalid_argument &fault) {
+        check("an overlap is thrown", std::string(fault.what()) == "the segment at place 2 overlaps an earlier one");
+    }
+    std::size_t requests = 0;
+    for (bool refused = true; refused; requests++) {
+        refuse_after(requests);
+        try {
+            itree::below({segments.data(), 2}, {});
+            refused = false;
+        } catch (const std::bad_alloc &) {
+        } catch (const itree::Overlap &) {
+            refused = false;
+        }
+        refuse_after(SIZE_MAX);
+    }
+    check("refused memory is thrown", requests > 2);
+}
+
+/// Edges by chance, of which many share an end, lie along one line, or are points.
+std::vector<itree::Edge> random_edges(std::mt19937 &random, std::size_t count) {
+    const auto number = [&] { return static_cast<std::int32_t>(random() % 9); };
+    std::vector<itree::Edge> edges;
+    for (std::size_t place = 0; place < count; place++) edges.push_back({number(), number(), number(), number()});
+    return edges;
+}
+
+using Places = std::vector<std::pair<std::size_t, std::size_t>>;
+
+/// The places of pairs, in order.
+Places sorted(const std::vector<itree::Pair> &pairs) {
+    Places places;
+    for (const auto &pair : pairs) places.push_back({pair.first, pair.second});
+    std::sort(places.begin(), places.end());
+    return places;
+}
+
+void checks_meetings() {
+    std::mt19937 random(29);
+    bool ok = true;
+    for (std::size_t round = 0; round < 2000; round++) {
+        const auto edges = random_edges(random, round % 14);
+        ok = ok && sorted(itree::meetings(edges)) == plain::meetings(edges);
+    }
+    check("pairs of edges that meet, as a plain look at each pair", ok);
+    check("no edges", itree::meetings({}).empty());
+    std::size_t requests = 0;
+    for (bool refused = true; refused; requests++) {
+        const auto edges = random_edges(random, 30);
+        refuse_after(requests);
+        try {
+            itree::meetings(edges);
+            refused = false;
+        } catch (const std::bad_alloc &) {
+        }
+        refuse_after(SIZE_MAX);
+    }
+    check("refused memory is thrown for pairs", requests > 2);
+}
+
+}  // namespace
+
+int main() {
+    checks_random();
+    checks_a_million();
+    checks_spans();
+    checks_faults();
+    checks_meetings();
+    std::printf("%d passed, %d failed\n", passed, failed);
+    return failed != 0;
+}

@@ -1,0 +1,3 @@
+pub mod Heights
+pub mod Meetings
+pub mod Status

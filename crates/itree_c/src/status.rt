@@ -1,0 +1,13 @@
+//! What an exported call answers: whether it has written its answers, and else why not.
+
+/// The answers are written.
+pub const ANSWERED: i32 = 0;
+
+/// Memory was refused.
+pub const REFUSED: i32 = 1;
+
+/// The input overlaps: the call tells where.
+pub const OVERLAP: i32 = 2;
+
+/// The lengths of two slices don't fit each other.
+pub const LENGTHS: i32 = 3;
