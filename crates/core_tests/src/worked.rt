@@ -6,7 +6,7 @@ use crate::trees::{
 };
 use i_tree::rb::RbTree;
 use i_tree::{EMPTY_REF, Refusal};
-use std::alloc::Global;
+use std::alloc::{Allocator, Global};
 use std::test::Fail;
 use test_kit::Refusing;
 use test_kit::cores::{before, item, last};
@@ -20,6 +20,44 @@ fn answers_the_handle_before(rt: HostRuntime) -> Result<(), Fail> {
     assert!(rt; before(&tree, three) == Some(two));
     assert!(rt; before(&tree, one) == Some(EMPTY_REF));
     assert!(rt; tree.spare() == 4);
+    Ok(())
+}
+
+// The handle after this one.
+fn after<T, A: Allocator + Copy>(tree: &RbTree<T, A>, handle: u32) -> Option<u32> {
+    if !tree.has(handle) {
+        return None;
+    }
+    Some(tree.after(handle))
+}
+
+// Whether a walk by `after` meets as many handles as there are, each after the one before it.
+fn walks_on<A: Allocator + Copy>(tree: &RbTree<i32, A>) -> Option<bool> {
+    let mut previous = EMPTY_REF;
+    let mut here = tree.first();
+    for _ in 0..tree.len() {
+        if before(tree, here)? != previous {
+            return Some(false);
+        }
+        previous = here;
+        here = after(tree, here)?;
+    }
+    Some(here == EMPTY_REF && previous == last(tree))
+}
+
+#[test]
+fn answers_the_handle_after(rt: HostRuntime) -> Result<(), Fail> {
+    let mut tree = RbTree::new(rt.alloc(), 0)?;
+    assert!(rt; walks_on(&tree) == Some(true));
+    let mut handles = Vec::new(rt.alloc());
+    insert_rising(&rt, &mut tree, 100, &mut handles)?;
+    assert!(rt; walks_on(&tree) == Some(true));
+    for number in 0..33 {
+        let middle = tree.root();
+        remove(&rt, &mut tree, middle);
+        assert!(rt; walks_on(&tree) == Some(true), "after {number}");
+    }
+    assert!(rt; tree.len() == 67);
     Ok(())
 }
 

@@ -1,7 +1,7 @@
 //! Calls of collections of keys that expire, with each request for memory refused in turn.
 
 use crate::stores::{
-    KeyList, KeyStore, KeyTree, fill, four_keys, four_pairs, holds, holds_rising,
+    KeyList, KeyStore, KeyTree, fill, four_keys, four_pairs, holds, holds_rising, insert_if_new,
     insert_where_absent,
 };
 use i_tree::Refusal;
@@ -166,6 +166,7 @@ struct Growing<C: KeyStore> {
     memory: C::Memory,
     alloc: Global,
     least: i32,
+    by_new: bool,
 }
 
 impl<C: KeyStore> Trial for Growing<C> {
@@ -179,7 +180,11 @@ impl<C: KeyStore> Trial for Growing<C> {
 
     fn call(&self, changing: &mut Changing<C>) {
         let next = changing.stored.saturating_add(1);
-        changing.answer = insert_where_absent(&mut changing.keys, key(next), next, 0);
+        changing.answer = if self.by_new {
+            insert_if_new(&mut changing.keys, key(next), next, 0)
+        } else {
+            insert_where_absent(&mut changing.keys, key(next), next, 0)
+        };
     }
 
     fn is_refused(&self, changing: &mut Changing<C>, _nth: u64) -> bool {
@@ -199,11 +204,13 @@ fn requests_of_insert<C: KeyStore>(
     memory: C::Memory,
     alloc: Global,
     least: i32,
+    by_new: bool,
 ) -> Result<u64, Fault> {
     let trial: Growing<C> = Growing {
         memory,
         alloc,
         least,
+        by_new,
     };
     refuse_in_turn(counted, &trial)
 }
@@ -211,10 +218,29 @@ fn requests_of_insert<C: KeyStore>(
 #[test]
 fn an_insertion_grows_at_once_or_changes_nothing(rt: HostRuntime) {
     let memory = Refusing::new(rt.alloc());
-    for least in [0, 5, 10, 20, 40] {
-        let of_tree = requests_of_insert::<KeyTree<Memory>>(&memory, &memory, rt.alloc(), least);
+    for (least, by_new) in [
+        (0, false),
+        (5, true),
+        (10, false),
+        (10, true),
+        (20, true),
+        (40, false),
+    ] {
+        let of_tree = requests_of_insert::<KeyTree<Memory>>(
+            &memory,
+            &memory,
+            rt.alloc(),
+            least,
+            by_new,
+        );
         assert!(rt; of_tree == Ok(1), "tree of {least}");
-        let of_list = requests_of_insert::<KeyList<Memory>>(&memory, &memory, rt.alloc(), least);
+        let of_list = requests_of_insert::<KeyList<Memory>>(
+            &memory,
+            &memory,
+            rt.alloc(),
+            least,
+            by_new,
+        );
         assert!(rt; of_list == Ok(1), "list of {least}");
     }
 }

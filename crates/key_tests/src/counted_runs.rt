@@ -1,7 +1,7 @@
 //! Counted runs of commands over a tree of keys that expire.
 
 ghost use Rattle.std.specs.Prelude.{◌≡◌, ◌≤◌, ◌<◌, ◌+◌, ◌*◌, ◌^◌, ◌++◌, ℕ, ℤ, List, length, OnOk};
-ghost use Rattle.i_tree.specs.Key.KeyExpTree.{items};
+ghost use Rattle.i_tree.specs.Expiring.Tree.{items};
 ghost use Rattle.i_tree.specs.Rb.Shape.{leaf};
 ghost use Rattle.itree_lib.specs.Run.KeyRoom.{accepted};
 ghost use Rattle.itree_lib.specs.declared.run.keys.KeyReply.{KeyReply};
@@ -36,7 +36,7 @@ fn run_from_nothing<K: ExpiredKey<i32>, L: Ledger, A: Allocator + Copy, B: Alloc
         × (tree.old.shape ≡ leaf → steps.old.comparisons ≡ 0 → steps.old.removals ≡ 0 → steps.old.rotations ≡ 0
         → (steps.new.rotations + 3 * length (items tree.new.shape) ≤ 5 * accepted replies)
         × (steps.new.removals + length (items tree.new.shape) ≤ accepted replies)
-        × ((levels : ℕ) → accepted replies + 1 < 2 ^ (levels + 1) → steps.new.comparisons ≤ 4 * levels * length commands.now))) }
+        × ((levels : ℕ) → accepted replies + 1 < 2 ^ (levels + 1) → steps.new.comparisons ≤ 2 * levels * length commands.now))) }
 {
     let compare = |sought: K, key: K| -> Ordering { key.cmp(&sought) };
     run_key_tree_counted(steps, tree, commands, compare, out)
@@ -179,7 +179,7 @@ fn compares_within<'a>(
     tally.restart();
     run(&mut tree, &commands, &mut replies)?;
     let most = levels
-        .saturating_mul(4)
+        .saturating_mul(2)
         .saturating_mul(commands.len() as u64);
     assert!(rt;
         0 < tally.comparisons() && tally.comparisons() <= most,

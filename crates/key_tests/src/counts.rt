@@ -1,7 +1,7 @@
 //! The counted calls of the tree of keys, over a ledger of their own.
 
 ghost use Rattle.std.specs.Prelude.{◌≡◌, ◌≤◌, ◌+◌, length};
-ghost use Rattle.i_tree.specs.Key.KeyExpTree.{items};
+ghost use Rattle.i_tree.specs.Expiring.Tree.{items};
 
 use i_tree::Refusal;
 use i_tree::key::tree::KeyExpTree;

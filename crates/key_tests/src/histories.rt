@@ -83,7 +83,34 @@ impl History {
         self.accepted.iter().any(|other| other.key.key > low && other.is_live_below(time, end))
     }
 
-    // Inserts a key by chance where none that is live compares Equal. One in four lives long.
+    // A pair of the key with a value of its own. One in four lives long.
+    fn pair_of(&mut self, number: i32) -> Result<Accepted, Fail> {
+        let mut life = self.chance() % 16;
+        if self.chance() < 50 {
+            life = life.saturating_mul(40);
+        }
+        let key = expiring(number, self.time.saturating_add(life));
+        let val = i32::try_from(self.accepted.len())?;
+        Ok(Accepted { key, val })
+    }
+
+    // Inserts the key by the call that stores it where none that is live compares Equal.
+    fn insert_new<C: KeyStore>(
+        &mut self,
+        rt: &impl Abort,
+        keys: &mut C,
+        number: i32,
+    ) -> Result<(), Fail> {
+        let pair = self.pair_of(number)?;
+        let is_new = keys.insert_new(pair.key, pair.val, self.time)?;
+        assert!(rt; is_new != self.has_live(number));
+        if is_new {
+            self.accepted.push(pair)?;
+        }
+        Ok(())
+    }
+
+    // Inserts the key where none that is live compares Equal.
     fn insert<C: KeyStore>(
         &mut self,
         rt: &impl Abort,
@@ -95,14 +122,9 @@ impl History {
         if is_there {
             return Ok(());
         }
-        let mut life = self.chance() % 16;
-        if self.chance() < 50 {
-            life = life.saturating_mul(40);
-        }
-        let key = expiring(number, self.time.saturating_add(life));
-        let val = i32::try_from(self.accepted.len())?;
-        insert_pair(rt, keys, key, val, self.time)?;
-        self.accepted.push(Accepted { key, val })?;
+        let pair = self.pair_of(number)?;
+        insert_pair(rt, keys, pair.key, pair.val, self.time)?;
+        self.accepted.push(pair)?;
         Ok(())
     }
 
@@ -116,7 +138,11 @@ impl History {
         let number = self.chance();
         let turn = self.chance() % 4;
         if turn < 2 {
-            self.insert(rt, keys, number)?;
+            if turn == 0 {
+                self.insert_new(rt, keys, number)?;
+            } else {
+                self.insert(rt, keys, number)?;
+            }
             return Ok(keys.count() <= self.accepted.len());
         }
         let (end, answer) = if turn == 2 {

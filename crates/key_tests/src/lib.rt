@@ -29,6 +29,8 @@ mod lists;
 #[cfg(test)]
 mod live_closures;
 #[cfg(test)]
+mod new_keys;
+#[cfg(test)]
 mod no_memory;
 #[cfg(test)]
 mod reply_memory;

@@ -3,7 +3,7 @@
 ghost use Rattle.std.specs.Prelude.{◌≡◌, true};
 ghost use Rattle.std.specs.Ordering.{nat_cmp};
 ghost use Rattle.i_tree.specs.Root.Answer.{AtMost};
-ghost use Rattle.i_tree.specs.Key.Live.{live_pairs};
+ghost use Rattle.i_tree.specs.Expiring.Live.{live_pairs};
 ghost use Rattle.i_tree.specs.Root.Live.{is_live};
 ghost use Rattle.key_tests.specs.declared.live_closures.Numbered.{Numbered};
 

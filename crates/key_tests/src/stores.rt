@@ -143,6 +143,20 @@ pub fn insert_where_absent<C: KeyStore>(
     Some(keys.insert(key, val, time))
 }
 
+/// The same by one call.
+pub fn insert_if_new<C: KeyStore>(
+    keys: &mut C,
+    key: TimedKey,
+    val: i32,
+    time: i32,
+) -> Option<Result<(), Refusal>> {
+    match keys.insert_new(key, val, time) {
+        Ok(true) => Some(Ok(())),
+        Ok(false) => None,
+        Err(cause) => Some(Err(cause)),
+    }
+}
+
 /// Inserts these pairs at time 0, and answers whether each was stored.
 pub fn insert_pairs<C: KeyStore>(keys: &mut C, pairs: &[(TimedKey, i32)]) -> bool {
     for (timed, val) in pairs {

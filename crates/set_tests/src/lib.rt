@@ -14,6 +14,8 @@ mod lists;
 #[cfg(test)]
 mod no_memory;
 #[cfg(test)]
+mod present_keys;
+#[cfg(test)]
 mod reply_memory;
 #[cfg(test)]
 mod run_histories;
@@ -25,3 +27,5 @@ mod runs;
 mod stores;
 #[cfg(test)]
 mod trees;
+#[cfg(test)]
+mod walks;

@@ -64,10 +64,8 @@ impl<A: Allocator + Copy + Drop> MadeStore for KeyExpTree<Level, i32, Option<i32
 // Stores a level that never ends, where none of its height is stored.
 fn insert_endless<C: LevelStore>(store: &mut C, y: i32) -> Result<(), Refusal> {
     let level = Level { y, last: i32::MAX };
-    if store.contains_key(i32::MIN, level) {
-        return Ok(());
-    }
-    store.insert(level, Some(y), i32::MIN)
+    store.insert_new(level, Some(y), i32::MIN)?;
+    Ok(())
 }
 
 /// Stores levels that a sweep would answer, and one that its segments would overlap, if they stayed.

@@ -103,6 +103,14 @@ impl<K: ExpiredKey<E>, E: Expiration, V: Copy> KeyExpCollection<K, E, V> for Wat
         self.list.insert(key, val, time)
     }
 
+    fn insert_new(&mut self, key: K, val: V, time: E) -> Result<bool, Refusal> {
+        self.calls.note(Call::Insert);
+        if self.list.stored() >= self.most && !self.list.contains_key(time, key) {
+            return Err(Refusal::NoHandle);
+        }
+        self.list.insert_new(key, val, time)
+    }
+
     fn first_less(&mut self, time: E, default: V, key: K) -> V {
         self.calls.note(Call::Search);
         self.list.first_less(time, default, key)

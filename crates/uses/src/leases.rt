@@ -73,9 +73,7 @@ fn hold<C: KeyExpCollection<Lease, u64, Option<Lease>>>(
     lease: Lease,
     now: u64,
 ) -> Result<(), Refusal> {
-    if !leases.contains_key(now, lease) {
-        leases.insert(lease, Some(lease), now)?;
-    }
+    leases.insert_new(lease, Some(lease), now)?;
     Ok(())
 }
 

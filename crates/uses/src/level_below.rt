@@ -23,9 +23,7 @@ impl ExpiredKey<i32> for Level {
 pub fn below(alloc: Global, levels: &[Level], at: i32, height: i32) -> Result<i32, Refusal> {
     let mut active = KeyExpTree::new(alloc, 16)?;
     for level in levels {
-        if !active.contains_key(0, *level) {
-            active.insert(*level, level.height, 0)?;
-        }
+        active.insert_new(*level, level.height, 0)?;
     }
     Ok(active.first_less_or_equal_by(at, -1, |level| level.height.cmp(&height)))
 }

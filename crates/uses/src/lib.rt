@@ -9,6 +9,8 @@ pub mod leases;
 pub mod level_below;
 pub mod own_descent;
 pub mod own_error;
+pub mod polygon_crossings;
 pub mod seen_below;
+pub mod sloped_status;
 pub mod sweep_events;
 pub mod tickets;

@@ -44,10 +44,9 @@ pub fn stops_before(
 ) -> Result<Vec<Option<i32>>, RouteError> {
     let mut open = KeyExpList::new(alloc, stops.len())?;
     for stop in stops {
-        if open.contains_key(time, *stop) {
+        if !open.insert_new(*stop, Some(stop.place), time)? {
             return Err(RouteError::Twice(stop.place));
         }
-        open.insert(*stop, Some(stop.place), time)?;
     }
     let mut found = Vec::new(alloc);
     for place in places {

@@ -57,15 +57,11 @@ pub fn serve<C: KeyExpCollection<Level, i32, u32>>(
     event: Event,
 ) -> Outcome {
     match event {
-        Event::Begin { level, name } => {
-            if active.contains_key(place, level) {
-                return Outcome::Taken;
-            }
-            match active.insert(level, name, place) {
-                Ok(()) => Outcome::Began,
-                Err(Refusal::OutOfMemory | Refusal::NoHandle) => Outcome::NoRoom,
-            }
-        }
+        Event::Begin { level, name } => match active.insert_new(level, name, place) {
+            Ok(true) => Outcome::Began,
+            Ok(false) => Outcome::Taken,
+            Err(Refusal::OutOfMemory | Refusal::NoHandle) => Outcome::NoRoom,
+        },
         Event::Ask { height } => {
             let stands = |level: Level| -> Ordering
                 ensures { result ≡ int_cmp level.height height }

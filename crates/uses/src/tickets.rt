@@ -33,11 +33,7 @@ pub fn put_new<A: Allocator + Copy>(
     requires { IsOrdered (λ ticket. ticket.number) nat_cmp (entries tickets.old.shape) }
     ensures { IsOrdered (λ ticket. ticket.number) nat_cmp (entries tickets.new.shape) }
 {
-    if tickets.contains_key(&ticket.number) {
-        return Ok(false);
-    }
-    tickets.insert(ticket)?;
-    Ok(true)
+    Ok(tickets.insert_new(ticket)?.is_none())
 }
 
 /// Takes the ticket of the number out, if it is there. Says whether it was.
@@ -60,6 +56,18 @@ fn delete<A: Allocator + Copy>(tickets: &mut SetTree<u32, Ticket, A>, handle: u3
     ensures { IsOrdered (λ ticket. ticket.number) nat_cmp (entries tickets.new.shape) }
 {
     tickets.delete_by_index(handle);
+}
+
+/// The seats of all tickets, by rising number.
+pub fn seats_in_order<A: Allocator + Copy>(
+    alloc: Global,
+    tickets: &SetTree<u32, Ticket, A>,
+) -> Result<Vec<u8>, Refusal> {
+    let mut seats = Vec::new(alloc);
+    for ticket in tickets.iter() {
+        seats.push(ticket.seats)?;
+    }
+    Ok(seats)
 }
 
 /// For how many seats the ticket is that stands before this number, once all are put and `withdrawn` is taken out; 0 where
@@ -86,6 +94,21 @@ pub fn seats_before(
 mod tests {
     use super::*;
     use std::test::Fail;
+
+    #[test]
+    fn seats_stand_by_number(rt: HostRuntime) -> Result<(), Fail> {
+        let [eight, four, other_eight] = [(8, 2), (4, 1), (8, 5)].map(|(number, seats)| Ticket {
+            number,
+            seats,
+        });
+        let mut tickets = SetTree::new(rt.alloc(), 0)?;
+        assert!(rt; put_new(&mut tickets, eight)?);
+        assert!(rt; put_new(&mut tickets, four)?);
+        assert!(rt; !put_new(&mut tickets, other_eight)?);
+        let seats = seats_in_order(rt.alloc(), &tickets)?;
+        assert!(rt; seats.as_slice() == [1, 2].as_slice());
+        Ok(())
+    }
 
     #[test]
     fn the_first_ticket_of_a_number_stays(rt: HostRuntime) -> Result<(), Fail> {

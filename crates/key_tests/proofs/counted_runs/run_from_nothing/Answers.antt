@@ -1,6 +1,6 @@
 use Rattle.std.proofs.Common.{◌≡◌, length, rules, ap, arith}
 use Rattle.std.proofs.lemmas.Result.{on_ok_weaker}
-use Rattle.i_tree.specs.Key.KeyExpTree.{items}
+use Rattle.i_tree.specs.Expiring.Tree.{items}
 use Rattle.itree_lib.proofs.RunLemmas.KnownPairs.{CanProbeAll-always}
 use Rattle.key_tests.proofs.counted_runs.run_from_nothing.Goals as goal
 

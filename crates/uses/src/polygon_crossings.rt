@@ -1,0 +1,83 @@
+//! Which edges of two polygons meet, exactly.
+
+use i_tree::Refusal;
+use plane::edge::Edge;
+use plane::meet::meetings;
+use std::alloc::Global;
+
+/// A corner of a polygon.
+#[derive(Clone, Copy)]
+pub struct Corner {
+    pub x: i32,
+    pub y: i32,
+}
+
+// Appends the edges of the polygon, from each corner to the next one, and from the last to the first.
+fn push_edges(edges: &mut Vec<Edge>, corners: &[Corner]) -> Result<(), Refusal> {
+    let Some(last) = corners.last() else {
+        return Ok(());
+    };
+    let mut before = *last;
+    for corner in corners {
+        edges.push(Edge {
+            x0: before.x,
+            y0: before.y,
+            x1: corner.x,
+            y1: corner.y,
+        })?;
+        before = *corner;
+    }
+    Ok(())
+}
+
+/// Which edge of the first polygon meets which of the second one, each pair once. An edge has the place of the corner
+/// where it ends.
+pub fn crossings(
+    alloc: Global,
+    first: &[Corner],
+    second: &[Corner],
+) -> Result<Vec<(usize, usize)>, Refusal> {
+    let mut edges = Vec::new(alloc);
+    push_edges(&mut edges, first)?;
+    let count = edges.len();
+    push_edges(&mut edges, second)?;
+    let mut pairs = Vec::new(alloc);
+    meetings(&edges, &mut pairs)?;
+    let mut crossings = Vec::new(alloc);
+    for (one, other) in &pairs {
+        if *one < count && count <= *other {
+            crossings.push((*one, *other - count))?;
+        }
+    }
+    Ok(crossings)
+}
+
+#[cfg(test)]
+mod tests {
+    use super::*;
+    use std::test::Fail;
+
+    const fn corner(x: i32, y: i32) -> Corner {
+        Corner { x, y }
+    }
+
+    #[test]
+    fn finds_where_a_square_and_a_triangle_cross(rt: HostRuntime) -> Result<(), Fail> {
+        let square = [corner(0, 0), corner(10, 0), corner(10, 10), corner(0, 10)];
+        let triangle = [corner(5, 5), corner(15, 4), corner(15, 6)];
+        let mut pairs = crossings(rt.alloc(), &square, &triangle)?;
+        pairs.sort_unstable();
+        // The right side of the square ends at corner 2. Two sides of the triangle meet at its corner 0.
+        assert!(rt; &pairs[..] == [(2, 0), (2, 1)].as_slice());
+        Ok(())
+    }
+
+    #[test]
+    fn finds_a_corner_that_touches_a_side(rt: HostRuntime) -> Result<(), Fail> {
+        let square = [corner(0, 0), corner(10, 0), corner(10, 10), corner(0, 10)];
+        let triangle = [corner(10, 5), corner(15, 4), corner(15, 6)];
+        assert!(rt; crossings(rt.alloc(), &square, &triangle)?.len() == 2);
+        assert!(rt; crossings(rt.alloc(), &square, &[])?.is_empty());
+        Ok(())
+    }
+}
