@@ -31,7 +31,10 @@ SOURCES = {
     "`key::exp::": ["i_tree/src/key/exp.rt"],
     "`key::list::": ["i_tree/src/key/list.rt"],
     "`key::tree::": ["i_tree/src/key/tree.rt"],
-    "`rb::": ["i_tree/src/rb/tree.rt", "i_tree/src/rb/removal.rt", "i_tree/src/rb/clear.rt"],
+    "`status::exp::": ["i_tree/src/status/exp.rt"],
+    "`status::list::": ["i_tree/src/status/list.rt"],
+    "`status::tree::": ["i_tree/src/status/tree.rt"],
+    "`rb::": ["i_tree/src/rb/tree.rt", "i_tree/src/rb/neighbours.rt", "i_tree/src/rb/removal.rt", "i_tree/src/rb/clear.rt"],
     "`set::sort::": ["i_tree/src/set/sort.rt"],
     "`set::tree::": ["i_tree/src/set/tree.rt"],
     "`set::list::": ["i_tree/src/set/list.rt"],
@@ -39,6 +42,8 @@ SOURCES = {
     "`seg::tree::": ["i_tree/src/seg/*.rt"],
     "`itree_lib::run": ["itree_lib/src/run/*.rt"],
     "`itree_lib::sweep": ["itree_lib/src/sweep/mod.rt"],
+    "`plane`": ["plane/src/edge.rt", "plane/src/meet/*.rt", "plane/src/locate/*.rt"],
+    "`itree_c`": ["itree_c/src/*.rt"],
     "`itree`": ["itree/src/program.rt"],
 }
 
