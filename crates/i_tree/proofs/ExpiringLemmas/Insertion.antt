@@ -1,37 +1,44 @@
 -- A pair that joins a tree at the place that a descent has come to.
-use Rattle.std.proofs.Common.{◌≡◌, ◌≢◌, ℕ, ◌+◌, ◌-◌, ◌<◌, ◌≤◌, zero, suc, Bool, true, false, if◌then◌else◌, Result, Ok, Err, List, [], ◌∷◌, ◌++◌, length, refl, sym, ap, ◌∙◌, subst, inl, inr, arith, append_assoc, length-append}
-use Rattle.std.proofs.Math.Seq.{take-append_seam, drop-append_seam}
-use Rattle.std.specs.Cmp.{IsTotalOrder}
-use Rattle.std.specs.Bool.{MatchBool}
-use Rattle.std.specs.Result.{IfOk, OnErr, OnOk}
-use Rattle.std.specs.List.{All, filter, insert}
-use Rattle.std.specs.Ordering.{is_lt, ordering_reverse}
+use Rattle.std.proofs.Common.{◌≡◌, ◌≢◌, ℕ, ◌+◌, ◌-◌, ◌<◌, ◌≤◌, zero, suc, Bool, true, false, is_some, Option, Result, Ok, Err, List, [], ◌∷◌, ◌++◌, length, refl, ap, ◌∙◌, subst, inl, inr, arith, append_assoc, length-append}
+use Rattle.std.specs.Result.{IfErr, IfOk, IsOk, OnErr}
 use Rattle.std.specs.declared.cmp.Ordering.{Ordering}
 use Rattle.std.specs.declared.cmp.Ordering.TheVariants.{Less, Equal, Greater}
-use Rattle.std.proofs.lemmas.Bool.{false≢true}
 use Rattle.std.proofs.lemmas.List.{length-map}
-use Rattle.std.proofs.lemmas.List.Elements.{All-append, All-filter, All-weaker}
 use Rattle.i_tree.proofs.ExpiringLemmas.List.{none_spare}
-use Rattle.i_tree.proofs.RbLemmas.SearchPath.Entries.{StartsIn-with, values-append}
+use Rattle.i_tree.proofs.RbLemmas.SearchPath.Entries.{values-append}
 use Rattle.i_tree.proofs.RbLemmas.SearchPath.Search.{less_left}
-use Rattle.i_tree.proofs.RootLemmas.Joined.{All-behind, All-front, All-from_end, All-from_start, AllPairs-behind, AllPairs-front, AllPairs-joined, Any-behind, Any-here}
-use Rattle.i_tree.proofs.RootLemmas.Lists.{All-from_filter, Contains-filter}
-use Rattle.i_tree.proofs.RootLemmas.Orders.{above}
-use Rattle.i_tree.proofs.RootLemmas.Withouts.{AllPairs-without, filter-without}
-use Rattle.i_tree.specs.Root.Change.{Gains, Without}
+use Rattle.i_tree.proofs.RootLemmas.Joined.{Any-behind, Any-here}
 use Rattle.i_tree.specs.Root.Descent.{Descends}
 use Rattle.i_tree.specs.Root.Ends.{EndsIn, FirstFinds, LastFinds, StartsIn}
 use Rattle.i_tree.specs.Expiring.Descent.{DescendsBetween, FindsAbove, MayCall}
-use Rattle.i_tree.specs.Expiring.Insertion.{CallsEqual, HasPlace, IsBetween, JoinsBetween}
+use Rattle.i_tree.specs.Expiring.Insertion.{CallsEqual, IsBetween, has_joined}
 use Rattle.i_tree.specs.Expiring.Tree.{items, slots_for}
-use Rattle.i_tree.specs.Root.Pairs.{HasKey, IsRising, NoKey}
 use Rattle.i_tree.specs.Rb.RbTree.{Contents, slots, slots_grown, slots_with_room}
 use Rattle.i_tree.specs.Rb.SearchPath.{FindsNotAbove}
 use Rattle.i_tree.specs.Rb.Shape.{Shape, entries}
 use Rattle.i_tree.specs.Root.Steps.{Counts}
 use Rattle.i_tree.specs.Set.Pairs.{values}
+use Rattle.i_tree.specs.declared.Refusal.{Refusal}
 use Rattle.i_tree.specs.declared.TheConstants.{EMPTY_REF}
 use Rattle.i_tree.specs.declared.rb.place.Place.{Place}
+
+-- what holds of what an insertion tells, by whether it tells something, holds of whether its pair has joined
+module _ {N : Type 0} where
+  pub IfOk-joined : (told : Result (Option N) Refusal) (P : Bool → Type 0) → IfOk told (λ neighbours. P (is_some neighbours)) → IfOk (has_joined told) P
+  IfOk-joined (Ok neighbours) P holds = holds
+  IfOk-joined (Err cause) P holds = tt
+
+  pub IsOk-joined : (told : Result (Option N) Refusal) → IsOk told → IsOk (has_joined told)
+  IsOk-joined (Ok neighbours) ok = ok
+  IsOk-joined (Err cause) ok = ok
+
+  pub OnErr-joined : (told : Result (Option N) Refusal) (P : Type 0) → OnErr told P → OnErr (has_joined told) P
+  OnErr-joined (Ok neighbours) P holds = tt
+  OnErr-joined (Err cause) P holds = holds
+
+  pub IfErr-joined : (told : Result (Option N) Refusal) (P : Refusal → Type 0) → IfErr told P → IfErr (has_joined told) P
+  IfErr-joined (Ok neighbours) P holds = tt
+  IfErr-joined (Err cause) P holds = holds
 
 -- what a descent has come to
 module _ {K V : Type 0} (is_live : K → Bool) (May : K → Ordering → Type 0) (tree : Shape (K × V)) (place : Place) (last : ℕ) (said : Ordering) (next : ℕ)

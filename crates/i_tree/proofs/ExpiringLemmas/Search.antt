@@ -10,12 +10,14 @@ use Rattle.i_tree.proofs.RbLemmas.SearchPath.Entries.{values-append}
 use Rattle.i_tree.proofs.RbLemmas.Shape.SubtreeHandles.{live_from_cut}
 use Rattle.i_tree.proofs.RootLemmas.Along.{All-above, All-at_most, AtMostAlong-from_last, IsFirst-at_cut, IsLast-at_cut, Rises, first_value, last_value}
 use Rattle.i_tree.proofs.RootLemmas.Joined.{All-behind, All-front, AllPairs-behind, AllPairs-front}
+use Rattle.i_tree.proofs.RootLemmas.Withouts.{filter-without}
 use Rattle.i_tree.specs.Expiring.Descent.{DescendsBetween, FindsAbove, MayCall}
 use Rattle.i_tree.specs.Expiring.Tree.{items}
 use Rattle.i_tree.specs.Rb.SearchPath.{FindsNotAbove}
 use Rattle.i_tree.specs.Rb.Shape.{Shape, entries, occurs, IsHandle}
 use Rattle.i_tree.specs.Root.Along.{AboveAlong, AreNeighbours, AtMostAlong, ByEachOrder, IsFirst, IsLast, IsMonotoneAlong}
 use Rattle.i_tree.specs.Root.Answer.{AnswersBy}
+use Rattle.i_tree.specs.Root.Change.{Without}
 use Rattle.i_tree.specs.Root.Ends.{FirstFinds, LastFinds, StartsIn}
 use Rattle.i_tree.specs.Set.Pairs.{values}
 use Rattle.i_tree.specs.declared.TheConstants.{EMPTY_REF}
@@ -148,9 +150,12 @@ module _ {K V : Type 0} (is_live : K → Bool) where
         let (found, starts, is) = first_value default value (live (values end.back)) (next_read (λ pair. pair.1) default value read) in
         (found, is_first order answers monotone found starts, is)
 
-    pub answer_neighbours : (before after : Option (K × V)) → ReadsAt (λ pair. Some pair) None tree last before → ReadsAt (λ pair. Some pair) None tree next after
-        → ByEachOrder May (live (items tree)) (λ order. AreNeighbours order (live (items tree)) (before, after))
-    answer_neighbours before after read_last read_next order answers monotone = (
-      is_last order answers monotone before (last_read (λ pair. Some pair) None before read_last),
-      is_first order answers monotone after (next_read (λ pair. Some pair) None after read_next),
-    )
+    pub answer_neighbours : (old : List (K × V)) → Without (λ pair. is_live pair.0 ≡ false) old (items tree)
+        → (before after : Option (K × V)) → ReadsAt (λ pair. Some pair) None tree last before → ReadsAt (λ pair. Some pair) None tree next after
+        → ByEachOrder May (live old) (λ order. AreNeighbours order (live old) (before, after))
+    answer_neighbours old kept before after read_last read_next =
+        subst (λ (pairs : List (K × V)). ByEachOrder May pairs (λ order. AreNeighbours order pairs (before, after))) (sym (filter-without (λ (pair : K × V). is_live pair.0) (λ x expired. expired) kept))
+        (λ order answers monotone. (
+          is_last order answers monotone before (last_read (λ pair. Some pair) None before read_last),
+          is_first order answers monotone after (next_read (λ pair. Some pair) None after read_next),
+        ))

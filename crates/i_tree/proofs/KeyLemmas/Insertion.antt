@@ -1,37 +1,24 @@
 -- A pair that joins between keys that a test calls Less and keys that it calls Greater, among live and expired ones that rise.
-use Rattle.std.proofs.Common.{◌≡◌, ◌≢◌, ℕ, ◌+◌, ◌-◌, ◌<◌, zero, suc, Bool, true, false, if◌then◌else◌, Result, Ok, Err, List, [], ◌∷◌, ◌++◌, length, refl, sym, ap, ◌∙◌, subst, inl, inr, arith, append_assoc, length-append}
+use Rattle.std.proofs.Common.{◌≡◌, ◌≢◌, Bool, true, false, if◌then◌else◌, List, ◌∷◌, ◌++◌, length, refl, sym, ap, ◌∙◌, subst, inl, inr, arith, length-append}
 use Rattle.std.proofs.Math.Seq.{take-append_seam, drop-append_seam}
 use Rattle.std.specs.Cmp.{IsTotalOrder}
 use Rattle.std.specs.Bool.{MatchBool}
-use Rattle.std.specs.Result.{IfOk, OnErr, OnOk}
 use Rattle.std.specs.List.{All, filter, insert}
 use Rattle.std.specs.Ordering.{is_lt, ordering_reverse}
 use Rattle.std.specs.declared.cmp.Ordering.{Ordering}
 use Rattle.std.specs.declared.cmp.Ordering.TheVariants.{Less, Equal, Greater}
-use Rattle.std.proofs.lemmas.Bool.{false≢true}
-use Rattle.std.proofs.lemmas.List.{length-map}
 use Rattle.std.proofs.lemmas.List.Elements.{All-append, All-filter, All-weaker}
 use Rattle.i_tree.proofs.KeyLemmas.Lookup.{not_equal_above}
-use Rattle.i_tree.proofs.RbLemmas.SearchPath.Entries.{StartsIn-with, values-append}
-use Rattle.i_tree.proofs.RbLemmas.SearchPath.Search.{less_left}
-use Rattle.i_tree.proofs.RootLemmas.Joined.{All-behind, All-front, All-from_end, All-from_start, AllPairs-behind, AllPairs-front, AllPairs-joined, Any-behind, Any-here}
+use Rattle.i_tree.proofs.RbLemmas.SearchPath.Entries.{StartsIn-with}
+use Rattle.i_tree.proofs.RootLemmas.Joined.{All-behind, All-front, All-from_end, All-from_start, AllPairs-behind, AllPairs-front, AllPairs-joined}
 use Rattle.i_tree.proofs.RootLemmas.Lists.{All-from_filter, Contains-filter}
 use Rattle.i_tree.proofs.RootLemmas.Orders.{above}
 use Rattle.i_tree.proofs.RootLemmas.Withouts.{AllPairs-without, filter-without}
 use Rattle.i_tree.specs.Root.Change.{Gains, Without}
-use Rattle.i_tree.specs.Root.Descent.{Descends}
-use Rattle.i_tree.specs.Root.Ends.{EndsIn, FirstFinds, LastFinds, StartsIn}
-use Rattle.i_tree.specs.Expiring.Descent.{DescendsBetween, FindsAbove, MayCall}
+use Rattle.i_tree.specs.Root.Ends.{EndsIn, LastFinds}
+use Rattle.i_tree.specs.Expiring.Descent.{MayCall}
 use Rattle.i_tree.specs.Expiring.Insertion.{CallsEqual, HasPlace, IsBetween, JoinsBetween}
-use Rattle.i_tree.specs.Expiring.Tree.{items, slots_for}
 use Rattle.i_tree.specs.Root.Pairs.{HasKey, IsRising, NoKey}
-use Rattle.i_tree.specs.Rb.RbTree.{Contents, slots, slots_grown, slots_with_room}
-use Rattle.i_tree.specs.Rb.SearchPath.{FindsNotAbove}
-use Rattle.i_tree.specs.Rb.Shape.{Shape, entries}
-use Rattle.i_tree.specs.Root.Steps.{Counts}
-use Rattle.i_tree.specs.Set.Pairs.{values}
-use Rattle.i_tree.specs.declared.TheConstants.{EMPTY_REF}
-use Rattle.i_tree.specs.declared.rb.place.Place.{Place}
 
 -- a pair that joins between two lists
 module _ {X : Type 0} where

@@ -1,5 +1,5 @@
 -- A pair that is put into a list after the expired ones have gone.
-use Rattle.std.proofs.Common.{◌≡◌, ◌≢◌, sym, ℕ, ◌+◌, ◌<◌, ◌≤◌, zero, suc, Bool, false, true, Result, Ok, Err, List, length, refl, subst, ap, ◌∙◌, arith}
+use Rattle.std.proofs.Common.{◌≡◌, ◌≢◌, sym, ℕ, ◌+◌, ◌<◌, ◌≤◌, Result, Ok, Err, List, length, refl, subst, ap, ◌∙◌, arith}
 use Rattle.std.specs.Bool.{⊤}
 use Rattle.std.specs.List.{insert}
 use Rattle.std.specs.Result.{IfErr, IsOk, OnErr, OnOk}

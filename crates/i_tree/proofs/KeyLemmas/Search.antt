@@ -16,7 +16,6 @@ use Rattle.i_tree.specs.Root.Pairs.{IsRising}
 use Rattle.i_tree.specs.Expiring.Descent.{DescendsBetween}
 use Rattle.i_tree.specs.Expiring.Tree.{items}
 use Rattle.i_tree.specs.Rb.Shape.{Shape}
-use Rattle.i_tree.specs.Root.Ends.{LastFinds}
 use Rattle.i_tree.specs.Set.Pairs.{values}
 use Rattle.i_tree.specs.declared.rb.place.Place.{Place}
 

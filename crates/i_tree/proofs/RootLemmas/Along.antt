@@ -14,7 +14,7 @@ use Rattle.std.proofs.lemmas.List.Elements.{All-append, All-cons, All-head, All-
 use Rattle.std.proofs.lemmas.Option.{get_or_from_slice_get}
 use Rattle.i_tree.proofs.RootLemmas.Joined.{All-behind, All-from_end, All-from_start, AllPairs-across, AllPairs-front, Any-behind, Any-here}
 use Rattle.i_tree.specs.Root.Answer.{AnswersBy}
-use Rattle.i_tree.specs.Root.Along.{AtMostAlong, HasEqual, IsFirst, IsLast, IsMonotoneAlong, LastOr, NoneEqual, value_or}
+use Rattle.i_tree.specs.Root.Along.{AreNeighbours, AtMostAlong, HasEqual, IsFirst, IsLast, IsMonotoneAlong, LastOr, NoneEqual, value_or}
 use Rattle.i_tree.specs.Root.Ends.{FirstFinds, LastFinds, StartsIn}
 
 -- the test that isn't Greater
@@ -231,11 +231,33 @@ module _ {K V : Type 0} (order : K → Ordering) where
       (All-weaker (λ (pair : K × V). order pair.0 ≡ Less) (λ pair. order pair.0 ≢ Equal) (λ pair is equal. absurd (cc (is, equal))) front less)
       (All-weaker (λ (pair : K × V). order pair.0 ≡ Greater) (λ pair. order pair.0 ≢ Equal) (λ pair is equal. absurd (cc (is, equal))) back greater)
 
+  -- beside a cut between those that aren't called Greater and those that are stand the neighbours
+  pub neighbours_at_cut : (pairs : List (K × V)) (count : ℕ) → All (λ pair. order pair.0 ≢ Greater) (take count pairs) → All (λ pair. order pair.0 ≡ Greater) (drop count pairs)
+      → (found : Option (K × V) × Option (K × V)) → LastFinds (λ pair held. held ≡ Some pair) None (take count pairs) found.0 → FirstFinds (λ pair held. held ≡ Some pair) None (drop count pairs) found.1
+      → AreNeighbours order pairs found
+  neighbours_at_cut pairs count at_most above found before behind = (
+    subst (λ xs. IsLast (λ pair. order pair.0 ≢ Greater) xs found.0) (take-append-drop count pairs)
+        (IsLast-at_cut (λ pair. order pair.0 ≢ Greater) (take count pairs) (drop count pairs) found.0 at_most
+        (All-weaker (λ (pair : K × V). order pair.0 ≡ Greater) (λ pair. ¬ (order pair.0 ≢ Greater)) (λ pair is apart. apart is) (drop count pairs) above) before),
+    subst (λ xs. IsFirst (λ pair. order pair.0 ≡ Greater) xs found.1) (take-append-drop count pairs)
+        (IsFirst-at_cut (λ pair. order pair.0 ≡ Greater) (take count pairs) (drop count pairs) found.1 at_most above behind),
+  )
+
   -- a point behind all that aren't called Greater
   module _ (pairs : List (K × V)) (count : ℕ) (within : count ≤ length pairs) (point : IsPartitionPoint (λ pair. not (is_gt (order pair.0)) ≡ true) (λ pair. not (is_gt (order pair.0)) ≡ false) pairs count) where
     point_apart : IsPartitionPoint (λ pair. order pair.0 ≢ Greater) (λ pair. ¬ (order pair.0 ≢ Greater)) pairs count
     point_apart =
         (λ k d low high. at_most_from_test (order (get_or pairs k d).0) (point.0 k d low high), λ k d low high apart. apart (above_from_test (order (get_or pairs k d).0) (point.1 k d low high)))
+
+    above_behind : All (λ pair. order pair.0 ≡ Greater) (drop count pairs)
+    above_behind =
+        All-weaker (λ (pair : K × V). not (is_gt (order pair.0)) ≡ false) (λ pair. order pair.0 ≡ Greater) (λ pair fails. above_from_test (order pair.0) fails) (drop count pairs)
+        (All-behind_point (λ (pair : K × V). not (is_gt (order pair.0)) ≡ true) (λ pair. not (is_gt (order pair.0)) ≡ false) pairs count point)
+
+    pub neighbours_at_point : (found : Option (K × V) × Option (K × V)) → LastFinds (λ pair held. held ≡ Some pair) None (take count pairs) found.0 → FirstFinds (λ pair held. held ≡ Some pair) None (drop count pairs) found.1
+        → AreNeighbours order pairs found
+    neighbours_at_point found before behind =
+        neighbours_at_cut pairs count (All-before_point (λ pair. order pair.0 ≢ Greater) (λ pair. ¬ (order pair.0 ≢ Greater)) pairs count within point_apart) above_behind found before behind
 
     pub last_at_point : (found : Option (K × V)) → (count ≡ 0 → found ≡ None) → (0 < count → (pair : K × V) × (slice_get pairs (count - 1) ≡ Some pair) × (found ≡ Some pair))
         → IsLast (λ pair. order pair.0 ≢ Greater) pairs found
@@ -272,8 +294,7 @@ module _ {K V : Type 0} (order : K → Ordering) where
           (LastFinds-at_count (λ pair. order pair.0) Less pairs Less count within (λ _. refl) (λ some.
           let (pair, read, apart) = last some in
           (pair, read, sym (less_from_apart (order pair.0) apart (last_is_at_most pair some read))))),
-      All-weaker (λ (pair : K × V). not (is_gt (order pair.0)) ≡ false) (λ pair. order pair.0 ≡ Greater) (λ pair fails. above_from_test (order pair.0) fails) (drop count pairs)
-          (All-behind_point (λ (pair : K × V). not (is_gt (order pair.0)) ≡ true) (λ pair. not (is_gt (order pair.0)) ≡ false) pairs count point),
+      above_behind,
     )
 
   -- what a closure says of the last in front of a point, if there is one

@@ -1,10 +1,11 @@
 -- A pair that joins a tree between live ones that were called Less and live ones that were called Greater.
-use Rattle.std.proofs.Common.{◌≡◌, ◌≢◌, Bool, true, false, List, [], ◌∷◌, ◌++◌, refl, sym, ap, ◌∙◌, subst, inl, inr}
+use Rattle.std.proofs.Common.{◌≡◌, ◌≤◌, ◌+◌, Bool, true, false, Result, Ok, Err, length, arith, List, [], ◌∷◌, ◌++◌, refl, sym, ap, ◌∙◌, subst, inl, inr}
 use Rattle.std.specs.Bool.{MatchBool}
 use Rattle.std.specs.List.{All, AllPairs, filter}
 use Rattle.std.specs.declared.cmp.Ordering.{Ordering}
 use Rattle.std.specs.declared.cmp.Ordering.TheVariants.{Less, Equal, Greater}
 use Rattle.std.proofs.lemmas.List.Elements.{All-contains, All-head, filter-append}
+use Rattle.i_tree.proofs.ExpiringLemmas.Insertion.{room_grown, room_same}
 use Rattle.i_tree.proofs.RootLemmas.Along.{All-above, All-less, NoneEqual-between, Rises}
 use Rattle.i_tree.proofs.RootLemmas.Joined.{All-behind, All-front, AllPairs-behind, AllPairs-front}
 use Rattle.i_tree.proofs.RootLemmas.Lists.{Contains-filter}
@@ -15,7 +16,11 @@ use Rattle.i_tree.specs.Root.Along.{ByEachOrder, HasEqual, IsMonotoneAlong, None
 use Rattle.i_tree.specs.Root.Answer.{AnswersBy}
 use Rattle.i_tree.specs.Root.Change.{Without}
 use Rattle.i_tree.specs.Root.Ends.{EndsIn, LastFinds, StartsIn}
+use Rattle.i_tree.specs.Expiring.Tree.{items}
+use Rattle.i_tree.specs.Rb.RbTree.{Contents}
 use Rattle.i_tree.specs.Status.Insertion.{IsNew, JoinsAlong, JoinsOrLeaves}
+use Rattle.i_tree.specs.Status.StatusTree.{StatusTreeInserts}
+use Rattle.i_tree.specs.declared.Refusal.{Refusal}
 
 module _ {K V : Type 0} (is_live : K → Bool) (May : K → Ordering → Type 0) where
   abbrev live : List (K × V) → List (K × V)
@@ -90,6 +95,13 @@ module _ {K V : Type 0} (is_live : K → Bool) (May : K → Ordering → Type 0)
       let found = Contains-filter (λ (other : K × V). is_live other.0) after pair lives (k, within, at) in
       let says = All-contains (λ (other : K × V). (answer : Ordering) → May other.0 answer → answer ≡ order other.0) (live after) pair answers found in
       (found.0, pair, found.1, found.2, sym (says Equal may)))
+
+  -- it leaves no less room
+  pub room_kept : (old : Contents (K × V)) (result : Result Bool Refusal) (new : Contents (K × V)) → StatusTreeInserts is_live May old result new
+      → length (items old.shape) + old.spare ≤ length (items new.shape) + new.spare
+  room_kept old (Ok true) new inserts = room_grown old new inserts.slots
+  room_kept old (Ok false) new inserts = room_same old new inserts.slots
+  room_kept old (Err cause) new inserts = rw inserts.err (omega arith)
 
   -- what an insertion answers
   module _ (pair : K × V) (before after : List (K × V)) where

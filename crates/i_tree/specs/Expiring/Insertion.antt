@@ -1,8 +1,9 @@
--- What an insertion adds that may find its key there already, and where its pair stands.
-use Rattle.std.specs.Prelude.{◌≡◌, Bool, true, false, List, ◌∷◌, ◌++◌, Any, Result, Ok, Err, ⊤}
+-- What an insertion adds that may find its key there already, where its pair stands, and between which.
+use Rattle.std.specs.Prelude.{◌≡◌, Bool, true, false, List, ◌∷◌, ◌++◌, Any, Option, IfSome, Result, Ok, Err, is_some, ⊤}
 use Rattle.std.specs.declared.cmp.Ordering.{Ordering}
 use Rattle.std.specs.declared.cmp.Ordering.TheVariants.{Less, Equal, Greater}
 use Rattle.i_tree.specs.Expiring.Descent.{MayCall}
+use Rattle.i_tree.specs.Root.Along.{AreNeighbours, ByEachOrder}
 use Rattle.i_tree.specs.Root.Change.{Without}
 use Rattle.i_tree.specs.Root.Ends.{EndsIn, StartsIn}
 use Rattle.i_tree.specs.declared.Refusal.{Refusal}
@@ -12,6 +13,18 @@ abbrev pub InsertsOrLeaves : (Result ⊤ Refusal → Type 0) → Type 0 → Resu
 InsertsOrLeaves Inserts Leaves (Ok true) = Inserts (Ok tt)
 InsertsOrLeaves Inserts Leaves (Ok false) = Leaves
 InsertsOrLeaves Inserts Leaves (Err cause) = Inserts (Err cause)
+
+-- whether the pair has joined, of an insertion that tells something just where it has
+abbrev pub has_joined : {N : Type 0} → Result (Option N) Refusal → Result Bool Refusal
+has_joined (Ok told) = Ok (is_some told)
+has_joined (Err cause) = Err cause
+
+-- what is told of these pairs, if anything: by each order that a closure's answers follow, the last pair that it doesn't
+-- call Greater, and the first that it does
+abbrev pub TellsNeighbours : {K V : Type 0} → (K → Ordering → Type 0) → List (K × V)
+    → Option (Option (K × V) × Option (K × V)) → Type 0
+TellsNeighbours may_answer pairs told =
+    IfSome told (λ found. ByEachOrder may_answer pairs (λ order. AreNeighbours order pairs found))
 
 -- For the private contracts of `KeyExpTree`. `is_live` says which keys are live, and `MayAnswer` how a key may be called by what
 -- is sought.

@@ -1,5 +1,5 @@
 -- What a `StatusList` promises beyond the trait. `expiration` gives a key's expiration, and `cmp` compares expirations.
-use Rattle.std.specs.Prelude.{◌≡◌, ◌<◌, Bool, List, Any, Result, IsOk, IfErr, IfOk, OnErr, MatchBool}
+use Rattle.std.specs.Prelude.{◌≡◌, ◌<◌, Bool, Any, Result, IsOk, IfErr, IfOk, OnErr, MatchBool}
 use Rattle.std.specs.declared.cmp.Ordering.{Ordering}
 use Rattle.i_tree.specs.Expiring.List.{Contents}
 use Rattle.i_tree.specs.Expiring.Live.{live_pairs, IsExpired}

@@ -6,6 +6,7 @@ ghost use Rattle.std.specs.List.Sorted.{IsPartitionPoint};
 ghost use Rattle.std.specs.declared.cmp.Ordering.{Ordering};
 ghost use Rattle.std.specs.declared.cmp.Ordering.TheVariants.{Less, Greater};
 ghost use Rattle.i_tree.specs.Root.Along.{ByEachOrder, AboveAlong, AreNeighbours, AtMostAlong, HasEqual, value_or};
+ghost use Rattle.i_tree.specs.Root.Ends.{FirstFinds, LastFinds};
 
 use crate::binary_search::count_passing;
 use std::cmp::Ordering;
@@ -79,6 +80,15 @@ pub fn value_above<K: Copy, V: Copy, F: Fn(K) -> Ordering>(pairs: &[(K, V)], f: 
     value_or(default, next_pair(pairs, count_at_most(pairs, &f)))
 }
 
+/// The last of the first `count` pairs and the first behind them, if there are such.
+pub fn beside<K: Copy, V: Copy>(pairs: &[(K, V)], count: usize) -> (Option<(K, V)>, Option<(K, V)>)
+    requires { count ≤ length pairs.now }
+    ensures before { LastFinds (λ pair found. found ≡ Some pair) None (take count pairs.now) result.0 }
+    ensures behind { FirstFinds (λ pair found. found ≡ Some pair) None (drop count pairs.now) result.1 }
+{
+    (last_pair(pairs, count), next_pair(pairs, count))
+}
+
 /// The last pair that `f` doesn't call Greater, and the first that it does.
 pub fn neighbours<K: Copy, V: Copy, F: Fn(K) -> Ordering>(
     pairs: &[(K, V)],
@@ -87,8 +97,7 @@ pub fn neighbours<K: Copy, V: Copy, F: Fn(K) -> Ordering>(
     requires { All (λ pair. F.pre f pair.0) pairs.now }
     ensures { ByEachOrder (F.post f) pairs.now (λ order. AreNeighbours order pairs.now result) }
 {
-    let count = count_at_most(pairs, &f);
-    (last_pair(pairs, count), next_pair(pairs, count))
+    beside(pairs, count_at_most(pairs, &f))
 }
 
 // Whether `f` calls the pair Equal, if there is one.

@@ -1,16 +1,16 @@
 //! The insertion of a pair into a tree whose entries expire, by one descent.
 
-ghost use Rattle.std.specs.Prelude.{◌≡◌, ◌≢◌, ◌<◌, Bool, true, false, All, filter, length, if◌then◌else◌, IsOk, IfOk, IfErr, OnErr, MatchBool};
+ghost use Rattle.std.specs.Prelude.{◌≡◌, ◌≢◌, ◌<◌, Bool, true, false, All, filter, length, is_some, if◌then◌else◌, IsOk, IfOk, IfErr, OnErr, MatchBool};
 ghost use Rattle.i_tree.specs.Root.Change.{Without};
 ghost use Rattle.i_tree.specs.Root.Descent.{Descends};
 ghost use Rattle.i_tree.specs.Expiring.Descent.{AnswersAs};
-ghost use Rattle.i_tree.specs.Expiring.Insertion.{CallsEqual, HasPlace, JoinsBetween};
+ghost use Rattle.i_tree.specs.Expiring.Insertion.{CallsEqual, HasPlace, JoinsBetween, TellsNeighbours, has_joined};
 ghost use Rattle.i_tree.specs.Expiring.Tree.{items, slots_for};
 ghost use Rattle.i_tree.specs.Expiring.SearchPath.{path_by};
 ghost use Rattle.i_tree.specs.Rb.RbTree.{slots};
 ghost use Rattle.i_tree.specs.Rb.Balance.{IsCore};
 
-use super::descent::descend;
+use super::descent::{descend, pair_at};
 use super::live::Liveness;
 use crate::rb::RbTree;
 use crate::rb::place::place_below;
@@ -19,15 +19,16 @@ use crate::{EMPTY_REF, Refusal};
 use std::alloc::Allocator;
 use std::cmp::Ordering;
 
-/// Goes down to the place behind all live keys that `stands` doesn't call Greater, and stores the pair there, unless the last of them
-/// is called Equal. Says whether it did. Each expired entry on the search path is removed before memory is asked for.
-pub fn insert_by<K, V, A, C, L, F>(
+/// Goes down to the place behind all live keys that `stands` doesn't call Greater, and stores the pair there, unless the last
+/// of them is called Equal. Where it did, tells the live pairs between which it stands then. Each expired entry on the search
+/// path is removed before memory is asked for.
+pub fn insert_between<K, V, A, C, L, F>(
     core: &mut RbTree<(K, V), A>,
     steps: &mut C,
     lives: &L,
     stands: &F,
     pair: (K, V),
-) -> Result<bool, Refusal>
+) -> Result<Option<(Option<(K, V)>, Option<(K, V)>)>, Refusal>
 where
     K: Copy,
     V: Copy,
@@ -37,41 +38,55 @@ where
     F: Fn(K) -> Ordering,
     requires { All (λ other. F.pre stands.now other.0)
         (filter (λ other. L.live lives.now other.0) (items core.old.shape)) }
-    ensures joins { IfOk result (λ joined. MatchBool joined
+    ensures joins { IfOk result (λ told. MatchBool (is_some told)
         (JoinsBetween (L.live lives.now) (F.post stands.now) pair (items core.old.shape) (items core.new.shape))
         (Without (λ other. L.live lives.now other.0 ≡ false) (items core.old.shape) (items core.new.shape))) }
-    ensures equal { IfOk result (λ joined. joined ≡ false
+    ensures equal { IfOk result (λ told. is_some told ≡ false
         → CallsEqual (L.live lives.now) (F.post stands.now) (items core.new.shape)) }
+    ensures neighbours { IfOk result
+        (TellsNeighbours (F.post stands.now) (filter (λ other. L.live lives.now other.0) (items core.old.shape))) }
     ensures err { OnErr result (core.new ≡ core.old) }
     ensures err_place { OnErr result (HasPlace (L.live lives.now) (F.post stands.now) (items core.old.shape)) }
     ensures core { IsCore core.new.shape }
 
     // The slots, and when it is refused. All on the search path is live where it is refused, if a test says which keys pass.
-    ensures slots { IfOk result (λ joined. slots core.new
-        ≡ (if joined then slots_for core.old (length (items core.new.shape)) else slots core.old)) }
+    ensures slots { IfOk result (λ told. slots core.new
+        ≡ (if is_some told then slots_for core.old (length (items core.new.shape)) else slots core.old)) }
     ensures with_spare { 0 < core.old.spare → IsOk result }
     ensures err_way { OnErr result ((passes : K → Bool) → AnswersAs (F.post stands.now) passes
         → All (λ other. L.live lives.now other.0 ≡ true) (path_by passes core.old.shape)) }
     ensures full { core.old.spare ≡ 0 → slots core.old ≡ EMPTY_REF
         → (passes : K → Bool) → AnswersAs (F.post stands.now) passes
         → All (λ other. L.live lives.now other.0 ≡ true) (path_by passes core.old.shape)
-        → IfOk result (λ joined. joined ≡ false) }
+        → IfOk result (λ told. is_some told ≡ false) }
     ensures no_handle { slots core.old ≡ EMPTY_REF → IfErr result (λ cause. cause ≡ Refusal.NoHandle) }
     ensures refused { slots core.old ≢ EMPTY_REF → IfErr result (λ cause. cause ≡ Refusal.OutOfMemory) }
 
     // What was counted.
-    ensures steps { IfOk result (λ joined. Descends C.made steps.old steps.new
-        (length (items core.old.shape)) (length (items core.new.shape)) (if joined then 1 else 0)) }
+    ensures steps { IfOk result (λ told. Descends C.made steps.old steps.new
+        (length (items core.old.shape)) (length (items core.new.shape)) (if is_some told then 1 else 0)) }
     ensures err_steps { OnErr result (Descends C.made steps.old steps.new
         (length (items core.old.shape)) (length (items core.new.shape)) 0) }
 {
     let end = descend(core, steps, lives, stands);
     if end.said.is_eq() {
-        return Ok(false);
+        return Ok(None);
     }
+    let neighbours = (pair_at(core, end.last), pair_at(core, end.next));
     let place = place_below(end.above, end.on_right);
     if let Err(refused) = core.insert_at(steps, place, pair) {
         return Err(refused.cause);
     }
-    Ok(true)
+    Ok(Some(neighbours))
+}
+
+/// Whether the pair has joined, of an insertion that tells something just where it has.
+#[inline]
+pub fn has_joined<N: Copy>(told: Result<Option<N>, Refusal>) -> Result<bool, Refusal>
+    ensures { result ≡ has_joined told }
+{
+    match told {
+        Ok(told) => Ok(told.is_some()),
+        Err(cause) => Err(cause),
+    }
 }

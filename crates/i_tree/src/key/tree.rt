@@ -21,7 +21,7 @@ ghost use Rattle.i_tree.specs.Rb.Place.{place_below};
 
 use super::exp::KeyExpCollection;
 use crate::expiring::descent::{below_or_not, descend, value_at};
-use crate::expiring::insertion::insert_by;
+use crate::expiring::insertion::{has_joined, insert_between};
 use crate::expiring::live::{ByKey, LiveAt, is_live};
 use crate::rb::RbTree;
 use crate::rb::search::search_down;
@@ -147,7 +147,7 @@ impl<K: ExpiredKey<E>, E: Expiration, V: Copy, A: Allocator + Copy> KeyExpTree<K
             ensures { result ≡ (if is_lt (K.cmp other key) then Less else Greater) }
         { below_or_not(&other, &key) };
         let pair = (key, val);
-        if let Err(cause) = insert_by(
+        if let Err(cause) = insert_between(
             &mut self.core,
             steps,
             &LiveAt { time, by: ByKey },
@@ -199,13 +199,13 @@ impl<K: ExpiredKey<E>, E: Expiration, V: Copy, A: Allocator + Copy> KeyExpTree<K
             ensures { result ≡ K.cmp other key }
         { other.cmp(&key) };
         let pair = (key, val);
-        insert_by(
+        has_joined(insert_between(
             &mut self.core,
             steps,
             &LiveAt { time, by: ByKey },
             &stands,
             pair,
-        )
+        ))
     }
 
     /// `first_less`, with its steps counted. The counts are our own.

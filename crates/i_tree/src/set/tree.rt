@@ -117,7 +117,8 @@ impl<K: Ord, V: KeyValue<K> + Drop, A: Allocator + Copy> SetTree<K, V, A> {
         ensures handed { IfErr result (λ refused. refused.value ≡ val) }
         ensures in_order { IsOrdered V.key_of K.cmp (entries self.new.shape) }
         ensures steps { Searches C.made steps.old steps.new (length (entries self.old.shape)) 0 2 }
-        ensures present_steps { IfPresent result (λ _. Searches C.made steps.old steps.new (length (entries self.old.shape)) 0 0) }
+        ensures present_steps { IfPresent result (λ _.
+            Searches C.made steps.old steps.new (length (entries self.old.shape)) 0 0) }
         ensures err_steps { OnErr result (Searches C.made steps.old steps.new (length (entries self.old.shape)) 0 0) }
         ensures core { IsCore self.new.shape }
     {

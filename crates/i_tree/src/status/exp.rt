@@ -1,8 +1,9 @@
 //! The trait of statuses of a sweep line: what each of them promises.
 
-ghost use Rattle.std.specs.Prelude.{◌≡◌, ◌≤◌, ◌<◌, ℕ, Bool, List, [], All, Option, Result, ⊤, length, IsOk, IfOk, OnErr, MatchBool};
+ghost use Rattle.std.specs.Prelude.{◌≡◌, ◌≤◌, ◌<◌, ℕ, Bool, List, [], All, Option, Result, ⊤, length, is_some, IsOk, IfOk, OnErr};
 ghost use Rattle.std.specs.declared.cmp.Ordering.{Ordering};
 ghost use Rattle.i_tree.specs.declared.Refusal.{Refusal};
+ghost use Rattle.i_tree.specs.Expiring.Insertion.{has_joined, TellsNeighbours};
 ghost use Rattle.i_tree.specs.Expiring.Live.{live_pairs, IsExpired};
 ghost use Rattle.i_tree.specs.Root.Along.{ByEachOrder, AboveAlong, AreNeighbours, AtMostAlong, NoneEqual};
 ghost use Rattle.i_tree.specs.Root.Change.{Without};
@@ -30,8 +31,8 @@ pub trait StatusCollection<K: ExpiredVal<E>, E: Expiration, V: Copy> {
     /// For how many pairs in all there is room, the stored ones among them. The default promises none.
     ghost room: { Self → ℕ } = { λ _. 0 };
 
-    /// What each kind promises beyond these clauses of an insertion, by what the closure may answer, that gave this result. The
-    /// default promises nothing.
+    /// What each kind promises beyond these clauses of an insertion, by what the closure may answer, where this result says
+    /// whether the pair joined. The default promises nothing.
     ghost inserts: { (K → Ordering → Type 0) → K → V → E → Self → Result Bool Refusal → Self → Type 0 } = { λ _ _ _ _ _ _ _. ⊤ };
 
     /// What each kind promises beyond these clauses of a query at this time. The default promises nothing.
@@ -67,6 +68,35 @@ pub trait StatusCollection<K: ExpiredVal<E>, E: Expiration, V: Copy> {
         ensures with_room { length (stored self.old) < room self.old → IsOk result }
         ensures room { room self.old ≤ room self.new }
         ensures inserts { inserts (F.post f) key val time self.old result self.new };
+
+    /// As `insert_by`, and where the pair joins, tells the two live ones between which it stands then: the last that `f` calls
+    /// Less and the first that it calls Greater. One search finds the place and both. `None`: `f` calls a live key Equal, and
+    /// nothing joins; expired pairs may have gone.
+    ///
+    /// `f` is asked, and the call refused, as by `insert_by`.
+    fn insert_between<F: Fn(K) -> Ordering>(
+        &mut self,
+        time: E,
+        f: F,
+        key: K,
+        val: V,
+    ) -> Result<Option<(Option<(K, V)>, Option<(K, V)>)>, Refusal>
+        requires { All (λ pair. F.pre f pair.0) (live_pairs K.expiration E.cmp time (stored self.old)) }
+        ensures cases { IfOk result (λ told.
+            IsNew (F.post f) (is_some told) (live_pairs K.expiration E.cmp time (stored self.old))) }
+        ensures ok { IfOk result (λ told. JoinsOrLeaves (is_live K.expiration E.cmp time) (F.post f) (is_some told)
+            (key, val) (stored self.old) (stored self.new)) }
+        ensures neighbours { IfOk result
+            (TellsNeighbours (F.post f) (live_pairs K.expiration E.cmp time (stored self.old))) }
+        ensures err { OnErr result (stored self.new ≡ stored self.old) }
+        ensures err_new { OnErr result (ByEachOrder (F.post f)
+            (live_pairs K.expiration E.cmp time (stored self.old))
+            (λ order. NoneEqual order (live_pairs K.expiration E.cmp time (stored self.old)))) }
+
+        // When it is never refused, and what each kind adds.
+        ensures with_room { length (stored self.old) < room self.old → IsOk result }
+        ensures room { room self.old ≤ room self.new }
+        ensures inserts { inserts (F.post f) key val time self.old (has_joined result) self.new };
 
     /// The value of a live key that `f` calls Equal; where there is none, of the last live key along the line that it calls
     /// Less; where there is none of these either, `default`.

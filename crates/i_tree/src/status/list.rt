@@ -3,7 +3,8 @@
 ghost use Rattle.std.specs.Prelude.{◌≡◌, ◌≤◌, ◌+◌, [], length, IsOk, OnOk, OnErr, IfOk, IfErr};
 
 use super::exp::StatusCollection;
-use crate::expiring::along::{neighbours, place_by, value_above, value_at_most};
+use crate::expiring::along::{beside, neighbours, place_by, value_above, value_at_most};
+use crate::expiring::insertion::has_joined;
 use crate::expiring::list::ExpiringList;
 use crate::expiring::live::ByVal;
 use crate::{Expiration, ExpiredVal, Refusal};
@@ -97,12 +98,27 @@ impl<K: ExpiredVal<E>, E: Expiration, V: Copy, A: Allocator + Copy> StatusCollec
         key: K,
         val: V,
     ) -> Result<bool, Refusal> {
+        has_joined(self.insert_between(time, f, key, val))
+    }
+
+    /// Removes what is expired at `time`, and then stores the pair unless `f` calls a key that is left Equal. Its neighbours are
+    /// the pairs beside its place.
+    ///
+    /// It is refused as `insert_by`.
+    fn insert_between<F: Fn(K) -> Ordering>(
+        &mut self,
+        time: E,
+        f: F,
+        key: K,
+        val: V,
+    ) -> Result<Option<(Option<(K, V)>, Option<(K, V)>)>, Refusal> {
         self.held.remove_expired(time);
         let Some(place) = place_by(self.held.pairs(), f) else {
-            return Ok(false);
+            return Ok(None);
         };
+        let neighbours = beside(self.held.pairs(), place);
         self.held.put(place, key, val)?;
-        Ok(true)
+        Ok(Some(neighbours))
     }
 
     /// Removes what is expired at `time`, and answers by `f`, which is asked about what is left alone.

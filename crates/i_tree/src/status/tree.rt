@@ -1,10 +1,11 @@
 //! `StatusTree`: the status of a sweep line, in a red-black tree over the core.
 
-ghost use Rattle.std.specs.Prelude.{◌≡◌, ◌<◌, ◌+◌, All, length, IsOk, IfOk, OnErr, if◌then◌else◌};
+ghost use Rattle.std.specs.Prelude.{◌≡◌, ◌<◌, ◌+◌, All, length, is_some, IsOk, IfOk, OnErr, if◌then◌else◌};
 ghost use Rattle.i_tree.specs.Root.Along.{ByEachOrder, AboveAlong, AreNeighbours, AtMostAlong, NoneEqual};
 ghost use Rattle.i_tree.specs.Root.Change.{Without};
 ghost use Rattle.i_tree.specs.Root.Descent.{Descends};
 ghost use Rattle.i_tree.specs.Root.Live.{is_live};
+ghost use Rattle.i_tree.specs.Expiring.Insertion.{TellsNeighbours, has_joined};
 ghost use Rattle.i_tree.specs.Expiring.Live.{live_pairs, IsExpired};
 ghost use Rattle.i_tree.specs.Expiring.Tree.{items};
 ghost use Rattle.i_tree.specs.Rb.RbTree.{slots};
@@ -15,7 +16,7 @@ ghost use Rattle.i_tree.specs.Status.StatusTree.{StatusTreeInserts};
 
 use super::exp::StatusCollection;
 use crate::expiring::descent::{descend, pair_at, value_at};
-use crate::expiring::insertion::insert_by;
+use crate::expiring::insertion::{has_joined, insert_between};
 use crate::expiring::live::{ByVal, LiveAt};
 use crate::rb::RbTree;
 use crate::steps::{Counter, Uncounted};
@@ -132,8 +133,47 @@ impl<K: ExpiredVal<E>, E: Expiration, V: Copy, A: Allocator + Copy> StatusTree<K
         ensures err_steps { OnErr result
             (Descends C.made steps.old steps.new (length (items self.old.shape)) (length (items self.new.shape)) 0) }
     {
+        has_joined(self.insert_between_counted(steps, time, f, key, val))
+    }
+
+    /// `insert_between`, with its steps counted: those of one descent, whether the pair joins or not. Each comparison is one
+    /// call of `f`.
+    ///
+    /// It goes down and is refused as `insert_by_counted`, and reads both neighbours where the descent has come to.
+    pub fn insert_between_counted<C: Counter, F: Fn(K) -> Ordering>(
+        &mut self,
+        steps: &mut C,
+        time: E,
+        f: F,
+        key: K,
+        val: V,
+    ) -> Result<Option<(Option<(K, V)>, Option<(K, V)>)>, Refusal>
+        requires { All (λ pair. F.pre f pair.0) (live_pairs K.expiration E.cmp time (items self.old.shape)) }
+        ensures cases { IfOk result (λ told.
+            IsNew (F.post f) (is_some told) (live_pairs K.expiration E.cmp time (items self.old.shape))) }
+        ensures ok { IfOk result (λ told. JoinsOrLeaves (is_live K.expiration E.cmp time) (F.post f) (is_some told)
+            (key, val) (items self.old.shape) (items self.new.shape)) }
+        ensures neighbours { IfOk result
+            (TellsNeighbours (F.post f) (live_pairs K.expiration E.cmp time (items self.old.shape))) }
+        ensures err { OnErr result (self.new ≡ self.old) }
+        ensures err_new { OnErr result (ByEachOrder (F.post f)
+            (live_pairs K.expiration E.cmp time (items self.old.shape))
+            (λ order. NoneEqual order (live_pairs K.expiration E.cmp time (items self.old.shape)))) }
+        ensures core { IsCore self.new.shape }
+
+        // The slots, and when it is refused.
+        ensures inserts { StatusTreeInserts (is_live K.expiration E.cmp time) (F.post f)
+            self.old (has_joined result) self.new }
+        ensures with_spare { 0 < self.old.spare → IsOk result }
+
+        // What was counted.
+        ensures steps { IfOk result (λ told. Descends C.made steps.old steps.new
+            (length (items self.old.shape)) (length (items self.new.shape)) (if is_some told then 1 else 0)) }
+        ensures err_steps { OnErr result
+            (Descends C.made steps.old steps.new (length (items self.old.shape)) (length (items self.new.shape)) 0) }
+    {
         let pair = (key, val);
-        insert_by(&mut self.core, steps, &LiveAt { time, by: ByVal }, &f, pair)
+        insert_between(&mut self.core, steps, &LiveAt { time, by: ByVal }, &f, pair)
     }
 
     /// `first_less_or_equal_by`, with its steps counted: each comparison is one call of `f`.
@@ -235,6 +275,18 @@ impl<K: ExpiredVal<E>, E: Expiration, V: Copy, A: Allocator + Copy> StatusCollec
         val: V,
     ) -> Result<bool, Refusal> {
         self.insert_by_counted(&mut Uncounted, time, f, key, val)
+    }
+
+    /// Goes down, stores the pair and is refused as `insert_by`: the descent that finds the place ends between both
+    /// neighbours.
+    fn insert_between<F: Fn(K) -> Ordering>(
+        &mut self,
+        time: E,
+        f: F,
+        key: K,
+        val: V,
+    ) -> Result<Option<(Option<(K, V)>, Option<(K, V)>)>, Refusal> {
+        self.insert_between_counted(&mut Uncounted, time, f, key, val)
     }
 
     /// Answers by `f`, which is asked about the live keys on the search path alone. Each expired entry on the search path is

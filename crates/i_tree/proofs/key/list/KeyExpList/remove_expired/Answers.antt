@@ -1,5 +1,5 @@
 use Rattle.std.specs.declared.cmp.Ordering.TheVariants.{Less}
-use Rattle.std.proofs.Common.{◌≡◌, subst}
+use Rattle.std.proofs.Common.{◌≡◌}
 use Rattle.i_tree.proofs.RootLemmas.Withouts.{AllPairs-without}
 use Rattle.i_tree.proofs.key.list.KeyExpList.remove_expired.Goals as goal
 

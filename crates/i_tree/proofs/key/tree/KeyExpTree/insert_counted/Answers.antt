@@ -1,4 +1,4 @@
-use Rattle.std.proofs.Common.{◌≡◌, true, if◌then◌else◌, sym, ap, ◌∙◌}
+use Rattle.std.proofs.Common.{◌≡◌, true, is_some, if◌then◌else◌, sym, ap, ◌∙◌}
 use Rattle.std.specs.Ordering.{is_lt}
 use Rattle.std.specs.declared.cmp.Ordering.TheVariants.{Less, Greater}
 use Rattle.i_tree.proofs.KeyLemmas.Insertion.{gains_between, none_equal, rising_absent, true_unless}
@@ -11,24 +11,24 @@ use Rattle.i_tree.specs.Root.Pairs.{IsRising}
 use Rattle.i_tree.proofs.key.tree.KeyExpTree.insert_counted.Goals as goal
 
 -- none is called Equal, so the pair has joined
-joined : (g : _) (c : goal.In_default g) → c.in_default.field-0 ≡ true
+joined : (g : _) (c : goal.In_default g) → is_some c.in_default.field-0 ≡ true
 joined g c =
-    true_unless c.in_default.field-0
-    (λ is_false. none_equal g.K.Ord.cmp c.args.key (is_live g.K.ExpiredKey.expiration g.E.Ord.cmp c.args.time) (items c.insert_by.new.core.shape) ((c.in_default.ensures).equal is_false))
+    true_unless (is_some c.in_default.field-0)
+    (λ is_false. none_equal g.K.Ord.cmp c.args.key (is_live g.K.ExpiredKey.expiration g.E.Ord.cmp c.args.time) (items c.insert_between.new.core.shape) ((c.in_default.ensures).equal is_false))
 
 joins : (g : _) (c : goal.In_default g) → JoinsBetween (is_live g.K.ExpiredKey.expiration g.E.Ord.cmp c.args.time) (λ other answer. answer ≡ (if is_lt (g.K.Ord.cmp other c.args.key) then Less else Greater)) (c.args.key, c.args.val)
-    (items c.self.inside.core.shape) (items c.insert_by.new.core.shape)
+    (items c.self.inside.core.shape) (items c.insert_between.new.core.shape)
 joins g c = rw (joined g c) at (c.in_default.ensures).joins
 
-rising : (g : _) (c : goal.In_default g) → IsRising g.K.Ord.cmp (items c.insert_by.new.core.shape)
+rising : (g : _) (c : goal.In_default g) → IsRising g.K.Ord.cmp (items c.insert_between.new.core.shape)
 rising g c =
-    rising_absent g.met.K.Ord.total c.args.key (is_live g.K.ExpiredKey.expiration g.E.Ord.cmp c.args.time) c.args.val (items c.self.inside.core.shape) (items c.insert_by.new.core.shape) c.self.invariant
+    rising_absent g.met.K.Ord.total c.args.key (is_live g.K.ExpiredKey.expiration g.E.Ord.cmp c.args.time) c.args.val (items c.self.inside.core.shape) (items c.insert_between.new.core.shape) c.self.invariant
     (rw c.self.view_is c.requires) (joins g c)
 
 pub returns-clause-ok : goal.returns-clause-ok
 returns-clause-ok g c =
     rw (← c.self.view_is)
-    (gains_between g.met.K.Ord.total c.args.key (is_live g.K.ExpiredKey.expiration g.E.Ord.cmp c.args.time) _ c.args.val (items c.self.inside.core.shape) (items c.insert_by.new.core.shape) (joins g c))
+    (gains_between g.met.K.Ord.total c.args.key (is_live g.K.ExpiredKey.expiration g.E.Ord.cmp c.args.time) _ c.args.val (items c.self.inside.core.shape) (items c.insert_between.new.core.shape) (joins g c))
 
 pub returns-clause-rising : goal.returns-clause-rising
 returns-clause-rising g c = rising g c

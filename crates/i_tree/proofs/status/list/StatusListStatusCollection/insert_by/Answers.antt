@@ -1,85 +1,20 @@
-use Rattle.std.proofs.Common.{◌≡◌, ◌<◌, false, true, refl, sym, subst, ap, ◌∙◌, arith}
-use Rattle.std.specs.List.{All, Any, insert}
-use Rattle.std.proofs.lemmas.Bool.{false≢true}
-use Rattle.std.proofs.lemmas.Result.{MatchResult-from_err, err_from_is_err_and}
-use Rattle.i_tree.proofs.ExpiringLemmas.List.{all_stayed, had_no_spare, none_spare, none_was_expired}
-use Rattle.i_tree.proofs.StatusLemmas.ListInsertion.{IsPlaced, joins_placed, none_equal}
-use Rattle.i_tree.specs.Expiring.Live.{live_pairs, IsExpired}
-use Rattle.i_tree.specs.Root.Along.{ByEachOrder, HasEqual}
-use Rattle.i_tree.specs.Root.Change.{Without}
-use Rattle.i_tree.specs.Root.Live.{is_live}
-use Rattle.i_tree.specs.Status.Insertion.{JoinsAlong}
+use Rattle.i_tree.proofs.ExpiringLemmas.Insertion.{IfOk-joined, IsOk-joined, OnErr-joined}
 use Rattle.i_tree.proofs.status.list.StatusListStatusCollection.insert_by.Goals as goal
 
-pub place_by-requires : goal.place_by-requires
-place_by-requires g c =
-    let live = live_pairs g.K.ExpiredVal.expiration g.E.Ord.cmp {V = g.row.V.Denot} c.args.time in
-    subst (All (λ (pair : g.row.K.Denot × g.row.V.Denot). goal.F-pre g c.args.f pair.0)) (sym (c.pairs.ensures ∙ c.remove_expired.ensures.leaves.keeps_live ∙ ap (λ list. live list.pairs) c.self.view_is)) c.requires
-
--- a live key is called Equal
-pub returns-in_default-clause-cases : goal.returns-in_default-clause-cases
-returns-in_default-clause-cases g c =
-    let live = live_pairs g.K.ExpiredVal.expiration g.E.Ord.cmp {V = g.row.V.Denot} c.args.time in
-    subst (λ pairs. ByEachOrder (goal.F-post g c.args.f) pairs (λ order. HasEqual order pairs)) (c.pairs.ensures ∙ c.remove_expired.ensures.leaves.keeps_live ∙ ap (λ list. live list.pairs) c.self.view_is)
-    c.in_default.ensures.place
-
-pub returns-in_default-clause-ok : goal.returns-in_default-clause-ok
-returns-in_default-clause-ok g c =
-    subst (λ list. Without (IsExpired g.K.ExpiredVal.expiration g.E.Ord.cmp {V = g.row.V.Denot} c.args.time) list.pairs c.remove_expired.new.self.pairs) c.self.view_is c.remove_expired.ensures.kept
-
--- a refusal leaves the list that is left as it is, and nothing had gone
-full : (g : _) (c : goal.After-from_residual g) → c.remove_expired.new.self.spare ≡ 0
-full g c = none_spare c.remove_expired.new.self.spare (c.in_err-put.ensures).with_spare
-
-stays : (g : _) (c : goal.After-from_residual g) → c.put.new.self ≡ c.args.self.now
-stays g c =
-    (c.in_err-put.ensures).err
-    ∙ all_stayed g.K.ExpiredVal.expiration g.E.Ord.cmp c.args.time c.self.inside.held c.remove_expired.new.self c.remove_expired.ensures.leaves (full g c)
-    ∙ c.self.view_is
-
-pub returns-in_err-put-clause-err : goal.returns-in_err-put-clause-err
-returns-in_err-put-clause-err g c =
-    MatchResult-from_err c.from_residual.result _ _ c.from_residual.ensures.0 (λ _. ap (λ list. list.pairs) (stays g c))
-
-pub returns-in_err-put-clause-with_room : goal.returns-in_err-put-clause-with_room
-returns-in_err-put-clause-with_room g c few =
-    absurd (omega (arith, few, ap (λ list. list.spare) c.self.view_is, had_no_spare g.K.ExpiredVal.expiration g.E.Ord.cmp c.args.time c.self.inside.held c.remove_expired.new.self c.remove_expired.ensures.leaves (full g c)))
-
-pub returns-in_err-put-clause-err_new : goal.returns-in_err-put-clause-err_new
-returns-in_err-put-clause-err_new g c =
-    let live = live_pairs g.K.ExpiredVal.expiration g.E.Ord.cmp {V = g.row.V.Denot} c.args.time in
-    MatchResult-from_err c.from_residual.result _ _ c.from_residual.ensures.0 (λ _.
-    none_equal (is_live g.K.ExpiredVal.expiration g.E.Ord.cmp c.args.time) (goal.F-post g c.args.f) c.args.self.now.pairs c.in-Some.place
-    (subst (IsPlaced (is_live g.K.ExpiredVal.expiration g.E.Ord.cmp c.args.time) (goal.F-post g c.args.f) c.args.self.now.pairs c.in-Some.place) (c.pairs.ensures ∙ c.remove_expired.ensures.leaves.keeps_live ∙ ap (λ list. live list.pairs) c.self.view_is)
-    (c.in-Some.ensures).place))
-
-pub returns-in_err-put-clause-inserts : goal.returns-in_err-put-clause-inserts
-returns-in_err-put-clause-inserts g c =
-    record {
-      keeps_live = MatchResult-from_err c.from_residual.result _ _ c.from_residual.ensures.0 (λ _. tt);
-      err = MatchResult-from_err c.from_residual.result _ _ c.from_residual.ensures.0 (λ _. stays g c);
-      refused = let p = err_from_is_err_and c.from_residual.result c.from_residual.ensures.1 in rw p.1 (p.2 ∙ (c.in_err-put.ensures).refused);
-      with_spare = λ room.
-          absurd (omega (arith, room, ap (λ list. list.spare) c.self.view_is, had_no_spare g.K.ExpiredVal.expiration g.E.Ord.cmp c.args.time c.self.inside.held c.remove_expired.new.self c.remove_expired.ensures.leaves (full g c)));
-      with_expired = λ expired.
-          absurd (false≢true (none_was_expired g.K.ExpiredVal.expiration g.E.Ord.cmp c.args.time c.self.inside.held c.remove_expired.new.self c.remove_expired.ensures.leaves (full g c)
-          (subst (λ list. Any (IsExpired g.K.ExpiredVal.expiration g.E.Ord.cmp {V = g.row.V.Denot} c.args.time) list.pairs) (sym c.self.view_is) expired)));
-    }
-
--- what an insertion that has room leaves: the pair has joined the live ones at its place
 pub returns-clause-cases : goal.returns-clause-cases
-returns-clause-cases g c =
-    let live = live_pairs g.K.ExpiredVal.expiration g.E.Ord.cmp {V = g.row.V.Denot} c.args.time in
-    none_equal (is_live g.K.ExpiredVal.expiration g.E.Ord.cmp c.args.time) (goal.F-post g c.args.f) c.args.self.now.pairs c.in-Some.place
-    (subst (IsPlaced (is_live g.K.ExpiredVal.expiration g.E.Ord.cmp c.args.time) (goal.F-post g c.args.f) c.args.self.now.pairs c.in-Some.place) (c.pairs.ensures ∙ c.remove_expired.ensures.leaves.keeps_live ∙ ap (λ list. live list.pairs) c.self.view_is)
-    (c.in-Some.ensures).place)
+returns-clause-cases g c = rw c.has_joined.ensures (IfOk-joined c.insert_between.result _ c.insert_between.ensures.cases)
 
 pub returns-clause-ok : goal.returns-clause-ok
-returns-clause-ok g c =
-    let live = live_pairs g.K.ExpiredVal.expiration g.E.Ord.cmp {V = g.row.V.Denot} c.args.time in
-    let lives = is_live g.K.ExpiredVal.expiration g.E.Ord.cmp c.args.time in
-    subst (JoinsAlong lives (goal.F-post g c.args.f) (c.args.key, c.args.val) c.args.self.now.pairs)
-    (sym ((c.in_ok-put.ensures).ok ∙ ap (λ pairs. insert pairs c.in-Some.place (c.args.key, c.args.val)) (c.remove_expired.ensures.leaves.keeps_live ∙ ap (λ list. live list.pairs) c.self.view_is)))
-    (joins_placed lives (goal.F-post g c.args.f) c.args.self.now.pairs c.in-Some.place
-    (subst (IsPlaced lives (goal.F-post g c.args.f) c.args.self.now.pairs c.in-Some.place) (c.pairs.ensures ∙ c.remove_expired.ensures.leaves.keeps_live ∙ ap (λ list. live list.pairs) c.self.view_is) (c.in-Some.ensures).place)
-    (c.args.key, c.args.val))
+returns-clause-ok g c = rw c.has_joined.ensures (IfOk-joined c.insert_between.result _ c.insert_between.ensures.ok)
+
+pub returns-clause-err : goal.returns-clause-err
+returns-clause-err g c = rw c.has_joined.ensures (OnErr-joined c.insert_between.result _ c.insert_between.ensures.err)
+
+pub returns-clause-err_new : goal.returns-clause-err_new
+returns-clause-err_new g c = rw c.has_joined.ensures (OnErr-joined c.insert_between.result _ c.insert_between.ensures.err_new)
+
+pub returns-clause-with_room : goal.returns-clause-with_room
+returns-clause-with_room g c few = rw c.has_joined.ensures (IsOk-joined c.insert_between.result (c.insert_between.ensures.with_room few))
+
+pub returns-clause-inserts : goal.returns-clause-inserts
+returns-clause-inserts g c = rw c.has_joined.ensures c.insert_between.ensures.inserts

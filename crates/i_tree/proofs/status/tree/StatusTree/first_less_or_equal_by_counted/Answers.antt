@@ -1,4 +1,4 @@
-use Rattle.std.proofs.Common.{◌≡◌, ℕ, length, sym, ap, ◌∙◌, subst}
+use Rattle.std.proofs.Common.{ℕ, length, sym, ap, ◌∙◌, subst}
 use Rattle.std.proofs.lemmas.List.{length-map}
 use Rattle.i_tree.proofs.ExpiringLemmas.Search.{answer_at_most}
 use Rattle.i_tree.proofs.RootLemmas.Withouts.{filter-without}

@@ -1,12 +1,10 @@
-use Rattle.std.proofs.Common.{◌≡◌, ℕ, length, sym, ap, ◌∙◌, subst}
+use Rattle.std.proofs.Common.{ℕ, length, ap, ◌∙◌, subst}
 use Rattle.std.proofs.lemmas.List.{length-map}
 use Rattle.i_tree.proofs.ExpiringLemmas.Search.{answer_neighbours}
-use Rattle.i_tree.proofs.RootLemmas.Withouts.{filter-without}
-use Rattle.i_tree.specs.Root.Along.{ByEachOrder, AreNeighbours}
 use Rattle.i_tree.specs.Root.Change.{Without}
 use Rattle.i_tree.specs.Root.Descent.{Descends}
 use Rattle.i_tree.specs.Expiring.Tree.{items}
-use Rattle.i_tree.specs.Expiring.Live.{live_pairs, IsExpired}
+use Rattle.i_tree.specs.Expiring.Live.{IsExpired}
 use Rattle.i_tree.specs.Root.Live.{is_live}
 use Rattle.i_tree.specs.Rb.RbTree.{Contents, slots}
 use Rattle.i_tree.specs.Rb.Place.{place_below}
@@ -15,11 +13,9 @@ use Rattle.i_tree.proofs.status.tree.StatusTree.neighbours_by_counted.Goals as g
 
 pub returns-clause-value : goal.returns-clause-value
 returns-clause-value g c =
-    let lives = is_live g.K.ExpiredVal.expiration g.E.Ord.cmp c.args.time in
-    let live = live_pairs g.K.ExpiredVal.expiration g.E.Ord.cmp {V = g.row.V.Denot} c.args.time in
-    subst (λ pairs. ByEachOrder (goal.F-post g c.args.f) pairs (λ order. AreNeighbours order pairs (c.pair_at.result, c.pair_at-2.result)))
-    (sym (filter-without (λ (pair : g.row.K.Denot × g.row.V.Denot). lives pair.0) (λ x expired. expired) c.descend-end.ensures.kept) ∙ ap (λ (contents : Contents (g.row.K.Denot × g.row.V.Denot)). live (items contents.shape)) c.self.view_is)
-    (answer_neighbours lives (goal.F-post g c.args.f) c.descend-end.new.core.shape (place_below c.descend-end.result.above c.descend-end.result.on_right) c.descend-end.result.last c.descend-end.result.said c.descend-end.result.next c.descend-end.ensures.end
+    rw (← c.self.view_is)
+    (answer_neighbours (is_live g.K.ExpiredVal.expiration g.E.Ord.cmp c.args.time) (goal.F-post g c.args.f) c.descend-end.new.core.shape (place_below c.descend-end.result.above c.descend-end.result.on_right)
+    c.descend-end.result.last c.descend-end.result.said c.descend-end.result.next c.descend-end.ensures.end (items c.self.inside.core.shape) c.descend-end.ensures.kept
     c.pair_at.result c.pair_at-2.result (record { none_empty = c.descend-end.ensures.core.handles.none_empty; none = c.pair_at.ensures.none; some = c.pair_at.ensures.some })
     (record { none_empty = c.descend-end.ensures.core.handles.none_empty; none = c.pair_at-2.ensures.none; some = c.pair_at-2.ensures.some }))
 

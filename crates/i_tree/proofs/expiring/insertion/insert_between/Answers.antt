@@ -1,6 +1,7 @@
 use Rattle.std.proofs.Common.{◌≡◌, ◌+◌, ◌++◌, ◌∷◌, ℕ, false, length, sym, subst, ap, ◌∙◌, arith}
 use Rattle.std.proofs.lemmas.List.{length-map}
 use Rattle.i_tree.proofs.ExpiringLemmas.Insertion.{calls_equal, items_cut, none_removed, one_more, place_between, slots_joined}
+use Rattle.i_tree.proofs.ExpiringLemmas.Search.{answer_neighbours}
 use Rattle.i_tree.proofs.RbLemmas.SearchPath.Counts.{counted_join}
 use Rattle.i_tree.proofs.RbLemmas.SearchPath.Entries.{values-append}
 use Rattle.i_tree.proofs.RbLemmas.SearchPath.Search.{equal_from, not_equal_from}
@@ -11,7 +12,7 @@ use Rattle.i_tree.specs.Rb.RbTree.{Contents, slots}
 use Rattle.i_tree.specs.Rb.Place.{IsPlaceBetween, place_below}
 use Rattle.i_tree.specs.Rb.Shape.{entries}
 use Rattle.i_tree.specs.Set.Pairs.{values}
-use Rattle.i_tree.proofs.expiring.insertion.insert_by.Goals as goal
+use Rattle.i_tree.proofs.expiring.insertion.insert_between.Goals as goal
 
 pub insert_at-requires : goal.insert_at-requires
 insert_at-requires g c =
@@ -114,6 +115,13 @@ returns-clause-joins g c =
       place_between live May tree place last said next end (not_equal_from said (sym c.is_eq.ensures ∙ c.if-is_eq.false)),
       ap values (joined g c) ∙ values-append end.front ((c.in_default.field-0, c.args.pair) ∷ end.back),
     )
+
+pub returns-clause-neighbours : goal.returns-clause-neighbours
+returns-clause-neighbours g c =
+    answer_neighbours (g.L.Liveness.live c.args.lives.now) (goal.F-post g c.args.stands.now) c.descend-end.new.core.shape (place_below c.descend-end.result.above c.descend-end.result.on_right)
+    c.descend-end.result.last c.descend-end.result.said c.descend-end.result.next c.descend-end.ensures.end (items c.args.core.now.shape) c.descend-end.ensures.kept
+    c.pair_at.result c.pair_at-2.result (record { none_empty = c.descend-end.ensures.core.handles.none_empty; none = c.pair_at.ensures.none; some = c.pair_at.ensures.some })
+    (record { none_empty = c.descend-end.ensures.core.handles.none_empty; none = c.pair_at-2.ensures.none; some = c.pair_at-2.ensures.some })
 
 pub returns-clause-slots : goal.returns-clause-slots
 returns-clause-slots g c =

@@ -1,0 +1,8 @@
+use Rattle.i_tree.proofs.StatusLemmas.TreeInsertion.{room_kept}
+use Rattle.i_tree.specs.Expiring.Insertion.{has_joined}
+use Rattle.i_tree.specs.Root.Live.{is_live}
+use Rattle.i_tree.proofs.status.tree.StatusTreeStatusCollection.insert_between.Goals as goal
+
+pub returns-clause-room : goal.returns-clause-room
+returns-clause-room g c =
+    room_kept (is_live g.K.ExpiredVal.expiration g.E.Ord.cmp c.args.time) (goal.F-post g c.args.f) c.args.self.now (has_joined c.insert_between_counted.result) c.insert_between_counted.new.self c.insert_between_counted.ensures.inserts
