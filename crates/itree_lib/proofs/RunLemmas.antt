@@ -9,3 +9,4 @@ pub mod SegSteps
 pub mod SetRoom
 pub mod SetSteps
 pub mod StandsFor
+pub mod StatusSteps

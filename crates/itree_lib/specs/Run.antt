@@ -11,3 +11,5 @@ pub mod SegMachine
 pub mod SetMachine
 pub mod SetRoom
 pub mod StandsFor
+pub mod StatusMachine
+pub mod StatusProbes

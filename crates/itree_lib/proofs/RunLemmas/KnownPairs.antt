@@ -1,5 +1,5 @@
 -- What is stored is among the known pairs, and what holds at the known live pairs holds at the stored live ones.
-use Rattle.std.proofs.Common.{◌≡◌, ◌≤◌, ◌<◌, ◌+◌, ℕ, zero, suc, List, [], ◌∷◌, length, get_or, drop, insert, sym, ap, ◌∙◌, arith}
+use Rattle.std.proofs.Common.{◌≡◌, ◌≤◌, ◌<◌, ◌+◌, ℕ, List, [], ◌∷◌, length, get_or, drop, insert, sym, ap, ◌∙◌}
 use Rattle.std.proofs.lemmas.List.{drop_more}
 use Rattle.std.specs.Ordering.{ordering_index}
 use Rattle.std.specs.declared.cmp.Ordering.{Ordering}
@@ -17,7 +17,7 @@ use Rattle.itree_lib.specs.declared.run.keys.KeyCommand.{KeyCommand}
 use Rattle.itree_lib.specs.declared.run.keys.KeyCommand.TheVariants.{Insert, Less, LessOrEqualBy, Clear}
 use Rattle.itree_lib.specs.declared.run.keys.KeyReply.{KeyReply}
 use Rattle.itree_lib.specs.declared.run.keys.KeyReply.TheVariants.{Inserted, Present, Late, Refused, Value, Cleared}
-use Rattle.itree_lib.proofs.RunLemmas.Members.{Within, All-within, Contains-from_filter, Without-within}
+use Rattle.itree_lib.proofs.RunLemmas.Members.{Within, Within-cons, All-within, Contains-from_filter, Without-within}
 
 -- the commands to come are the next one and those after it
 pub next_command : {X : Type 0} (commands : List X) (i : ℕ) (command : X) → i < length commands → command ≡ get_or commands i command → drop i commands ≡ command ∷ drop (i + 1) commands
@@ -53,7 +53,7 @@ known_inserts {K = K} {V = V} expiration cmp_time cmp_key time key val stored st
     by_reply Cleared none = absurd none
 
 -- what is live of what is stored is live of what is known
-Within-live : {K E V : Type 0} (expiration : K → E) (cmp_time : E → E → Ordering) (time : E) (stored known : List (K × V)) → Within stored known → Within (live_pairs expiration cmp_time time stored) (live_pairs expiration cmp_time time known)
+pub Within-live : {K E V : Type 0} (expiration : K → E) (cmp_time : E → E → Ordering) (time : E) (stored known : List (K × V)) → Within stored known → Within (live_pairs expiration cmp_time time stored) (live_pairs expiration cmp_time time known)
 Within-live expiration cmp_time time stored known within x h =
     let found = Contains-from_filter (λ pair. is_live expiration cmp_time time pair.0) stored x h in
     Contains-filter (λ pair. is_live expiration cmp_time time pair.0) known x found.1 (within x found.0)
@@ -61,8 +61,7 @@ Within-live expiration cmp_time time stored known within x h =
 module _ {K E V P : Type 0} where
   -- more that is known before a command is more that is known after it
   pub known_after-within : (command : KeyCommand K E V P) (stored known : List (K × V)) → Within stored known → Within (known_after command stored) (known_after command known)
-  known_after-within (Insert key val time) stored known within x (zero, inside, is) = (0, omega arith, is)
-  known_after-within (Insert key val time) stored known within x (suc k, inside, is) = Contains-there (key, val) known x (within x (k, omega arith, is))
+  known_after-within (Insert key val time) stored known within x h = Within-cons (key, val) stored known within x h
   known_after-within (Less time default key) stored known within x h = within x h
   known_after-within (LessOrEqualBy time default probe) stored known within x h = within x h
   known_after-within Clear stored known within x h = h

@@ -16,6 +16,10 @@ module _ {X : Type 0} where
   abbrev pub Within : List X → List X → Type 0
   Within xs ys = (x : X) → Contains xs x → Contains ys x
 
+  pub Within-cons : (x : X) (xs ys : List X) → Within xs ys → Within (x ∷ xs) (x ∷ ys)
+  Within-cons x xs ys within y (zero, inside, is) = (0, omega arith, is)
+  Within-cons x xs ys within y (suc k, inside, is) = Contains-there x ys y (within y (k, omega arith, is))
+
   pub All-within : (P : X → Type 0) (xs ys : List X) → Within ys xs → All P xs → All P ys
   All-within P xs ys within h k d inside = All-contains P xs (get_or ys k d) h (within (get_or ys k d) (Contains-get_or ys k d inside))
 

@@ -186,7 +186,7 @@ where
 }
 
 // Makes `time` the last time, unless it is before it.
-fn advance<E: Expiration>(last: &mut Option<E>, time: E) -> bool
+pub fn advance<E: Expiration>(last: &mut Option<E>, time: E) -> bool
     ensures { MatchBool result
         ((is_late E.cmp last.old time ≡ false) × (last.new ≡ Some time))
         ((is_late E.cmp last.old time ≡ true) × (last.new ≡ last.old)) }
