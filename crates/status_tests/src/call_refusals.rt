@@ -1,7 +1,9 @@
 //! Calls of statuses, with each request for memory refused in turn.
 
 use crate::sloped::level;
-use crate::stores::{SlopedList, SlopedTree, StatusStore, fill, holds_rising, insert};
+use crate::stores::{
+    SlopedList, SlopedTree, StatusStore, fill, holds_rising, insert, insert_between,
+};
 use i_tree::Refusal;
 use std::alloc::Global;
 use test_kit::Refusing;
@@ -146,11 +148,12 @@ fn reserve_capacity_takes_its_room_at_once(rt: HostRuntime) {
     }
 }
 
-// A further segment where there is no room, above those that rise from 1 on.
+// A further segment where there is no room, above those that rise from 1 on, and whether its neighbours are told.
 #[derive(Drop)]
 struct Growing<C: StatusStore> {
     memory: C::Memory,
     least: i32,
+    is_told: bool,
 }
 
 impl<C: StatusStore> Trial for Growing<C> {
@@ -162,7 +165,13 @@ impl<C: StatusStore> Trial for Growing<C> {
 
     fn call(&self, changing: &mut Changing<C>) {
         let next = changing.stored.saturating_add(1);
-        changing.answer = Some(insert(&mut changing.status, 0, level(i64::from(next)), next));
+        let sloped = level(i64::from(next));
+        changing.answer = Some(if self.is_told {
+            let told = insert_between(&mut changing.status, 0, sloped, next).0;
+            told.map(|found| found == Some((changing.stored, -1)))
+        } else {
+            insert(&mut changing.status, 0, sloped, next)
+        });
     }
 
     fn is_refused(&self, changing: &mut Changing<C>, _nth: u64) -> bool {
@@ -175,22 +184,38 @@ impl<C: StatusStore> Trial for Growing<C> {
     }
 }
 
-fn requests_of_insert_by<C: StatusStore>(
+fn requests_of_insertion<C: StatusStore>(
     counted: &Refusing<Global>,
     memory: C::Memory,
     least: i32,
+    is_told: bool,
 ) -> Result<u64, Fault> {
-    let trial: Growing<C> = Growing { memory, least };
+    let trial: Growing<C> = Growing {
+        memory,
+        least,
+        is_told,
+    };
     refuse_in_turn(counted, &trial)
 }
 
 #[test]
 fn an_insertion_grows_at_once_or_changes_nothing(rt: HostRuntime) {
     let memory = Refusing::new(rt.alloc());
-    for least in [0, 5, 10, 20, 40] {
-        let of_tree = requests_of_insert_by::<SlopedTree<Memory>>(&memory, &memory, least);
+    for (least, is_told) in [
+        (0, false),
+        (5, false),
+        (10, false),
+        (20, false),
+        (40, false),
+        (1, true),
+        (5, true),
+        (10, true),
+        (20, true),
+        (40, true),
+    ] {
+        let of_tree = requests_of_insertion::<SlopedTree<Memory>>(&memory, &memory, least, is_told);
         assert!(rt; of_tree == Ok(1), "tree of {least}");
-        let of_list = requests_of_insert_by::<SlopedList<Memory>>(&memory, &memory, least);
+        let of_list = requests_of_insertion::<SlopedList<Memory>>(&memory, &memory, least, is_told);
         assert!(rt; of_list == Ok(1), "list of {least}");
     }
 }

@@ -1,12 +1,16 @@
 //! Ways down a tree: which segments they meet, remove and compare, and what they leave.
 
-use crate::stores::{SlopedTree, at_most, insert_levels, neighbours};
+use crate::sloped::{Sloped, ending};
+use crate::stores::{SlopedTree, at_most, insert_between, insert_levels, neighbours};
 use i_tree::status::tree::StatusTree;
+use i_tree::steps::Uncounted;
 use i_tree::{EMPTY_REF, Refusal};
 use std::alloc::Global;
+use std::cell::Cell;
 use std::process::Abort;
 use std::test::Fail;
 use test_kit::cores::{item, left, right};
+use test_kit::random::Random;
 
 // A tree of level segments of these heights, inserted in this order at time 0.
 fn tree_of(
@@ -20,8 +24,8 @@ fn tree_of(
     Ok(tree)
 }
 
-// Looks at most at 9 at time 2, once for a value and once for both neighbours. Each is to give the answer, to keep so many
-// and to compare so often.
+// Looks at most at 9 at time 2, once for a value and once for both neighbours, and inserts there. Each is to give the answer, to
+// keep so many and to compare so often.
 fn goes_down_below_nine(
     rt: &impl Abort,
     alloc: Global,
@@ -38,6 +42,10 @@ fn goes_down_below_nine(
     let mut tree = tree_of(rt, alloc, heights, short)?;
     assert!(rt; neighbours(&mut tree, 2, 9) == ((answer, -1), comparisons));
     assert!(rt; tree.stored() == kept);
+    let mut tree = tree_of(rt, alloc, heights, short)?;
+    let told = insert_between(&mut tree, 2, ending(9, 20), 9);
+    assert!(rt; told == (Ok(Some((answer, -1))), comparisons));
+    assert!(rt; tree.stored() == kept.saturating_add(1));
     Ok(())
 }
 
@@ -94,5 +102,47 @@ fn compares_within_its_bound(rt: HostRuntime) -> Result<(), Fail> {
     assert!(rt; found == (500, 501) && 0 < calls && calls <= 18);
     let (found, calls) = at_most(&mut tree, 0, 2000);
     assert!(rt; found == 1000 && 0 < calls && calls <= 18);
+    Ok(())
+}
+
+// How often a segment is asked for its height where one is inserted, and is told its neighbours or not; none where the answers
+// differ.
+fn asked_alike(
+    alone: &mut SlopedTree<Global>,
+    told: &mut SlopedTree<Global>,
+    time: i32,
+    sloped: Sloped,
+) -> Option<u64> {
+    let calls = Cell::new(0u64);
+    let stands = |other: Sloped| {
+        calls.set(calls.get().saturating_add(1));
+        other.at.cmp(&sloped.at)
+    };
+    let has_joined = alone
+        .insert_by_counted(&mut Uncounted, time, &stands, sloped, 0)
+        .ok()?;
+    let asked = calls.replace(0);
+    let neighbours = told
+        .insert_between_counted(&mut Uncounted, time, &stands, sloped, 0)
+        .ok()?;
+    if neighbours.is_some() == has_joined && calls.get() == asked {
+        Some(asked)
+    } else {
+        None
+    }
+}
+
+#[test]
+fn tells_neighbours_by_one_descent(rt: HostRuntime) -> Result<(), Fail> {
+    let mut alone: SlopedTree<Global> = StatusTree::new(rt.alloc(), 0)?;
+    let mut told: SlopedTree<Global> = StatusTree::new(rt.alloc(), 0)?;
+    let mut random = Random::new();
+    for time in 0..1000 {
+        let height = i64::from(random.next(500));
+        let end = random.next(300).saturating_add(time);
+        let asked = asked_alike(&mut alone, &mut told, time, ending(height, end));
+        assert!(rt; asked.is_some_and(|calls| calls <= 18), "at {time}");
+        assert!(rt; alone.stored() == told.stored(), "at {time}");
+    }
     Ok(())
 }

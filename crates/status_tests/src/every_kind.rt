@@ -1,7 +1,9 @@
 //! Tests that hold of each kind of status.
 
 use crate::sloped::{Sloped, ending, level};
-use crate::stores::{StatusStore, above, at_most, insert, insert_levels, neighbours};
+use crate::stores::{
+    StatusStore, above, at_most, insert, insert_between, insert_levels, neighbours,
+};
 use std::cell::Cell;
 use std::process::Abort;
 use std::test::Fail;
@@ -110,6 +112,43 @@ pub fn takes_one_of_a_height<C: StatusStore>(rt: &impl Abort, status: &mut C) ->
     assert!(rt; at_most(status, 2, 2).0 == 20);
     assert!(rt; insert(status, 2, ending(3, 20), 30) == Ok(false));
     assert!(rt; neighbours(status, 2, 2).0 == (20, 3));
+    Ok(())
+}
+
+/// Inserts alone, between two, before all and behind all, and is told the neighbours.
+pub fn tells_those_between_which_it_joins<C: StatusStore>(
+    rt: &impl Abort,
+    status: &mut C,
+) -> Result<(), Fail> {
+    for (height, before, after) in [
+        (4, -1, -1),
+        (2, -1, 4),
+        (6, 4, -1),
+        (3, 2, 4),
+        (5, 4, 6),
+        (1, -1, 2),
+        (7, 6, -1),
+    ] {
+        let told = insert_between(status, 0, level(i64::from(height)), height).0;
+        assert!(rt; told == Ok(Some((before, after))), "of {height}");
+    }
+    assert!(rt; insert_between(status, 0, level(4), 40).0 == Ok(None));
+    assert!(rt; status.count() == 7);
+    assert!(rt; neighbours(status, 0, 4).0 == (4, 5));
+    Ok(())
+}
+
+/// Those that have ended stand between, and are neither told nor in the way.
+pub fn tells_live_neighbours_alone<C: StatusStore>(
+    rt: &impl Abort,
+    status: &mut C,
+) -> Result<(), Fail> {
+    assert!(rt; insert_levels(status, &[1, 2, 3, 4, 5, 6, 7], &[3, 4, 5, 7]));
+    assert!(rt; insert_between(status, 1, ending(4, 20), 40).0 == Ok(None));
+    assert!(rt; insert_between(status, 2, ending(4, 20), 40).0 == Ok(Some((2, 6))));
+    assert!(rt; insert_between(status, 2, ending(8, 20), 80).0 == Ok(Some((6, -1))));
+    assert!(rt; insert_between(status, 2, ending(3, 20), 30).0 == Ok(Some((2, 40))));
+    assert!(rt; neighbours(status, 2, 4).0 == (40, 6));
     Ok(())
 }
 

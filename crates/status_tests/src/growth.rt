@@ -1,7 +1,7 @@
 //! How often statuses that grow ask for memory, and how much they hold.
 
 use crate::sloped::{Sloped, level};
-use crate::stores::{SlopedList, SlopedTree, StatusStore, insert};
+use crate::stores::{SlopedList, SlopedTree, StatusStore, insert_between};
 use i_tree::Refusal;
 use std::alloc::Global;
 use std::test::Fail;
@@ -10,7 +10,7 @@ use test_kit::growth::{COUNT, LINKS, asks_seldom, most_held};
 
 type Memory<'a> = &'a Refusing<Global>;
 
-// Whether segments that come below all others, each a new one, are stored within these bounds.
+// Whether segments that come below all others, each a new one, are stored within these bounds, and each is told the one above.
 fn grows<C: StatusStore>(counted: &Refusing<Global>, memory: C::Memory, size: usize) -> bool {
     counted.refuse_none();
     let Ok(mut status) = C::make(memory, 0) else {
@@ -18,8 +18,13 @@ fn grows<C: StatusStore>(counted: &Refusing<Global>, memory: C::Memory, size: us
     };
     for place in 0..COUNT {
         let last = i32::from(COUNT.saturating_sub(place));
-        let inserted = insert(&mut status, 0, level(i64::from(last)), last);
-        if inserted != Ok(true) || counted.bytes_held() > most_held(status.count(), size) {
+        let above = if place == 0 {
+            -1
+        } else {
+            last.saturating_add(1)
+        };
+        let (told, _) = insert_between(&mut status, 0, level(i64::from(last)), last);
+        if told != Ok(Some((-1, above))) || counted.bytes_held() > most_held(status.count(), size) {
             return false;
         }
     }

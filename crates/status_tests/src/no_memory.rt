@@ -2,7 +2,8 @@
 
 use crate::sloped::ending;
 use crate::stores::{
-    SlopedList, SlopedTree, StatusStore, above, at_most, insert, insert_levels, neighbours,
+    SlopedList, SlopedTree, StatusStore, above, at_most, insert, insert_between, insert_levels,
+    neighbours,
 };
 use i_tree::Refusal;
 use std::alloc::Global;
@@ -16,10 +17,12 @@ fn asks_and_clears<C: StatusStore>(status: &mut C) -> bool {
         && above(status, 2, 5) == 7
         && neighbours(status, 2, 4).0 == (3, 5);
     let is_taken = insert(status, 2, ending(4, 20), 40) == Ok(true);
-    let is_present = insert(status, 2, ending(4, 20), 41) == Ok(false);
+    let is_told = insert_between(status, 2, ending(6, 20), 60).0 == Ok(Some((5, 7)));
+    let is_present = insert(status, 2, ending(4, 20), 41) == Ok(false)
+        && insert_between(status, 2, ending(6, 20), 61).0 == Ok(None);
     let room = status.room().saturating_add(status.count());
     status.clear();
-    is_found && is_taken && is_present && (status.count(), status.room()) == (0, room)
+    is_found && is_taken && is_told && is_present && (status.count(), status.room()) == (0, room)
 }
 
 fn requests_of<C: StatusStore>(
@@ -61,6 +64,7 @@ fn an_ended_segment_on_the_way_leaves_its_slot(rt: HostRuntime) {
         assert!(rt; insert_levels(&mut tree, &[1, 2, 3, 4, 5, 6, 7], &[7]));
         memory.refuse_all();
         assert!(rt; insert(&mut tree, 1, ending(8, 20), 8) == Err(Refusal::OutOfMemory));
+        assert!(rt; insert_between(&mut tree, 1, ending(8, 20), 8).0 == Err(Refusal::OutOfMemory));
         assert!(rt; (tree.stored(), tree.spare()) == (7, 0));
         assert!(rt; insert(&mut tree, 2, ending(8, 20), 8) == Ok(true));
         assert!(rt; (tree.stored(), tree.spare()) == (7, 0));

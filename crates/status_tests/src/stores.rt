@@ -95,6 +95,35 @@ pub fn insert<C: StatusStore>(
     status.insert_by(time, |other| other.height(time).cmp(&height), sloped, val)
 }
 
+/// What an insertion tells: the values of both neighbours, each or -1, where the segment has joined.
+pub type Told = Result<Option<(i32, i32)>, Refusal>;
+
+/// Inserts the segment where it stands at the line, and answers what is told, and how often a segment was asked for its height.
+pub fn insert_between<C: StatusStore>(
+    status: &mut C,
+    time: i32,
+    sloped: Sloped,
+    val: i32,
+) -> (Told, u64) {
+    let calls = Cell::new(0u64);
+    let height = sloped.height(time);
+    let told = status.insert_between(
+        time,
+        |other| {
+            calls.set(calls.get().saturating_add(1));
+            other.height(time).cmp(&height)
+        },
+        sloped,
+        val,
+    );
+    let values = match told {
+        Ok(Some((before, after))) => Ok(Some((value_or_none(before), value_or_none(after)))),
+        Ok(None) => Ok(None),
+        Err(cause) => Err(cause),
+    };
+    (values, calls.get())
+}
+
 /// The value at most at the height, or -1, and how often a segment was asked for its height.
 pub fn at_most<C: StatusStore>(status: &mut C, time: i32, height: i64) -> (i32, u64) {
     let calls = Cell::new(0u64);

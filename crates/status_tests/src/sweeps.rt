@@ -1,7 +1,9 @@
 //! A sweep over a thousand sloped segments, beside a plain list of those that were accepted.
 
 use crate::sloped::Sloped;
-use crate::stores::{SlopedList, SlopedTree, StatusStore, above, at_most, insert, neighbours};
+use crate::stores::{
+    SlopedList, SlopedTree, StatusStore, above, at_most, insert, insert_between, neighbours,
+};
 use std::alloc::Global;
 use std::cmp::Ordering;
 use std::process::Abort;
@@ -98,15 +100,20 @@ impl Sweep {
         }
     }
 
-    // Inserts a segment by chance, unless it crosses one that is live.
+    // Inserts a segment by chance, unless it crosses one that is live. Half of them are told their neighbours.
     fn insert_one<C: StatusStore>(&mut self, status: &mut C) -> Result<bool, Fail> {
         let sloped = self.segment();
         if !self.is_apart(sloped) {
             return Ok(true);
         }
+        let height = sloped.height(self.time);
+        let wanted = (self.highest_at_most(height), self.lowest_above(height));
         let val = i32::try_from(self.accepted.len())?;
         self.accepted.push(Accepted { sloped, val })?;
-        Ok(insert(status, self.time, sloped, val)?)
+        if self.random.next(2) == 0 {
+            return Ok(insert(status, self.time, sloped, val)?);
+        }
+        Ok(insert_between(status, self.time, sloped, val).0? == Some(wanted))
     }
 }
 

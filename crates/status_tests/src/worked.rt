@@ -18,6 +18,10 @@ fn rows<C: StatusStore>(rt: &impl Abort, memory: C::Memory) -> Result<(), Fail> 
     status.clear();
     every_kind::takes_one_of_a_height(rt, &mut status)?;
     status.clear();
+    every_kind::tells_those_between_which_it_joins(rt, &mut status)?;
+    status.clear();
+    every_kind::tells_live_neighbours_alone(rt, &mut status)?;
+    status.clear();
     every_kind::asks_about_live_segments_alone(rt, &mut status)?;
     status.clear();
     every_kind::answers_by_closures_after_removals(rt, &mut status)
