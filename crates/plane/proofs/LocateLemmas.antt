@@ -1,5 +1,28 @@
--- Lemmas on heights of edges and on edges that cross.
+-- Lemmas on heights of edges, on edges that cross, and on the sweep among them.
+pub mod Adjacent
+pub mod Advance
+pub mod Answering
+pub mod Beginning
+pub mod Begins
+pub mod Begun
+pub mod Comparisons
 pub mod Crossings
+pub mod Done
+pub mod Ending
+pub mod Ends
+pub mod Exchanged
 pub mod Gaps
+pub mod Later
+pub mod Line
+pub mod Live
+pub mod Neighbours
+pub mod Order
 pub mod Rightwards
+pub mod Schedule
+pub mod Serving
 pub mod Sizes
+pub mod Standings
+pub mod Swept
+pub mod Turned
+pub mod Uncrossed
+pub mod Under

@@ -1,6 +1,7 @@
-//! Edges of the plane, which are straight lines between two whole points: which of them meet, and which cross, exactly.
+//! Edges of the plane, which are straight lines between two whole points: which of them meet, which cross, and which lies
+//! straight below a point, exactly.
 //!
-//! The candidates come from the segment tree of `i_tree`, and each is tested in whole numbers. Nothing is rounded.
+//! The candidates come from the containers of `i_tree`, and each is tested in whole numbers. Nothing is rounded.
 #![tactic(auto)]
 
 pub mod edge;

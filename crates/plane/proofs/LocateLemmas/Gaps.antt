@@ -3,18 +3,15 @@
 use Rattle.std.proofs.Common.{◌≡◌, ℤ, pos, negsuc, ◌+ℤ◌, ◌-ℤ◌, ◌*ℤ◌, ◌≤ℤ◌, ◌<ℤ◌, arith, ap, sym, subst, ◌∙◌}
 use Rattle.std.proofs.lemmas.Int.{ints, by_lt_z}
 use Rattle.plane.specs.declared.edge.Edge.{Edge}
-use Rattle.plane.specs.Locate.Heights.{run, height_by_run, height_by_runs}
+use Rattle.plane.specs.Locate.Heights.{run, rise, height_by_run, height_by_runs}
 use Rattle.plane.proofs.MeetLemmas.Identities.{number, plus, minus, times, identity, unscaled}
 
 -- how far the other is above the one, times both runs
 abbrev pub gap : Edge → Edge → ℤ → ℤ
 gap one other x = height_by_runs other one x -ℤ height_by_runs one other x
 
-abbrev rise : Edge → ℤ
-rise edge = edge.y1 -ℤ edge.y0
-
 -- its height at x 0, times its run
-abbrev base : Edge → ℤ
+abbrev pub base : Edge → ℤ
 base edge = (edge.y0 *ℤ edge.x1) -ℤ (edge.y1 *ℤ edge.x0)
 
 height-linear : (edge : Edge) (x : ℤ) → height_by_run edge x ≡ (rise edge *ℤ x) +ℤ base edge
@@ -24,10 +21,10 @@ height-linear edge x =
     (omega arith)
 
 -- the gap as a linear function
-abbrev slope : Edge → Edge → ℤ
+abbrev pub slope : Edge → Edge → ℤ
 slope one other = (rise other *ℤ run one) -ℤ (rise one *ℤ run other)
 
-abbrev start : Edge → Edge → ℤ
+abbrev pub start : Edge → Edge → ℤ
 start one other = (base other *ℤ run one) -ℤ (base one *ℤ run other)
 
 difference-linear : (a b m c d n x : ℤ) → ((((c *ℤ x) +ℤ d) *ℤ m) -ℤ (((a *ℤ x) +ℤ b) *ℤ n)) ≡ ((((c *ℤ m) -ℤ (a *ℤ n)) *ℤ x) +ℤ ((d *ℤ m) -ℤ (b *ℤ n)))
@@ -57,13 +54,13 @@ gap-mean one other l x r =
     ∙ ap (λ g. ((r -ℤ x) *ℤ gap one other l) +ℤ ((x -ℤ l) *ℤ g)) (sym (gap-linear one other r))
 
 -- the product of two numbers that aren't negative isn't
-product_above : (a b : ℤ) → pos 0 ≤ℤ a → pos 0 ≤ℤ b → pos 0 ≤ℤ (a *ℤ b)
+pub product_above : (a b : ℤ) → pos 0 ≤ℤ a → pos 0 ≤ℤ b → pos 0 ≤ℤ (a *ℤ b)
 product_above (pos a) (pos b) first second = omega (arith, ints)
 product_above (negsuc a) b first second = absurd (omega (arith, ints, first))
 product_above (pos a) (negsuc b) first second = absurd (omega (arith, ints, second))
 
 -- a number whose positive multiple isn't negative isn't
-quotient_above : (k z : ℤ) → pos 0 <ℤ k → pos 0 ≤ℤ (k *ℤ z) → pos 0 ≤ℤ z
+pub quotient_above : (k z : ℤ) → pos 0 <ℤ k → pos 0 ≤ℤ (k *ℤ z) → pos 0 ≤ℤ z
 quotient_above (pos k) z some above = unscaled k (pos 0) z (omega (arith, ints)) (omega (arith, ints))
 quotient_above (negsuc k) z some above = absurd (omega (arith, ints, some))
 

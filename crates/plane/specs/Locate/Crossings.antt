@@ -1,5 +1,5 @@
--- When two edges cross.
-use Rattle.std.specs.Prelude.{◌≡◌, ◌⊎◌, ℤ}
+-- When two edges cross, and which edges of a list do.
+use Rattle.std.specs.Prelude.{◌≡◌, ◌⊎◌, ℤ, ℕ, ◌<◌, List, AllPairs, Some, slice_get}
 use Rattle.std.specs.declared.cmp.Ordering.{Ordering}
 use Rattle.std.specs.declared.cmp.Ordering.TheVariants.{Less, Greater}
 use Rattle.plane.specs.declared.edge.Edge.{Edge}
@@ -22,3 +22,16 @@ pub record Cross (one other : Edge) : Type 0 where
 -- Two comparisons that say less and greater, or greater and less.
 abbrev pub AreOpposite : Ordering → Ordering → Type 0
 AreOpposite one other = (one ≡ Less) × (other ≡ Greater) ⊎ (one ≡ Greater) × (other ≡ Less)
+
+-- The edges at these two places of the list cross, and the first place is below the second.
+pub record IsCrossing (edges : List Edge) (i j : ℕ) : Type 0 where
+  pub below : i < j
+  pub one : Edge
+  pub other : Edge
+  pub first : slice_get edges i ≡ Some one
+  pub second : slice_get edges j ≡ Some other
+  pub cross : Cross one other
+
+-- No two edges of the list cross.
+abbrev pub NoneCross : List Edge → Type 0
+NoneCross edges = AllPairs (λ one other. ¬ (Cross one other)) edges

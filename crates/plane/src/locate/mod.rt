@@ -1,6 +1,90 @@
-//! Edges along x, by their heights: which of them cross.
+//! Which edge lies straight below each point, and which edges cross.
 
+ghost use Rattle.std.specs.Prelude.{◌≡◌, ◌++◌, [], ℕ, List, Option, OnOk, OnErr};
+ghost use Rattle.std.specs.List.{AllZip};
+ghost use Rattle.plane.specs.Locate.Answers.{IsPlaceBelow};
+ghost use Rattle.plane.specs.Locate.Crossings.{IsCrossing, NoneCross};
+
+use crate::edge::Edge;
 pub use crossing::cross;
+use events::schedule;
+pub use fault::LocateFault;
+use i_tree::status::exp::StatusCollection;
+pub use point::Point;
+pub use standing::Standing;
+use std::alloc::Allocator;
+use sweep::serve_all;
 
 mod crossing;
+mod events;
+pub mod fault;
 mod heights;
+pub mod point;
+pub mod standing;
+mod sweep;
+
+/// Appends to `out`, for each of the points in order, the place of the edge straight below it, or `None` where there is none.
+///
+/// An edge covers the x's from its lesser end up to its greater, which it doesn't cover: where one edge of a chain ends and the
+/// next begins, one of them covers the x. A vertical edge or a point covers nothing. An edge is under a point where it covers
+/// the point's x at a height that is at most the point's, and straight below it where no edge under it is higher there. Of
+/// edges that are as high there, it is the one that is highest just right of it; of edges along one line, which one is told is
+/// open. Nothing is rounded.
+///
+/// Where two edges cross, as `cross` says, the answer is `Cross`, which tells the places of two that do, the lesser first.
+/// `Refused` comes where memory for the sweep was refused, or where the status refused an edge, whose cause it tells; it may
+/// come where edges cross, too. After any fault `out` is as it was. What the status holds is removed before and after the
+/// sweep, in every case. The memory is that of `out`.
+///
+/// For e edges and p points it compares O((e + p) log (e + p)) times beside the calls of the status, which are at most two for
+/// each edge and one for each point. The sweep is our own, and not of the Rust crate. It is the textbook's sweep line after
+/// Shamos and Hoey, which tests edges where they become neighbours along the line, and stops at the first two that cross.
+pub fn locate<C, A>(
+    status: &mut C,
+    edges: &[Edge],
+    points: &[Point],
+    out: &mut Vec<Option<usize>, A>,
+) -> Result<(), LocateFault>
+where
+    C: StatusCollection<Standing, i64, ()>,
+    A: Allocator + Copy,
+    ensures ok { OnOk result (
+        NoneCross edges.now
+        × (answers : List (Option ℕ)) × (out.new.items ≡ out.old.items ++ answers)
+        × AllZip (IsPlaceBelow edges.now) points.now answers) }
+    ensures crossing { (i j : ℕ) → result ≡ Err (LocateFault.Cross i j) → IsCrossing edges.now i j }
+    ensures err { OnErr result (out.new.items ≡ out.old.items) }
+    ensures empty { C.stored status.new ≡ [] }
+{
+    status.clear();
+    let outcome = append_answers(status, edges, points, out);
+    status.clear();
+    outcome
+}
+
+/// As `locate`, from an empty status on, and leaves in the status what it may.
+fn append_answers<C, A>(
+    status: &mut C,
+    edges: &[Edge],
+    points: &[Point],
+    out: &mut Vec<Option<usize>, A>,
+) -> Result<(), LocateFault>
+where
+    C: StatusCollection<Standing, i64, ()>,
+    A: Allocator + Copy,
+    requires { C.stored status.old ≡ [] }
+    ensures ok { OnOk result (
+        NoneCross edges.now
+        × (answers : List (Option ℕ)) × (out.new.items ≡ out.old.items ++ answers)
+        × AllZip (IsPlaceBelow edges.now) points.now answers) }
+    ensures crossing { (i j : ℕ) → result ≡ Err (LocateFault.Cross i j) → IsCrossing edges.now i j }
+    ensures err { OnErr result (out.new.items ≡ out.old.items) }
+{
+    let alloc = *out.allocator();
+    let events = schedule(alloc, edges, points)?;
+    let mut answers = Vec::new(alloc);
+    answers.resize(points.len(), None)?;
+    serve_all(status, edges, points, &events, &mut answers)?;
+    out.extend_from_slice(&answers)?;
+    Ok(())
+}

@@ -1,0 +1,205 @@
+-- How a point is answered.
+use Rattle.std.proofs.Common.{◌≡◌, ◌≢◌, inl, inr, ℕ, ◌<◌, ◌+◌, ℤ, pos, ◌+ℤ◌, List, [], ◌∷◌, ◌++◌, Option, Some, None, length, get_or, set, take, refl, sym, ap, ◌∙◌, subst, ⊎_elim, arith}
+use Rattle.std.specs.List.{All, Contains}
+use Rattle.std.specs.Ordering.{MatchOrdering, nat_cmp}
+use Rattle.std.specs.declared.cmp.Ordering.{Ordering}
+use Rattle.std.specs.declared.cmp.Ordering.TheVariants.{Less, Equal, Greater}
+use Rattle.std.proofs.lemmas.Cmp.{ranked}
+use Rattle.std.proofs.lemmas.Grind.{get_or-set_at}
+use Rattle.std.proofs.lemmas.Int.{ints, by_lt_z}
+use Rattle.std.proofs.lemmas.List.{get_or_default, get_or-set_other, length-set}
+use Rattle.std.proofs.lemmas.List.Elements.{All-contains, All-weaker, Contains-append_left, Contains-push_cases}
+use Rattle.i_tree.proofs.RootLemmas.Joined.{Contains-middle}
+use Rattle.i_tree.specs.Root.Along.{IsLast, IsMonotoneAlong}
+use Rattle.i_tree.specs.Root.Change.{Without}
+use Rattle.plane.specs.declared.edge.Edge.{Edge}
+use Rattle.plane.specs.declared.locate.point.Point.{Point}
+use Rattle.plane.specs.declared.locate.events.Event.{Event}
+use Rattle.plane.specs.declared.locate.events.Task.TheVariants.{End, Begin, Answer}
+use Rattle.plane.specs.declared.locate.standing.Standing.{Standing}
+use Rattle.plane.specs.Locate.Answers.{IsHighestUnder, IsPlaceBelow}
+use Rattle.plane.specs.Locate.Heights.{rightwards, IsUnder, IsLowerAt}
+use Rattle.plane.specs.Locate.Schedule.{StandsAt, CoversSome, answering_of, Precedes, IsSchedule}
+use Rattle.plane.specs.Locate.Serving.{IsPlaceUnder, place_of}
+use Rattle.plane.specs.Locate.Standings.{Entry, cmp_to_point, live_entries, IsExpiredAt}
+use Rattle.plane.proofs.LocateLemmas.Begun.{begin_of, end_of, IsBegun, HasEnded, one_element, slice_get-stands, turned, done_earlier, IsBegun-more, IsBegun-before}
+use Rattle.plane.proofs.LocateLemmas.Done.{upto-precedes, precedes, done_before, one_more, answers_of}
+use Rattle.plane.proofs.LocateLemmas.Later.{live-without}
+use Rattle.plane.proofs.LocateLemmas.Line.{AllLiveAt, Line}
+use Rattle.plane.proofs.LocateLemmas.Rightwards.{rightwards-same}
+use Rattle.plane.proofs.LocateLemmas.Swept.{Swept, line_at, all_live_at, live_is_line, none_behind_before, upto_later}
+use Rattle.plane.proofs.LocateLemmas.Turned.{IsUnder-turned, IsLowerAt-turned}
+use Rattle.plane.proofs.LocateLemmas.Under.{point_monotone, none_under, highest_under}
+
+module _ (edges : List Edge) (points : List Point) (events : List Event) (schedule : IsSchedule edges points events)
+    (k : ℕ) (event : Event) (inside : k < length events) (is : event ≡ get_or events k event)
+    (stored : List Entry) (answers : List (Option ℕ)) (swept : Swept edges points (take k events) stored answers)
+    (d : Point) (answers_now : event.task ≡ Answer) where
+  abbrev point : Point
+  point = get_or points event.place d
+
+  whose : (of : Point) × StandsAt points event.place of × (event ≡ answering_of event.place of)
+  whose = answers_of edges points events schedule k event inside is answers_now
+
+  stands : StandsAt points event.place point
+  stands = let within = whose.1.0 in (within, get_or_default points event.place point d within)
+
+  at_answer : event ≡ answering_of event.place point
+  at_answer = whose.2 ∙ ap (answering_of event.place) (one_element points event.place event.place whose.0 point refl whose.1 stands)
+
+  here : event.x ≡ point.x
+  here = ap (λ (e : Event). e.x) at_answer
+
+  no_end : event.task ≢ End
+  no_end ends = let apart : Answer ≡ End = sym answers_now ∙ ends in cc
+
+  no_begin : event.task ≢ Begin
+  no_begin begins = let apart : Answer ≡ Begin = sym answers_now ∙ begins in cc
+
+  -- the line as it stands, which is what is live
+  now : Line point.x swept.line
+  now = line_at edges points events schedule k event inside is stored answers swept point.x here
+
+  all_live : AllLiveAt point.x swept.line
+  all_live = all_live_at edges points events schedule k event inside is stored answers swept point.x here no_end
+
+  is_line : live_entries point.x stored ≡ swept.line
+  is_line = live_is_line edges points events schedule k event inside is stored answers swept point.x here no_end
+
+  -- an edge that covers the point's x has begun and not ended
+  module _ (i : ℕ) (edge : Edge) (at : StandsAt edges i edge) (under : IsUnder point edge) where
+    some : CoversSome edge
+    some = let covers = under.covers in omega (arith, ints, covers.from, covers.before)
+
+    abbrev standing : Standing
+    standing = record { edge = rightwards edge; place = i }
+
+    first : Precedes (begin_of standing) event
+    first =
+        let from = under.covers.from in
+        subst (Precedes (begin_of standing)) (sym at_answer)
+        (by_lt_z (rightwards edge).x0 point.x (λ less. inl less) (λ behind. inr (omega (arith, ints, from, behind), tt)))
+
+    begun : IsBegun edges (take k events) standing
+    begun = record {
+      one = record { edge = edge; stands = at; same = refl; onwards = some };
+      begun = done_before edges points events schedule k event inside is (begin_of standing) (schedule.begins i edge at some) first;
+    }
+
+    not_ended : ¬ (HasEnded (take k events) standing)
+    not_ended has =
+        let before = under.covers.before in
+        let ends = upto-precedes (end_of standing) event (precedes edges points events schedule k event inside is (end_of standing) has) in
+        omega (arith, ints, before, ends, here)
+
+    in_line : Contains swept.line (standing, tt)
+    in_line = ⊎_elim (λ has. absurd (not_ended has)) (λ held. held) (swept.each standing begun)
+
+    as_turned : rightwards edge ≡ rightwards (rightwards edge)
+    as_turned = sym (rightwards-same (rightwards edge) some)
+
+    turned_under : IsUnder point (rightwards edge)
+    turned_under = IsUnder-turned edge (rightwards edge) as_turned point under
+
+  -- where none of the line is under the point, no edge is
+  no_edge : IsLast (λ entry. cmp_to_point point entry.0 ≢ Greater) swept.line None → IsPlaceBelow edges point None
+  no_edge none i e within under =
+      let edge = get_or edges i e in
+      let at : StandsAt edges i (get_or edges i e) = (within, get_or_default edges i edge e within) in
+      All-contains (λ (entry : Entry). ¬ (IsUnder point entry.0.edge)) swept.line (standing i edge at under, tt) (none_under point swept.line now all_live none)
+      (in_line i edge at under) (turned_under i edge at under)
+
+  -- what is below none of the line that is under the point, at some x, is below no edge that is
+  none_lower : (one other : Edge) → rightwards one ≡ rightwards other → (x : ℤ) → All (λ entry. IsUnder point entry.0.edge → ¬ (IsLowerAt x one entry.0.edge)) swept.line
+      → All (λ edge. IsUnder point edge → ¬ (IsLowerAt x other edge)) edges
+  none_lower one other same x none_higher i e within under lower =
+      let edge = get_or edges i e in
+      let at : StandsAt edges i (get_or edges i e) = (within, get_or_default edges i edge e within) in
+      All-contains (λ (entry : Entry). IsUnder point entry.0.edge → ¬ (IsLowerAt x one entry.0.edge)) swept.line (standing i edge at under, tt) none_higher
+      (in_line i edge at under) (turned_under i edge at under)
+      (IsLowerAt-turned other one (sym same) edge (rightwards edge) (as_turned i edge at under) x lower)
+
+  -- else the last of the line that isn't above it is the highest edge
+  highest_edge : (found : Entry) → IsLast (λ entry. cmp_to_point point entry.0 ≢ Greater) swept.line (Some found) → IsHighestUnder edges point found.0.place
+  highest_edge found last =
+      let (front, back, cut, low, high) = last in
+      let held : Contains swept.line found = subst (λ (entries : List Entry). Contains entries found) (sym cut) (Contains-middle front found back) in
+      let which = All-contains (λ (entry : Entry). IsBegun edges (take k events) entry.0 × ¬ (HasEnded (take k events) entry.0)) swept.line found swept.of held in
+      let found_begun = which.0 in
+      let one = found_begun.one in
+      let (under, none_higher, none_steeper) = highest_under point swept.line now all_live found last in
+      record {
+        edge = one.edge;
+        stands = slice_get-stands edges found.0.place one.edge one.stands;
+        under = IsUnder-turned found.0.edge one.edge (turned edges found.0 one) point under;
+        highest = none_lower found.0.edge one.edge (turned edges found.0 one) point.x none_higher;
+        steepest = none_lower found.0.edge one.edge (turned edges found.0 one) (point.x +ℤ pos 1) none_steeper;
+      }
+
+  by_found : (found : Option Entry) → IsLast (λ entry. cmp_to_point point entry.0 ≢ Greater) swept.line found → IsPlaceBelow edges point (place_of found)
+  by_found None last = no_edge last
+  by_found (Some found) last = highest_edge found last
+
+  still : (entry : Entry) → IsBegun edges (take k events) entry.0 × ¬ (HasEnded (take k events) entry.0)
+      → IsBegun edges (take k events ++ event ∷ []) entry.0 × ¬ (HasEnded (take k events ++ event ∷ []) entry.0)
+  still entry (is', not_yet) = (IsBegun-more edges (take k events) event entry.0 is', λ has. not_yet (done_earlier (take k events) event (end_of entry.0) no_end has))
+
+  -- the answer stands at the point's place, and the others are as they were
+  module _ (told : Option ℕ) (right : IsPlaceBelow edges point told) where
+    put : (place : ℕ) (other : Point) → StandsAt points place other → (place ≢ event.place → IsPlaceBelow edges other (get_or answers place None)) → IsPlaceBelow edges other (get_or (set answers event.place told) place None)
+    put place other at elsewhere = by_place (nat_cmp place event.place) (ranked place event.place (nat_cmp place event.place) refl)
+      where
+        away : place ≢ event.place → IsPlaceBelow edges other (get_or (set answers event.place told) place None)
+        away differs = subst (IsPlaceBelow edges other) (sym (get_or-set_other answers event.place place told None differs)) (elsewhere differs)
+
+        by_place : (r : Ordering) → MatchOrdering r (place < event.place) (place ≡ event.place) (event.place < place) → IsPlaceBelow edges other (get_or (set answers event.place told) place None)
+        by_place Less below = away (λ this. omega (arith, below, this))
+        by_place Equal this =
+            subst (IsPlaceBelow edges other) (sym (get_or-set_at answers event.place place told None this (let size = swept.room in omega (arith, size, stands.0))))
+            (subst (λ (p : Point). IsPlaceBelow edges p told) (one_element points event.place place point other (sym this) stands at) right)
+        by_place Greater above = away (λ this. omega (arith, above, this))
+
+    answered : (place : ℕ) (other : Point) → StandsAt points place other → Contains (take k events ++ event ∷ []) (answering_of place other) → IsPlaceBelow edges other (get_or (set answers event.place told) place None)
+    answered place other at done =
+        ⊎_elim
+        (λ earlier. put place other at (λ _. swept.answered place other at earlier))
+        (λ this. put place other at (λ elsewhere. absurd (elsewhere (sym (ap (λ (e : Event). e.place) this)))))
+        (Contains-push_cases (take k events) event (answering_of place other) done)
+
+    served : (after : List Entry) → Without (IsExpiredAt point.x) stored after → Swept edges points (take k events ++ event ∷ []) after (set answers event.place told)
+    served after kept = record {
+      line = swept.line;
+      of = All-weaker (λ (entry : Entry). IsBegun edges (take k events) entry.0 × ¬ (HasEnded (take k events) entry.0))
+          (λ entry. IsBegun edges (take k events ++ event ∷ []) entry.0 × ¬ (HasEnded (take k events ++ event ∷ []) entry.0)) still swept.line swept.of;
+      each = λ standing is'. ⊎_elim
+          (λ has. inl (Contains-append_left (take k events) (event ∷ []) (end_of standing) has))
+          (λ held. inr held)
+          (swept.each standing (IsBegun-before edges (take k events) event standing no_begin is'));
+      in_line = λ later none ends. swept.in_line later (none_behind_before edges points events schedule k event inside is stored answers swept point.x here later none) ends;
+      live = λ later none.
+          sym (live-without point.x later (upto_later edges points events schedule k event inside is stored answers swept point.x here later none) kept)
+          ∙ swept.live later (none_behind_before edges points events schedule k event inside is stored answers swept point.x here later none);
+      ended = λ one other is' is'' has. swept.ended one other
+          (IsBegun-before edges (take k events) event one no_begin is') (IsBegun-before edges (take k events) event other no_begin is'')
+          (done_earlier (take k events) event (end_of one) no_end has);
+      room = length-set answers event.place told ∙ swept.room;
+      answered = answered;
+    }
+
+  -- the order to the point is monotone along what is live
+  pub point_requires : IsMonotoneAlong (cmp_to_point (get_or points event.place d)) (live_entries (get_or points event.place d).x stored)
+  point_requires =
+      subst (λ (entries : List Entry). IsMonotoneAlong (cmp_to_point point) entries) (sym is_line)
+      (point_monotone point swept.line now all_live)
+
+  -- with what is told it is answered
+  pub Swept-answered : (after : List Entry) (told : Option ℕ) → IsPlaceUnder (get_or points event.place d) (live_entries (get_or points event.place d).x stored) told
+      → Without (IsExpiredAt (get_or points event.place d).x) stored after
+      → Swept edges points (take (k + 1) events) after (set answers event.place told)
+  Swept-answered after told tells kept =
+      let (found, last, tells_place) = tells in
+      let right : IsPlaceBelow edges point told =
+      subst (IsPlaceBelow edges point) (sym tells_place)
+      (by_found found (subst (λ (entries : List Entry). IsLast (λ entry. cmp_to_point point entry.0 ≢ Greater) entries found) is_line last)) in
+      subst (λ done. Swept edges points done after (set answers event.place told)) (sym (one_more edges points events schedule k event inside is))
+      (served told right after kept)

@@ -1,0 +1,205 @@
+-- How the begin of an edge is served.
+use Rattle.std.proofs.Common.{◌≡◌, ◌≢◌, ◌⊎◌, inl, inr, ℕ, ◌<◌, ◌+◌, ℤ, ◌≤ℤ◌, ◌<ℤ◌, List, [], ◌∷◌, ◌++◌, Option, Some, length, get_or, take, refl, sym, ap, ◌∙◌, subst, ⊎_elim, arith}
+use Rattle.std.specs.List.{All, Contains}
+use Rattle.std.proofs.lemmas.Int.{ints}
+use Rattle.std.proofs.lemmas.List.Elements.{All-cons, All-weaker, Contains-append_left, Contains-push, Contains-push_cases, filter-append}
+use Rattle.i_tree.proofs.RootLemmas.Joined.{Contains-middle}
+use Rattle.i_tree.proofs.RootLemmas.Lists.{Without-filter}
+use Rattle.i_tree.specs.Root.Along.{AreNeighbours, IsMonotoneAlong, NoneEqual}
+use Rattle.i_tree.specs.Root.Change.Without.{keeps}
+use Rattle.plane.specs.declared.edge.Edge.{Edge}
+use Rattle.plane.specs.declared.locate.point.Point.{Point}
+use Rattle.plane.specs.declared.locate.events.Event.{Event}
+use Rattle.plane.specs.declared.locate.events.Task.TheVariants.{End, Begin, Answer}
+use Rattle.plane.specs.declared.locate.standing.Standing.{Standing}
+use Rattle.plane.specs.Locate.Crossings.{Cross, IsCrossing}
+use Rattle.plane.specs.Locate.Heights.{rightwards}
+use Rattle.plane.specs.Locate.Schedule.{StandsAt, CoversSome, beginning_of, answering_of, Precedes, IsSchedule}
+use Rattle.plane.specs.Locate.Serving.{HaveCrossing, JoinsAt}
+use Rattle.plane.specs.Locate.Standings.{Entry, cmp_standings, is_live_at, live_entries, IsExpiredAt, NotCross}
+use Rattle.plane.proofs.LocateLemmas.Adjacent.{All-joined}
+use Rattle.plane.proofs.LocateLemmas.Advance.{advance}
+use Rattle.plane.proofs.LocateLemmas.Begins.{begin_monotone, begin_new, begin_kept}
+use Rattle.plane.proofs.LocateLemmas.Begun.{begin_of, end_of, IsOneOf, IsBegun, HasEnded, same_standing, edge_at, is_one_of, begin_is, done_earlier, IsBegun-more, IsCrossing-among}
+use Rattle.plane.proofs.LocateLemmas.Done.{upto-precedes, precedes, one_more, begins_of}
+use Rattle.plane.proofs.LocateLemmas.Later.{around_more, live-without, Without-append}
+use Rattle.plane.proofs.LocateLemmas.Line.{AllLiveAt, BeganBefore, Line}
+use Rattle.plane.proofs.LocateLemmas.Swept.{Swept, NoneBehind, line_at, all_live_at, live_is_line, live_are, live_onwards, upto_later}
+use Rattle.plane.proofs.LocateLemmas.Turned.{uncrossed_before}
+
+module _ (edges : List Edge) (points : List Point) (events : List Event) (schedule : IsSchedule edges points events)
+    (k : ℕ) (event : Event) (inside : k < length events) (is : event ≡ get_or events k event)
+    (stored : List Entry) (answers : List (Option ℕ)) (swept : Swept edges points (take k events) stored answers)
+    (d : Edge) (begins : event.task ≡ Begin) (beginning : Standing) (edge_is : beginning.edge ≡ rightwards (get_or edges event.place d)) (place_is : beginning.place ≡ event.place) where
+  whose : (edge : Edge) × StandsAt edges event.place edge × CoversSome edge × (event ≡ beginning_of event.place edge)
+  whose = begins_of edges points events schedule k event inside is begins
+
+  same : beginning.edge ≡ rightwards whose.0
+  same = edge_at edges beginning event.place whose.0 d whose.1 edge_is
+
+  one_of : IsOneOf edges beginning
+  one_of = is_one_of edges beginning event.place whose.0 whose.1 whose.2 same place_is
+
+  at_begin : event ≡ begin_of beginning
+  at_begin = whose.3 ∙ sym (begin_is beginning event.place whose.0 same place_is)
+
+  here : event.x ≡ beginning.edge.x0
+  here = ap (λ (e : Event). e.x) at_begin
+
+  no_end : event.task ≢ End
+  no_end ends = let apart : Begin ≡ End = sym begins ∙ ends in cc
+
+  no_answer : event.task ≢ Answer
+  no_answer answers_now = let apart : Begin ≡ Answer = sym begins ∙ answers_now in cc
+
+  -- the line as it stands, which is what is live
+  now : Line beginning.edge.x0 swept.line
+  now = line_at edges points events schedule k event inside is stored answers swept beginning.edge.x0 here
+
+  all_live : AllLiveAt beginning.edge.x0 swept.line
+  all_live = all_live_at edges points events schedule k event inside is stored answers swept beginning.edge.x0 here no_end
+
+  is_line : live_entries beginning.edge.x0 stored ≡ swept.line
+  is_line = live_is_line edges points events schedule k event inside is stored answers swept beginning.edge.x0 here no_end
+
+  -- it begins last
+  last : All (λ entry. BeganBefore entry.0 beginning) swept.line
+  last =
+      All-weaker (λ (entry : Entry). IsBegun edges (take k events) entry.0 × ¬ (HasEnded (take k events) entry.0)) (λ entry. BeganBefore entry.0 beginning)
+      (λ entry which. let begun = which.0 in subst (Precedes (begin_of entry.0)) at_begin (precedes edges points events schedule k event inside is (begin_of entry.0) begun.begun))
+      swept.line swept.of
+
+  begun : IsBegun edges (take k events ++ event ∷ []) beginning
+  begun = record { one = one_of; begun = subst (Contains (take k events ++ event ∷ [])) at_begin (Contains-push (take k events) event) }
+
+  -- what has ended did so at this x or before it
+  ended_upto : (standing : Standing) → HasEnded (take k events) standing → standing.edge.x1 ≤ℤ beginning.edge.x0
+  ended_upto standing has =
+      subst (λ (x : ℤ). standing.edge.x1 ≤ℤ x) here
+      (upto-precedes (end_of standing) event (precedes edges points events schedule k event inside is (end_of standing) has))
+
+  not_ended : ¬ (HasEnded (take k events ++ event ∷ []) beginning)
+  not_ended has =
+      let before = ended_upto beginning (done_earlier (take k events) event (end_of beginning) no_end has) in
+      let some = one_of.onwards in
+      omega (arith, ints, before, some)
+
+  begun_cases : (standing : Standing) → IsBegun edges (take k events ++ event ∷ []) standing → IsBegun edges (take k events) standing ⊎ (beginning ≡ standing)
+  begun_cases standing is' =
+      ⊎_elim
+      (λ before. inl (record { one = is'.one; begun = before }))
+      (λ this. inr (same_standing edges beginning standing one_of is'.one (ap (λ (e : Event). e.place) (sym at_begin ∙ this))))
+      (Contains-push_cases (take k events) event (begin_of standing) is'.begun)
+
+  still : (entry : Entry) → IsBegun edges (take k events) entry.0 × ¬ (HasEnded (take k events) entry.0)
+      → IsBegun edges (take k events ++ event ∷ []) entry.0 × ¬ (HasEnded (take k events ++ event ∷ []) entry.0)
+  still entry (is', not_yet) = (IsBegun-more edges (take k events) event entry.0 is', λ has. not_yet (done_earlier (take k events) event (end_of entry.0) no_end has))
+
+  -- what has ended doesn't cross it
+  uncrossed : (one : Standing) → IsBegun edges (take k events) one → HasEnded (take k events) one → ¬ (Cross one.edge beginning.edge)
+  uncrossed one is' has =
+      let first = is'.one in
+      uncrossed_before one.edge beginning.edge first.onwards one_of.onwards (ended_upto one has)
+
+  module _ (after : List Entry) (found : Option Entry × Option Entry) (are : AreNeighbours (λ other. cmp_standings other beginning) (live_entries beginning.edge.x0 stored) found)
+      (apart_below : NotCross found.0 (Some (beginning, tt))) (apart_above : NotCross (Some (beginning, tt)) found.1) (joins : JoinsAt beginning.edge.x0 (beginning, tt) stored after) where
+    abbrev below : List Entry
+    below = live_entries beginning.edge.x0 joins.front
+
+    abbrev above : List Entry
+    above = live_entries beginning.edge.x0 joins.back
+
+    parts : swept.line ≡ below ++ above
+    parts =
+        sym is_line
+        ∙ live-without beginning.edge.x0 beginning.edge.x0 (omega (arith, ints)) joins.kept
+        ∙ filter-append (is_live_at beginning.edge.x0) joins.front joins.back
+
+    joined : Line beginning.edge.x0 (below ++ (beginning, tt) ∷ above)
+    joined =
+        begin_kept beginning.edge.x0 swept.line (beginning, tt) now all_live refl one_of.onwards below above parts joins.below joins.above found
+        (subst (λ (entries : List Entry). AreNeighbours (λ other. cmp_standings other beginning) entries found) is_line are) apart_below apart_above
+
+    upto : (later : ℤ) → NoneBehind (take k events ++ event ∷ []) later → beginning.edge.x0 ≤ℤ later
+    upto later none = upto_later edges points events schedule k event inside is stored answers swept beginning.edge.x0 here later none
+
+    of : All (λ entry. IsBegun edges (take k events ++ event ∷ []) entry.0 × ¬ (HasEnded (take k events ++ event ∷ []) entry.0)) (below ++ (beginning, tt) ∷ above)
+    of =
+        All-joined (λ (entry : Entry). IsBegun edges (take k events ++ event ∷ []) entry.0 × ¬ (HasEnded (take k events ++ event ∷ []) entry.0)) below (beginning, tt) above
+        (subst (All (λ (entry : Entry). IsBegun edges (take k events ++ event ∷ []) entry.0 × ¬ (HasEnded (take k events ++ event ∷ []) entry.0))) parts
+        (All-weaker (λ (entry : Entry). IsBegun edges (take k events) entry.0 × ¬ (HasEnded (take k events) entry.0))
+        (λ entry. IsBegun edges (take k events ++ event ∷ []) entry.0 × ¬ (HasEnded (take k events ++ event ∷ []) entry.0)) still swept.line swept.of))
+        (begun, not_ended)
+
+    each : (standing : Standing) → IsBegun edges (take k events ++ event ∷ []) standing → HasEnded (take k events ++ event ∷ []) standing ⊎ Contains (below ++ (beginning, tt) ∷ above) (standing, tt)
+    each standing is' =
+        ⊎_elim
+        (λ before. ⊎_elim
+        (λ has. inl (Contains-append_left (take k events) (event ∷ []) (end_of standing) has))
+        (λ held. inr (around_more below (beginning, tt) above (standing, tt) (subst (λ (entries : List Entry). Contains entries (standing, tt)) parts held)))
+        (swept.each standing before))
+        (λ this. inr (subst (λ (s : Standing). Contains (below ++ (beginning, tt) ∷ above) (s, tt)) this (Contains-middle below (beginning, tt) above)))
+        (begun_cases standing is')
+
+    live_later : (later : ℤ) → NoneBehind (take k events ++ event ∷ []) later → live_entries later after ≡ live_entries later (below ++ (beginning, tt) ∷ above)
+    live_later later none =
+        ap (live_entries later) joins.place
+        ∙ live-without beginning.edge.x0 later (upto later none)
+        (Without-append {MayGo = IsExpiredAt beginning.edge.x0} (Without-filter (is_live_at beginning.edge.x0) joins.front)
+        (keeps (beginning, tt) (Without-filter (is_live_at beginning.edge.x0) joins.back)))
+
+    ended : (one other : Standing) → IsBegun edges (take k events ++ event ∷ []) one → IsBegun edges (take k events ++ event ∷ []) other → HasEnded (take k events ++ event ∷ []) one → ¬ (Cross one.edge other.edge)
+    ended one other is' is'' has cross =
+        let before = done_earlier (take k events) event (end_of one) no_end has in
+        ⊎_elim
+        (λ one_begun. ⊎_elim
+        (λ other_begun. swept.ended one other one_begun other_begun before cross)
+        (λ this. uncrossed one one_begun before (subst (λ (s : Standing). Cross one.edge s.edge) (sym this) cross))
+        (begun_cases other is''))
+        (λ this. not_ended (subst (λ (s : Standing). HasEnded (take k events ++ event ∷ []) s) (sym this) has))
+        (begun_cases one is')
+
+    served : Swept edges points (take k events ++ event ∷ []) after answers
+    served = record {
+      line = below ++ (beginning, tt) ∷ above;
+      of = of;
+      each = each;
+      in_line = λ later none ends. advance beginning.edge.x0 later (below ++ (beginning, tt) ∷ above) (upto later none) ends joined;
+      live = live_later;
+      ended = ended;
+      room = swept.room;
+      answered = λ place point stands done. swept.answered place point stands (done_earlier (take k events) event (answering_of place point) no_answer done);
+    }
+
+  -- it goes to the right, as all that is live does
+  pub begin_onwards : beginning.edge.x0 <ℤ beginning.edge.x1
+  begin_onwards = one_of.onwards
+
+  pub begin_live_onwards : All (λ entry. entry.0.edge.x0 <ℤ entry.0.edge.x1) (live_entries beginning.edge.x0 stored)
+  begin_live_onwards = live_onwards edges points events schedule k event inside is stored answers swept beginning.edge.x0 here
+
+  -- the order to the edge is monotone along what is live, none of which it calls Equal
+  pub begin_requires : IsMonotoneAlong (λ other. cmp_standings other beginning) (live_entries beginning.edge.x0 stored)
+  begin_requires =
+      subst (λ (entries : List Entry). IsMonotoneAlong (λ other. cmp_standings other beginning) entries) (sym is_line)
+      (begin_monotone beginning.edge.x0 swept.line (beginning, tt) now all_live refl one_of.onwards last)
+
+  pub begin_is_new : NoneEqual (λ other. cmp_standings other beginning) (live_entries beginning.edge.x0 stored)
+  begin_is_new =
+      subst (λ (entries : List Entry). NoneEqual (λ other. cmp_standings other beginning) entries) (sym is_line)
+      (begin_new beginning.edge.x0 swept.line (beginning, tt) now all_live refl one_of.onwards last)
+
+  -- live ones, or it and a live one, that cross are edges that do
+  pub begin_crossing : (i j : ℕ) → HaveCrossing ((beginning, tt) ∷ live_entries beginning.edge.x0 stored) i j → IsCrossing edges i j
+  begin_crossing i j among =
+      IsCrossing-among edges ((beginning, tt) ∷ live_entries beginning.edge.x0 stored)
+      (All-cons (λ (entry : Entry). IsOneOf edges entry.0) (beginning, tt) (live_entries beginning.edge.x0 stored) one_of
+      (live_are edges points events schedule k event inside is stored answers swept beginning.edge.x0 here)) i j among
+
+  -- where it crosses neither of the two beside it, it is served
+  pub Swept-begun : (after : List Entry) (found : Option Entry × Option Entry) → AreNeighbours (λ other. cmp_standings other beginning) (live_entries beginning.edge.x0 stored) found
+      → NotCross found.0 (Some (beginning, tt)) → NotCross (Some (beginning, tt)) found.1 → JoinsAt beginning.edge.x0 (beginning, tt) stored after
+      → Swept edges points (take (k + 1) events) after answers
+  Swept-begun after found are apart_below apart_above joins =
+      subst (λ done. Swept edges points done after answers) (sym (one_more edges points events schedule k event inside is))
+      (served after found are apart_below apart_above joins)

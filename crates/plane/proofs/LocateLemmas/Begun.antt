@@ -1,0 +1,154 @@
+-- Edges of the sweep whose begin is done, and whether their end is.
+use Rattle.std.proofs.Common.{◌≡◌, ◌≢◌, ℕ, ◌≤◌, ◌<ℤ◌, List, [], ◌∷◌, ◌++◌, Some, get_or, sym, ap, ◌∙◌, subst, ⊎_elim, arith}
+use Rattle.std.specs.List.{All, Contains, slice_get}
+use Rattle.std.specs.declared.cmp.Ordering.TheVariants.{Less, Greater}
+use Rattle.std.proofs.lemmas.Bool.{cases_lt}
+use Rattle.std.proofs.lemmas.List.{get_or_default}
+use Rattle.std.proofs.lemmas.List.Elements.{All-contains, Contains-append_left, Contains-push_cases}
+use Rattle.std.proofs.lemmas.Option.{slice_get-get_or}
+use Rattle.plane.specs.declared.edge.Edge.{Edge}
+use Rattle.plane.specs.declared.locate.point.Point.{Point}
+use Rattle.plane.specs.declared.locate.events.Event.{Event}
+use Rattle.plane.specs.declared.locate.events.Task.TheVariants.{End, Begin}
+use Rattle.plane.specs.declared.locate.standing.Standing.{Standing}
+use Rattle.plane.specs.Locate.Crossings.{Cross, IsCrossing}
+use Rattle.plane.specs.Locate.Heights.{rightwards}
+use Rattle.plane.specs.Locate.Schedule.{StandsAt, CoversSome, ending_of, beginning_of, IsSchedule}
+use Rattle.plane.specs.Locate.Serving.{ArePlacesOfCrossing, HaveCrossing}
+use Rattle.plane.specs.Locate.Standings.{Entry, cmp_standings}
+use Rattle.plane.proofs.LocateLemmas.Exchanged.{greater_from_less}
+use Rattle.plane.proofs.LocateLemmas.Rightwards.{rightwards-same}
+use Rattle.plane.proofs.LocateLemmas.Turned.{Cross-turned, uncrossed_itself}
+use Rattle.plane.proofs.LocateLemmas.Uncrossed.{Cross-exchanged}
+
+-- the events at which an edge that goes to the right begins and ends
+abbrev pub begin_at : ℕ → Edge → Event
+begin_at place edge = record { x = edge.x0; task = Begin; place = place }
+
+abbrev pub end_at : ℕ → Edge → Event
+end_at place edge = record { x = edge.x1; task = End; place = place }
+
+abbrev pub begin_of : Standing → Event
+begin_of standing = begin_at standing.place standing.edge
+
+abbrev pub end_of : Standing → Event
+end_of standing = end_at standing.place standing.edge
+
+-- It is one of the edges, turned to the right.
+pub record IsOneOf (edges : List Edge) (standing : Standing) : Type 0 where
+  pub edge : Edge
+  pub stands : StandsAt edges standing.place edge
+  pub same : standing.edge ≡ rightwards edge
+  pub onwards : standing.edge.x0 <ℤ standing.edge.x1
+
+-- It is one of the edges, and its begin is done.
+pub record IsBegun (edges : List Edge) (done : List Event) (standing : Standing) : Type 0 where
+  pub one : IsOneOf edges standing
+  pub begun : Contains done (begin_of standing)
+
+-- its end is done
+abbrev pub HasEnded : List Event → Standing → Type 0
+HasEnded done standing = Contains done (end_of standing)
+
+-- ---- the edges
+
+-- one element stands at a place
+pub one_element : {X : Type 0} (xs : List X) (i j : ℕ) (x y : X) → i ≡ j → StandsAt xs i x → StandsAt xs j y → x ≡ y
+one_element xs i j x y same (inside, at) (inside', at') = sym at ∙ get_or_default xs i x y inside ∙ ap (λ k. get_or xs k y) same ∙ at'
+
+pub slice_get-stands : {X : Type 0} (xs : List X) (i : ℕ) (x : X) → StandsAt xs i x → slice_get xs i ≡ Some x
+slice_get-stands xs i x (inside, at) = slice_get-get_or xs i x inside ∙ ap Some at
+
+pub standing_of_parts : (one other : Standing) → one.edge ≡ other.edge → one.place ≡ other.place → one ≡ other
+standing_of_parts one other edge place =
+    let first : one ≡ record { edge = other.edge; place = one.place } = ap (λ (e : Edge). record { edge = e; place = one.place }) edge in
+    let second : record { edge = other.edge; place = one.place } ≡ other = ap (λ (p : ℕ). record { edge = other.edge; place = p }) place in
+    first ∙ second
+
+pub end_is : (standing : Standing) (place : ℕ) (edge : Edge) → standing.edge ≡ rightwards edge → standing.place ≡ place → end_of standing ≡ ending_of place edge
+end_is standing place edge same place_is = ap (λ (e : Edge). end_at standing.place e) same ∙ ap (λ (p : ℕ). end_at p (rightwards edge)) place_is
+
+pub begin_is : (standing : Standing) (place : ℕ) (edge : Edge) → standing.edge ≡ rightwards edge → standing.place ≡ place → begin_of standing ≡ beginning_of place edge
+begin_is standing place edge same place_is = ap (λ (e : Edge). begin_at standing.place e) same ∙ ap (λ (p : ℕ). begin_at p (rightwards edge)) place_is
+
+-- none stands before itself
+pub never_before_itself : (standing : Standing) → ¬ (cmp_standings standing standing ≡ Less)
+never_before_itself standing less = let apart : Less ≡ Greater = sym less ∙ greater_from_less standing standing less in cc
+
+-- what is done after an event of another task was done before it
+pub done_earlier : (done : List Event) (event other : Event) → event.task ≢ other.task → Contains (done ++ event ∷ []) other → Contains done other
+done_earlier done event other differ held =
+    ⊎_elim (λ before. before) (λ this. absurd (differ (ap (λ (e : Event). e.task) this))) (Contains-push_cases done event other held)
+
+module _ (edges : List Edge) where
+  -- each is told by its place
+  pub same_standing : (one other : Standing) → IsOneOf edges one → IsOneOf edges other → one.place ≡ other.place → one ≡ other
+  same_standing one other is is' place =
+      standing_of_parts one other (is.same ∙ ap rightwards (one_element edges one.place other.place is.edge is'.edge place is.stands is'.stands) ∙ sym is'.same) place
+
+  pub turned : (standing : Standing) (is : IsOneOf edges standing) → rightwards standing.edge ≡ rightwards is.edge
+  turned standing is = rightwards-same standing.edge is.onwards ∙ is.same
+
+  covers : (standing : Standing) (is : IsOneOf edges standing) → CoversSome is.edge
+  covers standing is = subst (λ (edge : Edge). edge.x0 <ℤ edge.x1) is.same is.onwards
+
+  -- the edge at an event's place, which covers something
+  pub edge_at : (standing : Standing) (place : ℕ) (edge d : Edge) → StandsAt edges place edge → standing.edge ≡ rightwards (get_or edges place d) → standing.edge ≡ rightwards edge
+  edge_at standing place edge d stands edge_is = edge_is ∙ ap rightwards (get_or_default edges place d edge stands.0 ∙ stands.1)
+
+  pub is_one_of : (standing : Standing) (place : ℕ) (edge : Edge) → StandsAt edges place edge → CoversSome edge → standing.edge ≡ rightwards edge → standing.place ≡ place → IsOneOf edges standing
+  is_one_of standing place edge stands some same place_is = record {
+    edge = edge;
+    stands = subst (λ p. StandsAt edges p edge) (sym place_is) stands;
+    same = same;
+    onwards = subst (λ (e : Edge). e.x0 <ℤ e.x1) (sym same) some;
+  }
+
+  -- two of them that cross, at the places that are told
+  crossing_at : (one other : Standing) → IsOneOf edges one → IsOneOf edges other → (i j : ℕ) → i ≤ j → i ≡ one.place → j ≡ other.place → Cross one.edge other.edge → IsCrossing edges i j
+  crossing_at one other is is' i j in_order first second cross = record {
+    below = ⊎_elim (λ below. below) (λ above. absurd (never (omega (arith, in_order, above)))) (cases_lt i j);
+    one = is.edge;
+    other = is'.edge;
+    first = subst (λ p. slice_get edges p ≡ Some is.edge) (sym first) (slice_get-stands edges one.place is.edge is.stands);
+    second = subst (λ p. slice_get edges p ≡ Some is'.edge) (sym second) (slice_get-stands edges other.place is'.edge is'.stands);
+    cross = Cross-turned one.edge is.edge other.edge is'.edge (turned one is) (turned other is') cross;
+  }
+    where
+      never : i ≡ j → ⊥
+      never at_one =
+          let itself : one ≡ other = same_standing one other is is' (sym first ∙ at_one ∙ second) in
+          uncrossed_itself one.edge (subst (λ (s : Standing). Cross one.edge s.edge) (sym itself) cross)
+
+  pub IsCrossing-places : (one other : Standing) → IsOneOf edges one → IsOneOf edges other → (i j : ℕ) → ArePlacesOfCrossing one other i j → IsCrossing edges i j
+  IsCrossing-places one other is is' i j told =
+      ⊎_elim
+      (λ places. crossing_at one other is is' i j told.in_order places.0 places.1 told.cross)
+      (λ places. crossing_at other one is' is i j told.in_order places.0 places.1 (Cross-exchanged one.edge other.edge told.cross))
+      told.places
+
+  -- entries of edges that have a crossing
+  pub IsCrossing-among : (entries : List Entry) → All (λ entry. IsOneOf edges entry.0) entries → (i j : ℕ) → HaveCrossing entries i j → IsCrossing edges i j
+  IsCrossing-among entries are i j (one, other, held, other_held, told) =
+      IsCrossing-places one.0 other.0
+      (All-contains (λ (entry : Entry). IsOneOf edges entry.0) entries one are held)
+      (All-contains (λ (entry : Entry). IsOneOf edges entry.0) entries other are other_held) i j told
+
+  -- ---- one more event
+
+  module _ (done : List Event) (event : Event) (standing : Standing) where
+    pub IsBegun-more : IsBegun edges done standing → IsBegun edges (done ++ event ∷ []) standing
+    IsBegun-more is = record { one = is.one; begun = Contains-append_left done (event ∷ []) (begin_of standing) is.begun }
+
+    -- where it is no begin, all had begun before that have
+    pub IsBegun-before : event.task ≢ Begin → IsBegun edges (done ++ event ∷ []) standing → IsBegun edges done standing
+    IsBegun-before none is = record { one = is.one; begun = done_earlier done event (begin_of standing) none is.begun }
+
+  -- ---- the schedule
+
+  module _ (points : List Point) (events : List Event) (schedule : IsSchedule edges points events) (standing : Standing) (is : IsOneOf edges standing) where
+    pub begin_known : Contains events (begin_of standing)
+    begin_known = subst (λ (edge : Edge). Contains events (begin_at standing.place edge)) (sym is.same) (schedule.begins standing.place is.edge is.stands (covers standing is))
+
+    pub end_known : Contains events (end_of standing)
+    end_known = subst (λ (edge : Edge). Contains events (end_at standing.place edge)) (sym is.same) (schedule.ends standing.place is.edge is.stands (covers standing is))

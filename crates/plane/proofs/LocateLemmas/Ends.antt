@@ -1,0 +1,134 @@
+-- An edge of the line ends: how the order along the status finds its neighbours, and what is left of the line.
+use Rattle.std.proofs.Common.{◌≡◌, ℤ, ◌≤ℤ◌, ◌<ℤ◌, List, [], ◌∷◌, ◌++◌, Option, Some, get_or, append_assoc, arith, sym, ap, ◌∙◌, subst}
+use Rattle.std.specs.Int.{int_min}
+use Rattle.std.specs.List.{All}
+use Rattle.std.specs.declared.cmp.Ordering.{Ordering}
+use Rattle.std.specs.declared.cmp.Ordering.TheVariants.{Less, Greater}
+use Rattle.std.proofs.lemmas.Int.{ints, clamps}
+use Rattle.std.proofs.lemmas.List.Elements.{All-append, All-filter, All-head, All-weaker, filter-append}
+use Rattle.i_tree.specs.Root.Along.{AreNeighbours, IsMonotoneAlong}
+use Rattle.plane.specs.declared.locate.standing.Standing.{Standing}
+use Rattle.plane.specs.Locate.Crossings.{Cross}
+use Rattle.plane.specs.Locate.Standings.{Entry, cmp_standings, is_live_at, live_entries, NotCross}
+use Rattle.plane.proofs.LocateLemmas.Adjacent.{Adjacent-left_out, All-at, All-left_out, AllPairs-after, AllPairs-before, AllPairs-left_out}
+use Rattle.plane.proofs.LocateLemmas.Exchanged.{greater_from_less}
+use Rattle.plane.proofs.LocateLemmas.Line.{Line}
+use Rattle.plane.proofs.LocateLemmas.Live.{filter_keeps, filter_skips, is_live_at-before, is_live_at-ended}
+use Rattle.plane.proofs.LocateLemmas.Neighbours.{IsMonotoneAlong-between, first_neighbour, last_neighbour}
+use Rattle.plane.proofs.LocateLemmas.Order.{IsUpto, stands_upto}
+use Rattle.plane.proofs.LocateLemmas.Uncrossed.{Cross-exchanged, upto_uncrossed}
+use Rattle.i_tree.proofs.RootLemmas.Joined.{All-behind, All-front}
+
+end_before : (a b x : ℤ) → b ≡ x → int_min a b ≤ℤ x
+end_before a b x is = omega (arith, ints, clamps)
+
+end_before_first : (a b x : ℤ) → a ≡ x → int_min a b ≤ℤ x
+end_before_first a b x is = omega (arith, ints, clamps)
+
+module _ (x : ℤ) (front : List Entry) (ending : Entry) (back : List Entry) (is : Line x (front ++ ending ∷ back)) (ends : ending.0.edge.x1 ≡ x) where
+  abbrev by_ending : Standing → Ordering
+  by_ending other = cmp_standings other ending.0
+
+  abbrev live : List Entry → List Entry
+  live entries = live_entries x entries
+
+  abbrev Stands : Entry → Entry → Type 0
+  Stands one other = cmp_standings one.0 other.0 ≡ Less
+
+  abbrev UptoHere : Entry → Entry → Type 0
+  UptoHere one other = IsUpto one.0.edge other.0.edge x
+
+  abbrev Onwards : Entry → Type 0
+  Onwards entry = entry.0.edge.x0 <ℤ entry.0.edge.x1
+
+  abbrev IsLess : Entry → Type 0
+  IsLess entry = by_ending entry.0 ≡ Less
+
+  abbrev IsGreater : Entry → Type 0
+  IsGreater entry = by_ending entry.0 ≡ Greater
+
+  less : All IsLess front
+  less = AllPairs-before Stands front ending back is.order
+
+  greater : All IsGreater back
+  greater = All-weaker (Stands ending) IsGreater (λ entry before. greater_from_less ending.0 entry.0 before) back (AllPairs-after Stands front ending back is.order)
+
+  -- the edge that ends is live no more
+  cut : live (front ++ ending ∷ back) ≡ live front ++ live back
+  cut =
+      filter-append (is_live_at x) front (ending ∷ back)
+      ∙ ap (λ (entries : List Entry). live front ++ entries) (filter_skips (is_live_at x) ending back (is_live_at-ended x ending (omega (arith, ints, ends))))
+
+  pub end_monotone : IsMonotoneAlong (λ other. cmp_standings other ending.0) (live_entries x (front ++ ending ∷ back))
+  end_monotone =
+      subst (λ (entries : List Entry). IsMonotoneAlong by_ending entries) (sym cut)
+      (IsMonotoneAlong-between by_ending (live front) (live back) (All-filter (is_live_at x) IsLess front less) (All-filter (is_live_at x) IsGreater back greater))
+
+  -- it crosses none of the line
+  ending_onwards : Onwards ending
+  ending_onwards = All-at Onwards front ending back is.onwards
+
+  uncrossed_in_front : (entry : Entry) → Onwards entry → IsLess entry → UptoHere entry ending → ¬ (Cross entry.0.edge ending.0.edge)
+  uncrossed_in_front entry onwards stands upto =
+      upto_uncrossed entry.0 ending.0 x onwards ending_onwards (end_before entry.0.edge.x1 ending.0.edge.x1 x ends) (stands_upto entry.0 ending.0 stands) upto
+
+  uncrossed_behind : (entry : Entry) → Onwards entry → Stands ending entry → UptoHere ending entry → ¬ (Cross entry.0.edge ending.0.edge)
+  uncrossed_behind entry onwards stands upto cross =
+      upto_uncrossed ending.0 entry.0 x ending_onwards onwards (end_before_first ending.0.edge.x1 entry.0.edge.x1 x ends) (stands_upto ending.0 entry.0 stands) upto
+      (Cross-exchanged entry.0.edge ending.0.edge cross)
+
+  pub end_uncrossed : All (λ entry. ¬ (Cross entry.0.edge ending.0.edge)) (front ++ back)
+  end_uncrossed =
+      let onwards = is.onwards in
+      let upto = AllPairs-before UptoHere front ending back is.sorted in
+      let stands = AllPairs-after Stands front ending back is.order in
+      let upto_behind = AllPairs-after UptoHere front ending back is.sorted in
+      All-append (λ entry. ¬ (Cross entry.0.edge ending.0.edge)) front back
+      (λ k d inside. uncrossed_in_front (get_or front k d) (All-front Onwards front (ending ∷ back) is.onwards k d inside) (less k d inside) (upto k d inside))
+      (λ k d inside. uncrossed_behind (get_or back k d) (All-behind Onwards front back (All-left_out Onwards front ending back is.onwards) k d inside) (stands k d inside) (upto_behind k d inside))
+
+  -- two that come to stand next to each other, and are live, are its neighbours
+  module _ (found : Option Entry × Option Entry) (are : AreNeighbours (λ other. cmp_standings other ending.0) (live_entries x (front ++ ending ∷ back)) found) (apart : NotCross found.0 found.1)
+      (rest : List Entry) (last first : Entry) (more : List Entry) (in_front : front ≡ rest ++ last ∷ []) (behind : back ≡ first ∷ more)
+      (lives : x <ℤ last.0.edge.x1) (lives_too : x <ℤ first.0.edge.x1) where
+    live_front : live front ≡ live rest ++ last ∷ []
+    live_front =
+        ap live in_front ∙ filter-append (is_live_at x) rest (last ∷ [])
+        ∙ ap (λ (entries : List Entry). live rest ++ entries) (filter_keeps (is_live_at x) last [] (is_live_at-before x last lives))
+
+    live_back : live back ≡ first ∷ live more
+    live_back = ap live behind ∙ filter_keeps (is_live_at x) first more (is_live_at-before x first lives_too)
+
+    live_all : live (front ++ ending ∷ back) ≡ (live rest ++ last ∷ []) ++ first ∷ live more
+    live_all = cut ∙ ap (λ (entries : List Entry). entries ++ live back) live_front ∙ ap (λ (entries : List Entry). (live rest ++ last ∷ []) ++ entries) live_back
+
+    are_here : AreNeighbours by_ending ((live rest ++ last ∷ []) ++ first ∷ live more) found
+    are_here = subst (λ (entries : List Entry). AreNeighbours by_ending entries found) live_all are
+
+    front_less : All IsLess (live rest ++ last ∷ [])
+    front_less = subst (All IsLess) live_front (All-filter (is_live_at x) IsLess front less)
+
+    back_greater : All IsGreater (first ∷ live more)
+    back_greater = subst (All IsGreater) live_back (All-filter (is_live_at x) IsGreater back greater)
+
+    one_found : found.0 ≡ Some last
+    one_found =
+        last_neighbour by_ending (live rest) last (first ∷ live more) found (All-at IsLess (live rest) last [] front_less) back_greater
+        (subst (λ (entries : List Entry). AreNeighbours by_ending entries found) (append_assoc (live rest) (last ∷ []) (first ∷ live more)) are_here)
+
+    other_found : found.1 ≡ Some first
+    other_found = first_neighbour by_ending (live rest ++ last ∷ []) first (live more) found front_less (All-head IsGreater first (live more) back_greater) are_here
+
+    new_neighbours : ¬ (Cross last.0.edge first.0.edge)
+    new_neighbours =
+        subst (λ (other : Option Entry). NotCross (Some last) other) other_found (subst (λ (one : Option Entry). NotCross one found.1) one_found apart)
+
+  pub end_kept : (found : Option Entry × Option Entry) → AreNeighbours (λ other. cmp_standings other ending.0) (live_entries x (front ++ ending ∷ back)) found → NotCross found.0 found.1 → Line x (front ++ back)
+  end_kept found are apart = record {
+    onwards = All-left_out Onwards front ending back is.onwards;
+    spans = All-left_out (λ (entry : Entry). (entry.0.edge.x0 ≤ℤ x) × (x ≤ℤ entry.0.edge.x1)) front ending back is.spans;
+    order = AllPairs-left_out Stands front ending back is.order;
+    sorted = AllPairs-left_out UptoHere front ending back is.sorted;
+    adjacent = Adjacent-left_out (λ (one other : Entry). x <ℤ one.0.edge.x1 → x <ℤ other.0.edge.x1 → ¬ (Cross one.0.edge other.0.edge)) front ending back is.adjacent
+        (λ rest last first more in_front behind lives lives_too. new_neighbours found are apart rest last first more in_front behind lives lives_too);
+  }
