@@ -8,10 +8,22 @@ mod chance;
 #[cfg(test)]
 mod crossings;
 #[cfg(test)]
+mod locate_chance;
+#[cfg(test)]
+mod located;
+#[cfg(test)]
+mod located_chains;
+#[cfg(test)]
+mod located_corners;
+#[cfg(test)]
+mod located_refused;
+#[cfg(test)]
 mod meetings;
 #[cfg(test)]
 mod pairs;
 #[cfg(test)]
 mod sets;
+#[cfg(test)]
+mod statuses;
 #[cfg(test)]
 mod strips;
