@@ -31,6 +31,7 @@ FAULTY = (
     ("one too many after setlist", ["setlist", ""]),
     ("one too many after sweep", ["sweep", "extra"]),
     ("one too many after cross", ["cross", "cross"]),
+    ("one too many after locate", ["locate", "-h"]),
     ("seg alone", ["seg"]),
     ("seg and one number", ["seg", "0"]),
     ("seg and three numbers", ["seg", "0", "128", "256"]),

@@ -135,10 +135,11 @@ def help_and_document():
     yield Case(f"the help lists what {COMMANDS} lists", ["help"], b"", Outcome(0, wanted), listed)
 
 
-def picture():
-    """The case that docs/pictures/sweep.svg shows."""
-    given, wanted = (text_of(f"docs/pictures/sweep.{kind}").encode() for kind in ("lines", "replies"))
-    yield Case("the sweep of the picture", ["sweep"], given, Outcome(0, wanted))
+def pictures():
+    """The cases that docs/pictures/sweep.svg and locate.svg show."""
+    for mode in "sweep", "locate":
+        given, wanted = (text_of(f"docs/pictures/{mode}.{kind}").encode() for kind in ("lines", "replies"))
+        yield Case(f"the run of {mode}'s picture", [mode], given, Outcome(0, wanted))
 
 
-PARTS = examples, help_and_document, picture
+PARTS = examples, help_and_document, pictures

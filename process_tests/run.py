@@ -28,6 +28,7 @@ GROUPS = (
     "many",
     "sweeps",
     "crosses",
+    "locates",
 )
 
 # So many parts of modules run side by side.

@@ -16,6 +16,7 @@ sys.dont_write_bytecode = True
 import arguments
 import crosses
 import documents
+import locates
 import sweeps
 import text
 import worked
@@ -24,7 +25,7 @@ from run import told
 
 # The parts whose cases are tried.
 PARTS = (
-    *(*documents.PARTS, *worked.PARTS, *arguments.PARTS, sweeps.worked, crosses.worked),
+    *(*documents.PARTS, *worked.PARTS, *arguments.PARTS, sweeps.worked, crosses.worked, locates.worked),
     *(text.empty_texts, text.plain_lines, text.faulty_lines, text.numbers),
 )
 

@@ -5,7 +5,7 @@ usage: draw.py            writes them all
        draw.py --check    compares each with what it would write, and ends with 'N passed, M failed'
 
 `sweep.svg` shows `sweep.lines`, with the answers that `sweep.replies` has: the process tests run the program over the one
-and compare what it prints with the other.
+and compare what it prints with the other. So does `locate.svg` with `locate.lines` and `locate.replies`.
 """
 
 import os
@@ -221,37 +221,72 @@ def words_of(name):
         return [line.split() for line in lines.read().splitlines() if line.split()]
 
 
-def sweep():
-    said = words_of("sweep.lines")
-    segments = [tuple(map(int, words[1:])) for words in said if words[0] == "segment"]
-    points = [tuple(map(int, words[1:])) for words in said if words[0] == "point"]
-    replies = [" ".join(words) for words in words_of("sweep.replies")]
+def scene(name, word):
+    """The lines of a run that begin with the word, each with its number, and its points with their replies."""
+    said = [(words[0], tuple(map(int, words[1:])), number) for number, words in enumerate(words_of(f"{name}.lines"), 1)]
+    things = [(numbers, number) for kind, numbers, number in said if kind == word]
+    points = [numbers for kind, numbers, _ in said if kind == "point"]
+    replies = [" ".join(words) for words in words_of(f"{name}.replies")]
     if len(points) != len(replies):
-        sys.exit("sweep.replies has another number of replies than sweep.lines has points")
-    left, unit, floor, step = 60, 54, 290, 26
+        sys.exit(f"{name}.replies has another number of replies than {name}.lines has points")
+    return things, list(zip(points, replies))
 
-    def at(x, y):
-        return left + unit * x, floor - step * y
 
-    parts = [line(left, floor, left + unit * 11.5, floor, INK, 1), line(left, floor, left, 30, INK, 1)]
-    parts += [text(left + unit * x, floor + 18, str(x), 12, fill=SOFT) for x in range(0, 12)]
-    parts += [text(left - 12, floor - step * y + 4, str(y), 12, "end", SOFT) for y in range(0, 10)]
-    for x0, x1, y in segments:
+def at(x, y):
+    """Where a point of a run stands on the paper."""
+    return 60 + 54 * x, 290 - 26 * y
+
+
+def axes():
+    (left, floor), (right, _), (_, top) = at(0, 0), at(11.5, 0), at(0, 10)
+    parts = [line(left, floor, right, floor, INK, 1), line(left, floor, left, top, INK, 1)]
+    parts += [text(at(x, 0)[0], floor + 18, str(x), 12, fill=SOFT) for x in range(0, 12)]
+    return parts + [text(left - 12, at(0, y)[1] + 4, str(y), 12, "end", SOFT) for y in range(0, 10)]
+
+
+def asked(x, y, height, reply, on_left):
+    """A point, the way down from it to a height, and its reply."""
+    (at_x, at_y), (_, below) = at(x, y), at(x, height)
+    ink = SOFT if reply == "none" else GREEN
+    side, anchor = (-9, "end") if on_left else (9, "start")
+    way = line(at_x, at_y, at_x, below, ink, 1.5, dashed=True)
+    return [way, dot(at_x, at_y, 5, ink), text(at_x + side, at_y - 5, reply, 12, anchor, ink)]
+
+
+def sweep():
+    segments, asks = scene("sweep", "segment")
+    parts = axes()
+    for (x0, x1, y), _ in segments:
         (from_x, at_y), (to_x, _) = at(x0, y), at(x1, y)
         parts.append(line(from_x, at_y, to_x, at_y, BLUE, 4))
         parts += [dot(from_x, at_y, 4, BLUE), dot(to_x, at_y, 4, BLUE)]
-    for (x, y), reply in zip(points, replies):
-        at_x, at_y = at(x, y)
-        found = reply.startswith("below ")
-        below = at(x, int(reply.split()[1]))[1] if found else floor
-        parts.append(line(at_x, at_y, at_x, below, GREEN if found else SOFT, 1.5, dashed=True))
+    for (x, y), reply in asks:
+        height = 0 if reply == "none" else int(reply.split()[1])
         # Beside a point one to the right, whose line goes down there, the reply stands on the left.
-        side, anchor = (-9, "end") if any(there == x + 1 and top >= y for there, top in points) else (9, "start")
-        parts += [dot(at_x, at_y, 5, GREEN if found else SOFT), text(at_x + side, at_y - 5, reply, 12, anchor, GREEN if found else SOFT)]
+        parts += asked(x, y, height, reply, any(there == x + 1 and top >= y for (there, top), _ in asks))
     return picture("Three segments, and what lies straight below each of six points", 720, 320, parts)
 
 
-PICTURES = {"layers": layers, "slots": slots, "descent": descent, "buckets": buckets, "sweep": sweep}
+def locate():
+    edges, asks = scene("locate", "edge")
+    by_line = {str(number): numbers for numbers, number in edges}
+    parts = axes()
+    for (x0, y0, x1, y1), number in edges:
+        (from_x, from_y), (to_x, to_y) = at(x0, y0), at(x1, y1)
+        parts.append(line(from_x, from_y, to_x, to_y, BLUE, 4))
+        parts += [dot(from_x, from_y, 4, BLUE), dot(to_x, to_y, 4, BLUE)]
+        name_x, name_y = (from_x + to_x) // 2, (from_y + to_y) // 2
+        parts.append(text(name_x, name_y + 20, str(number), 13, fill=BLUE, weight="bold"))
+    for (x, y), reply in asks:
+        height = 0
+        if reply != "none":
+            x0, y0, x1, y1 = by_line[reply.split()[1]]
+            height = y0 + (y1 - y0) * (x - x0) / (x1 - x0)
+        parts += asked(x, y, height, reply, False)
+    return picture("Four sloped edges, and which of them lies straight below each of six points", 720, 320, parts)
+
+
+PICTURES = {"layers": layers, "slots": slots, "descent": descent, "buckets": buckets, "sweep": sweep, "locate": locate}
 
 
 def kept(path):

@@ -1,6 +1,6 @@
--- A line that a fault names is one that the text has.
+-- The lines that a fault names are those that the text has.
 use Rattle.std.proofs.Common.{ℕ, List, inl, inr}
-use Rattle.itree.specs.Texts.{HasFirstFaulty, HasOverlapLine, HasFault}
+use Rattle.itree.specs.Texts.{HasFirstFaulty, HasOverlapLine, HasCrossingLines, HasFault}
 use Rattle.itree.specs.declared.mode.Mode.{Mode}
 
 -- the first faulty line
@@ -9,4 +9,8 @@ HasFault-line mode text number first = inl (number, first)
 
 -- the line of an overlap, which a sweep alone has
 pub HasFault-overlap : (mode : Mode) (text : List ℕ) (number : ℕ) → HasOverlapLine mode text number → HasFault mode text
-HasFault-overlap mode text number overlap = inr (number, overlap)
+HasFault-overlap mode text number overlap = inr (inl (number, overlap))
+
+-- the lines of edges that cross, which points among edges alone have
+pub HasFault-crossing : (mode : Mode) (text : List ℕ) (first second : ℕ) → HasCrossingLines mode text first second → HasFault mode text
+HasFault-crossing mode text first second crossing = inr (inr (first, second, crossing))

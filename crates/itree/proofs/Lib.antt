@@ -1,7 +1,8 @@
 pub mod Answered
+pub mod CommandLines
 pub mod Counting
-pub mod EdgeLines
 pub mod Faults
+pub mod Located
 pub mod Meetings
 pub mod SegmentLines
 pub mod Sorting

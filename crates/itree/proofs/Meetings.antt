@@ -13,12 +13,12 @@ use Rattle.std.proofs.lemmas.Option.{get_or_from_slice_get, slice_get_within}
 use Rattle.std.proofs.lemmas.List.{length-map, length-replicate}
 use Rattle.std.proofs.Math.Nat.{eq-or-lt_of_le}
 use Rattle.itree.specs.Answers.{AnswersCross}
-use Rattle.itree.specs.CrossLines.{SaysEdge, edge_lines, AreMetLines}
-use Rattle.itree.specs.Grammar.{LinesSay}
+use Rattle.itree.specs.CrossLines.{SaysEdge, AreMetLines}
+use Rattle.itree.specs.Grammar.{LinesSay, command_lines}
 use Rattle.itree.specs.Replies.{met_words, reply_lines}
 use Rattle.itree.specs.Told.{number_told, told, lists_of, AreTold, AreOrderedMeetings}
 use Rattle.itree.specs.declared.lines.cross.MetLines.{MetLines}
-use Rattle.itree.proofs.EdgeLines.{edge_lines-rise, length-edge_lines}
+use Rattle.itree.proofs.CommandLines.{command_lines-rise, length-command_lines}
 use Rattle.plane.specs.Meet.Meetings.{MeetAt, AreMeetings}
 use Rattle.plane.specs.declared.edge.Edge.{Edge}
 
@@ -136,13 +136,13 @@ module _ (numbers : List ℕ) (place : ℕ) where
 
 -- ---- the replies to edges
 
-met_lines : (lines : List (List ℕ)) (edges : List Edge) (pairs : List (ℕ × ℕ)) (place : ℕ) → AreOrderedMeetings edges pairs → AreMetLines lines edges place (told (edge_lines lines) pairs place)
+met_lines : (lines : List (List ℕ)) (edges : List Edge) (pairs : List (ℕ × ℕ)) (place : ℕ) → AreOrderedMeetings edges pairs → AreMetLines lines edges place (told (command_lines lines) pairs place)
 met_lines lines edges pairs place ordered = record {
-  rising = told-rises (edge_lines lines) place (edge_lines-rise lines) pairs (ordered-rise edges pairs ordered);
+  rising = told-rises (command_lines lines) place (command_lines-rise lines) pairs (ordered-rise edges pairs ordered);
   exact = λ number. (
-    λ stands. let (pair, among, here, is) = told-by (edge_lines lines) place pairs number stands in
+    λ stands. let (pair, among, here, is) = told-by (command_lines lines) place pairs number stands in
         (pair.0, subst (MeetAt edges pair.0) here ((ordered.meetings.exact pair.0 pair.1).0 among), is),
-    λ (earlier, meet, is). told-each (edge_lines lines) place pairs (earlier, place) number ((ordered.meetings.exact earlier place).1 meet) refl is,
+    λ (earlier, meet, is). told-each (command_lines lines) place pairs (earlier, place) number ((ordered.meetings.exact earlier place).1 meet) refl is,
   );
 }
 
@@ -153,13 +153,13 @@ lines_of_lists (reply ∷ replies) = ap (λ (rest : List ℕ). (met_words reply.
 
 -- replies that were told the meetings answer the edges
 pub answers_cross : {A : Type 0} (lines : List (List ℕ)) (edges : List Edge) (numbers : List ℕ) (pairs : List (ℕ × ℕ)) (replies : List (MetLines A)) (count : ℕ) (output : List ℕ)
-    → numbers ≡ edge_lines lines → AreOrderedMeetings edges pairs → count ≡ length edges → AreTold numbers pairs count (lists_of replies) → output ≡ reply_lines (λ reply. met_words reply.numbers.items) replies → AnswersCross lines edges output
+    → numbers ≡ command_lines lines → AreOrderedMeetings edges pairs → count ≡ length edges → AreTold numbers pairs count (lists_of replies) → output ≡ reply_lines (λ reply. met_words reply.numbers.items) replies → AnswersCross lines edges output
 answers_cross lines edges numbers pairs replies count output are ordered counted all_told written = record {
   replies = lists_of replies;
   one_each = all_told.one_each ∙ counted;
   met = λ place list is.
       let within : place < count = subst (λ (n : ℕ). place < n) all_told.one_each (slice_get_within (lists_of replies) place list is) in
-      let lists : told (edge_lines lines) pairs place ≡ list = some_same (ap (λ (ns : List ℕ). Some (told ns pairs place)) (sym are) ∙ sym (all_told.each place within) ∙ is) in
+      let lists : told (command_lines lines) pairs place ≡ list = some_same (ap (λ (ns : List ℕ). Some (told ns pairs place)) (sym are) ∙ sym (all_told.each place within) ∙ is) in
       subst (AreMetLines lines edges place) lists (met_lines lines edges pairs place ordered);
   written = written ∙ lines_of_lists replies;
 }
@@ -168,14 +168,14 @@ answers_cross lines edges numbers pairs replies count output are ordered counted
     some_same same = cc
 
 -- each pair has places
-pub in_range : (lines : List (List ℕ)) (edges : List Edge) (numbers : List ℕ) (pairs : List (ℕ × ℕ)) (count : ℕ) → LinesSay SaysEdge lines edges → numbers ≡ edge_lines lines → AreOrderedMeetings edges pairs → count ≡ length edges
+pub in_range : (lines : List (List ℕ)) (edges : List Edge) (numbers : List ℕ) (pairs : List (ℕ × ℕ)) (count : ℕ) → LinesSay SaysEdge lines edges → numbers ≡ command_lines lines → AreOrderedMeetings edges pairs → count ≡ length edges
     → All (λ pair. (pair.0 < length numbers) × (pair.1 < count)) pairs
 in_range lines edges numbers pairs count say are ordered counted k d within =
     let pair = get_or pairs k d in
     let meet = (ordered.meetings.exact pair.0 pair.1).0 (Contains-get_or pairs k d within) in
     let first : pair.0 < length edges = slice_get_within edges pair.0 meet.one meet.first in
     let second : pair.1 < length edges = slice_get_within edges pair.1 meet.other meet.second in
-    (subst (λ (n : ℕ). pair.0 < n) (sym (ap length are ∙ length-edge_lines lines edges say)) first, subst (λ (n : ℕ). pair.1 < n) (sym counted) second)
+    (subst (λ (n : ℕ). pair.0 < n) (sym (ap length are ∙ length-command_lines SaysEdge (λ edge says. says) lines edges say)) first, subst (λ (n : ℕ). pair.1 < n) (sym counted) second)
 
 -- as many replies as lists
 pub listed : {A : Type 0} (replies : List (MetLines A)) (count : ℕ) → lists_of replies ≡ replicate count [] → length replies ≡ count

@@ -8,7 +8,8 @@ use Rattle.i_tree.specs.Seg.Buckets.{Buckets, IsLayout}
 use Rattle.itree.specs.CrossLines.{AreMetLines}
 use Rattle.itree.specs.KeyLines.{KeyLine}
 use Rattle.itree_lib.specs.Run.KeyMachine as keys
-use Rattle.itree.specs.Replies.{key_reply_words, seg_reply_words, set_reply_words, height_words, met_words, reply_lines}
+use Rattle.itree.specs.LocateLines.{IsLineBelow, edges_of, points_of as points_among}
+use Rattle.itree.specs.Replies.{key_reply_words, seg_reply_words, set_reply_words, height_words, met_words, edge_words, reply_lines}
 use Rattle.itree.specs.SegLines.{SegLine}
 use Rattle.itree_lib.specs.Run.SegMachine as segments
 use Rattle.itree_lib.specs.Run.SegMachine.{Reply as seg_reply}
@@ -16,7 +17,9 @@ use Rattle.itree.specs.SetLines.{SetLine}
 use Rattle.itree_lib.specs.Run.SetMachine as sets
 use Rattle.itree_lib.specs.Sweep.Heights.{IsHeightBelow, NoneCollide}
 use Rattle.itree.specs.SweepLines.{segments_of, points_of}
+use Rattle.itree.specs.declared.lines.locate.LocateLine.{LocateLine}
 use Rattle.itree.specs.declared.lines.sweep.SweepLine.{SweepLine}
+use Rattle.plane.specs.Locate.Crossings.{NoneCross}
 use Rattle.plane.specs.declared.edge.Edge.{Edge}
 use Rattle.itree_lib.specs.declared.run.keys.KeyReply.{KeyReply}
 use Rattle.itree_lib.specs.declared.run.sets.SetReply.{SetReply}
@@ -87,3 +90,11 @@ pub record AnswersCross (lines : List (List ℕ)) (edges : List Edge) (output : 
   pub one_each : length replies ≡ length edges
   pub met : (place : ℕ) (numbers : List ℕ) → slice_get replies place ≡ Some numbers → AreMetLines lines edges place numbers
   pub written : output ≡ reply_lines met_words replies
+
+-- no two of the edges that are said cross, and the output is the lines of the answers to the points that are said, each of
+-- which tells the line of the edge below its point
+pub record AnswersLocate (lines : List (List ℕ)) (said : List LocateLine) (output : List ℕ) : Type 0 where
+  pub replies : List (Option ℕ)
+  pub apart : NoneCross (edges_of said)
+  pub below : AllZip (IsLineBelow lines said) (points_among said) replies
+  pub written : output ≡ reply_lines edge_words replies

@@ -1,5 +1,5 @@
 -- The grammar of a text: its lines and their words, what each line says, and which line is the first faulty one.
-use Rattle.std.specs.Prelude.{◌≡◌, ◌==◌, ℕ, ℤ, ◌+◌, nat_lt, ⊤, List, [], ◌∷◌, ◌++◌, Option, Some, None, All, filter, length}
+use Rattle.std.specs.Prelude.{◌≡◌, ◌==◌, ℕ, ℤ, ◌+◌, nat_lt, if◌then◌else◌, ⊤, List, [], ◌∷◌, ◌++◌, Option, Some, None, All, filter, length}
 use Rattle.std.specs.Borrow.{Bor}
 use Rattle.std.specs.Char.{is_ascii_whitespace}
 use Rattle.std.specs.List.{slice_split, cons_option}
@@ -30,6 +30,18 @@ lines_of text = slice_split (λ byte. byte == 10) text
 abbrev pub lines_left : Option (Bor (List ℕ)) → List (List ℕ)
 lines_left None = []
 lines_left (Some text) = lines_of text.now
+
+-- the numbers of the lines that have words, where the first line has this number
+abbrev pub numbers_from : ℕ → List (List ℕ) → List ℕ
+numbers_from number [] = []
+numbers_from number (line ∷ lines) =
+    let later = numbers_from (number + 1) lines in
+    (if nat_lt 0 (length (words_of line)) then number ∷ later else later)
+
+-- The numbers of the lines that say commands, counted from 1, in the order of the commands. Where all lines are sound, those
+-- with words say commands.
+abbrev pub command_lines : List (List ℕ) → List ℕ
+command_lines lines = numbers_from 1 lines
 
 -- `SaysCommand` tells which words say which command
 module _ {Command : Type 0} (SaysCommand : List (List ℕ) → Command → Type 0) where

@@ -2,6 +2,7 @@ pub mod Answers
 pub mod CrossLines
 pub mod Grammar
 pub mod KeyLines
+pub mod LocateLines
 pub mod Modes
 pub mod Replies
 pub mod SegLines

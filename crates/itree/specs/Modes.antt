@@ -2,20 +2,23 @@
 use Rattle.std.specs.Prelude.{◌≡◌, ◌⊎◌, ⊤, ℕ, ℤ, List, [], ◌∷◌, map, codes}
 use Rattle.std.specs.Borrow.{Bor}
 use Rattle.i_tree.specs.Seg.Buckets.{HasLayout}
-use Rattle.itree.specs.Answers.{AnswersKeys, AnswersSet, AnswersRange, AnswersSweep, AnswersCross}
+use Rattle.itree.specs.Answers.{AnswersKeys, AnswersSet, AnswersRange, AnswersSweep, AnswersCross, AnswersLocate}
 use Rattle.itree.specs.CrossLines.{SaysEdge}
 use Rattle.itree.specs.Grammar.{ReadsAll, Says}
 use Rattle.itree.specs.KeyLines.{KeyLine, SaysKeyCommand}
+use Rattle.itree.specs.LocateLines.{SaysLocateLine, AreCrossingLines}
 use Rattle.itree.specs.SegLines.{SegLine, SaysSegCommand}
 use Rattle.itree.specs.SetLines.{SetLine, SaysSetCommand}
 use Rattle.itree.specs.SweepLines.{SaysSweepLine, IsOverlapLine}
+use Rattle.itree.specs.declared.lines.locate.LocateLine.{LocateLine}
 use Rattle.itree.specs.declared.lines.sweep.SweepLine.{SweepLine}
 use Rattle.plane.specs.declared.edge.Edge.{Edge}
 use Rattle.itree.specs.declared.mode.Mode.{Mode}
-use Rattle.itree.specs.declared.mode.Mode.TheVariants.{KeyTree, KeyList, SetTree, SetList, Segments, Sweep, Cross}
+use Rattle.itree.specs.declared.mode.Mode.TheVariants.{KeyTree, KeyList, SetTree, SetList, Segments, Sweep, Cross, Locate}
 
 -- A mode: the word that names it and the numbers behind the word, which are to fit; which words of a line say which command;
--- which output answers lines and the commands that they say; and which line of a text tells a fault beside a faulty one.
+-- which output answers lines and the commands that they say; and which line of a text, and which two, tell a fault beside a
+-- faulty one.
 pub record Row : Type 1 where
   pub word : List ℕ
   pub numbers : List ℤ
@@ -24,6 +27,7 @@ pub record Row : Type 1 where
   pub SaysCommand : List (List ℕ) → Command → Type 0
   pub AnswersAll : List (List ℕ) → List Command → List ℕ → Type 0
   pub IsOverlap : List (List ℕ) → ℕ → Type 0
+  pub AreCrossing : List (List ℕ) → ℕ → ℕ → Type 0
 
 -- keys that expire, from nothing on
 abbrev pub keys_row : List ℕ → Row
@@ -35,6 +39,7 @@ keys_row word = record {
   SaysCommand = SaysKeyCommand;
   AnswersAll = λ lines. AnswersKeys [];
   IsOverlap = λ lines number. ⊥;
+  AreCrossing = λ lines first second. ⊥;
 }
 
 -- a set, from nothing on
@@ -47,6 +52,7 @@ set_row word = record {
   SaysCommand = SaysSetCommand;
   AnswersAll = λ lines. AnswersSet [];
   IsOverlap = λ lines number. ⊥;
+  AreCrossing = λ lines first second. ⊥;
 }
 
 -- segments over a range that has a layout, from nothing on
@@ -59,6 +65,7 @@ segments_row min max = record {
   SaysCommand = SaysSegCommand;
   AnswersAll = λ lines. AnswersRange min max;
   IsOverlap = λ lines number. ⊥;
+  AreCrossing = λ lines first second. ⊥;
 }
 
 -- the points of a sweep, over its segments
@@ -71,6 +78,7 @@ sweep_row = record {
   SaysCommand = SaysSweepLine;
   AnswersAll = λ lines. AnswersSweep;
   IsOverlap = IsOverlapLine;
+  AreCrossing = λ lines first second. ⊥;
 }
 
 -- edges of the plane, each beside the earlier ones
@@ -83,6 +91,20 @@ cross_row = record {
   SaysCommand = SaysEdge;
   AnswersAll = AnswersCross;
   IsOverlap = λ lines number. ⊥;
+  AreCrossing = λ lines first second. ⊥;
+}
+
+-- the points among edges of the plane
+abbrev pub locate_row : Row
+locate_row = record {
+  word = codes "locate";
+  numbers = [];
+  Fits = ⊤;
+  Command = LocateLine;
+  SaysCommand = SaysLocateLine;
+  AnswersAll = AnswersLocate;
+  IsOverlap = λ lines number. ⊥;
+  AreCrossing = AreCrossingLines;
 }
 
 -- the row of each mode
@@ -94,6 +116,7 @@ row_of SetList = set_row (codes "setlist")
 row_of (Segments min max) = segments_row min max
 row_of Sweep = sweep_row
 row_of Cross = cross_row
+row_of Locate = locate_row
 
 -- the numbers of the mode fit: those of segments are the ends of a range that has a layout
 abbrev pub FitsItsNumbers : Mode → Type 0

@@ -51,6 +51,11 @@ height_words None = codes "none"
 abbrev pub met_words : List ℕ → List ℕ
 met_words numbers = codes "meets" ++ flat_map (λ number. codes " " ++ decimal number) numbers
 
+-- the words of the reply to a point among edges: the number of the line that says the edge below it, if there is one
+abbrev pub edge_words : Option ℕ → List ℕ
+edge_words (Some number) = codes "edge " ++ decimal number
+edge_words None = codes "none"
+
 -- the lines of the replies, each of which ends with a line feed
 abbrev pub reply_lines : {Reply : Type 0} → (Reply → List ℕ) → List Reply → List ℕ
 reply_lines words replies = flat_map (λ reply. words reply ++ 10 ∷ []) replies

@@ -1,4 +1,4 @@
--- What the program answers to a text in a mode, and which of its lines is told as a fault.
+-- What the program answers to a text in a mode, and which of its lines are told as a fault.
 use Rattle.std.specs.Prelude.{◌⊎◌, ℕ, List}
 use Rattle.itree.specs.Grammar.{lines_of, LinesSay, IsFirstFaulty}
 use Rattle.itree.specs.Modes.{row_of}
@@ -22,6 +22,14 @@ HasFaultyLine mode text = (number : ℕ) × HasFirstFaulty mode text number
 abbrev pub HasOverlapLine : Mode → List ℕ → ℕ → Type 0
 HasOverlapLine mode text number = (row_of mode).IsOverlap (lines_of text) number
 
--- a line of the text is faulty in the mode, or, in a sweep, says the first segment that overlaps
+-- among edges and points, the lines of these numbers say edges that cross; no other mode has them
+abbrev pub HasCrossingLines : Mode → List ℕ → ℕ → ℕ → Type 0
+HasCrossingLines mode text first second = (row_of mode).AreCrossing (lines_of text) first second
+
+-- a line of the text is faulty in the mode, or, in a sweep, says the first segment that overlaps, or, among edges and points,
+-- two lines say edges that cross
 abbrev pub HasFault : Mode → List ℕ → Type 0
-HasFault mode text = HasFaultyLine mode text ⊎ ((number : ℕ) × HasOverlapLine mode text number)
+HasFault mode text =
+    HasFaultyLine mode text
+    ⊎ (((number : ℕ) × HasOverlapLine mode text number)
+    ⊎ ((first : ℕ) × (second : ℕ) × HasCrossingLines mode text first second))

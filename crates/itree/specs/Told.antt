@@ -1,4 +1,4 @@
--- How pairs of edges that meet are told to the replies.
+-- How pairs of edges that meet, and edges below points, are told to the replies.
 use Rattle.std.specs.Prelude.{◌≡◌, ◌==◌, ◌<◌, ◌≤◌, ℕ, if◌then◌else◌, List, Option, Some, None, AllPairs, length, map, slice_get}
 use Rattle.std.specs.List.{filter_map}
 use Rattle.itree.specs.declared.lines.cross.MetLines.{MetLines}
@@ -26,3 +26,8 @@ pub record AreTold (numbers : List ℕ) (pairs : List (ℕ × ℕ)) (count : ℕ
 pub record AreOrderedMeetings (edges : List Edge) (pairs : List (ℕ × ℕ)) : Type 0 where
   pub meetings : AreMeetings edges pairs
   pub rising : AllPairs (λ pair later. pair.0 ≤ later.0) pairs
+
+-- the number at a place, where there are both
+abbrev pub number_at : List ℕ → Option ℕ → Option ℕ
+number_at numbers (Some place) = slice_get numbers place
+number_at numbers None = None

@@ -6,7 +6,7 @@ ghost use Rattle.i_tree.specs.Set.Pairs.{values, IsOrdered};
 ghost use Rattle.itree.specs.Answers.{AnswersKeys, AnswersSet, AnswersSegments};
 ghost use Rattle.itree.specs.Modes.{FitsItsNumbers};
 ghost use Rattle.itree.specs.Sorting.{Sorts, SortsAll};
-ghost use Rattle.itree.specs.Texts.{Answers, HasFirstFaulty, HasOverlapLine};
+ghost use Rattle.itree.specs.Texts.{Answers, HasFirstFaulty, HasOverlapLine, HasCrossingLines};
 ghost use Rattle.itree_lib.specs.Run.SegMachine.{reply_of};
 
 use crate::fault::Fault;
@@ -24,19 +24,23 @@ use i_tree::seg::tree::SegExpTree;
 use i_tree::set::list::SetList;
 use i_tree::set::sort::SetCollection;
 use i_tree::set::tree::SetTree;
+use i_tree::status::tree::StatusTree;
 use itree_lib::run::{SegReply, run_keys, run_segments, run_sets};
+use locate::answer_locate;
 use std::alloc::Allocator;
 use std::cmp::Ordering;
 use sweep::answer_sweep;
 
 mod cross;
+mod locate;
 mod sweep;
 
 /// The text of the replies to the commands of a text, from an empty collection of the mode on.
 ///
 /// The range of a mode of segments is to have a layout. The answer is `Fault::Line` with the number of the first faulty
 /// line, before any command is run, `Fault::Overlap` with the number of the line whose segment is the first of a sweep that
-/// overlaps, or `Fault::Stopped` where memory was refused.
+/// overlaps, `Fault::Cross` with the numbers of two lines whose edges cross, where they are not to, or `Fault::Stopped` where
+/// memory was refused.
 pub fn answer_text<A: Allocator + Copy>(
     alloc: A,
     mode: Mode,
@@ -46,6 +50,8 @@ pub fn answer_text<A: Allocator + Copy>(
     ensures answered { IfOk result (λ output. Answers mode text.now (string_bytes output)) }
     ensures faulty { (number : ℕ) → result ≡ Err (Fault.Line number) → HasFirstFaulty mode text.now number }
     ensures overlap { (number : ℕ) → result ≡ Err (Fault.Overlap number) → HasOverlapLine mode text.now number }
+    ensures crossing { (first second : ℕ) → result ≡ Err (Fault.Cross first second) →
+        HasCrossingLines mode text.now first second }
     ensures err { IfErr result (λ fault. fault ≢ Fault.Arguments) }
 {
     match mode {
@@ -84,6 +90,11 @@ pub fn answer_text<A: Allocator + Copy>(
         Mode::Cross => {
             let edges = parse_commands(alloc, text)?;
             answer_cross(alloc, text, &edges)
+        }
+        Mode::Locate => {
+            let said = parse_commands(alloc, text)?;
+            let mut status = StatusTree::new(alloc, 0)?;
+            answer_locate(alloc, &mut status, text, &said)
         }
     }
 }

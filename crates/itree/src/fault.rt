@@ -17,6 +17,8 @@ pub enum Fault {
     /// This line, counted from 1, says the segment of a sweep that is the first to overlap one before it, in the order of
     /// where they begin.
     Overlap(usize),
+    /// These two lines, counted from 1 and the first above the second, say edges that cross.
+    Cross(usize, usize),
     /// Reading, writing or memory failed.
     Stopped,
 }

@@ -40,6 +40,11 @@ itree cross: for each edge between two points of the plane the lines of the earl
 a point with it, rising. An edge has both its ends, and may be a point.
   edge X0 Y0 X1 Y1                     meets LINE ..
 
+itree locate: for each point the line of the edge straight below it, at its own height at most. An
+edge covers the X from its lesser end up to its greater, which it doesn't cover. No two may cross.
+  edge X0 Y0 X1 Y1
+  point X Y                            edge LINE | none
+
 itree help, itree --help, itree -h: this text
 
 Numbers are whole, from -2147483648 to 2147483647. A line without words counts, and has no reply.
@@ -48,6 +53,7 @@ writing failed, and 2 where nothing is answered. Standard error then has one of 
   itree: arguments                     they are none of those above
   itree: line N                        line N is the first that is no line of the mode
   itree: overlap N                     the segment of line N overlaps another at one height
+  itree: cross N M                     the edges of lines N and M cross
 There are examples in docs/COMMANDS.md.
 ";
 

@@ -24,6 +24,8 @@ pub enum Mode {
     Sweep,
     /// Edges of the plane, and which of them meet.
     Cross,
+    /// Points among edges of the plane, and which edge lies straight below each.
+    Locate,
 }
 
 impl Mode {
@@ -41,6 +43,7 @@ impl Mode {
             ["seg", min, max] => segments(min, max),
             ["sweep"] => Some(Mode::Sweep),
             ["cross"] => Some(Mode::Cross),
+            ["locate"] => Some(Mode::Locate),
             _ => None,
         }
     }

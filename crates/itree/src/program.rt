@@ -3,7 +3,7 @@
 ghost use Rattle.std.specs.Prelude.{◌≡◌, ◌≢◌, ◌≤◌, ◌↔◌, ◌⊎◌, ℕ, List, IfErr, IfOk, IfSome, OnOk, string_bytes};
 ghost use Rattle.std.specs.Io.KnownBytes.{Appends};
 ghost use Rattle.itree.specs.Modes.{Names, NamesMode, AsksForHelp};
-ghost use Rattle.itree.specs.Texts.{Answers, HasFirstFaulty, HasOverlapLine, HasFault};
+ghost use Rattle.itree.specs.Texts.{Answers, HasFirstFaulty, HasOverlapLine, HasCrossingLines, HasFault};
 ghost use Rattle.itree.specs.declared.mode.Mode.{Mode};
 
 use crate::answers::answer_text;
@@ -16,19 +16,21 @@ use std::io::{Read, Write};
 #[cfg(test)]
 mod tests;
 
-/// Runs the program: reads all of `input`, and writes one reply line for each command or edge to `output`. In a sweep each
-/// point has one, and a segment has none. Where the words ask for help it reads nothing, and writes `HELP`.
+/// Runs the program: reads all of `input`, and writes one reply line for each command or edge to `output`. In a sweep, and
+/// among edges and points, each point has one, and a segment or an edge has none. Where the words ask for help it reads
+/// nothing, and writes `HELP`.
 ///
 /// `words` are the arguments without the program's name, which are to be the one word of a mode: `keytree`, `keylist`,
-/// `settree`, `setlist`, `sweep` or `cross`; or `seg`, `MIN` and `MAX`, the ends of a range that has a layout; or one word that
-/// asks for help: `help`, `--help` or `-h`. `faults` stands for standard error, and the answer is the process's status:
+/// `settree`, `setlist`, `sweep`, `cross` or `locate`; or `seg`, `MIN` and `MAX`, the ends of a range that has a layout; or one
+/// word that asks for help: `help`, `--help` or `-h`. `faults` stands for standard error, and the answer is the process's
+/// status:
 ///
 /// - 0 where all replies, or the help, were written and flushed. An insertion that was refused has a reply too.
 /// - 1 where reading, writing, flushing or memory outside the commands failed, or memory for a sweep or for edges; nothing
 ///   goes to `faults`, and a failed write may have taken a part of the text.
 /// - 2 where the words neither name a mode nor ask for help, before any input is read; where a line is faulty in the mode,
-///   before any command is run; and where two segments of a sweep overlap. `faults` is told which, and whether it takes that
-///   changes nothing.
+///   before any command is run; where two segments of a sweep overlap; and where two edges cross that points are located
+///   among. `faults` is told which, and whether it takes that changes nothing.
 pub fn run_itree<A: Allocator + Copy, I: Read, O: Write, X: Write>(
     alloc: A,
     words: &[&str],
@@ -64,6 +66,10 @@ pub fn run_itree<A: Allocator + Copy, I: Read, O: Write, X: Write>(
             let _ = writeln!(faults, "itree: overlap {number}");
             2
         }
+        Err(Fault::Cross(first, second)) => {
+            let _ = writeln!(faults, "itree: cross {first} {second}");
+            2
+        }
     }
 }
 
@@ -86,6 +92,8 @@ fn serve<A: Allocator + Copy, I: Read, O: Write>(
         IfSome (I.remaining input.old) (λ text. HasFirstFaulty mode text number) }
     ensures overlap { (number : ℕ) → result ≡ Err (Fault.Overlap number) → (mode : Mode) → Names words.now mode →
         IfSome (I.remaining input.old) (λ text. HasOverlapLine mode text number) }
+    ensures crossing { (first second : ℕ) → result ≡ Err (Fault.Cross first second) → (mode : Mode) →
+        Names words.now mode → IfSome (I.remaining input.old) (λ text. HasCrossingLines mode text first second) }
     ensures unread { AsksForHelp words.now ⊎ ¬ (NamesMode words.now) → input.new ≡ input.old }
 {
     if asks_for_help(words) {
@@ -118,6 +126,8 @@ fn answer<A: Allocator + Copy, I: Read>(
         IfSome (I.remaining input.old) (λ text. HasFirstFaulty mode text number) }
     ensures overlap { (number : ℕ) → result ≡ Err (Fault.Overlap number) → (mode : Mode) → Names words.now mode →
         IfSome (I.remaining input.old) (λ text. HasOverlapLine mode text number) }
+    ensures crossing { (first second : ℕ) → result ≡ Err (Fault.Cross first second) → (mode : Mode) →
+        Names words.now mode → IfSome (I.remaining input.old) (λ text. HasCrossingLines mode text first second) }
     ensures unread { ¬ (NamesMode words.now) → input.new ≡ input.old }
 {
     let mode = Mode::from_words(words).ok_or(Fault::Arguments)?;

@@ -7,7 +7,7 @@ ghost use Rattle.itree.specs.Told.{lists_of, AreTold, AreOrderedMeetings};
 ghost use Rattle.itree.specs.Answers.{AnswersCross};
 
 use crate::fault::Fault;
-use crate::lines::{MetLines, edge_lines, reply_text};
+use crate::lines::{MetLines, command_lines, reply_text};
 use i_tree::Refusal;
 use plane::edge::Edge;
 use plane::meet::meetings;
@@ -23,7 +23,7 @@ pub fn answer_cross<A: Allocator + Copy>(
     ensures answered { IfOk result (λ output. AnswersCross (lines_of text.now) edges.now (string_bytes output)) }
     ensures err { IfErr result (λ fault. fault ≡ Fault.Stopped) }
 {
-    let numbers = edge_lines(alloc, text)?;
+    let numbers = command_lines(alloc, text)?;
     let pairs = ordered_meetings(alloc, edges)?;
     let mut replies = unmet(alloc, edges.len())?;
     tell(&mut replies, &pairs, &numbers)?;

@@ -1,14 +1,10 @@
 //! The lines of edges, and the replies to them.
 
-ghost use Rattle.std.specs.Prelude.{◌≡◌, ◌∷◌, codes, map, IfOk, IfSome, IsNone};
-ghost use Rattle.std.specs.Char.{is_ascii_whitespace};
-ghost use Rattle.std.specs.List.{list_all};
+ghost use Rattle.std.specs.Prelude.{◌∷◌, codes, map, IfSome, IsNone};
 ghost use Rattle.itree.specs.CrossLines.{SaysEdge, SaysNoEdge};
-ghost use Rattle.itree.specs.CrossLines.{edge_lines as numbers_of};
-ghost use Rattle.itree.specs.Grammar.{lines_of};
 ghost use Rattle.itree.specs.Replies.{met_words};
 
-use super::{LineCommand, LineReply, cut_line, number, three_numbers};
+use super::{LineCommand, LineReply, number, three_numbers};
 use plane::edge::Edge;
 use std::alloc::{AllocError, Allocator};
 
@@ -24,8 +20,8 @@ impl LineCommand for Edge {
     }
 }
 
-// The edge whose words follow its name.
-fn parse_edge(words: &[&str]) -> Option<Edge>
+/// The edge whose words follow its name.
+pub fn parse_edge(words: &[&str]) -> Option<Edge>
     ensures said { IfSome result (SaysEdge (codes "edge" ∷ map (λ word. word.now) words.now)) }
     ensures unsaid { IsNone result → SaysNoEdge (codes "edge" ∷ map (λ word. word.now) words.now) }
 {
@@ -33,31 +29,6 @@ fn parse_edge(words: &[&str]) -> Option<Edge>
     let x0 = number(first)?;
     let (y0, x1, y1) = three_numbers(rest)?;
     Some(Edge { x0, y0, x1, y1 })
-}
-
-/// The numbers of the lines that have words, counted from 1.
-pub fn edge_lines<A: Allocator>(alloc: A, text: &[u8]) -> Result<Vec<usize, A>, AllocError>
-    ensures { IfOk result (λ numbers. numbers.items ≡ numbers_of (lines_of text.now)) }
-{
-    let mut numbers = Vec::new(alloc);
-    let mut number = 0;
-    let mut rest = Some(text);
-    'lines: while let Some(left) = rest {
-        let (line, after) = cut_line(left);
-        number += 1;
-        if !is_blank(line) {
-            numbers.push(number)?;
-        }
-        rest = after;
-    }
-    Ok(numbers)
-}
-
-// Whether a line has nothing but white space.
-fn is_blank(line: &[u8]) -> bool
-    ensures { result ≡ list_all is_ascii_whitespace line.now }
-{
-    line.iter().all(|byte| byte.is_ascii_whitespace())
 }
 
 /// The reply to an edge: the numbers of the lines that say the earlier edges which it meets.

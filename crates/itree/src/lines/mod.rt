@@ -2,6 +2,9 @@
 
 ghost use Rattle.std.specs.Prelude.{◌≡◌, ◌==◌, ◌∷◌, [], ◌++◌, ◌<◌, ◌⊎◌, ℕ, ℤ, List, length, map, IfErr, IfOk, IfSome, IsNone, OnOk, position, string_bytes};
 ghost use Rattle.std.specs.Str.{IsAscii};
+ghost use Rattle.std.specs.Char.{is_ascii_whitespace};
+ghost use Rattle.std.specs.List.{list_all};
+ghost use Rattle.itree.specs.Grammar.{command_lines as numbers_of};
 ghost use Rattle.itree.specs.Grammar.{words_of, ReadsAll, LineSays, IsFaulty, lines_of, lines_left, LinesSay, IsFirstFaulty};
 ghost use Rattle.itree.specs.Replies.{reply_lines};
 ghost use Rattle.itree.specs.Words.{Reads};
@@ -12,12 +15,14 @@ use std::str;
 
 mod cross;
 mod keys;
+mod locate;
 mod segments;
 mod sets;
 mod sweep;
 
-pub use cross::{MetLines, edge_lines};
+pub use cross::MetLines;
 pub use keys::KeyLine;
+pub use locate::LocateLine;
 pub use segments::SegLine;
 pub use sets::SetLine;
 pub use sweep::{SweepLine, segment_line};
@@ -68,6 +73,31 @@ pub fn parse_commands<A: Allocator + Copy, C: LineCommand>(
         rest = after;
     }
     Ok(commands)
+}
+
+/// The numbers of the lines that have words, counted from 1.
+pub fn command_lines<A: Allocator>(alloc: A, text: &[u8]) -> Result<Vec<usize, A>, AllocError>
+    ensures { IfOk result (λ numbers. numbers.items ≡ numbers_of (lines_of text.now)) }
+{
+    let mut numbers = Vec::new(alloc);
+    let mut number = 0;
+    let mut rest = Some(text);
+    'lines: while let Some(left) = rest {
+        let (line, after) = cut_line(left);
+        number += 1;
+        if !is_blank(line) {
+            numbers.push(number)?;
+        }
+        rest = after;
+    }
+    Ok(numbers)
+}
+
+// Whether a line has nothing but white space.
+fn is_blank(line: &[u8]) -> bool
+    ensures { result ≡ list_all is_ascii_whitespace line.now }
+{
+    line.iter().all(|byte| byte.is_ascii_whitespace())
 }
 
 // The first line of a text, and what follows its line feed, where it has one.
@@ -131,6 +161,20 @@ pub fn number(word: &str) -> Option<i32>
     ensures unread { IsNone result → (number : ℤ) → ¬ (Reads word.now number) }
 {
     word.parse().ok()
+}
+
+// The numbers that two words are read as.
+fn two_numbers(words: &[&str]) -> Option<(i32, i32)>
+    ensures read { IfSome result (λ numbers. ReadsAll (map (λ word. word.now) words.now) (numbers.0 ∷ numbers.1 ∷ [])) }
+    ensures unread { IsNone result → (first second : ℤ) →
+        ¬ (ReadsAll (map (λ word. word.now) words.now) (first ∷ second ∷ [])) }
+{
+    let [first, second] = words else {
+        return None;
+    };
+    let first = number(first)?;
+    let second = number(second)?;
+    Some((first, second))
 }
 
 // The numbers that three words are read as.

@@ -1,11 +1,11 @@
 //! The lines of a sweep over horizontal segments.
 
-ghost use Rattle.std.specs.Prelude.{◌≡◌, ◌∷◌, [], ◌<◌, ℤ, List, Option, codes, length, map, IfSome, IsNone};
-ghost use Rattle.itree.specs.Grammar.{ReadsAll, LineSays, LinesSay, lines_of};
+ghost use Rattle.std.specs.Prelude.{◌≡◌, ◌∷◌, ◌<◌, List, Option, codes, length, map, IfSome, IsNone};
+ghost use Rattle.itree.specs.Grammar.{LineSays, LinesSay, lines_of};
 ghost use Rattle.itree.specs.Replies.{height_words};
 ghost use Rattle.itree.specs.SweepLines.{SaysSweepLine, SaysNoSweepLine, segment_in, point_in, segments_of, says_segment, IsSegmentLine};
 
-use super::{LineCommand, LineReply, ascii_text, cut_line, number, three_numbers};
+use super::{LineCommand, LineReply, ascii_text, cut_line, three_numbers, two_numbers};
 use itree_lib::sweep::{Point, Segment};
 use std::alloc::{AllocError, Allocator};
 
@@ -69,20 +69,6 @@ fn parse_point(words: &[&str]) -> Option<SweepLine>
 {
     let (x, y) = two_numbers(words)?;
     Some(SweepLine::Point(Point { x, y }))
-}
-
-// The numbers that two words are read as.
-fn two_numbers(words: &[&str]) -> Option<(i32, i32)>
-    ensures read { IfSome result (λ numbers. ReadsAll (map (λ word. word.now) words.now) (numbers.0 ∷ numbers.1 ∷ [])) }
-    ensures unread { IsNone result → (first second : ℤ) →
-        ¬ (ReadsAll (map (λ word. word.now) words.now) (first ∷ second ∷ [])) }
-{
-    let [first, second] = words else {
-        return None;
-    };
-    let first = number(first)?;
-    let second = number(second)?;
-    Some((first, second))
 }
 
 /// The number of the line, counted from 1, that says the segment at this place among those that are said.

@@ -7,6 +7,7 @@ use std::process::Abort;
 
 mod cross;
 mod help;
+mod locate;
 mod long;
 mod memory;
 mod sample;
@@ -225,6 +226,7 @@ fn refuses_other_arguments_before_it_reads(rt: HostRuntime) {
         &["sweep", "0", "128"],
         &["Sweep"],
         &["sweep "],
+        &["locate", "locate"],
         &["help", "x"],
         &["help", "help"],
         &["keylist", "--help"],

@@ -5,14 +5,15 @@ use Rattle.i_tree.specs.Rb.Shape.{Shape, entries}
 use Rattle.i_tree.specs.Seg.Buckets.{IsLayout}
 use Rattle.i_tree.specs.Set.Pairs.{values}
 use Rattle.i_tree.specs.Set.SetList.{numbered}
-use Rattle.itree.specs.Answers.{AnswersKeys, AnswersSet, AnswersSegments, AnswersSweep, AnswersCross}
+use Rattle.itree.specs.Answers.{AnswersKeys, AnswersSet, AnswersSegments, AnswersSweep, AnswersCross, AnswersLocate}
 use Rattle.itree.specs.Grammar.{lines_of}
 use Rattle.itree.specs.KeyLines.{KeyLine}
 use Rattle.itree.specs.SegLines.{SegLine}
-use Rattle.itree.specs.Texts.{HasOverlapLine}
+use Rattle.itree.specs.Texts.{HasOverlapLine, HasCrossingLines}
+use Rattle.itree.specs.declared.lines.locate.LocateLine.{LocateLine}
 use Rattle.itree.specs.declared.lines.sweep.SweepLine.{SweepLine}
 use Rattle.itree.specs.declared.mode.Mode.{Mode}
-use Rattle.itree.specs.declared.mode.Mode.TheVariants.{KeyTree, KeyList, SetTree, SetList, Segments, Sweep, Cross}
+use Rattle.itree.specs.declared.mode.Mode.TheVariants.{KeyTree, KeyList, SetTree, SetList, Segments, Sweep, Cross, Locate}
 use Rattle.plane.specs.declared.edge.Edge.{Edge}
 use Rattle.itree.specs.declared.set_key.SetKey.{SetKey}
 use Rattle.itree.specs.declared.timed_key.TimedKey.{TimedKey}
@@ -71,3 +72,13 @@ returns-in_ok-edges-in-Cross-clause-answered g c =
     let parsed = c.in_ok-edges-in-Cross in
     answered c.answer_cross.result (λ output. string_bytes output) Cross c.args.mode c.in-Cross.is c.args.text.now parsed.edges.items parsed.ensures.said
     (subst (λ (edges : List Edge). IfOk c.answer_cross.result (λ output. AnswersCross (lines_of c.args.text.now) edges (string_bytes output))) c.deref-in-Cross.ensures.value c.answer_cross.ensures.answered)
+
+pub returns-in_ok-status-in-Locate-clause-answered : goal.returns-in_ok-status-in-Locate-clause-answered
+returns-in_ok-status-in-Locate-clause-answered g c =
+    let parsed = c.in_ok-said-in-Locate in
+    answered c.answer_locate.result (λ output. string_bytes output) Locate c.args.mode c.in-Locate.is c.args.text.now parsed.said.items parsed.ensures.said
+    (subst (λ (said : List LocateLine). IfOk c.answer_locate.result (λ output. AnswersLocate (lines_of c.args.text.now) said (string_bytes output))) c.deref-in-Locate.ensures.value c.answer_locate.ensures.answered)
+
+pub returns-in_ok-status-in-Locate-clause-crossing : goal.returns-in_ok-status-in-Locate-clause-crossing
+returns-in_ok-status-in-Locate-clause-crossing g c = λ first second is.
+    subst (λ (mode : Mode). HasCrossingLines mode c.args.text.now first second) (sym c.in-Locate.is) (c.answer_locate.ensures.crossing first second is)

@@ -88,6 +88,7 @@ fn flushes_all_that_it_writes(rt: HostRuntime) {
         (&["seg", "0", "128"], "clear\n"),
         (&["sweep"], "point 0 0\n"),
         (&["cross"], "edge 0 0 1 1\n"),
+        (&["locate"], "point 0 0\n"),
     ] {
         let mut output = Held {
             held: Vec::new(rt.alloc()),

@@ -1,6 +1,6 @@
 use Rattle.std.proofs.Common.{[], ◌∷◌, arith}
 use Rattle.itree.proofs.Words.{ReadsAll-length}
-use Rattle.itree.proofs.lines.sweep.two_numbers.Goals as goal
+use Rattle.itree.proofs.lines.two_numbers.Goals as goal
 
 pub returns-in_default-clause-unread : goal.returns-in_default-clause-unread
 returns-in_default-clause-unread c = λ none first second read.

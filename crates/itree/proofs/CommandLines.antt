@@ -1,4 +1,4 @@
--- The numbers of the lines that have words: one for each edge that lines say, and each below all later ones.
+-- The numbers of the lines that have words: one for each command that lines say, and each below all later ones.
 use Rattle.std.proofs.Common.{◌≡◌, ◌<◌, ◌≤◌, ◌+◌, ℕ, suc, Bool, true, false, not, ◌&&◌, cond, nat_lt, List, [], ◌∷◌, ◌++◌, Option, Some, None, length, filter, refl, sym, ap, ◌∙◌, add-zero, arith}
 use Rattle.std.proofs.lemmas.Bool.Decides.{nat_tests}
 use Rattle.std.proofs.lemmas.List.Elements.{All-nil, All-cons, All-weaker}
@@ -7,9 +7,7 @@ use Rattle.std.proofs.lemmas.List.Splits.{slice_split-cons_yes, slice_split-cons
 use Rattle.std.specs.Char.{is_ascii_whitespace}
 use Rattle.std.specs.List.{All, AllPairs, slice_split, onto_first, list_all, cons_option}
 use Rattle.std.specs.Option.{is_some}
-use Rattle.itree.specs.CrossLines.{SaysEdge, numbers_from, edge_lines}
-use Rattle.itree.specs.Grammar.{words_of, LineSays, LinesSay}
-use Rattle.plane.specs.declared.edge.Edge.{Edge}
+use Rattle.itree.specs.Grammar.{words_of, numbers_from, command_lines, LineSays, LinesSay}
 
 -- whether a line has words
 abbrev pub has_words : List ℕ → Bool
@@ -60,36 +58,38 @@ numbers_from-push number (first ∷ before) line =
     (numbers_from-push (number + 1) before line ∙ ap (λ (n : ℕ). numbers_from (number + 1) before ++ last_number (has_words line) n) place)
 
 -- one more line
-pub edge_lines-push : (before : List (List ℕ)) (line : List ℕ) (number : ℕ) (numbers : List ℕ) → number ≡ length before → numbers ≡ edge_lines before → edge_lines (before ++ line ∷ []) ≡ numbers ++ cond (has_words line) ((number + 1) ∷ []) []
-edge_lines-push before line number numbers counted are =
+pub command_lines-push : (before : List (List ℕ)) (line : List ℕ) (number : ℕ) (numbers : List ℕ) → number ≡ length before → numbers ≡ command_lines before → command_lines (before ++ line ∷ []) ≡ numbers ++ cond (has_words line) ((number + 1) ∷ []) []
+command_lines-push before line number numbers counted are =
     let place : 1 + length before ≡ number + 1 = omega (arith, counted) in
-    numbers_from-push 1 before line ∙ ap (λ (n : ℕ). edge_lines before ++ last_number (has_words line) n) place ∙ ap (λ (ns : List ℕ). ns ++ last_number (has_words line) (number + 1)) (sym are)
+    numbers_from-push 1 before line ∙ ap (λ (n : ℕ). command_lines before ++ last_number (has_words line) n) place ∙ ap (λ (ns : List ℕ). ns ++ last_number (has_words line) (number + 1)) (sym are)
 
--- ---- as many numbers as edges
+-- ---- as many numbers as commands
 
-says_word : (words : List (List ℕ)) (edge : Edge) → SaysEdge words edge → nat_lt 0 (length words) ≡ true
-says_word [] edge says = absurd says
-says_word (word ∷ words) edge says = longer word words
-
-said_words : (line : List ℕ) (said : Option Edge) → LineSays SaysEdge line said → has_words line ≡ is_some said
-said_words line None says = ap (λ (words : List (List ℕ)). nat_lt 0 (length words)) says.1
-said_words line (Some edge) says = says_word (words_of line) edge says.1
-
-one_more : (has : Bool) (said : Option Edge) (number : ℕ) (later : List ℕ) (others : List Edge) → has ≡ is_some said → length later ≡ length others → length (cond has (number ∷ later) later) ≡ length (cons_option said others)
-one_more true (Some edge) number later others is counted = ap suc counted
+one_more : {Command : Type 0} (has : Bool) (said : Option Command) (number : ℕ) (later : List ℕ) (others : List Command) → has ≡ is_some said → length later ≡ length others → length (cond has (number ∷ later) later) ≡ length (cons_option said others)
+one_more true (Some command) number later others is counted = ap suc counted
 one_more true None number later others is counted = cc
-one_more false (Some edge) number later others is counted = cc
+one_more false (Some command) number later others is counted = cc
 one_more false None number later others is counted = counted
 
-numbers_counted : (number : ℕ) (lines : List (List ℕ)) (edges : List Edge) → LinesSay SaysEdge lines edges → length (numbers_from number lines) ≡ length edges
-numbers_counted number [] edges say = ap length (sym say)
-numbers_counted number (line ∷ lines) edges say =
-    let (said, others, here, there, are) = say in
-    one_more (has_words line) said number (numbers_from (number + 1) lines) others (said_words line said here) (numbers_counted (number + 1) lines others there)
-    ∙ ap length (sym are)
+-- what says a command has words
+module _ {Command : Type 0} (SaysCommand : List (List ℕ) → Command → Type 0) (some_word : (command : Command) → ¬ (SaysCommand [] command)) where
+  says_word : (words : List (List ℕ)) (command : Command) → SaysCommand words command → nat_lt 0 (length words) ≡ true
+  says_word [] command says = absurd (some_word command says)
+  says_word (word ∷ words) command says = longer word words
 
-pub length-edge_lines : (lines : List (List ℕ)) (edges : List Edge) → LinesSay SaysEdge lines edges → length (edge_lines lines) ≡ length edges
-length-edge_lines = numbers_counted 1
+  said_words : (line : List ℕ) (said : Option Command) → LineSays SaysCommand line said → has_words line ≡ is_some said
+  said_words line None says = ap (λ (words : List (List ℕ)). nat_lt 0 (length words)) says.1
+  said_words line (Some command) says = says_word (words_of line) command says.1
+
+  numbers_counted : (number : ℕ) (lines : List (List ℕ)) (commands : List Command) → LinesSay SaysCommand lines commands → length (numbers_from number lines) ≡ length commands
+  numbers_counted number [] commands say = ap length (sym say)
+  numbers_counted number (line ∷ lines) commands say =
+      let (said, others, here, there, are) = say in
+      one_more (has_words line) said number (numbers_from (number + 1) lines) others (said_words line said here) (numbers_counted (number + 1) lines others there)
+      ∙ ap length (sym are)
+
+  pub length-command_lines : (lines : List (List ℕ)) (commands : List Command) → LinesSay SaysCommand lines commands → length (command_lines lines) ≡ length commands
+  length-command_lines = numbers_counted 1
 
 -- ---- they rise
 
@@ -113,5 +113,5 @@ numbers_rise number (line ∷ lines) =
     (All-weaker (λ n. number + 1 ≤ n) (λ n. number < n) (λ n more. omega arith) (numbers_from (number + 1) lines) (numbers_above (number + 1) lines))
     (numbers_rise (number + 1) lines)
 
-pub edge_lines-rise : (lines : List (List ℕ)) → AllPairs (λ n m. n < m) (edge_lines lines)
-edge_lines-rise = numbers_rise 1
+pub command_lines-rise : (lines : List (List ℕ)) → AllPairs (λ n m. n < m) (command_lines lines)
+command_lines-rise = numbers_rise 1

@@ -1,13 +1,13 @@
 use Rattle.std.proofs.Common.{◌≡◌, ◌≤◌, ◌+◌, ◌++◌, ℕ, List, IfSome, length}
-use Rattle.itree.specs.CrossLines.{edge_lines}
+use Rattle.itree.specs.Grammar.{command_lines}
 use Rattle.itree.specs.Grammar.{lines_of, lines_left}
-use Rattle.itree.proofs.lines.cross.edge_lines.Given as goal
+use Rattle.itree.proofs.lines.command_lines.Given as goal
 
 -- the lines so far are counted, those with words are listed, and the other lines are left
 abbrev pub invariant-lines : goal.invariant-lines
 invariant-lines g l = record {
   in_range : IfSome l.rest (λ left. l.number + length left.now ≤ length l.text);
-  so_far : (before : List (List ℕ)) × (lines_of l.text ≡ before ++ lines_left l.rest) × (l.number ≡ length before) × (l.numbers.items ≡ edge_lines before);
+  so_far : (before : List (List ℕ)) × (lines_of l.text ≡ before ++ lines_left l.rest) × (l.number ≡ length before) × (l.numbers.items ≡ command_lines before);
 }
 
 -- how many lines are left

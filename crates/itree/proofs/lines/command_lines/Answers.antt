@@ -1,18 +1,18 @@
 use Rattle.std.proofs.Common.{◌≡◌, ◌+◌, ◌++◌, ◌∷◌, [], ℕ, List, Bool, true, false, not, cond, length, length-append, append-nil, ap, sym, ◌∙◌}
-use Rattle.itree.specs.CrossLines.{edge_lines}
+use Rattle.itree.specs.Grammar.{command_lines}
 use Rattle.itree.specs.Grammar.{lines_of, lines_left}
 use Rattle.itree.proofs.Counting.{next_line, shorter}
-use Rattle.itree.proofs.EdgeLines.{has_words, has_words-blank, edge_lines-push}
-use Rattle.itree.proofs.lines.cross.edge_lines.Goals as goal
+use Rattle.itree.proofs.CommandLines.{has_words, has_words-blank, command_lines-push}
+use Rattle.itree.proofs.lines.command_lines.Goals as goal
 
 -- a line with words is listed, and a blank one isn't
-listed : (before : List (List ℕ)) (line : List ℕ) (number : ℕ) (numbers new : List ℕ) → number ≡ length before → numbers ≡ edge_lines before → has_words line ≡ true → new ≡ numbers ++ (number + 1) ∷ [] → new ≡ edge_lines (before ++ line ∷ [])
+listed : (before : List (List ℕ)) (line : List ℕ) (number : ℕ) (numbers new : List ℕ) → number ≡ length before → numbers ≡ command_lines before → has_words line ≡ true → new ≡ numbers ++ (number + 1) ∷ [] → new ≡ command_lines (before ++ line ∷ [])
 listed before line number numbers new counted are has is =
-    is ∙ ap (λ (b : Bool). numbers ++ cond b ((number + 1) ∷ []) []) (sym has) ∙ sym (edge_lines-push before line number numbers counted are)
+    is ∙ ap (λ (b : Bool). numbers ++ cond b ((number + 1) ∷ []) []) (sym has) ∙ sym (command_lines-push before line number numbers counted are)
 
-passed : (before : List (List ℕ)) (line : List ℕ) (number : ℕ) (numbers : List ℕ) → number ≡ length before → numbers ≡ edge_lines before → has_words line ≡ false → numbers ≡ edge_lines (before ++ line ∷ [])
+passed : (before : List (List ℕ)) (line : List ℕ) (number : ℕ) (numbers : List ℕ) → number ≡ length before → numbers ≡ command_lines before → has_words line ≡ false → numbers ≡ command_lines (before ++ line ∷ [])
 passed before line number numbers counted are has =
-    sym (append-nil numbers) ∙ ap (λ (b : Bool). numbers ++ cond b ((number + 1) ∷ []) []) (sym has) ∙ sym (edge_lines-push before line number numbers counted are)
+    sym (append-nil numbers) ∙ ap (λ (b : Bool). numbers ++ cond b ((number + 1) ∷ []) []) (sym has) ∙ sym (command_lines-push before line number numbers counted are)
 
 pub lines-preserved-in_ok-push : goal.lines-preserved-in_ok-push
 lines-preserved-in_ok-push g c =
