@@ -1,4 +1,4 @@
-/* What itree_c exports, for C: sweeps over horizontal segments, and pairs of edges that meet.
+/* What itree_c exports, for C: sweeps over horizontal segments, pairs of edges that meet, and points among edges.
  *
  * Each call is proved in Rattle: it answers as said here for every input, reads and writes inside the arrays that it is
  * given, and returns. Link it with bindings/built/libitree.a, which bindings/build makes.
@@ -23,8 +23,9 @@ extern "C" {
 /* What a call returns. At every status but ITREE_ANSWERED no array is written. */
 enum itree_status {
     ITREE_ANSWERED = 0, /* The answers are written. */
-    ITREE_REFUSED = 1,  /* malloc or realloc gave no memory, or more than 4,294,967,295 segments are met at once. */
+    ITREE_REFUSED = 1,  /* malloc or realloc gave no memory, or more than 4,294,967,295 items are met at once. */
     ITREE_OVERLAP = 2,  /* Two segments collide. */
+    ITREE_CROSSING = 2, /* Two edges cross. */
     ITREE_LENGTHS = 3   /* The lengths of two arrays don't fit each other. */
 };
 
@@ -74,6 +75,31 @@ struct itree_pair {
  *   ITREE_REFUSED   where memory was refused: nothing is written. */
 int32_t itree_meetings(const struct itree_edge *edges, size_t edge_count, struct itree_pair *pairs, size_t pair_count,
                        size_t *count);
+
+/* The edge straight below a point: found is 1 and place its place, or both are 0 where there is none. */
+struct itree_place {
+    size_t found, place;
+};
+
+/* Writes for each point, in order, the place of the edge straight below it.
+ *
+ * An edge covers the x's from its lesser end up to its greater, which it doesn't cover: where one edge of a chain ends
+ * and the next begins, one of them covers the x. An upright edge or a point covers nothing. An edge is under a point
+ * where it covers the point's x at a height that is at most the point's, and straight below it where none that is under
+ * it is higher there. Of edges that are as high there, it is the one that is highest just right of the point; of edges
+ * along one line any may be told.
+ *
+ * Two edges cross where the one is below the other at some whole x that both reach, and above it at another; edges that
+ * touch, end on each other or lie along one line don't, nor does an upright one cross any. It is exact: nothing is
+ * rounded. The call returns
+ *   ITREE_ANSWERED  and no two cross;
+ *   ITREE_CROSSING  where two do: *first and *second are the places of two that cross, *first below *second;
+ *   ITREE_REFUSED   where memory was refused, also where two cross;
+ *   ITREE_LENGTHS   exactly where place_count isn't point_count.
+ * *first and *second are written at ITREE_CROSSING alone, and places at ITREE_ANSWERED alone. For n edges and points it
+ * takes O(n log n) steps, and room for n events and answers. */
+int32_t itree_locate(const struct itree_edge *edges, size_t edge_count, const struct itree_point *points,
+                     size_t point_count, struct itree_place *places, size_t place_count, size_t *first, size_t *second);
 
 #ifdef __cplusplus
 }

@@ -61,6 +61,20 @@ private:
     std::size_t index_;
 };
 
+/// Two edges cross.
+class Crossing : public std::invalid_argument {
+public:
+    explicit Crossing(Pair pair)
+        : std::invalid_argument("the edges at places " + std::to_string(pair.first) + " and " +
+                                std::to_string(pair.second) + " cross"),
+          pair_(pair) {}
+    /// The places of two edges that cross, `first` below `second`.
+    Pair pair() const { return pair_; }
+
+private:
+    Pair pair_;
+};
+
 /// For each point, in order, the greatest height at most its own among the segments that cover its x, if there is one.
 /// Throws `Overlap` where two segments collide, and `std::bad_alloc` where memory was refused.
 inline std::vector<std::optional<std::int32_t>> below(Span<Segment> segments, Span<Point> points) {
@@ -89,6 +103,23 @@ inline std::vector<Pair> meetings(Span<Edge> edges) {
         pairs.resize(count);
         if (all) return pairs;
     }
+}
+
+/// For each point, in order, the place of the edge straight below it, if there is one. Which edge that is, and when two
+/// cross, is said at `itree_locate` of itree.h. Throws `Crossing` where two edges cross, and `std::bad_alloc` where
+/// memory was refused.
+inline std::vector<std::optional<std::size_t>> locate(Span<Edge> edges, Span<Point> points) {
+    std::vector<::itree_place> places(points.size() + 1);
+    Pair pair{0, 0};
+    const auto status = ::itree_locate(edges.data(), edges.size(), points.data(), points.size(), places.data(),
+                                       points.size(), &pair.first, &pair.second);
+    if (status == ITREE_CROSSING) throw Crossing(pair);
+    if (status != ITREE_ANSWERED) throw std::bad_alloc();
+    std::vector<std::optional<std::size_t>> found(points.size());
+    for (std::size_t place = 0; place < found.size(); place++) {
+        if (places[place].found) found[place] = places[place].place;
+    }
+    return found;
 }
 
 }  // namespace itree

@@ -231,6 +231,144 @@ static void checks_refused_meetings(void) {
     check("with all requests granted all meet", count == 780 && pair.first < pair.second);
 }
 
+/* The edge from its lesser end to its greater. */
+static struct itree_edge rightwards(struct itree_edge it) {
+    return it.x0 <= it.x1 ? it : (struct itree_edge){it.x1, it.y1, it.x0, it.y0};
+}
+
+/* The height at x of an edge that goes to the right, times how far it goes and how far the other does. */
+static int64_t height_by_runs(struct itree_edge it, struct itree_edge other, int64_t x) {
+    return (it.y0 * (it.x1 - x) + it.y1 * (x - it.x0)) * (other.x1 - other.x0);
+}
+
+/* Whether the one is below the other at some whole x that both span, and above it at another. */
+static int plainly_cross(struct itree_edge one, struct itree_edge other) {
+    one = rightwards(one);
+    other = rightwards(other);
+    const int32_t first = one.x0 > other.x0 ? one.x0 : other.x0;
+    const int32_t last = one.x1 < other.x1 ? one.x1 : other.x1;
+    int below = 0, above = 0;
+    for (int32_t x = first; x <= last; x++) {
+        below = below || height_by_runs(one, other, x) < height_by_runs(other, one, x);
+        above = above || height_by_runs(other, one, x) < height_by_runs(one, other, x);
+    }
+    return below && above;
+}
+
+static int any_cross(const struct itree_edge *edges, size_t count) {
+    for (size_t place = 0; place < count; place++) {
+        for (size_t other = 0; other < place; other++) {
+            if (plainly_cross(edges[place], edges[other])) return 1;
+        }
+    }
+    return 0;
+}
+
+static int is_under(struct itree_edge edge, struct itree_point point) {
+    const struct itree_edge it = rightwards(edge);
+    const int64_t x = point.x, run = it.x1 - it.x0;
+    return it.x0 <= x && x < it.x1 && it.y0 * (it.x1 - x) + it.y1 * (x - it.x0) <= point.y * run;
+}
+
+/* Whether the answer tells an edge under the point than which no other one is higher, there or at the next x, or none
+ * where none is under it. */
+static int is_straight_below(const struct itree_edge *edges, size_t count, struct itree_point point,
+                             struct itree_place answer) {
+    if (answer.found > 1 || (!answer.found && answer.place) || (answer.found && answer.place >= count)) return 0;
+    if (answer.found && !is_under(edges[answer.place], point)) return 0;
+    for (size_t place = 0; place < count; place++) {
+        if (!is_under(edges[place], point)) continue;
+        const struct itree_edge it = rightwards(edges[place]), told = rightwards(edges[answer.place]);
+        if (!answer.found) return 0;
+        for (int64_t x = point.x; x <= (int64_t)point.x + 1; x++) {
+            if (height_by_runs(told, it, x) < height_by_runs(it, told, x)) return 0;
+        }
+    }
+    return 1;
+}
+
+/* Whether such edges and points are answered as the plain model says, and what has to be is left alone. */
+static int is_located(const struct itree_edge *edges, size_t edge_count, const struct itree_point *points,
+                      size_t point_count) {
+    struct itree_place places[MOST], before[MOST];
+    size_t first = 77, second = 78;
+    memset(places, 0x5a, sizeof places);
+    memcpy(before, places, sizeof places);
+    const int32_t status = itree_locate(edges, edge_count, points, point_count, places, point_count, &first, &second);
+    if (any_cross(edges, edge_count)) {
+        return status == ITREE_CROSSING && first < second && second < edge_count &&
+               plainly_cross(edges[first], edges[second]) && !memcmp(places, before, sizeof places);
+    }
+    if (status != ITREE_ANSWERED || first != 77 || second != 78) return 0;
+    for (size_t place = 0; place < point_count; place++) {
+        if (!is_straight_below(edges, edge_count, points[place], places[place])) return 0;
+    }
+    return !memcmp(places + point_count, before + point_count, (MOST - point_count) * sizeof *places);
+}
+
+static void checks_locate(void) {
+    int ok = 1, crossing = 0;
+    for (int round = 0; round < 4000; round++) {
+        struct itree_edge edges[MOST];
+        struct itree_point points[MOST];
+        const size_t edge_count = (size_t)random_below(MOST + 1), point_count = (size_t)random_below(MOST + 1);
+        for (size_t place = 0; place < edge_count; place++) {
+            const int32_t x = random_below(16), y = random_below(6);
+            edges[place] = (struct itree_edge){x, y, x + random_below(11) - 5, y + random_below(7) - 3};
+        }
+        for (size_t place = 0; place < point_count; place++) {
+            points[place] = (struct itree_point){random_below(20) - 2, random_below(12) - 3};
+        }
+        ok = ok && is_located(edges, edge_count, points, point_count);
+        crossing += any_cross(edges, edge_count);
+    }
+    check("points among edges, as the plain model", ok);
+    check("a quarter of random edges cross, and a quarter doesn't", 1000 < crossing && crossing < 3000);
+}
+
+static void checks_located_nothing(void) {
+    const struct itree_edge edge = {0, 0, 9, 9};
+    const struct itree_point points[] = {{1, 2}, {9, 9}};
+    struct itree_place places[2] = {{9, 9}, {9, 9}};
+    size_t first = 7, second = 8;
+    int32_t status = itree_locate(&edge, 0, points, 0, places, 0, &first, &second);
+    check("no edges and no points", status == ITREE_ANSWERED && places[0].found == 9);
+    status = itree_locate(&edge, 1, points, 2, places, 1, &first, &second);
+    check("fewer places than points", status == ITREE_LENGTHS && places[0].found == 9 && places[0].place == 9);
+    status = itree_locate(&edge, 0, points, 2, places, 2, &first, &second);
+    check("no edges", status == ITREE_ANSWERED && places[0].found == 0 && places[0].place == 0);
+    places[1].found = 9;
+    status = itree_locate(&edge, 1, points, 2, places, 2, &first, &second);
+    check("one edge", status == ITREE_ANSWERED && places[0].found == 1 && places[0].place == 0 && places[1].found == 0);
+    check("no pair is written", first == 7 && second == 8);
+}
+
+static void checks_refused_locate(void) {
+    struct itree_edge edges[50];
+    struct itree_point points[50];
+    struct itree_place places[50], before[50];
+    size_t first = 7, second = 8, requests = 0;
+    int ok = 1;
+    for (int32_t y = 0; y < 50; y++) {
+        edges[y] = (struct itree_edge){0, y, 100, y + 1};
+        points[y] = (struct itree_point){3, y + 1};
+    }
+    memset(places, 0x5a, sizeof places);
+    memcpy(before, places, sizeof places);
+    while (1) {
+        refuse_after(requests);
+        const int32_t status = itree_locate(edges, 50, points, 50, places, 50, &first, &second);
+        refuse_after(SIZE_MAX);
+        if (status != ITREE_REFUSED) break;
+        ok = ok && !memcmp(places, before, sizeof places) && first == 7 && second == 8;
+        requests++;
+    }
+    check("each request for places is refused in turn", requests > 5);
+    check("no place is written then", ok);
+    for (size_t y = 0; y < 50; y++) ok = ok && places[y].found == 1 && places[y].place == y;
+    check("with all requests granted the places are written", ok);
+}
+
 int main(void) {
     checks_random();
     checks_nothing();
@@ -238,6 +376,9 @@ int main(void) {
     checks_refusals();
     checks_meetings();
     checks_refused_meetings();
+    checks_locate();
+    checks_located_nothing();
+    checks_refused_locate();
     printf("%d passed, %d failed\n", passed, failed);
     return failed != 0;
 }

@@ -7,6 +7,7 @@
 #include <numeric>
 #include <random>
 
+#include "plain_locate.hpp"
 #include "plain_meetings.hpp"
 #include "plain_sweep.hpp"
 #include "refuse.h"
@@ -144,6 +145,105 @@ void checks_meetings() {
     check("refused memory is thrown for pairs", requests > 2);
 }
 
+using Found = std::vector<std::optional<std::size_t>>;
+
+/// What `locate` gives: places, or a pair that crosses.
+std::pair<Found, std::optional<itree::Pair>> located(itree::Span<itree::Edge> edges, itree::Span<itree::Point> points) {
+    try {
+        return {itree::locate(edges, points), std::nullopt};
+    } catch (const itree::Crossing &crossing) {
+        return {{}, crossing.pair()};
+    }
+}
+
+void checks_locate() {
+    std::mt19937 random(30);
+    const auto number = [&](std::uint32_t limit) { return static_cast<std::int32_t>(random() % limit); };
+    bool ok = true;
+    int crossing = 0;
+    for (std::size_t round = 0; round < 4000; round++) {
+        std::vector<itree::Edge> edges;
+        std::vector<itree::Point> points;
+        for (std::size_t place = 0; place < round % 14; place++) {
+            const auto x = number(16), y = number(6);
+            edges.push_back({x, y, x + number(11) - 5, y + number(7) - 3});
+            points.push_back({number(20) - 2, number(12) - 3});
+        }
+        const auto [found, pair] = located(edges, points);
+        ok = ok && plain::any_cross(edges) == pair.has_value();
+        crossing += pair.has_value();
+        if (pair) {
+            ok = ok && pair->first < pair->second && plain::cross(edges.at(pair->first), edges.at(pair->second));
+            continue;
+        }
+        ok = ok && found.size() == points.size();
+        for (std::size_t place = 0; ok && place < points.size(); place++) {
+            ok = plain::is_below(edges, points[place], found[place]);
+        }
+    }
+    check("points among edges, as a plain look at each edge", ok);
+    check("a quarter of random edges cross, and a quarter doesn't", 1000 < crossing && crossing < 3000);
+}
+
+/// Lines that go to the right in steps of 10, one above the other: none of their edges crosses another, and of each
+/// point the edge below is known by the band that it lies in.
+void checks_many_edges() {
+    constexpr std::int32_t lines = 500, steps = 400, band = 100;
+    std::mt19937 random(31);
+    std::vector<std::int32_t> heights;
+    std::vector<itree::Edge> edges;
+    for (std::int32_t line = 0; line < lines; line++) {
+        for (std::int32_t step = 0; step <= steps; step++) {
+            heights.push_back(line * band + static_cast<std::int32_t>(random() % 50));
+            if (step == 0) continue;
+            edges.push_back({step * 10 - 10, heights[heights.size() - 2], step * 10, heights.back()});
+        }
+    }
+    std::vector<itree::Point> points;
+    for (int count = 0; count < 200'000; count++) {
+        const auto x = static_cast<std::int32_t>(random() % (steps * 10));
+        points.push_back({x, static_cast<std::int32_t>(random() % (lines * band))});
+    }
+    const auto [found, pair] = located(edges, points);
+    bool ok = !pair && found.size() == points.size();
+    for (std::size_t place = 0; ok && place < points.size(); place++) {
+        const auto point = points[place];
+        auto line = point.y / band;
+        const auto at = [&] { return static_cast<std::size_t>(line * steps + point.x / 10); };
+        if (!plain::height_under(edges[at()], point)) line--;
+        ok = found[place] == (line < 0 ? std::nullopt : std::optional(at()));
+    }
+    check("200,000 edges that don't cross, and as many points", ok);
+    edges.push_back({0, -1, steps * 10, lines * band});
+    const auto last = located(edges, points).second;
+    check("one edge more that crosses", last && last->first < last->second && last->second == edges.size() - 1);
+}
+
+void checks_locate_faults() {
+    const itree::Edge edges[] = {{0, 0, 10, 10}, {20, 0, 21, 0}, {10, 0, 0, 10}};
+    const itree::Point points[] = {{4, 4}, {4, 3}, {10, 99}};
+    check("two edges and three points", located({edges, 2}, points).first == Found{0, std::nullopt, std::nullopt});
+    check("no edges", located({}, points).first == Found(3));
+    check("no points", located({edges, 2}, {}).first.empty());
+    try {
+        itree::locate(edges, {});
+        check("a crossing is thrown", false);
+    } catch (const std::invalid_argument &fault) {
+        check("a crossing is thrown", std::string(fault.what()) == "the edges at places 0 and 2 cross");
+    }
+    std::size_t requests = 0;
+    for (bool refused = true; refused; requests++) {
+        refuse_after(requests);
+        try {
+            itree::locate({edges, 2}, points);
+            refused = false;
+        } catch (const std::bad_alloc &) {
+        }
+        refuse_after(SIZE_MAX);
+    }
+    check("refused memory is thrown for points among edges", requests > 2);
+}
+
 }  // namespace
 
 int main() {
@@ -152,6 +252,9 @@ int main() {
     checks_spans();
     checks_faults();
     checks_meetings();
+    checks_locate();
+    checks_many_edges();
+    checks_locate_faults();
     std::printf("%d passed, %d failed\n", passed, failed);
     return failed != 0;
 }

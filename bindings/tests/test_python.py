@@ -7,6 +7,7 @@ bindings/test runs it over a library that refuses memory when it is told to (ITR
 import array
 import ctypes
 import doctest
+import fractions
 import itertools
 import os
 import random
@@ -147,6 +148,115 @@ class Meetings(unittest.TestCase):
             break
         self.assertEqual(pairs, [(0, 1)])
         self.assertGreater(requests, 0)
+
+
+def rightwards(edge):
+    x0, y0, x1, y1 = edge
+    return edge if x0 <= x1 else (x1, y1, x0, y0)
+
+
+def height(edge, x):
+    """The height of an edge that goes to the right, and isn't upright, at x."""
+    x0, y0, x1, y1 = edge
+    return y0 + fractions.Fraction((y1 - y0) * (x - x0), x1 - x0)
+
+
+def plainly_cross(one, other):
+    """Whether the one is below the other at one end of what both span, and above it at the other end."""
+    one, other = rightwards(one), rightwards(other)
+    start, end = max(one[0], other[0]), min(one[2], other[2])
+    if end <= start:
+        return False
+    apart = [height(one, x) - height(other, x) for x in (start, end)]
+    return min(apart) < 0 < max(apart)
+
+
+def places_below(edges, point):
+    """The places of the edges that are highest of those under the point, there and at the next x, or None alone."""
+    x, y = point
+    turned = enumerate(map(rightwards, edges))
+    heights = {place: (height(edge, x), height(edge, x + 1)) for place, edge in turned if edge[0] <= x < edge[2]}
+    under = {place: at for place, at in heights.items() if at[0] <= y}
+    highest = tuple(map(max, zip(*under.values())))
+    return {place for place, at in under.items() if at == highest} or {None}
+
+
+class Locate(unittest.TestCase):
+    def assert_located(self, edges, points, answers):
+        self.assertEqual(len(answers), len(points))
+        for point, answer in zip(points, answers):
+            self.assertIn(answer, places_below(edges, point), (edges, point))
+
+    def test_answers_as_the_plain_model(self):
+        numbers, crossing = random.Random(30), 0
+        for _ in range(2000):
+            edges, points = [], []
+            for _ in range(numbers.randrange(13)):
+                x, y = numbers.randrange(16), numbers.randrange(6)
+                edges.append((x, y, x + numbers.randrange(-5, 6), y + numbers.randrange(-3, 4)))
+                points.append((numbers.randrange(-2, 18), numbers.randrange(-3, 9)))
+            if not any(plainly_cross(*pair) for pair in itertools.combinations(edges, 2)):
+                self.assert_located(edges, points, itree.locate(edges, points))
+                continue
+            crossing += 1
+            with self.assertRaises(itree.Crossing) as raised:
+                itree.locate(edges, points)
+            first, second = raised.exception.pair
+            self.assertLess(first, second)
+            self.assertTrue(plainly_cross(edges[first], edges[second]))
+        self.assertTrue(500 < crossing < 1500, crossing)
+
+    def test_answers_by_numbers_from_end_to_end(self):
+        numbers, whole = random.Random(31), 2**32
+        for _ in range(300):
+            edges = []
+            for _ in range(12):
+                edge = tuple(numbers.randrange(whole) - whole // 2 for _ in range(4))
+                if not any(plainly_cross(edge, other) for other in edges):
+                    edges.append(edge)
+            points = [tuple(numbers.randrange(whole) - whole // 2 for _ in range(2)) for _ in range(20)]
+            points += [edge[:2] for edge in edges]
+            self.assert_located(edges, points, itree.locate(edges, points))
+            flat = (array.array("i", itertools.chain(*rows)) for rows in (edges, points))
+            self.assert_located(edges, points, itree.locate(*flat))
+
+    def test_answers_nothing_for_nothing(self):
+        self.assertEqual(itree.locate([], []), [])
+        self.assertEqual(itree.locate([], [(1, 2)]), [None])
+        self.assertEqual(itree.locate([(1, 2, 3, 4)], []), [])
+        self.assertEqual(itree.locate(array.array("i"), array.array("i")), [])
+
+    def test_answers_among_many_edges(self):
+        edges = [(x, y, x + 1, y + (x + y) % 2) for y in range(0, 400, 2) for x in range(200)]
+        points = [(x, y) for y in range(-1, 399) for x in range(0, 200, 7)]
+        wanted = [None if y < 0 else y // 2 * 200 + x for x, y in points]
+        self.assertEqual(itree.locate(edges, points), wanted)
+
+    def test_tells_the_edges_that_cross(self):
+        with self.assertRaisesRegex(ValueError, "the edges at places 0 and 2 cross"):
+            itree.locate([(0, 0, 9, 9), (20, 0, 21, 0), (9, 0, 0, 9)], [(1, 1)])
+
+    def test_what_are_no_rows(self):
+        for edges, points in ([(1, 2, 3)], []), ([], [(1, 2, 3)]):
+            with self.assertRaises(ValueError):
+                itree.locate(edges, points)
+        with self.assertRaises(OverflowError):
+            itree.locate([(1, 2, 3, 2**31)], [])
+
+    def test_raises_memory_error(self):
+        library, requests = ctypes.CDLL(os.environ["ITREE_LIBRARY"]), 0
+        while True:
+            library.refuse_after(ctypes.c_size_t(requests))
+            try:
+                answer = itree.locate([(0, 0, 9, 9), (0, -5, 9, -5)], [(4, 4), (4, 3), (9, 9)])
+            except MemoryError:
+                requests += 1
+                continue
+            finally:
+                library.refuse_after(ctypes.c_size_t(-1))
+            break
+        self.assertEqual(answer, [0, 1, None])
+        self.assertGreater(requests, 3)
 
 
 class Rows(unittest.TestCase):

@@ -1,10 +1,13 @@
-"""Sweeps over horizontal segments, and pairs of edges that meet, by the proved library of this repository.
+"""Sweeps over horizontal segments, pairs of edges that meet, and points among edges, by the proved library of this
+repository.
 
     >>> import itree
     >>> itree.below([(0, 10, 5), (2, 6, 8)], [(6, 7), (2, 9), (11, 9)])
     [5, 8, None]
     >>> itree.meetings([(0, 0, 9, 9), (0, 9, 9, 0), (20, 0, 21, 0)])
     [(0, 1)]
+    >>> itree.locate([(0, 0, 9, 9), (0, -5, 9, -5)], [(4, 4), (4, 3), (9, 9)])
+    [0, 1, None]
 
 Rows are tuples or lists of whole numbers, or stand in a buffer of signed 32-bit numbers, as numpy's arrays and
 array.array: flat or row by row. A buffer is read where it lies, without a copy; nothing may write it during the call,
@@ -18,9 +21,9 @@ import ctypes
 import itertools
 import os
 
-__all__ = ["Overlap", "below", "meetings"]
+__all__ = ["Crossing", "Overlap", "below", "locate", "meetings"]
 
-_ANSWERED, _REFUSED, _OVERLAP = 0, 1, 2
+_ANSWERED, _REFUSED, _OVERLAP, _CROSSING = 0, 1, 2, 2
 
 
 class Overlap(ValueError):
@@ -30,6 +33,14 @@ class Overlap(ValueError):
     def __init__(self, index):
         super().__init__(f"the segment at place {index} overlaps an earlier one")
         self.index = index
+
+
+class Crossing(ValueError):
+    """Two edges cross. `pair` is the places (i, j) of two that do, i below j."""
+
+    def __init__(self, pair):
+        super().__init__("the edges at places {} and {} cross".format(*pair))
+        self.pair = pair
 
 
 def below(segments, points):
@@ -66,6 +77,31 @@ def meetings(edges):
                 raise MemoryError
     places = itertools.islice(pairs, 2 * count.value)
     return list(zip(places, places))
+
+
+def locate(edges, points):
+    """For each point (x, y), in order, the place of the edge (x0, y0, x1, y1) straight below it, or None where there is
+    none. It is exact: nothing is rounded.
+
+    An edge covers the x's from its lesser end up to its greater, which it doesn't cover; an upright edge or a point
+    covers nothing. An edge is under a point where it covers x at a height that is at most y, and straight below it where
+    none that is under it is higher there. Of edges that are as high there, it is the one that is highest just right of
+    the point; of edges along one line any may be told.
+
+    Raises Crossing where two edges cross: where the one is below the other at some whole x that both reach, and above it
+    at another. Raises MemoryError where memory was refused."""
+    with _Rows(edges, 4) as edges, _Rows(points, 2) as points:
+        places = array.array("Q", bytes(16 * points.count))
+        first, second = ctypes.c_size_t(), ctypes.c_size_t()
+        pair = ctypes.byref(first), ctypes.byref(second)
+        room = _address(places), points.count
+        status = _library.itree_locate(edges.at, edges.count, points.at, points.count, *room, *pair)
+    if status == _CROSSING:
+        raise Crossing((first.value, second.value))
+    if status != _ANSWERED:
+        raise MemoryError
+    numbers = iter(places)
+    return [place if found else None for found, place in zip(numbers, numbers)]
 
 
 class _Rows:
@@ -145,7 +181,9 @@ def _opened():
     address, length = ctypes.c_void_p, ctypes.c_size_t
     library.itree_below.argtypes = [address, length, address, length, address, length, address]
     library.itree_meetings.argtypes = [address, length, address, length, address]
-    library.itree_below.restype = library.itree_meetings.restype = ctypes.c_int32
+    library.itree_locate.argtypes = [address, length, address, length, address, length, address, address]
+    for call in library.itree_below, library.itree_meetings, library.itree_locate:
+        call.restype = ctypes.c_int32
     return library
 
 

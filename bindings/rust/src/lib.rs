@@ -1,5 +1,5 @@
-//! Sweeps over horizontal segments, and pairs of edges that meet, by the proved library of this repository: slices in,
-//! a `Result` out.
+//! Sweeps over horizontal segments, pairs of edges that meet, and points among edges, by the proved library of this
+//! repository: slices in, a `Result` out.
 //!
 //! ```
 //! use itree::{below, Point, Segment};
@@ -97,12 +97,39 @@ impl From<TryReserveError> for Fault {
     }
 }
 
+/// Why points among edges have no answers.
+#[derive(Clone, Copy, Debug, PartialEq, Eq)]
+pub enum LocateFault {
+    /// Memory was refused.
+    Refused,
+    /// The edges at these two places cross, of which the first is the lesser.
+    Cross(usize, usize),
+}
+
+impl Display for LocateFault {
+    fn fmt(&self, f: &mut Formatter<'_>) -> fmt::Result {
+        match self {
+            LocateFault::Refused => write!(f, "memory was refused"),
+            LocateFault::Cross(first, second) => write!(f, "the edges at places {first} and {second} cross"),
+        }
+    }
+}
+
+impl Error for LocateFault {}
+
+impl From<TryReserveError> for LocateFault {
+    fn from(_refused: TryReserveError) -> LocateFault {
+        LocateFault::Refused
+    }
+}
+
 /// The calls of `itree.h`.
 mod calls {
     use super::{Edge, Point, Segment};
 
     pub const ANSWERED: i32 = 0;
     pub const OVERLAP: i32 = 2;
+    pub const CROSSING: i32 = 2;
 
     #[repr(C)]
     #[derive(Clone, Copy)]
@@ -116,6 +143,13 @@ mod calls {
     pub struct Pair {
         pub first: usize,
         pub second: usize,
+    }
+
+    #[repr(C)]
+    #[derive(Clone, Copy)]
+    pub struct Place {
+        pub found: usize,
+        pub place: usize,
     }
 
     extern "C" {
@@ -135,6 +169,17 @@ mod calls {
             pairs: *mut Pair,
             pair_count: usize,
             count: *mut usize,
+        ) -> i32;
+
+        pub fn itree_locate(
+            edges: *const Edge,
+            edge_count: usize,
+            points: *const Point,
+            point_count: usize,
+            places: *mut Place,
+            place_count: usize,
+            first: *mut usize,
+            second: *mut usize,
         ) -> i32;
     }
 }
@@ -193,6 +238,45 @@ pub fn meetings(edges: &[Edge]) -> Result<Vec<(usize, usize)>, Refused> {
             return Ok(found);
         }
         room = count;
+    }
+}
+
+/// For each point, in order, the place of the edge straight below it, if there is one.
+///
+/// An edge covers the x's from its lesser end up to its greater, which it doesn't cover; an upright edge or a point covers
+/// nothing. An edge is under a point where it covers the point's x at a height that is at most the point's, and straight
+/// below it where none that is under it is higher there. Of edges that are as high there, it is the one that is highest
+/// just right of the point; of edges along one line any may be told.
+///
+/// Two edges cross where the one is below the other at some whole x that both reach, and above it at another: then the
+/// answer is `LocateFault::Cross`. It may be `LocateFault::Refused` in that case too, where there is little memory. It is
+/// exact: nothing is rounded.
+pub fn locate(edges: &[Edge], points: &[Point]) -> Result<Vec<Option<usize>>, LocateFault> {
+    let mut places = items(points.len(), calls::Place { found: 0, place: 0 })?;
+    let (mut first, mut second) = (0, 0);
+    // SAFETY: as in `below`.
+    let status = unsafe {
+        calls::itree_locate(
+            edges.as_ptr(),
+            edges.len(),
+            points.as_ptr(),
+            points.len(),
+            places.as_mut_ptr(),
+            places.len(),
+            &mut first,
+            &mut second,
+        )
+    };
+    match status {
+        calls::ANSWERED => {
+            let mut found = items(points.len(), None)?;
+            for (answer, place) in found.iter_mut().zip(&places) {
+                *answer = (place.found != 0).then_some(place.place);
+            }
+            Ok(found)
+        }
+        calls::CROSSING => Err(LocateFault::Cross(first, second)),
+        _ => Err(LocateFault::Refused),
     }
 }
 

@@ -1,6 +1,6 @@
 //! The calls beside a plain model, at faults, and with each request for memory refused in turn.
 
-use itree::{below, meetings, Edge, Fault, Point, Refused, Segment};
+use itree::{below, locate, meetings, Edge, Fault, LocateFault, Point, Refused, Segment};
 use std::cell::Cell;
 use std::ffi::c_void;
 
@@ -182,6 +182,162 @@ fn is_refused_pairs_where_memory_is() {
     }
     assert!(requests > 3, "{requests} requests");
     assert_eq!(meetings(&edges).map(|pairs| pairs.len()), Ok(780));
+}
+
+fn rightwards(edge: &Edge) -> Edge {
+    let Edge { x0, y0, x1, y1 } = *edge;
+    if x0 <= x1 {
+        *edge
+    } else {
+        Edge {
+            x0: x1,
+            y0: y1,
+            x1: x0,
+            y1: y0,
+        }
+    }
+}
+
+/// The height at x of an edge that goes to the right, times how far it goes. For small numbers.
+fn height_by_run(edge: &Edge, x: i32) -> i64 {
+    (edge.y0 * (edge.x1 - x) + edge.y1 * (x - edge.x0)) as i64
+}
+
+fn run(edge: &Edge) -> i64 {
+    (edge.x1 - edge.x0) as i64
+}
+
+fn is_lower_at(one: &Edge, other: &Edge, x: i32) -> bool {
+    height_by_run(one, x) * run(other) < height_by_run(other, x) * run(one)
+}
+
+/// Whether the one is below the other at some whole x that both span, and above it at another.
+fn plainly_cross(one: &Edge, other: &Edge) -> bool {
+    let (one, other) = (rightwards(one), rightwards(other));
+    let common = || one.x0.max(other.x0)..=one.x1.min(other.x1);
+    common().any(|x| is_lower_at(&one, &other, x)) && common().any(|x| is_lower_at(&other, &one, x))
+}
+
+fn is_under(edge: &Edge, point: &Point) -> bool {
+    let edge = rightwards(edge);
+    (edge.x0..edge.x1).contains(&point.x) && height_by_run(&edge, point.x) <= point.y as i64 * run(&edge)
+}
+
+/// Whether the answer is the place of an edge under the point than which no other one is higher, there or at the next
+/// x, or none where none is under it.
+fn is_straight_below(edges: &[Edge], point: &Point, answer: Option<usize>) -> bool {
+    let mut under = edges.iter().filter(|edge| is_under(edge, point));
+    match answer {
+        Some(place) => {
+            let told = rightwards(&edges[place]);
+            let is_lower = |edge: &Edge| {
+                [0, 1]
+                    .iter()
+                    .any(|&on| is_lower_at(&told, &rightwards(edge), point.x + on))
+            };
+            is_under(&told, point) && !under.any(is_lower)
+        }
+        None => under.next().is_none(),
+    }
+}
+
+#[test]
+fn locates_points_among_edges() {
+    let mut random = Random(30);
+    let mut crossing = 0;
+    for round in 0..4000 {
+        let edge = |_| {
+            let (x, y) = (random.below(16), random.below(6));
+            Edge {
+                x0: x,
+                y0: y,
+                x1: x + random.below(11) - 5,
+                y1: y + random.below(7) - 3,
+            }
+        };
+        let edges: Vec<Edge> = (0..round % 14).map(edge).collect();
+        let points = random.points(round % 11);
+        let pairs = (0..edges.len()).flat_map(|second| (0..second).map(move |first| (first, second)));
+        let crosses = |(first, second): (usize, usize)| plainly_cross(&edges[first], &edges[second]);
+        match locate(&edges, &points) {
+            Ok(found) => {
+                assert!(!pairs.into_iter().any(crosses), "{edges:?}");
+                assert_eq!(found.len(), points.len());
+                for (point, answer) in points.iter().zip(found) {
+                    assert!(
+                        is_straight_below(&edges, point, answer),
+                        "{edges:?} {point:?} {answer:?}"
+                    );
+                }
+            }
+            Err(LocateFault::Cross(first, second)) => {
+                assert!(first < second && crosses((first, second)), "{edges:?} {first} {second}");
+                crossing += 1;
+            }
+            Err(LocateFault::Refused) => panic!("refused"),
+        }
+    }
+    assert!(1000 < crossing && crossing < 3000, "{crossing} crossing");
+}
+
+#[test]
+fn locates_nothing_for_nothing() {
+    let edge = Edge {
+        x0: 0,
+        y0: 0,
+        x1: 9,
+        y1: 9,
+    };
+    assert_eq!(locate(&[], &[]), Ok(vec![]));
+    assert_eq!(locate(&[], &[Point { x: 1, y: 2 }]), Ok(vec![None]));
+    assert_eq!(locate(&[edge], &[]), Ok(vec![]));
+}
+
+#[test]
+fn locates_points_among_many_edges() {
+    let edge = |place: i32| Edge {
+        x0: place % 500,
+        y0: place / 500 * 2 + place % 2,
+        x1: place % 500 + 1,
+        y1: place / 500 * 2 + (place + 1) % 2,
+    };
+    let edges: Vec<Edge> = (0..100_000).map(edge).collect();
+    let points: Vec<Point> = (0..100_000)
+        .map(|place| Point {
+            x: place % 500,
+            y: place / 500 * 2 + 1,
+        })
+        .collect();
+    let wanted: Vec<Option<usize>> = (0..100_000).map(Some).collect();
+    assert_eq!(locate(&edges, &points), Ok(wanted));
+}
+
+#[test]
+fn tells_edges_that_cross() {
+    let edges = [(0, 0, 9, 9), (20, 0, 21, 0), (9, 0, 0, 9)].map(|(x0, y0, x1, y1)| Edge { x0, y0, x1, y1 });
+    let fault = locate(&edges, &[]).unwrap_err();
+    assert_eq!(fault, LocateFault::Cross(0, 2));
+    assert_eq!(fault.to_string(), "the edges at places 0 and 2 cross");
+}
+
+#[test]
+fn is_refused_places_where_memory_is() {
+    let edges: Vec<Edge> = (0..50)
+        .map(|y| Edge {
+            x0: 0,
+            y0: y,
+            x1: 100,
+            y1: y + 1,
+        })
+        .collect();
+    let points: Vec<Point> = (0..50).map(|y| Point { x: 3, y: y + 1 }).collect();
+    let mut requests = 0;
+    while granted(requests, || locate(&edges, &points)) == Err(LocateFault::Refused) {
+        requests += 1;
+    }
+    assert!(requests >= 5, "{requests} requests");
+    let wanted: Vec<Option<usize>> = (0..50).map(Some).collect();
+    assert_eq!(granted(requests, || locate(&edges, &points)), Ok(wanted));
 }
 
 #[test]

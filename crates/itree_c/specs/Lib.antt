@@ -1,3 +1,4 @@
 pub mod Heights
 pub mod Meetings
+pub mod Places
 pub mod Status

@@ -7,4 +7,5 @@
 
 pub mod heights;
 pub mod meetings;
+pub mod places;
 pub mod status;

@@ -9,5 +9,8 @@ pub const REFUSED: i32 = 1;
 /// The input overlaps: the call tells where.
 pub const OVERLAP: i32 = 2;
 
+/// Two edges cross: the call tells which.
+pub const CROSSING: i32 = 2;
+
 /// The lengths of two slices don't fit each other.
 pub const LENGTHS: i32 = 3;
