@@ -3,6 +3,7 @@
 #![tactic(auto)]
 
 pub mod crossing_candidates;
+pub mod inside_polygon;
 pub mod kept_booking;
 pub mod kept_handles;
 pub mod leases;
