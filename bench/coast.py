@@ -1,4 +1,4 @@
-"""Reads the world's coastlines (GSHHG, as Debian's gmt-gshhg-full has them) as edges with whole ends.
+"""Reads the world's coastlines (GSHHG, as Debian's gmt-gshhg-full and gmt-gshhg-low have them) as edges with whole ends.
 
 The earth is cut into square bins, in rows from the north. A coastline lies in a bin as a chain of points, each relative
 to the bin's south-west corner, in 65,535ths of the bin's side; the side is the unit here, too. Debian's netcdf-bin has
@@ -6,6 +6,7 @@ ncdump, which prints the numbers of a file.
 """
 
 import array
+import pathlib
 import re
 import subprocess
 
@@ -21,10 +22,14 @@ def numbers(file, name):
     return array.array("i", map(int, listed.replace("_", "-32767").split(",")))
 
 
+def file_of(resolution):
+    """The file of a resolution, a letter: f for all points (gmt-gshhg-full), i, l or c for fewer (gmt-gshhg-low)."""
+    return pathlib.Path(FOLDER) / f"binned_GSHHS_{resolution}.nc"
+
+
 def edges(resolution):
-    """The edges of all coastlines, four numbers each. The resolution is a letter: f for all points, i, l or c for
-    fewer."""
-    file = f"{FOLDER}/binned_GSHHS_{resolution}.nc"
+    """The edges of all coastlines, four numbers each."""
+    file = file_of(resolution)
     across, = numbers(file, "N_bins_in_360_longitude_range")
     down, = numbers(file, "N_bins_in_180_degree_latitude_range")
     first_chains, chain_counts = numbers(file, "Id_of_first_segment_in_a_bin"), numbers(file, "N_segments_in_a_bin")
