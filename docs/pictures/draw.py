@@ -41,7 +41,7 @@ def dot(x, y, radius, fill, stroke=PAPER):
 
 
 def picture(title, width, height, parts):
-    """The whole drawing, on paper of its own, so that it reads on a dark page too."""
+    """The whole drawing, on a ground of its own, so that it reads on a dark page too."""
     head = (
         '<marker id="head" viewBox="0 0 8 8" refX="7" refY="4" markerWidth="7" markerHeight="7" orient="auto">'
         f'<path d="M0 0L8 4L0 8z" fill="{SOFT}"/></marker>'
@@ -233,7 +233,7 @@ def scene(name, word):
 
 
 def at(x, y):
-    """Where a point of a run stands on the paper."""
+    """Where a point of a run stands in the picture."""
     return 60 + 54 * x, 290 - 26 * y
 
 
