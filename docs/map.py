@@ -19,7 +19,7 @@ MAP = os.path.join(TOP, "docs", "MAP.md")
 TABLE = re.compile(r"(<!-- files of (crates/\w+) -->\n).*?(?=<!-- end -->)", re.S)
 GROUPS = (("Sources", "src", ".rt"), ("Definitions", "specs", ".antt"), ("Lemmas", "proofs", ".antt"))
 COMMENT = re.compile(r"^(?://!|//|--) ?")
-ANSWERS = ("Answers.antt", "Invariants.antt", "Proof.antt", "Lib.antt")
+ONE_FUNCTION = ("Answers.antt", "Invariants.antt", "Proof.antt")
 
 
 def files_of(folder, ending):
@@ -50,10 +50,14 @@ def only_names_others(text):
     return all(not line.strip() or line.startswith(("--", "pub mod ", "mod ")) for line in text.splitlines())
 
 
+def is_of_one_function(path):
+    return "/proofs/" in path and os.path.basename(path) in ONE_FUNCTION
+
+
 def rows(crate, folder, ending):
     for path in files_of(f"{crate}/{folder}", ending):
         text = text_of(path)
-        if os.path.basename(path) in ANSWERS or (ending == ".antt" and only_names_others(text)):
+        if is_of_one_function(path) or (ending == ".antt" and only_names_others(text)):
             continue
         told = first_sentence(text)
         if not told:

@@ -1,24 +1,28 @@
 -- A pair that joins a tree at the place that a descent has come to.
-use Rattle.std.proofs.Common.{◌≡◌, ◌≢◌, ℕ, ◌+◌, ◌-◌, ◌<◌, ◌≤◌, zero, suc, Bool, true, false, is_some, Option, Result, Ok, Err, List, [], ◌∷◌, ◌++◌, length, refl, ap, ◌∙◌, subst, inl, inr, arith, append_assoc, length-append}
+use Rattle.std.proofs.Common.{◌≡◌, ◌≢◌, ℕ, ◌+◌, ◌-◌, ◌<◌, ◌≤◌, zero, suc, Bool, true, false, is_some, Option, None, Some, Result, Ok, Err, List, [], ◌∷◌, ◌++◌, length, refl, sym, ap, ◌∙◌, subst, inl, inr, arith, append_assoc, length-append}
+use Rattle.std.specs.Option.{IfSome}
 use Rattle.std.specs.Result.{IfErr, IfOk, IsOk, OnErr}
 use Rattle.std.specs.declared.cmp.Ordering.{Ordering}
 use Rattle.std.specs.declared.cmp.Ordering.TheVariants.{Less, Equal, Greater}
 use Rattle.std.proofs.lemmas.List.{length-map}
 use Rattle.i_tree.proofs.ExpiringLemmas.List.{none_spare}
+use Rattle.i_tree.proofs.ExpiringLemmas.Search.{ReadsAt}
 use Rattle.i_tree.proofs.RbLemmas.SearchPath.Entries.{values-append}
 use Rattle.i_tree.proofs.RbLemmas.SearchPath.Search.{less_left}
+use Rattle.i_tree.proofs.RbLemmas.Shape.Contexts.{occurs_among, occurs_among-append, occurs_among-entries}
 use Rattle.i_tree.proofs.RootLemmas.Joined.{Any-behind, Any-here}
 use Rattle.i_tree.specs.Root.Descent.{Descends}
 use Rattle.i_tree.specs.Root.Ends.{EndsIn, FirstFinds, LastFinds, StartsIn}
 use Rattle.i_tree.specs.Expiring.Descent.{DescendsBetween, FindsAbove, MayCall}
-use Rattle.i_tree.specs.Expiring.Insertion.{CallsEqual, IsBetween, has_joined}
+use Rattle.i_tree.specs.Expiring.Insertion.{AreFoundAt, CallsEqual, HoldNeighbours, IsBetween, IsFoundAt, TellsNeighbours, has_joined}
 use Rattle.i_tree.specs.Expiring.Tree.{items, slots_for}
 use Rattle.i_tree.specs.Rb.RbTree.{Contents, slots, slots_grown, slots_with_room}
 use Rattle.i_tree.specs.Rb.SearchPath.{FindsNotAbove}
-use Rattle.i_tree.specs.Rb.Shape.{Shape, entries}
+use Rattle.i_tree.specs.Rb.Shape.{Shape, entries, occurs, IsHandle}
 use Rattle.i_tree.specs.Root.Steps.{Counts}
 use Rattle.i_tree.specs.Set.Pairs.{values}
 use Rattle.i_tree.specs.declared.Refusal.{Refusal}
+use Rattle.i_tree.specs.declared.expiring.insertion.Beside.{Beside}
 use Rattle.i_tree.specs.declared.TheConstants.{EMPTY_REF}
 use Rattle.i_tree.specs.declared.rb.place.Place.{Place}
 
@@ -74,6 +78,52 @@ module _ {K V : Type 0} (is_live : K → Bool) (May : K → Ordering → Type 0)
 -- a pair that joins between two lists
 pub one_more : {X : Type 0} (before after front : List X) (x : X) (back : List X) → before ≡ front ++ back → after ≡ front ++ x ∷ back → length after ≡ length before + 1
 one_more before after front x back is joined = omega (arith, ap length joined, ap length is, length-append front (x ∷ back), length-append front back)
+
+-- what stood in a list stands there still where another has joined
+still_there : {X : Type 0} (front back : List X) (x : X) (before : List X) (y : X) (after : List X) → front ++ back ≡ before ++ y ∷ after
+    → (before_then : List X) × (after_then : List X) × (front ++ x ∷ back ≡ before_then ++ y ∷ after_then)
+still_there [] back x before y after is = (x ∷ before, after, ap (λ list. x ∷ list) is)
+still_there (z ∷ front) back x [] y after is =
+    let first : z ≡ y = cc in
+    ([], front ++ x ∷ back, ap (λ one. one ∷ front ++ x ∷ back) first)
+still_there (z ∷ front) back x (w ∷ before) y after is =
+    let first : z ≡ w = cc in
+    let rest : front ++ back ≡ before ++ y ∷ after = cc in
+    let (before_then, after_then, same) = still_there front back x before y after rest in
+    (w ∷ before_then, after_then, ap (λ one. one ∷ front ++ x ∷ back) first ∙ ap (λ list. w ∷ list) same)
+
+-- the handles of a tree, and what stands at them, are those of the tree that an entry has joined
+module _ {T : Type 0} (mid new : Shape T) (front : List (ℕ × T)) (entry : ℕ × T) (back : List (ℕ × T)) (cut : entries mid ≡ front ++ back) (joined : entries new ≡ front ++ entry ∷ back) where
+  pub handle_still : (handle : ℕ) → IsHandle mid handle → IsHandle new handle
+  handle_still handle live =
+      omega (
+        arith,
+        live,
+        occurs_among-entries handle mid,
+        occurs_among-entries handle new,
+        ap (occurs_among handle) cut,
+        ap (occurs_among handle) joined,
+        occurs_among-append handle front back,
+        occurs_among-append handle front (entry ∷ back),
+      )
+
+  pub reads_still : occurs EMPTY_REF mid ≡ 0 → (handle : ℕ) (found : Option T) → IsFoundAt new handle found → ReadsAt (λ item. Some item) None mid handle found
+  reads_still empty handle found at =
+      record {
+        none_empty = empty;
+        none = at.none;
+        some = λ differs before item after is.
+            let (before_then, after_then, same) = still_there front back entry before (handle, item) after (sym cut ∙ is) in
+            at.some differs before_then item after_then (joined ∙ same);
+      }
+
+-- what is read at handles that hold the neighbours tells them
+module _ {K V : Type 0} (May : K → Ordering → Type 0) (pairs : List (K × V)) (tree : Shape (K × V)) where
+  pub pairs_told : (told : Option Beside) (found : Option (Option (K × V) × Option (K × V))) → is_some found ≡ is_some told → IfSome told (λ beside. HoldNeighbours May pairs tree beside.last beside.next)
+      → IfSome told (λ beside. IfSome found (AreFoundAt tree beside.last beside.next)) → TellsNeighbours May pairs found
+  pairs_told told None same hold at = tt
+  pairs_told (Some beside) (Some found) same hold at = hold found at
+  pairs_told None (Some found) same hold at = absurd (cc)
 
 -- how many slots there are after a pair has joined
 pub slots_joined : {T : Type 0} (first mid last : Contents T) → slots mid ≡ slots first → slots last ≡ slots_with_room mid → length (entries last.shape) ≡ length (entries mid.shape) + 1 → slots last ≡ slots_for first (length (items last.shape))

@@ -1,12 +1,14 @@
 -- What an insertion adds that may find its key there already, where its pair stands, and between which.
-use Rattle.std.specs.Prelude.{◌≡◌, Bool, true, false, List, ◌∷◌, ◌++◌, Any, Option, IfSome, Result, Ok, Err, is_some, ⊤}
+use Rattle.std.specs.Prelude.{◌≡◌, ◌≢◌, ℕ, Bool, true, false, List, ◌∷◌, ◌++◌, Any, Option, None, Some, IfSome, Result, Ok, Err, is_some, ⊤}
 use Rattle.std.specs.declared.cmp.Ordering.{Ordering}
 use Rattle.std.specs.declared.cmp.Ordering.TheVariants.{Less, Equal, Greater}
 use Rattle.i_tree.specs.Expiring.Descent.{MayCall}
 use Rattle.i_tree.specs.Root.Along.{AreNeighbours, ByEachOrder}
 use Rattle.i_tree.specs.Root.Change.{Without}
 use Rattle.i_tree.specs.Root.Ends.{EndsIn, StartsIn}
+use Rattle.i_tree.specs.Rb.Shape.{Shape, entries}
 use Rattle.i_tree.specs.declared.Refusal.{Refusal}
+use Rattle.i_tree.specs.declared.TheConstants.{EMPTY_REF}
 
 -- what an insertion adds where its pair joins or is refused, and what a query adds where the key is there already
 abbrev pub InsertsOrLeaves : (Result ⊤ Refusal → Type 0) → Type 0 → Result Bool Refusal → Type 0
@@ -25,6 +27,23 @@ abbrev pub TellsNeighbours : {K V : Type 0} → (K → Ordering → Type 0) → 
     → Option (Option (K × V) × Option (K × V)) → Type 0
 TellsNeighbours may_answer pairs told =
     IfSome told (λ found. ByEachOrder may_answer pairs (λ order. AreNeighbours order pairs found))
+
+-- what is found at a handle: the item there, or nothing at the handle that is none
+pub record IsFoundAt {T : Type 0} (tree : Shape T) (handle : ℕ) (found : Option T) : Type 0 where
+  pub none : handle ≡ EMPTY_REF → found ≡ None
+  pub some : handle ≢ EMPTY_REF → (front : List (ℕ × T)) (item : T) (back : List (ℕ × T)) →
+      entries tree ≡ front ++ (handle, item) ∷ back → found ≡ Some item
+
+-- what is found at two handles
+abbrev pub AreFoundAt : {T : Type 0} → Shape T → ℕ → ℕ → Option T × Option T → Type 0
+AreFoundAt tree last next found = IsFoundAt tree last found.0 × IsFoundAt tree next found.1
+
+-- two handles hold the neighbours among these pairs: by each order that a closure's answers follow, what is found at the one is the
+-- last pair that it doesn't call Greater, and at the other the first that it does
+abbrev pub HoldNeighbours : {K V : Type 0} → (K → Ordering → Type 0) → List (K × V) → Shape (K × V) → ℕ → ℕ → Type 0
+HoldNeighbours {K} {V} may_answer pairs tree last next =
+    (found : Option (K × V) × Option (K × V)) → AreFoundAt tree last next found
+    → ByEachOrder may_answer pairs (λ order. AreNeighbours order pairs found)
 
 -- For the private contracts of `KeyExpTree`. `is_live` says which keys are live, and `MayAnswer` how a key may be called by what
 -- is sought.

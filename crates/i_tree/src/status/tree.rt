@@ -16,7 +16,7 @@ ghost use Rattle.i_tree.specs.Status.StatusTree.{StatusTreeInserts};
 
 use super::exp::StatusCollection;
 use crate::expiring::descent::{descend, pair_at, value_at};
-use crate::expiring::insertion::{has_joined, insert_between};
+use crate::expiring::insertion::{has_joined, insert_between, pairs_beside};
 use crate::expiring::live::{ByVal, LiveAt};
 use crate::rb::RbTree;
 use crate::steps::{Counter, Uncounted};
@@ -133,7 +133,9 @@ impl<K: ExpiredVal<E>, E: Expiration, V: Copy, A: Allocator + Copy> StatusTree<K
         ensures err_steps { OnErr result
             (Descends C.made steps.old steps.new (length (items self.old.shape)) (length (items self.new.shape)) 0) }
     {
-        has_joined(self.insert_between_counted(steps, time, f, key, val))
+        let pair = (key, val);
+        let lives = LiveAt { time, by: ByVal };
+        has_joined(insert_between(&mut self.core, steps, &lives, &f, pair))
     }
 
     /// `insert_between`, with its steps counted: those of one descent, whether the pair joins or not. Each comparison is one
@@ -173,7 +175,9 @@ impl<K: ExpiredVal<E>, E: Expiration, V: Copy, A: Allocator + Copy> StatusTree<K
             (Descends C.made steps.old steps.new (length (items self.old.shape)) (length (items self.new.shape)) 0) }
     {
         let pair = (key, val);
-        insert_between(&mut self.core, steps, &LiveAt { time, by: ByVal }, &f, pair)
+        let lives = LiveAt { time, by: ByVal };
+        let told = insert_between(&mut self.core, steps, &lives, &f, pair)?;
+        Ok(pairs_beside(&self.core, told))
     }
 
     /// `first_less_or_equal_by`, with its steps counted: each comparison is one call of `f`.

@@ -1,6 +1,6 @@
 use Rattle.std.proofs.Common.{◌≡◌, ◌+◌, ◌++◌, ◌∷◌, ℕ, false, length, sym, subst, ap, ◌∙◌, arith}
 use Rattle.std.proofs.lemmas.List.{length-map}
-use Rattle.i_tree.proofs.ExpiringLemmas.Insertion.{calls_equal, items_cut, none_removed, one_more, place_between, slots_joined}
+use Rattle.i_tree.proofs.ExpiringLemmas.Insertion.{calls_equal, handle_still, items_cut, none_removed, one_more, place_between, reads_still, slots_joined}
 use Rattle.i_tree.proofs.ExpiringLemmas.Search.{answer_neighbours}
 use Rattle.i_tree.proofs.RbLemmas.SearchPath.Counts.{counted_join}
 use Rattle.i_tree.proofs.RbLemmas.SearchPath.Entries.{values-append}
@@ -116,12 +116,29 @@ returns-clause-joins g c =
       ap values (joined g c) ∙ values-append end.front ((c.in_default.field-0, c.args.pair) ∷ end.back),
     )
 
+pub returns-clause-last : goal.returns-clause-last
+returns-clause-last g c some =
+    let end = c.descend-end.ensures.end in
+    let last = c.descend-end.result.last in
+    let next = c.descend-end.result.next in
+    handle_still c.descend-end.new.core.shape c.insert_at.new.self.shape end.front (c.in_default.field-0, c.args.pair) end.back end.between.cut (joined g c) last (c.descend-end.ensures.last some)
+
+pub returns-clause-next : goal.returns-clause-next
+returns-clause-next g c some =
+    let end = c.descend-end.ensures.end in
+    let last = c.descend-end.result.last in
+    let next = c.descend-end.result.next in
+    handle_still c.descend-end.new.core.shape c.insert_at.new.self.shape end.front (c.in_default.field-0, c.args.pair) end.back end.between.cut (joined g c) next (c.descend-end.ensures.next some)
+
 pub returns-clause-neighbours : goal.returns-clause-neighbours
-returns-clause-neighbours g c =
+returns-clause-neighbours g c found at =
+    let end = c.descend-end.ensures.end in
+    let last = c.descend-end.result.last in
+    let next = c.descend-end.result.next in
+    let reads = reads_still c.descend-end.new.core.shape c.insert_at.new.self.shape end.front (c.in_default.field-0, c.args.pair) end.back end.between.cut (joined g c) c.descend-end.ensures.core.handles.none_empty in
     answer_neighbours (g.L.Liveness.live c.args.lives.now) (goal.F-post g c.args.stands.now) c.descend-end.new.core.shape (place_below c.descend-end.result.above c.descend-end.result.on_right)
-    c.descend-end.result.last c.descend-end.result.said c.descend-end.result.next c.descend-end.ensures.end (items c.args.core.now.shape) c.descend-end.ensures.kept
-    c.pair_at.result c.pair_at-2.result (record { none_empty = c.descend-end.ensures.core.handles.none_empty; none = c.pair_at.ensures.none; some = c.pair_at.ensures.some })
-    (record { none_empty = c.descend-end.ensures.core.handles.none_empty; none = c.pair_at-2.ensures.none; some = c.pair_at-2.ensures.some })
+    last c.descend-end.result.said next end (items c.args.core.now.shape) c.descend-end.ensures.kept
+    found.0 found.1 (reads last found.0 at.0) (reads next found.1 at.1)
 
 pub returns-clause-slots : goal.returns-clause-slots
 returns-clause-slots g c =
