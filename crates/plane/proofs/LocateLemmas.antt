@@ -12,6 +12,7 @@ pub mod Ending
 pub mod Ends
 pub mod Exchanged
 pub mod Gaps
+pub mod Happenings
 pub mod Later
 pub mod Line
 pub mod Live

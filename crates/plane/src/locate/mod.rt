@@ -15,6 +15,7 @@ pub use standing::Standing;
 use std::alloc::Allocator;
 use sweep::serve_all;
 
+mod ahead;
 mod crossing;
 mod events;
 pub mod fault;
@@ -84,7 +85,7 @@ where
     let events = schedule(alloc, edges, points)?;
     let mut answers = Vec::new(alloc);
     answers.resize(points.len(), None)?;
-    serve_all(status, edges, points, &events, &mut answers)?;
+    serve_all(alloc, status, edges, points, &events, &mut answers)?;
     out.extend_from_slice(&answers)?;
     Ok(())
 }

@@ -6,53 +6,50 @@ ghost use Rattle.i_tree.specs.Root.Along.{AreNeighbours, IsMonotoneAlong, NoneEq
 ghost use Rattle.i_tree.specs.Root.Change.{Without};
 ghost use Rattle.plane.specs.Locate.Answers.{IsPlaceBelow};
 ghost use Rattle.plane.specs.Locate.Crossings.{IsCrossing, NoneCross};
-ghost use Rattle.plane.specs.Locate.Heights.{rightwards};
 ghost use Rattle.plane.specs.Locate.Schedule.{IsSchedule};
 ghost use Rattle.plane.specs.Locate.Serving.{AreCrossing, HaveCrossing, IsPlaceUnder, JoinsAt};
 ghost use Rattle.plane.specs.Locate.Standings.{AllRight, Entry, cmp_standings, cmp_to_point, live_entries, IsExpiredAt, NotCross};
 
+use super::ahead::{Ahead, Happening};
 use super::crossing::cross;
-use super::events::{Event, Task};
+use super::events::Event;
 use super::fault::LocateFault;
-use super::heights::{compare_to_point, turn_rightwards};
+use super::heights::compare_to_point;
 use super::point::Point;
 use super::standing::{Standing, compare_standings};
 use crate::edge::Edge;
 use i_tree::status::exp::StatusCollection;
+use std::alloc::Allocator;
 use std::cmp::Ordering;
 
 /// Serves the events in order, and puts each point's answer at its place.
-pub fn serve_all<C: StatusCollection<Standing, i64, ()>>(
+pub fn serve_all<C, A>(
+    alloc: A,
     status: &mut C,
     edges: &[Edge],
     points: &[Point],
     events: &[Event],
     answers: &mut [Option<usize>],
 ) -> Result<(), LocateFault>
+where
+    C: StatusCollection<Standing, i64, ()>,
+    A: Allocator,
     requires empty { C.stored status.old ≡ [] }
     requires schedule { IsSchedule edges.now points.now events.now }
     requires room { length answers.old ≡ length points.now }
     ensures ok { OnOk result (NoneCross edges.now × AllZip (IsPlaceBelow edges.now) points.now answers.new) }
     ensures crossing { (i j : ℕ) → result ≡ Err (LocateFault.Cross i j) → IsCrossing edges.now i j }
 {
-    for event in events {
-        let place = event.place;
-        match event.task {
-            Task::End => end(status, standing_of(place, edges[place]))?,
-            Task::Begin => begin(status, standing_of(place, edges[place]))?,
-            Task::Answer => answers[place] = place_below(status, points[place]),
+    let mut ahead = Ahead::new(alloc);
+    for next in 0..events.len() {
+        let happening = ahead.at(edges, points, events, next)?;
+        match happening {
+            Happening::Ends(standing) => end(status, standing)?,
+            Happening::Begins(standing) => begin(status, standing)?,
+            Happening::Asks(place, point) => answers[place] = place_below(status, point),
         }
     }
     Ok(())
-}
-
-/// The edge as it stands in the status.
-fn standing_of(place: usize, edge: Edge) -> Standing
-    ensures edge { result.edge ≡ rightwards edge }
-    ensures place { result.place ≡ place }
-{
-    let edge = turn_rightwards(edge);
-    Standing { edge, place }
 }
 
 /// Tests the two between which the edge stood that ends.

@@ -1,7 +1,10 @@
 use Rattle.std.proofs.Common.{take}
+use Rattle.plane.specs.Locate.Happenings.{IsAhead}
 use Rattle.plane.proofs.LocateLemmas.Swept.{Swept}
 use Rattle.plane.proofs.locate.sweep.serve_all.Given as goal
 
--- the events gone through are served
-abbrev pub invariant-loop-event : goal.invariant-loop-event
-invariant-loop-event g l = Swept l.edges l.points (take l.event-index l.events) (g.C.StatusCollection.stored l.status) l.answers
+-- the events gone through are served, and what is read ahead is what happens
+abbrev pub invariant-loop-next : goal.invariant-loop-next
+invariant-loop-next g l =
+    Swept l.edges l.points (take l.next l.events) (g.C.StatusCollection.stored l.status) l.answers
+    × IsAhead l.edges l.points l.events l.ahead.from l.ahead.happenings.items
