@@ -16,7 +16,7 @@ use Rattle.plane.specs.Locate.Crossings.{Cross, IsCrossing}
 use Rattle.plane.specs.Locate.Heights.{rightwards}
 use Rattle.plane.specs.Locate.Schedule.{StandsAt, CoversSome, ending_of, answering_of, Precedes, IsSchedule}
 use Rattle.plane.specs.Locate.Serving.{HaveCrossing}
-use Rattle.plane.specs.Locate.Standings.{Entry, cmp_standings, live_entries, IsExpiredAt, NotCross}
+use Rattle.plane.specs.Locate.Standings.{Entry, cmp_standings, cmp_to_ending, live_entries, IsExpiredAt, NotCross}
 use Rattle.plane.proofs.LocateLemmas.Adjacent.{All-left_out, AllPairs-before, AllPairs-after}
 use Rattle.plane.proofs.LocateLemmas.Advance.{advance}
 use Rattle.plane.proofs.LocateLemmas.Begun.{begin_of, end_of, IsOneOf, IsBegun, HasEnded, same_standing, edge_at, is_one_of, end_is, done_earlier, IsBegun-more, IsBegun-before, begin_known, never_before_itself, IsCrossing-among}
@@ -84,9 +84,9 @@ module _ (edges : List Edge) (points : List Point) (events : List Event) (schedu
     live_whole : live_entries ending.edge.x1 stored ≡ live_entries ending.edge.x1 (front ++ (ending, tt) ∷ back)
     live_whole = live_at edges points events schedule k event inside is stored answers swept ending.edge.x1 here ∙ ap (live_entries ending.edge.x1) cut
 
-    monotone : IsMonotoneAlong (λ other. cmp_standings other ending) (live_entries ending.edge.x1 stored)
+    monotone : IsMonotoneAlong (cmp_to_ending ending) (live_entries ending.edge.x1 stored)
     monotone =
-        subst (λ (entries : List Entry). IsMonotoneAlong (λ other. cmp_standings other ending) entries) (sym live_whole)
+        subst (λ (entries : List Entry). IsMonotoneAlong (cmp_to_ending ending) entries) (sym live_whole)
         (end_monotone ending.edge.x1 front (ending, tt) back whole refl)
 
     -- the others are others
@@ -130,12 +130,12 @@ module _ (edges : List Edge) (points : List Point) (events : List Event) (schedu
         All-left_out (λ (entry : Entry). IsBegun edges (take k events) entry.0 × ¬ (HasEnded (take k events) entry.0)) front (ending, tt) back
         (subst (All (λ (entry : Entry). IsBegun edges (take k events) entry.0 × ¬ (HasEnded (take k events) entry.0))) cut swept.of)
 
-    module _ (after : List Entry) (found : Option Entry × Option Entry) (are : AreNeighbours (λ other. cmp_standings other ending) (live_entries ending.edge.x1 stored) found) (apart : NotCross found.0 found.1)
+    module _ (after : List Entry) (found : Option Entry × Option Entry) (are : AreNeighbours (cmp_to_ending ending) (live_entries ending.edge.x1 stored) found) (apart : NotCross found.0 found.1)
         (kept : Without (IsExpiredAt ending.edge.x1) stored after) where
       left : Line ending.edge.x1 (front ++ back)
       left =
           end_kept ending.edge.x1 front (ending, tt) back whole refl found
-          (subst (λ (entries : List Entry). AreNeighbours (λ other. cmp_standings other ending) entries found) live_whole are) apart
+          (subst (λ (entries : List Entry). AreNeighbours (cmp_to_ending ending) entries found) live_whole are) apart
 
       upto : (later : ℤ) → NoneBehind (take k events ++ event ∷ []) later → ending.edge.x1 ≤ℤ later
       upto later none = upto_later edges points events schedule k event inside is stored answers swept ending.edge.x1 here later none
@@ -178,7 +178,7 @@ module _ (edges : List Edge) (points : List Point) (events : List Event) (schedu
   end_live_onwards = live_onwards edges points events schedule k event inside is stored answers swept ending.edge.x1 here
 
   -- the order to the edge is monotone along what is live
-  pub end_requires : IsMonotoneAlong (λ other. cmp_standings other ending) (live_entries ending.edge.x1 stored)
+  pub end_requires : IsMonotoneAlong (cmp_to_ending ending) (live_entries ending.edge.x1 stored)
   end_requires =
       let (front, back, cut) = cut_around swept.line (ending, tt) in_line in
       monotone front back cut
@@ -189,7 +189,7 @@ module _ (edges : List Edge) (points : List Point) (events : List Event) (schedu
       IsCrossing-among edges (live_entries ending.edge.x1 stored) (live_are edges points events schedule k event inside is stored answers swept ending.edge.x1 here) i j among
 
   -- where the two beside it don't cross, it is served
-  pub Swept-ended : (after : List Entry) (found : Option Entry × Option Entry) → AreNeighbours (λ other. cmp_standings other ending) (live_entries ending.edge.x1 stored) found → NotCross found.0 found.1
+  pub Swept-ended : (after : List Entry) (found : Option Entry × Option Entry) → AreNeighbours (cmp_to_ending ending) (live_entries ending.edge.x1 stored) found → NotCross found.0 found.1
       → Without (IsExpiredAt ending.edge.x1) stored after → Swept edges points (take (k + 1) events) after answers
   Swept-ended after found are apart kept =
       let (front, back, cut) = cut_around swept.line (ending, tt) in_line in

@@ -18,7 +18,7 @@ use Rattle.plane.specs.Locate.Happenings.{IsPlaceFor, HasItem, IsHappeningOf, Ha
 use Rattle.plane.specs.Locate.Heights.{rightwards}
 use Rattle.plane.specs.Locate.Schedule.{IsSchedule, StandsAt}
 use Rattle.plane.specs.Locate.Serving.{HaveCrossing, IsPlaceUnder, JoinsAt}
-use Rattle.plane.specs.Locate.Standings.{Entry, cmp_standings, cmp_to_point, live_entries, IsExpiredAt, NotCross}
+use Rattle.plane.specs.Locate.Standings.{Entry, cmp_standings, cmp_to_ending, cmp_to_point, live_entries, IsExpiredAt, NotCross}
 use Rattle.plane.proofs.LocateLemmas.Answering.{point_requires, Swept-answered}
 use Rattle.plane.proofs.LocateLemmas.Beginning.{begin_requires, begin_is_new, begin_onwards, begin_live_onwards, begin_crossing, Swept-begun}
 use Rattle.plane.proofs.LocateLemmas.Done.{ends_inside, begins_inside, point_inside}
@@ -73,7 +73,7 @@ module _ (edges : List Edge) (points : List Point) (events : List Event) (schedu
   of_edge standing edge stands same = same ∙ ap rightwards (sym stands.1)
 
   module _ (standing : Standing) (is : happening ≡ Ends standing) where
-    pub ends_requires : IsMonotoneAlong (λ other. cmp_standings other standing) (live_entries standing.edge.x1 stored)
+    pub ends_requires : IsMonotoneAlong (cmp_to_ending standing) (live_entries standing.edge.x1 stored)
     ends_requires =
         let (ends, (edge, stands, same, place)) = this (Ends standing) is in
         end_requires edges points events schedule k event inside here stored answers swept edge ends standing (of_edge standing edge stands same) place
@@ -93,7 +93,7 @@ module _ (edges : List Edge) (points : List Point) (events : List Event) (schedu
         let (ends, (edge, stands, same, place)) = this (Ends standing) is in
         end_crossing edges points events schedule k event inside here stored answers swept edge ends standing (of_edge standing edge stands same) place
 
-    pub Swept-ends : (after : List Entry) (found : Option Entry × Option Entry) → AreNeighbours (λ other. cmp_standings other standing) (live_entries standing.edge.x1 stored) found → NotCross found.0 found.1
+    pub Swept-ends : (after : List Entry) (found : Option Entry × Option Entry) → AreNeighbours (cmp_to_ending standing) (live_entries standing.edge.x1 stored) found → NotCross found.0 found.1
         → Without (IsExpiredAt standing.edge.x1) stored after → Swept edges points (take (k + 1) events) after answers
     Swept-ends =
         let (ends, (edge, stands, same, place)) = this (Ends standing) is in

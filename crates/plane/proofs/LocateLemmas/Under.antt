@@ -23,13 +23,13 @@ use Rattle.plane.proofs.LocateLemmas.Uncrossed.{lower_of}
 -- ---- heights beside a number
 
 -- an edge that isn't above another is at most as high as what that one isn't above
-upto_below : (one other : Edge) (x y : ℤ) → one.x0 <ℤ one.x1 → other.x0 <ℤ other.x1 → IsUpto one other x → height_by_run other x ≤ℤ (y *ℤ run other) → height_by_run one x ≤ℤ (y *ℤ run one)
+pub upto_below : (one other : Edge) (x y : ℤ) → one.x0 <ℤ one.x1 → other.x0 <ℤ other.x1 → IsUpto one other x → height_by_run other x ≤ℤ (y *ℤ run other) → height_by_run one x ≤ℤ (y *ℤ run one)
 upto_below one other x y some some_too upto low =
     let whole = in_order (height_by_run one x) (height_by_run other x) y (run one) (run other) (pos 1) (some_run one some) (some_run other some_too) (omega (arith, ints)) upto (omega (arith, ints, low)) in
     omega (arith, ints, whole)
 
 -- and one that another isn't above is at least as high as what isn't above that one
-upto_above : (one other : Edge) (x y : ℤ) → one.x0 <ℤ one.x1 → other.x0 <ℤ other.x1 → IsUpto one other x → (y *ℤ run one) ≤ℤ height_by_run one x → (y *ℤ run other) ≤ℤ height_by_run other x
+pub upto_above : (one other : Edge) (x y : ℤ) → one.x0 <ℤ one.x1 → other.x0 <ℤ other.x1 → IsUpto one other x → (y *ℤ run one) ≤ℤ height_by_run one x → (y *ℤ run other) ≤ℤ height_by_run other x
 upto_above one other x y some some_too upto high =
     let whole = in_order y (height_by_run one x) (height_by_run other x) (pos 1) (run one) (run other) (omega (arith, ints)) (some_run one some) (some_run other some_too) (omega (arith, ints, high)) upto in
     omega (arith, ints, whole)

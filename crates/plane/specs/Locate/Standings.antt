@@ -33,6 +33,14 @@ cmp_standings one other =
 abbrev pub cmp_to_point : Point → Standing → Ordering
 cmp_to_point point standing = int_cmp (height_by_run standing.edge point.x) (point.y *ℤ run standing.edge)
 
+-- the point at which an edge ends that goes to the right
+abbrev pub end_of : Standing → Point
+end_of standing = record { x = standing.edge.x1; y = standing.edge.y1 }
+
+-- how another stands to an edge that ends: by its height there, then along the status
+abbrev pub cmp_to_ending : Standing → Standing → Ordering
+cmp_to_ending ending other = then_cmp (cmp_to_point (end_of ending) other) (cmp_standings other ending)
+
 -- what the status stores: standings, with no value
 abbrev pub Entry : Type 0
 Entry = Standing × ⊤

@@ -25,8 +25,8 @@ pub enum Happening {
 
 /// What happens at a run of events, the first of which is at the place `from`.
 ///
-/// Events stand in another order than edges and points, so that most reads of these wait for memory. In a loop that does
-/// nothing else they wait together.
+/// Events stand in another order than edges and points, so that most reads of these wait for memory. In a loop that
+/// does nothing else they wait together.
 #[derive(Drop)]
 pub struct Ahead<A: Allocator> {
     from: usize,

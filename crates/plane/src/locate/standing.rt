@@ -1,9 +1,10 @@
 //! `Standing`: an edge as it stands in the status of the sweep, and the order along it.
 
 ghost use Rattle.std.specs.Prelude.{◌≡◌, ◌-ℤ◌, ◌<ℤ◌, pos};
-ghost use Rattle.plane.specs.Locate.Standings.{cmp_standings};
+ghost use Rattle.plane.specs.Locate.Standings.{cmp_standings, cmp_to_ending, end_of};
 
-use super::heights::{compare_slopes, compare_starts};
+use super::heights::{compare_slopes, compare_starts, compare_to_point};
+use super::point::Point;
 use crate::edge::Edge;
 use i_tree::ExpiredVal;
 use std::cmp::Ordering;
@@ -46,4 +47,28 @@ pub fn compare_standings(one: Standing, other: Standing) -> Ordering
         return begins;
     }
     one.place.cmp(&other.place)
+}
+
+/// How the other stands to an edge that ends, among what is live then: by its height at that end. Where it passes
+/// through the end, as `compare_standings` says. So no guess is made at which of the two began first.
+pub fn compare_to_ending(other: Standing, ending: Standing) -> Ordering
+    requires right { other.edge.x0 <ℤ other.edge.x1 }
+    requires ending_right { ending.edge.x0 <ℤ ending.edge.x1 }
+    ensures { result ≡ cmp_to_ending ending other }
+{
+    let heights = compare_to_point(other.edge, end_of(ending));
+    if heights != Ordering::Equal {
+        return heights;
+    }
+    compare_standings(other, ending)
+}
+
+/// The point at which the edge ends.
+fn end_of(standing: Standing) -> Point
+    ensures { result ≡ end_of standing }
+{
+    Point {
+        x: standing.edge.x1,
+        y: standing.edge.y1,
+    }
 }

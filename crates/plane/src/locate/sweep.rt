@@ -8,7 +8,8 @@ ghost use Rattle.plane.specs.Locate.Answers.{IsPlaceBelow};
 ghost use Rattle.plane.specs.Locate.Crossings.{IsCrossing, NoneCross};
 ghost use Rattle.plane.specs.Locate.Schedule.{IsSchedule};
 ghost use Rattle.plane.specs.Locate.Serving.{AreCrossing, HaveCrossing, IsPlaceUnder, JoinsAt};
-ghost use Rattle.plane.specs.Locate.Standings.{AllRight, Entry, cmp_standings, cmp_to_point, live_entries, IsExpiredAt, NotCross};
+ghost use Rattle.plane.specs.Locate.Standings.{AllRight, Entry, live_entries, IsExpiredAt, NotCross};
+ghost use Rattle.plane.specs.Locate.Standings.{cmp_standings, cmp_to_ending, cmp_to_point};
 
 use super::ahead::{Ahead, Happening};
 use super::crossing::cross;
@@ -16,7 +17,7 @@ use super::events::Event;
 use super::fault::LocateFault;
 use super::heights::compare_to_point;
 use super::point::Point;
-use super::standing::{Standing, compare_standings};
+use super::standing::{Standing, compare_standings, compare_to_ending};
 use crate::edge::Edge;
 use i_tree::status::exp::StatusCollection;
 use std::alloc::Allocator;
@@ -57,13 +58,13 @@ fn end<C: StatusCollection<Standing, i64, ()>>(
     status: &mut C,
     ending: Standing,
 ) -> Result<(), LocateFault>
-    requires monotone { IsMonotoneAlong (λ other. cmp_standings other ending)
+    requires monotone { IsMonotoneAlong (cmp_to_ending ending)
         (live_entries ending.edge.x1 (C.stored status.old)) }
     requires right { ending.edge.x0 <ℤ ending.edge.x1 }
     requires all_right { AllRight (live_entries ending.edge.x1 (C.stored status.old)) }
     ensures ok { OnOk result (
         (found : Option Entry × Option Entry)
-        × AreNeighbours (λ other. cmp_standings other ending) (live_entries ending.edge.x1 (C.stored status.old)) found
+        × AreNeighbours (cmp_to_ending ending) (live_entries ending.edge.x1 (C.stored status.old)) found
         × NotCross found.0 found.1) }
     ensures crossing { (i j : ℕ) → result ≡ Err (LocateFault.Cross i j) →
         HaveCrossing (live_entries ending.edge.x1 (C.stored status.old)) i j }
@@ -72,8 +73,8 @@ fn end<C: StatusCollection<Standing, i64, ()>>(
     let stands = |other: Standing| -> Ordering
         requires right { other.edge.x0 <ℤ other.edge.x1 }
         requires ending_right { ending.edge.x0 <ℤ ending.edge.x1 }
-        ensures { result ≡ cmp_standings other ending }
-    { compare_standings(other, ending) };
+        ensures { result ≡ cmp_to_ending ending other }
+    { compare_to_ending(other, ending) };
     let (below, above) = status.neighbours_by(ending.edge.x1 as i64, stands);
     test(below, above)
 }
