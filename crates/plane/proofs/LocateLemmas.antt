@@ -21,7 +21,6 @@ pub mod Order
 pub mod Rightwards
 pub mod Schedule
 pub mod Serving
-pub mod Sizes
 pub mod Standings
 pub mod Swept
 pub mod Turned

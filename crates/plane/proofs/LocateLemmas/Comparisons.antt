@@ -1,7 +1,7 @@
 -- Comparisons of heights that are worth the same: less a number on both sides, or by a positive factor.
 use Rattle.std.proofs.Common.{◌≡◌, ℤ, pos, ◌+ℤ◌, ◌-ℤ◌, ◌*ℤ◌, ◌≤ℤ◌, ◌<ℤ◌, arith, refl, ap, sym, ◌∙◌}
 use Rattle.std.specs.Cmp.{int_cmp_is, int_cmp_total}
-use Rattle.std.specs.Int.{int_max}
+use Rattle.std.specs.Int.{int_min, int_max}
 use Rattle.std.specs.Ordering.{MatchOrdering, int_cmp, ordering_reverse}
 use Rattle.std.specs.declared.cmp.Ordering.{Ordering}
 use Rattle.std.specs.declared.cmp.Ordering.TheVariants.{Less, Equal, Greater}
@@ -112,3 +112,49 @@ starts-earlier one other point r earlier onwards x_is y_is told =
     ap ordering_reverse (at_point other one point r onwards x_is y_is told)
     ∙ sym (int_cmp_total.antisymm (height_by_runs one other one.x0) (height_by_runs other one one.x0))
     ∙ ap (λ (x : ℤ). int_cmp (height_by_runs one other x) (height_by_runs other one x)) (max_first one.x0 other.x0 earlier)
+
+-- ---- two edges, where one of them ends
+
+height-at_end : (edge other : Edge) → ((edge.y1 *ℤ run other) *ℤ run edge) ≡ height_by_runs edge other edge.x1
+height-at_end edge other =
+    identity (times (times (number edge.y1) (minus (number other.x1) (number other.x0))) (minus (number edge.x1) (number edge.x0)))
+    (times (plus (times (number edge.y0) (minus (number edge.x1) (number edge.x1))) (times (number edge.y1) (minus (number edge.x1) (number edge.x0)))) (minus (number other.x1) (number other.x0)))
+    (omega arith)
+
+-- how the one's height stands to the other's where the other ends, if it goes to the right
+cmp-at_end : (one other : Edge) → other.x0 <ℤ other.x1
+    → int_cmp (height_by_run one other.x1) (other.y1 *ℤ run one) ≡ int_cmp (height_by_runs one other other.x1) (height_by_runs other one other.x1)
+cmp-at_end one other onwards =
+    times_cmp (run other) (height_by_run one other.x1) (other.y1 *ℤ run one) (omega (arith, ints, onwards))
+    ∙ ap (λ (z : ℤ). int_cmp (height_by_runs one other other.x1) z) (height-at_end other one)
+
+-- so it is told by the point at which the other ends
+at_last : (one other : Edge) (point : Point) (r : Ordering) → other.x0 <ℤ other.x1 → point.x ≡ other.x1 → point.y ≡ other.y1
+    → r ≡ int_cmp (height_by_run one point.x) (point.y *ℤ run one) → r ≡ int_cmp (height_by_runs one other other.x1) (height_by_runs other one other.x1)
+at_last one other point r onwards x_is y_is told =
+    told
+    ∙ ap (λ (x : ℤ). int_cmp (height_by_run one x) (point.y *ℤ run one)) x_is
+    ∙ ap (λ (y : ℤ). int_cmp (height_by_run one other.x1) (y *ℤ run one)) y_is
+    ∙ cmp-at_end one other onwards
+
+min_second : (a b : ℤ) → b <ℤ a → b ≡ int_min a b
+min_second a b below = omega (arith, ints, clamps, below)
+
+min_first : (a b : ℤ) → a ≤ℤ b → a ≡ int_min a b
+min_first a b upto = omega (arith, ints, clamps, upto)
+
+-- how the heights of two edges stand to each other at the last x that both span: the end of the one that ends first tells
+pub ends-earlier : (one other : Edge) (point : Point) (r : Ordering) → other.x1 <ℤ one.x1 → other.x0 <ℤ other.x1 → point.x ≡ other.x1 → point.y ≡ other.y1
+    → r ≡ int_cmp (height_by_run one point.x) (point.y *ℤ run one)
+    → r ≡ int_cmp (height_by_runs one other (int_min one.x1 other.x1)) (height_by_runs other one (int_min one.x1 other.x1))
+ends-earlier one other point r later onwards x_is y_is told =
+    at_last one other point r onwards x_is y_is told
+    ∙ ap (λ (x : ℤ). int_cmp (height_by_runs one other x) (height_by_runs other one x)) (min_second one.x1 other.x1 later)
+
+pub ends-later : (one other : Edge) (point : Point) (r : Ordering) → one.x1 ≤ℤ other.x1 → one.x0 <ℤ one.x1 → point.x ≡ one.x1 → point.y ≡ one.y1
+    → r ≡ int_cmp (height_by_run other point.x) (point.y *ℤ run other)
+    → ordering_reverse r ≡ int_cmp (height_by_runs one other (int_min one.x1 other.x1)) (height_by_runs other one (int_min one.x1 other.x1))
+ends-later one other point r earlier onwards x_is y_is told =
+    ap ordering_reverse (at_last other one point r onwards x_is y_is told)
+    ∙ sym (int_cmp_total.antisymm (height_by_runs one other one.x1) (height_by_runs other one one.x1))
+    ∙ ap (λ (x : ℤ). int_cmp (height_by_runs one other x) (height_by_runs other one x)) (min_first one.x1 other.x1 earlier)

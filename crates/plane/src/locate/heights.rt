@@ -1,7 +1,7 @@
 //! Heights of edges at an x, compared in whole numbers.
 
 ghost use Rattle.std.specs.Prelude.{◌≡◌, ◌≤◌, ◌^◌, ◌-ℤ◌, ◌*ℤ◌, ◌<ℤ◌};
-ghost use Rattle.std.specs.Int.{int_max};
+ghost use Rattle.std.specs.Int.{int_max, int_min};
 ghost use Rattle.std.specs.Int.RustNames.{unsigned_abs};
 ghost use Rattle.std.specs.Ordering.{int_cmp};
 ghost use Rattle.plane.specs.Locate.Heights.{rightwards, run, height_by_runs, rise_by_run};
@@ -24,41 +24,6 @@ pub fn turn_rightwards(edge: Edge) -> Edge
         };
     }
     edge
-}
-
-/// The height, times the way from the one x to the other.
-fn part(height: i32, start: i32, end: i32) -> i128
-    ensures value { result ≡ height *ℤ (end -ℤ start) }
-    ensures size { unsigned_abs result ≤ 2 ^ 63 }
-{
-    let way = end as i128 - start as i128;
-    height as i128 * way
-}
-
-/// The edge's height at x, times its run.
-fn height_by_run(edge: Edge, x: i32) -> i128
-    ensures value { result ≡ height_of edge x }
-    ensures size { unsigned_abs result ≤ 2 ^ 64 }
-{
-    part(edge.y0, x, edge.x1) + part(edge.y1, edge.x0, x)
-}
-
-/// A height at an x of the one edge, times its run and the other's.
-fn times_run(height: i128, edge: Edge) -> i128
-    requires { unsigned_abs height ≤ 2 ^ 64 }
-    ensures { result ≡ height *ℤ run edge }
-{
-    let run = edge.x1 as i128 - edge.x0 as i128;
-    height * run
-}
-
-/// How the one's height at x stands to the other's, where both go to the right.
-pub fn compare_heights(one: Edge, other: Edge, x: i32) -> Ordering
-    ensures { result ≡ int_cmp (height_by_runs one other x) (height_by_runs other one x) }
-{
-    let height = times_run(height_by_run(one, x), other);
-    let other_height = times_run(height_by_run(other, x), one);
-    height.cmp(&other_height)
 }
 
 /// How the edge's height at the point's x stands to the point's, where the edge goes to the right: by how far both are
@@ -85,6 +50,20 @@ pub fn compare_starts(one: Edge, other: Edge) -> Ordering
     compare_to_point(other, start_of(one)).reverse()
 }
 
+/// How the one's height stands to the other's at the last x that both span. There the one that ends first ends, so that
+/// the point at which it does tells.
+pub fn compare_ends(one: Edge, other: Edge) -> Ordering
+    requires right { one.x0 <ℤ one.x1 }
+    requires other_right { other.x0 <ℤ other.x1 }
+    ensures { let end = int_min one.x1 other.x1 in
+        result ≡ int_cmp (height_by_runs one other end) (height_by_runs other one end) }
+{
+    if other.x1 < one.x1 {
+        return compare_to_point(one, end_of(other));
+    }
+    compare_to_point(other, end_of(one)).reverse()
+}
+
 /// The point at which the edge begins.
 fn start_of(edge: Edge) -> Point
     ensures x { result.x ≡ edge.x0 }
@@ -93,6 +72,17 @@ fn start_of(edge: Edge) -> Point
     Point {
         x: edge.x0,
         y: edge.y0,
+    }
+}
+
+/// The point at which the edge ends.
+fn end_of(edge: Edge) -> Point
+    ensures x { result.x ≡ edge.x1 }
+    ensures y { result.y ≡ edge.y1 }
+{
+    Point {
+        x: edge.x1,
+        y: edge.y1,
     }
 }
 
