@@ -9,8 +9,9 @@ usage: docs/check.py
   a ghost member there, or of a field of a record that the row names.
 - In the tables of docs/DEFINITIONS.md, each name of a definition is one of specs/, in its module where it names one; and each
   clause is some function's.
-- Each name in code font in docs/CORE_PROOF.md that is one word is a definition's, a lemma's, a field's or a function's of crates/i_tree.
-- The pictures are what docs/pictures/draw.py draws, and the tables of files of docs/MAP.md what docs/map.py writes.
+- What a document names in code font is there: paths, definitions, clauses, and the other names of the sources (docs/names.py says
+  how they are told), and so are the files that its links lead to.
+- The pictures are what docs/pictures/draw.py draws, and each file that docs/map.py lists begins with what it holds.
 
 The last line is 'N passed, M failed'.
 """
@@ -20,6 +21,10 @@ import os
 import re
 import subprocess
 import sys
+
+sys.dont_write_bytecode = True
+
+import names
 
 TOP = os.path.normpath(os.path.join(os.path.dirname(os.path.abspath(__file__)), ".."))
 
@@ -51,7 +56,6 @@ FUNCTION = re.compile(r"\bfn (\w+)")
 CLAUSE = re.compile(r"^\s*(?:ensures|requires)\*? (\w+) \{", re.M)
 CONSTANT = re.compile(r"^pub const (\w+):", re.M)
 GHOST = re.compile(r"^\s*ghost (\w+) =", re.M)
-LEMMA = re.compile(r"^\s*(?:abbrev )?(?:pub )?(?:abbrev )?(?:record |data )?([^\s:({]+) ?[:({]", re.M)
 DEFINITION = re.compile(r"^\s*(?:abbrev |unfoldable )?pub (?:abbrev |record |data )?([^\s:({]+)", re.M)
 CRATES = {os.path.basename(path) for path in glob.glob(os.path.join(TOP, "crates", "*"))}
 FIELD = re.compile(r"^\s*pub (\w+) :", re.M)
@@ -178,14 +182,6 @@ def promise_failures():
             yield None if name in known or name in CRATES else f"docs/DEFINITIONS.md: no function has a clause {name}"
 
 
-def core_failures():
-    lemmas = {name for path in files("crates/i_tree/proofs/*Lemmas/**/*.antt") for name in LEMMA.findall(text_of(path))}
-    sources = "\n".join(text_of(path) for path in files("crates/i_tree/src/**/*.rt"))
-    known = lemmas.union(FUNCTION.findall(sources), re.findall(r"\b(?:struct|enum) (\w+)", sources), *definitions().values())
-    for name in re.findall(r"`([A-Za-z][\w-]*)`", text_of("docs/CORE_PROOF.md")):
-        yield None if name in known else f"docs/CORE_PROOF.md: nothing is named {name}"
-
-
 def written_failures():
     for script in "docs/pictures/draw.py", "docs/map.py":
         ran = subprocess.run([sys.executable, os.path.join(TOP, script), "--check"], capture_output=True, text=True)
@@ -193,7 +189,9 @@ def written_failures():
 
 
 def main():
-    found = [*quoted_failures(), *clause_failures(), *definition_failures(), *promise_failures(), *core_failures(), *written_failures()]
+    documents = ["README.md", "CONTRIBUTING.md", *files("docs/*.md")]
+    checks = quoted_failures(), clause_failures(), definition_failures(), promise_failures(), names.failures(documents), written_failures()
+    found = [failure for check in checks for failure in check]
     failed = [failure for failure in found if failure]
     for failure in failed:
         print(f"FAILED {failure}")

@@ -1,12 +1,11 @@
 #!/usr/bin/env python3
-"""Writes the tables of files of docs/MAP.md, each row from the first sentence of its file.
+"""Prints the files of the crates, each with what it holds: the first sentence of the comment that it begins with.
 
-usage: docs/map.py            writes the tables
-       docs/map.py --check    compares them with what it would write; the status is 1 where they differ
+usage: docs/map.py [CRATE ..]    of all crates, or of these
+       docs/map.py --check       prints nothing but files that begin with no such comment; the status is 1 where there are some
 
-A table stands between the lines '<!-- files of crates/NAME -->' and '<!-- end -->'. It has the crate's sources, its definitions
-(specs/) and its lemmas (proofs/). The answers to the prover's questions, which stand in proofs/ by function, are left out, and so
-are files that only name others.
+A crate has sources (src/), definitions (specs/) and lemmas (proofs/). The answers to the prover's questions, which stand in
+proofs/ by function, are left out, and so are files that only name others.
 """
 
 import os
@@ -15,21 +14,23 @@ import subprocess
 import sys
 
 TOP = os.path.normpath(os.path.join(os.path.dirname(os.path.abspath(__file__)), ".."))
-MAP = os.path.join(TOP, "docs", "MAP.md")
-TABLE = re.compile(r"(<!-- files of (crates/\w+) -->\n).*?(?=<!-- end -->)", re.S)
-GROUPS = (("Sources", "src", ".rt"), ("Definitions", "specs", ".antt"), ("Lemmas", "proofs", ".antt"))
+GROUPS = (("src", ".rt"), ("specs", ".antt"), ("proofs", ".antt"))
 COMMENT = re.compile(r"^(?://!|//|--) ?")
 ONE_FUNCTION = ("Answers.antt", "Invariants.antt", "Proof.antt")
-
-
-def files_of(folder, ending):
-    listed = subprocess.run(["git", "ls-files", "-c", "-o", "--exclude-standard", folder], cwd=TOP, capture_output=True, text=True, check=True)
-    return sorted({path for path in listed.stdout.splitlines() if path.endswith(ending) and os.path.exists(os.path.join(TOP, path))})
 
 
 def text_of(path):
     with open(os.path.join(TOP, path), encoding="utf-8") as file:
         return file.read()
+
+
+def crates():
+    return re.findall(r"^(\w+)\b.*:", text_of("crates.txt"), re.M)
+
+
+def files_of(folder, ending):
+    listed = subprocess.run(["git", "ls-files", "-c", "-o", "--exclude-standard", folder], cwd=TOP, capture_output=True, text=True, check=True)
+    return sorted({path for path in listed.stdout.splitlines() if path.endswith(ending) and os.path.exists(os.path.join(TOP, path))})
 
 
 def first_sentence(text):
@@ -54,37 +55,29 @@ def is_of_one_function(path):
     return "/proofs/" in path and os.path.basename(path) in ONE_FUNCTION
 
 
-def rows(crate, folder, ending):
-    for path in files_of(f"{crate}/{folder}", ending):
-        text = text_of(path)
-        if is_of_one_function(path) or (ending == ".antt" and only_names_others(text)):
-            continue
-        told = first_sentence(text)
-        if not told:
-            sys.exit(f"{path} begins with no comment that says what it holds")
-        yield f"| `{path.removeprefix(crate + '/')}` | {told.replace('|', chr(92) + '|')} |\n"
+def listed(crate):
+    """The files of a crate, each with what it holds."""
+    for folder, ending in GROUPS:
+        for path in files_of(f"crates/{crate}/{folder}", ending):
+            text = text_of(path)
+            if not is_of_one_function(path) and not (ending == ".antt" and only_names_others(text)):
+                yield path, first_sentence(text)
 
 
-def table(crate):
-    told = ""
-    for name, folder, ending in GROUPS:
-        found = list(rows(crate, folder, ending))
-        if found:
-            told += f"\n| {name} | |\n| --- | --- |\n" + "".join(found)
-    return told + "\n"
-
-
-def main():
-    with open(MAP, encoding="utf-8") as file:
-        before = file.read()
-    after = TABLE.sub(lambda found: found.group(1) + table(found.group(2)), before)
-    if sys.argv[1:] == ["--check"]:
-        if after != before:
-            print("docs/MAP.md: its tables aren't what docs/map.py writes")
-        sys.exit(after != before)
-    with open(MAP, "w", encoding="utf-8") as file:
-        file.write(after)
+def main(words):
+    wanted = crates() if words in ([], ["--check"]) else words
+    if not set(wanted) <= set(crates()):
+        sys.exit(f"usage: docs/map.py [CRATE ..], of {', '.join(crates())}")
+    rows = [row for crate in wanted for row in listed(crate)]
+    untold = [path for path, told in rows if not told]
+    if words == ["--check"]:
+        for path in untold:
+            print(f"{path} begins with no comment that says what it holds")
+        return 1 if untold else 0
+    for path, told in rows:
+        print(f"{path}: {told}")
+    return 0
 
 
 if __name__ == "__main__":
-    main()
+    sys.exit(main(sys.argv[1:]))

@@ -1,0 +1,194 @@
+"""What the documents name in code font: paths of the repository, definitions by their modules, and names of the sources.
+
+- A word with a slash or an ending of a file is a path that git tracks, whole or from one of its folders on. One that begins in
+  a crate (`src/`, `specs/`, `proofs/`, `must-fail/`) lies in i_tree, or in a crate that its passage or its heading names. A part in
+  capitals stands for any.
+- A word with dots is a definition of specs/, or a lemma of proofs/, by its module or the end of that; or such a module.
+- Any other word is a name that some source of the libraries or of the program defines, or stands in `OTHERS` below.
+- In 'X of Y', and in 'X in Y' where Y is a file, X is defined in the file Y, at the function Y, or where Y is.
+"""
+
+import functools
+import os
+import re
+import subprocess
+
+TOP = os.path.normpath(os.path.join(os.path.dirname(os.path.abspath(__file__)), ".."))
+
+# Names that no source here defines.
+OTHERS = {
+    # std, and the language
+    *"AllocError AllocFailed BTreeMap BTreeSet Box Cell Clone Copy Default Display Drop Equal Error ExactSizeIterator".split(),
+    *"Iterator Option Ord Result Stdout Vec bool clone cmp copy_within drop dyn ensures flush for i16 i32 i64 i8 if impl inline".split(),
+    *"int_cmp isize nat_cmp no_std partition_point pos push requires retain std u16 u32 u64 u8 unsafe usize".split(),
+    # other tools, libraries and languages
+    *"ITREE_BUILT ITREE_LIBRARY MemoryError anyhow ar cc free malloc memmove memset proves realloc thiserror".split(),
+    *"rattle_alloc rattle_dealloc rattle_realloc".split(),
+}
+
+# Paths that a build makes, or that lie in the toolchain.
+BUILT = {"bindings/built", "bindings/built/libitree.a", "crates/itree/out/itree", "libitree.so", "liblibc_c.a", "out"}
+
+ENDINGS = "antt c cpp edit h hpp lines md py replies rs rt sh svg toml txt".split()
+LINK = re.compile(r"\]\((?!https?:)([^)#]+)")
+CODE = re.compile(r"`([^`\n]+)`")
+PATH = re.compile(rf"[\w.-]*/[\w./-]*|[\w-]+\.(?:{'|'.join(ENDINGS)})")
+PLACEHOLDER = re.compile("NAME|FUNCTION|EDIT")
+IN_CRATE = re.compile(r"(?:src|specs|proofs|must-fail)/")
+DOTTED = re.compile(r"[A-Z]\w*(?:\.[A-Za-z][\w-]*)+")
+NAME = re.compile(r"[A-Za-z_][\w-]*(?:::\w+)*")
+LISTED = r"`[^`]+`(?:,? (?:and )?`[^`]+`)*"
+BELONGS = re.compile(rf"({LISTED}) (of|in) ({LISTED})")
+
+ITEM = re.compile(r"\b(?:fn|struct|enum|trait|mod|const|static|type|class|namespace|ghost|law)\s+(\w+)")
+FIELD_OR_VARIANT = re.compile(r"^\s*(?:pub(?:\(\w+\))? )?(\w+): |^ {4}([A-Z]\w*)(?:[,({ ]|$)", re.M)
+LITERAL = re.compile(r'b?"(-{0,2}\w+)"')
+CLAUSE = re.compile(r"^\s*(?:ensures|requires)\*? (\w+) \{", re.M)
+FUNCTION = re.compile(r"\bfn (\w+)")
+TYPE = re.compile(r"\b(?:struct|enum|trait|mod) (\w+)|^impl\b.*?\b(\w+)(?:<[^{]*)? \{$", re.M)
+GHOST = re.compile(r"^\s*ghost (\w+)\b(.*)", re.M)
+LEMMA = re.compile(r"^\s*(?:abbrev |unfoldable )*(?:pub )?(?:abbrev |unfoldable |record |data )*([^\s:({]+) ?[:({]", re.M)
+FIELD = re.compile(r"^\s*pub (\w+) :", re.M)
+RECORD = re.compile(r"^\s*pub record (\w+)", re.M)
+
+
+def text_of(path):
+    with open(os.path.join(TOP, path), encoding="utf-8") as file:
+        return file.read()
+
+
+def tracked():
+    listed = subprocess.run(["git", "ls-files", "-c", "-o", "--exclude-standard"], cwd=TOP, capture_output=True, text=True, check=True)
+    return [path for path in listed.stdout.splitlines() if os.path.exists(os.path.join(TOP, path))]
+
+
+def with_folders(paths):
+    return {path[:end] for path in paths for end in [*(at.start() for at in re.finditer("/", path)), len(path)]}
+
+
+def parts_by(pattern, text):
+    """The parts of a text that begin where the pattern is found, each with the name there."""
+    starts = [(found.start(), found.group(1)) for found in pattern.finditer(text)]
+    for (start, name), (end, _) in zip(starts, [*starts[1:], (len(text), None)]):
+        yield name, text[start:end]
+
+
+class Sources:
+    """What the sources of the libraries and of the program define, and where."""
+
+    def __init__(self):
+        self.paths = tracked()
+        self.places = with_folders(self.paths)
+        self.crates = {path.split("/")[1] for path in self.paths if path.startswith("crates/")}
+        sources = [path for path in self.paths if re.match(r"crates/\w+/(src|specs|proofs)/.*\.(rt|antt)$", path)]
+        self.texts = {path: text_of(path) for path in sources if "_tests/" not in path}
+        self.names = {path: self.defined_in(path) for path in self.texts}
+        self.modules = {}
+        for path, names in self.names.items():
+            if path.endswith(".antt"):
+                module = re.sub(r"^.*?/(?:specs|proofs)/|\.antt$", "", path).replace("/", ".")
+                self.modules.setdefault(module, set()).update(names)
+        self.functions, self.types = {}, {}
+        self.fields = {}
+        for path in self.texts:
+            for name, part in parts_by(RECORD, self.texts[path]):
+                self.fields.setdefault(name, set()).update(FIELD.findall(part))
+        for path in filter(lambda path: path.endswith(".rt"), self.texts):
+            self.add_contracts(path)
+        stems = {part.partition(".")[0] for place in self.places for part in place.split("/")}
+        words = {word for path, text in self.texts.items() if path.startswith("crates/itree/src/") for word in LITERAL.findall(text)}
+        wrappers = {name for path in self.paths if path.startswith("bindings/") for name in ITEM.findall(text_of(path))}
+        self.all = set().union(stems, words, wrappers, *self.names.values())
+
+    def defined_in(self, path):
+        """The names that a source defines: of a .rt file also those of its clauses, fields and variants."""
+        text = self.texts[path]
+        if path.endswith(".antt"):
+            return set(LEMMA.findall(text))
+        members = {name for names in FIELD_OR_VARIANT.findall(text) for name in names if name}
+        return {*members, *ITEM.findall(text), *CLAUSE.findall(text)}
+
+    def is_place(self, word, crates):
+        """Whether a path of git ends in the word, which lies in one of the crates where it begins in a crate."""
+        inside = f"crates/(?:{'|'.join(crates)})/" if IN_CRATE.match(word) else "(?:.*/)?"
+        tail = re.compile(inside + PLACEHOLDER.sub(".*", re.escape(word)) + "$")
+        return any(tail.match(place) for place in self.places)
+
+    def is_definition(self, name):
+        module, _, last = name.rpartition(".")
+        ends = [known for known in self.modules if f".{known}".endswith(f".{module}")]
+        return any(last in self.modules[known] for known in ends) or any(f".{known}".endswith(f".{name}") for known in self.modules)
+
+    def fields_named(self, text):
+        """The fields of the records that a text names."""
+        return set().union(*(self.fields.get(word, ()) for word in re.findall(r"[A-Z]\w+", text)))
+
+    def add_contracts(self, path):
+        """Adds what belongs to a file's functions: clauses, fields of the records there, ghost members; and to its types."""
+        text = self.texts[path]
+        ghosts = GHOST.findall(text)
+        members = {name for name, _ in ghosts} | self.fields_named(" ".join(said for _, said in ghosts))
+        for name, part in parts_by(FUNCTION, text):
+            self.functions.setdefault(name, {name}).update(members, CLAUSE.findall(part), self.fields_named(part))
+        for name in {name for names in TYPE.findall(text) for name in names if name}:
+            self.types.setdefault(name, set()).update(members, self.names[path])
+
+    @functools.cache
+    def at(self, owner):
+        """The names that belong to a file, a function, a type or a definition."""
+        if PATH.fullmatch(owner):
+            return set().union(*(names for path, names in self.names.items() if f"/{path}".endswith(f"/{owner}")))
+        last = re.split(r"::|\.", owner)[-1]
+        beside = (names for path, names in self.names.items() if path.endswith(".antt") and last in names)
+        return set().union(self.functions.get(last, ()), self.types.get(last, ()), *beside)
+
+
+def passages_of(document):
+    """The paragraphs, list items and rows of a document outside its blocks of code, each with the heading above it."""
+    text = re.sub(r"^```.*?^```$", "", text_of(document), flags=re.M | re.S)
+    heading = ""
+    for passage in re.split(r"\n\n+|\n(?=[|#]|- )", text):
+        if passage.startswith("#"):
+            heading = passage
+        yield heading, " ".join(passage.split())
+
+
+def words_of(code):
+    """The words of a piece of code that may be checked: itself, or the paths among several words."""
+    words = [word.strip("(),;").removeprefix("-I").removeprefix("./").removesuffix("/") for word in code.split()]
+    return words if len(words) == 1 else [word for word in words if re.fullmatch(r"[a-z_]+/[\w./-]+", word)]
+
+
+def is_known(word, crates, sources):
+    if PATH.fullmatch(word):
+        return word in BUILT or sources.is_place(word, crates)
+    if DOTTED.fullmatch(word):
+        return sources.is_definition(word)
+    if NAME.fullmatch(word):
+        return word.split("::")[0] in OTHERS or all(part in sources.all for part in word.split("::"))
+    return True
+
+
+def strangers(passage, sources):
+    """The names of 'X of Y' that don't belong there."""
+    for names, word, owners in BELONGS.findall(passage):
+        owners = [owner for owner in CODE.findall(owners) if word == "of" or PATH.fullmatch(owner)]
+        known = [sources.at(owner) for owner in owners]
+        for name in CODE.findall(names) if any(known) else []:
+            if NAME.fullmatch(name) and name not in OTHERS and not any(name.rpartition("::")[2] in at for at in known):
+                yield f"{name} is not at {', '.join(owners)}"
+
+
+def failures(documents):
+    """What is named in documents and isn't there; None for each name that is."""
+    sources = Sources()
+    for document in documents:
+        for heading, passage in passages_of(document):
+            crates = {"i_tree"} | {word for word in re.findall(r"\w+", heading + passage) if word in sources.crates}
+            for code in CODE.findall(passage):
+                for word in words_of(code):
+                    yield None if is_known(word, crates, sources) else f"{document}: there is no {word}"
+            yield from (f"{document}: {stranger}" for stranger in strangers(passage, sources))
+            for link in LINK.findall(passage):
+                place = os.path.normpath(os.path.join(os.path.dirname(document), link))
+                yield None if place in sources.places else f"{document}: a link leads to {link}, which isn't there"
