@@ -71,26 +71,29 @@ def titled(x, y, width, height, name, said, fill=PALE):
 
 def layers():
     parts = [
-        *titled(20, 15, 215, 50, "itree", "the program: lines in, replies out"),
-        *titled(252, 15, 215, 50, "uses", "small programs over the library"),
-        *titled(485, 15, 215, 50, "itree_c", "calls from other languages"),
-        *titled(20, 80, 447, 50, "itree_lib", "runs of commands; what lies below each point of a sweep"),
-        *titled(485, 80, 215, 50, "plane", "which edges meet, exactly"),
-        box(20, 145, 680, 170, PAPER),
-        text(30, 163, "i_tree", 14, "start", weight="bold"),
-        *titled(35, 172, 152, 60, "key", "keys that expire", "#e8f0fa"),
-        *titled(201, 172, 152, 60, "status", "what is along a line", "#e8f0fa"),
-        *titled(367, 172, 152, 60, "set", "ordered sets", "#e8f0fa"),
-        *titled(533, 172, 152, 60, "seg", "segments that expire", "#e8f0fa"),
-        text(111, 226, "list and tree", 12, fill=SOFT),
-        text(277, 226, "list and tree", 12, fill=SOFT),
-        text(443, 226, "list and tree", 12, fill=SOFT),
-        text(609, 226, "a heap of buckets", 12, fill=SOFT),
-        *titled(35, 248, 484, 50, "rb", "the red-black core, which each kind of tree stands on", "#e8f0fa"),
-        *titled(533, 248, 152, 50, "steps", "what a call counts by", "#e8f0fa"),
-        *titled(20, 330, 680, 45, "std", "nothing else", PAPER),
+        box(20, 12, 680, 84, PAPER),
+        *titled(35, 22, 206, 46, "itree", "the program: lines and replies"),
+        *titled(257, 22, 206, 46, "uses", "small programs to copy"),
+        *titled(479, 22, 206, 46, "itree_c", "calls from other languages"),
+        text(360, 87, "each of these three uses both crates below, and i_tree", 12, fill=SOFT),
+        *titled(20, 108, 332, 50, "itree_lib", "runs of commands; a sweep over segments"),
+        *titled(368, 108, 332, 50, "plane", "edges that meet; the edge below a point"),
+        box(20, 170, 680, 208, PAPER),
+        text(30, 188, "i_tree", 14, "start", weight="bold"),
+        *titled(35, 196, 152, 60, "key", "keys that expire", "#e8f0fa"),
+        *titled(201, 196, 152, 60, "status", "what is along a line", "#e8f0fa"),
+        *titled(367, 196, 152, 112, "set", "ordered sets", "#e8f0fa"),
+        *titled(533, 196, 152, 112, "seg", "segments that expire", "#e8f0fa"),
+        text(111, 250, "list and tree", 12, fill=SOFT),
+        text(277, 250, "list and tree", 12, fill=SOFT),
+        text(443, 250, "list and tree", 12, fill=SOFT),
+        text(609, 250, "a heap of buckets", 12, fill=SOFT),
+        *titled(35, 263, 318, 45, "expiring", "what keys and statuses share", "#e8f0fa"),
+        *titled(35, 315, 484, 50, "rb", "the red-black core of the key, status and set trees", "#e8f0fa"),
+        *titled(533, 315, 152, 50, "steps", "what a call counts by", "#e8f0fa"),
+        *titled(20, 390, 680, 45, "std", "i_tree, itree_lib and plane use nothing else", PAPER),
     ]
-    return picture("The crates and their layers, each on the one below", 720, 390, parts)
+    return picture("The crates, each on those below that it uses", 720, 450, parts)
 
 
 # A red-black tree.
@@ -140,7 +143,7 @@ def slots():
             f'<path d="M{x0 - 8} 242C{x0 - 14} {246 + lift} {x1 + 14} {246 + lift} {x1 + 8} 242" fill="none" '
             f'stroke="{SOFT}" stroke-width="1.5" marker-end="url(#head)"/>'
         )
-    parts.append(text(488, 262, "the first free slot", 12, "start", SOFT))
+    parts += [line(540, 262, 496, 243, arrow=True), text(544, 268, "the first free slot", 12, "start", SOFT)]
     parts.append(text(30, 290, "A handle is a slot's number. A free slot holds the number of the next one; slot 0 is never used.", 13, "start"))
     return picture("A tree of three keys in eight slots, and the chain of the free ones", 720, 305, parts)
 
@@ -169,8 +172,11 @@ def descent():
         *frame(251, ["3 goes, and the tree is mended.", "The right child of 2 is read again."], second, [(2, 1), (2, 4)], []),
         *frame(482, ["4 is live and below 9: go right.", "Nothing is there: 4 is the answer."], third, [(2, 1)], [(2, 4)]),
         text(360, 240, "2 comparisons, 1 removal, 3 tests whether a key is live; over four keys the bound is 4 comparisons.", 13),
+        line(92, 260, 122, 260, BLUE, 4),
+        text(130, 264, "the link that the step went down", 13, "start"),
+        text(380, 264, "A red root is no mistake: its colour is free.", 13, "start"),
     ]
-    return picture("A search below 9 that removes the expired key 3 on its way", 720, 255, parts)
+    return picture("A search below 9 that removes the expired key 3 on its way", 720, 280, parts)
 
 
 # Buckets and canonical nodes.
@@ -199,6 +205,7 @@ def buckets():
     chosen = canonical(1, 30)
     left, unit = 24, 21
     parts = [text(left, 20, "a segment over the buckets 1 to 30", 13, "start", BLUE)]
+    parts.append(text(left + unit * 32, 20, "in the boxes: nodes; below them: buckets", 13, "end", SOFT))
     parts.append(line(left + unit * 1 + 2, 32, left + unit * 31 - 2, 32, BLUE, 5))
     for number in range(63):
         first, last = covered(number)
@@ -240,17 +247,17 @@ def at(x, y):
 def axes():
     (left, floor), (right, _), (_, top) = at(0, 0), at(11.5, 0), at(0, 10)
     parts = [line(left, floor, right, floor, INK, 1), line(left, floor, left, top, INK, 1)]
+    parts += [text(right + 12, floor + 4, "x", 13), text(left, top - 10, "y", 13)]
     parts += [text(at(x, 0)[0], floor + 18, str(x), 12, fill=SOFT) for x in range(0, 12)]
     return parts + [text(left - 12, at(0, y)[1] + 4, str(y), 12, "end", SOFT) for y in range(0, 10)]
 
 
-def asked(x, y, height, reply, on_left):
-    """A point, the way down from it to a height, and its reply."""
+def asked(x, y, height, reply, lift):
+    """A point, the way down from it to a height, and its reply on the left, lifted by so much."""
     (at_x, at_y), (_, below) = at(x, y), at(x, height)
     ink = SOFT if reply == "none" else GREEN
-    side, anchor = (-9, "end") if on_left else (9, "start")
     way = line(at_x, at_y, at_x, below, ink, 1.5, dashed=True)
-    return [way, dot(at_x, at_y, 5, ink), text(at_x + side, at_y - 5, reply, 12, anchor, ink)]
+    return [way, dot(at_x, at_y, 5, ink), text(at_x - 9, at_y + 4 - lift, reply, 12, "end", ink)]
 
 
 def sweep():
@@ -262,28 +269,41 @@ def sweep():
         parts += [dot(from_x, at_y, 4, BLUE), dot(to_x, at_y, 4, BLUE)]
     for (x, y), reply in asks:
         height = 0 if reply == "none" else int(reply.split()[1])
-        # Beside a point one to the right, whose line goes down there, the reply stands on the left.
-        parts += asked(x, y, height, reply, any(there == x + 1 and top >= y for (there, top), _ in asks))
+        parts += asked(x, y, height, reply, 9)
     return picture("Three segments, and what lies straight below each of six points", 720, 320, parts)
+
+
+def hole(x, y):
+    """An end that its edge doesn't cover."""
+    return f'<circle cx="{x}" cy="{y}" r="6" fill="{PAPER}" stroke="{BLUE}" stroke-width="2"/>'
+
+
+def way_of(point, reply, by_line):
+    """A point among edges, with its reply and the way down to the edge of that line, or to the floor."""
+    x, y = point
+    height = 0
+    if reply != "none":
+        x0, y0, x1, y1 = by_line[reply.split()[1]]
+        height = y0 + (y1 - y0) * (x - x0) / (x1 - x0)
+    return asked(x, y, height, reply, 0)
 
 
 def locate():
     edges, asks = scene("locate", "edge")
     by_line = {str(number): numbers for numbers, number in edges}
-    parts = axes()
+    parts, holes, ends = axes(), [], []
     for (x0, y0, x1, y1), number in edges:
-        (from_x, from_y), (to_x, to_y) = at(x0, y0), at(x1, y1)
+        (from_x, from_y), (to_x, to_y) = sorted([at(x0, y0), at(x1, y1)])
         parts.append(line(from_x, from_y, to_x, to_y, BLUE, 4))
-        parts += [dot(from_x, from_y, 4, BLUE), dot(to_x, to_y, 4, BLUE)]
-        name_x, name_y = (from_x + to_x) // 2, (from_y + to_y) // 2
-        parts.append(text(name_x, name_y + 20, str(number), 13, fill=BLUE, weight="bold"))
-    for (x, y), reply in asks:
-        height = 0
-        if reply != "none":
-            x0, y0, x1, y1 = by_line[reply.split()[1]]
-            height = y0 + (y1 - y0) * (x - x0) / (x1 - x0)
-        parts += asked(x, y, height, reply, False)
-    return picture("Four sloped edges, and which of them lies straight below each of six points", 720, 320, parts)
+        ends.append(dot(from_x, from_y, 4, BLUE))
+        holes.append(hole(to_x, to_y))
+        parts.append(text((from_x + to_x) // 2, (from_y + to_y) // 2 - 10, str(number), 13, fill=BLUE, weight="bold"))
+    for point, reply in asks:
+        parts += way_of(point, reply, by_line)
+    parts += [*holes, *ends, dot(148, 336, 4, BLUE), hole(390, 336)]
+    parts.append(text(160, 340, "an end that its edge covers", 12, "start", SOFT))
+    parts.append(text(404, 340, "one that it doesn't cover", 12, "start", SOFT))
+    return picture("Four sloped edges, and which of them lies straight below each of five points", 720, 355, parts)
 
 
 PICTURES = {"layers": layers, "slots": slots, "descent": descent, "buckets": buckets, "sweep": sweep, "locate": locate}
