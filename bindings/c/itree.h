@@ -1,13 +1,14 @@
 /* What itree_c exports, for C: sweeps over horizontal segments, pairs of edges that meet, and points among edges.
  *
- * Each call is proved in Rattle: it answers as said here for every input, reads and writes inside the arrays that it is
- * given, and returns. Link it with bindings/built/libitree.a, which bindings/build makes.
+ * Each call is proved in Rattle, for every input: what holds at each status, as it is said below; that it reads and
+ * writes inside the arrays that it is given; and that it returns. Not proved, but tested: when a call is refused, that
+ * the types and numbers of this header are the library's, and that all memory is given back. Steps and room are told
+ * as the code is written. Link it with bindings/built/libitree.a, which bindings/build makes.
  *
  * The caller owns every array. An array is a pointer and how many items it has. The pointer is not null and is aligned,
  * also where there are no items; what is read has values, and what is written overlaps nothing else that the call is
  * given. No other thread writes an array during the call. Arrays that are written need no values before. The library
- * keeps no pointer, has no state, and gives back what it takes from malloc before it returns: so several threads may
- * call it at once.
+ * keeps no pointer and has no state: so several threads may call it at once.
  *
  * Numbers are 32-bit and whole, in a unit of the caller's: pixels, or millionths of a degree. Places count from 0. */
 #ifndef ITREE_H
@@ -23,7 +24,7 @@ extern "C" {
 /* What a call returns. At every status but ITREE_ANSWERED no array is written. */
 enum itree_status {
     ITREE_ANSWERED = 0, /* The answers are written. */
-    ITREE_REFUSED = 1,  /* malloc or realloc gave no memory, or more than 4,294,967,295 items are met at once. */
+    ITREE_REFUSED = 1,  /* Memory was refused, or more than 4,294,967,294 items are met at once. */
     ITREE_OVERLAP = 2,  /* Two segments collide. */
     ITREE_CROSSING = 2, /* Two edges cross. */
     ITREE_LENGTHS = 3   /* The lengths of two arrays don't fit each other. */
@@ -47,12 +48,12 @@ struct itree_height {
  *
  * Two segments collide where they have one height and both cover some x. The call returns
  *   ITREE_ANSWERED  and no two collide;
- *   ITREE_OVERLAP   where two do: *overlap is the place of the first segment, in the order of x0 and then of place,
+ *   ITREE_OVERLAP   and two do: *overlap is the place of the first segment, in the order of x0 and then of place,
  *                   that collides with one before it;
- *   ITREE_REFUSED   where memory was refused, also where two collide;
+ *   ITREE_REFUSED   and two may collide or not;
  *   ITREE_LENGTHS   exactly where height_count isn't point_count.
- * *overlap is written at ITREE_OVERLAP alone, and heights at ITREE_ANSWERED alone. For n segments and points it takes
- * O(n log n) steps, and room for n events and answers. */
+ * *overlap is written at ITREE_OVERLAP alone, and heights at ITREE_ANSWERED alone. For n segments and points it makes
+ * O(n log n) steps, and takes room for n events and answers. */
 int32_t itree_below(const struct itree_segment *segments, size_t segment_count, const struct itree_point *points,
                     size_t point_count, struct itree_height *heights, size_t height_count, size_t *overlap);
 
@@ -72,7 +73,7 @@ struct itree_pair {
  *
  * It is exact: nothing is rounded. The call returns
  *   ITREE_ANSWERED  the first of the pairs are written, and *count is; what is left of the room stays as it was;
- *   ITREE_REFUSED   where memory was refused: nothing is written. */
+ *   ITREE_REFUSED   and nothing is written. */
 int32_t itree_meetings(const struct itree_edge *edges, size_t edge_count, struct itree_pair *pairs, size_t pair_count,
                        size_t *count);
 
@@ -90,14 +91,14 @@ struct itree_place {
  * along one line any may be told.
  *
  * Two edges cross where the one is below the other at some whole x that both reach, and above it at another; edges that
- * touch, end on each other or lie along one line don't, nor does an upright one cross any. It is exact: nothing is
- * rounded. The call returns
+ * touch, end on each other or lie along one line don't. An upright edge crosses none, though it goes through another:
+ * it is never told; itree_meetings tells it. It is exact: nothing is rounded. The call returns
  *   ITREE_ANSWERED  and no two cross;
- *   ITREE_CROSSING  where two do: *first and *second are the places of two that cross, *first below *second;
- *   ITREE_REFUSED   where memory was refused, also where two cross;
+ *   ITREE_CROSSING  and two do: *first and *second are the places of two that cross, *first below *second;
+ *   ITREE_REFUSED   and two may cross or not;
  *   ITREE_LENGTHS   exactly where place_count isn't point_count.
  * *first and *second are written at ITREE_CROSSING alone, and places at ITREE_ANSWERED alone. For n edges and points it
- * takes O(n log n) steps, and room for n events and answers. */
+ * makes O(n log n) steps, and takes room for n events and answers. */
 int32_t itree_locate(const struct itree_edge *edges, size_t edge_count, const struct itree_point *points,
                      size_t point_count, struct itree_place *places, size_t place_count, size_t *first, size_t *second);
 

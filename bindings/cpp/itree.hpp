@@ -76,7 +76,8 @@ private:
 };
 
 /// For each point, in order, the greatest height at most its own among the segments that cover its x, if there is one.
-/// Throws `Overlap` where two segments collide, and `std::bad_alloc` where memory was refused.
+/// Throws `Overlap` where two segments collide, and `std::bad_alloc` where memory was refused, which may be in that case
+/// too.
 inline std::vector<std::optional<std::int32_t>> below(Span<Segment> segments, Span<Point> points) {
     std::vector<::itree_height> heights(points.size() + 1);
     std::size_t overlap = 0;
@@ -106,8 +107,8 @@ inline std::vector<Pair> meetings(Span<Edge> edges) {
 }
 
 /// For each point, in order, the place of the edge straight below it, if there is one. Which edge that is, and when two
-/// cross, is said at `itree_locate` of itree.h. Throws `Crossing` where two edges cross, and `std::bad_alloc` where
-/// memory was refused.
+/// cross, is said at `itree_locate` of itree.h; an upright edge is never told. Throws `Crossing` where two edges cross,
+/// and `std::bad_alloc` where memory was refused, which may be in that case too.
 inline std::vector<std::optional<std::size_t>> locate(Span<Edge> edges, Span<Point> points) {
     std::vector<::itree_place> places(points.size() + 1);
     Pair pair{0, 0};

@@ -47,7 +47,8 @@ def below(segments, points):
     """For each point (x, y), in order, the greatest height at most y of the segments (x0, x1, y) that cover x, or None
     where there is none. A segment covers both its ends, and nothing where x1 is below x0.
 
-    Raises Overlap where two segments collide, and MemoryError where memory was refused."""
+    Raises Overlap where two segments collide, and MemoryError where memory was refused, which may be in that case,
+    too."""
     with _Rows(segments, 3) as segments, _Rows(points, 2) as points:
         heights = array.array("i", bytes(8 * points.count))
         overlap = ctypes.c_size_t()
@@ -89,7 +90,8 @@ def locate(edges, points):
     the point; of edges along one line any may be told.
 
     Raises Crossing where two edges cross: where the one is below the other at some whole x that both reach, and above it
-    at another. Raises MemoryError where memory was refused."""
+    at another. An upright edge crosses none, though it goes through another: it is never told, but by `meetings`. Raises
+    MemoryError where memory was refused, which may be where two cross, too."""
     with _Rows(edges, 4) as edges, _Rows(points, 2) as points:
         places = array.array("Q", bytes(16 * points.count))
         first, second = ctypes.c_size_t(), ctypes.c_size_t()

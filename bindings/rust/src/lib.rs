@@ -243,14 +243,15 @@ pub fn meetings(edges: &[Edge]) -> Result<Vec<(usize, usize)>, Refused> {
 
 /// For each point, in order, the place of the edge straight below it, if there is one.
 ///
-/// An edge covers the x's from its lesser end up to its greater, which it doesn't cover; an upright edge or a point covers
-/// nothing. An edge is under a point where it covers the point's x at a height that is at most the point's, and straight
-/// below it where none that is under it is higher there. Of edges that are as high there, it is the one that is highest
-/// just right of the point; of edges along one line any may be told.
+/// An edge covers the x's from its lesser end up to its greater, which it doesn't cover; an upright edge or a point
+/// covers nothing. An edge is under a point where it covers the point's x at a height that is at most the point's, and
+/// straight below it where none that is under it is higher there. Of edges that are as high there, it is the one that is
+/// highest just right of the point; of edges along one line any may be told.
 ///
 /// Two edges cross where the one is below the other at some whole x that both reach, and above it at another: then the
-/// answer is `LocateFault::Cross`. It may be `LocateFault::Refused` in that case too, where there is little memory. It is
-/// exact: nothing is rounded.
+/// answer is `LocateFault::Cross`. It may be `LocateFault::Refused` in that case too, where there is little memory. An
+/// upright edge crosses none, though it goes through another: it is never told, but by `meetings`. It is exact: nothing
+/// is rounded.
 pub fn locate(edges: &[Edge], points: &[Point]) -> Result<Vec<Option<usize>>, LocateFault> {
     let mut places = items(points.len(), calls::Place { found: 0, place: 0 })?;
     let (mut first, mut second) = (0, 0);
