@@ -11,7 +11,8 @@ usage: docs/check.py
   clause is some function's.
 - What a document names in code font is there: paths, definitions, clauses, and the other names of the sources (docs/names.py says
   how they are told), and so are the files that its links lead to.
-- The pictures are what docs/pictures/draw.py draws, and each file that docs/map.py lists begins with what it holds.
+- The pictures are what docs/pictures/draw.py draws, and the run that one shows stands in a document beside it. Each file that
+  docs/map.py lists begins with what it holds.
 
 The last line is 'N passed, M failed'.
 """
@@ -68,6 +69,9 @@ def text_of(path):
 
 def files(pattern):
     return [os.path.relpath(path, TOP) for path in sorted(glob.glob(os.path.join(TOP, pattern), recursive=True))]
+
+
+DOCUMENTS = ["README.md", "CONTRIBUTING.md", *files("docs/*.md")]
 
 
 def sources_of(heading):
@@ -182,6 +186,16 @@ def promise_failures():
             yield None if name in known or name in CRATES else f"docs/DEFINITIONS.md: no function has a clause {name}"
 
 
+def picture_failures():
+    """A run that a picture shows stands in a document that shows the picture."""
+    for path in files("docs/pictures/*.lines"):
+        name = os.path.basename(path).removesuffix(".lines")
+        lines = "".join(f"> {line}\n" for line in text_of(path).splitlines())
+        run = f"```console\n$ itree {name} << END\n{lines}> END\n{text_of(f'docs/pictures/{name}.replies')}```\n"
+        shown = [document for document in DOCUMENTS if f"pictures/{name}.svg" in text_of(document)]
+        yield None if any(run in text_of(document) for document in shown) else f"no document has {name}.svg and its run"
+
+
 def written_failures():
     for script in "docs/pictures/draw.py", "docs/map.py":
         ran = subprocess.run([sys.executable, os.path.join(TOP, script), "--check"], capture_output=True, text=True)
@@ -189,9 +203,8 @@ def written_failures():
 
 
 def main():
-    documents = ["README.md", "CONTRIBUTING.md", *files("docs/*.md")]
-    checks = quoted_failures(), clause_failures(), definition_failures(), promise_failures(), names.failures(documents), written_failures()
-    found = [failure for check in checks for failure in check]
+    in_documents = quoted_failures(), clause_failures(), definition_failures(), promise_failures(), names.failures(DOCUMENTS)
+    found = [failure for check in (*in_documents, picture_failures(), written_failures()) for failure in check]
     failed = [failure for failure in found if failure]
     for failure in failed:
         print(f"FAILED {failure}")

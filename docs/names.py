@@ -19,8 +19,9 @@ TOP = os.path.normpath(os.path.join(os.path.dirname(os.path.abspath(__file__)), 
 OTHERS = {
     # std, and the language
     *"AllocError AllocFailed BTreeMap BTreeSet Box Cell Clone Copy Default Display Drop Equal Error ExactSizeIterator".split(),
-    *"Iterator Option Ord Result Stdout Vec bool clone cmp copy_within drop dyn ensures flush for i16 i32 i64 i8 if impl inline".split(),
-    *"int_cmp isize nat_cmp no_std partition_point pos push requires retain std u16 u32 u64 u8 unsafe usize".split(),
+    *"Iterator Option Ord Result Stdout Vec bool clone cmp copy_within derive_where drop dyn ensures flush for i16 i32 i64".split(),
+    *"i8 if impl inline int_cmp isize nat_cmp no_std partition_point pos push repr requires retain rotate_left rotate_right".split(),
+    *"skip std u16 u32 u64 u8 unsafe usize".split(),
     # other tools, libraries and languages
     *"ITREE_BUILT ITREE_LIBRARY MemoryError anyhow ar cc free malloc memmove memset proves realloc thiserror".split(),
     *"rattle_alloc rattle_dealloc rattle_realloc".split(),
@@ -38,7 +39,8 @@ IN_CRATE = re.compile(r"(?:src|specs|proofs|must-fail)/")
 DOTTED = re.compile(r"[A-Z]\w*(?:\.[A-Za-z][\w-]*)+")
 NAME = re.compile(r"[A-Za-z_][\w-]*(?:::\w+)*")
 LISTED = r"`[^`]+`(?:,? (?:and )?`[^`]+`)*"
-BELONGS = re.compile(rf"({LISTED}) (of|in) ({LISTED})")
+BELONGS = re.compile(rf"({LISTED}) (of|in) ({LISTED})(?! of `)")
+CALLED = re.compile(r"\b([a-z_]\w*)\(")
 
 ITEM = re.compile(r"\b(?:fn|struct|enum|trait|mod|const|static|type|class|namespace|ghost|law)\s+(\w+)")
 FIELD_OR_VARIANT = re.compile(r"^\s*(?:pub(?:\(\w+\))? )?(\w+): |^ {4}([A-Z]\w*)(?:[,({ ]|$)", re.M)
@@ -154,9 +156,10 @@ def passages_of(document):
 
 
 def words_of(code):
-    """The words of a piece of code that may be checked: itself, or the paths among several words."""
+    """The words of a piece of code that may be checked: itself, or the paths among several words; and what it calls."""
     words = [word.strip("(),;").removeprefix("-I").removeprefix("./").removesuffix("/") for word in code.split()]
-    return words if len(words) == 1 else [word for word in words if re.fullmatch(r"[a-z_]+/[\w./-]+", word)]
+    paths = [word for word in words if re.fullmatch(r"[a-z_]+/[\w./-]+", word)]
+    return [*CALLED.findall(code), *(words if len(words) == 1 else paths)]
 
 
 def is_known(word, crates, sources):
