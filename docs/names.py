@@ -83,7 +83,7 @@ class Sources:
         self.places = with_folders(self.paths)
         self.crates = {path.split("/")[1] for path in self.paths if path.startswith("crates/")}
         sources = [path for path in self.paths if re.match(r"crates/\w+/(src|specs|proofs)/.*\.(rt|antt)$", path)]
-        self.texts = {path: text_of(path) for path in sources if "_tests/" not in path}
+        self.texts = {path: text_of(path) for path in sources if not re.search("tests(/|[.])", path)}
         self.names = {path: self.defined_in(path) for path in self.texts}
         self.modules = {}
         for path, names in self.names.items():
