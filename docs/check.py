@@ -26,8 +26,7 @@ import sys
 sys.dont_write_bytecode = True
 
 import names
-
-TOP = os.path.normpath(os.path.join(os.path.dirname(os.path.abspath(__file__)), ".."))
+from names import CLAUSE, FIELD, FUNCTION, RECORD, TOP, parts_by, text_of
 
 # The sources of each section of docs/CALLING.md, by the beginning of its heading.
 SOURCES = {
@@ -53,18 +52,10 @@ SOURCES = {
     "`itree`": ["itree/src/program.rt"],
 }
 
-FUNCTION = re.compile(r"\bfn (\w+)")
-CLAUSE = re.compile(r"^\s*(?:ensures|requires)\*? (\w+) \{", re.M)
 CONSTANT = re.compile(r"^pub const (\w+):", re.M)
 GHOST = re.compile(r"^\s*ghost (\w+) =", re.M)
 DEFINITION = re.compile(r"^\s*(?:abbrev |unfoldable )?pub (?:abbrev |record |data )?([^\s:({]+)", re.M)
 CRATES = {os.path.basename(path) for path in glob.glob(os.path.join(TOP, "crates", "*"))}
-FIELD = re.compile(r"^\s*pub (\w+) :", re.M)
-
-
-def text_of(path):
-    with open(os.path.join(TOP, path), encoding="utf-8") as file:
-        return file.read()
 
 
 def files(pattern):
@@ -119,9 +110,8 @@ def quoted_failures():
 def clauses_by_function(text):
     """The names of the clauses of each function of a text, all functions of one name together."""
     found = {}
-    starts = [(it.start(), it.group(1)) for it in FUNCTION.finditer(text)]
-    for (start, name), (end, _) in zip(starts, [*starts[1:], (len(text), None)]):
-        found.setdefault(name, set()).update(CLAUSE.findall(text[start:end]))
+    for name, part in parts_by(FUNCTION, text):
+        found.setdefault(name, set()).update(CLAUSE.findall(part))
     return found
 
 
@@ -129,9 +119,9 @@ def fields_of_records():
     """The names of the fields of each record of the specs."""
     found = {}
     for path in files("crates/*/specs/**/*.antt"):
-        for part in re.split(r"^\s*pub record ", text_of(path), flags=re.M)[1:]:
+        for name, part in parts_by(RECORD, text_of(path)):
             body = re.split(r"^\s*(?:--|abbrev|unfoldable)", part, flags=re.M)[0]
-            found.setdefault(re.match(r"\w+", part).group(), set()).update(FIELD.findall(body))
+            found.setdefault(name, set()).update(FIELD.findall(body))
     return found
 
 
