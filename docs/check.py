@@ -8,11 +8,11 @@ usage: docs/check.py
 - In a table of calls of docs/CALLING.md, each word in brackets that is code is the name of a clause at one of the row's calls, of
   a ghost member there, or of a field of a record that the row names.
 - In the tables of docs/DEFINITIONS.md, each name of a definition is one of specs/, in its module where it names one; and each
-  clause is some function's.
+  clause is some function's. Each definition that the contract of a call of docs/CALLING.md cites stands there.
 - What a document names in code font is there: paths, definitions, clauses, and the other names of the sources (docs/names.py says
   how they are told), and so are the files that its links lead to.
-- The pictures are what docs/pictures/draw.py draws, and the run that one shows stands in a document beside it. Each file that
-  docs/map.py lists begins with what it holds.
+- No blank line breaks a table. The pictures are what docs/pictures/draw.py draws, and the run that one shows stands in a document
+  beside it. Each file that docs/map.py lists begins with what it holds.
 
 The last line is 'N passed, M failed'.
 """
@@ -166,6 +166,25 @@ def definition_failures():
             yield None if is_defined(name, modules) else f"docs/DEFINITIONS.md: specs have no {name}"
 
 
+def cited_failures():
+    """Each definition that the contract of a call of docs/CALLING.md cites is told in docs/DEFINITIONS.md."""
+    told = {word for code in names.CODE.findall(text_of("docs/DEFINITIONS.md")) for word in re.findall(r"\w+", code)}
+    known = set().union(*definitions().values())
+    for heading, found in blocks(text_of("docs/CALLING.md")):
+        calls = set(FUNCTION.findall("\n".join(found)))
+        for name, part in parts_by(FUNCTION, sources_of(heading)):
+            contract = re.split(r"\n *\{\n", part)[0] if name in calls else ""
+            for word in known.intersection(re.findall(r"\b[A-Z]\w+", contract)):
+                yield None if word in told else f"docs/DEFINITIONS.md: it lacks {word}, which the contract of {name} cites"
+
+
+def table_failures():
+    """Each table has its heading: no blank line breaks one."""
+    for document in DOCUMENTS:
+        for row, following in re.findall(r"(?:\A|\n\n)(\|.*)\n(.*)", text_of(document)):
+            yield None if following.startswith("| ---") else f"{document}: no table begins with {row}"
+
+
 def promise_failures():
     sources = "\n".join(text_of(path) for path in files("crates/*/src/**/*.rt"))
     known = {*CLAUSE.findall(sources), *GHOST.findall(sources), *FUNCTION.findall(sources), *re.findall(r"\bghost (\w+):", sources)}
@@ -193,8 +212,10 @@ def written_failures():
 
 
 def main():
-    in_documents = quoted_failures(), clause_failures(), definition_failures(), promise_failures(), names.failures(DOCUMENTS)
-    found = [failure for check in (*in_documents, picture_failures(), written_failures()) for failure in check]
+    of_calls = quoted_failures(), clause_failures(), cited_failures()
+    of_words = definition_failures(), promise_failures(), names.failures(DOCUMENTS)
+    of_forms = table_failures(), picture_failures(), written_failures()
+    found = [failure for check in (*of_calls, *of_words, *of_forms) for failure in check]
     failed = [failure for failure in found if failure]
     for failure in failed:
         print(f"FAILED {failure}")
