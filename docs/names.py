@@ -1,11 +1,13 @@
 """What the documents name in code font: paths of the repository, definitions by their modules, and names of the sources.
 
-- A word with a slash or an ending of a file is a path that git tracks, whole or from one of its folders on. One that begins in
-  a crate (`src/`, `specs/`, `proofs/`, `must-fail/`) lies in i_tree, or in a crate that its passage or its heading names. A part in
-  capitals stands for any.
+- A word with a slash or an ending of a file is a path that git tracks (or would), whole or from one of its folders on. One that
+  begins in a crate (`src/`, `specs/`, `proofs/`, `must-fail/`) lies in i_tree, or in a crate that its passage or its heading names.
+  NAME, FUNCTION and EDIT stand for any.
 - A word with dots is a definition of specs/, or a lemma of proofs/, by its module or the end of that; or such a module.
-- Any other word is a name that some source of the libraries or of the program defines, or stands in `OTHERS` below.
+- Any other word, and what a piece of code calls, is a name that a source of the libraries, of the wrappers or of the program
+  defines, or one of `OTHERS` below.
 - In 'X of Y', and in 'X in Y' where Y is a file, X is defined in the file Y, at the function Y, or where Y is.
+- A link leads to a file.
 """
 
 import functools
