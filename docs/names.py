@@ -25,7 +25,7 @@ OTHERS = {
     *"i8 if impl inline int_cmp isize nat_cmp no_std partition_point pos push repr requires retain rotate_left rotate_right".split(),
     *"skip std u16 u32 u64 u8 unsafe usize".split(),
     # other tools, libraries and languages
-    *"ITREE_BUILT ITREE_LIBRARY MemoryError anyhow ar cc free malloc memmove memset proves realloc thiserror".split(),
+    *"ITREE_LIBRARY ITREE_LIB_DIR MemoryError anyhow ar cc free malloc memmove memset proves realloc thiserror".split(),
     *"rattle_alloc rattle_dealloc rattle_realloc".split(),
 }
 

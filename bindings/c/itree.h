@@ -1,14 +1,15 @@
-/* What itree_c exports, for C: sweeps over horizontal segments, pairs of edges that meet, and points among edges.
+/* itree, for C: sweeps over horizontal segments, pairs of edges that meet, and points among edges.
  *
- * Each call is proved in Rattle, for every input: what holds at each status, as it is said below; that it reads and
- * writes inside the arrays that it is given; and that it returns. Not proved, but tested: when a call is refused, that
- * the types and numbers of this header are the library's, and that all memory is given back. Steps and room are told
- * as the code is written. Link it with bindings/built/libitree.a, which bindings/build makes.
+ * Each call looks at the pointers that it is given, and then makes one that is proved in Rattle: that answers as said
+ * here for every input, reads and writes inside the arrays that it is given, and returns. Link it by what
+ * `pkg-config --cflags --libs itree` prints.
  *
- * The caller owns every array. An array is a pointer and how many items it has. The pointer is not null and is aligned,
- * also where there are no items; what is read has values, and what is written overlaps nothing else that the call is
- * given. No other thread writes an array during the call. Arrays that are written need no values before. The library
- * keeps no pointer and has no state: so several threads may call it at once.
+ * The caller owns every array. An array is a pointer and how many items it has. Where it has none, the pointer may be
+ * anything, as NULL. A pointer is faulty where there is an item and it is NULL or isn't aligned, or where no memory is as
+ * large as so many items: then a call returns ITREE_POINTER. Nothing checks the rest: so many items stand there, what is
+ * read has values, what is written overlaps nothing else that the call is given, and no other thread writes an array
+ * during the call. What is written needs no values before. The library keeps no pointer, has no state, and gives back what
+ * it takes from malloc before it returns: so several threads may call it at once.
  *
  * Numbers are 32-bit and whole, in a unit of the caller's: pixels, or millionths of a degree. Places count from 0. */
 #ifndef ITREE_H
@@ -16,6 +17,9 @@
 
 #include <stddef.h>
 #include <stdint.h>
+
+/* The version of this header and of the library beside it. It is 0.0.0 in a checkout. */
+#define ITREE_VERSION "0.0.0"
 
 #ifdef __cplusplus
 extern "C" {
@@ -27,7 +31,8 @@ enum itree_status {
     ITREE_REFUSED = 1,  /* Memory was refused, or more than 4,294,967,294 items are met at once. */
     ITREE_OVERLAP = 2,  /* Two segments collide. */
     ITREE_CROSSING = 2, /* Two edges cross. */
-    ITREE_LENGTHS = 3   /* The lengths of two arrays don't fit each other. */
+    ITREE_LENGTHS = 3,  /* The lengths of two arrays don't fit each other. */
+    ITREE_POINTER = 4   /* A pointer is faulty. */
 };
 
 /* A horizontal segment at the height y, from x0 to x1, both of which it covers. One with x1 < x0 covers nothing. */
@@ -51,9 +56,10 @@ struct itree_height {
  *   ITREE_OVERLAP   and two do: *overlap is the place of the first segment, in the order of x0 and then of place,
  *                   that collides with one before it;
  *   ITREE_REFUSED   and two may collide or not;
- *   ITREE_LENGTHS   exactly where height_count isn't point_count.
- * *overlap is written at ITREE_OVERLAP alone, and heights at ITREE_ANSWERED alone. For n segments and points it makes
- * O(n log n) steps, and takes room for n events and answers. */
+ *   ITREE_POINTER   exactly where a pointer is faulty;
+ *   ITREE_LENGTHS   exactly where none is, and height_count isn't point_count.
+ * *overlap is written at ITREE_OVERLAP alone, and heights at ITREE_ANSWERED alone; overlap may be NULL. For n segments
+ * and points it makes O(n log n) steps, and takes room for n events and answers. */
 int32_t itree_below(const struct itree_segment *segments, size_t segment_count, const struct itree_point *points,
                     size_t point_count, struct itree_height *heights, size_t height_count, size_t *overlap);
 
@@ -73,7 +79,9 @@ struct itree_pair {
  *
  * It is exact: nothing is rounded. The call returns
  *   ITREE_ANSWERED  the first of the pairs are written, and *count is; what is left of the room stays as it was;
- *   ITREE_REFUSED   and nothing is written. */
+ *   ITREE_REFUSED   and nothing is written;
+ *   ITREE_POINTER   exactly where a pointer is faulty.
+ * count may be NULL. */
 int32_t itree_meetings(const struct itree_edge *edges, size_t edge_count, struct itree_pair *pairs, size_t pair_count,
                        size_t *count);
 
@@ -96,9 +104,10 @@ struct itree_place {
  *   ITREE_ANSWERED  and no two cross;
  *   ITREE_CROSSING  and two do: *first and *second are the places of two that cross, *first below *second;
  *   ITREE_REFUSED   and two may cross or not;
- *   ITREE_LENGTHS   exactly where place_count isn't point_count.
- * *first and *second are written at ITREE_CROSSING alone, and places at ITREE_ANSWERED alone. For n edges and points it
- * makes O(n log n) steps, and takes room for n events and answers. */
+ *   ITREE_POINTER   exactly where a pointer is faulty;
+ *   ITREE_LENGTHS   exactly where none is, and place_count isn't point_count.
+ * *first and *second are written at ITREE_CROSSING alone, and places at ITREE_ANSWERED alone; first and second may be
+ * NULL. For n edges and points it makes O(n log n) steps, and takes room for n events and answers. */
 int32_t itree_locate(const struct itree_edge *edges, size_t edge_count, const struct itree_point *points,
                      size_t point_count, struct itree_place *places, size_t place_count, size_t *first, size_t *second);
 

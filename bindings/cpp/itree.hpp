@@ -1,6 +1,6 @@
 // The calls of itree.h for C++17: spans in, a vector out, or an exception.
 //
-//     c++ -std=c++17 -Ibindings/c -Ibindings/cpp program.cpp bindings/built/libitree.a
+//     c++ -std=c++17 program.cpp $(pkg-config --cflags --libs itree)
 #ifndef ITREE_HPP
 #define ITREE_HPP
 
@@ -8,6 +8,7 @@
 
 #include <cstddef>
 #include <cstdint>
+#include <initializer_list>
 #include <new>
 #include <optional>
 #include <stdexcept>
@@ -15,6 +16,24 @@
 #include <type_traits>
 #include <utility>
 #include <vector>
+
+// They stand beside their types, in no namespace, so that std finds them.
+constexpr bool operator==(const itree_segment &one, const itree_segment &other) noexcept {
+    return one.x0 == other.x0 && one.x1 == other.x1 && one.y == other.y;
+}
+constexpr bool operator==(const itree_point &one, const itree_point &other) noexcept {
+    return one.x == other.x && one.y == other.y;
+}
+constexpr bool operator==(const itree_edge &one, const itree_edge &other) noexcept {
+    return one.x0 == other.x0 && one.y0 == other.y0 && one.x1 == other.x1 && one.y1 == other.y1;
+}
+constexpr bool operator==(const itree_pair &one, const itree_pair &other) noexcept {
+    return one.first == other.first && one.second == other.second;
+}
+constexpr bool operator!=(const itree_segment &one, const itree_segment &other) noexcept { return !(one == other); }
+constexpr bool operator!=(const itree_point &one, const itree_point &other) noexcept { return !(one == other); }
+constexpr bool operator!=(const itree_edge &one, const itree_edge &other) noexcept { return !(one == other); }
+constexpr bool operator!=(const itree_pair &one, const itree_pair &other) noexcept { return !(one == other); }
 
 namespace itree {
 
@@ -25,8 +44,9 @@ using Edge = ::itree_edge;
 /// The places of two edges that meet, `first` below `second`.
 using Pair = ::itree_pair;
 
-/// Items that stand one behind the other in memory and are only read: of a vector, an array, or a pointer and a length.
-/// It owns nothing, so what it is made of has to live as long.
+/// Items that stand one behind the other in memory and are only read: of a vector, an array, a list in braces, or a
+/// pointer and a length. It owns nothing, so what it is made of has to live as long: a list in braces does as an argument
+/// of a call.
 template <typename T>
 class Span {
 public:
@@ -34,16 +54,17 @@ public:
     Span(const T *items, std::size_t count) : items_(items), count_(count) {}
     template <std::size_t count>
     Span(const T (&items)[count]) : items_(items), count_(count) {}
+    Span(std::initializer_list<T> items) : items_(first_of(items)), count_(items.size()) {}
     template <typename Items, typename Data = decltype(std::declval<const Items &>().data()),
               typename = std::enable_if_t<std::is_convertible_v<Data, const T *>>>
     Span(const Items &items) : items_(items.data()), count_(items.size()) {}
 
     std::size_t size() const { return count_; }
-    /// Never null, also where there are no items.
-    const T *data() const { return items_ ? items_ : &none_; }
+    const T *data() const { return items_; }
 
 private:
-    static inline const T none_{};
+    static const T *first_of(const std::initializer_list<T> &items) { return items.begin(); }
+
     const T *items_ = nullptr;
     std::size_t count_ = 0;
 };
@@ -75,16 +96,26 @@ private:
     Pair pair_;
 };
 
+namespace detail {
+
+/// Throws what a status says that each call may return.
+inline void throw_unless_answered(std::int32_t status) {
+    if (status == ITREE_POINTER) throw std::invalid_argument("a span is null, misaligned or larger than memory can be");
+    if (status != ITREE_ANSWERED) throw std::bad_alloc();
+}
+
+}  // namespace detail
+
 /// For each point, in order, the greatest height at most its own among the segments that cover its x, if there is one.
 /// Throws `Overlap` where two segments collide, and `std::bad_alloc` where memory was refused, which may be in that case
 /// too.
-inline std::vector<std::optional<std::int32_t>> below(Span<Segment> segments, Span<Point> points) {
-    std::vector<::itree_height> heights(points.size() + 1);
+[[nodiscard]] inline std::vector<std::optional<std::int32_t>> below(Span<Segment> segments, Span<Point> points) {
+    std::vector<::itree_height> heights(points.size());
     std::size_t overlap = 0;
     const auto status = ::itree_below(segments.data(), segments.size(), points.data(), points.size(), heights.data(),
                                       points.size(), &overlap);
     if (status == ITREE_OVERLAP) throw Overlap(overlap);
-    if (status != ITREE_ANSWERED) throw std::bad_alloc();
+    detail::throw_unless_answered(status);
     std::vector<std::optional<std::int32_t>> found(points.size());
     for (std::size_t place = 0; place < found.size(); place++) {
         if (heights[place].found) found[place] = heights[place].y;
@@ -94,12 +125,12 @@ inline std::vector<std::optional<std::int32_t>> below(Span<Segment> segments, Sp
 
 /// The pairs of edges that share a point, each once, in no particular order. Throws `std::bad_alloc` where memory was
 /// refused.
-inline std::vector<Pair> meetings(Span<Edge> edges) {
-    std::vector<Pair> pairs(edges.size() + 1);
+[[nodiscard]] inline std::vector<Pair> meetings(Span<Edge> edges) {
+    std::vector<Pair> pairs(edges.size());
     while (true) {
         std::size_t count = 0;
         const auto status = ::itree_meetings(edges.data(), edges.size(), pairs.data(), pairs.size(), &count);
-        if (status != ITREE_ANSWERED) throw std::bad_alloc();
+        detail::throw_unless_answered(status);
         const bool all = count <= pairs.size();
         pairs.resize(count);
         if (all) return pairs;
@@ -109,13 +140,13 @@ inline std::vector<Pair> meetings(Span<Edge> edges) {
 /// For each point, in order, the place of the edge straight below it, if there is one. Which edge that is, and when two
 /// cross, is said at `itree_locate` of itree.h; an upright edge is never told. Throws `Crossing` where two edges cross,
 /// and `std::bad_alloc` where memory was refused, which may be in that case too.
-inline std::vector<std::optional<std::size_t>> locate(Span<Edge> edges, Span<Point> points) {
-    std::vector<::itree_place> places(points.size() + 1);
+[[nodiscard]] inline std::vector<std::optional<std::size_t>> locate(Span<Edge> edges, Span<Point> points) {
+    std::vector<::itree_place> places(points.size());
     Pair pair{0, 0};
     const auto status = ::itree_locate(edges.data(), edges.size(), points.data(), points.size(), places.data(),
                                        points.size(), &pair.first, &pair.second);
     if (status == ITREE_CROSSING) throw Crossing(pair);
-    if (status != ITREE_ANSWERED) throw std::bad_alloc();
+    detail::throw_unless_answered(status);
     std::vector<std::optional<std::size_t>> found(points.size());
     for (std::size_t place = 0; place < found.size(); place++) {
         if (places[place].found) found[place] = places[place].place;

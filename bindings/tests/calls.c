@@ -369,6 +369,57 @@ static void checks_refused_locate(void) {
     check("with all requests granted the places are written", ok);
 }
 
+static void checks_null(void) {
+    const struct itree_segment segment = {0, 9, 1};
+    const struct itree_edge edges[] = {{0, 0, 9, 9}, {0, 9, 9, 0}};
+    const struct itree_point point = {3, 4};
+    struct itree_height height = {9, 9};
+    struct itree_place place = {9, 9};
+    size_t count = 7;
+    check("null for no segments and points", itree_below(NULL, 0, NULL, 0, NULL, 0, &count) == ITREE_ANSWERED);
+    check("null for no edges and pairs", itree_meetings(NULL, 0, NULL, 0, &count) == ITREE_ANSWERED && count == 0);
+    check("null for no edges and points", itree_locate(NULL, 0, NULL, 0, NULL, 0, &count, &count) == ITREE_ANSWERED);
+    check("null for no segments", itree_below(NULL, 0, &point, 1, &height, 1, NULL) == ITREE_ANSWERED && !height.found);
+    check("null for no points", itree_below(&segment, 1, NULL, 0, NULL, 0, NULL) == ITREE_ANSWERED);
+    check("null for no heights", itree_below(&segment, 1, &point, 1, NULL, 0, NULL) == ITREE_LENGTHS);
+    check("null for no edges", itree_locate(NULL, 0, &point, 1, &place, 1, NULL, NULL) == ITREE_ANSWERED && !place.found);
+    check("pairs are counted", itree_meetings(edges, 2, NULL, 0, &count) == ITREE_ANSWERED && count == 1);
+    const struct itree_segment twice[] = {{0, 9, 1}, {3, 4, 1}};
+    check("an overlap isn't told", itree_below(twice, 2, NULL, 0, NULL, 0, NULL) == ITREE_OVERLAP);
+    check("no count is told", itree_meetings(edges, 2, NULL, 0, NULL) == ITREE_ANSWERED);
+    check("the second of a pair is told", itree_locate(edges, 2, NULL, 0, NULL, 0, NULL, &count) == ITREE_CROSSING);
+    check("it is the second", count == 1);
+}
+
+static void checks_faulty_pointers(void) {
+    const struct itree_segment segment = {0, 9, 1};
+    const struct itree_edge edge = {0, 0, 9, 9};
+    const struct itree_point point = {3, 4};
+    struct itree_height height = {9, 9};
+    struct itree_place place = {9, 9};
+    struct itree_pair pair = {9, 9};
+    size_t first = 7, second = 8;
+    char *const odd = (char *)&first + 1;
+    check("no segments", itree_below(NULL, 1, &point, 1, &height, 1, &first) == ITREE_POINTER);
+    check("no points", itree_below(&segment, 1, NULL, 1, &height, 1, &first) == ITREE_POINTER);
+    check("no heights", itree_below(&segment, 1, &point, 1, NULL, 1, &first) == ITREE_POINTER);
+    check("no edges", itree_meetings(NULL, 1, &pair, 1, &first) == ITREE_POINTER);
+    check("no pairs", itree_meetings(&edge, 1, NULL, 1, &first) == ITREE_POINTER);
+    check("no edges to locate among", itree_locate(NULL, 1, &point, 1, &place, 1, &first, &second) == ITREE_POINTER);
+    check("no points to locate", itree_locate(&edge, 1, NULL, 1, &place, 1, &first, &second) == ITREE_POINTER);
+    check("no places", itree_locate(&edge, 1, &point, 1, NULL, 1, &first, &second) == ITREE_POINTER);
+    check("segments at an odd address", itree_below((void *)odd, 1, &point, 1, &height, 1, &first) == ITREE_POINTER);
+    check("an overlap at an odd address", itree_below(&segment, 1, &point, 1, &height, 1, (void *)odd) == ITREE_POINTER);
+    check("pairs at an odd address", itree_meetings(&edge, 1, (void *)odd, 1, &first) == ITREE_POINTER);
+    check("places at an odd address", itree_locate(&edge, 1, &point, 1, (void *)odd, 1, &first, NULL) == ITREE_POINTER);
+    check("more edges than memory", itree_meetings(&edge, SIZE_MAX / 16, NULL, 0, &first) == ITREE_POINTER);
+    check("more points than memory", itree_below(NULL, 0, &point, SIZE_MAX, NULL, 0, &first) == ITREE_POINTER);
+    check("no answer is written", height.found == 9 && place.found == 9 && pair.first == 9);
+    check("no place is written", first == 7 && second == 8);
+    check("an odd address for no edges", itree_meetings((void *)odd, 0, (void *)odd, 0, &second) == ITREE_ANSWERED);
+    check("there are no pairs", second == 0);
+}
+
 int main(void) {
     checks_random();
     checks_nothing();
@@ -379,6 +430,8 @@ int main(void) {
     checks_locate();
     checks_located_nothing();
     checks_refused_locate();
+    checks_null();
+    checks_faulty_pointers();
     printf("%d passed, %d failed\n", passed, failed);
     return failed != 0;
 }

@@ -81,10 +81,43 @@ void checks_spans() {
     check("empty vectors", itree::below(std::vector<itree::Segment>(), std::vector<itree::Point>()).empty());
 }
 
+void checks_braces() {
+    check("one segment in braces", itree::below({{0, 10, 5}}, {{6, 7}}) == Heights{5});
+    check("two, and a point at 0", itree::below({{0, 10, 5}, {2, 6, 8}}, {{0, 7}, {6, 9}}) == Heights{5, 8});
+    check("an edge in braces", itree::meetings({{0, 0, 9, 9}}).empty());
+    const std::vector<itree::Pair> wanted{{0, 1}};
+    check("edges in braces", itree::meetings({{0, 0, 9, 9}, {0, 9, 9, 0}}) == wanted);
+    check("an edge and a point in braces", itree::locate({{0, 0, 9, 9}}, {{0, 7}}).front() == 0u);
+    check("nothing in braces", itree::below({}, {}).empty() && itree::meetings({}).empty() && itree::locate({}, {}).empty());
+}
+
+void checks_equality() {
+    const itree::Segment segment{1, 2, 3};
+    const itree::Point point{1, 2};
+    const itree::Edge edge{1, 2, 3, 4};
+    const itree::Pair pair{1, 2};
+    check("equal segments", segment == itree::Segment{1, 2, 3} && segment != itree::Segment{1, 2, 4});
+    check("equal points", point == itree::Point{1, 2} && point != itree::Point{1, 3});
+    check("equal edges", edge == itree::Edge{1, 2, 3, 4} && edge != itree::Edge{1, 2, 3, 5});
+    check("equal pairs", pair == itree::Pair{1, 2} && pair != itree::Pair{0, 2});
+    const std::vector<itree::Edge> edges{{0, 0, 0, 0}, edge};
+    check("an edge is found by std", std::find(edges.begin(), edges.end(), edge) == edges.begin() + 1);
+}
+
+void checks_a_null_span() {
+    try {
+        (void)itree::meetings(itree::Span<itree::Edge>(nullptr, 3));
+        check("a null span is thrown", false);
+    } catch (const std::invalid_argument &fault) {
+        const std::string wanted = "a span is null, misaligned or larger than memory can be";
+        check("a null span is thrown", fault.what() == wanted);
+    }
+}
+
 void checks_faults() {
     const std::vector<itree::Segment> segments{{0, 9, 1}, {8, 9, 1}, {3, 4, 1}};
     try {
-        itree::below(segments, {});
+        (void)itree::below(segments, {});
         check("an overlap is thrown", false);
     } catch (const std::invalid_argument &fault) {
         check("an overlap is thrown", std::string(fault.what()) == "the segment at place 2 overlaps an earlier one");
@@ -93,7 +126,7 @@ void checks_faults() {
     for (bool refused = true; refused; requests++) {
         refuse_after(requests);
         try {
-            itree::below({segments.data(), 2}, {});
+            (void)itree::below({segments.data(), 2}, {});
             refused = false;
         } catch (const std::bad_alloc &) {
         } catch (const itree::Overlap &) {
@@ -136,7 +169,7 @@ void checks_meetings() {
         const auto edges = random_edges(random, 30);
         refuse_after(requests);
         try {
-            itree::meetings(edges);
+            (void)itree::meetings(edges);
             refused = false;
         } catch (const std::bad_alloc &) {
         }
@@ -226,7 +259,7 @@ void checks_locate_faults() {
     check("no edges", located({}, points).first == Found(3));
     check("no points", located({edges, 2}, {}).first.empty());
     try {
-        itree::locate(edges, {});
+        (void)itree::locate(edges, {});
         check("a crossing is thrown", false);
     } catch (const std::invalid_argument &fault) {
         check("a crossing is thrown", std::string(fault.what()) == "the edges at places 0 and 2 cross");
@@ -235,7 +268,7 @@ void checks_locate_faults() {
     for (bool refused = true; refused; requests++) {
         refuse_after(requests);
         try {
-            itree::locate({edges, 2}, points);
+            (void)itree::locate({edges, 2}, points);
             refused = false;
         } catch (const std::bad_alloc &) {
         }
@@ -250,6 +283,9 @@ int main() {
     checks_random();
     checks_a_million();
     checks_spans();
+    checks_braces();
+    checks_equality();
+    checks_a_null_span();
     checks_faults();
     checks_meetings();
     checks_locate();

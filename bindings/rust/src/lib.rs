@@ -1,24 +1,30 @@
-//! Sweeps over horizontal segments, pairs of edges that meet, and points among edges, by the proved library of this
-//! repository: slices in, a `Result` out.
+//! Pairs of edges that meet, and the edge or the horizontal segment straight below a point, exactly, by a library that is
+//! proved in Rattle: slices in, a `Result` out.
 //!
 //! ```
-//! use itree::{below, Point, Segment};
+//! use itree::{below, locate, meetings, Edge, Point, Segment};
+//!
+//! let edges = [Edge { x0: 0, y0: 0, x1: 9, y1: 9 }, Edge { x0: 0, y0: 9, x1: 9, y1: 0 }];
+//! assert_eq!(meetings(&edges), Ok(vec![(0, 1)]));
+//! assert_eq!(locate(&edges[..1], &[Point { x: 4, y: 5 }, Point { x: 4, y: 3 }]), Ok(vec![Some(0), None]));
 //!
 //! let segments = [Segment { x0: 0, x1: 10, y: 5 }, Segment { x0: 2, x1: 6, y: 8 }];
 //! let points = [Point { x: 6, y: 7 }, Point { x: 11, y: 9 }];
 //! assert_eq!(below(&segments, &points), Ok(vec![Some(5), None]));
 //! ```
+//!
+//! Numbers are 32-bit and whole, in a unit of the caller's; places count from 0.
 
-#![warn(missing_docs)]
+#![deny(missing_docs)]
 
 use std::collections::TryReserveError;
 use std::error::Error;
 use std::fmt::{self, Display, Formatter};
 
 /// A horizontal segment at the height `y`, from `x0` to `x1`, both of which it covers. One with `x1 < x0` covers
-/// nothing.
+/// nothing. They are ordered by `x0`, then `x1`, then `y`.
 #[repr(C)]
-#[derive(Clone, Copy, Debug, PartialEq, Eq)]
+#[derive(Clone, Copy, Debug, Default, PartialEq, Eq, PartialOrd, Ord, Hash)]
 pub struct Segment {
     /// The first x that it covers.
     pub x0: i32,
@@ -28,9 +34,9 @@ pub struct Segment {
     pub y: i32,
 }
 
-/// A point, for which the sweep answers.
+/// A point. They are ordered by `x`, then `y`.
 #[repr(C)]
-#[derive(Clone, Copy, Debug, PartialEq, Eq)]
+#[derive(Clone, Copy, Debug, Default, PartialEq, Eq, PartialOrd, Ord, Hash)]
 pub struct Point {
     /// How far it lies along the segments.
     pub x: i32,
@@ -38,9 +44,10 @@ pub struct Point {
     pub y: i32,
 }
 
-/// A straight line from `(x0, y0)` to `(x1, y1)`, both of which are of it. It may be a point.
+/// A straight line from `(x0, y0)` to `(x1, y1)`, both of which are of it. It may be a point. They are ordered by `x0`,
+/// then `y0`, `x1` and `y1`, and one that is turned round is another one.
 #[repr(C)]
-#[derive(Clone, Copy, Debug, PartialEq, Eq)]
+#[derive(Clone, Copy, Debug, Default, PartialEq, Eq, PartialOrd, Ord, Hash)]
 pub struct Edge {
     /// Where the one end lies along the first axis.
     pub x0: i32,
@@ -53,7 +60,7 @@ pub struct Edge {
 }
 
 /// Memory was refused.
-#[derive(Clone, Copy, Debug, PartialEq, Eq)]
+#[derive(Clone, Copy, Debug, PartialEq, Eq, Hash)]
 pub struct Refused;
 
 impl Display for Refused {
@@ -71,7 +78,7 @@ impl From<TryReserveError> for Refused {
 }
 
 /// Why a sweep has no answers.
-#[derive(Clone, Copy, Debug, PartialEq, Eq)]
+#[derive(Clone, Copy, Debug, PartialEq, Eq, Hash)]
 pub enum Fault {
     /// Memory was refused.
     Refused,
@@ -98,7 +105,7 @@ impl From<TryReserveError> for Fault {
 }
 
 /// Why points among edges have no answers.
-#[derive(Clone, Copy, Debug, PartialEq, Eq)]
+#[derive(Clone, Copy, Debug, PartialEq, Eq, Hash)]
 pub enum LocateFault {
     /// Memory was refused.
     Refused,

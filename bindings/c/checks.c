@@ -1,0 +1,67 @@
+/* What a call from C meets first. The proved calls take slices: pointers that are aligned and not null, also where there
+ * are no items. Here a pointer that no items can stand at is told by a status, and null does where there are none.
+ *
+ * bindings/build gives the proved calls the names that they have here, and keeps those to itself. */
+#include <itree.h>
+
+#include <stdalign.h>
+
+int32_t proved_itree_below(const struct itree_segment *segments, size_t segment_count, const struct itree_point *points,
+                           size_t point_count, struct itree_height *heights, size_t height_count, size_t *overlap);
+int32_t proved_itree_meetings(const struct itree_edge *edges, size_t edge_count, struct itree_pair *pairs,
+                              size_t pair_count, size_t *count);
+int32_t proved_itree_locate(const struct itree_edge *edges, size_t edge_count, const struct itree_point *points,
+                            size_t point_count, struct itree_place *places, size_t place_count, size_t *first,
+                            size_t *second);
+
+#define OF(type) sizeof(type), alignof(type)
+
+/* Where no items stand. It is aligned for each type of itree.h, and nothing reads or writes it. */
+static uint64_t nothing;
+
+/* Whether so many items of a size can stand at the pointer. */
+static int can_hold(const void *items, size_t count, size_t size, size_t alignment) {
+    return count == 0 || (items != NULL && (uintptr_t)items % alignment == 0 && count <= PTRDIFF_MAX / size);
+}
+
+/* Whether the pointer is null or a number can stand there. */
+static int can_take(const size_t *number) { return number == NULL || can_hold(number, 1, OF(size_t)); }
+
+static void *slice(const void *items, size_t count) { return count == 0 ? &nothing : (void *)items; }
+
+int32_t itree_below(const struct itree_segment *segments, size_t segment_count, const struct itree_point *points,
+                    size_t point_count, struct itree_height *heights, size_t height_count, size_t *overlap) {
+    size_t untold = 0;
+    if (!can_hold(segments, segment_count, OF(struct itree_segment)) ||
+        !can_hold(points, point_count, OF(struct itree_point)) ||
+        !can_hold(heights, height_count, OF(struct itree_height)) || !can_take(overlap)) {
+        return ITREE_POINTER;
+    }
+    return proved_itree_below(slice(segments, segment_count), segment_count, slice(points, point_count), point_count,
+                              slice(heights, height_count), height_count, overlap ? overlap : &untold);
+}
+
+int32_t itree_meetings(const struct itree_edge *edges, size_t edge_count, struct itree_pair *pairs, size_t pair_count,
+                       size_t *count) {
+    size_t untold = 0;
+    if (!can_hold(edges, edge_count, OF(struct itree_edge)) || !can_hold(pairs, pair_count, OF(struct itree_pair)) ||
+        !can_take(count)) {
+        return ITREE_POINTER;
+    }
+    return proved_itree_meetings(slice(edges, edge_count), edge_count, slice(pairs, pair_count), pair_count,
+                                 count ? count : &untold);
+}
+
+int32_t itree_locate(const struct itree_edge *edges, size_t edge_count, const struct itree_point *points,
+                     size_t point_count, struct itree_place *places, size_t place_count, size_t *first,
+                     size_t *second) {
+    size_t untold[2] = {0, 0};
+    if (!can_hold(edges, edge_count, OF(struct itree_edge)) ||
+        !can_hold(points, point_count, OF(struct itree_point)) ||
+        !can_hold(places, place_count, OF(struct itree_place)) || !can_take(first) || !can_take(second)) {
+        return ITREE_POINTER;
+    }
+    return proved_itree_locate(slice(edges, edge_count), edge_count, slice(points, point_count), point_count,
+                               slice(places, place_count), place_count, first ? first : &untold[0],
+                               second ? second : &untold[1]);
+}

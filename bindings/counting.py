@@ -1,0 +1,82 @@
+"""What the tests of the bindings share: commands that are run, and how many of their tests passed."""
+
+import os
+import re
+import shutil
+import subprocess
+
+COUNTS = re.compile(r"^(\d+) passed, (\d+) failed$", re.M)
+
+_passed, _failed, _left_out = 0, 0, []
+
+
+def count(what, good, bad=0):
+    global _passed, _failed
+    _passed, _failed = _passed + good, _failed + bad
+    print(f"{what}: {good} passed, {bad} failed", flush=True)
+
+
+def run(words, at, **env):
+    """Runs a command in a folder, and gives its status and what it said. A variable that is None is taken away."""
+    variables = {name: value for name, value in {**os.environ, **env}.items() if value is not None}
+    how = {"stdout": subprocess.PIPE, "stderr": subprocess.STDOUT, "stdin": subprocess.DEVNULL, "text": True}
+    ran = subprocess.run([str(word) for word in words], cwd=at, env=variables, **how)
+    return ran.returncode, ran.stdout
+
+
+def succeeds(what, words, at, **env):
+    """Whether a command ends with 0. One that doesn't is a failed test, and what it said is shown."""
+    status, said = run(words, at, **env)
+    if status:
+        print(said)
+        count(what, 0, 1)
+    return status == 0
+
+
+def compare(what, words, wanted, at, **env):
+    """Runs a command, and compares what it prints."""
+    status, said = run(words, at, **env)
+    good = status == 0 and said == wanted
+    if not good:
+        print(said)
+    count(what, int(good), int(not good))
+
+
+def run_counted(what, words, at, counts=COUNTS, **env):
+    """Runs a command whose output has its counts, and adds them. One that fails, or has none, has failed."""
+    status, said = run(words, at, **env)
+    found = [tuple(map(int, it)) for it in counts.findall(said)]
+    good, bad = sum(it[0] for it in found), sum(it[1] for it in found)
+    if status or bad or not good:
+        print(said)
+    count(what, good, bad or int(status != 0 or not good))
+
+
+def has(what, command):
+    """Whether the machine has a command. What needs one that it hasn't is left out."""
+    if shutil.which(command):
+        return True
+    leave_out(what, f"there is no {command} here")
+    return False
+
+
+def leave_out(what, why):
+    _left_out.append(f"LEFT OUT {what}: {why} (bindings/install)")
+
+
+def told():
+    """The last lines of a run: what was left out, and the counts. Gives the status to end with."""
+    print("\n".join([*_left_out, f"{_passed} passed, {_failed} failed"]))
+    return int(_failed != 0)
+
+
+def quoted(python, document, at, **env):
+    """Runs the lines of Python that a document shows, as they stand. A line that ends with a comment prints what it
+    says."""
+    lines = re.search(r"^```python\n(.*?)^```$", document.read_text(encoding="utf-8"), re.M | re.S)
+    wanted = "".join(f"{it}\n" for it in re.findall(r"  # (.*)$", lines.group(1), re.M)) if lines else ""
+    if wanted:
+        compare(f"{document.name}, its lines of Python", [python, "-c", lines.group(1)], wanted, at, **env)
+    else:
+        print(f"{document} has no lines of Python that say what they print")
+        count(document.name, 0, 1)
