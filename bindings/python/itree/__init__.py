@@ -1,5 +1,5 @@
-"""Sweeps over horizontal segments, pairs of edges that meet, and points among edges, by the proved library of this
-repository.
+"""Sweeps over horizontal segments, pairs of edges that meet, and points among edges, by a library that is
+proved in Rattle.
 
     >>> import itree
     >>> itree.below([(0, 10, 5), (2, 6, 8)], [(6, 7), (2, 9), (11, 9)])
@@ -13,7 +13,8 @@ Rows are tuples or lists of whole numbers, or stand in a buffer of signed 32-bit
 array.array: flat or row by row. A buffer is read where it lies, without a copy; nothing may write it during the call,
 in which other threads of Python run on. A number that doesn't fit in 32 bits raises OverflowError.
 
-The library is bindings/built/libitree.so, which bindings/build makes, or the file that ITREE_LIBRARY names.
+The library lies in the package. In a checkout it is the file that ITREE_LIBRARY names, or bindings/built/libitree.so,
+which bindings/build makes.
 """
 
 import array
@@ -174,12 +175,34 @@ def _address(numbers):
     return numbers.buffer_info()[0] or ctypes.addressof(_nothing)
 
 
+def _beside(*names):
+    """The path of a file of this package, or of the checkout that it lies in."""
+    return os.path.normpath(os.path.join(os.path.dirname(os.path.abspath(__file__)), *names))
+
+
+def _file_of_library():
+    named = os.environ.get("ITREE_LIBRARY")
+    if os.path.exists(_beside("libitree.so")):
+        return _beside("libitree.so")
+    if named:
+        if not os.path.exists(named):
+            raise ImportError(f"{named} isn't there, which ITREE_LIBRARY names")
+        return os.path.abspath(named)
+    built = _beside("..", "..", "built", "libitree.so")
+    if not os.path.exists(built):
+        raise ImportError(f"{built} isn't there: bindings/build makes it")
+    return built
+
+
+def _version():
+    packaged = _beside("VERSION")
+    path = packaged if os.path.exists(packaged) else _beside("..", "..", "..", "VERSION")
+    with open(path, encoding="ascii") as file:
+        return file.read().strip()
+
+
 def _opened():
-    here = os.path.dirname(os.path.abspath(__file__))
-    path = os.environ.get("ITREE_LIBRARY") or os.path.join(here, "..", "..", "built", "libitree.so")
-    if not os.path.exists(path):
-        raise ImportError(f"{os.path.normpath(path)} isn't there: bindings/build makes it")
-    library = ctypes.CDLL(os.path.abspath(path))
+    library = ctypes.CDLL(_file_of_library())
     address, length = ctypes.c_void_p, ctypes.c_size_t
     library.itree_below.argtypes = [address, length, address, length, address, length, address]
     library.itree_meetings.argtypes = [address, length, address, length, address]
@@ -195,3 +218,4 @@ ctypes.pythonapi.PyBuffer_Release.restype = None
 _OWN_ORDER = "<" if memoryview(array.array("i", [1])).tobytes()[0] else ">"
 _nothing = ctypes.c_uint64()
 _library = _opened()
+__version__ = _version()
