@@ -34,6 +34,10 @@ constexpr bool operator!=(const itree_segment &one, const itree_segment &other) 
 constexpr bool operator!=(const itree_point &one, const itree_point &other) noexcept { return !(one == other); }
 constexpr bool operator!=(const itree_edge &one, const itree_edge &other) noexcept { return !(one == other); }
 constexpr bool operator!=(const itree_pair &one, const itree_pair &other) noexcept { return !(one == other); }
+/// By `first`, then by `second`.
+constexpr bool operator<(const itree_pair &one, const itree_pair &other) noexcept {
+    return one.first < other.first || (one.first == other.first && one.second < other.second);
+}
 
 namespace itree {
 

@@ -100,6 +100,7 @@ void checks_equality() {
     check("equal points", point == itree::Point{1, 2} && point != itree::Point{1, 3});
     check("equal edges", edge == itree::Edge{1, 2, 3, 4} && edge != itree::Edge{1, 2, 3, 5});
     check("equal pairs", pair == itree::Pair{1, 2} && pair != itree::Pair{0, 2});
+    check("pairs in order", pair < itree::Pair{2, 0} && pair < itree::Pair{1, 3} && !(pair < pair));
     const std::vector<itree::Edge> edges{{0, 0, 0, 0}, edge};
     check("an edge is found by std", std::find(edges.begin(), edges.end(), edge) == edges.begin() + 1);
 }
