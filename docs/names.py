@@ -25,12 +25,13 @@ OTHERS = {
     *"i8 if impl inline int_cmp isize nat_cmp no_std partition_point pos push repr requires retain rotate_left rotate_right".split(),
     *"skip std u16 u32 u64 u8 unsafe usize".split(),
     # other tools, libraries and languages
-    *"ITREE_LIBRARY ITREE_LIB_DIR MemoryError anyhow ar cc free malloc memmove memset proves realloc thiserror".split(),
+    *"CMAKE_PREFIX_PATH MemoryError PKG_CONFIG_PATH anyhow ar cc dist free".split(),
+    *"malloc memmove memset objcopy pkg-config proves realloc tactic thiserror".split(),
     *"rattle_alloc rattle_dealloc rattle_realloc".split(),
 }
 
 # Paths that a build makes, or that lie in the toolchain.
-BUILT = {"bindings/built", "bindings/built/libitree.a", "crates/itree/out/itree", "libitree.so", "liblibc_c.a", "out"}
+BUILT = {"lib/pkgconfig", "bindings/built", "bindings/built/libitree.a", "crates/itree/out/itree", "libitree.so", "liblibc_c.a", "out"}
 
 ENDINGS = "antt c cpp edit h hpp lines md py replies rs rt sh svg toml txt".split()
 LINK = re.compile(r"\]\((?!https?:)([^)#]+)")
@@ -45,6 +46,7 @@ BELONGS = re.compile(rf"({LISTED}) (of|in) ({LISTED})(?! of `)")
 CALLED = re.compile(r"\b([a-z_]\w*)\(")
 
 ITEM = re.compile(r"\b(?:fn|struct|enum|trait|mod|const|static|type|class|namespace|ghost|law)\s+(\w+)")
+CONSTANT_OF_C = re.compile(r"\bITREE_\w+")
 FIELD_OR_VARIANT = re.compile(r"^\s*(?:pub(?:\(\w+\))? )?(\w+): |^ {4}([A-Z]\w*)(?:[,({ ]|$)", re.M)
 LITERAL = re.compile(r'b?"(-{0,2}\w+)"')
 CLAUSE = re.compile(r"^\s*(?:ensures|requires)\*? (\w+) \{", re.M)
@@ -101,7 +103,8 @@ class Sources:
             self.add_contracts(path)
         stems = {part.partition(".")[0] for place in self.places for part in place.split("/")}
         words = {word for path, text in self.texts.items() if path.startswith("crates/itree/src/") for word in LITERAL.findall(text)}
-        wrappers = {name for path in self.paths if path.startswith("bindings/") for name in ITEM.findall(text_of(path))}
+        bindings = [text_of(path) for path in self.paths if path.startswith("bindings/")]
+        wrappers = {name for text in bindings for name in [*ITEM.findall(text), *CONSTANT_OF_C.findall(text)]}
         self.all = set().union(stems, words, wrappers, *self.names.values())
 
     def defined_in(self, path):
