@@ -1,5 +1,7 @@
 //! The calls beside a plain model, at faults, and with each request for memory refused in turn.
 
+#![warn(unsafe_op_in_unsafe_fn)]
+
 use itree::{below, locate, meetings, Edge, Fault, LocateFault, Point, Refused, Segment};
 use std::cell::Cell;
 use std::ffi::c_void;
