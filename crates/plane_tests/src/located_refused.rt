@@ -1,108 +1,123 @@
 //! Each request for memory of a call of `locate` refused in turn, and a status that refuses each edge.
 
-use crate::pairs::edge;
-use crate::statuses::{
-    EdgeList, EdgeTree, MadeStatus, hold_others, is_wanted, point, with_earlier,
-};
+use crate::located::{EARLIER, Wanted, is_empty, is_wanted};
 use i_tree::status::exp::StatusCollection;
+use i_tree::status::list::StatusList;
+use i_tree::status::tree::StatusTree;
 use i_tree::{Expiration, ExpiredVal, Refusal};
 use plane::edge::Edge;
-use plane::locate::{LocateFault, Point, locate};
+use plane::locate::{LocateFault, Point, Standing, locate};
 use std::alloc::Global;
 use std::cmp::Ordering;
 use std::test::Fail;
 use test_kit::Refusing;
-use test_kit::in_turn::{Fault, Trial, refuse_in_turn};
+use test_kit::in_turn::{Trial, refuse_in_turn};
 
 type Memory<'a> = &'a Refusing<Global>;
 
-// Edges above one another, which all cover one x, with a point on each there; and their places.
+// One call over a list and one over a tree.
 #[derive(Drop)]
-struct Stack<C: MadeStatus> {
-    memory: C::Memory,
+struct Locating<'a> {
+    memory: Memory<'a>,
     edges: Vec<Edge>,
     points: Vec<Point>,
     answers: Vec<Option<usize>>,
 }
 
-// The status and `out`, and how the last call ended.
+// What a call left in `out`, and how it ended.
 #[derive(Drop)]
-struct Located<C: MadeStatus> {
-    status: C,
-    out: Vec<Option<usize>, C::Memory>,
+struct Located<'a> {
+    out: Vec<Option<usize>, Memory<'a>>,
     outcome: Result<(), LocateFault>,
 }
 
-impl<C: MadeStatus> Trial for Stack<C> {
-    type State = Located<C>;
+#[derive(Drop)]
+struct Statuses<'a> {
+    list: StatusList<Standing, i64, (), Memory<'a>>,
+    tree: StatusTree<Standing, i64, (), Memory<'a>>,
+    by_list: Located<'a>,
+    by_tree: Located<'a>,
+}
 
-    fn begin(&self) -> Option<Located<C>> {
-        let mut status = C::make(self.memory).ok()?;
-        hold_others(&mut status).ok()?;
-        let out = with_earlier(self.memory).ok()?;
+impl<'a> Locating<'a> {
+    // Where the first answer alone is in `out`.
+    fn unasked(&self) -> Option<Located<'a>> {
+        let mut out = Vec::new(self.memory);
+        out.push(EARLIER).ok()?;
         Some(Located {
-            status,
             out,
             outcome: Ok(()),
         })
     }
 
-    fn call(&self, located: &mut Located<C>) {
-        located.outcome = locate(
-            &mut located.status,
-            &self.edges,
-            &self.points,
-            &mut located.out,
-        );
-    }
-
-    fn is_refused(&self, located: &mut Located<C>, _nth: u64) -> bool {
-        let refused = Err(LocateFault::Refused(Refusal::OutOfMemory));
-        is_wanted(located.outcome, &located.out, refused) && located.status.count() == 0
-    }
-
-    fn is_done(&self, located: &mut Located<C>) -> bool {
-        is_wanted(located.outcome, &located.out, Ok(&self.answers)) && located.status.count() == 0
+    // Whether the call answered. Then only the first answer stays.
+    fn has_answered(&self, located: &mut Located<'a>) -> bool {
+        let is_answered = is_wanted(Ok(&self.answers), located.outcome, &located.out);
+        located.out.truncate(1);
+        is_answered
     }
 }
 
-// How many requests the call makes over a new status.
-fn requests_of<C: MadeStatus>(
-    counted: &Refusing<Global>,
-    memory: C::Memory,
-    alloc: Global,
-) -> Result<Result<u64, Fault>, Fail> {
-    let mut edges = Vec::new(alloc);
-    let mut points = Vec::new(alloc);
-    let mut answers = Vec::new(alloc);
-    for place in 0..20usize {
-        let y = place as i32;
-        edges.push(edge(0, y, 30, y))?;
-        points.push(point(25, y))?;
-        answers.push(Some(place))?;
+// Whether the call was refused, and left `out` as it was.
+fn was_refused(located: &Located) -> bool {
+    let refused = Err(LocateFault::Refused(Refusal::OutOfMemory));
+    is_wanted(refused, located.outcome, &located.out)
+}
+
+impl<'a> Trial for Locating<'a> {
+    type State = Statuses<'a>;
+
+    fn begin(&self) -> Option<Statuses<'a>> {
+        Some(Statuses {
+            list: StatusList::new(self.memory, 0).ok()?,
+            tree: StatusTree::new(self.memory, 0).ok()?,
+            by_list: self.unasked()?,
+            by_tree: self.unasked()?,
+        })
     }
-    let stack: Stack<C> = Stack {
-        memory,
-        edges,
-        points,
-        answers,
+
+    fn call(&self, state: &mut Statuses<'a>) {
+        let (edges, points) = (&self.edges, &self.points);
+        state.by_list.outcome = locate(&mut state.list, edges, points, &mut state.by_list.out);
+        state.by_tree.outcome = locate(&mut state.tree, edges, points, &mut state.by_tree.out);
+    }
+
+    // One of the two calls was refused.
+    fn is_refused(&self, state: &mut Statuses<'a>, _nth: u64) -> bool {
+        let one = was_refused(&state.by_list) && self.has_answered(&mut state.by_tree);
+        let other = was_refused(&state.by_tree) && self.has_answered(&mut state.by_list);
+        one != other && is_empty(&mut state.list) && is_empty(&mut state.tree)
+    }
+
+    fn is_done(&self, state: &mut Statuses<'a>) -> bool {
+        self.has_answered(&mut state.by_list)
+            && self.has_answered(&mut state.by_tree)
+            && is_empty(&mut state.list)
+            && is_empty(&mut state.tree)
+    }
+}
+
+#[test]
+fn keeps_out_at_each_refusal(rt: HostRuntime) -> Result<(), Fail> {
+    let memory = Refusing::new(rt.alloc());
+    let mut locating = Locating {
+        memory: &memory,
+        edges: Vec::new(rt.alloc()),
+        points: Vec::new(rt.alloc()),
+        answers: Vec::new(rt.alloc()),
     };
-    Ok(refuse_in_turn(counted, &stack))
-}
-
-#[test]
-fn keeps_out_at_each_refusal_over_a_list(rt: HostRuntime) -> Result<(), Fail> {
-    let memory = Refusing::new(rt.alloc());
-    let requests = requests_of::<EdgeList<Memory>>(&memory, &memory, rt.alloc())?;
-    assert!(rt; matches!(requests, Ok(4..)));
-    Ok(())
-}
-
-#[test]
-fn keeps_out_at_each_refusal_over_a_tree(rt: HostRuntime) -> Result<(), Fail> {
-    let memory = Refusing::new(rt.alloc());
-    let requests = requests_of::<EdgeTree<Memory>>(&memory, &memory, rt.alloc())?;
-    assert!(rt; matches!(requests, Ok(4..)));
+    // They stand above one another over one x, where a point is on each.
+    for (y, place) in (0..20).zip(0..) {
+        locating.edges.push(Edge {
+            x0: 0,
+            y0: y,
+            x1: 30,
+            y1: y,
+        })?;
+        locating.points.push(Point { x: 25, y })?;
+        locating.answers.push(Some(place))?;
+    }
+    assert!(rt; refuse_in_turn(&memory, &locating).is_ok_and(|requests| requests >= 8));
     Ok(())
 }
 
@@ -154,34 +169,35 @@ impl<K: ExpiredVal<E>, E: Expiration, V: Copy> StatusCollection<K, E, V> for Ful
     fn clear(&mut self) {}
 }
 
+// An edge over a status without a handle, and what is wanted of the point above its start.
+static REFUSED: [(Edge, Wanted<'static>); 2] = [
+    (
+        Edge {
+            x0: 0,
+            y0: 0,
+            x1: 9,
+            y1: 9,
+        },
+        Err(LocateFault::Refused(Refusal::NoHandle)),
+    ),
+    // An upright one doesn't stand in the status.
+    (
+        Edge {
+            x0: 0,
+            y0: 0,
+            x1: 0,
+            y1: 9,
+        },
+        Ok(&[None]),
+    ),
+];
+
 #[test]
 fn tells_the_refusal_of_the_status(rt: HostRuntime) -> Result<(), Fail> {
-    let mut out = with_earlier(rt.alloc())?;
-    let outcome = locate(&mut Full, &[edge(0, 0, 9, 9)], &[point(0, 0)], &mut out);
-    let refused = Err(LocateFault::Refused(Refusal::NoHandle));
-    assert!(rt; is_wanted(outcome, &out, refused));
+    for (edge, wanted) in &REFUSED {
+        let mut out = vec![in rt.alloc(); EARLIER]?;
+        let outcome = locate(&mut Full, &[*edge], &[Point { x: 0, y: 9 }], &mut out);
+        assert!(rt; is_wanted(*wanted, outcome, &out));
+    }
     Ok(())
-}
-
-#[test]
-fn a_vertical_edge_does_not_stand_in_the_status(rt: HostRuntime) -> Result<(), Fail> {
-    let mut out = with_earlier(rt.alloc())?;
-    let outcome = locate(&mut Full, &[edge(3, 0, 3, 9)], &[point(3, 9)], &mut out);
-    assert!(rt; is_wanted(outcome, &out, Ok(&[None])));
-    Ok(())
-}
-
-// A point in memory of this kind, as a caller's own step would store it.
-fn one_point(memory: Memory) -> Result<(), LocateFault> {
-    let mut points = Vec::new(memory);
-    points.push(point(0, 0))?;
-    Ok(())
-}
-
-#[test]
-fn a_value_that_found_no_memory_is_a_fault(rt: HostRuntime) {
-    let memory = Refusing::new(rt.alloc());
-    assert!(rt; one_point(&memory).is_ok());
-    memory.refuse_all();
-    assert!(rt; one_point(&memory) == Err(LocateFault::Refused(Refusal::OutOfMemory)));
 }

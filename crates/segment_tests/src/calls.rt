@@ -11,9 +11,6 @@ use test_kit::until::Until;
 /// A tree of segments.
 pub type Tree<R, A> = SegExpTree<R, i32, Until, A>;
 
-/// A copy: its node, its mask and its value.
-pub type Placed = (u32, u64, Until);
-
 /// An empty tree over the range, or `None` where it has no layout or memory was refused.
 pub fn tree_over<R: LayoutNumber, A: Allocator + Copy>(
     memory: A,
@@ -47,10 +44,30 @@ pub fn collect<R: LayoutNumber, A: Allocator + Copy, B: Allocator>(
     out: &mut Vec<Until, B>,
 ) -> Option<Result<(), Refusal>> {
     let range = SegRange { min, max };
-    if !tree.accepts(range) || tree.latest_time().is_some_and(|latest| time < latest) {
+    if !tree.accepts(range) || !tree.is_in_time(time) {
         return None;
     }
     Some(tree.collect_by_range(range, time, out))
+}
+
+/// Appends to `out` what a walk yields that takes so many steps at most, where a query may be made, and answers `None`
+/// elsewhere or where `out` is refused room.
+pub fn walk<R: LayoutNumber, A: Allocator + Copy, B: Allocator>(
+    tree: &mut Tree<R, A>,
+    min: R,
+    max: R,
+    time: i32,
+    steps: usize,
+    out: &mut Vec<Until, B>,
+) -> Option<()> {
+    let range = SegRange { min, max };
+    if !tree.accepts(range) || !tree.is_in_time(time) {
+        return None;
+    }
+    for value in tree.iter_by_range(range, time).take(steps) {
+        out.push(value).ok()?;
+    }
+    Some(())
 }
 
 /// The numbers of these values, in rising order.
@@ -63,7 +80,7 @@ pub fn numbers_of(values: &[Until], alloc: Global) -> Option<Vec<i32>> {
     Some(numbers)
 }
 
-/// The numbers that a query finds, in rising order.
+/// The numbers that a query finds, in rising order, where a walk finds them too.
 pub fn found<R: LayoutNumber, A: Allocator + Copy>(
     tree: &mut Tree<R, A>,
     alloc: Global,
@@ -71,31 +88,24 @@ pub fn found<R: LayoutNumber, A: Allocator + Copy>(
     max: R,
     time: i32,
 ) -> Option<Vec<i32>> {
-    let mut values = Vec::new(alloc);
-    collect(tree, min, max, time, &mut values)?.ok()?;
-    numbers_of(&values, alloc)
+    let mut walked = Vec::new(alloc);
+    let mut collected = Vec::new(alloc);
+    walk(tree, min, max, time, usize::MAX, &mut walked)?;
+    collect(tree, min, max, time, &mut collected)?.ok()?;
+    let numbers = numbers_of(&collected, alloc)?;
+    (numbers_of(&walked, alloc)? == numbers).then_some(numbers)
 }
 
-// Appends the copies at the node.
-fn push_chunk<R: LayoutNumber, A: Allocator + Copy>(
-    tree: &Tree<R, A>,
-    node: u32,
-    copies: &mut Vec<Placed>,
-) -> Option<()> {
-    for (mask, value) in tree.chunk(node) {
-        copies.push((node, *mask, *value)).ok()?;
-    }
-    Some(())
-}
-
-/// All copies, by rising node.
-pub fn copies<R: LayoutNumber, A: Allocator + Copy>(
+/// The node of each copy, by rising node.
+pub fn places<R: LayoutNumber, A: Allocator + Copy>(
     tree: &Tree<R, A>,
     alloc: Global,
-) -> Option<Vec<Placed>> {
-    let mut copies = Vec::new(alloc);
+) -> Option<Vec<u32>> {
+    let mut nodes = Vec::new(alloc);
     for node in 0..64 {
-        push_chunk(tree, node, &mut copies)?;
+        for _ in tree.chunk(node) {
+            nodes.push(node).ok()?;
+        }
     }
-    Some(copies)
+    Some(nodes)
 }

@@ -1,121 +1,114 @@
 //! Each request for memory of a sweep, of its store and of `out`, refused in turn.
 
-use crate::stores::{LevelList, LevelTree, MadeStore, hold_others};
-use crate::sweeps::{is_wanted, point, segment, with_earlier};
+use crate::worked::{EARLIER, is_empty, is_wanted};
 use i_tree::Refusal;
-use itree_lib::sweep::{Point, Segment, SweepFault, below};
+use i_tree::key::list::KeyExpList;
+use i_tree::key::tree::KeyExpTree;
+use itree_lib::sweep::{Level, Point, Segment, SweepFault, below};
 use std::alloc::Global;
 use std::test::Fail;
 use test_kit::Refusing;
-use test_kit::in_turn::{Fault, Trial, refuse_in_turn};
+use test_kit::in_turn::{Trial, refuse_in_turn};
 
 type Memory<'a> = &'a Refusing<Global>;
 
-// A sweep over segments above one another, which all cover one x, with a point on each there; and its answers.
+// One sweep over a list and one over a tree.
 #[derive(Drop)]
-struct Stack<C: MadeStore> {
-    memory: C::Memory,
+struct Sweeping<'a> {
+    memory: Memory<'a>,
     segments: Vec<Segment>,
     points: Vec<Point>,
     answers: Vec<Option<i32>>,
 }
 
-// The store and `out`, and how the last sweep ended.
+// What a sweep left in `out`, and how it ended.
 #[derive(Drop)]
-struct Swept<C: MadeStore> {
-    store: C,
-    out: Vec<Option<i32>, C::Memory>,
+struct Swept<'a> {
+    out: Vec<Option<i32>, Memory<'a>>,
     outcome: Result<(), SweepFault>,
 }
 
-impl<C: MadeStore> Trial for Stack<C> {
-    type State = Swept<C>;
+#[derive(Drop)]
+struct Stores<'a> {
+    list: KeyExpList<Level, i32, Option<i32>, Memory<'a>>,
+    tree: KeyExpTree<Level, i32, Option<i32>, Memory<'a>>,
+    by_list: Swept<'a>,
+    by_tree: Swept<'a>,
+}
 
-    fn begin(&self) -> Option<Swept<C>> {
-        let mut store = C::make(self.memory).ok()?;
-        hold_others(&mut store).ok()?;
-        let out = with_earlier(self.memory).ok()?;
+impl<'a> Sweeping<'a> {
+    // Where the first answer alone is in `out`.
+    fn unswept(&self) -> Option<Swept<'a>> {
+        let mut out = Vec::new(self.memory);
+        out.push(EARLIER).ok()?;
         Some(Swept {
-            store,
             out,
             outcome: Ok(()),
         })
     }
 
-    fn call(&self, swept: &mut Swept<C>) {
-        swept.outcome = below(
-            &mut swept.store,
-            &self.segments,
-            &self.points,
-            &mut swept.out,
-        );
-    }
-
-    fn is_refused(&self, swept: &mut Swept<C>, _nth: u64) -> bool {
-        let refused = Err(SweepFault::Refused(Refusal::OutOfMemory));
-        is_wanted(swept.outcome, &swept.out, refused) && swept.store.count() == 0
-    }
-
-    fn is_done(&self, swept: &mut Swept<C>) -> bool {
-        is_wanted(swept.outcome, &swept.out, Ok(&self.answers)) && swept.store.count() == 0
+    // Whether the sweep answered. Then only the first answer stays.
+    fn has_answered(&self, swept: &mut Swept<'a>) -> bool {
+        let is_answered = is_wanted(Ok(&self.answers), swept.outcome, &swept.out);
+        swept.out.truncate(1);
+        is_answered
     }
 }
 
-// How many requests the sweep makes over a new store.
-fn requests_of<C: MadeStore>(
-    counted: &Refusing<Global>,
-    memory: C::Memory,
-    alloc: Global,
-) -> Result<Result<u64, Fault>, Fail> {
-    let mut segments = Vec::new(alloc);
-    let mut points = Vec::new(alloc);
-    let mut answers = Vec::new(alloc);
-    for y in 1..=20 {
-        segments.push(segment(y, 30, y))?;
-        points.push(point(25, y))?;
-        answers.push(Some(y))?;
+// Whether the sweep was refused, and left `out` as it was.
+fn was_refused(swept: &Swept) -> bool {
+    let refused = Err(SweepFault::Refused(Refusal::OutOfMemory));
+    is_wanted(refused, swept.outcome, &swept.out)
+}
+
+impl<'a> Trial for Sweeping<'a> {
+    type State = Stores<'a>;
+
+    fn begin(&self) -> Option<Stores<'a>> {
+        Some(Stores {
+            list: KeyExpList::new(self.memory, 0).ok()?,
+            tree: KeyExpTree::new(self.memory, 0).ok()?,
+            by_list: self.unswept()?,
+            by_tree: self.unswept()?,
+        })
     }
-    let stack: Stack<C> = Stack {
-        memory,
-        segments,
-        points,
-        answers,
+
+    fn call(&self, state: &mut Stores<'a>) {
+        let (segments, points) = (&self.segments, &self.points);
+        state.by_list.outcome = below(&mut state.list, segments, points, &mut state.by_list.out);
+        state.by_tree.outcome = below(&mut state.tree, segments, points, &mut state.by_tree.out);
+    }
+
+    // One of the two sweeps was refused.
+    fn is_refused(&self, state: &mut Stores<'a>, _nth: u64) -> bool {
+        let one = was_refused(&state.by_list) && self.has_answered(&mut state.by_tree);
+        let other = was_refused(&state.by_tree) && self.has_answered(&mut state.by_list);
+        one != other && is_empty(&mut state.list) && is_empty(&mut state.tree)
+    }
+
+    fn is_done(&self, state: &mut Stores<'a>) -> bool {
+        self.has_answered(&mut state.by_list)
+            && self.has_answered(&mut state.by_tree)
+            && is_empty(&mut state.list)
+            && is_empty(&mut state.tree)
+    }
+}
+
+#[test]
+fn keeps_out_at_each_refusal(rt: HostRuntime) -> Result<(), Fail> {
+    let memory = Refusing::new(rt.alloc());
+    let mut sweeping = Sweeping {
+        memory: &memory,
+        segments: Vec::new(rt.alloc()),
+        points: Vec::new(rt.alloc()),
+        answers: Vec::new(rt.alloc()),
     };
-    Ok(refuse_in_turn(counted, &stack))
-}
-
-#[test]
-fn keeps_out_at_each_refusal_over_a_list(rt: HostRuntime) -> Result<(), Fail> {
-    let memory = Refusing::new(rt.alloc());
-    let requests = requests_of::<LevelList<Memory>>(&memory, &memory, rt.alloc())?;
-    assert!(rt; matches!(requests, Ok(4..)));
+    // They stand above one another over one x, where a point is on each.
+    for y in 1..=20 {
+        sweeping.segments.push(Segment { x0: y, x1: 30, y })?;
+        sweeping.points.push(Point { x: 25, y })?;
+        sweeping.answers.push(Some(y))?;
+    }
+    assert!(rt; refuse_in_turn(&memory, &sweeping).is_ok_and(|requests| requests >= 8));
     Ok(())
-}
-
-#[test]
-fn keeps_out_at_each_refusal_over_a_tree(rt: HostRuntime) -> Result<(), Fail> {
-    let memory = Refusing::new(rt.alloc());
-    let requests = requests_of::<LevelTree<Memory>>(&memory, &memory, rt.alloc())?;
-    assert!(rt; matches!(requests, Ok(4..)));
-    Ok(())
-}
-
-// A point in memory of this kind, as a caller's own step of a sweep would store it.
-fn one_point(memory: Memory) -> Result<(), SweepFault> {
-    let mut points = Vec::new(memory);
-    points.push(point(0, 0))?;
-    Ok(())
-}
-
-#[test]
-fn a_value_that_found_no_memory_is_a_fault(rt: HostRuntime) {
-    let memory = Refusing::new(rt.alloc());
-    assert!(rt; one_point(&memory).is_ok());
-    memory.refuse_all();
-    assert!(rt;
-        matches!(
-            one_point(&memory),
-            Err(SweepFault::Refused(Refusal::OutOfMemory))
-        )
-    );
 }
