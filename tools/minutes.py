@@ -3,10 +3,10 @@
                                                   status
        tools/minutes.py table FILE                prints them
 
-What the toolchain does within a command is told apart by how it runs: a process that checks a crate has its name behind
---crate-name among its words, and --test where it is the tests that it checks; a must-fail edit is tried in a folder of its own,
-rt-edit-..; and what was built is run in a folder rt-run-... Several times a second it is read what these have taken so far,
-with all that they started. What they took after that, until they ended, is among `other`, since the kernel knows the sum.
+What the toolchain does within a command is told apart by how it runs: a process `rattle` that checks a crate has its name
+behind --crate-name among its words, and --test where it is the tests that it checks; a must-fail edit is tried in a folder of
+its own, rt-edit-..; and what was built is run in a folder rt-run-... Several times a second it is read what these have taken so
+far, with all that they started. What they took after that, until they ended, is among `other`: the kernel knows the sum.
 """
 
 import json
@@ -52,7 +52,7 @@ def folder_of(pid):
 def kind_of(pid):
     """The part and the crate that a process belongs to by its words, or None."""
     words = text_of(f"/proc/{pid}/cmdline").split("\0")
-    if "--crate-name" in words[:-1]:
+    if "--crate-name" in words[:-1] and "rattle" in map(os.path.basename, words):
         crate = words[words.index("--crate-name") + 1]
         return ("edits" if "/rt-edit-" in folder_of(pid) else "tests" if "--test" in words else "proofs"), crate
     ran = next((word for word in words if "/rt-run-" in word), None)
