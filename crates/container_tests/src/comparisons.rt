@@ -33,75 +33,96 @@ fn compared(tally: &Tally, kind: Kind, count: usize, finds: bool) -> bool {
     comparisons <= most(kind, count, finds) && (comparisons > 0 || count == 0)
 }
 
-// Inserts a key that is not there among so many, and then tries to insert it again.
-fn inserts_key<'a, C: KeyExpCollection<CountedKey<'a>, i32, i32>>(
-    keys: &mut C,
-    tally: &'a Tally,
-    kind: Kind,
-    count: usize,
-    number: i32,
-) -> bool {
+// Inserts a key that is not there among so many into a list, and then tries to insert it again.
+fn list_inserts<'a>(list: &mut CountedList<'a>, tally: &'a Tally, number: i32) -> bool {
     let key = counted_key(number, tally);
+    let count = list.stored();
     tally.take();
-    if keys.contains_key(0, key) || !compared(tally, kind, count, true) {
+    if list.contains_key(0, key) || !compared(tally, Kind::List, count, true) {
         return false;
     }
-    let is_inserted = keys.insert(key, number, 0).is_ok() && compared(tally, kind, count, false);
+    if list.insert(key, number, 0).is_err() || !compared(tally, Kind::List, count, false) {
+        return false;
+    }
     let more = count.saturating_add(1);
-    let is_present = keys.insert_new(key, 0, 0) == Ok(false) && compared(tally, kind, more, true);
-    is_inserted && is_present
+    list.insert_new(key, 0, 0) == Ok(false) && compared(tally, Kind::List, more, true)
 }
 
-// Looks for a number of those from 1 to 1000, and for one above them.
-fn finds_key<'a, C: KeyExpCollection<CountedKey<'a>, i32, i32>>(
-    keys: &mut C,
-    tally: &'a Tally,
-    kind: Kind,
-    number: i32,
-) -> bool {
+// Looks in a list for a number of those from 1 to 1000, and for one above them.
+fn list_finds<'a>(list: &mut CountedList<'a>, tally: &'a Tally, number: i32) -> bool {
     let key = counted_key(number, tally);
-    let is_below = keys.first_less(0, 0, key) == number.saturating_sub(1)
-        && compared(tally, kind, 1000, false);
-    is_below && keys.contains_key(0, key) == (number <= 1000) && compared(tally, kind, 1000, true)
+    tally.take();
+    let below = list.first_less(0, 0, key);
+    if below != number.saturating_sub(1) || !compared(tally, Kind::List, 1000, false) {
+        return false;
+    }
+    list.contains_key(0, key) == (number <= 1000) && compared(tally, Kind::List, 1000, true)
 }
 
-fn keys_compare<'a, C: KeyExpCollection<CountedKey<'a>, i32, i32> + Drop>(
-    rt: &impl Abort,
-    made: Result<C, Refusal>,
-    tally: &'a Tally,
-    kind: Kind,
-    order: Order,
-) {
-    let mut keys = made.ok().expect(rt, "no memory");
-    let mut count = 0usize;
+fn a_list_compares(rt: &impl Abort, tally: &Tally, order: Order, alloc: Global) {
+    let made: Option<CountedList> = CountedList::new(alloc, 0).ok();
+    let mut list = made.expect(rt, "no memory");
     for place in 0..1000 {
         let number = number_at(order, place).saturating_add(1);
         assert!(rt;
-            inserts_key(&mut keys, tally, kind, count, number),
-            "{kind:?}, {order:?}: {number}"
+            list_inserts(&mut list, tally, number),
+            "{order:?}: {number}"
         );
-        count = count.saturating_add(1);
     }
     for number in 1..=1001 {
+        assert!(rt; list_finds(&mut list, tally, number), "{order:?}: {number}");
+    }
+    assert!(rt; list_inserts(&mut list, tally, 1001), "{order:?}");
+}
+
+// Inserts a key that is not there among so many into a tree, and then tries to insert it again.
+fn tree_inserts<'a>(tree: &mut CountedTree<'a>, tally: &'a Tally, number: i32) -> bool {
+    let key = counted_key(number, tally);
+    let count = tree.stored();
+    tally.take();
+    if tree.contains_key(0, key) || !compared(tally, Kind::Tree, count, true) {
+        return false;
+    }
+    if tree.insert(key, number, 0).is_err() || !compared(tally, Kind::Tree, count, false) {
+        return false;
+    }
+    let more = count.saturating_add(1);
+    tree.insert_new(key, 0, 0) == Ok(false) && compared(tally, Kind::Tree, more, true)
+}
+
+// Looks in a tree for a number of those from 1 to 1000, and for one above them.
+fn tree_finds<'a>(tree: &mut CountedTree<'a>, tally: &'a Tally, number: i32) -> bool {
+    let key = counted_key(number, tally);
+    tally.take();
+    let below = tree.first_less(0, 0, key);
+    if below != number.saturating_sub(1) || !compared(tally, Kind::Tree, 1000, false) {
+        return false;
+    }
+    tree.contains_key(0, key) == (number <= 1000) && compared(tally, Kind::Tree, 1000, true)
+}
+
+fn a_tree_compares(rt: &impl Abort, tally: &Tally, order: Order, alloc: Global) {
+    let made: Option<CountedTree> = CountedTree::new(alloc, 0).ok();
+    let mut tree = made.expect(rt, "no memory");
+    for place in 0..1000 {
+        let number = number_at(order, place).saturating_add(1);
         assert!(rt;
-            finds_key(&mut keys, tally, kind, number),
-            "{kind:?}, {order:?}: {number}"
+            tree_inserts(&mut tree, tally, number),
+            "{order:?}: {number}"
         );
     }
-    assert!(rt;
-        inserts_key(&mut keys, tally, kind, count, 1001),
-        "{kind:?}, {order:?}"
-    );
+    for number in 1..=1001 {
+        assert!(rt; tree_finds(&mut tree, tally, number), "{order:?}: {number}");
+    }
+    assert!(rt; tree_inserts(&mut tree, tally, 1001), "{order:?}");
 }
 
 #[test]
 fn keys_are_compared_within_the_bounds(rt: HostRuntime) {
     let tally = Tally::new();
     for order in [Order::Rising, Order::Falling, Order::Scattered] {
-        let list: Result<CountedList, Refusal> = KeyExpList::new(rt.alloc(), 0);
-        keys_compare(&rt, list, &tally, Kind::List, order);
-        let tree: Result<CountedTree, Refusal> = KeyExpTree::new(rt.alloc(), 0);
-        keys_compare(&rt, tree, &tally, Kind::Tree, order);
+        a_list_compares(&rt, &tally, order, rt.alloc());
+        a_tree_compares(&rt, &tally, order, rt.alloc());
     }
 }
 

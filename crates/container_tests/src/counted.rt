@@ -6,10 +6,10 @@ use i_tree::Refusal;
 use i_tree::key::tree::KeyExpTree;
 use i_tree::steps::Counter;
 use std::alloc::Global;
-use std::test::Fail;
+use std::process::Abort;
 
 /// How often each thing was counted.
-#[derive(Clone, Copy, PartialEq, Eq)]
+#[derive(Clone, Copy)]
 pub struct Made {
     comparisons: u64,
     tests: u64,
@@ -65,9 +65,10 @@ struct Row {
     keys: &'static [(i32, i32)],
     query: Query,
     answer: i32,
-    made: Made,
-    // Whether the row says how often the tree is turned.
-    tells_rotations: bool,
+    // Comparisons, tests and removals.
+    made: (u64, u64, u64),
+    // How often the insertions turn the tree, and how often the query does, where the row says so.
+    rotations: Option<(u64, u64)>,
     stored: usize,
 }
 
@@ -77,19 +78,14 @@ const THIRD_EXPIRED: &[(i32, i32)] = &[(1, 10), (2, 10), (3, 1), (4, 10)];
 
 const LEAF_EXPIRED: &[(i32, i32)] = &[(4, 10), (2, 10), (5, 1), (1, 10)];
 
-const ROWS: &[Row] = &[
+static ROWS: &[Row] = &[
     Row {
         name: "nothing is left",
         keys: ALL_EXPIRED,
         query: Query::Below(9),
         answer: -1,
-        made: Made {
-            comparisons: 0,
-            tests: 7,
-            removals: 7,
-            rotations: 0,
-        },
-        tells_rotations: false,
+        made: (0, 7, 7),
+        rotations: None,
         stored: 0,
     },
     Row {
@@ -97,13 +93,8 @@ const ROWS: &[Row] = &[
         keys: ALL_EXPIRED,
         query: Query::AtMost(9),
         answer: -1,
-        made: Made {
-            comparisons: 0,
-            tests: 7,
-            removals: 7,
-            rotations: 0,
-        },
-        tells_rotations: false,
+        made: (0, 7, 7),
+        rotations: None,
         stored: 0,
     },
     Row {
@@ -111,13 +102,8 @@ const ROWS: &[Row] = &[
         keys: THIRD_EXPIRED,
         query: Query::Below(9),
         answer: 4,
-        made: Made {
-            comparisons: 2,
-            tests: 3,
-            removals: 1,
-            rotations: 0,
-        },
-        tells_rotations: true,
+        made: (2, 3, 1),
+        rotations: Some((1, 0)),
         stored: 3,
     },
     Row {
@@ -125,13 +111,8 @@ const ROWS: &[Row] = &[
         keys: THIRD_EXPIRED,
         query: Query::AtMost(9),
         answer: 4,
-        made: Made {
-            comparisons: 2,
-            tests: 3,
-            removals: 1,
-            rotations: 0,
-        },
-        tells_rotations: true,
+        made: (2, 3, 1),
+        rotations: Some((1, 0)),
         stored: 3,
     },
     Row {
@@ -139,13 +120,8 @@ const ROWS: &[Row] = &[
         keys: THIRD_EXPIRED,
         query: Query::Above(1),
         answer: 2,
-        made: Made {
-            comparisons: 2,
-            tests: 2,
-            removals: 0,
-            rotations: 0,
-        },
-        tells_rotations: true,
+        made: (2, 2, 0),
+        rotations: Some((1, 0)),
         stored: 4,
     },
     Row {
@@ -153,13 +129,8 @@ const ROWS: &[Row] = &[
         keys: THIRD_EXPIRED,
         query: Query::Above(9),
         answer: -1,
-        made: Made {
-            comparisons: 2,
-            tests: 3,
-            removals: 1,
-            rotations: 0,
-        },
-        tells_rotations: true,
+        made: (2, 3, 1),
+        rotations: Some((1, 0)),
         stored: 3,
     },
     Row {
@@ -167,13 +138,8 @@ const ROWS: &[Row] = &[
         keys: LEAF_EXPIRED,
         query: Query::Below(9),
         answer: 4,
-        made: Made {
-            comparisons: 1,
-            tests: 2,
-            removals: 1,
-            rotations: 1,
-        },
-        tells_rotations: true,
+        made: (1, 2, 1),
+        rotations: Some((0, 1)),
         stored: 3,
     },
     Row {
@@ -181,13 +147,8 @@ const ROWS: &[Row] = &[
         keys: LEAF_EXPIRED,
         query: Query::AtMost(9),
         answer: 4,
-        made: Made {
-            comparisons: 1,
-            tests: 2,
-            removals: 1,
-            rotations: 1,
-        },
-        tells_rotations: true,
+        made: (1, 2, 1),
+        rotations: Some((0, 1)),
         stored: 3,
     },
 ];
@@ -224,22 +185,32 @@ fn ask(tree: &mut KeyExpTree<TimedKey, i32, i32, Global>, query: Query, made: &m
     }
 }
 
-#[test]
-fn a_descent_counts_what_it_makes(rt: HostRuntime) -> Result<(), Fail> {
-    for row in ROWS {
-        let name = row.name;
-        let mut tree = KeyExpTree::new(rt.alloc(), 0)?;
-        let mut made = NOTHING;
-        assert!(rt; insert_all(&mut tree, row.keys, &mut made)?, "{name}");
-        made = NOTHING;
-        assert!(rt;
-            ask(&mut tree, row.query, &mut made) == row.answer,
-            "{name}"
-        );
-        if !row.tells_rotations {
-            made.rotations = 0;
-        }
-        assert!(rt; made == row.made && tree.stored() == row.stored, "{name}");
+// Inserts the keys and asks, and compares the answer and the counts.
+fn go_down(rt: &impl Abort, row: &Row, alloc: Global) {
+    let name = row.name;
+    let tree: Option<KeyExpTree<TimedKey, i32, i32, Global>> = KeyExpTree::new(alloc, 0).ok();
+    let mut tree = tree.expect(rt, "no memory");
+    let mut made = NOTHING;
+    assert!(rt;
+        insert_all(&mut tree, row.keys, &mut made) == Ok(true),
+        "{name}"
+    );
+    let turned = made.rotations;
+    made = NOTHING;
+    assert!(rt;
+        ask(&mut tree, row.query, &mut made) == row.answer,
+        "{name}"
+    );
+    let counts = (made.comparisons, made.tests, made.removals);
+    assert!(rt; counts == row.made && tree.stored() == row.stored, "{name}");
+    if let Some(rotations) = row.rotations {
+        assert!(rt; (turned, made.rotations) == rotations, "{name}");
     }
-    Ok(())
+}
+
+#[test]
+fn a_descent_counts_what_it_makes(rt: HostRuntime) {
+    for row in ROWS {
+        go_down(&rt, row, rt.alloc());
+    }
 }
