@@ -285,8 +285,8 @@ static CORNERS: [(Ends, Ends, (i32, i32)); 12] = [
 /// The answer that stands in `out` before a call.
 pub const EARLIER: Option<usize> = Some(77);
 
-/// Stores two level edges over the whole plane, that a call would answer, or find to cross others, if they stayed.
-pub fn hold_others<C: StatusCollection<Standing, i64, ()>>(status: &mut C) -> Result<(), Refusal> {
+// Stores two level edges over the whole plane, that a call would answer, or find to cross others, if they stayed.
+fn hold_others<C: StatusCollection<Standing, i64, ()>>(status: &mut C) -> Result<(), Refusal> {
     for y in [-4, 1] {
         let edge = Edge {
             x0: LEAST,
@@ -322,9 +322,9 @@ pub fn is_wanted(wanted: Wanted, outcome: Result<(), LocateFault>, out: &[Option
     }
 }
 
-/// Locates over a status that holds others, into an `out` that has an answer. Tells whether all is as it is wanted, and the
-/// status is empty.
-pub fn locates_to<C: StatusCollection<Standing, i64, ()>>(
+// Locates over a status that holds others, into an `out` that has an answer. Tells whether all is as it is wanted, and the
+// status is empty.
+fn locates_to<C: StatusCollection<Standing, i64, ()>>(
     alloc: Global,
     status: &mut C,
     edges: &[Edge],
