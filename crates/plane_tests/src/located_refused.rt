@@ -12,7 +12,7 @@ use std::alloc::{Allocator, Global};
 use std::cmp::Ordering;
 use std::test::Fail;
 use test_kit::Refusing;
-use test_kit::in_turn::{Trial, refuse_in_turn};
+use test_kit::in_turn::{Fault, Trial, refuse_in_turn};
 
 type Memory<'a> = &'a Refusing<Global>;
 
@@ -95,35 +95,51 @@ impl<C: MadeStatus> Trial for Stack<C> {
     }
 }
 
-fn stacked<C: MadeStatus>(memory: C::Memory, alloc: Global) -> Result<Stack<C>, Fail> {
-    let mut stack = Stack {
-        memory,
-        edges: Vec::new(alloc),
-        points: Vec::new(alloc),
-        answers: Vec::new(alloc),
-    };
+// How many requests the call makes over a new one.
+fn requests_of<C: MadeStatus>(
+    counted: &Refusing<Global>,
+    memory: C::Memory,
+    alloc: Global,
+) -> Result<Result<u64, Fault>, Fail> {
+    let mut edges = Vec::new(alloc);
+    let mut points = Vec::new(alloc);
+    let mut answers = Vec::new(alloc);
     for place in 0..20u8 {
         let y = place as i32;
-        stack.edges.push(edge([0, y, 30, y]))?;
-        stack.points.push(Point { x: 25, y })?;
-        stack.answers.push(Some(place as usize))?;
+        edges.push(edge([0, y, 30, y]))?;
+        points.push(Point { x: 25, y })?;
+        answers.push(Some(place as usize))?;
     }
-    Ok(stack)
+    let stack: Stack<C> = Stack {
+        memory,
+        edges,
+        points,
+        answers,
+    };
+    Ok(refuse_in_turn(counted, &stack))
 }
 
 #[test]
 fn keeps_out_at_each_refusal_over_a_list(rt: HostRuntime) -> Result<(), Fail> {
     let memory = Refusing::new(rt.alloc());
-    let stack: Stack<StatusList<_, _, _, Memory>> = stacked(&memory, rt.alloc())?;
-    assert!(rt; matches!(refuse_in_turn(&memory, &stack), Ok(4..)));
+    let requests = requests_of::<StatusList<Standing, i64, (), Memory>>(
+        &memory,
+        &memory,
+        rt.alloc(),
+    )?;
+    assert!(rt; matches!(requests, Ok(4..)));
     Ok(())
 }
 
 #[test]
 fn keeps_out_at_each_refusal_over_a_tree(rt: HostRuntime) -> Result<(), Fail> {
     let memory = Refusing::new(rt.alloc());
-    let stack: Stack<StatusTree<_, _, _, Memory>> = stacked(&memory, rt.alloc())?;
-    assert!(rt; matches!(refuse_in_turn(&memory, &stack), Ok(4..)));
+    let requests = requests_of::<StatusTree<Standing, i64, (), Memory>>(
+        &memory,
+        &memory,
+        rt.alloc(),
+    )?;
+    assert!(rt; matches!(requests, Ok(4..)));
     Ok(())
 }
 

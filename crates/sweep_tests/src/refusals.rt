@@ -9,7 +9,7 @@ use itree_lib::sweep::{Level, Point, Segment, SweepFault, below};
 use std::alloc::{Allocator, Global};
 use std::test::Fail;
 use test_kit::Refusing;
-use test_kit::in_turn::{Trial, refuse_in_turn};
+use test_kit::in_turn::{Fault, Trial, refuse_in_turn};
 
 type Memory<'a> = &'a Refusing<Global>;
 
@@ -92,33 +92,49 @@ impl<C: MadeStore> Trial for Stack<C> {
     }
 }
 
-fn stacked<C: MadeStore>(memory: C::Memory, alloc: Global) -> Result<Stack<C>, Fail> {
-    let mut stack = Stack {
-        memory,
-        segments: Vec::new(alloc),
-        points: Vec::new(alloc),
-        answers: Vec::new(alloc),
-    };
+// How many requests the call makes over a new one.
+fn requests_of<C: MadeStore>(
+    counted: &Refusing<Global>,
+    memory: C::Memory,
+    alloc: Global,
+) -> Result<Result<u64, Fault>, Fail> {
+    let mut segments = Vec::new(alloc);
+    let mut points = Vec::new(alloc);
+    let mut answers = Vec::new(alloc);
     for y in 1..=20 {
-        stack.segments.push(Segment { x0: y, x1: 30, y })?;
-        stack.points.push(Point { x: 25, y })?;
-        stack.answers.push(Some(y))?;
+        segments.push(Segment { x0: y, x1: 30, y })?;
+        points.push(Point { x: 25, y })?;
+        answers.push(Some(y))?;
     }
-    Ok(stack)
+    let stack: Stack<C> = Stack {
+        memory,
+        segments,
+        points,
+        answers,
+    };
+    Ok(refuse_in_turn(counted, &stack))
 }
 
 #[test]
 fn keeps_out_at_each_refusal_over_a_list(rt: HostRuntime) -> Result<(), Fail> {
     let memory = Refusing::new(rt.alloc());
-    let stack: Stack<KeyExpList<_, _, _, Memory>> = stacked(&memory, rt.alloc())?;
-    assert!(rt; matches!(refuse_in_turn(&memory, &stack), Ok(4..)));
+    let requests = requests_of::<KeyExpList<Level, i32, Option<i32>, Memory>>(
+        &memory,
+        &memory,
+        rt.alloc(),
+    )?;
+    assert!(rt; matches!(requests, Ok(4..)));
     Ok(())
 }
 
 #[test]
 fn keeps_out_at_each_refusal_over_a_tree(rt: HostRuntime) -> Result<(), Fail> {
     let memory = Refusing::new(rt.alloc());
-    let stack: Stack<KeyExpTree<_, _, _, Memory>> = stacked(&memory, rt.alloc())?;
-    assert!(rt; matches!(refuse_in_turn(&memory, &stack), Ok(4..)));
+    let requests = requests_of::<KeyExpTree<Level, i32, Option<i32>, Memory>>(
+        &memory,
+        &memory,
+        rt.alloc(),
+    )?;
+    assert!(rt; matches!(requests, Ok(4..)));
     Ok(())
 }
