@@ -285,8 +285,8 @@ static CORNERS: [(Ends, Ends, (i32, i32)); 12] = [
 /// The answer that stands in `out` before a call.
 pub const EARLIER: Option<usize> = Some(77);
 
-/// Stores two level edges over the whole plane, that a call would answer, or find to cross others, if they stayed.
-pub fn hold_others<C: StatusCollection<Standing, i64, ()>>(status: &mut C) -> Result<(), Refusal> {
+// Stores two level edges over the whole plane, that a call would answer, or find to cross others, if they stayed.
+fn hold_others<C: StatusCollection<Standing, i64, ()>>(status: &mut C) -> Result<(), Refusal> {
     for y in [-4, 1] {
         let edge = Edge {
             x0: LEAST,
@@ -322,9 +322,9 @@ pub fn is_wanted(wanted: Wanted, outcome: Result<(), LocateFault>, out: &[Option
     }
 }
 
-/// Locates over a status that holds others, into an `out` that has an answer. Tells whether all is as it is wanted, and the
-/// status is empty.
-pub fn locates_to<C: StatusCollection<Standing, i64, ()>>(
+// Locates over a status that holds others, into an `out` that has an answer. Tells whether all is as it is wanted, and the
+// status is empty.
+fn locates_to<C: StatusCollection<Standing, i64, ()>>(
     alloc: Global,
     status: &mut C,
     edges: &[Edge],
@@ -409,9 +409,14 @@ fn locates_so(
     Ok(locates_over_both(alloc, &edges, &points, wanted)? && is_turned_told)
 }
 
+// A function that goes over a table is dear to prove if it names the table.
+fn rows() -> &'static [Row] {
+    &ROWS
+}
+
 #[test]
 fn locates_as_worked_by_hand(rt: HostRuntime) -> Result<(), Fail> {
-    for row in &ROWS {
+    for row in rows() {
         assert!(rt;
             locates_so(rt.alloc(), row.edges, row.points, row.wanted)?,
             "{}",

@@ -1,5 +1,6 @@
 //! Each request for memory of a call of `locate` refused in turn, and a status that refuses each edge.
 
+use crate::edges::{Ends, edge};
 use crate::located::{EARLIER, Wanted, is_empty, is_wanted};
 use i_tree::status::exp::StatusCollection;
 use i_tree::status::list::StatusList;
@@ -7,117 +8,138 @@ use i_tree::status::tree::StatusTree;
 use i_tree::{Expiration, ExpiredVal, Refusal};
 use plane::edge::Edge;
 use plane::locate::{LocateFault, Point, Standing, locate};
-use std::alloc::Global;
+use std::alloc::{Allocator, Global};
 use std::cmp::Ordering;
 use std::test::Fail;
 use test_kit::Refusing;
-use test_kit::in_turn::{Trial, refuse_in_turn};
+use test_kit::in_turn::{Fault, Trial, refuse_in_turn};
 
 type Memory<'a> = &'a Refusing<Global>;
 
-// One call over a list and one over a tree.
+// A status that takes memory of one kind.
+trait MadeStatus: StatusCollection<Standing, i64, ()> + Drop {
+    type Memory: Allocator + Copy + Drop;
+
+    fn make(memory: Self::Memory) -> Result<Self, Refusal>;
+}
+
+impl<A: Allocator + Copy + Drop> MadeStatus for StatusList<Standing, i64, (), A> {
+    type Memory = A;
+
+    fn make(memory: A) -> Result<Self, Refusal> {
+        StatusList::new(memory, 0)
+    }
+}
+
+impl<A: Allocator + Copy + Drop> MadeStatus for StatusTree<Standing, i64, (), A> {
+    type Memory = A;
+
+    fn make(memory: A) -> Result<Self, Refusal> {
+        StatusTree::new(memory, 0)
+    }
+}
+
+// Edges above one another, which all cover one x, with a point on each there; and their places.
 #[derive(Drop)]
-struct Locating<'a> {
-    memory: Memory<'a>,
+struct Stack<C: MadeStatus> {
+    memory: C::Memory,
     edges: Vec<Edge>,
     points: Vec<Point>,
     answers: Vec<Option<usize>>,
 }
 
-// What a call left in `out`, and how it ended.
+// The status and `out`, and how the last call ended.
 #[derive(Drop)]
-struct Located<'a> {
-    out: Vec<Option<usize>, Memory<'a>>,
+struct Located<C: MadeStatus> {
+    status: C,
+    out: Vec<Option<usize>, C::Memory>,
     outcome: Result<(), LocateFault>,
 }
 
-#[derive(Drop)]
-struct Statuses<'a> {
-    list: StatusList<Standing, i64, (), Memory<'a>>,
-    tree: StatusTree<Standing, i64, (), Memory<'a>>,
-    by_list: Located<'a>,
-    by_tree: Located<'a>,
+impl<C: MadeStatus> Located<C> {
+    // Whether the call ended so, and left the status empty.
+    fn has_ended(&mut self, wanted: Wanted) -> bool {
+        is_wanted(wanted, self.outcome, &self.out) && is_empty(&mut self.status)
+    }
 }
 
-impl<'a> Locating<'a> {
-    // Where the first answer alone is in `out`.
-    fn unasked(&self) -> Option<Located<'a>> {
+impl<C: MadeStatus> Trial for Stack<C> {
+    type State = Located<C>;
+
+    fn begin(&self) -> Option<Located<C>> {
+        let status = C::make(self.memory).ok()?;
         let mut out = Vec::new(self.memory);
         out.push(EARLIER).ok()?;
         Some(Located {
+            status,
             out,
             outcome: Ok(()),
         })
     }
 
-    // Whether the call answered. Then only the first answer stays.
-    fn has_answered(&self, located: &mut Located<'a>) -> bool {
-        let is_answered = is_wanted(Ok(&self.answers), located.outcome, &located.out);
-        located.out.truncate(1);
-        is_answered
+    fn call(&self, located: &mut Located<C>) {
+        let Located {
+            status,
+            out,
+            outcome,
+        } = located;
+        *outcome = locate(status, &self.edges, &self.points, out);
+    }
+
+    fn is_refused(&self, located: &mut Located<C>, _nth: u64) -> bool {
+        located.has_ended(Err(LocateFault::Refused(Refusal::OutOfMemory)))
+    }
+
+    fn is_done(&self, located: &mut Located<C>) -> bool {
+        located.has_ended(Ok(&self.answers))
     }
 }
 
-// Whether the call was refused, and left `out` as it was.
-fn was_refused(located: &Located) -> bool {
-    let refused = Err(LocateFault::Refused(Refusal::OutOfMemory));
-    is_wanted(refused, located.outcome, &located.out)
-}
-
-impl<'a> Trial for Locating<'a> {
-    type State = Statuses<'a>;
-
-    fn begin(&self) -> Option<Statuses<'a>> {
-        Some(Statuses {
-            list: StatusList::new(self.memory, 0).ok()?,
-            tree: StatusTree::new(self.memory, 0).ok()?,
-            by_list: self.unasked()?,
-            by_tree: self.unasked()?,
-        })
+// How many requests the call makes over a new one.
+fn requests_of<C: MadeStatus>(
+    counted: &Refusing<Global>,
+    memory: C::Memory,
+    alloc: Global,
+) -> Result<Result<u64, Fault>, Fail> {
+    let mut edges = Vec::new(alloc);
+    let mut points = Vec::new(alloc);
+    let mut answers = Vec::new(alloc);
+    for place in 0..20u8 {
+        let y = place as i32;
+        edges.push(edge([0, y, 30, y]))?;
+        points.push(Point { x: 25, y })?;
+        answers.push(Some(place as usize))?;
     }
-
-    fn call(&self, state: &mut Statuses<'a>) {
-        let (edges, points) = (&self.edges, &self.points);
-        state.by_list.outcome = locate(&mut state.list, edges, points, &mut state.by_list.out);
-        state.by_tree.outcome = locate(&mut state.tree, edges, points, &mut state.by_tree.out);
-    }
-
-    // One of the two calls was refused.
-    fn is_refused(&self, state: &mut Statuses<'a>, _nth: u64) -> bool {
-        let one = was_refused(&state.by_list) && self.has_answered(&mut state.by_tree);
-        let other = was_refused(&state.by_tree) && self.has_answered(&mut state.by_list);
-        one != other && is_empty(&mut state.list) && is_empty(&mut state.tree)
-    }
-
-    fn is_done(&self, state: &mut Statuses<'a>) -> bool {
-        self.has_answered(&mut state.by_list)
-            && self.has_answered(&mut state.by_tree)
-            && is_empty(&mut state.list)
-            && is_empty(&mut state.tree)
-    }
+    let stack: Stack<C> = Stack {
+        memory,
+        edges,
+        points,
+        answers,
+    };
+    Ok(refuse_in_turn(counted, &stack))
 }
 
 #[test]
-fn keeps_out_at_each_refusal(rt: HostRuntime) -> Result<(), Fail> {
+fn keeps_out_at_each_refusal_over_a_list(rt: HostRuntime) -> Result<(), Fail> {
     let memory = Refusing::new(rt.alloc());
-    let mut locating = Locating {
-        memory: &memory,
-        edges: Vec::new(rt.alloc()),
-        points: Vec::new(rt.alloc()),
-        answers: Vec::new(rt.alloc()),
-    };
-    // They stand above one another over one x, where a point is on each.
-    for (y, place) in (0..20).zip(0..) {
-        locating.edges.push(Edge {
-            x0: 0,
-            y0: y,
-            x1: 30,
-            y1: y,
-        })?;
-        locating.points.push(Point { x: 25, y })?;
-        locating.answers.push(Some(place))?;
-    }
-    assert!(rt; refuse_in_turn(&memory, &locating).is_ok_and(|requests| requests >= 8));
+    let requests = requests_of::<StatusList<Standing, i64, (), Memory>>(
+        &memory,
+        &memory,
+        rt.alloc(),
+    )?;
+    assert!(rt; matches!(requests, Ok(4..)));
+    Ok(())
+}
+
+#[test]
+fn keeps_out_at_each_refusal_over_a_tree(rt: HostRuntime) -> Result<(), Fail> {
+    let memory = Refusing::new(rt.alloc());
+    let requests = requests_of::<StatusTree<Standing, i64, (), Memory>>(
+        &memory,
+        &memory,
+        rt.alloc(),
+    )?;
+    assert!(rt; matches!(requests, Ok(4..)));
     Ok(())
 }
 
@@ -169,34 +191,18 @@ impl<K: ExpiredVal<E>, E: Expiration, V: Copy> StatusCollection<K, E, V> for Ful
     fn clear(&mut self) {}
 }
 
-// An edge over a status without a handle, and what is wanted of the point above its start.
-static REFUSED: [(Edge, Wanted<'static>); 2] = [
-    (
-        Edge {
-            x0: 0,
-            y0: 0,
-            x1: 9,
-            y1: 9,
-        },
-        Err(LocateFault::Refused(Refusal::NoHandle)),
-    ),
-    // An upright one doesn't stand in the status.
-    (
-        Edge {
-            x0: 0,
-            y0: 0,
-            x1: 0,
-            y1: 9,
-        },
-        Ok(&[None]),
-    ),
+// An edge over a status without a handle, and what is wanted of a point above its start. An upright one doesn't stand in the
+// status.
+static REFUSED: [(Ends, Wanted<'static>); 2] = [
+    ([0, 0, 9, 9], Err(LocateFault::Refused(Refusal::NoHandle))),
+    ([0, 0, 0, 9], Ok(&[None])),
 ];
 
 #[test]
 fn tells_the_refusal_of_the_status(rt: HostRuntime) -> Result<(), Fail> {
-    for (edge, wanted) in &REFUSED {
+    for (ends, wanted) in &REFUSED {
         let mut out = vec![in rt.alloc(); EARLIER]?;
-        let outcome = locate(&mut Full, &[*edge], &[Point { x: 0, y: 9 }], &mut out);
+        let outcome = locate(&mut Full, &[edge(*ends)], &[Point { x: 0, y: 9 }], &mut out);
         assert!(rt; is_wanted(*wanted, outcome, &out));
     }
     Ok(())

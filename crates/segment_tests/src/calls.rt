@@ -6,7 +6,7 @@ use i_tree::seg::exp::{SegExpCollection, SegRange};
 use i_tree::seg::tree::SegExpTree;
 use i_tree::{LayoutNumber, Refusal};
 use std::alloc::{Allocator, Global};
-use test_kit::until::Until;
+use test_kit::until::{Until, number};
 
 /// A tree of segments.
 pub type Tree<R, A> = SegExpTree<R, i32, Until, A>;
@@ -50,21 +50,19 @@ pub fn collect<R: LayoutNumber, A: Allocator + Copy, B: Allocator>(
     Some(tree.collect_by_range(range, time, out))
 }
 
-/// Appends to `out` what a walk yields that takes so many steps at most, where a query may be made, and answers `None`
-/// elsewhere or where `out` is refused room.
+/// Appends to `out` what a walk yields, where a query may be made, and answers `None` elsewhere or where `out` is refused room.
 pub fn walk<R: LayoutNumber, A: Allocator + Copy, B: Allocator>(
     tree: &mut Tree<R, A>,
     min: R,
     max: R,
     time: i32,
-    steps: usize,
     out: &mut Vec<Until, B>,
 ) -> Option<()> {
     let range = SegRange { min, max };
     if !tree.accepts(range) || !tree.is_in_time(time) {
         return None;
     }
-    for value in tree.iter_by_range(range, time).take(steps) {
+    for value in tree.iter_by_range(range, time) {
         out.push(value).ok()?;
     }
     Some(())
@@ -90,10 +88,25 @@ pub fn found<R: LayoutNumber, A: Allocator + Copy>(
 ) -> Option<Vec<i32>> {
     let mut walked = Vec::new(alloc);
     let mut collected = Vec::new(alloc);
-    walk(tree, min, max, time, usize::MAX, &mut walked)?;
+    walk(tree, min, max, time, &mut walked)?;
     collect(tree, min, max, time, &mut collected)?.ok()?;
     let numbers = numbers_of(&collected, alloc)?;
     (numbers_of(&walked, alloc)? == numbers).then_some(numbers)
+}
+
+/// Whether a query finds these numbers, which rise, and a walk does too.
+pub fn finds<R: LayoutNumber, A: Allocator + Copy>(
+    tree: &mut Tree<R, A>,
+    alloc: Global,
+    min: R,
+    max: R,
+    time: i32,
+    numbers: &[i32],
+) -> bool {
+    match found(tree, alloc, min, max, time) {
+        Some(found) => found.as_slice() == numbers,
+        None => false,
+    }
 }
 
 /// The node of each copy, by rising node.
@@ -108,4 +121,17 @@ pub fn places<R: LayoutNumber, A: Allocator + Copy>(
         }
     }
     Some(nodes)
+}
+
+/// The node of each copy of a value over an interval of a range, by rising node.
+pub fn places_in<R: LayoutNumber>(
+    alloc: Global,
+    min: R,
+    max: R,
+    first: R,
+    last: R,
+) -> Option<Vec<u32>> {
+    let mut tree = tree_over(alloc, min, max)?;
+    insert(&mut tree, first, last, number(7))?.ok()?;
+    places(&tree, alloc)
 }

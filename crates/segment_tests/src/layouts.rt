@@ -1,6 +1,6 @@
 //! Which ranges have a layout, how they are cut into buckets, and what a tree accepts, over numbers of several types.
 
-use crate::calls::{found, insert, places, tree_over};
+use crate::calls::{found, insert, places_in, tree_over};
 use i_tree::seg::exp::SegRange;
 use i_tree::{LayoutNumber, LayoutUInt};
 use std::alloc::Global;
@@ -22,9 +22,7 @@ fn spans_and_offsets_are_differences(rt: HostRuntime) {
 
 // The bucket of a number in this range. A value over it alone is placed at the leaf of its bucket: node 31 and the bucket.
 fn bucket<R: LayoutNumber>(alloc: Global, min: R, max: R, value: R) -> Option<u32> {
-    let mut tree = tree_over(alloc, min, max)?;
-    insert(&mut tree, value, value, number(7))?.ok()?;
-    match places(&tree, alloc)?.as_slice() {
+    match places_in(alloc, min, max, value, value)?.as_slice() {
         [node] => node.checked_sub(31),
         _ => None,
     }

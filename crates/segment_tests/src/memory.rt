@@ -1,6 +1,6 @@
 //! How often trees of segments, answers and replies ask for memory, how much they hold, and what asks for none.
 
-use crate::calls::{collect, insert, tree_over, walk};
+use crate::calls::{Tree, collect, insert, tree_over};
 use i_tree::seg::exp::{SegExpCollection, SegRange};
 use itree_lib::run::{SegCommand, SegReply, run_segments};
 use std::alloc::Global;
@@ -9,6 +9,15 @@ use test_kit::growth::{COMMANDS, COUNT, MOST_REQUESTS, asks_once, most_held};
 use test_kit::until::{Until, number};
 
 type Memory<'a> = &'a Refusing<Global>;
+
+// A tree over 0 to 31 with so many values at 1 to 30.
+fn filled(memory: Memory, count: u16) -> Option<Tree<i32, Memory>> {
+    let mut tree = tree_over(memory, 0, 31)?;
+    for place in 0..count {
+        insert(&mut tree, 1, 30, number(i32::from(place)))?.ok()?;
+    }
+    Some(tree)
+}
 
 // Whether each node's copies double: the range has eight nodes, so that there are at most eight requests for each doubling.
 fn chunks_grow(memory: Memory) -> Option<bool> {
@@ -35,70 +44,74 @@ fn copies_over_one_range_double(rt: HostRuntime) {
 }
 
 // Queries of a tree without values take no memory but that of their replies.
-fn replies_are_reserved(memory: Memory, replies: Memory) -> Option<bool> {
-    let mut tree = tree_over(memory, 0, 31)?;
+fn replies_are_reserved(mut tree: Tree<i32, Memory>, replies: Memory) -> bool {
     let range = SegRange { min: 1, max: 30 };
     let commands = [SegCommand::Query { range, time: 0 }; COMMANDS];
     let mut out = Vec::new(replies);
     replies.refuse_none();
-    run_segments(&mut tree, &commands, &mut out).ok()?;
+    let answer = run_segments(&mut tree, &commands, &mut out);
     let size = size_of::<SegReply<Until, Memory>>();
-    Some(out.len() == COMMANDS && asks_once(replies, size))
+    answer == Ok(()) && out.len() == COMMANDS && asks_once(replies, size)
 }
 
 #[test]
 fn replies_are_reserved_at_once(rt: HostRuntime) {
     let memory = Refusing::new(rt.alloc());
     let replies = Refusing::new(rt.alloc());
-    assert!(rt; replies_are_reserved(&memory, &replies) == Some(true));
+    let tree = filled(&memory, 0);
+    assert!(rt; tree.is_some_and(|tree| replies_are_reserved(tree, &replies)));
 }
 
 // Whether an answer of so many values asks as seldom as a vector that doubles, and holds twice its values at most.
-fn answer_doubles(memory: Memory, answers: Memory, count: u16, most: u64) -> Option<bool> {
-    let mut tree = tree_over(memory, 0, 31)?;
-    for place in 0..count {
-        insert(&mut tree, 1, 30, number(i32::from(place)))?.ok()?;
-    }
+fn answer_doubles(mut tree: Tree<i32, Memory>, answers: Memory, count: u16, most: u64) -> bool {
     let mut out = Vec::new(answers);
     answers.refuse_none();
-    collect(&mut tree, 1, 30, 0, &mut out)?.ok()?;
+    let answer = collect(&mut tree, 1, 30, 0, &mut out);
     let found = usize::from(count);
     let is_little = answers.bytes_held() <= most_held(found, size_of::<Until>());
-    Some(out.len() == found && answers.requests() <= most && is_little)
+    answer == Some(Ok(())) && out.len() == found && answers.requests() <= most && is_little
 }
+
+// How many values are found, and how often an answer may ask for memory.
+static ANSWERS: [(u16, u64); 5] = [(0, 0), (1, 1), (2, 2), (10, 5), (500, 10)];
 
 #[test]
 fn an_answer_takes_room_for_its_values(rt: HostRuntime) {
     let memory = Refusing::new(rt.alloc());
     let answers = Refusing::new(rt.alloc());
-    for (count, most) in [(0, 0), (1, 1), (2, 2), (10, 5), (500, 10)] {
-        let is_little = answer_doubles(&memory, &answers, count, most);
-        assert!(rt; is_little == Some(true), "of {count} values");
+    for (count, most) in &ANSWERS {
+        let tree = filled(&memory, *count);
+        let is_so = tree.is_some_and(|tree| answer_doubles(tree, &answers, *count, *most));
+        assert!(rt; is_so, "of {count} values");
     }
 }
 
-// Walks, collects into room, and inserts where copies were. Answers how many values each of the walks found.
-fn without_memory(memory: Memory, alloc: Global) -> Option<[usize; 2]> {
-    let mut tree = tree_over(memory, 0, 31)?;
-    for value in 0..3 {
-        insert(&mut tree, 1, 30, number(value))?.ok()?;
+// How many values a walk at a time finds.
+fn count_found(tree: &mut Tree<i32, Memory>, time: i32) -> usize {
+    let range = SegRange { min: 0, max: 31 };
+    if !tree.accepts(range) || !tree.is_in_time(time) {
+        return usize::MAX;
     }
-    let mut live = Vec::new(alloc);
-    let mut expired = Vec::with_capacity(memory, 3).ok()?;
+    let mut count = 0usize;
+    for _ in tree.iter_by_range(range, time) {
+        count = count.saturating_add(1);
+    }
+    count
+}
+
+// Whether walks over three values, and insertions where copies were, ask for no memory.
+fn asks_for_none(mut tree: Tree<i32, Memory>, memory: Memory) -> bool {
     memory.refuse_all();
-    walk(&mut tree, 0, 31, 10, usize::MAX, &mut live)?;
-    collect(&mut tree, 0, 31, 10, &mut expired)?.ok()?;
-    expired.clear();
-    walk(&mut tree, 0, 31, 11, usize::MAX, &mut expired)?;
-    insert(&mut tree, 1, 30, number(8))?.ok()?;
+    let is_found = count_found(&mut tree, 10) == 3 && count_found(&mut tree, 11) == 0;
+    let is_inserted = insert(&mut tree, 1, 30, number(8)) == Some(Ok(()));
     tree.clear();
-    insert(&mut tree, 1, 30, number(9))?.ok()?;
-    Some([live.len(), expired.len()])
+    let is_again = insert(&mut tree, 1, 30, number(9)) == Some(Ok(()));
+    is_found && is_inserted && is_again && memory.requests() == 0
 }
 
 #[test]
 fn walks_and_what_has_room_ask_for_none(rt: HostRuntime) {
     let memory = Refusing::new(rt.alloc());
-    assert!(rt; without_memory(&memory, rt.alloc()) == Some([3, 0]));
-    assert!(rt; memory.requests() == 0);
+    let tree = filled(&memory, 3);
+    assert!(rt; tree.is_some_and(|tree| asks_for_none(tree, &memory)));
 }

@@ -1,6 +1,6 @@
 //! Where values are placed and which nodes a query meets: over 0 to 31 each number is a bucket.
 
-use crate::calls::{Tree, found, insert, places, tree_over};
+use crate::calls::{Tree, finds, found, insert, places, places_in, tree_over};
 use i_tree::seg::exp::SegExpCollection;
 use std::alloc::Global;
 use test_kit::until::number;
@@ -16,18 +16,14 @@ static PLACED: [(i32, i32, &[u32]); 7] = [
     (0, 12, &[3, 9, 43]),
 ];
 
-// Whether a value over the interval is placed at these nodes.
-fn is_placed(alloc: Global, first: i32, last: i32, nodes: &[u32]) -> Option<bool> {
-    let mut tree = tree_over(alloc, 0, 31)?;
-    insert(&mut tree, first, last, number(7))?.ok()?;
-    Some(places(&tree, alloc)?.as_slice() == nodes)
-}
-
 #[test]
 fn places_a_value_at_the_nodes_that_cover_its_range(rt: HostRuntime) {
     for (first, last, nodes) in &PLACED {
-        let is_so = is_placed(rt.alloc(), *first, *last, nodes);
-        assert!(rt; is_so == Some(true), "{first} to {last}");
+        let placed = places_in(rt.alloc(), 0, 31, *first, *last);
+        assert!(rt;
+            placed.is_some_and(|placed| placed.as_slice() == *nodes),
+            "{first} to {last}"
+        );
     }
 }
 
@@ -62,17 +58,18 @@ static MET: [(i32, i32, &[i32]); 3] = [
     (0, 1, &[0, 1, 3, 7, 15, 31, 32]),
 ];
 
-// Whether a query finds these nodes.
-fn is_met(alloc: Global, first: i32, last: i32, nodes: &[i32]) -> Option<bool> {
-    let mut tree = numbered(alloc)?;
-    Some(found(&mut tree, alloc, first, last, 0)?.as_slice() == nodes)
-}
-
 #[test]
 fn a_query_meets_the_nodes_that_have_a_bucket_of_it(rt: HostRuntime) {
     for (first, last, nodes) in &MET {
-        let is_so = is_met(rt.alloc(), *first, *last, nodes);
-        assert!(rt; is_so == Some(true), "{first} to {last}");
+        let is_so = numbered(rt.alloc()).is_some_and(|mut tree| finds(
+            &mut tree,
+            rt.alloc(),
+            *first,
+            *last,
+            0,
+            nodes,
+        ));
+        assert!(rt; is_so, "{first} to {last}");
     }
 }
 

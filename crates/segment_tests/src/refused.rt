@@ -1,6 +1,6 @@
 //! Calls of a tree of segments, and runs over it, with each request for memory refused in turn.
 
-use crate::calls::{Tree, collect, found, insert, numbers_of, places, tree_over};
+use crate::calls::{Tree, collect, finds, found, insert, numbers_of, places, tree_over};
 use crate::rows::{Step, Told, command, is_told};
 use i_tree::Refusal;
 use itree_lib::run::{SegReply, run_segments};
@@ -261,7 +261,21 @@ fn replies_after(nth: u64) -> &'static [Told; 5] {
     }
 }
 
-// A run over a tree over 0 to 128 with one value at a latest time of 2, where `out` holds a reply and is full.
+// A tree over 0 to 128 with the value 6.
+fn with_six(memory: Memory) -> Option<Tree<i32, Memory>> {
+    let mut tree = tree_over(memory, 0, 128)?;
+    insert(&mut tree, 0, 0, number(6))?.ok()?;
+    Some(tree)
+}
+
+// A reply, with room for no other.
+fn one_reply<'a>(memory: Memory<'a>) -> Option<Vec<SegReply<Until, Memory<'a>>, Memory<'a>>> {
+    let mut out = Vec::with_capacity(memory, 1).ok()?;
+    out.push(SegReply::Outside).ok()?;
+    Some(out)
+}
+
+// A run over a tree with one value, where `out` holds a reply and is full.
 #[derive(Drop)]
 struct Run<'a> {
     tree: Tree<i32, Memory<'a>>,
@@ -308,11 +322,8 @@ impl<'a> Trial for Running<'a> {
     type State = Run<'a>;
 
     fn begin(&self) -> Option<Run<'a>> {
-        let mut tree = tree_over(self.memory, 0, 128)?;
-        insert(&mut tree, 0, 0, number(6))?.ok()?;
-        found(&mut tree, self.alloc, 0, 0, 2)?;
-        let mut out = Vec::with_capacity(self.memory, 1).ok()?;
-        out.push(SegReply::Outside).ok()?;
+        let tree = with_six(self.memory)?;
+        let out = one_reply(self.memory)?;
         Some(Run {
             tree,
             out,
@@ -331,11 +342,9 @@ impl<'a> Trial for Running<'a> {
             return self.has_replied(state, replies_after(nth));
         }
         state.answer == REFUSED
-            && state.out.as_slice() == [SegReply::Outside].as_slice()
-            && state.tree.latest_time() == Some(2)
-            && found(&mut state.tree, self.alloc, 0, 128, 2).is_some_and(
-                |numbers| numbers.as_slice() == [6].as_slice(),
-            )
+            && matches!(state.out.as_slice(), [SegReply::Outside])
+            && state.tree.latest_time() == None
+            && finds(&mut state.tree, self.alloc, 0, 128, 2, &[6])
     }
 
     fn is_done(&self, state: &mut Run<'a>) -> bool {

@@ -4,7 +4,6 @@ use crate::calls::tree_over;
 use i_tree::seg::exp::SegRange;
 use itree_lib::run::{SegCommand, SegReply, run_segments};
 use std::alloc::{Allocator, Global};
-use std::test::Fail;
 use test_kit::until::Until;
 
 /// A command.
@@ -194,28 +193,34 @@ pub fn is_told<A: Allocator>(reply: &SegReply<Until, A>, told: &Told) -> bool {
     }
 }
 
-// Whether a run over an empty tree replies as the row says.
-fn replies_as_told(alloc: Global, row: &Row) -> Result<bool, Fail> {
-    let mut tree = tree_over(alloc, row.min, row.max).ok_or("the range has no layout")?;
+fn commands_of(alloc: Global, row: &Row) -> Option<Vec<SegCommand<i32, i32, Until>>> {
     let mut commands = Vec::new(alloc);
     for (step, _) in row.steps {
-        commands.push(command(*step))?;
+        commands.push(command(*step)).ok()?;
     }
+    Some(commands)
+}
+
+// Whether a run over an empty tree replies as the row says.
+fn replies_as_told(alloc: Global, row: &Row) -> Option<bool> {
+    let commands = commands_of(alloc, row)?;
+    let mut tree = tree_over(alloc, row.min, row.max)?;
     let mut replies = Vec::new(alloc);
-    run_segments(&mut tree, &commands, &mut replies)?;
-    Ok(
-        replies.len() == row.steps.len()
-            && replies
-                .iter()
-                .zip(row.steps)
-                .all(|(reply, (_, told))| is_told(reply, told)),
-    )
+    let answer = run_segments(&mut tree, &commands, &mut replies);
+    let are_told = replies
+        .iter()
+        .zip(row.steps)
+        .all(|(reply, (_, told))| is_told(reply, told));
+    Some(answer == Ok(()) && replies.len() == row.steps.len() && are_told)
 }
 
 #[test]
-fn runs_reply_as_worked_by_hand(rt: HostRuntime) -> Result<(), Fail> {
+fn runs_reply_as_worked_by_hand(rt: HostRuntime) {
     for row in &ROWS {
-        assert!(rt; replies_as_told(rt.alloc(), row)?, "{}", row.name);
+        assert!(rt;
+            replies_as_told(rt.alloc(), row) == Some(true),
+            "{}",
+            row.name
+        );
     }
-    Ok(())
 }

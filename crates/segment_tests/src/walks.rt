@@ -1,9 +1,10 @@
 //! Walks that are broken off, collections behind what stands there, and how many copies both read.
 
-use crate::calls::{Tree, collect, found, insert, numbers_of, tree_over, walk};
+use crate::calls::{Tree, collect, finds, insert, tree_over};
 use i_tree::seg::exp::{SegExpCollection, SegRange};
 use i_tree::seg::tree::SegExpTree;
 use std::alloc::Global;
+use std::test::Fail;
 use test_kit::counted_key::{CountedValue, Tally};
 use test_kit::until::{Until, number};
 
@@ -15,57 +16,78 @@ fn two_values(alloc: Global) -> Option<Tree<i32, Global>> {
     Some(tree)
 }
 
+// What a walk yields that is broken off after its first step, or before it.
+fn break_off(
+    tree: &mut Tree<i32, Global>,
+    range: SegRange<i32>,
+    time: i32,
+    is_begun: bool,
+) -> Option<Until> {
+    if !tree.accepts(range) || !tree.is_in_time(time) {
+        return None;
+    }
+    let mut walk = tree.iter_by_range(range, time);
+    if is_begun { walk.next() } else { None }
+}
+
 // Whether a walk of one step yields one of the two, and a later one both.
-fn walks_again(alloc: Global) -> Option<bool> {
-    let mut tree = two_values(alloc)?;
-    let mut first = Vec::new(alloc);
-    walk(&mut tree, 15, 90, 0, 1, &mut first)?;
-    let is_one = matches!(first.as_slice(), [Until { number: 1 | 2, .. }]);
-    Some(is_one && found(&mut tree, alloc, 15, 90, 0)?.as_slice() == [1, 2].as_slice())
+fn walks_again(mut tree: Tree<i32, Global>, alloc: Global) -> bool {
+    let range = SegRange { min: 15, max: 90 };
+    let first = break_off(&mut tree, range, 0, true);
+    let is_one = matches!(first, Some(Until { number: 1 | 2, .. }));
+    is_one && finds(&mut tree, alloc, 15, 90, 0, &[1, 2])
 }
 
 #[test]
 fn a_walk_may_be_dropped_after_a_step(rt: HostRuntime) {
-    assert!(rt; walks_again(rt.alloc()) == Some(true));
+    let tree = two_values(rt.alloc());
+    assert!(rt; tree.is_some_and(|tree| walks_again(tree, rt.alloc())));
 }
 
-// Whether what is collected stands behind what stood there.
-fn appends(alloc: Global) -> Option<bool> {
-    let mut tree = two_values(alloc)?;
-    let mut out = Vec::new(alloc);
-    out.push(number(9)).ok()?;
-    collect(&mut tree, 15, 90, 0, &mut out)?.ok()?;
-    let (first, rest) = out.split_first()?;
-    Some(*first == number(9) && numbers_of(rest, alloc)?.as_slice() == [1, 2].as_slice())
+// Whether what is collected stands behind the 9 that stands there.
+fn appends(mut tree: Tree<i32, Global>, out: &mut Vec<Until>) -> bool {
+    let answer = collect(&mut tree, 15, 90, 0, out);
+    let is_behind = match out.as_slice() {
+        [nine, one, two] => matches!((nine.number, one.number, two.number), (9, 1, 2) | (9, 2, 1)),
+        _ => false,
+    };
+    answer == Some(Ok(())) && is_behind
 }
 
 #[test]
-fn a_collection_appends(rt: HostRuntime) {
-    assert!(rt; appends(rt.alloc()) == Some(true));
+fn a_collection_appends(rt: HostRuntime) -> Result<(), Fail> {
+    let mut out = vec![in rt.alloc(); number(9)]?;
+    let tree = two_values(rt.alloc());
+    assert!(rt; tree.is_some_and(|tree| appends(tree, &mut out)));
+    Ok(())
 }
 
-// Values over 0 to 31 that are live up to the times 0, 1 and 2. A walk at 1 takes no step. Then what it is asked, and found
-// at 1 and at 2, and the latest time before, after and once all is cleared.
-fn lives(alloc: Global) -> Option<bool> {
+// Three values over 0 to 31 that are live up to the times 0, 1 and 2.
+fn three_lives(alloc: Global) -> Option<Tree<i32, Global>> {
     let mut tree = tree_over(alloc, 0, 31)?;
-    for number in 1..=3 {
-        let expiration = number - 1;
+    for number in 1..=3i32 {
+        let expiration = number.saturating_sub(1);
         insert(&mut tree, 0, 31, Until { number, expiration })?.ok()?;
     }
+    Some(tree)
+}
+
+// Whether a walk at 1 that takes no step sets the latest time, and takes no value.
+fn sets_the_time(mut tree: Tree<i32, Global>, alloc: Global) -> bool {
     let before = tree.latest_time();
-    walk(&mut tree, 0, 31, 1, 0, &mut Vec::new(alloc))?;
+    let none = break_off(&mut tree, SegRange { min: 0, max: 31 }, 1, false);
     let after = tree.latest_time();
-    let is_kept = tree.chunk(0).len() == 3;
-    let at_one = found(&mut tree, alloc, 0, 31, 1)?;
-    let at_two = found(&mut tree, alloc, 0, 31, 2)?;
+    let is_kept = none.is_none() && tree.chunk(0).len() == 3;
+    let is_found = finds(&mut tree, alloc, 0, 31, 1, &[2, 3])
+        && finds(&mut tree, alloc, 0, 31, 2, &[3]);
     tree.clear();
-    let is_found = at_one.as_slice() == [2, 3].as_slice() && at_two.as_slice() == [3].as_slice();
-    Some(is_kept && is_found && (before, after, tree.latest_time()) == (None, Some(1), None))
+    is_kept && is_found && before == None && after == Some(1) && tree.latest_time() == None
 }
 
 #[test]
 fn a_walk_that_takes_no_step_sets_the_latest_time(rt: HostRuntime) {
-    assert!(rt; lives(rt.alloc()) == Some(true));
+    let tree = three_lives(rt.alloc());
+    assert!(rt; tree.is_some_and(|tree| sets_the_time(tree, rt.alloc())));
 }
 
 type Counting<'a> = SegExpTree<i32, i32, CountedValue<'a>, Global>;
@@ -104,7 +126,10 @@ fn walked(alloc: Global, tally: &Tally, range: SegRange<i32>) -> Option<(usize, 
         return None;
     }
     tally.restart();
-    let count = tree.iter_by_range(range, 0).count();
+    let mut count = 0usize;
+    for _ in tree.iter_by_range(range, 0) {
+        count = count.saturating_add(1);
+    }
     Some((count, tally.expirations()))
 }
 

@@ -2,113 +2,139 @@
 
 use crate::worked::{EARLIER, is_empty, is_wanted};
 use i_tree::Refusal;
+use i_tree::key::exp::KeyExpCollection;
 use i_tree::key::list::KeyExpList;
 use i_tree::key::tree::KeyExpTree;
 use itree_lib::sweep::{Level, Point, Segment, SweepFault, below};
-use std::alloc::Global;
+use std::alloc::{Allocator, Global};
 use std::test::Fail;
 use test_kit::Refusing;
-use test_kit::in_turn::{Trial, refuse_in_turn};
+use test_kit::in_turn::{Fault, Trial, refuse_in_turn};
 
 type Memory<'a> = &'a Refusing<Global>;
 
-// One sweep over a list and one over a tree.
+// A store that takes memory of one kind.
+trait MadeStore: KeyExpCollection<Level, i32, Option<i32>> + Drop {
+    type Memory: Allocator + Copy + Drop;
+
+    fn make(memory: Self::Memory) -> Result<Self, Refusal>;
+}
+
+impl<A: Allocator + Copy + Drop> MadeStore for KeyExpList<Level, i32, Option<i32>, A> {
+    type Memory = A;
+
+    fn make(memory: A) -> Result<Self, Refusal> {
+        KeyExpList::new(memory, 0)
+    }
+}
+
+impl<A: Allocator + Copy + Drop> MadeStore for KeyExpTree<Level, i32, Option<i32>, A> {
+    type Memory = A;
+
+    fn make(memory: A) -> Result<Self, Refusal> {
+        KeyExpTree::new(memory, 0)
+    }
+}
+
+// A sweep over segments above one another, which all cover one x, with a point on each there; and its answers.
 #[derive(Drop)]
-struct Sweeping<'a> {
-    memory: Memory<'a>,
+struct Stack<C: MadeStore> {
+    memory: C::Memory,
     segments: Vec<Segment>,
     points: Vec<Point>,
     answers: Vec<Option<i32>>,
 }
 
-// What a sweep left in `out`, and how it ended.
+// The store and `out`, and how the last sweep ended.
 #[derive(Drop)]
-struct Swept<'a> {
-    out: Vec<Option<i32>, Memory<'a>>,
+struct Swept<C: MadeStore> {
+    store: C,
+    out: Vec<Option<i32>, C::Memory>,
     outcome: Result<(), SweepFault>,
 }
 
-#[derive(Drop)]
-struct Stores<'a> {
-    list: KeyExpList<Level, i32, Option<i32>, Memory<'a>>,
-    tree: KeyExpTree<Level, i32, Option<i32>, Memory<'a>>,
-    by_list: Swept<'a>,
-    by_tree: Swept<'a>,
+impl<C: MadeStore> Swept<C> {
+    // Whether the sweep ended so, and left the store empty.
+    fn has_ended(&mut self, wanted: Result<&[Option<i32>], SweepFault>) -> bool {
+        is_wanted(wanted, self.outcome, &self.out) && is_empty(&mut self.store)
+    }
 }
 
-impl<'a> Sweeping<'a> {
-    // Where the first answer alone is in `out`.
-    fn unswept(&self) -> Option<Swept<'a>> {
+impl<C: MadeStore> Trial for Stack<C> {
+    type State = Swept<C>;
+
+    fn begin(&self) -> Option<Swept<C>> {
+        let store = C::make(self.memory).ok()?;
         let mut out = Vec::new(self.memory);
         out.push(EARLIER).ok()?;
         Some(Swept {
+            store,
             out,
             outcome: Ok(()),
         })
     }
 
-    // Whether the sweep answered. Then only the first answer stays.
-    fn has_answered(&self, swept: &mut Swept<'a>) -> bool {
-        let is_answered = is_wanted(Ok(&self.answers), swept.outcome, &swept.out);
-        swept.out.truncate(1);
-        is_answered
+    fn call(&self, swept: &mut Swept<C>) {
+        let Swept {
+            store,
+            out,
+            outcome,
+        } = swept;
+        *outcome = below(store, &self.segments, &self.points, out);
+    }
+
+    fn is_refused(&self, swept: &mut Swept<C>, _nth: u64) -> bool {
+        swept.has_ended(Err(SweepFault::Refused(Refusal::OutOfMemory)))
+    }
+
+    fn is_done(&self, swept: &mut Swept<C>) -> bool {
+        swept.has_ended(Ok(&self.answers))
     }
 }
 
-// Whether the sweep was refused, and left `out` as it was.
-fn was_refused(swept: &Swept) -> bool {
-    let refused = Err(SweepFault::Refused(Refusal::OutOfMemory));
-    is_wanted(refused, swept.outcome, &swept.out)
-}
-
-impl<'a> Trial for Sweeping<'a> {
-    type State = Stores<'a>;
-
-    fn begin(&self) -> Option<Stores<'a>> {
-        Some(Stores {
-            list: KeyExpList::new(self.memory, 0).ok()?,
-            tree: KeyExpTree::new(self.memory, 0).ok()?,
-            by_list: self.unswept()?,
-            by_tree: self.unswept()?,
-        })
+// How many requests the call makes over a new one.
+fn requests_of<C: MadeStore>(
+    counted: &Refusing<Global>,
+    memory: C::Memory,
+    alloc: Global,
+) -> Result<Result<u64, Fault>, Fail> {
+    let mut segments = Vec::new(alloc);
+    let mut points = Vec::new(alloc);
+    let mut answers = Vec::new(alloc);
+    for y in 1..=20 {
+        segments.push(Segment { x0: y, x1: 30, y })?;
+        points.push(Point { x: 25, y })?;
+        answers.push(Some(y))?;
     }
-
-    fn call(&self, state: &mut Stores<'a>) {
-        let (segments, points) = (&self.segments, &self.points);
-        state.by_list.outcome = below(&mut state.list, segments, points, &mut state.by_list.out);
-        state.by_tree.outcome = below(&mut state.tree, segments, points, &mut state.by_tree.out);
-    }
-
-    // One of the two sweeps was refused.
-    fn is_refused(&self, state: &mut Stores<'a>, _nth: u64) -> bool {
-        let one = was_refused(&state.by_list) && self.has_answered(&mut state.by_tree);
-        let other = was_refused(&state.by_tree) && self.has_answered(&mut state.by_list);
-        one != other && is_empty(&mut state.list) && is_empty(&mut state.tree)
-    }
-
-    fn is_done(&self, state: &mut Stores<'a>) -> bool {
-        self.has_answered(&mut state.by_list)
-            && self.has_answered(&mut state.by_tree)
-            && is_empty(&mut state.list)
-            && is_empty(&mut state.tree)
-    }
+    let stack: Stack<C> = Stack {
+        memory,
+        segments,
+        points,
+        answers,
+    };
+    Ok(refuse_in_turn(counted, &stack))
 }
 
 #[test]
-fn keeps_out_at_each_refusal(rt: HostRuntime) -> Result<(), Fail> {
+fn keeps_out_at_each_refusal_over_a_list(rt: HostRuntime) -> Result<(), Fail> {
     let memory = Refusing::new(rt.alloc());
-    let mut sweeping = Sweeping {
-        memory: &memory,
-        segments: Vec::new(rt.alloc()),
-        points: Vec::new(rt.alloc()),
-        answers: Vec::new(rt.alloc()),
-    };
-    // They stand above one another over one x, where a point is on each.
-    for y in 1..=20 {
-        sweeping.segments.push(Segment { x0: y, x1: 30, y })?;
-        sweeping.points.push(Point { x: 25, y })?;
-        sweeping.answers.push(Some(y))?;
-    }
-    assert!(rt; refuse_in_turn(&memory, &sweeping).is_ok_and(|requests| requests >= 8));
+    let requests = requests_of::<KeyExpList<Level, i32, Option<i32>, Memory>>(
+        &memory,
+        &memory,
+        rt.alloc(),
+    )?;
+    assert!(rt; matches!(requests, Ok(4..)));
+    Ok(())
+}
+
+#[test]
+fn keeps_out_at_each_refusal_over_a_tree(rt: HostRuntime) -> Result<(), Fail> {
+    let memory = Refusing::new(rt.alloc());
+    let requests = requests_of::<KeyExpTree<Level, i32, Option<i32>, Memory>>(
+        &memory,
+        &memory,
+        rt.alloc(),
+    )?;
+    assert!(rt; matches!(requests, Ok(4..)));
     Ok(())
 }

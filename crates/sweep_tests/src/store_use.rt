@@ -1,8 +1,8 @@
 //! How a sweep uses its store, which calls it makes, and what a fault says.
 
-use crate::worked::{EARLIER, Row, hold_others, is_empty, is_wanted, points_of, segments_of};
+use crate::worked::{Row, hold_others, sweeps_to};
 use i_tree::Refusal;
-use itree_lib::sweep::{SweepFault, below};
+use itree_lib::sweep::SweepFault;
 use std::alloc::Global;
 use std::test::Fail;
 use test_kit::watched::{Call, Calls, Watched};
@@ -56,12 +56,9 @@ fn is_so(alloc: Global, most: usize, inserts: u64, row: &Row) -> Result<bool, Fa
     let mut store = Watched::new(alloc, usize::MAX)?;
     hold_others(&mut store)?;
     store.restart(most);
-    let segments = segments_of(alloc, row)?;
-    let points = points_of(alloc, row)?;
-    let mut out = vec![in alloc; EARLIER]?;
-    let outcome = below(&mut store, &segments, &points, &mut out);
-    let is_within = are_within(store.calls(), inserts, points.len());
-    Ok(is_wanted(row.wanted, outcome, &out) && is_within && is_empty(&mut store))
+    let is_wanted = sweeps_to(alloc, &mut store, row)?;
+    let is_within = are_within(store.calls(), inserts, row.points.len());
+    Ok(is_wanted && is_within && store.stored() == 0)
 }
 
 #[test]

@@ -164,8 +164,8 @@ pub fn is_wanted(
     }
 }
 
-/// The segments of a row.
-pub fn segments_of(alloc: Global, row: &Row) -> Result<Vec<Segment>, Fail> {
+// The segments of a row.
+fn segments_of(alloc: Global, row: &Row) -> Result<Vec<Segment>, Fail> {
     let mut segments = Vec::new(alloc);
     for (x0, x1, y) in row.segments.iter().copied() {
         segments.push(Segment { x0, x1, y })?;
@@ -173,8 +173,8 @@ pub fn segments_of(alloc: Global, row: &Row) -> Result<Vec<Segment>, Fail> {
     Ok(segments)
 }
 
-/// The points of a row.
-pub fn points_of(alloc: Global, row: &Row) -> Result<Vec<Point>, Fail> {
+// The points of a row.
+fn points_of(alloc: Global, row: &Row) -> Result<Vec<Point>, Fail> {
     let mut points = Vec::new(alloc);
     for (x, y) in row.points.iter().copied() {
         points.push(Point { x, y })?;
@@ -182,34 +182,43 @@ pub fn points_of(alloc: Global, row: &Row) -> Result<Vec<Point>, Fail> {
     Ok(points)
 }
 
-/// Sweeps over a store that holds others, into an `out` that has an answer. Tells whether all is as it is wanted, and the
-/// store is empty.
+/// Sweeps into an `out` that has an answer. Tells whether all is as it is wanted.
 pub fn sweeps_to<C: KeyExpCollection<Level, i32, Option<i32>>>(
     alloc: Global,
     store: &mut C,
     row: &Row,
 ) -> Result<bool, Fail> {
-    hold_others(store)?;
     let segments = segments_of(alloc, row)?;
     let points = points_of(alloc, row)?;
     let mut out = vec![in alloc; EARLIER]?;
     let outcome = below(store, &segments, &points, &mut out);
-    Ok(is_wanted(row.wanted, outcome, &out) && is_empty(store))
+    Ok(is_wanted(row.wanted, outcome, &out))
 }
 
-fn is_listed(alloc: Global, row: &Row) -> Result<bool, Fail> {
-    sweeps_to(alloc, &mut KeyExpList::new(alloc, 0)?, row)
-}
-
-fn is_in_tree(alloc: Global, row: &Row) -> Result<bool, Fail> {
-    sweeps_to(alloc, &mut KeyExpTree::new(alloc, 0)?, row)
+// Sweeps over a store that holds others. Tells whether all is as it is wanted, and the store is empty.
+fn sweeps_over<C: KeyExpCollection<Level, i32, Option<i32>>>(
+    alloc: Global,
+    store: &mut C,
+    row: &Row,
+) -> Result<bool, Fail> {
+    hold_others(store)?;
+    Ok(sweeps_to(alloc, store, row)? && is_empty(store))
 }
 
 #[test]
-fn sweeps_answer_as_worked_by_hand(rt: HostRuntime) -> Result<(), Fail> {
+fn sweeps_over_a_list_answer_as_worked_by_hand(rt: HostRuntime) -> Result<(), Fail> {
+    let mut list = KeyExpList::new(rt.alloc(), 0)?;
     for row in &ROWS {
-        let is_so = is_listed(rt.alloc(), row)? && is_in_tree(rt.alloc(), row)?;
-        assert!(rt; is_so, "{}", row.name);
+        assert!(rt; sweeps_over(rt.alloc(), &mut list, row)?, "{}", row.name);
+    }
+    Ok(())
+}
+
+#[test]
+fn sweeps_over_a_tree_answer_as_worked_by_hand(rt: HostRuntime) -> Result<(), Fail> {
+    let mut tree = KeyExpTree::new(rt.alloc(), 0)?;
+    for row in &ROWS {
+        assert!(rt; sweeps_over(rt.alloc(), &mut tree, row)?, "{}", row.name);
     }
     Ok(())
 }
