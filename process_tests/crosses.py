@@ -1,6 +1,5 @@
-"""The mode `cross`: worked examples, faulty lines, and edges by chance beside fractions."""
+"""The mode `cross`: worked examples, faulty lines, and edges by chance beside shares of both."""
 
-from fractions import Fraction
 from functools import partial
 from itertools import combinations
 from random import Random
@@ -52,6 +51,16 @@ ANSWERED = (
         edge 7 8 7 8 -> meets
         edge 7 7 7 7 -> meets 1
     """),
+    ("one point twice", """
+        edge 1 1 1 1 -> meets
+        edge 1 1 1 1 -> meets 1
+    """),
+    ("from end to end, and points", f"""
+        edge {LEAST} {LEAST} {GREATEST} {GREATEST} -> meets
+        edge {LEAST} {GREATEST} -1 0 -> meets
+        edge 0 0 0 0 -> meets 1
+        edge -1 0 -1 0 -> meets 2
+    """),
     ("three through one point", """
         edge -2 -2 2 2 -> meets
         edge -2 2 2 -2 -> meets 1
@@ -93,12 +102,27 @@ def common_shares(one, other):
     said = [(x1 - x0, z0 - z1, z0 - x0), (y1 - y0, w0 - w1, w0 - y0)]
     sides = [(1, 0, 0), (1, 0, 1), (0, 1, 0), (0, 1, 1)]
     for (a, b, c), (d, e, f) in combinations(said + sides, 2):
-        apart = a * e - b * d
-        if apart:
-            s, t = Fraction(c * e - b * f, apart), Fraction(a * f - c * d, apart)
-            if 0 <= s <= 1 and 0 <= t <= 1 and all(u * s + v * t == w for u, v, w in said):
-                return True
+        # The shares are s / apart and t / apart.
+        apart, s, t = a * e - b * d, c * e - b * f, a * f - c * d
+        if apart < 0:
+            apart, s, t = -apart, -s, -t
+        is_share = apart and 0 <= s <= apart and 0 <= t <= apart
+        if is_share and all(u * s + v * t == w * apart for u, v, w in said):
+            return True
     return False
+
+
+def near_grid(random):
+    """A number by chance: next to one of a wide grid, next to an end of the range, or any."""
+    grid = random.randrange(-8, 9) << 28
+    near = random.choice((LEAST, GREATEST, grid, grid, grid, random.randint(LEAST, GREATEST)))
+    return min(max(LEAST, near + random.randrange(-1, 2)), GREATEST)
+
+
+def numbers_by_chance(random, bounds):
+    """What gives numbers by chance, with a name: up to each of these bounds, and near a wide grid."""
+    yield from ((f"up to {bound}", partial(random.randint, -bound, bound)) for bound in bounds)
+    yield "near a grid", partial(near_grid, random)
 
 
 def met(edges, numbers):
@@ -139,13 +163,13 @@ def odd_texts():
 
 
 def by_chance():
-    """Cases of edges by chance, over small coordinates and over all."""
+    """Cases of edges by chance, over small coordinates, over all, and near a wide grid."""
     random = Random(SEED)
-    for bound in (2, 4, 9, 30, GREATEST):
+    for where, number in numbers_by_chance(random, (1, 2, 4, 9, 30, GREATEST)):
         for turn in range(10):
-            edges = [tuple(random.randint(-bound, bound) for _ in range(4)) for _ in range(40)]
+            edges = [tuple(number() for _ in range(4)) for _ in range(40)]
             given = lines(*map(line_of, edges))
-            yield crossed(f"edges up to {bound}, {turn}", given, edges, range(1, 41))
+            yield crossed(f"edges {where}, {turn}", given, edges, range(1, 41))
 
 
 def in_cells(count):

@@ -6,6 +6,7 @@ from itertools import combinations
 from random import Random
 
 import streams
+from crosses import numbers_by_chance
 from many import MANY, SEED
 from odd import read, texts_by_chance
 from processes import Case, Outcome, answered, by_file, by_pipe, dialogue, lines, refused
@@ -25,6 +26,38 @@ ANSWERED = (
         edge 0 0 10 10
         point 6 5 -> none
         point 10 10 -> none
+    """),
+    ("two edges apart", """
+        edge 0 0 10 10
+        point 5 5 -> edge 1
+        edge 0 -5 10 -5
+        point 5 4 -> edge 3
+        point 9 -6 -> none
+        point 0 0 -> edge 1
+        point 10 20 -> none
+    """),
+    ("where one edge of a chain ends the next one goes on", """
+        edge 0 0 5 5
+        edge 9 1 5 5
+        point 4 4 -> edge 1
+        point 5 5 -> edge 2
+        point 9 1 -> none
+    """),
+    ("a touch, and an upright one and a point that cover nothing", """
+        edge 0 0 10 0
+        edge 5 0 7 -3
+        edge 6 -9 6 9
+        edge 6 0 6 0
+        point 6 1 -> edge 1
+        point 6 -1 -> edge 2
+        point 6 -2 -> none
+    """),
+    ("points beside an edge from end to end", f"""
+        edge {LEAST} {LEAST} {GREATEST} {GREATEST}
+        point 0 0 -> edge 1
+        point 1 0 -> none
+        point {LEAST} {LEAST} -> edge 1
+        point {GREATEST} {GREATEST} -> none
     """),
     ("a chain, and a point at each of its corners", """
         edge 0 0 4 2
@@ -103,6 +136,8 @@ CROSSING = (
     ("at one place", (1, 3), ("edge 0 0 10 10", "point 5 5", "edge 0 10 10 0")),
     ("blank lines count", (2, 5), ("", "edge 0 0 10 10", " ", "", "edge 0 10 10 0", "")),
     ("turned round", (1, 2), ("edge 10 10 0 0", "edge 0 10 10 0")),
+    ("turned round, with blank lines", (2, 4), ("", "edge 10 0 0 10", "", "edge 10 10 0 0")),
+    ("behind the last point, the lower one last", (3, 4), ("edge 0 0 1 0", "point 0 0", "edge 50 10 60 0", "edge 50 0 60 10")),
     ("behind the last point", (3, 4), ("edge 0 0 1 0", "point 0 0", "edge 50 0 60 10", "edge 50 10 60 0")),
     ("behind the end of the one between", (1, 2), ("edge 0 0 10 10", "edge 0 9 10 0", "edge 0 5 2 5")),
     ("within one", (1, 2), ("edge 0 0 1 1", "edge 0 1 1 0")),
@@ -230,30 +265,30 @@ def odd_texts():
             yield located_among(name, items, text, [number for number, _ in said])
 
 
-def apart_by_chance(random, bound, count):
+def apart_by_chance(number, count):
     """So many edges by chance, of which none crosses one before it."""
     edges = []
     for _ in range(count):
-        edge = tuple(random.randint(-bound, bound) for _ in range(4))
+        edge = tuple(number() for _ in range(4))
         if not any(cross(edge, other) for other in edges):
             edges.append(edge)
     return edges
 
 
 def by_chance():
-    """Cases of edges by chance, over small coordinates and over all, most of which don't cross."""
+    """Cases of edges by chance, over small coordinates, over all, and near a wide grid, most of which don't cross."""
     random = Random(SEED)
-    for bound in (2, 3, 5, 9, 30, GREATEST):
+    for where, number in numbers_by_chance(random, (2, 3, 5, 9, 30, GREATEST)):
         for turn in range(25):
-            edges = apart_by_chance(random, bound, 30)
+            edges = apart_by_chance(number, 30)
             if turn % 5 == 4:
-                edges.append(tuple(random.randint(-bound, bound) for _ in range(4)))
-            points = [(random.randint(-bound, bound), random.randint(-bound, bound)) for _ in range(30)]
+                edges.append(tuple(number() for _ in range(4)))
+            points = [(number(), number()) for _ in range(30)]
             # Points on edges' ends, and just beside them.
-            points += [(x, y + random.randrange(-1, 2)) for x, y, _, _ in edges if -bound < y < bound]
+            points += [(x, y + random.randrange(-1, 2)) for x, y, _, _ in edges if LEAST < y < GREATEST]
             items = [*edges, *points]
             random.shuffle(items)
-            yield located_among(f"edges up to {bound}, {turn}", items)
+            yield located_among(f"edges {where}, {turn}", items)
 
 
 # Edges of a cell of 20 by 20, which no edge of another cell reaches, and a point among them with the one below it.

@@ -21,18 +21,22 @@ BUILT = os.path.normpath(os.path.join(HERE, "..", "crates", "itree", "out", "itr
 GROUPS = (
     "documents",
     "worked",
+    "rising",
     "arguments",
     "text",
     "odd",
     "streams",
+    "refusals",
+    "histories",
+    "small",
     "many",
     "sweeps",
     "crosses",
     "locates",
 )
 
-# So many parts of modules run side by side.
-AT_ONCE = 2
+# So many parts of modules run side by side at most.
+AT_ONCE = min(len(os.sched_getaffinity(0)), 4)
 
 # So much of a long text is printed.
 SHOWN = 200

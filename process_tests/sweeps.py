@@ -50,6 +50,21 @@ ANSWERED = (
         segment 5 3 1
         point 4 1 -> below 1
     """),
+    ("two that cover nothing, with a point between", """
+        segment 5 3 1
+        point 4 1 -> none
+        segment 5 3 1
+    """),
+    ("segments side by side, and no point", """
+        segment 0 5 1
+        segment 6 9 1
+    """),
+    ("points before all numbers", f"""
+        point {LEAST} {LEAST} -> below {LEAST}
+        point {GREATEST} {GREATEST} -> below {GREATEST}
+        segment {LEAST} {GREATEST} {LEAST}
+        segment {GREATEST} {GREATEST} {GREATEST}
+    """),
     ("two that cover nothing", """
         segment 5 3 1
         segment 5 3 1
@@ -85,6 +100,9 @@ OVERLAPPING = (
     ("the later one stands on the first line", 1, ("segment 5 9 1", "segment 0 5 1")),
     ("the first by its left end", 3, ("segment 0 9 1", "segment 8 9 1", "segment 3 4 1")),
     ("behind the last point", 3, ("segment 0 1 7", "segment 50 60 2", "segment 55 56 2", "point 0 7")),
+    ("behind the last point, which stands before it", 4, ("segment 0 1 7", "point 0 7", "segment 50 60 2", "segment 55 56 2")),
+    ("one segment of one place twice", 2, ("segment 3 3 0", "segment 3 3 0")),
+    ("lines of white space count", 7, ("", "", "segment 0 5 1", " \t", "point 0 0", "\r", "segment 5 9 1", "")),
     ("one segment twice", 3, ("point 0 0", "segment 1 1 1", "segment 1 1 1")),
     ("the greatest number", 2, (f"segment 0 {GREATEST} 1", f"segment {GREATEST} {GREATEST} 1")),
 )
@@ -94,6 +112,7 @@ FAULTY = (
     *("segment 0 5", "segment 0 5 1 2", "segment 0 5 x", "segment", "point 0", "point 0 0 0", "point"),
     *("points 0 0", "Point 0 0", "segment 0 2147483648 1", "point 0 -2147483649", "overlap 1"),
     *("clear", "insert 0 1 2 3", "query 0 1 2", "less 0 -1 4", "find 4"),
+    *("segmentx 0 5 1", "segment -2147483649 0 0", "point 0 2147483648", "Segment 0 5 1", "edge 0 0 1 1"),
 )
 
 

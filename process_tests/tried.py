@@ -2,7 +2,7 @@
 """Tests of the program as `rt try` builds it, without a proof: one build, and a process for each case.
 
 `rt try` gives a process its arguments, a line each, and its standard input as a file. So cases over other streams are left
-out, and so are long ones and those by chance; run.py has them. The last line is 'N passed, M failed'.
+out, and so are long ones and most of those by chance; run.py has them. The last line is 'N passed, M failed'.
 """
 
 import os
@@ -10,24 +10,29 @@ import re
 import subprocess
 import sys
 import tempfile
+from functools import partial
 
 sys.dont_write_bytecode = True
 
 import arguments
 import crosses
 import documents
+import histories
 import locates
+import small
 import sweeps
 import text
 import worked
 from processes import Beginning, Outcome, by_file
 from run import told
 
-# The parts whose cases are tried.
+# The parts whose cases are tried, and those of which it is enough to try these modes, since others read lines by the same code.
 PARTS = (
     *(*documents.PARTS, *worked.PARTS, *arguments.PARTS, sweeps.worked, crosses.worked, locates.worked),
-    *(text.empty_texts, text.plain_lines, text.faulty_lines, text.numbers),
+    *(partial(histories.all_modes, 40, [4]), *(partial(part, 300, 60) for part in small.PARTS)),
 )
+TEXTS = text.empty_texts, text.plain_lines, text.faulty_lines, text.numbers
+READ = "keytree", "setlist", "seg"
 
 CRATE = os.path.normpath(os.path.join(os.path.dirname(os.path.abspath(__file__)), "..", "crates", "itree"))
 
@@ -89,7 +94,9 @@ def outcomes(cases):
 
 
 def main():
-    cases = [case for part in PARTS for case in part() if is_plain(case)]
+    cases = [case for part in PARTS for case in part()]
+    cases += [case for part in TEXTS for case in part() if case.words[0] in READ]
+    cases = [case for case in cases if is_plain(case)]
     came, said = outcomes(cases)
     failed = [told("rt try", case, got) for case, got in zip(cases, came) if not case.wanted == got]
     counts = f"{len(cases) - len(failed)} passed, {len(failed)} failed"

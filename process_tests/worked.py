@@ -1,6 +1,6 @@
 """Worked examples of each mode, over a file as standard input and through a pipe."""
 
-from processes import answered, by_pipe, dialogue, refused
+from processes import answered, by_pipe, dialogue, lines, refused
 
 LEAST, GREATEST = -2147483648, 2147483647
 
@@ -46,6 +46,11 @@ KEYS = (
     ("the equal moment", """
         insert 4 1 40 0 -> inserted
 
+        insert 4 9 41 1 -> present
+        less 1 -1 5 -> value 40
+    """),
+    ("a key again at its expiration", """
+        insert 4 1 40 0 -> inserted
         insert 4 9 41 1 -> present
         less 1 -1 5 -> value 40
     """),
@@ -118,6 +123,72 @@ KEYS = (
         less {GREATEST} -1 2 -> value 1
     """),
 )
+
+# Replies of the original crate, to which each expiration is given as one more: there a key has expired at the equal moment.
+SAMPLE = f"""
+    insert 5 3 50 0 -> inserted
+    insert 1 3 10 0 -> inserted
+    insert 9 3 90 0 -> inserted
+    less 0 -1 9 -> value 50
+    insert 5 8 51 1 -> present
+    insert 4 2 40 1 -> inserted
+
+    less 1 -1 5 -> value 40
+    less 2 -1 5 -> value 40
+    insert 4 9 41 2 -> present
+    less  2 -1   +5 -> value 40
+    insert 5 8 52 3 -> present
+    less 3 -7 5 -> value 10
+    less 3 -7 4 -> value 10
+    less 3 -7 10 -> value 90
+    less 2 0 10 -> late
+    insert 7 9 70 2 -> late
+    insert 7 5 70 5 -> inserted
+    less 5 0 8 -> value 70
+    insert 7 9 71 5 -> present
+    less 5 0 8 -> value 70
+    insert {LEAST} {GREATEST} {LEAST} 5 -> inserted
+    less 5 0 {LEAST} -> value 0
+    less 5 0 {LEAST + 1} -> value {LEAST}
+    insert {GREATEST} {GREATEST} {GREATEST} 5 -> inserted
+    less 5 0 {GREATEST} -> value 70
+    less 8 0 {GREATEST} -> value {LEAST}
+    less 8 6 7 -> value {LEAST}
+    insert 3 9 +30 8 -> inserted
+    insert 3 10 31 8 -> present
+    less 9 1 3 -> value {LEAST}
+    less 9 1 4 -> value 30
+    less 9 1 {GREATEST} -> value 30
+    insert 3 10 32 9 -> present
+    less 9 -0 4 -> value 30
+    insert 0 9 -5 9 -> inserted
+    less 9 1 1 -> value -5
+    insert 0 007 -6 9 -> present
+    less {GREATEST - 1} 1 {GREATEST} -> value {LEAST}
+    insert 0 {GREATEST} 7 {GREATEST} -> inserted
+    less {GREATEST} 1 {GREATEST} -> value 7
+    less 9 1 4 -> late
+    leq 9 -1 5 -> late
+    leq 9 -1 0 -> late
+    clear -> cleared
+    leq 0 -7 100 -> value -7
+    insert 3 4 30 0 -> inserted
+    insert 6 9 60 0 -> inserted
+    insert 8 2 80 1 -> inserted
+    leq 1 -1 7 -> value 60
+    leq 1 -1 8 -> value 80
+    leq 2 -1 8 -> value 80
+    less 3 -1 6 -> value 30
+    leq 4 -1 5 -> value 30
+    leq 3 -1 6 -> late
+    insert 3 8 31 4 -> present
+    leq 4 -1 3 -> value 30
+    clear -> cleared
+    less -5 -2 9 -> value -2
+    insert -1 0 10 -5 -> inserted
+    leq -5 -2 -1 -> value 10
+    leq 0 -2 -1 -> value 10
+"""
 
 SETS = (
     ("each command", """
@@ -232,6 +303,32 @@ SEGMENTS = (
         clear -> cleared
         query 0 0 2 -> values
     """),
+    ("seg 0 128", "equal values, and those at both ends", """
+        insert 0 128 9 5 -> inserted
+        insert 0 0 9 -3 -> inserted
+        insert 128 128 9 007 -> inserted
+        insert 0 128 9 5 -> inserted
+        query 0 128 9 -> values -3 5 5 7
+        query 0 7 9 -> values -3 5 5
+        clear -> cleared
+        query 0 128 -1 -> values
+    """),
+    ("seg +0 0128", "what has expired is stored, and never found", """
+        query 5 5 7 -> values
+        insert 5 5 6 1 -> inserted
+        insert 5 5 7 2 -> inserted
+        query 5 5 7 -> values 2
+        query 5 4 6 -> outside
+        query -1 5 6 -> outside
+        query 5 5 6 -> late
+    """),
+    (f"seg {LEAST} {GREATEST}", "all numbers, an expiration at the least one", f"""
+        insert {LEAST} {GREATEST} {LEAST} {GREATEST} -> inserted
+        insert {GREATEST} {GREATEST} {GREATEST} {LEAST} -> inserted
+        query {GREATEST} {GREATEST} {LEAST} -> values {LEAST} {GREATEST}
+        query {LEAST} {LEAST} {LEAST} -> values {GREATEST}
+        query {GREATEST} {GREATEST} {GREATEST} -> values {LEAST}
+    """),
     (f"seg {LEAST} {GREATEST}", "all numbers", f"""
         insert {LEAST} {GREATEST} {GREATEST} {GREATEST} -> inserted
         insert {GREATEST} {GREATEST} 0 {LEAST} -> inserted
@@ -240,18 +337,68 @@ SEGMENTS = (
     """),
 )
 
+KEY_MODES, SET_MODES = ("keytree", "keylist"), ("settree", "setlist")
+
+# Texts with white space of other kinds, and their replies.
+SPACED = (
+    (KEY_MODES, b"\tinsert  +4 9\x0c-40 -0\r\nless 0 007 5", ("inserted", "value -40")),
+    (
+        KEY_MODES,
+        b"insert 2147483647 2147483647 -2147483648 -2147483648\nless 2147483646 0 2147483647\n \nless 0 1 2",
+        ("inserted", "value 0", "late"),
+    ),
+    (
+        SET_MODES,
+        b"\n find\t-2147483648\r\ndelete 0\n\ninsert 2147483647\ninsert -2147483648\nbefore 2147483647\nfind 007",
+        ("none", "absent", "inserted", "inserted", "key -2147483648", "key -2147483648"),
+    ),
+    (("seg 0 128",), b"insert 0 0 9 -3\n\n insert\t128 128 9 007\nquery 0 128\x0c9", ("inserted", "inserted", "values -3 7")),
+    (("sweep",), b"\tsegment  +0 9\x0c-1\r\n\npoint 007 -0", ("below -1",)),
+    (("sweep",), b"point 0 0\n\npoint 2147483647 -2147483648", ("none", "none")),
+    (("cross",), b"\nedge 0 0 4 0\n \t\n\r\nedge 2 0 2 3\n\nedge 4 0 2 3", ("meets", "meets 2", "meets 2 5")),
+    (("cross",), b"\tedge  +0 007\x0c-1 -0\r\n", ("meets",)),
+    (("locate",), b"\npoint 3 9\n\r\nedge 6 2 0 2\n \t", ("edge 4",)),
+    (("locate",), b"\tedge  +0 007\x0c-1 -0\r\npoint -1 0\n", ("edge 1",)),
+    (("locate",), b"point 0 0\n\npoint 2147483647 -2147483648", ("none", "none")),
+)
+
 # Texts with a faulty line, and its number.
 FAULTY = (
-    (("keytree", "keylist"), "a missing number", b"insert 0 10 0 0\nless 0 -1\n", 2),
-    (("keytree", "keylist"), "a number too great", b"less 0 -1 4\n\nless 0 -1 2147483648\n", 3),
-    (("settree", "setlist"), "a byte beyond ASCII for a number", b"find \xff\n", 1),
+    (KEY_MODES, "a missing number", b"insert 0 10 0 0\nless 0 -1\n", 2),
+    (KEY_MODES, "a number too great", b"less 0 -1 4\n\nless 0 -1 2147483648\n", 3),
+    (KEY_MODES, "a number too low", b"less 0 -2147483649 4\n", 1),
+    (KEY_MODES, "two faulty lines behind blank ones", b"\n\nfind 4\nless\n", 3),
+    (KEY_MODES, "a number after a command that has none", b"clear\nclear 0\n", 2),
+    (KEY_MODES, "a fraction", b"less 0 1.5 4\n", 1),
+    (KEY_MODES, "a letter, and no line feed", b"less 0 x 4", 1),
+    (KEY_MODES, "a space beyond ASCII alone", b"less 0 -1 4\n\xc2\xa0\n", 2),
+    (KEY_MODES, "a byte beyond ASCII before a number", b"less 0 -1 \xff4\n", 1),
+    (KEY_MODES, "a vertical tab between words", b"less\x0b0 -1 4\n", 1),
+    (SET_MODES, "a byte beyond ASCII for a number", b"find \xff\n", 1),
+    (SET_MODES, "a line of keys that expire", b"insert 4\n\nless 0 -1 4\n", 3),
+    (SET_MODES, "an insertion of a key that expires", b"insert 4 1 40 0\n", 1),
+    (SET_MODES, "a capital", b"delete 4\nInsert 4\n", 2),
+    (SET_MODES, "a number too great", b"find 2147483648\n", 1),
+    (SET_MODES, "a number too low, and no line feed", b"before -2147483649", 1),
     (("seg 0 128",), "a number too many", b"insert 0 1 2 3\n\nquery 0 1 2 3\n", 3),
+    (("seg 0 128",), "a number too many after a sound line", b"clear\nquery 0 1 2 3\n", 2),
+    (("seg 0 128",), "a missing number", b"insert 0 1 2 3\n\nquery 0 1\n", 3),
+    (("seg 0 128",), "a byte beyond ASCII for a number", b"query 0 1 \xff\n", 1),
+    (("sweep",), "a missing number behind segments that overlap", b"segment 0 5 1\n\nsegment 5 9 1\npoint 0\n", 4),
+    (("sweep",), "a byte beyond ASCII for a number", b"point 0 \xff\n", 1),
+    (("sweep",), "a capital", b"point 0 0\nSegment 0 5 1\n", 2),
+    (("cross",), "a missing number", b"edge 0 0 1 1\n\nedge 0 0 1\nnonsense\n", 3),
+    (("cross",), "a byte beyond ASCII for a number", b"edge 0 0 1 \xff\n", 1),
+    (("locate",), "a missing number behind edges that cross", b"edge 0 0 1 1\nedge 0 1 1 0\n\npoint 0\n", 4),
+    (("locate",), "a byte beyond ASCII for a number", b"edge 0 0 1 \xff\n", 1),
+    (("locate",), "a capital", b"point 0 0\nEdge 0 0 1 1\n", 2),
 )
 
 
 def rows():
     """Each mode with a name, and lines with their replies."""
-    for modes, table in ((("keytree", "keylist"), KEYS), (("settree", "setlist"), SETS)):
+    keys = (*KEYS, ("a sample, as the original crate replies", SAMPLE))
+    for modes, table in ((KEY_MODES, keys), (SET_MODES, SETS)):
         for mode in modes:
             yield from ((mode, *row) for row in table)
     yield from SEGMENTS
@@ -273,4 +420,11 @@ def sound():
         yield answered(f"{name}, through a pipe", mode, given, replies, by_pipe)
 
 
-PARTS = sound, faulty
+def spaced():
+    """Cases of texts with white space of other kinds."""
+    for modes, given, replies in SPACED:
+        for mode in modes:
+            yield answered(f"white space in {given}", mode, given, lines(*replies))
+
+
+PARTS = sound, faulty, spaced

@@ -1,17 +1,13 @@
-//! For tests alone: the core, a red-black tree. Worked examples, refused memory and many removals.
+//! For tests alone: the core, a red-black tree. Worked rows, refused memory and many removals.
 #![tactic(auto)]
 
 #[cfg(test)]
-mod clears;
+mod calls;
 #[cfg(test)]
-mod counts;
+mod changes;
 #[cfg(test)]
-mod no_memory;
+mod drops;
 #[cfg(test)]
 mod refusals;
 #[cfg(test)]
-mod removals;
-#[cfg(test)]
-mod trees;
-#[cfg(test)]
-mod worked;
+mod rows;

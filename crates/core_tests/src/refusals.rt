@@ -1,98 +1,66 @@
 //! Calls of the core, with each request for memory refused in turn.
 
+use crate::calls::{Place, entries, insert, push};
 use i_tree::rb::RbTree;
 use i_tree::{EMPTY_REF, Refusal, Refused};
-use std::alloc::{Allocator, Global};
+use std::alloc::Global;
 use test_kit::Refusing;
-use test_kit::cores::{End, entries, insert_at_end};
 use test_kit::in_turn::{Trial, refuse_in_turn};
 
-// `new` with a capacity.
-#[derive(Drop)]
-struct Making<A> {
-    memory: A,
-    capacity: usize,
-}
+type Tree<'a> = RbTree<i32, &'a Refusing<Global>>;
 
-impl<A: Allocator + Copy> Trial for Making<A> {
-    type State = Option<Result<RbTree<i32, A>, Refusal>>;
-
-    fn begin(&self) -> Option<Option<Result<RbTree<i32, A>, Refusal>>> {
-        Some(None)
-    }
-
-    fn call(&self, made: &mut Option<Result<RbTree<i32, A>, Refusal>>) {
-        *made = Some(RbTree::new(self.memory, self.capacity));
-    }
-
-    fn is_refused(&self, made: &mut Option<Result<RbTree<i32, A>, Refusal>>, _nth: u64) -> bool {
-        matches!(made, Some(Err(Refusal::OutOfMemory)))
-    }
-
-    fn is_done(&self, made: &mut Option<Result<RbTree<i32, A>, Refusal>>) -> bool {
-        match made {
-            Some(Ok(tree)) => {
-                let slots = tree.spare().saturating_add(1);
-                tree.root() == EMPTY_REF && tree.len() == 0 && slots == self.capacity.max(8)
-            }
-            _ => false,
-        }
-    }
-}
-
-#[test]
-fn new_takes_all_its_slots_at_once(rt: HostRuntime) {
-    let memory = Refusing::new(rt.alloc());
-    for capacity in [0, 8, 20] {
-        let trial = Making {
-            memory: &memory,
-            capacity,
-        };
-        assert!(rt; refuse_in_turn(&memory, &trial) == Ok(1), "of {capacity}");
-    }
-}
-
-// Which call is made on a tree whose items rise from 1 on.
-#[derive(Clone, Copy)]
+// Which call is made.
+#[derive(Clone, Copy, Debug, PartialEq, Eq)]
 enum Call {
+    New(usize),
     // Twenty slots in all.
     Reserve,
-    // A further item, at this end.
-    Insert(End),
+    // A further item, before all or behind all.
+    InsertFirst,
+    InsertLast,
 }
 
-// The call over so many items.
+// The call over items that rise from 1 on, so many.
 #[derive(Drop)]
-struct Changing<A> {
-    memory: A,
+struct Changing<'a> {
+    memory: &'a Refusing<Global>,
     alloc: Global,
     items: i32,
     call: Call,
 }
 
-#[derive(Drop)]
-struct Changed<A: Allocator + Copy> {
-    tree: RbTree<i32, A>,
-    before: Vec<(u32, i32)>,
-    spare: usize,
-    answer: Answer,
-}
-
 // What a call answered.
 #[derive(Drop)]
-enum Answer {
+enum Answer<'a> {
     None,
+    Made(Result<Tree<'a>, Refusal>),
     Reserved(Result<(), Refusal>),
     Inserted(Option<Result<u32, Refused<i32>>>),
 }
 
-impl<A: Allocator + Copy> Trial for Changing<A> {
-    type State = Changed<A>;
+#[derive(Drop)]
+struct Changed<'a> {
+    tree: Tree<'a>,
+    before: Vec<(u32, i32)>,
+    spare: usize,
+    answer: Answer<'a>,
+}
 
-    fn begin(&self) -> Option<Changed<A>> {
+// The place before all items.
+fn front(tree: &Tree<'_>) -> Place {
+    match tree.first() {
+        EMPTY_REF => Place::Root,
+        first => Place::Left(first),
+    }
+}
+
+impl<'a> Trial for Changing<'a> {
+    type State = Changed<'a>;
+
+    fn begin(&self) -> Option<Changed<'a>> {
         let mut tree = RbTree::new(self.memory, 0).ok()?;
         for item in 1..=self.items {
-            insert_at_end(&mut tree, End::Last, item)?.ok()?;
+            push(&mut tree, item)?.ok()?;
         }
         let before = entries(&tree, self.alloc)?;
         let spare = tree.spare();
@@ -104,85 +72,80 @@ impl<A: Allocator + Copy> Trial for Changing<A> {
         })
     }
 
-    fn call(&self, changed: &mut Changed<A>) {
+    fn call(&self, changed: &mut Changed<'a>) {
         changed.answer = match self.call {
+            Call::New(capacity) => Answer::Made(RbTree::new(self.memory, capacity)),
             Call::Reserve => Answer::Reserved(changed.tree.reserve(20)),
-            Call::Insert(end) => Answer::Inserted(insert_at_end(&mut changed.tree, end, 50)),
+            Call::InsertFirst => {
+                let front = front(&changed.tree);
+                Answer::Inserted(insert(&mut changed.tree, front, 50))
+            }
+            Call::InsertLast => Answer::Inserted(push(&mut changed.tree, 50)),
         };
     }
 
-    fn is_refused(&self, changed: &mut Changed<A>, _nth: u64) -> bool {
+    fn is_refused(&self, changed: &mut Changed<'a>, _nth: u64) -> bool {
         let is_told = match &changed.answer {
-            Answer::None => false,
-            Answer::Reserved(answer) => *answer == Err(Refusal::OutOfMemory),
+            Answer::Made(Err(cause)) | Answer::Reserved(Err(cause)) => {
+                *cause == Refusal::OutOfMemory
+            }
             Answer::Inserted(Some(Err(refused))) => {
                 refused.value == 50 && refused.cause == Refusal::OutOfMemory
             }
-            Answer::Inserted(_) => false,
+            _ => false,
         };
         is_told
             && changed.tree.spare() == changed.spare
             && entries(&changed.tree, self.alloc).as_ref() == Some(&changed.before)
     }
 
-    fn is_done(&self, changed: &mut Changed<A>) -> bool {
+    fn is_done(&self, changed: &mut Changed<'a>) -> bool {
         let Some(all) = entries(&changed.tree, self.alloc) else {
             return false;
         };
+        let before = &changed.before;
         match (&changed.answer, self.call) {
-            (Answer::Reserved(Ok(())), Call::Reserve) => {
-                let slots = changed.tree.spare().saturating_add(changed.before.len());
-                all == changed.before && slots == 19
+            (Answer::Made(Ok(tree)), Call::New(capacity)) => {
+                tree.len() == 0 && tree.spare().saturating_add(1) == capacity.max(8)
             }
-            (Answer::Inserted(Some(Ok(handle))), Call::Insert(end)) => {
-                has_joined(&all, &changed.before, *handle, end)
+            (Answer::Reserved(Ok(())), Call::Reserve) => {
+                all == *before && changed.tree.spare().saturating_add(before.len()) == 19
+            }
+            (Answer::Inserted(Some(Ok(handle))), Call::InsertFirst) => {
+                all.split_first() == Some((&(*handle, 50), before.as_slice()))
+            }
+            (Answer::Inserted(Some(Ok(handle))), Call::InsertLast) => {
+                all.split_last() == Some((&(*handle, 50), before.as_slice()))
             }
             _ => false,
         }
     }
 }
 
-// Whether the item 50 has come at the end, with the handle, and all others have the handles that they had.
-fn has_joined(all: &[(u32, i32)], before: &[(u32, i32)], handle: u32, end: End) -> bool {
-    let (joined, rest) = match end {
-        End::Last => (all.first(), all.get(1..)),
-        End::First => (all.last(), all.get(..before.len())),
-    };
-    joined == Some(&(handle, 50))
-        && rest == Some(before)
-        && all.len() == before.len().saturating_add(1)
-        && before.iter().all(|entry| entry.0 != handle)
-}
-
 #[test]
-fn reserve_takes_its_slots_at_once(rt: HostRuntime) {
+fn each_call_takes_its_slots_at_once_or_changes_nothing(rt: HostRuntime) {
     let memory = Refusing::new(rt.alloc());
-    for items in [0, 5, 7] {
-        let trial = Changing {
-            memory: &memory,
-            alloc: rt.alloc(),
-            items,
-            call: Call::Reserve,
-        };
-        assert!(rt; refuse_in_turn(&memory, &trial) == Ok(1), "over {items}");
-    }
-}
-
-#[test]
-fn an_insertion_doubles_the_slots_or_changes_nothing(rt: HostRuntime) {
-    let memory = Refusing::new(rt.alloc());
-    for (items, end) in [
-        (7, End::First),
-        (7, End::Last),
-        (15, End::First),
-        (31, End::Last),
+    for (items, call) in [
+        (0, Call::New(0)),
+        (0, Call::New(8)),
+        (0, Call::New(20)),
+        (0, Call::Reserve),
+        (5, Call::Reserve),
+        (7, Call::Reserve),
+        (7, Call::InsertFirst),
+        (7, Call::InsertLast),
+        (15, Call::InsertFirst),
+        (31, Call::InsertLast),
     ] {
         let trial = Changing {
             memory: &memory,
             alloc: rt.alloc(),
             items,
-            call: Call::Insert(end),
+            call,
         };
-        assert!(rt; refuse_in_turn(&memory, &trial) == Ok(1), "over {items}");
+        assert!(rt;
+            refuse_in_turn(&memory, &trial) == Ok(1),
+            "{call:?} over {items}"
+        );
     }
 }

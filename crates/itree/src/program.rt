@@ -13,9 +13,6 @@ use crate::mode::Mode;
 use std::alloc::Allocator;
 use std::io::{Read, Write};
 
-#[cfg(test)]
-mod tests;
-
 /// Runs the program: reads all of `input`, and writes one reply line for each command or edge to `output`. In a sweep, and
 /// among edges and points, each point has one, and a segment or an edge has none. Where the words ask for help it reads
 /// nothing, and writes `HELP`.

@@ -1,213 +1,481 @@
-//! Worked sets of edges and points.
+//! Worked sets of edges and points, over both kinds of status.
 
-use crate::pairs::edge;
-use crate::statuses::{assert_locates_to, point};
+use crate::edges::{Ends, edges_of, turned};
 use i_tree::Refusal;
-use plane::locate::LocateFault;
+use i_tree::status::exp::StatusCollection;
+use i_tree::status::list::StatusList;
+use i_tree::status::tree::StatusTree;
+use plane::edge::Edge;
+use plane::locate::{LocateFault, Point, Standing, locate};
+use std::alloc::Global;
+use std::cmp::Ordering;
 use std::test::Fail;
 
-#[test]
-fn tells_the_edge_straight_below(rt: HostRuntime) -> Result<(), Fail> {
-    let points = [
-        point(5, 5),
-        point(5, 6),
-        point(5, 4),
-        point(10, 10),
-        point(0, 0),
-        point(-1, 9),
-    ];
-    let answers = [Some(0), Some(0), None, None, Some(0), None];
-    let edges = [edge(0, 0, 10, 10)];
-    assert_locates_to(&rt, rt.alloc(), &edges, &points, Ok(&answers))
-}
+/// The answers that a call gives, or its fault.
+pub type Wanted<'a> = Result<&'a [Option<usize>], LocateFault>;
 
-#[test]
-fn answers_none_without_edges(rt: HostRuntime) -> Result<(), Fail> {
-    assert_locates_to(&rt, rt.alloc(), &[], &[point(0, 0)], Ok(&[None]))?;
-    assert_locates_to(&rt, rt.alloc(), &[], &[], Ok(&[]))
-}
-
-// At x 5 their heights are 5 and 2; at x 0 they are one.
-#[test]
-fn edges_that_share_an_end_part(rt: HostRuntime) -> Result<(), Fail> {
-    let edges = [edge(0, 0, 10, 10), edge(0, 0, 10, 4)];
-    let points = [
-        point(5, 7),
-        point(5, 5),
-        point(5, 4),
-        point(5, 2),
-        point(5, 1),
-        point(0, -1),
-    ];
-    let answers = [Some(0), Some(0), Some(1), Some(1), None, None];
-    assert_locates_to(&rt, rt.alloc(), &edges, &points, Ok(&answers))
-}
-
-// At x 5 the one of the chain ends, and the other covers it.
-#[test]
-fn one_edge_of_a_chain_covers_where_they_meet(rt: HostRuntime) -> Result<(), Fail> {
-    let edges = [edge(0, 0, 5, 5), edge(5, 5, 10, 0), edge(0, -3, 10, -3)];
-    let points = [
-        point(5, 6),
-        point(5, 5),
-        point(5, 4),
-        point(5, -3),
-        point(5, -4),
-        point(4, 4),
-        point(6, 4),
-    ];
-    let answers = [Some(1), Some(1), Some(2), Some(2), None, Some(0), Some(1)];
-    assert_locates_to(&rt, rt.alloc(), &edges, &points, Ok(&answers))
-}
-
-#[test]
-fn edges_go_either_way(rt: HostRuntime) -> Result<(), Fail> {
-    let edges = [edge(10, 10, 0, 0), edge(0, -1, 10, -1), edge(9, 3, 5, 3)];
-    let points = [point(5, 5), point(5, 4), point(5, 2), point(9, 8)];
-    let answers = [Some(0), Some(2), Some(1), Some(1)];
-    assert_locates_to(&rt, rt.alloc(), &edges, &points, Ok(&answers))
-}
-
-#[test]
-fn nothing_is_below_because_of_a_vertical_edge_or_a_point(rt: HostRuntime) -> Result<(), Fail> {
-    let edges = [edge(5, 0, 5, 9), edge(5, 3, 5, 3), edge(0, 1, 10, 1)];
-    let points = [point(5, 9), point(5, 3), point(5, 0)];
-    assert_locates_to(
-        &rt,
-        rt.alloc(),
-        &edges,
-        &points,
-        Ok(&[Some(2), Some(2), None]),
-    )?;
-    let edges = [edge(5, 0, 5, 9), edge(5, 3, 5, 3)];
-    assert_locates_to(&rt, rt.alloc(), &edges, &points, Ok(&[None, None, None]))
-}
-
-#[test]
-fn edges_that_touch_do_not_cross(rt: HostRuntime) -> Result<(), Fail> {
-    let edges = [edge(0, 0, 10, 10), edge(5, 5, 9, 0)];
-    let points = [point(6, 7), point(6, 4), point(6, 3)];
-    assert_locates_to(
-        &rt,
-        rt.alloc(),
-        &edges,
-        &points,
-        Ok(&[Some(0), Some(1), None]),
-    )
-}
-
-// Of edges along one line either may be told where both cover the x.
-#[test]
-fn edges_along_one_line_do_not_cross(rt: HostRuntime) -> Result<(), Fail> {
-    let edges = [edge(0, 0, 10, 10), edge(2, 2, 6, 6)];
-    let points = [point(1, 1), point(8, 9), point(4, 3)];
-    assert_locates_to(
-        &rt,
-        rt.alloc(),
-        &edges,
-        &points,
-        Ok(&[Some(0), Some(0), None]),
-    )?;
-    let edges = [edge(0, 0, 10, 10), edge(0, 0, 10, 10), edge(0, 9, 1, 9)];
-    assert_locates_to(&rt, rt.alloc(), &edges, &[point(0, 9)], Ok(&[Some(2)]))
-}
-
-#[test]
-fn tells_two_that_cross(rt: HostRuntime) -> Result<(), Fail> {
-    let cross = Err(LocateFault::Cross(0, 1));
-    let edges = [edge(0, 0, 10, 10), edge(0, 10, 10, 0)];
-    assert_locates_to(&rt, rt.alloc(), &edges, &[point(5, 6)], cross)?;
-    let edges = [edge(0, 10, 10, 0), edge(0, 0, 10, 10)];
-    assert_locates_to(&rt, rt.alloc(), &edges, &[point(5, 6)], cross)?;
-    // They cross at (1/2, 1/2).
-    let edges = [edge(0, 0, 1, 1), edge(0, 1, 1, 0)];
-    assert_locates_to(&rt, rt.alloc(), &edges, &[], cross)
-}
-
-// The level one lies between the two others up to x 4; they cross at x 5.
-#[test]
-fn tells_two_that_cross_behind_the_end_of_one_between_them(rt: HostRuntime) -> Result<(), Fail> {
-    let rising = edge(0, 0, 10, 10);
-    let falling = edge(0, 10, 10, 0);
-    let between = edge(0, 5, 4, 5);
-    let points = [point(0, 6)];
-    let cross = Err(LocateFault::Cross(0, 2));
-    let edges = [rising, between, falling];
-    assert_locates_to(&rt, rt.alloc(), &edges, &points, cross)?;
-    let edges = [falling, between, rising];
-    assert_locates_to(&rt, rt.alloc(), &edges, &points, cross)?;
-    let cross = Err(LocateFault::Cross(1, 2));
-    let edges = [between, falling, rising];
-    assert_locates_to(&rt, rt.alloc(), &edges, &points, cross)
-}
-
-// The one that begins last crosses the one above it, or the one below it.
-#[test]
-fn an_edge_is_tested_with_both_neighbours(rt: HostRuntime) -> Result<(), Fail> {
-    let low = edge(0, 0, 10, 0);
-    let high = edge(0, 10, 10, 10);
-    let cross = Err(LocateFault::Cross(1, 2));
-    assert_locates_to(&rt, rt.alloc(), &[low, high, edge(1, 5, 9, 15)], &[], cross)?;
-    let cross = Err(LocateFault::Cross(0, 2));
-    assert_locates_to(&rt, rt.alloc(), &[low, high, edge(1, 5, 9, -5)], &[], cross)
-}
-
-#[test]
-fn a_crossing_is_found_past_the_last_point(rt: HostRuntime) -> Result<(), Fail> {
-    let edges = [edge(0, 0, 1, 0), edge(50, 0, 60, 10), edge(50, 10, 60, 0)];
-    let cross = Err(LocateFault::Cross(1, 2));
-    assert_locates_to(&rt, rt.alloc(), &edges, &[point(0, 1)], cross)?;
-    assert_locates_to(&rt, rt.alloc(), &edges, &[], cross)
+// Edges and points, and what is wanted.
+struct Row {
+    name: &'static str,
+    edges: &'static [Ends],
+    points: &'static [(i32, i32)],
+    wanted: Wanted<'static>,
 }
 
 const LEAST: i32 = i32::MIN;
 
 const MOST: i32 = i32::MAX;
 
-// At x 0 the second is half below 0.
-#[test]
-fn edges_over_the_whole_plane_are_exact(rt: HostRuntime) -> Result<(), Fail> {
-    let rising = edge(LEAST, LEAST, MOST, MOST);
-    let falling = edge(LEAST, MOST, MOST, LEAST);
-    let beside = edge(LEAST, LEAST, MOST, MOST - 1);
-    let cross = Err(LocateFault::Cross(0, 1));
-    assert_locates_to(&rt, rt.alloc(), &[rising, falling], &[], cross)?;
-    let points = [
-        point(0, 0),
-        point(0, -1),
-        point(MOST - 1, MOST - 1),
-        point(MOST, MOST),
-    ];
-    let answers = [Some(0), None, Some(0), None];
-    assert_locates_to(&rt, rt.alloc(), &[rising, beside], &points, Ok(&answers))
+static ROWS: [Row; 34] = [
+    Row {
+        name: "the edge straight below",
+        edges: &[[0, 0, 10, 10]],
+        points: &[(5, 5), (5, 6), (5, 4), (10, 10), (0, 0), (-1, 9)],
+        wanted: Ok(&[Some(0), Some(0), None, None, Some(0), None]),
+    },
+    Row {
+        name: "a point without edges",
+        edges: &[],
+        points: &[(0, 0)],
+        wanted: Ok(&[None]),
+    },
+    Row {
+        name: "neither edges nor points",
+        edges: &[],
+        points: &[],
+        wanted: Ok(&[]),
+    },
+    Row {
+        // At x 5 their heights are 5 and 2; at x 0 they are one.
+        name: "edges that share an end part",
+        edges: &[[0, 0, 10, 10], [0, 0, 10, 4]],
+        points: &[(5, 7), (5, 5), (5, 4), (5, 2), (5, 1), (0, -1)],
+        wanted: Ok(&[Some(0), Some(0), Some(1), Some(1), None, None]),
+    },
+    Row {
+        // At x 5 the one of the chain ends, and the other covers it.
+        name: "one edge of a chain covers where they meet",
+        edges: &[[0, 0, 5, 5], [5, 5, 10, 0], [0, -3, 10, -3]],
+        points: &[(5, 6), (5, 5), (5, 4), (5, -3), (5, -4), (4, 4), (6, 4)],
+        wanted: Ok(&[Some(1), Some(1), Some(2), Some(2), None, Some(0), Some(1)]),
+    },
+    Row {
+        name: "edges go either way",
+        edges: &[[10, 10, 0, 0], [0, -1, 10, -1], [9, 3, 5, 3]],
+        points: &[(5, 5), (5, 4), (5, 2), (9, 8)],
+        wanted: Ok(&[Some(0), Some(2), Some(1), Some(1)]),
+    },
+    Row {
+        name: "an upright edge and a point above a level one",
+        edges: &[[5, 0, 5, 9], [5, 3, 5, 3], [0, 1, 10, 1]],
+        points: &[(5, 9), (5, 3), (5, 0)],
+        wanted: Ok(&[Some(2), Some(2), None]),
+    },
+    Row {
+        name: "an upright edge and a point alone",
+        edges: &[[5, 0, 5, 9], [5, 3, 5, 3]],
+        points: &[(5, 9), (5, 3), (5, 0)],
+        wanted: Ok(&[None, None, None]),
+    },
+    Row {
+        name: "edges that touch do not cross",
+        edges: &[[0, 0, 10, 10], [5, 5, 9, 0]],
+        points: &[(6, 7), (6, 4), (6, 3)],
+        wanted: Ok(&[Some(0), Some(1), None]),
+    },
+    Row {
+        name: "edges along one line do not cross",
+        edges: &[[0, 0, 10, 10], [2, 2, 6, 6]],
+        points: &[(1, 1), (8, 9), (4, 3)],
+        wanted: Ok(&[Some(0), Some(0), None]),
+    },
+    Row {
+        name: "one edge twice does not cross",
+        edges: &[[0, 0, 10, 10], [0, 0, 10, 10], [0, 9, 1, 9]],
+        points: &[(0, 9)],
+        wanted: Ok(&[Some(2)]),
+    },
+    Row {
+        name: "two that cross",
+        edges: &[[0, 0, 10, 10], [0, 10, 10, 0]],
+        points: &[(5, 6)],
+        wanted: Err(LocateFault::Cross(0, 1)),
+    },
+    Row {
+        name: "two that cross, the other way",
+        edges: &[[0, 10, 10, 0], [0, 0, 10, 10]],
+        points: &[(5, 6)],
+        wanted: Err(LocateFault::Cross(0, 1)),
+    },
+    Row {
+        name: "two that cross between whole points",
+        edges: &[[0, 0, 1, 1], [0, 1, 1, 0]],
+        points: &[],
+        wanted: Err(LocateFault::Cross(0, 1)),
+    },
+    // The level one lies between the two others up to x 4; they cross at x 5.
+    Row {
+        name: "two that cross behind the end of the one between",
+        edges: &[[0, 0, 10, 10], [0, 5, 4, 5], [0, 10, 10, 0]],
+        points: &[(0, 6)],
+        wanted: Err(LocateFault::Cross(0, 2)),
+    },
+    Row {
+        name: "two that cross behind the end of the one between, the falling one first",
+        edges: &[[0, 10, 10, 0], [0, 5, 4, 5], [0, 0, 10, 10]],
+        points: &[(0, 6)],
+        wanted: Err(LocateFault::Cross(0, 2)),
+    },
+    Row {
+        name: "two that cross behind the end of the one between, which stands first",
+        edges: &[[0, 5, 4, 5], [0, 10, 10, 0], [0, 0, 10, 10]],
+        points: &[(0, 6)],
+        wanted: Err(LocateFault::Cross(1, 2)),
+    },
+    Row {
+        name: "the one that begins last crosses the one above it",
+        edges: &[[0, 0, 10, 0], [0, 10, 10, 10], [1, 5, 9, 15]],
+        points: &[],
+        wanted: Err(LocateFault::Cross(1, 2)),
+    },
+    Row {
+        name: "the one that begins last crosses the one below it",
+        edges: &[[0, 0, 10, 0], [0, 10, 10, 10], [1, 5, 9, -5]],
+        points: &[],
+        wanted: Err(LocateFault::Cross(0, 2)),
+    },
+    Row {
+        name: "a crossing past the last point",
+        edges: &[[0, 0, 1, 0], [50, 0, 60, 10], [50, 10, 60, 0]],
+        points: &[(0, 1)],
+        wanted: Err(LocateFault::Cross(1, 2)),
+    },
+    Row {
+        name: "a crossing without points",
+        edges: &[[0, 0, 1, 0], [50, 0, 60, 10], [50, 10, 60, 0]],
+        points: &[],
+        wanted: Err(LocateFault::Cross(1, 2)),
+    },
+    Row {
+        name: "the diagonals of the whole plane",
+        edges: &[[LEAST, LEAST, MOST, MOST], [LEAST, MOST, MOST, LEAST]],
+        points: &[],
+        wanted: Err(LocateFault::Cross(0, 1)),
+    },
+    Row {
+        // At x 0 the second is half below 0.
+        name: "a diagonal of the whole plane, and one beside it",
+        edges: &[[LEAST, LEAST, MOST, MOST], [LEAST, LEAST, MOST, MOST - 1]],
+        points: &[(0, 0), (0, -1), (MOST - 1, MOST - 1), (MOST, MOST)],
+        wanted: Ok(&[Some(0), None, Some(0), None]),
+    },
+    Row {
+        name: "level ones over the whole plane",
+        edges: &[
+            [LEAST, LEAST, MOST, LEAST],
+            [LEAST, MOST, MOST, MOST],
+            [LEAST, 0, MOST, 0],
+        ],
+        points: &[
+            (LEAST, MOST),
+            (MOST - 1, MOST - 1),
+            (0, 0),
+            (0, -1),
+            (LEAST, LEAST),
+            (MOST, 0),
+        ],
+        wanted: Ok(&[Some(1), Some(2), Some(2), Some(0), Some(0), None]),
+    },
+    Row {
+        name: "behind and below a corner",
+        edges: &[[0, 0, 10, 10], [0, 0, 10, 0]],
+        points: &[(1, 0), (0, -1)],
+        wanted: Ok(&[Some(1), None]),
+    },
+    Row {
+        // Three end at the corner, which they don't cover, and two begin there.
+        name: "edges that end at a corner are not told there",
+        edges: &[
+            [-5, 9, 0, 0],
+            [-5, 0, 0, 0],
+            [0, 0, 10, -3],
+            [-5, -9, 0, 0],
+            [0, 0, 10, -2],
+        ],
+        points: &[(0, 0), (-1, 0), (-1, 1), (-1, 2)],
+        wanted: Ok(&[Some(4), Some(1), Some(1), Some(0)]),
+    },
+    // Of three that part at a corner, the places of the upper and of the level one are told.
+    Row {
+        name: "three that part at a corner: upper, level, lower",
+        edges: &[[0, 0, 10, 15], [0, 0, 8, 0], [0, 0, 10, -5]],
+        points: &[(0, 0), (0, 7), (0, -1), (1, 0)],
+        wanted: Ok(&[Some(0), Some(0), None, Some(1)]),
+    },
+    Row {
+        name: "three that part at a corner: upper, lower, level",
+        edges: &[[0, 0, 10, 15], [0, 0, 10, -5], [0, 0, 8, 0]],
+        points: &[(0, 0), (0, 7), (0, -1), (1, 0)],
+        wanted: Ok(&[Some(0), Some(0), None, Some(2)]),
+    },
+    Row {
+        name: "three that part at a corner: level, upper, lower",
+        edges: &[[0, 0, 8, 0], [0, 0, 10, 15], [0, 0, 10, -5]],
+        points: &[(0, 0), (0, 7), (0, -1), (1, 0)],
+        wanted: Ok(&[Some(1), Some(1), None, Some(0)]),
+    },
+    Row {
+        name: "three that part at a corner: lower, upper, level",
+        edges: &[[0, 0, 10, -5], [0, 0, 10, 15], [0, 0, 8, 0]],
+        points: &[(0, 0), (0, 7), (0, -1), (1, 0)],
+        wanted: Ok(&[Some(1), Some(1), None, Some(2)]),
+    },
+    Row {
+        name: "three that part at a corner: level, lower, upper",
+        edges: &[[0, 0, 8, 0], [0, 0, 10, -5], [0, 0, 10, 15]],
+        points: &[(0, 0), (0, 7), (0, -1), (1, 0)],
+        wanted: Ok(&[Some(2), Some(2), None, Some(0)]),
+    },
+    Row {
+        name: "three that part at a corner: lower, level, upper",
+        edges: &[[0, 0, 10, -5], [0, 0, 8, 0], [0, 0, 10, 15]],
+        points: &[(0, 0), (0, 7), (0, -1), (1, 0)],
+        wanted: Ok(&[Some(2), Some(2), None, Some(1)]),
+    },
+    Row {
+        name: "a point behind the end of the last edge",
+        edges: &[[0, 0, 2, 2]],
+        points: &[(2, 5), (1, 1)],
+        wanted: Ok(&[None, Some(0)]),
+    },
+    Row {
+        name: "points between two heights that are no whole numbers",
+        edges: &[[0, 0, 3, 1], [0, 1, 3, 2]],
+        points: &[(1, 0), (1, 1), (2, 1), (2, 2)],
+        wanted: Ok(&[None, Some(0), Some(0), Some(1)]),
+    },
+];
+
+// Two edges that part at a corner, the upper one first, and a point straight above it.
+static CORNERS: [(Ends, Ends, (i32, i32)); 12] = [
+    ([0, 0, 10, 10], [0, 0, 10, 0], (0, 0)),
+    ([0, 0, 10, 10], [0, 0, 10, 0], (0, 5)),
+    ([0, 0, 10, 0], [0, 0, 10, -10], (0, 0)),
+    ([0, 0, 10, 0], [0, 0, 10, -10], (0, 5)),
+    ([0, 0, 10, 10], [0, 0, 10, -10], (0, 0)),
+    ([0, 0, 10, 10], [0, 0, 10, -10], (0, 5)),
+    // A third is more than two sevenths, and minus two sevenths more than minus a third.
+    ([0, 0, 3, 1], [0, 0, 7, 2], (0, 0)),
+    ([0, 0, 7, -2], [0, 0, 3, -1], (0, 0)),
+    (
+        [LEAST, LEAST, MOST, MOST],
+        [LEAST, LEAST, MOST, MOST - 1],
+        (LEAST, LEAST),
+    ),
+    (
+        [LEAST, LEAST, MOST, MOST],
+        [LEAST, LEAST, MOST, MOST - 1],
+        (LEAST, MOST),
+    ),
+    // The level one goes on through the corner at which the other begins.
+    ([0, 0, 10, 5], [-5, 0, 10, 0], (0, 0)),
+    ([-5, 0, 10, 0], [0, 0, 10, -5], (0, 0)),
+];
+
+/// The answer that stands in `out` before a call.
+pub const EARLIER: Option<usize> = Some(77);
+
+// Stores two level edges over the whole plane, that a call would answer, or find to cross others, if they stayed.
+fn hold_others<C: StatusCollection<Standing, i64, ()>>(status: &mut C) -> Result<(), Refusal> {
+    for y in [-4, 1] {
+        let edge = Edge {
+            x0: LEAST,
+            y0: y,
+            x1: MOST,
+            y1: y,
+        };
+        let stands = |other: Standing| -> Ordering { other.edge.y0.cmp(&y) };
+        let _ = status.insert_by(0, stands, Standing { edge, place: 5 }, ())?;
+    }
+    Ok(())
+}
+
+/// Whether nothing is stored, not even what has ended.
+pub fn is_empty<C: StatusCollection<Standing, i64, ()>>(status: &mut C) -> bool {
+    let (below, above) = status.neighbours_by(i64::MIN, |_| Ordering::Greater);
+    below.is_none() && above.is_none()
+}
+
+// Whether the first is the earlier answer, and the others are those.
+fn has_joined(out: &[Option<usize>], answers: &[Option<usize>]) -> bool {
+    match out {
+        [first, rest @ ..] => *first == EARLIER && rest == answers,
+        [] => false,
+    }
+}
+
+/// Whether the outcome of a call, and what it left in `out` behind the earlier answer, are those that are wanted.
+pub fn is_wanted(wanted: Wanted, outcome: Result<(), LocateFault>, out: &[Option<usize>]) -> bool {
+    match wanted {
+        Ok(answers) => outcome == Ok(()) && has_joined(out, answers),
+        Err(fault) => outcome == Err(fault) && has_joined(out, &[]),
+    }
+}
+
+// Locates over a status that holds others, into an `out` that has an answer. Tells whether all is as it is wanted, and the
+// status is empty.
+fn locates_to<C: StatusCollection<Standing, i64, ()>>(
+    alloc: Global,
+    status: &mut C,
+    edges: &[Edge],
+    points: &[Point],
+    wanted: Wanted,
+) -> Result<bool, Fail> {
+    hold_others(status)?;
+    let mut out = vec![in alloc; EARLIER]?;
+    let outcome = locate(status, edges, points, &mut out);
+    Ok(is_wanted(wanted, outcome, &out) && is_empty(status))
+}
+
+fn locates_by_list(
+    alloc: Global,
+    edges: &[Edge],
+    points: &[Point],
+    wanted: Wanted,
+) -> Result<bool, Fail> {
+    locates_to(
+        alloc,
+        &mut StatusList::new(alloc, 0)?,
+        edges,
+        points,
+        wanted,
+    )
+}
+
+fn locates_by_tree(
+    alloc: Global,
+    edges: &[Edge],
+    points: &[Point],
+    wanted: Wanted,
+) -> Result<bool, Fail> {
+    locates_to(
+        alloc,
+        &mut StatusTree::new(alloc, 0)?,
+        edges,
+        points,
+        wanted,
+    )
+}
+
+/// The same over a list and over a tree.
+pub fn locates_over_both(
+    alloc: Global,
+    edges: &[Edge],
+    points: &[Point],
+    wanted: Wanted,
+) -> Result<bool, Fail> {
+    let is_listed = locates_by_list(alloc, edges, points, wanted)?;
+    Ok(locates_by_tree(alloc, edges, points, wanted)? && is_listed)
+}
+
+fn points_of(alloc: Global, places: &[(i32, i32)]) -> Result<Vec<Point>, Fail> {
+    let mut points = Vec::new(alloc);
+    for (x, y) in places.iter().copied() {
+        points.push(Point { x, y })?;
+    }
+    Ok(points)
+}
+
+// The ends of edges that go the other way.
+fn all_turned(alloc: Global, edges: &[Ends]) -> Result<Vec<Ends>, Fail> {
+    let mut others = Vec::new(alloc);
+    for ends in edges {
+        others.push(turned(*ends))?;
+    }
+    Ok(others)
+}
+
+// Locates the edges as they are, and each turned round.
+fn locates_so(
+    alloc: Global,
+    edges: &[Ends],
+    places: &[(i32, i32)],
+    wanted: Wanted,
+) -> Result<bool, Fail> {
+    let points = points_of(alloc, places)?;
+    let others = edges_of(alloc, &all_turned(alloc, edges)?)?;
+    let is_turned_told = locates_over_both(alloc, &others, &points, wanted)?;
+    let edges = edges_of(alloc, edges)?;
+    Ok(locates_over_both(alloc, &edges, &points, wanted)? && is_turned_told)
+}
+
+// A function that goes over a table is dear to prove if it names the table.
+fn rows() -> &'static [Row] {
+    &ROWS
 }
 
 #[test]
-fn level_edges_over_the_whole_plane(rt: HostRuntime) -> Result<(), Fail> {
-    let edges = [
-        edge(LEAST, LEAST, MOST, LEAST),
-        edge(LEAST, MOST, MOST, MOST),
-        edge(LEAST, 0, MOST, 0),
-    ];
-    let points = [
-        point(LEAST, MOST),
-        point(MOST - 1, MOST - 1),
-        point(0, 0),
-        point(0, -1),
-        point(LEAST, LEAST),
-        point(MOST, 0),
-    ];
-    let answers = [Some(1), Some(2), Some(2), Some(0), Some(0), None];
-    assert_locates_to(&rt, rt.alloc(), &edges, &points, Ok(&answers))
+fn locates_as_worked_by_hand(rt: HostRuntime) -> Result<(), Fail> {
+    for row in rows() {
+        assert!(rt;
+            locates_so(rt.alloc(), row.edges, row.points, row.wanted)?,
+            "{}",
+            row.name
+        );
+    }
+    Ok(())
+}
+
+// Whether the upper one is told, in both orders of places.
+fn is_upper(alloc: Global, upper: Ends, lower: Ends, place: (i32, i32)) -> Result<bool, Fail> {
+    let first = locates_so(alloc, &[upper, lower], &[place], Ok(&[Some(0)]))?;
+    Ok(locates_so(alloc, &[lower, upper], &[place], Ok(&[Some(1)]))? && first)
+}
+
+#[test]
+fn tells_the_upper_of_two_that_part_at_a_corner(rt: HostRuntime) -> Result<(), Fail> {
+    for (upper, lower, place) in &CORNERS {
+        let is_so = is_upper(rt.alloc(), *upper, *lower, *place)?
+            && is_upper(rt.alloc(), *upper, turned(*lower), *place)?;
+        assert!(rt; is_so, "{upper:?} and {lower:?} at {place:?}");
+    }
+    Ok(())
+}
+
+// What is told of a point at which two edges along one line begin.
+fn told<C: StatusCollection<Standing, i64, ()>>(
+    alloc: Global,
+    status: &mut C,
+) -> Result<Option<usize>, Fail> {
+    let edges = edges_of(alloc, &[[0, 0, 10, 10], [0, 0, 20, 20]])?;
+    let mut out = Vec::new(alloc);
+    match locate(status, &edges, &[Point { x: 0, y: 0 }], &mut out) {
+        Ok(()) => Ok(out.first().copied().flatten()),
+        Err(_) => Ok(None),
+    }
+}
+
+#[test]
+fn either_of_two_along_one_line_may_be_told(rt: HostRuntime) -> Result<(), Fail> {
+    let by_list = told(rt.alloc(), &mut StatusList::new(rt.alloc(), 0)?)?;
+    let by_tree = told(rt.alloc(), &mut StatusTree::new(rt.alloc(), 0)?)?;
+    assert!(rt; matches!((by_list, by_tree), (Some(0 | 1), Some(0 | 1))));
+    Ok(())
 }
 
 #[test]
 fn a_fault_says_why(rt: HostRuntime) -> Result<(), Fail> {
-    let cross = LocateFault::Cross(3, 12).to_string(rt.alloc())?;
-    assert!(rt; cross.as_str() == "the edges at places 3 and 12 cross");
-    let refused = LocateFault::Refused(Refusal::NoHandle).to_string(rt.alloc())?;
-    assert!(rt; refused.as_str() == "every handle is in use");
-    let refused = LocateFault::from(Refusal::OutOfMemory).to_string(rt.alloc())?;
-    assert!(rt; refused.as_str() == "memory was refused");
+    for (fault, said) in [
+        (
+            LocateFault::Cross(3, 12),
+            "the edges at places 3 and 12 cross",
+        ),
+        (
+            LocateFault::from(Refusal::NoHandle),
+            "every handle is in use",
+        ),
+    ] {
+        assert!(rt; fault.to_string(rt.alloc())?.as_str() == said);
+    }
     Ok(())
 }

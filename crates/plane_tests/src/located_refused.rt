@@ -1,20 +1,43 @@
 //! Each request for memory of a call of `locate` refused in turn, and a status that refuses each edge.
 
-use crate::pairs::edge;
-use crate::statuses::{
-    EdgeList, EdgeTree, MadeStatus, hold_others, is_wanted, point, with_earlier,
-};
+use crate::edges::{Ends, edge};
+use crate::located::{EARLIER, Wanted, is_empty, is_wanted};
 use i_tree::status::exp::StatusCollection;
+use i_tree::status::list::StatusList;
+use i_tree::status::tree::StatusTree;
 use i_tree::{Expiration, ExpiredVal, Refusal};
 use plane::edge::Edge;
-use plane::locate::{LocateFault, Point, locate};
-use std::alloc::Global;
+use plane::locate::{LocateFault, Point, Standing, locate};
+use std::alloc::{Allocator, Global};
 use std::cmp::Ordering;
 use std::test::Fail;
 use test_kit::Refusing;
 use test_kit::in_turn::{Fault, Trial, refuse_in_turn};
 
 type Memory<'a> = &'a Refusing<Global>;
+
+// A status that takes memory of one kind.
+trait MadeStatus: StatusCollection<Standing, i64, ()> + Drop {
+    type Memory: Allocator + Copy + Drop;
+
+    fn make(memory: Self::Memory) -> Result<Self, Refusal>;
+}
+
+impl<A: Allocator + Copy + Drop> MadeStatus for StatusList<Standing, i64, (), A> {
+    type Memory = A;
+
+    fn make(memory: A) -> Result<Self, Refusal> {
+        StatusList::new(memory, 0)
+    }
+}
+
+impl<A: Allocator + Copy + Drop> MadeStatus for StatusTree<Standing, i64, (), A> {
+    type Memory = A;
+
+    fn make(memory: A) -> Result<Self, Refusal> {
+        StatusTree::new(memory, 0)
+    }
+}
 
 // Edges above one another, which all cover one x, with a point on each there; and their places.
 #[derive(Drop)]
@@ -33,13 +56,20 @@ struct Located<C: MadeStatus> {
     outcome: Result<(), LocateFault>,
 }
 
+impl<C: MadeStatus> Located<C> {
+    // Whether the call ended so, and left the status empty.
+    fn has_ended(&mut self, wanted: Wanted) -> bool {
+        is_wanted(wanted, self.outcome, &self.out) && is_empty(&mut self.status)
+    }
+}
+
 impl<C: MadeStatus> Trial for Stack<C> {
     type State = Located<C>;
 
     fn begin(&self) -> Option<Located<C>> {
-        let mut status = C::make(self.memory).ok()?;
-        hold_others(&mut status).ok()?;
-        let out = with_earlier(self.memory).ok()?;
+        let status = C::make(self.memory).ok()?;
+        let mut out = Vec::new(self.memory);
+        out.push(EARLIER).ok()?;
         Some(Located {
             status,
             out,
@@ -48,25 +78,24 @@ impl<C: MadeStatus> Trial for Stack<C> {
     }
 
     fn call(&self, located: &mut Located<C>) {
-        located.outcome = locate(
-            &mut located.status,
-            &self.edges,
-            &self.points,
-            &mut located.out,
-        );
+        let Located {
+            status,
+            out,
+            outcome,
+        } = located;
+        *outcome = locate(status, &self.edges, &self.points, out);
     }
 
     fn is_refused(&self, located: &mut Located<C>, _nth: u64) -> bool {
-        let refused = Err(LocateFault::Refused(Refusal::OutOfMemory));
-        is_wanted(located.outcome, &located.out, refused) && located.status.count() == 0
+        located.has_ended(Err(LocateFault::Refused(Refusal::OutOfMemory)))
     }
 
     fn is_done(&self, located: &mut Located<C>) -> bool {
-        is_wanted(located.outcome, &located.out, Ok(&self.answers)) && located.status.count() == 0
+        located.has_ended(Ok(&self.answers))
     }
 }
 
-// How many requests the call makes over a new status.
+// How many requests the call makes over a new one.
 fn requests_of<C: MadeStatus>(
     counted: &Refusing<Global>,
     memory: C::Memory,
@@ -75,11 +104,11 @@ fn requests_of<C: MadeStatus>(
     let mut edges = Vec::new(alloc);
     let mut points = Vec::new(alloc);
     let mut answers = Vec::new(alloc);
-    for place in 0..20usize {
+    for place in 0..20u8 {
         let y = place as i32;
-        edges.push(edge(0, y, 30, y))?;
-        points.push(point(25, y))?;
-        answers.push(Some(place))?;
+        edges.push(edge([0, y, 30, y]))?;
+        points.push(Point { x: 25, y })?;
+        answers.push(Some(place as usize))?;
     }
     let stack: Stack<C> = Stack {
         memory,
@@ -93,7 +122,11 @@ fn requests_of<C: MadeStatus>(
 #[test]
 fn keeps_out_at_each_refusal_over_a_list(rt: HostRuntime) -> Result<(), Fail> {
     let memory = Refusing::new(rt.alloc());
-    let requests = requests_of::<EdgeList<Memory>>(&memory, &memory, rt.alloc())?;
+    let requests = requests_of::<StatusList<Standing, i64, (), Memory>>(
+        &memory,
+        &memory,
+        rt.alloc(),
+    )?;
     assert!(rt; matches!(requests, Ok(4..)));
     Ok(())
 }
@@ -101,7 +134,11 @@ fn keeps_out_at_each_refusal_over_a_list(rt: HostRuntime) -> Result<(), Fail> {
 #[test]
 fn keeps_out_at_each_refusal_over_a_tree(rt: HostRuntime) -> Result<(), Fail> {
     let memory = Refusing::new(rt.alloc());
-    let requests = requests_of::<EdgeTree<Memory>>(&memory, &memory, rt.alloc())?;
+    let requests = requests_of::<StatusTree<Standing, i64, (), Memory>>(
+        &memory,
+        &memory,
+        rt.alloc(),
+    )?;
     assert!(rt; matches!(requests, Ok(4..)));
     Ok(())
 }
@@ -154,34 +191,19 @@ impl<K: ExpiredVal<E>, E: Expiration, V: Copy> StatusCollection<K, E, V> for Ful
     fn clear(&mut self) {}
 }
 
+// An edge over a status without a handle, and what is wanted of a point above its start. An upright one doesn't stand in the
+// status.
+static REFUSED: [(Ends, Wanted<'static>); 2] = [
+    ([0, 0, 9, 9], Err(LocateFault::Refused(Refusal::NoHandle))),
+    ([0, 0, 0, 9], Ok(&[None])),
+];
+
 #[test]
 fn tells_the_refusal_of_the_status(rt: HostRuntime) -> Result<(), Fail> {
-    let mut out = with_earlier(rt.alloc())?;
-    let outcome = locate(&mut Full, &[edge(0, 0, 9, 9)], &[point(0, 0)], &mut out);
-    let refused = Err(LocateFault::Refused(Refusal::NoHandle));
-    assert!(rt; is_wanted(outcome, &out, refused));
+    for (ends, wanted) in &REFUSED {
+        let mut out = vec![in rt.alloc(); EARLIER]?;
+        let outcome = locate(&mut Full, &[edge(*ends)], &[Point { x: 0, y: 9 }], &mut out);
+        assert!(rt; is_wanted(*wanted, outcome, &out));
+    }
     Ok(())
-}
-
-#[test]
-fn a_vertical_edge_does_not_stand_in_the_status(rt: HostRuntime) -> Result<(), Fail> {
-    let mut out = with_earlier(rt.alloc())?;
-    let outcome = locate(&mut Full, &[edge(3, 0, 3, 9)], &[point(3, 9)], &mut out);
-    assert!(rt; is_wanted(outcome, &out, Ok(&[None])));
-    Ok(())
-}
-
-// A point in memory of this kind, as a caller's own step would store it.
-fn one_point(memory: Memory) -> Result<(), LocateFault> {
-    let mut points = Vec::new(memory);
-    points.push(point(0, 0))?;
-    Ok(())
-}
-
-#[test]
-fn a_value_that_found_no_memory_is_a_fault(rt: HostRuntime) {
-    let memory = Refusing::new(rt.alloc());
-    assert!(rt; one_point(&memory).is_ok());
-    memory.refuse_all();
-    assert!(rt; one_point(&memory) == Err(LocateFault::Refused(Refusal::OutOfMemory)));
 }

@@ -1,96 +1,228 @@
-//! Worked sets of edges, and each request for memory refused in turn.
+//! Sets of edges that meet: worked ones, ones by chance over many strips, and each request for memory refused in turn.
 
-use crate::pairs::edge;
+use crate::edges::{Ends, edge, edges_of};
 use i_tree::Refusal;
 use plane::edge::Edge;
-use plane::meet::meetings;
-use std::alloc::{Allocator, Global};
+use plane::meet::{meet, meetings};
+use std::alloc::Global;
 use std::test::Fail;
 use test_kit::Refusing;
-use test_kit::in_turn::{Fault, Trial, refuse_in_turn};
+use test_kit::in_turn::{Trial, refuse_in_turn};
+use test_kit::random::Random;
 
-/// The pairs of places whose edges meet, in rising order.
-pub fn sorted_meetings(alloc: Global, edges: &[Edge]) -> Result<Vec<(usize, usize)>, Fail> {
+const LEAST: i32 = i32::MIN;
+
+const MOST: i32 = i32::MAX;
+
+// A set, and the pairs of places whose edges meet, in rising order.
+struct Row {
+    name: &'static str,
+    edges: &'static [Ends],
+    pairs: &'static [(usize, usize)],
+}
+
+static ROWS: [Row; 11] = [
+    Row {
+        name: "three through one point",
+        edges: &[[0, 0, 10, 10], [0, 10, 10, 0], [5, -3, 5, 9]],
+        pairs: &[(0, 1), (0, 2), (1, 2)],
+    },
+    Row {
+        name: "no edge",
+        edges: &[],
+        pairs: &[],
+    },
+    Row {
+        name: "one edge",
+        edges: &[[3, 4, 5, 6]],
+        pairs: &[],
+    },
+    Row {
+        name: "two that are apart",
+        edges: &[[0, 0, 1, 1], [2, 0, 3, 1]],
+        pairs: &[],
+    },
+    Row {
+        name: "two that touch",
+        edges: &[[0, 0, 2, 0], [2, 0, 2, 3]],
+        pairs: &[(0, 1)],
+    },
+    Row {
+        name: "one edge in three places",
+        edges: &[[7, 2, -3, 5], [7, 2, -3, 5], [-3, 5, 7, 2]],
+        pairs: &[(0, 1), (0, 2), (1, 2)],
+    },
+    Row {
+        name: "level ones at 0",
+        edges: &[
+            [0, 0, 4, 0],
+            [9, 0, 4, 0],
+            [10, 0, 12, 0],
+            [12, 0, 12, 0],
+            [3, 0, 5, 0],
+        ],
+        pairs: &[(0, 1), (0, 4), (1, 4), (2, 3)],
+    },
+    Row {
+        name: "level ones below 0",
+        edges: &[
+            [0, -1, 4, -1],
+            [9, -1, 4, -1],
+            [10, -1, 12, -1],
+            [12, -1, 12, -1],
+            [3, -1, 5, -1],
+        ],
+        pairs: &[(0, 1), (0, 4), (1, 4), (2, 3)],
+    },
+    Row {
+        name: "level ones at the least height",
+        edges: &[
+            [0, LEAST, 4, LEAST],
+            [9, LEAST, 4, LEAST],
+            [10, LEAST, 12, LEAST],
+            [12, LEAST, 12, LEAST],
+            [3, LEAST, 5, LEAST],
+        ],
+        pairs: &[(0, 1), (0, 4), (1, 4), (2, 3)],
+    },
+    Row {
+        name: "level ones at the greatest height",
+        edges: &[
+            [0, MOST, 4, MOST],
+            [9, MOST, 4, MOST],
+            [10, MOST, 12, MOST],
+            [12, MOST, 12, MOST],
+            [3, MOST, 5, MOST],
+        ],
+        pairs: &[(0, 1), (0, 4), (1, 4), (2, 3)],
+    },
+    Row {
+        // The first two cross between whole points; (0, 2) and (1, 3) only come near each other.
+        name: "at the ends of the numbers",
+        edges: &[
+            [LEAST, LEAST, MOST, MOST],
+            [LEAST, MOST, MOST, LEAST],
+            [LEAST, MOST, -1, 0],
+            [0, 0, 0, 0],
+            [MOST, MOST, MOST, LEAST],
+            [LEAST, MOST, LEAST, MOST],
+        ],
+        pairs: &[(0, 1), (0, 3), (0, 4), (1, 2), (1, 4), (1, 5), (2, 5)],
+    },
+];
+
+// The pairs of places whose edges meet, in rising order.
+fn sorted_meetings(alloc: Global, edges: &[Edge]) -> Result<Vec<(usize, usize)>, Fail> {
     let mut pairs = Vec::new(alloc);
     meetings(edges, &mut pairs)?;
     pairs.sort_unstable();
     Ok(pairs)
 }
 
-fn is_told(alloc: Global, edges: &[Edge], wanted: &[(usize, usize)]) -> Result<bool, Fail> {
-    Ok(&sorted_meetings(alloc, edges)?[..] == wanted)
-}
-
-const LEAST: i32 = i32::MIN;
-
-const MOST: i32 = i32::MAX;
-
-#[test]
-fn three_through_one_point_give_three_pairs(rt: HostRuntime) -> Result<(), Fail> {
-    let edges = [edge(0, 0, 10, 10), edge(0, 10, 10, 0), edge(5, -3, 5, 9)];
-    assert!(rt; is_told(rt.alloc(), &edges, &[(0, 1), (0, 2), (1, 2)])?);
-    Ok(())
+fn is_met(alloc: Global, row: &Row) -> Result<bool, Fail> {
+    let edges = edges_of(alloc, row.edges)?;
+    Ok(sorted_meetings(alloc, &edges)?.as_slice() == row.pairs)
 }
 
 #[test]
-fn few_edges_give_few_pairs(rt: HostRuntime) -> Result<(), Fail> {
-    assert!(rt; is_told(rt.alloc(), &[], &[])?);
-    assert!(rt; is_told(rt.alloc(), &[edge(3, 4, 5, 6)], &[])?);
-    assert!(rt; is_told(rt.alloc(), &[edge(0, 0, 1, 1), edge(2, 0, 3, 1)], &[])?);
-    Ok(())
-}
-
-#[test]
-fn an_edge_meets_itself_in_other_places(rt: HostRuntime) -> Result<(), Fail> {
-    let edges = [edge(7, 2, -3, 5), edge(7, 2, -3, 5), edge(-3, 5, 7, 2)];
-    assert!(rt; is_told(rt.alloc(), &edges, &[(0, 1), (0, 2), (1, 2)])?);
-    Ok(())
-}
-
-#[test]
-fn edges_at_one_height_meet_where_their_ends_say_so(rt: HostRuntime) -> Result<(), Fail> {
-    for y in [LEAST, -1, 0, MOST] {
-        let edges = [
-            edge(0, y, 4, y),
-            edge(9, y, 4, y),
-            edge(10, y, 12, y),
-            edge(12, y, 12, y),
-            edge(3, y, 5, y),
-        ];
-        assert!(rt; is_told(rt.alloc(), &edges, &[(0, 1), (0, 4), (1, 4), (2, 3)])?);
+fn sets_meet_as_worked_by_hand(rt: HostRuntime) -> Result<(), Fail> {
+    for row in &ROWS {
+        assert!(rt; is_met(rt.alloc(), row)?, "{}", row.name);
     }
     Ok(())
 }
 
-#[test]
-fn edges_at_the_ends_of_the_range(rt: HostRuntime) -> Result<(), Fail> {
-    let edges = [
-        edge(LEAST, LEAST, MOST, MOST),
-        edge(LEAST, MOST, MOST, LEAST),
-        edge(LEAST, MOST, -1, 0),
-        edge(0, 0, 0, 0),
-        edge(MOST, MOST, MOST, LEAST),
-        edge(LEAST, MOST, LEAST, MOST),
-    ];
-    // (0, 1) cross between whole points; (0, 2) and (1, 3) only come near each other.
-    let wanted = [(0, 1), (0, 3), (0, 4), (1, 2), (1, 4), (1, 5), (2, 5)];
-    assert!(rt; is_told(rt.alloc(), &edges, &wanted)?);
-    Ok(())
+// Edges by chance: so many, up to so wide and so high, that begin at so many heights.
+struct Chance {
+    name: &'static str,
+    count: u32,
+    width: u16,
+    height: u16,
+    heights: u16,
+    // More pairs than so many meet.
+    least: usize,
+}
+
+static CHANCES: [Chance; 4] = [
+    Chance {
+        name: "one strip over few edges",
+        count: 100,
+        width: 900,
+        height: 900,
+        heights: 1000,
+        least: 100,
+    },
+    Chance {
+        name: "one strip over tall edges",
+        count: 600,
+        width: 20,
+        height: 4000,
+        heights: 4000,
+        least: 100,
+    },
+    Chance {
+        name: "two strips over edges of middling height",
+        count: 120,
+        width: 4000,
+        height: 40,
+        heights: 1000,
+        least: 20,
+    },
+    Chance {
+        name: "many strips over flat edges",
+        count: 700,
+        width: 900,
+        height: 4,
+        heights: 2000,
+        least: 20,
+    },
+];
+
+fn edges_by_chance(alloc: Global, chance: &Chance) -> Result<Vec<Edge>, Fail> {
+    let mut random = Random::new();
+    let mut edges = Vec::new(alloc);
+    for _ in 0..chance.count {
+        let x0 = random.next(4000);
+        let y0 = random.next(chance.heights);
+        let x1 = x0.saturating_add(random.next(chance.width));
+        let y1 = y0.saturating_sub(random.next(chance.height));
+        edges.push(Edge { x0, y0, x1, y1 })?;
+    }
+    Ok(edges)
+}
+
+// The pairs of places whose edges meet, pair by pair, in rising order.
+fn each_pair(alloc: Global, edges: &[Edge]) -> Result<Vec<(usize, usize)>, Fail> {
+    let mut pairs = Vec::new(alloc);
+    for (first, one) in edges.iter().enumerate() {
+        for (second, other) in edges.iter().enumerate().skip(first).skip(1) {
+            if meet(*one, *other) {
+                pairs.push((first, second))?;
+            }
+        }
+    }
+    Ok(pairs)
+}
+
+// Whether all pairs that meet are told, and no others, and they are enough.
+fn tells_all(alloc: Global, chance: &Chance) -> Result<bool, Fail> {
+    let edges = edges_by_chance(alloc, chance)?;
+    let pairs = sorted_meetings(alloc, &edges)?;
+    Ok(pairs.len() > chance.least && pairs == each_pair(alloc, &edges)?)
 }
 
 #[test]
-fn pairs_come_behind_what_was_there(rt: HostRuntime) -> Result<(), Fail> {
-    let mut pairs = Vec::new(rt.alloc());
-    pairs.push((9, 9))?;
-    meetings(&[edge(0, 0, 2, 0), edge(2, 0, 2, 3)], &mut pairs)?;
-    assert!(rt; &pairs[..] == [(9, 9), (0, 1)].as_slice());
+fn tells_all_pairs_by_chance(rt: HostRuntime) -> Result<(), Fail> {
+    for chance in &CHANCES {
+        assert!(rt; tells_all(rt.alloc(), chance)?, "{}", chance.name);
+    }
     Ok(())
 }
 
-// Edges, and the pairs behind one that was there.
+// The pairs behind one that was there.
 #[derive(Drop)]
-struct Told<A: Allocator> {
-    pairs: Vec<(usize, usize), A>,
+struct Told<'a> {
+    pairs: Vec<(usize, usize), &'a Refusing<Global>>,
     outcome: Result<(), Refusal>,
 }
 
@@ -98,14 +230,12 @@ struct Told<A: Allocator> {
 struct Telling<'a> {
     memory: &'a Refusing<Global>,
     edges: Vec<Edge>,
-    // How many pairs there are beside that which was there.
-    count: usize,
 }
 
 impl<'a> Trial for Telling<'a> {
-    type State = Told<&'a Refusing<Global>>;
+    type State = Told<'a>;
 
-    fn begin(&self) -> Option<Self::State> {
+    fn begin(&self) -> Option<Told<'a>> {
         let mut pairs = Vec::new(self.memory);
         pairs.push((9, 9)).ok()?;
         Some(Told {
@@ -114,16 +244,19 @@ impl<'a> Trial for Telling<'a> {
         })
     }
 
-    fn call(&self, told: &mut Self::State) {
+    fn call(&self, told: &mut Told<'a>) {
         told.outcome = meetings(&self.edges, &mut told.pairs);
     }
 
-    fn is_refused(&self, told: &mut Self::State, _nth: u64) -> bool {
-        told.outcome == Err(Refusal::OutOfMemory) && &told.pairs[..] == [(9, 9)].as_slice()
+    fn is_refused(&self, told: &mut Told<'a>, _nth: u64) -> bool {
+        told.outcome == Err(Refusal::OutOfMemory) && told.pairs.as_slice() == [(9, 9)].as_slice()
     }
 
-    fn is_done(&self, told: &mut Self::State) -> bool {
-        told.outcome == Ok(()) && told.pairs.len() == self.count.saturating_add(1)
+    // Each level edge meets each upright one.
+    fn is_done(&self, told: &mut Told<'a>) -> bool {
+        told.outcome == Ok(())
+            && told.pairs.first().copied() == Some((9, 9))
+            && told.pairs.len() == 145
     }
 }
 
@@ -131,16 +264,14 @@ impl<'a> Trial for Telling<'a> {
 fn keeps_out_at_each_refusal(rt: HostRuntime) -> Result<(), Fail> {
     let memory = Refusing::new(rt.alloc());
     let mut edges = Vec::new(rt.alloc());
-    for y in 0..12 {
-        edges.push(edge(0, y, 12, y))?;
-        edges.push(edge(y, 0, y, 11))?;
+    for place in 0..12 {
+        edges.push(edge([0, place, 12, place]))?;
+        edges.push(edge([place, 0, place, 11]))?;
     }
     let telling = Telling {
         memory: &memory,
         edges,
-        count: 144,
     };
-    let outcome = refuse_in_turn(&memory, &telling);
-    assert!(rt; outcome.is_ok_and(|requests| requests > 10));
+    assert!(rt; refuse_in_turn(&memory, &telling).is_ok_and(|requests| requests > 10));
     Ok(())
 }

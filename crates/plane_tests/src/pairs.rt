@@ -1,86 +1,88 @@
-//! Worked pairs of edges that meet, and of edges that don't.
+//! Worked pairs of edges: whether they meet, and whether they cross.
 
-use plane::edge::Edge;
+use crate::edges::{Ends, edge, turned};
+use plane::locate::cross;
 use plane::meet::meet;
-use std::process::Abort;
 
-/// The edge between two points.
-pub fn edge(x0: i32, y0: i32, x1: i32, y1: i32) -> Edge {
-    Edge { x0, y0, x1, y1 }
+const LEAST: i32 = i32::MIN;
+
+const MOST: i32 = i32::MAX;
+
+// The diagonals of the whole plane cross at (-1/2, -1/2). The points of the falling one have an x and a y that are -1
+// together, and its half ends at (-1, 0), before the crossing.
+const RISING: Ends = [LEAST, LEAST, MOST, MOST];
+
+const FALLING: Ends = [LEAST, MOST, MOST, LEAST];
+
+const HALF: Ends = [LEAST, MOST, -1, 0];
+
+const BESIDE: Ends = [LEAST, LEAST, MOST, MOST - 1];
+
+// Two edges, whether they meet, and whether they cross.
+static PAIRS: [(Ends, Ends, bool, bool); 39] = [
+    // They change sides, some of them between two neighbouring whole xs.
+    ([0, 0, 10, 10], [0, 10, 10, 0], true, true),
+    ([0, 0, 10, 1], [5, 10, 7, -10], true, true),
+    ([0, 0, 1, 1], [0, 1, 1, 0], true, true),
+    ([-5, -5, 5, 6], [0, 1, 1, 0], true, true),
+    // They touch, share an end, or come near each other.
+    ([0, 0, 4, 0], [2, 0, 2, 3], true, false),
+    ([0, 0, 2, 1], [1, 1, 1, 5], false, false),
+    ([0, 0, 10, 10], [5, 5, 9, 0], true, false),
+    ([0, 0, 10, 10], [0, 0, 10, 9], true, false),
+    ([0, 0, 5, 5], [5, 5, 10, 0], true, false),
+    ([0, 0, 5, 5], [6, 0, 7, 9], false, false),
+    // They lie along one line.
+    ([0, 0, 4, 4], [2, 2, 6, 6], true, false),
+    ([0, 0, 10, 10], [2, 2, 6, 6], true, false),
+    ([0, 0, 4, 4], [5, 5, 6, 6], false, false),
+    ([0, 0, 10, 10], [0, 0, 10, 10], true, false),
+    ([1, 2, 3, 5], [1, 2, 3, 5], true, false),
+    ([1, 2, 3, 5], [3, 5, 1, 2], true, false),
+    ([3, 0, 3, 4], [3, 2, 3, 7], true, false),
+    ([3, 0, 3, 4], [3, 4, 3, 7], true, false),
+    ([3, 0, 3, 4], [3, 5, 3, 7], false, false),
+    ([5, 0, 5, 9], [5, 2, 5, 4], true, false),
+    // One is upright, or a point.
+    ([0, 0, 10, 10], [5, -5, 5, 20], true, false),
+    ([0, 0, 10, 10], [5, 5, 5, 5], true, false),
+    ([0, 0, 4, 4], [3, 3, 3, 3], true, false),
+    ([0, 0, 4, 4], [3, 2, 3, 2], false, false),
+    ([7, 7, 7, 7], [7, 7, 7, 7], true, false),
+    ([7, 7, 7, 7], [7, 8, 7, 8], false, false),
+    // They reach over the whole plane.
+    (RISING, FALLING, true, true),
+    (BESIDE, FALLING, true, true),
+    (RISING, BESIDE, true, false),
+    (RISING, HALF, false, false),
+    (FALLING, HALF, true, false),
+    (RISING, [0, 0, 0, 0], true, false),
+    (FALLING, [0, 0, 0, 0], false, false),
+    (HALF, [0, 0, 0, 0], false, false),
+    (FALLING, [-1, 0, -1, 0], true, false),
+    (RISING, [LEAST, LEAST, LEAST, LEAST], true, false),
+    (RISING, [MOST, MOST, MOST, LEAST], true, false),
+    ([LEAST, 0, MOST, 0], [0, LEAST, 0, MOST], true, false),
+    ([LEAST, -1, MOST, 0], [LEAST, 0, MOST, -1], true, true),
+];
+
+// Whether both are answered as wanted, in both orders.
+fn answers(one: Ends, other: Ends, meets: bool, crosses: bool) -> bool {
+    let (one, other) = (edge(one), edge(other));
+    meet(one, other) == meets
+        && meet(other, one) == meets
+        && cross(one, other) == crosses
+        && cross(other, one) == crosses
 }
 
-/// The edge from its end to its start.
-pub fn turned(edge: Edge) -> Edge {
-    Edge {
-        x0: edge.x1,
-        y0: edge.y1,
-        x1: edge.x0,
-        y1: edge.y0,
+#[test]
+fn pairs_meet_and_cross_as_worked_by_hand(rt: HostRuntime) {
+    for (one, other, meets, crosses) in &PAIRS {
+        let (first, second) = (turned(*one), turned(*other));
+        let is_so = answers(*one, *other, *meets, *crosses)
+            && answers(*one, second, *meets, *crosses)
+            && answers(first, *other, *meets, *crosses)
+            && answers(first, second, *meets, *crosses);
+        assert!(rt; is_so, "{one:?} and {other:?}");
     }
-}
-
-/// Whether `meet` answers as wanted, in both orders and with each edge turned round.
-pub fn answers(one: Edge, other: Edge, wanted: bool) -> bool {
-    [one, turned(one)].iter().all(|first| {
-        [other, turned(other)].iter().all(|second| {
-            meet(*first, *second) == wanted && meet(*second, *first) == wanted
-        })
-    })
-}
-
-fn assert_meet(rt: &impl Abort, one: Edge, other: Edge) {
-    assert!(rt; answers(one, other, true), "{one:?} and {other:?} meet");
-}
-
-fn assert_apart(rt: &impl Abort, one: Edge, other: Edge) {
-    assert!(rt;
-        answers(one, other, false),
-        "{one:?} and {other:?} are apart"
-    );
-}
-
-#[test]
-fn edges_that_cross_or_touch_meet(rt: HostRuntime) {
-    assert_meet(&rt, edge(0, 0, 10, 10), edge(0, 10, 10, 0));
-    assert_meet(&rt, edge(0, 0, 4, 0), edge(2, 0, 2, 3));
-    assert_apart(&rt, edge(0, 0, 2, 1), edge(1, 1, 1, 5));
-}
-
-#[test]
-fn edges_along_one_line_meet_where_they_overlap_or_touch(rt: HostRuntime) {
-    assert_meet(&rt, edge(0, 0, 4, 4), edge(2, 2, 6, 6));
-    assert_apart(&rt, edge(0, 0, 4, 4), edge(5, 5, 6, 6));
-    assert_meet(&rt, edge(3, 0, 3, 4), edge(3, 2, 3, 7));
-    assert_meet(&rt, edge(3, 0, 3, 4), edge(3, 4, 3, 7));
-    assert_apart(&rt, edge(3, 0, 3, 4), edge(3, 5, 3, 7));
-}
-
-#[test]
-fn an_edge_meets_itself(rt: HostRuntime) {
-    assert_meet(&rt, edge(1, 2, 3, 5), edge(1, 2, 3, 5));
-    assert_meet(&rt, edge(1, 2, 3, 5), edge(3, 5, 1, 2));
-}
-
-#[test]
-fn a_point_meets_what_it_lies_on(rt: HostRuntime) {
-    assert_meet(&rt, edge(0, 0, 4, 4), edge(3, 3, 3, 3));
-    assert_apart(&rt, edge(0, 0, 4, 4), edge(3, 2, 3, 2));
-    assert_meet(&rt, edge(7, 7, 7, 7), edge(7, 7, 7, 7));
-    assert_apart(&rt, edge(7, 7, 7, 7), edge(7, 8, 7, 8));
-}
-
-// The falling diagonal has the points whose x and y are -1 together, and crosses the rising one at (-1/2, -1/2). Its
-// half ends at (-1, 0), before that.
-#[test]
-fn edges_over_the_whole_plane_are_exact(rt: HostRuntime) {
-    let rising = edge(i32::MIN, i32::MIN, i32::MAX, i32::MAX);
-    let falling = edge(i32::MIN, i32::MAX, i32::MAX, i32::MIN);
-    let half = edge(i32::MIN, i32::MAX, -1, 0);
-    let origin = edge(0, 0, 0, 0);
-    assert_meet(&rt, rising, falling);
-    assert_apart(&rt, rising, half);
-    assert_meet(&rt, falling, half);
-    assert_meet(&rt, rising, origin);
-    assert_apart(&rt, falling, origin);
-    assert_apart(&rt, half, origin);
 }

@@ -6,13 +6,10 @@ use i_tree::seg::exp::{SegExpCollection, SegRange};
 use i_tree::seg::tree::SegExpTree;
 use i_tree::{LayoutNumber, Refusal};
 use std::alloc::{Allocator, Global};
-use test_kit::until::Until;
+use test_kit::until::{Until, number};
 
 /// A tree of segments.
 pub type Tree<R, A> = SegExpTree<R, i32, Until, A>;
-
-/// A copy: its node, its mask and its value.
-pub type Placed = (u32, u64, Until);
 
 /// An empty tree over the range, or `None` where it has no layout or memory was refused.
 pub fn tree_over<R: LayoutNumber, A: Allocator + Copy>(
@@ -47,10 +44,28 @@ pub fn collect<R: LayoutNumber, A: Allocator + Copy, B: Allocator>(
     out: &mut Vec<Until, B>,
 ) -> Option<Result<(), Refusal>> {
     let range = SegRange { min, max };
-    if !tree.accepts(range) || tree.latest_time().is_some_and(|latest| time < latest) {
+    if !tree.accepts(range) || !tree.is_in_time(time) {
         return None;
     }
     Some(tree.collect_by_range(range, time, out))
+}
+
+/// Appends to `out` what a walk yields, where a query may be made, and answers `None` elsewhere or where `out` is refused room.
+pub fn walk<R: LayoutNumber, A: Allocator + Copy, B: Allocator>(
+    tree: &mut Tree<R, A>,
+    min: R,
+    max: R,
+    time: i32,
+    out: &mut Vec<Until, B>,
+) -> Option<()> {
+    let range = SegRange { min, max };
+    if !tree.accepts(range) || !tree.is_in_time(time) {
+        return None;
+    }
+    for value in tree.iter_by_range(range, time) {
+        out.push(value).ok()?;
+    }
+    Some(())
 }
 
 /// The numbers of these values, in rising order.
@@ -63,7 +78,7 @@ pub fn numbers_of(values: &[Until], alloc: Global) -> Option<Vec<i32>> {
     Some(numbers)
 }
 
-/// The numbers that a query finds, in rising order.
+/// The numbers that a query finds, in rising order, where a walk finds them too.
 pub fn found<R: LayoutNumber, A: Allocator + Copy>(
     tree: &mut Tree<R, A>,
     alloc: Global,
@@ -71,31 +86,52 @@ pub fn found<R: LayoutNumber, A: Allocator + Copy>(
     max: R,
     time: i32,
 ) -> Option<Vec<i32>> {
-    let mut values = Vec::new(alloc);
-    collect(tree, min, max, time, &mut values)?.ok()?;
-    numbers_of(&values, alloc)
+    let mut walked = Vec::new(alloc);
+    let mut collected = Vec::new(alloc);
+    walk(tree, min, max, time, &mut walked)?;
+    collect(tree, min, max, time, &mut collected)?.ok()?;
+    let numbers = numbers_of(&collected, alloc)?;
+    (numbers_of(&walked, alloc)? == numbers).then_some(numbers)
 }
 
-// Appends the copies at the node.
-fn push_chunk<R: LayoutNumber, A: Allocator + Copy>(
-    tree: &Tree<R, A>,
-    node: u32,
-    copies: &mut Vec<Placed>,
-) -> Option<()> {
-    for (mask, value) in tree.chunk(node) {
-        copies.push((node, *mask, *value)).ok()?;
+/// Whether a query finds these numbers, which rise, and a walk does too.
+pub fn finds<R: LayoutNumber, A: Allocator + Copy>(
+    tree: &mut Tree<R, A>,
+    alloc: Global,
+    min: R,
+    max: R,
+    time: i32,
+    numbers: &[i32],
+) -> bool {
+    match found(tree, alloc, min, max, time) {
+        Some(found) => found.as_slice() == numbers,
+        None => false,
     }
-    Some(())
 }
 
-/// All copies, by rising node.
-pub fn copies<R: LayoutNumber, A: Allocator + Copy>(
+/// The node of each copy, by rising node.
+pub fn places<R: LayoutNumber, A: Allocator + Copy>(
     tree: &Tree<R, A>,
     alloc: Global,
-) -> Option<Vec<Placed>> {
-    let mut copies = Vec::new(alloc);
+) -> Option<Vec<u32>> {
+    let mut nodes = Vec::new(alloc);
     for node in 0..64 {
-        push_chunk(tree, node, &mut copies)?;
+        for _ in tree.chunk(node) {
+            nodes.push(node).ok()?;
+        }
     }
-    Some(copies)
+    Some(nodes)
+}
+
+/// The node of each copy of a value over an interval of a range, by rising node.
+pub fn places_in<R: LayoutNumber>(
+    alloc: Global,
+    min: R,
+    max: R,
+    first: R,
+    last: R,
+) -> Option<Vec<u32>> {
+    let mut tree = tree_over(alloc, min, max)?;
+    insert(&mut tree, first, last, number(7))?.ok()?;
+    places(&tree, alloc)
 }

@@ -1,35 +1,17 @@
-//! For tests alone: trees of segments, and runs of commands over them. Worked examples, refused memory and long runs.
+//! For tests alone: trees of segments, and runs of commands over them. Worked examples, hostile ones, and refused memory.
 #![tactic(auto)]
 
 #[cfg(test)]
-mod buckets;
-#[cfg(test)]
-mod call_refusals;
-#[cfg(test)]
 mod calls;
-#[cfg(test)]
-mod growth;
-#[cfg(test)]
-mod histories;
-#[cfg(test)]
-mod insertions;
 #[cfg(test)]
 mod layouts;
 #[cfg(test)]
-mod no_memory;
+mod memory;
 #[cfg(test)]
 mod places;
 #[cfg(test)]
-mod refusals;
+mod refused;
 #[cfg(test)]
-mod reply_memory;
-#[cfg(test)]
-mod run_histories;
-#[cfg(test)]
-mod run_refusals;
-#[cfg(test)]
-mod runs;
-#[cfg(test)]
-mod trees;
+mod rows;
 #[cfg(test)]
 mod walks;

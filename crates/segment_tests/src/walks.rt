@@ -1,297 +1,159 @@
-//! Walks over segments: what a query finds, and what it leaves.
+//! Walks that are broken off, collections behind what stands there, and how many copies both read.
 
-use crate::trees::{Tree, collect, found, insert, tree_over, walked};
+use crate::calls::{Tree, collect, finds, insert, tree_over};
 use i_tree::seg::exp::{SegExpCollection, SegRange};
 use i_tree::seg::tree::SegExpTree;
-use std::alloc::{Allocator, Global};
-use std::process::Abort;
+use std::alloc::Global;
 use std::test::Fail;
 use test_kit::counted_key::{CountedValue, Tally};
 use test_kit::until::{Until, number};
 
 // Two values over 0 to 128 that overlap 15 to 90.
-fn two_values<A: Allocator + Copy>(rt: &impl Abort, alloc: A) -> Result<Tree<i32, A>, Fail> {
+fn two_values(alloc: Global) -> Option<Tree<i32, Global>> {
     let mut tree = tree_over(alloc, 0, 128)?;
-    insert(rt, &mut tree, 10, 100, number(1))?;
-    insert(rt, &mut tree, 20, 80, number(2))?;
-    Ok(tree)
+    insert(&mut tree, 10, 100, number(1))?.ok()?;
+    insert(&mut tree, 20, 80, number(2))?.ok()?;
+    Some(tree)
 }
 
-#[test]
-fn finds_what_lies_in_the_same_bucket(rt: HostRuntime) -> Result<(), Fail> {
-    let mut tree = tree_over(rt.alloc(), 0, 128)?;
-    insert(&rt, &mut tree, 0, 0, number(7))?;
-    assert!(rt; found(&rt, rt.alloc(), &mut tree, 7, 7, 0)?.as_slice() == [7].as_slice());
-    assert!(rt; found(&rt, rt.alloc(), &mut tree, 8, 8, 0)?.len() == 0);
-    insert(&rt, &mut tree, 0, 0, number(7))?;
-    assert!(rt; found(&rt, rt.alloc(), &mut tree, 7, 7, 0)?.as_slice() == [7, 7].as_slice());
-    Ok(())
-}
-
-#[test]
-fn finds_nothing_between_two_values_and_each_that_it_meets_once(
-    rt: HostRuntime,
-) -> Result<(), Fail> {
-    let mut apart = tree_over(rt.alloc(), 0, 128)?;
-    insert(&rt, &mut apart, 10, 20, number(1))?;
-    insert(&rt, &mut apart, 80, 100, number(2))?;
-    assert!(rt; found(&rt, rt.alloc(), &mut apart, 40, 60, 0)?.len() == 0);
-    let mut tree = two_values(&rt, rt.alloc())?;
-    assert!(rt; found(&rt, rt.alloc(), &mut tree, 15, 90, 0)?.as_slice() == [1, 2].as_slice());
-    Ok(())
-}
-
-#[test]
-fn finds_a_value_of_eight_copies_once(rt: HostRuntime) -> Result<(), Fail> {
-    let mut tree = tree_over(rt.alloc(), 0, 31)?;
-    insert(&rt, &mut tree, 1, 30, number(7))?;
-    for (min, max, count) in [(0, 0, 0), (31, 31, 0), (1, 1, 1), (0, 31, 1)] {
-        assert!(rt;
-            found(&rt, rt.alloc(), &mut tree, min, max, 0)?.len() == count,
-            "{min} to {max}"
-        );
+// What a walk yields that is broken off after its first step, or before it.
+fn break_off(
+    tree: &mut Tree<i32, Global>,
+    range: SegRange<i32>,
+    time: i32,
+    is_begun: bool,
+) -> Option<Until> {
+    if !tree.accepts(range) || !tree.is_in_time(time) {
+        return None;
     }
-    Ok(())
+    let mut walk = tree.iter_by_range(range, time);
+    if is_begun { walk.next() } else { None }
 }
 
-#[test]
-fn finds_values_below_zero(rt: HostRuntime) -> Result<(), Fail> {
-    let mut tree = tree_over(rt.alloc(), -10240, 15360)?;
-    insert(&rt, &mut tree, -10240, 10240, number(7))?;
-    assert!(rt; found(&rt, rt.alloc(), &mut tree, -10240, -10240, 0)?.as_slice() == [7].as_slice());
-    Ok(())
-}
-
-#[test]
-fn finds_a_value_at_the_end_of_its_type(rt: HostRuntime) -> Result<(), Fail> {
-    let mut tree = tree_over(rt.alloc(), 0u8, 255)?;
-    insert(&rt, &mut tree, 255, 255, number(7))?;
-    assert!(rt; found(&rt, rt.alloc(), &mut tree, 248, 248, 0)?.len() == 1);
-    assert!(rt; found(&rt, rt.alloc(), &mut tree, 247, 247, 0)?.len() == 0);
-    Ok(())
-}
-
-#[test]
-fn finds_a_value_up_to_its_expiration(rt: HostRuntime) -> Result<(), Fail> {
-    let mut tree = tree_over(rt.alloc(), 0, 31)?;
-    let first = Until {
-        number: 7,
-        expiration: i32::MIN,
-    };
-    insert(&rt, &mut tree, 0, 0, first)?;
-    assert!(rt; found(&rt, rt.alloc(), &mut tree, 0, 0, i32::MIN)?.len() == 1);
-    assert!(rt; found(&rt, rt.alloc(), &mut tree, 0, 0, i32::MIN + 1)?.len() == 0);
-    assert!(rt; tree.chunk(31).len() == 0);
-    Ok(())
-}
-
-#[test]
-fn yields_each_value_of_a_walk_though_one_before_was_dropped(rt: HostRuntime) -> Result<(), Fail> {
-    let mut tree = two_values(&rt, rt.alloc())?;
+// Whether a walk of one step yields one of the two, and a later one both.
+fn walks_again(mut tree: Tree<i32, Global>, alloc: Global) -> bool {
     let range = SegRange { min: 15, max: 90 };
-    assert!(rt; tree.accepts(range));
-    assert!(rt; tree.latest_time() == None);
-    let first = tree.iter_by_range(range, 0).next();
-    assert!(rt; first == Some(number(1)) || first == Some(number(2)));
-    for _ in 0..2 {
-        assert!(rt; walked(&rt, rt.alloc(), &mut tree, 15, 90, 0)?.as_slice() == [1, 2].as_slice());
-    }
-    assert!(rt; found(&rt, rt.alloc(), &mut tree, 15, 90, 0)?.as_slice() == [1, 2].as_slice());
-    Ok(())
-}
-
-// The values 1, 2 and 3 over 0 to 31, which are live up to the times 0, 1 and 2.
-fn three_lives(rt: &impl Abort, alloc: Global) -> Result<Tree<i32, Global>, Fail> {
-    let mut tree = tree_over(alloc, 0, 31)?;
-    for value in [1, 2, 3] {
-        let until = Until {
-            number: value,
-            expiration: value - 1,
-        };
-        insert(rt, &mut tree, 0, 31, until)?;
-    }
-    Ok(tree)
-}
-
-// Begins a walk over 0 to 31 at time 1, and drops it before any step.
-fn drop_a_walk_at_one(rt: &impl Abort, tree: &mut Tree<i32, Global>) {
-    let range = SegRange { min: 0, max: 31 };
-    assert!(rt; tree.accepts(range));
-    assert!(rt; tree.latest_time() == None);
-    drop(tree.iter_by_range(range, 1));
+    let first = break_off(&mut tree, range, 0, true);
+    let is_one = matches!(first, Some(Until { number: 1 | 2, .. }));
+    is_one && finds(&mut tree, alloc, 15, 90, 0, &[1, 2])
 }
 
 #[test]
-fn takes_no_value_before_a_step(rt: HostRuntime) -> Result<(), Fail> {
-    let mut tree = three_lives(&rt, rt.alloc())?;
-    drop_a_walk_at_one(&rt, &mut tree);
-    assert!(rt; tree.chunk(0).len() == 3);
-    assert!(rt; walked(&rt, rt.alloc(), &mut tree, 0, 31, 1)?.as_slice() == [2, 3].as_slice());
-    assert!(rt; walked(&rt, rt.alloc(), &mut tree, 0, 31, 2)?.as_slice() == [3].as_slice());
-    Ok(())
+fn a_walk_may_be_dropped_after_a_step(rt: HostRuntime) {
+    let tree = two_values(rt.alloc());
+    assert!(rt; tree.is_some_and(|tree| walks_again(tree, rt.alloc())));
 }
 
-#[test]
-fn sets_the_latest_time_before_a_step_and_forgets_it_at_a_clear(
-    rt: HostRuntime,
-) -> Result<(), Fail> {
-    let mut tree = three_lives(&rt, rt.alloc())?;
-    assert!(rt; tree.latest_time() == None);
-    drop_a_walk_at_one(&rt, &mut tree);
-    assert!(rt; tree.latest_time() == Some(1));
-    assert!(rt; found(&rt, rt.alloc(), &mut tree, 0, 31, 1)?.as_slice() == [2, 3].as_slice());
-    assert!(rt; tree.latest_time() == Some(1));
-    tree.clear();
-    assert!(rt; tree.latest_time() == None);
-    Ok(())
-}
-
-#[test]
-fn appends_what_it_collects(rt: HostRuntime) -> Result<(), Fail> {
-    let mut tree = two_values(&rt, rt.alloc())?;
-    let mut out = vec![in rt.alloc(); number(9)]?;
-    collect(&rt, &mut tree, 15, 90, 0, &mut out)?;
-    assert!(rt; out.len() == 3);
-    assert!(rt; out[0] == number(9));
-    let mut rest = [out[1].number, out[2].number];
-    rest.sort_unstable();
-    assert!(rt; rest == [1, 2]);
-    Ok(())
-}
-
-// Ten values at 5 and one at 1 to 30, over 0 to 31, that count how often an expiration is asked for.
-fn counting_tree<'a>(
-    rt: &impl Abort,
-    alloc: Global,
-    tally: &'a Tally,
-) -> Result<SegExpTree<i32, i32, CountedValue<'a>, Global>, Fail> {
-    let whole = SegRange { min: 0, max: 31 };
-    let Some(mut tree) = SegExpTree::new(alloc, whole)? else {
-        return Err(Fail::from("the range has no layout"));
+// Whether what is collected stands behind the 9 that stands there.
+fn appends(mut tree: Tree<i32, Global>, out: &mut Vec<Until>) -> bool {
+    let answer = collect(&mut tree, 15, 90, 0, out);
+    let is_behind = match out.as_slice() {
+        [nine, one, two] => matches!((nine.number, one.number, two.number), (9, 1, 2) | (9, 2, 1)),
+        _ => false,
     };
-    for place in 0..11 {
-        let range = if place == 0 {
-            SegRange { min: 1, max: 30 }
-        } else {
-            SegRange { min: 5, max: 5 }
-        };
-        let value = CountedValue {
-            number: place,
-            tally,
-        };
-        assert!(rt; tree.accepts(range));
-        tree.insert_by_range(range, value)?;
+    answer == Some(Ok(())) && is_behind
+}
+
+#[test]
+fn a_collection_appends(rt: HostRuntime) -> Result<(), Fail> {
+    let mut out = vec![in rt.alloc(); number(9)]?;
+    let tree = two_values(rt.alloc());
+    assert!(rt; tree.is_some_and(|tree| appends(tree, &mut out)));
+    Ok(())
+}
+
+// Three values over 0 to 31 that are live up to the times 0, 1 and 2.
+fn three_lives(alloc: Global) -> Option<Tree<i32, Global>> {
+    let mut tree = tree_over(alloc, 0, 31)?;
+    for number in 1..=3i32 {
+        let expiration = number.saturating_sub(1);
+        insert(&mut tree, 0, 31, Until { number, expiration })?.ok()?;
     }
-    Ok(tree)
+    Some(tree)
+}
+
+// Whether a walk at 1 that takes no step sets the latest time, and takes no value.
+fn sets_the_time(mut tree: Tree<i32, Global>, alloc: Global) -> bool {
+    let before = tree.latest_time();
+    let none = break_off(&mut tree, SegRange { min: 0, max: 31 }, 1, false);
+    let after = tree.latest_time();
+    let is_kept = none.is_none() && tree.chunk(0).len() == 3;
+    let is_found = finds(&mut tree, alloc, 0, 31, 1, &[2, 3])
+        && finds(&mut tree, alloc, 0, 31, 2, &[3]);
+    tree.clear();
+    is_kept && is_found && before == None && after == Some(1) && tree.latest_time() == None
+}
+
+#[test]
+fn a_walk_that_takes_no_step_sets_the_latest_time(rt: HostRuntime) {
+    let tree = three_lives(rt.alloc());
+    assert!(rt; tree.is_some_and(|tree| sets_the_time(tree, rt.alloc())));
+}
+
+type Counting<'a> = SegExpTree<i32, i32, CountedValue<'a>, Global>;
+
+// One value at 1 to 30 and ten at 5, over 0 to 31, that count how often an expiration is asked for.
+fn counting_tree(alloc: Global, tally: &Tally) -> Option<Counting<'_>> {
+    let mut tree: Counting = SegExpTree::new(alloc, SegRange { min: 0, max: 31 }).ok()??;
+    for number in 0..11 {
+        let (min, max) = if number == 0 { (1, 30) } else { (5, 5) };
+        let range = SegRange { min, max };
+        if !tree.accepts(range) {
+            return None;
+        }
+        tree.insert_by_range(range, CountedValue { number, tally })
+            .ok()?;
+    }
+    Some(tree)
 }
 
 // How many values a query at 0 collects, and how often an expiration is asked for meanwhile.
-fn collected<'a>(
-    rt: &impl Abort,
-    alloc: Global,
-    tree: &mut SegExpTree<i32, i32, CountedValue<'a>, Global>,
-    range: SegRange<i32>,
-    tally: &Tally,
-) -> Result<(usize, u64), Fail> {
-    assert!(rt; tree.accepts(range));
-    assert!(rt; tree.is_in_time(0));
+fn collected(alloc: Global, tally: &Tally, range: SegRange<i32>) -> Option<(usize, u64)> {
+    let mut tree = counting_tree(alloc, tally)?;
+    if !tree.accepts(range) || !tree.is_in_time(0) {
+        return None;
+    }
     let mut out = Vec::new(alloc);
     tally.restart();
-    tree.collect_by_range(range, 0, &mut out)?;
-    Ok((out.len(), tally.expirations()))
+    tree.collect_by_range(range, 0, &mut out).ok()?;
+    Some((out.len(), tally.expirations()))
 }
 
-// The same of a walk to its end.
-fn counted_walk<'a>(
-    rt: &impl Abort,
-    tree: &mut SegExpTree<i32, i32, CountedValue<'a>, Global>,
-    range: SegRange<i32>,
-    tally: &Tally,
-) -> (usize, u64) {
-    assert!(rt; tree.accepts(range));
-    assert!(rt; tree.is_in_time(0));
+// The same of a walk.
+fn walked(alloc: Global, tally: &Tally, range: SegRange<i32>) -> Option<(usize, u64)> {
+    let mut tree = counting_tree(alloc, tally)?;
+    if !tree.accepts(range) || !tree.is_in_time(0) {
+        return None;
+    }
     tally.restart();
     let mut count = 0usize;
     for _ in tree.iter_by_range(range, 0) {
         count = count.saturating_add(1);
     }
-    (count, tally.expirations())
+    Some((count, tally.expirations()))
 }
 
+// Ranges with how many values lie there, and how many copies are read. The value at 1 to 30 has eight: among them one at the
+// node over 4 to 7, one at that over 8 to 15 and one at that over 16 to 23. Those at 5 have one each, at its leaf.
+static READ: [(i32, i32, usize, u64); 5] = [
+    (20, 20, 1, 1),
+    (5, 5, 11, 11),
+    (4, 8, 11, 12),
+    (0, 31, 11, 18),
+    (0, 0, 0, 0),
+];
+
 #[test]
-fn asks_each_copy_that_it_reads_once(rt: HostRuntime) -> Result<(), Fail> {
+fn asks_each_copy_that_it_reads_once(rt: HostRuntime) {
     let tally = Tally::new();
-    let mut tree = counting_tree(&rt, rt.alloc(), &tally)?;
-    // A query reads the copies at the nodes that it meets. The value at 1 to 30 has eight: among them one at the node over
-    // 4 to 7, one at that over 8 to 15 and one at that over 16 to 23. Those at 5 have one each, at its leaf.
-    for (min, max, values, copies) in [
-        (20, 20, 1, 1),
-        (5, 5, 11, 11),
-        (4, 8, 11, 12),
-        (0, 31, 11, 18),
-        (0, 0, 0, 0),
-    ] {
-        let range = SegRange { min, max };
-        assert!(rt;
-            collected(&rt, rt.alloc(), &mut tree, range, &tally)? == (values, copies),
-            "{min} to {max}"
-        );
-        assert!(rt;
-            counted_walk(&rt, &mut tree, range, &tally) == (values, copies),
-            "a walk over {min} to {max}"
-        );
+    for (min, max, values, copies) in &READ {
+        let range = SegRange {
+            min: *min,
+            max: *max,
+        };
+        let wanted = Some((*values, *copies));
+        let is_so = collected(rt.alloc(), &tally, range) == wanted
+            && walked(rt.alloc(), &tally, range) == wanted;
+        assert!(rt; is_so, "{min} to {max}");
     }
-    Ok(())
-}
-
-#[test]
-fn finds_one_value_of_ten_others_at_another_place(rt: HostRuntime) -> Result<(), Fail> {
-    let tally = Tally::new();
-    let mut tree = counting_tree(&rt, rt.alloc(), &tally)?;
-    let asked = SegRange { min: 20, max: 20 };
-    assert!(rt; tree.accepts(asked));
-    assert!(rt; tree.is_in_time(0));
-    let mut out = Vec::new(rt.alloc());
-    tree.collect_by_range(asked, 0, &mut out)?;
-    assert!(rt; out.len() == 1);
-    assert!(rt; out[0].number == 0);
-    Ok(())
-}
-
-// A number for each interval.
-fn number_of(first: i32, last: i32) -> i32 {
-    first.saturating_mul(32).saturating_add(last)
-}
-
-#[test]
-fn finds_an_interval_exactly_where_it_overlaps(rt: HostRuntime) -> Result<(), Fail> {
-    let mut tree = tree_over(rt.alloc(), 0, 31)?;
-    for first in 0..32 {
-        for last in first..32 {
-            insert(&rt, &mut tree, first, last, number(number_of(first, last)))?;
-        }
-    }
-    for min in 0..32 {
-        for max in min..32 {
-            let numbers = found(&rt, rt.alloc(), &mut tree, min, max, 0)?;
-            assert!(rt;
-                numbers == overlapping(rt.alloc(), min, max)?,
-                "{min} to {max}"
-            );
-        }
-    }
-    Ok(())
-}
-
-// The numbers of the intervals that overlap these buckets, in rising order.
-fn overlapping(alloc: Global, min: i32, max: i32) -> Result<Vec<i32>, Fail> {
-    let mut numbers = Vec::new(alloc);
-    for first in 0..32 {
-        for last in first..32 {
-            if first <= max && min <= last {
-                numbers.push(number_of(first, last))?;
-            }
-        }
-    }
-    Ok(numbers)
 }

@@ -2,16 +2,8 @@
 #![tactic(auto)]
 
 #[cfg(test)]
-mod by_pairs;
-#[cfg(test)]
-mod chance;
-#[cfg(test)]
 mod refusals;
 #[cfg(test)]
 mod store_use;
-#[cfg(test)]
-mod stores;
-#[cfg(test)]
-mod sweeps;
 #[cfg(test)]
 mod worked;

@@ -1,15 +1,40 @@
 //! Each request for memory of a sweep, of its store and of `out`, refused in turn.
 
-use crate::stores::{LevelList, LevelTree, MadeStore, hold_others};
-use crate::sweeps::{is_wanted, point, segment, with_earlier};
+use crate::worked::{EARLIER, is_empty, is_wanted};
 use i_tree::Refusal;
-use itree_lib::sweep::{Point, Segment, SweepFault, below};
-use std::alloc::Global;
+use i_tree::key::exp::KeyExpCollection;
+use i_tree::key::list::KeyExpList;
+use i_tree::key::tree::KeyExpTree;
+use itree_lib::sweep::{Level, Point, Segment, SweepFault, below};
+use std::alloc::{Allocator, Global};
 use std::test::Fail;
 use test_kit::Refusing;
 use test_kit::in_turn::{Fault, Trial, refuse_in_turn};
 
 type Memory<'a> = &'a Refusing<Global>;
+
+// A store that takes memory of one kind.
+trait MadeStore: KeyExpCollection<Level, i32, Option<i32>> + Drop {
+    type Memory: Allocator + Copy + Drop;
+
+    fn make(memory: Self::Memory) -> Result<Self, Refusal>;
+}
+
+impl<A: Allocator + Copy + Drop> MadeStore for KeyExpList<Level, i32, Option<i32>, A> {
+    type Memory = A;
+
+    fn make(memory: A) -> Result<Self, Refusal> {
+        KeyExpList::new(memory, 0)
+    }
+}
+
+impl<A: Allocator + Copy + Drop> MadeStore for KeyExpTree<Level, i32, Option<i32>, A> {
+    type Memory = A;
+
+    fn make(memory: A) -> Result<Self, Refusal> {
+        KeyExpTree::new(memory, 0)
+    }
+}
 
 // A sweep over segments above one another, which all cover one x, with a point on each there; and its answers.
 #[derive(Drop)]
@@ -28,13 +53,20 @@ struct Swept<C: MadeStore> {
     outcome: Result<(), SweepFault>,
 }
 
+impl<C: MadeStore> Swept<C> {
+    // Whether the sweep ended so, and left the store empty.
+    fn has_ended(&mut self, wanted: Result<&[Option<i32>], SweepFault>) -> bool {
+        is_wanted(wanted, self.outcome, &self.out) && is_empty(&mut self.store)
+    }
+}
+
 impl<C: MadeStore> Trial for Stack<C> {
     type State = Swept<C>;
 
     fn begin(&self) -> Option<Swept<C>> {
-        let mut store = C::make(self.memory).ok()?;
-        hold_others(&mut store).ok()?;
-        let out = with_earlier(self.memory).ok()?;
+        let store = C::make(self.memory).ok()?;
+        let mut out = Vec::new(self.memory);
+        out.push(EARLIER).ok()?;
         Some(Swept {
             store,
             out,
@@ -43,25 +75,24 @@ impl<C: MadeStore> Trial for Stack<C> {
     }
 
     fn call(&self, swept: &mut Swept<C>) {
-        swept.outcome = below(
-            &mut swept.store,
-            &self.segments,
-            &self.points,
-            &mut swept.out,
-        );
+        let Swept {
+            store,
+            out,
+            outcome,
+        } = swept;
+        *outcome = below(store, &self.segments, &self.points, out);
     }
 
     fn is_refused(&self, swept: &mut Swept<C>, _nth: u64) -> bool {
-        let refused = Err(SweepFault::Refused(Refusal::OutOfMemory));
-        is_wanted(swept.outcome, &swept.out, refused) && swept.store.count() == 0
+        swept.has_ended(Err(SweepFault::Refused(Refusal::OutOfMemory)))
     }
 
     fn is_done(&self, swept: &mut Swept<C>) -> bool {
-        is_wanted(swept.outcome, &swept.out, Ok(&self.answers)) && swept.store.count() == 0
+        swept.has_ended(Ok(&self.answers))
     }
 }
 
-// How many requests the sweep makes over a new store.
+// How many requests the call makes over a new one.
 fn requests_of<C: MadeStore>(
     counted: &Refusing<Global>,
     memory: C::Memory,
@@ -71,8 +102,8 @@ fn requests_of<C: MadeStore>(
     let mut points = Vec::new(alloc);
     let mut answers = Vec::new(alloc);
     for y in 1..=20 {
-        segments.push(segment(y, 30, y))?;
-        points.push(point(25, y))?;
+        segments.push(Segment { x0: y, x1: 30, y })?;
+        points.push(Point { x: 25, y })?;
         answers.push(Some(y))?;
     }
     let stack: Stack<C> = Stack {
@@ -87,7 +118,11 @@ fn requests_of<C: MadeStore>(
 #[test]
 fn keeps_out_at_each_refusal_over_a_list(rt: HostRuntime) -> Result<(), Fail> {
     let memory = Refusing::new(rt.alloc());
-    let requests = requests_of::<LevelList<Memory>>(&memory, &memory, rt.alloc())?;
+    let requests = requests_of::<KeyExpList<Level, i32, Option<i32>, Memory>>(
+        &memory,
+        &memory,
+        rt.alloc(),
+    )?;
     assert!(rt; matches!(requests, Ok(4..)));
     Ok(())
 }
@@ -95,27 +130,11 @@ fn keeps_out_at_each_refusal_over_a_list(rt: HostRuntime) -> Result<(), Fail> {
 #[test]
 fn keeps_out_at_each_refusal_over_a_tree(rt: HostRuntime) -> Result<(), Fail> {
     let memory = Refusing::new(rt.alloc());
-    let requests = requests_of::<LevelTree<Memory>>(&memory, &memory, rt.alloc())?;
+    let requests = requests_of::<KeyExpTree<Level, i32, Option<i32>, Memory>>(
+        &memory,
+        &memory,
+        rt.alloc(),
+    )?;
     assert!(rt; matches!(requests, Ok(4..)));
     Ok(())
-}
-
-// A point in memory of this kind, as a caller's own step of a sweep would store it.
-fn one_point(memory: Memory) -> Result<(), SweepFault> {
-    let mut points = Vec::new(memory);
-    points.push(point(0, 0))?;
-    Ok(())
-}
-
-#[test]
-fn a_value_that_found_no_memory_is_a_fault(rt: HostRuntime) {
-    let memory = Refusing::new(rt.alloc());
-    assert!(rt; one_point(&memory).is_ok());
-    memory.refuse_all();
-    assert!(rt;
-        matches!(
-            one_point(&memory),
-            Err(SweepFault::Refused(Refusal::OutOfMemory))
-        )
-    );
 }

@@ -1,67 +1,87 @@
-//! How a sweep uses its store: that it answers the store's refusal, and which calls it makes.
+//! How a sweep uses its store, which calls it makes, and what a fault says.
 
-use crate::stores::{LevelStore, hold_others};
-use crate::sweeps::{is_wanted, point, segment, with_earlier};
+use crate::worked::{Row, hold_others, sweeps_to};
 use i_tree::Refusal;
-use itree_lib::sweep::{Level, SweepFault, below};
+use itree_lib::sweep::SweepFault;
 use std::alloc::Global;
-use std::process::Abort;
 use std::test::Fail;
 use test_kit::watched::{Call, Calls, Watched};
 
-type WatchedLevels = Watched<Level, i32, Option<i32>>;
+// Sweeps over a store that has handles for so many levels, with how many it is to be given.
+static ROWS: [(usize, u64, Row); 3] = [
+    (
+        0,
+        1,
+        Row {
+            name: "a store without a handle",
+            segments: &[(0, 1, 7)],
+            points: &[(0, 7)],
+            wanted: Err(SweepFault::Refused(Refusal::NoHandle)),
+        },
+    ),
+    (
+        0,
+        0,
+        Row {
+            name: "a segment that covers nothing is not stored",
+            segments: &[(1, 0, 7)],
+            points: &[(0, 7)],
+            wanted: Ok(&[None]),
+        },
+    ),
+    (
+        usize::MAX,
+        3,
+        Row {
+            name: "once a segment, and once a point",
+            segments: &[(0, 10, 5), (2, 6, 8), (6, 9, 3)],
+            points: &[(0, 5), (6, 7), (11, 9), (-1, 9)],
+            wanted: Ok(&[Some(5), Some(5), None, None]),
+        },
+    ),
+];
 
-// A store that holds others, has handles for so many levels from now on, and has noted no call.
-fn watched_store(rt: &impl Abort, alloc: Global, most: usize) -> Result<WatchedLevels, Fail> {
-    let mut store = Watched::new(alloc, usize::MAX)?;
-    hold_others(&mut store)?;
-    assert!(rt; store.count() == 3);
-    store.restart(most);
-    Ok(store)
-}
-
-#[test]
-fn answers_the_refusal_of_the_store(rt: HostRuntime) -> Result<(), Fail> {
-    let mut store = watched_store(&rt, rt.alloc(), 0)?;
-    let mut out = with_earlier(rt.alloc())?;
-    let outcome = below(&mut store, &[segment(0, 1, 7)], &[point(0, 7)], &mut out);
-    let refused = Err(SweepFault::Refused(Refusal::NoHandle));
-    assert!(rt; is_wanted(outcome, &out, refused));
-    assert!(rt; store.count() == 0);
-    assert!(rt; store.calls().inserts.get() == 1);
-    Ok(())
-}
-
-#[test]
-fn stores_no_segment_that_covers_nothing(rt: HostRuntime) -> Result<(), Fail> {
-    let mut store = watched_store(&rt, rt.alloc(), 0)?;
-    let mut out = with_earlier(rt.alloc())?;
-    let outcome = below(&mut store, &[segment(1, 0, 7)], &[point(0, 7)], &mut out);
-    assert!(rt; is_wanted(outcome, &out, Ok(&[None])));
-    assert!(rt; store.count() == 0);
-    Ok(())
-}
-
-// Whether these are calls for three segments and four points, of which the first and the last clear the store.
-fn are_of_three_and_four(calls: &Calls) -> bool {
+// Whether the store was cleared first and last, and given so many levels and at most so many searches.
+fn are_within(calls: &Calls, inserts: u64, searches: usize) -> bool {
     calls.first.get() == Some(Call::Clear)
         && calls.last.get() == Some(Call::Clear)
         && calls.clears.get() == 2
-        && calls.inserts.get() == 3
+        && calls.inserts.get() == inserts
         && calls.looks.get() == 0
-        && 0 < calls.searches.get()
-        && calls.searches.get() <= 4
+        && calls.searches.get() <= searches as u64
+}
+
+// Whether the sweep is as it is wanted, makes no more calls than it may, and leaves the store empty.
+fn is_so(alloc: Global, most: usize, inserts: u64, row: &Row) -> Result<bool, Fail> {
+    let mut store = Watched::new(alloc, usize::MAX)?;
+    hold_others(&mut store)?;
+    store.restart(most);
+    let is_wanted = sweeps_to(alloc, &mut store, row)?;
+    let is_within = are_within(store.calls(), inserts, row.points.len());
+    Ok(is_wanted && is_within && store.stored() == 0)
 }
 
 #[test]
-fn calls_its_store_once_a_segment_and_once_a_point(rt: HostRuntime) -> Result<(), Fail> {
-    let mut store = watched_store(&rt, rt.alloc(), usize::MAX)?;
-    let mut out = with_earlier(rt.alloc())?;
-    let segments = [segment(0, 10, 5), segment(2, 6, 8), segment(6, 9, 3)];
-    let points = [point(0, 5), point(6, 7), point(11, 9), point(-1, 9)];
-    let outcome = below(&mut store, &segments, &points, &mut out);
-    assert!(rt; is_wanted(outcome, &out, Ok(&[Some(5), Some(5), None, None])));
-    assert!(rt; store.count() == 0);
-    assert!(rt; are_of_three_and_four(store.calls()));
+fn makes_few_calls_of_its_store(rt: HostRuntime) -> Result<(), Fail> {
+    for (most, inserts, row) in &ROWS {
+        assert!(rt; is_so(rt.alloc(), *most, *inserts, row)?, "{}", row.name);
+    }
+    Ok(())
+}
+
+#[test]
+fn a_fault_says_why(rt: HostRuntime) -> Result<(), Fail> {
+    for (fault, said) in [
+        (
+            SweepFault::Overlap(12),
+            "the segment at place 12 overlaps an earlier one",
+        ),
+        (
+            SweepFault::from(Refusal::NoHandle),
+            "every handle is in use",
+        ),
+    ] {
+        assert!(rt; fault.to_string(rt.alloc())?.as_str() == said);
+    }
     Ok(())
 }

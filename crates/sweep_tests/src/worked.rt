@@ -1,120 +1,224 @@
 //! Worked sweeps over both kinds of store.
 
-use crate::sweeps::{assert_sweeps_to, point, segment};
 use i_tree::Refusal;
-use itree_lib::sweep::SweepFault;
+use i_tree::key::exp::KeyExpCollection;
+use i_tree::key::list::KeyExpList;
+use i_tree::key::tree::KeyExpTree;
+use itree_lib::sweep::{Level, Point, Segment, SweepFault, below};
+use std::alloc::Global;
+use std::cmp::Ordering;
 use std::test::Fail;
 
-#[test]
-fn answers_the_greatest_height_at_or_below_each_point(rt: HostRuntime) -> Result<(), Fail> {
-    let segments = [segment(0, 10, 5), segment(2, 6, 8), segment(6, 9, 3)];
-    let points = [
-        point(0, 5),
-        point(2, 9),
-        point(6, 7),
-        point(6, 3),
-        point(6, 9),
-        point(7, 9),
-        point(10, 4),
-        point(11, 9),
-        point(-1, 9),
-    ];
-    let answers = [
-        Some(5),
-        Some(8),
-        Some(5),
-        Some(3),
-        Some(8),
-        Some(5),
-        None,
-        None,
-        None,
-    ];
-    assert_sweeps_to(&rt, rt.alloc(), &segments, &points, Ok(&answers))
+/// A sweep, and what it is to answer.
+#[derive(Clone, Copy)]
+pub struct Row {
+    pub name: &'static str,
+    /// Each by its `x0`, `x1` and `y`.
+    pub segments: &'static [(i32, i32, i32)],
+    pub points: &'static [(i32, i32)],
+    pub wanted: Result<&'static [Option<i32>], SweepFault>,
+}
+
+const LEAST: i32 = i32::MIN;
+
+const MOST: i32 = i32::MAX;
+
+static ROWS: [Row; 13] = [
+    Row {
+        name: "nine points of three segments",
+        segments: &[(0, 10, 5), (2, 6, 8), (6, 9, 3)],
+        points: &[
+            (0, 5),
+            (2, 9),
+            (6, 7),
+            (6, 3),
+            (6, 9),
+            (7, 9),
+            (10, 4),
+            (11, 9),
+            (-1, 9),
+        ],
+        wanted: Ok(&[
+            Some(5),
+            Some(8),
+            Some(5),
+            Some(3),
+            Some(8),
+            Some(5),
+            None,
+            None,
+            None,
+        ]),
+    },
+    Row {
+        name: "one ends as the other begins",
+        segments: &[(0, 5, 1), (5, 9, 1)],
+        points: &[],
+        wanted: Err(SweepFault::Overlap(1)),
+    },
+    Row {
+        name: "one ends before the other begins",
+        segments: &[(0, 5, 1), (6, 9, 1)],
+        points: &[],
+        wanted: Ok(&[]),
+    },
+    Row {
+        name: "the later of two is the one that begins later",
+        segments: &[(5, 9, 1), (0, 5, 1)],
+        points: &[],
+        wanted: Err(SweepFault::Overlap(0)),
+    },
+    Row {
+        name: "the first overlap is that which begins first",
+        segments: &[(0, 9, 1), (8, 9, 1), (3, 4, 1)],
+        points: &[],
+        wanted: Err(SweepFault::Overlap(2)),
+    },
+    Row {
+        name: "a segment that ends before it begins covers nothing",
+        segments: &[(0, 9, 1), (5, 3, 1)],
+        points: &[(4, 1)],
+        wanted: Ok(&[Some(1)]),
+    },
+    Row {
+        name: "no segments",
+        segments: &[],
+        points: &[(0, 0)],
+        wanted: Ok(&[None]),
+    },
+    Row {
+        name: "an overlap past the last point",
+        segments: &[(0, 1, 7), (50, 60, 2), (55, 56, 2)],
+        points: &[(0, 7)],
+        wanted: Err(SweepFault::Overlap(2)),
+    },
+    Row {
+        name: "of segments that begin together the first place comes first",
+        segments: &[(4, 4, 1), (4, 9, 1), (4, 5, 1)],
+        points: &[],
+        wanted: Err(SweepFault::Overlap(1)),
+    },
+    Row {
+        name: "from end to end of the numbers",
+        segments: &[(LEAST, MOST, LEAST), (MOST, MOST, MOST)],
+        points: &[(LEAST, LEAST), (MOST, MOST), (MOST, 0), (LEAST, MOST)],
+        wanted: Ok(&[Some(LEAST), Some(MOST), Some(LEAST), Some(LEAST)]),
+    },
+    Row {
+        name: "an overlap at the greatest number",
+        segments: &[(MOST, MOST, LEAST), (LEAST, MOST, LEAST)],
+        points: &[],
+        wanted: Err(SweepFault::Overlap(0)),
+    },
+    Row {
+        name: "an overlap at the least number",
+        segments: &[(LEAST, LEAST, MOST), (LEAST, LEAST, MOST)],
+        points: &[],
+        wanted: Err(SweepFault::Overlap(1)),
+    },
+    Row {
+        name: "no segments and no points",
+        segments: &[],
+        points: &[],
+        wanted: Ok(&[]),
+    },
+];
+
+/// The answer that stands in `out` before a sweep.
+pub const EARLIER: Option<i32> = Some(77);
+
+/// Stores levels that a sweep would answer, and one that its segments would overlap, if they stayed.
+pub fn hold_others<C: KeyExpCollection<Level, i32, Option<i32>>>(
+    store: &mut C,
+) -> Result<(), Refusal> {
+    for y in [LEAST, 1, 4] {
+        store.insert_new(Level { y, last: MOST }, Some(y), LEAST)?;
+    }
+    Ok(())
+}
+
+/// Whether nothing is stored, not even what has ended.
+pub fn is_empty<C: KeyExpCollection<Level, i32, Option<i32>>>(store: &mut C) -> bool {
+    store
+        .first_greater_by(LEAST, None, |_| Ordering::Greater)
+        .is_none()
+}
+
+// Whether the first is the earlier answer, and the others are those.
+fn has_joined(out: &[Option<i32>], answers: &[Option<i32>]) -> bool {
+    match out {
+        [first, rest @ ..] => *first == EARLIER && rest == answers,
+        [] => false,
+    }
+}
+
+/// Whether the outcome of a sweep, and what it left in `out` behind the earlier answer, are those that are wanted.
+pub fn is_wanted(
+    wanted: Result<&[Option<i32>], SweepFault>,
+    outcome: Result<(), SweepFault>,
+    out: &[Option<i32>],
+) -> bool {
+    match wanted {
+        Ok(answers) => outcome == Ok(()) && has_joined(out, answers),
+        Err(fault) => outcome == Err(fault) && has_joined(out, &[]),
+    }
+}
+
+// The segments of a row.
+fn segments_of(alloc: Global, row: &Row) -> Result<Vec<Segment>, Fail> {
+    let mut segments = Vec::new(alloc);
+    for (x0, x1, y) in row.segments.iter().copied() {
+        segments.push(Segment { x0, x1, y })?;
+    }
+    Ok(segments)
+}
+
+// The points of a row.
+fn points_of(alloc: Global, row: &Row) -> Result<Vec<Point>, Fail> {
+    let mut points = Vec::new(alloc);
+    for (x, y) in row.points.iter().copied() {
+        points.push(Point { x, y })?;
+    }
+    Ok(points)
+}
+
+/// Sweeps into an `out` that has an answer. Tells whether all is as it is wanted.
+pub fn sweeps_to<C: KeyExpCollection<Level, i32, Option<i32>>>(
+    alloc: Global,
+    store: &mut C,
+    row: &Row,
+) -> Result<bool, Fail> {
+    let segments = segments_of(alloc, row)?;
+    let points = points_of(alloc, row)?;
+    let mut out = vec![in alloc; EARLIER]?;
+    let outcome = below(store, &segments, &points, &mut out);
+    Ok(is_wanted(row.wanted, outcome, &out))
+}
+
+// Sweeps over a store that holds others. Tells whether all is as it is wanted, and the store is empty.
+fn sweeps_over<C: KeyExpCollection<Level, i32, Option<i32>>>(
+    alloc: Global,
+    store: &mut C,
+    row: &Row,
+) -> Result<bool, Fail> {
+    hold_others(store)?;
+    Ok(sweeps_to(alloc, store, row)? && is_empty(store))
 }
 
 #[test]
-fn segments_overlap_where_one_ends_as_the_other_begins(rt: HostRuntime) -> Result<(), Fail> {
-    let segments = [segment(0, 5, 1), segment(5, 9, 1)];
-    let overlap = Err(SweepFault::Overlap(1));
-    assert_sweeps_to(&rt, rt.alloc(), &segments, &[], overlap)?;
-    let segments = [segment(0, 5, 1), segment(6, 9, 1)];
-    assert_sweeps_to(&rt, rt.alloc(), &segments, &[], Ok(&[]))
+fn sweeps_over_a_list_answer_as_worked_by_hand(rt: HostRuntime) -> Result<(), Fail> {
+    let mut list = KeyExpList::new(rt.alloc(), 0)?;
+    for row in &ROWS {
+        assert!(rt; sweeps_over(rt.alloc(), &mut list, row)?, "{}", row.name);
+    }
+    Ok(())
 }
 
 #[test]
-fn the_later_of_two_is_the_one_that_begins_later(rt: HostRuntime) -> Result<(), Fail> {
-    let segments = [segment(5, 9, 1), segment(0, 5, 1)];
-    let overlap = Err(SweepFault::Overlap(0));
-    assert_sweeps_to(&rt, rt.alloc(), &segments, &[], overlap)
-}
-
-#[test]
-fn the_first_overlap_is_that_which_begins_first(rt: HostRuntime) -> Result<(), Fail> {
-    let segments = [segment(0, 9, 1), segment(8, 9, 1), segment(3, 4, 1)];
-    let overlap = Err(SweepFault::Overlap(2));
-    assert_sweeps_to(&rt, rt.alloc(), &segments, &[], overlap)
-}
-
-#[test]
-fn a_segment_that_ends_before_it_begins_covers_nothing(rt: HostRuntime) -> Result<(), Fail> {
-    let segments = [segment(0, 9, 1), segment(5, 3, 1)];
-    assert_sweeps_to(&rt, rt.alloc(), &segments, &[point(4, 1)], Ok(&[Some(1)]))
-}
-
-#[test]
-fn answers_none_without_segments(rt: HostRuntime) -> Result<(), Fail> {
-    assert_sweeps_to(&rt, rt.alloc(), &[], &[point(0, 0)], Ok(&[None]))
-}
-
-#[test]
-fn overlaps_are_found_past_the_last_point(rt: HostRuntime) -> Result<(), Fail> {
-    let segments = [segment(0, 1, 7), segment(50, 60, 2), segment(55, 56, 2)];
-    let overlap = Err(SweepFault::Overlap(2));
-    assert_sweeps_to(&rt, rt.alloc(), &segments, &[point(0, 7)], overlap)
-}
-
-#[test]
-fn of_segments_that_begin_together_the_first_place_comes_first(
-    rt: HostRuntime,
-) -> Result<(), Fail> {
-    let segments = [segment(4, 4, 1), segment(4, 9, 1), segment(4, 5, 1)];
-    let overlap = Err(SweepFault::Overlap(1));
-    assert_sweeps_to(&rt, rt.alloc(), &segments, &[], overlap)
-}
-
-#[test]
-fn sweeps_from_end_to_end_of_the_numbers(rt: HostRuntime) -> Result<(), Fail> {
-    let (low, high) = (i32::MIN, i32::MAX);
-    let segments = [segment(low, high, low), segment(high, high, high)];
-    let points = [
-        point(low, low),
-        point(high, high),
-        point(high, 0),
-        point(low, high),
-    ];
-    let answers = [Some(low), Some(high), Some(low), Some(low)];
-    assert_sweeps_to(&rt, rt.alloc(), &segments, &points, Ok(&answers))
-}
-
-#[test]
-fn segments_overlap_at_the_ends_of_the_numbers(rt: HostRuntime) -> Result<(), Fail> {
-    let (low, high) = (i32::MIN, i32::MAX);
-    let segments = [segment(high, high, low), segment(low, high, low)];
-    let overlap = Err(SweepFault::Overlap(0));
-    assert_sweeps_to(&rt, rt.alloc(), &segments, &[], overlap)?;
-    let segments = [segment(low, low, high), segment(low, low, high)];
-    let overlap = Err(SweepFault::Overlap(1));
-    assert_sweeps_to(&rt, rt.alloc(), &segments, &[], overlap)
-}
-
-#[test]
-fn a_fault_says_why(rt: HostRuntime) -> Result<(), Fail> {
-    let overlap = SweepFault::Overlap(12).to_string(rt.alloc())?;
-    assert!(rt; overlap.as_str() == "the segment at place 12 overlaps an earlier one");
-    let refused = SweepFault::Refused(Refusal::NoHandle).to_string(rt.alloc())?;
-    assert!(rt; refused.as_str() == "every handle is in use");
-    let refused = SweepFault::from(Refusal::OutOfMemory).to_string(rt.alloc())?;
-    assert!(rt; refused.as_str() == "memory was refused");
+fn sweeps_over_a_tree_answer_as_worked_by_hand(rt: HostRuntime) -> Result<(), Fail> {
+    let mut tree = KeyExpTree::new(rt.alloc(), 0)?;
+    for row in &ROWS {
+        assert!(rt; sweeps_over(rt.alloc(), &mut tree, row)?, "{}", row.name);
+    }
     Ok(())
 }

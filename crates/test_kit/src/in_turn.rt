@@ -106,8 +106,6 @@ mod tests {
         Never,
         // It goes to neither where there is no room.
         WithoutGrowth,
-        // A block is taken a thousand times before, one after the other.
-        Wasteful,
     }
 
     #[derive(Drop)]
@@ -121,12 +119,6 @@ mod tests {
             return false;
         }
         pair.first.push(7).is_ok() && pair.second.push(7).is_ok()
-    }
-
-    fn waste(memory: Memory<'_>) {
-        for number in 0..1000 {
-            let _ = Box::new(memory, number);
-        }
     }
 
     impl<'a> Trial for Pushing<'a> {
@@ -149,59 +141,35 @@ mod tests {
                     false
                 }
                 Way::WithoutGrowth => false,
-                Way::Wasteful => {
-                    waste(self.memory);
-                    push_whole(pair)
-                }
             };
         }
 
-        fn is_refused(&self, pair: &mut Pair<'a>, nth: u64) -> bool {
-            if self.way == Way::Wasteful && nth <= 1000 {
-                return true;
-            }
+        fn is_refused(&self, pair: &mut Pair<'a>, _nth: u64) -> bool {
             !pair.is_pushed && pair.first.is_empty() && pair.second.is_empty()
         }
 
         fn is_done(&self, pair: &mut Pair<'a>) -> bool {
-            if self.way == Way::Wasteful || self.way == Way::WithoutGrowth {
+            if self.way == Way::WithoutGrowth {
                 return true;
             }
             pair.is_pushed && pair.first.len() == 1 && pair.second.len() == 1
         }
     }
 
-    fn outcome_of(memory: &Refusing<Global>, way: Way) -> Result<u64, Fault> {
-        refuse_in_turn(memory, &Pushing { memory, way })
-    }
-
     #[test]
-    fn counts_the_requests_of_a_call_that_does_all_or_nothing(rt: HostRuntime) {
+    fn tells_a_call_that_does_all_or_nothing_from_others(rt: HostRuntime) {
         let memory = Refusing::new(rt.alloc());
-        assert!(rt; outcome_of(&memory, Way::Whole) == Ok(2));
-    }
-
-    #[test]
-    fn tells_a_call_that_keeps_half_of_its_work(rt: HostRuntime) {
-        let memory = Refusing::new(rt.alloc());
-        assert!(rt; outcome_of(&memory, Way::Halved) == Err(Fault::AfterRefusal { nth: 2 }));
-    }
-
-    #[test]
-    fn tells_a_call_that_is_refused_with_memory_too(rt: HostRuntime) {
-        let memory = Refusing::new(rt.alloc());
-        assert!(rt; outcome_of(&memory, Way::Never) == Err(Fault::MadeAgain { nth: 1 }));
-    }
-
-    #[test]
-    fn tells_a_call_that_makes_no_request(rt: HostRuntime) {
-        let memory = Refusing::new(rt.alloc());
-        assert!(rt; outcome_of(&memory, Way::WithoutGrowth) == Err(Fault::NoRequest));
-    }
-
-    #[test]
-    fn tells_a_call_that_makes_more_requests_than_any_does(rt: HostRuntime) {
-        let memory = Refusing::new(rt.alloc());
-        assert!(rt; outcome_of(&memory, Way::Wasteful) == Err(Fault::Endless));
+        for (way, outcome) in [
+            (Way::Whole, Ok(2)),
+            (Way::Halved, Err(Fault::AfterRefusal { nth: 2 })),
+            (Way::Never, Err(Fault::MadeAgain { nth: 1 })),
+            (Way::WithoutGrowth, Err(Fault::NoRequest)),
+        ] {
+            let pushing = Pushing {
+                memory: &memory,
+                way,
+            };
+            assert!(rt; refuse_in_turn(&memory, &pushing) == outcome);
+        }
     }
 }

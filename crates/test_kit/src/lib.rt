@@ -2,20 +2,15 @@
 //! and keys, values, collections and random numbers that several crates of tests share.
 #![tactic(auto)]
 
-ghost use Rattle.std.specs.Prelude.{◌≡◌, ℕ, ◌↔◌, IsTrue};
-
 use std::alloc::{AllocError, Allocator};
 use std::cell::Cell;
 
-pub mod cores;
 pub mod counted_key;
 pub mod growth;
 pub mod in_turn;
 pub mod item;
 pub mod random;
-pub mod searches;
 pub mod short_number;
-pub mod timed_key;
 pub mod until;
 pub mod watched;
 
@@ -29,11 +24,7 @@ enum Refused {
 
 impl Refused {
     /// Whether the request of this number is among them.
-    fn includes(self, number: u64) -> bool
-        ensures nothing { self ≡ Refused.Nothing → ¬ IsTrue result }
-        ensures nth { (n : ℕ) → self ≡ Refused.Nth n → (IsTrue result ↔ (n ≡ number)) }
-        ensures everything { self ≡ Refused.Everything → IsTrue result }
-    {
+    fn includes(self, number: u64) -> bool {
         match self {
             Refused::Nothing => false,
             Refused::Nth(n) => n == number,
@@ -163,78 +154,21 @@ mod tests {
     }
 
     #[test]
-    fn refuses_all_until_told_otherwise(rt: HostRuntime) -> Result<(), Fail> {
-        let memory = Refusing::new(rt.alloc());
-        assert_eq!(rt; memory.requests(), 0);
-        memory.refuse_all();
-        for _ in 0..3 {
-            let items = Vec::<u8, _>::with_capacity(&memory, 10);
-            assert!(rt; items.is_err());
-        }
-        assert_eq!(rt; memory.requests(), 3);
-        memory.refuse_none();
-        assert_eq!(rt; memory.requests(), 0);
-        let items: Vec<u8, &Refusing<Global>> = Vec::with_capacity(&memory, 10)?;
-        assert!(rt; items.capacity() >= 10);
-        assert_eq!(rt; memory.requests(), 1);
-        Ok(())
-    }
-
-    #[test]
     fn counts_the_bytes_that_are_asked_for_and_those_that_are_held(
         rt: HostRuntime,
     ) -> Result<(), Fail> {
         let memory = Refusing::new(rt.alloc());
-        assert_eq!(rt; (memory.bytes_asked(), memory.bytes_held()), (0, 0));
         // A number has eight bytes.
         let numbers: Vec<u64, &Refusing<Global>> = Vec::with_capacity(&memory, 10)?;
         let bytes = numbers.capacity().saturating_mul(8);
         assert!(rt; bytes >= 80);
-        assert_eq!(rt; (memory.bytes_asked(), memory.bytes_held()), (bytes, bytes));
-        let boxed = Box::new(&memory, 7u64)?;
-        let both = bytes.saturating_add(8);
-        assert_eq!(rt; (memory.bytes_asked(), memory.bytes_held()), (both, both));
-        drop(numbers);
-        assert_eq!(rt; (memory.bytes_asked(), memory.bytes_held()), (both, 8));
+        assert!(rt; (memory.bytes_asked(), memory.bytes_held()) == (bytes, bytes));
         memory.refuse_all();
-        assert_eq!(rt; (memory.bytes_asked(), memory.bytes_held()), (0, 8));
-        assert!(rt; Box::new(&memory, 8u64).is_err());
-        assert_eq!(rt; (memory.bytes_asked(), memory.bytes_held()), (8, 8));
-        drop(boxed);
-        assert_eq!(rt; (memory.bytes_asked(), memory.bytes_held()), (8, 0));
-        Ok(())
-    }
-
-    #[test]
-    fn holds_the_last_block_of_a_vec_that_grew(rt: HostRuntime) -> Result<(), Fail> {
-        let memory = Refusing::new(rt.alloc());
-        let mut numbers = Vec::new(&memory);
-        for number in 0..1000u64 {
-            numbers.push(number)?;
-        }
-        assert_eq!(rt; memory.bytes_held(), numbers.capacity().saturating_mul(8));
-        assert!(rt; memory.bytes_asked() > memory.bytes_held());
-        assert!(rt; memory.requests() > 1);
-        Ok(())
-    }
-
-    #[test]
-    fn a_vec_keeps_its_items_at_a_refused_push(rt: HostRuntime) -> Result<(), Fail> {
-        let memory = Refusing::new(rt.alloc());
-        let mut items = Vec::new(&memory);
-        let mut last_refused = 0;
-        for item in 0..40u8 {
-            memory.refuse_nth(1);
-            if items.push(item).is_err() {
-                assert!(rt; items.iter().copied().eq(0..item));
-                // The same push is the second request, and goes through.
-                items.push(item)?;
-                assert_eq!(rt; memory.requests(), 2);
-                last_refused = item;
-            }
-        }
-        assert!(rt; last_refused > 0, "the items never moved to a larger block");
-        assert!(rt; items.iter().copied().eq(0..40));
+        assert!(rt; Box::new(&memory, 8u64).is_err() && Box::new(&memory, 9u64).is_err());
+        assert!(rt; memory.requests() == 2);
+        assert!(rt; (memory.bytes_asked(), memory.bytes_held()) == (16, bytes));
+        drop(numbers);
+        assert!(rt; (memory.bytes_asked(), memory.bytes_held()) == (16, 0));
         Ok(())
     }
 }

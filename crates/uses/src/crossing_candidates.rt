@@ -54,82 +54,35 @@ mod tests {
     use super::*;
     use std::test::Fail;
 
-    const WHOLE: SegRange<i32> = SegRange { min: 0, max: 1023 };
+    // Edges by their left ends: from and to which x and height.
+    const EDGES: [(i32, i32, i32, i32); 6] = [
+        (0, 9, 0, 100),
+        (2, 5, 90, 300),
+        (5, 9, 300, 310),
+        (6, 9, 50, 60),
+        (9, 9, 512, 1023),
+        (10, 20, 0, 1023),
+    ];
 
-    // The next number of a sequence without visible order.
-    fn next_random(state: &mut u64) -> i32 {
-        *state = state
-            .wrapping_mul(6364136223846793005)
-            .wrapping_add(1442695040888963407);
-        (*state >> 33) as i32
-    }
+    // Those whose boxes meet: of the second and the third only corners do.
+    const WANTED: [(u32, u32); 3] = [(0, 1), (0, 3), (1, 2)];
 
-    // Short edges by chance, by their left ends.
-    fn some_edges(alloc: Global, count: u32) -> Result<Vec<Edge>, Fail> {
-        let mut edges = Vec::new(alloc);
-        let mut state = 1;
-        let mut left = 0i32;
-        for name in 0..count {
-            left = left.saturating_add(next_random(&mut state) % 3);
-            let low = next_random(&mut state) % 960;
+    #[test]
+    fn names_each_pair_of_boxes_that_meet_once(rt: HostRuntime) -> Result<(), Fail> {
+        let mut edges = Vec::new(rt.alloc());
+        for ((left, right, min, max), name) in EDGES.iter().copied().zip(0..) {
+            let heights = SegRange { min, max };
             edges.push(Edge {
                 name,
                 left,
-                right: left.saturating_add(next_random(&mut state) % 100),
-                heights: SegRange {
-                    min: low,
-                    max: low.saturating_add(next_random(&mut state) % 64),
-                },
+                right,
+                heights,
             })?;
         }
-        Ok(edges)
-    }
-
-    // Whether the boxes meet, where the first one begins no later.
-    fn boxes_meet(first: Edge, second: Edge) -> bool {
-        let (one, other) = (first.heights, second.heights);
-        second.left <= first.right && one.min <= other.max && other.min <= one.max
-    }
-
-    // The candidates, which the edges have, in rising order.
-    fn sorted_candidates(alloc: Global, edges: &[Edge]) -> Result<Vec<(u32, u32)>, Fail> {
-        match candidates(alloc, edges, WHOLE)? {
-            Some(mut pairs) => {
-                pairs.sort_unstable();
-                Ok(pairs)
-            }
-            None => Err(Fail::from("an edge is not in order")),
-        }
-    }
-
-    #[test]
-    fn misses_no_pair_of_boxes_that_meet(rt: HostRuntime) -> Result<(), Fail> {
-        let edges = some_edges(rt.alloc(), 1000)?;
-        let pairs = sorted_candidates(rt.alloc(), &edges)?;
-        let mut meeting = 0usize;
-        for first in 0..edges.len() {
-            for second in first..edges.len() {
-                if first < second && boxes_meet(edges[first], edges[second]) {
-                    let pair = (edges[first].name, edges[second].name);
-                    assert!(rt; pairs.binary_search(&pair).is_ok());
-                    meeting = meeting.saturating_add(1);
-                }
-            }
-        }
-        assert!(rt; meeting > 1000);
-        assert!(rt; pairs.len() < meeting.saturating_mul(2));
-        assert!(rt; pairs.len() < 499500 / 10);
-        Ok(())
-    }
-
-    #[test]
-    fn names_no_pair_twice(rt: HostRuntime) -> Result<(), Fail> {
-        let edges = some_edges(rt.alloc(), 1000)?;
-        let mut last = None;
-        for pair in &sorted_candidates(rt.alloc(), &edges)? {
-            assert!(rt; last != Some(*pair));
-            last = Some(*pair);
-        }
+        let whole = SegRange { min: 0, max: 1023 };
+        let mut pairs = candidates(rt.alloc(), &edges, whole)?.ok_or("an edge is not in order")?;
+        pairs.sort_unstable();
+        assert!(rt; pairs.as_slice() == WANTED.as_slice());
         Ok(())
     }
 }

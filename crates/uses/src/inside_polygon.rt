@@ -60,77 +60,84 @@ mod tests {
     use super::*;
     use std::test::Fail;
 
-    const fn point(x: i32, y: i32) -> Point {
-        Point { x, y }
+    // A polygon by its corners, points, and which of them are inside or, where sides cross, the corners where these end.
+    struct Row {
+        name: &'static str,
+        corners: &'static [(i32, i32)],
+        points: &'static [(i32, i32)],
+        wanted: Result<&'static [bool], LocateFault>,
     }
 
-    #[test]
-    fn tells_points_inside_an_arrow(rt: HostRuntime) -> Result<(), Fail> {
-        // It points upwards, and has a notch from below.
-        let corners = [point(0, 0), point(10, 4), point(20, 0), point(10, 20)];
-        let points = [
-            point(10, 4),
-            point(10, 3),
-            point(10, 19),
-            point(10, 21),
-            point(5, 1),
-            point(5, 3),
-            point(5, 11),
-            point(-1, 0),
-            point(20, 9),
+    const ROWS: [Row; 4] = [
+        Row {
             // Straight above its leftmost corner the upper edge is told, and on it.
-            point(0, 5),
-            point(0, 0),
-        ];
-        let Ok(inside) = are_inside(rt.alloc(), &corners, &points) else {
-            return Err(Fail::from("refused or crossing"));
-        };
-        let wanted = [
-            true, false, true, false, false, true, false, false, false, false, false,
-        ];
-        assert!(rt; inside.as_slice() == wanted.as_slice());
-        Ok(())
+            name: "an arrow that points upwards, and has a notch from below",
+            corners: &[(0, 0), (10, 4), (20, 0), (10, 20)],
+            points: &[
+                (10, 4),
+                (10, 3),
+                (10, 19),
+                (10, 21),
+                (5, 1),
+                (5, 3),
+                (5, 11),
+                (-1, 0),
+                (20, 9),
+                (0, 5),
+                (0, 0),
+            ],
+            wanted: Ok(&[
+                true, false, true, false, false, true, false, false, false, false, false,
+            ]),
+        },
+        Row {
+            name: "a notch from the right",
+            corners: &[(0, 0), (20, 0), (10, 10), (20, 20), (0, 20)],
+            points: &[
+                (10, 15),
+                (10, 10),
+                (10, 5),
+                (15, 10),
+                (15, 16),
+                (15, 4),
+                (10, 21),
+            ],
+            wanted: Ok(&[true, true, true, false, true, true, false]),
+        },
+        Row {
+            name: "sides that cross",
+            corners: &[(0, 0), (10, 10), (10, 0), (0, 10)],
+            points: &[],
+            wanted: Err(LocateFault::Cross(1, 3)),
+        },
+        Row {
+            name: "no corners",
+            corners: &[],
+            points: &[(0, 0)],
+            wanted: Ok(&[false]),
+        },
+    ];
+
+    fn points_of(alloc: Global, places: &[(i32, i32)]) -> Result<Vec<Point>, Fail> {
+        let mut points = Vec::new(alloc);
+        for (x, y) in places.iter().copied() {
+            points.push(Point { x, y })?;
+        }
+        Ok(points)
     }
 
     #[test]
-    fn tells_points_beside_a_notch_from_the_right(rt: HostRuntime) -> Result<(), Fail> {
-        let corners = [
-            point(0, 0),
-            point(20, 0),
-            point(10, 10),
-            point(20, 20),
-            point(0, 20),
-        ];
-        let points = [
-            point(10, 15),
-            point(10, 10),
-            point(10, 5),
-            point(15, 10),
-            point(15, 16),
-            point(15, 4),
-            point(10, 21),
-        ];
-        let Ok(inside) = are_inside(rt.alloc(), &corners, &points) else {
-            return Err(Fail::from("refused or crossing"));
-        };
-        let wanted = [true, true, true, false, true, true, false];
-        assert!(rt; inside.as_slice() == wanted.as_slice());
-        Ok(())
-    }
-
-    #[test]
-    fn tells_the_sides_that_cross(rt: HostRuntime) {
-        let corners = [point(0, 0), point(10, 10), point(10, 0), point(0, 10)];
-        let inside = are_inside(rt.alloc(), &corners, &[]);
-        assert!(rt; matches!(inside, Err(LocateFault::Cross(1, 3))));
-    }
-
-    #[test]
-    fn nothing_is_inside_of_no_corners(rt: HostRuntime) -> Result<(), Fail> {
-        let Ok(inside) = are_inside(rt.alloc(), &[], &[point(0, 0)]) else {
-            return Err(Fail::from("refused or crossing"));
-        };
-        assert!(rt; inside.as_slice() == [false].as_slice());
+    fn tells_points_inside(rt: HostRuntime) -> Result<(), Fail> {
+        for row in &ROWS {
+            let corners = points_of(rt.alloc(), row.corners)?;
+            let points = points_of(rt.alloc(), row.points)?;
+            let is_told = match (are_inside(rt.alloc(), &corners, &points), row.wanted) {
+                (Ok(inside), Ok(wanted)) => inside.as_slice() == wanted,
+                (Err(fault), Err(wanted)) => fault == wanted,
+                _ => false,
+            };
+            assert!(rt; is_told, "{}", row.name);
+        }
         Ok(())
     }
 }

@@ -113,39 +113,34 @@ mod tests {
     use std::process::Abort;
     use std::test::Fail;
 
+    // Names and times, with until when the name is held then, and how many names are.
+    const HELD: [(u32, u64, Option<u64>, usize); 6] = [
+        (7, 4, Some(20), 2),
+        (3, 5, Some(5), 2),
+        (3, 6, None, 1),
+        (5, 6, None, 1),
+        (7, 20, Some(20), 1),
+        (7, 21, None, 0),
+    ];
+
     // Name 7 is taken until 10, renewed at 4 until 20; name 3 is taken until 5.
     fn takes_and_renews<C: KeyExpCollection<Lease, u64, Option<Lease>>>(
         rt: &impl Abort,
         leases: &mut C,
     ) -> Result<(), Fail> {
-        assert!(rt; take(leases, 7, 10, 0)?);
-        assert!(rt; take(leases, 3, 5, 0)?);
-        assert!(rt; !take(leases, 7, 30, 4)?, "held");
-        assert!(rt; renew(leases, 7, 20, 4)?);
-        assert!(rt; !renew(leases, 5, 20, 4)?, "not held");
-        for (name, now, until) in [
-            (7, 4, Some(20)),
-            (3, 5, Some(5)),
-            (3, 6, None),
-            (5, 6, None),
-            (7, 20, Some(20)),
-            (7, 21, None),
-        ] {
+        for (name, until, is_taken) in [(7, 10, true), (3, 5, true), (7, 30, false)] {
+            assert!(rt;
+                take(leases, name, until, 0)? == is_taken,
+                "{name} until {until}"
+            );
+        }
+        for (name, is_held) in [(7, true), (5, false)] {
+            assert!(rt; renew(leases, name, 20, 4)? == is_held, "{name}");
+        }
+        assert!(rt; count_held(leases, 1, 4) == 1);
+        for (name, now, until, count) in HELD {
             assert!(rt; held_until(leases, name, now) == until, "{name} at {now}");
-        }
-        Ok(())
-    }
-
-    fn counts_names<C: KeyExpCollection<Lease, u64, Option<Lease>>>(
-        rt: &impl Abort,
-        leases: &mut C,
-    ) -> Result<(), Fail> {
-        for (name, until) in [(7, 10), (3, 5), (9, 10)] {
-            assert!(rt; take(leases, name, until, 0)?);
-        }
-        assert!(rt; renew(leases, 7, 20, 0)?);
-        for (now, held) in [(0, 3), (5, 3), (6, 2), (11, 1), (21, 0)] {
-            assert_eq!(rt; count_held(leases, 100, now), held, "at {now}");
+            assert!(rt; count_held(leases, 100, now) == count, "at {now}");
         }
         Ok(())
     }
@@ -154,21 +149,5 @@ mod tests {
     fn a_tree_and_a_list_hold_leases_alike(rt: HostRuntime) -> Result<(), Fail> {
         takes_and_renews(&rt, &mut KeyExpTree::new(rt.alloc(), 0)?)?;
         takes_and_renews(&rt, &mut KeyExpList::new(rt.alloc(), 0)?)
-    }
-
-    #[test]
-    fn a_renewed_name_is_counted_once(rt: HostRuntime) -> Result<(), Fail> {
-        counts_names(&rt, &mut KeyExpTree::new(rt.alloc(), 0)?)?;
-        counts_names(&rt, &mut KeyExpList::new(rt.alloc(), 0)?)
-    }
-
-    #[test]
-    fn counts_up_to_a_bound(rt: HostRuntime) -> Result<(), Fail> {
-        let mut leases = KeyExpTree::new(rt.alloc(), 0)?;
-        for name in [4, 8] {
-            assert!(rt; take(&mut leases, name, 9, 0)?);
-        }
-        assert_eq!(rt; count_held(&mut leases, 1, 0), 1);
-        Ok(())
     }
 }

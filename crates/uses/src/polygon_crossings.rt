@@ -57,26 +57,24 @@ mod tests {
     use super::*;
     use std::test::Fail;
 
-    const fn corner(x: i32, y: i32) -> Corner {
-        Corner { x, y }
-    }
+    const SQUARE: [(i32, i32); 4] = [(0, 0), (10, 0), (10, 10), (0, 10)];
+
+    // The place of a triangle's left corner, and how many pairs of its sides and the square's meet. The right side of the
+    // square ends at its corner 2. Two sides of the triangle meet at its corner 0.
+    const TRIANGLES: [(i32, i32, usize); 3] = [(5, 5, 2), (10, 5, 2), (11, 5, 0)];
 
     #[test]
-    fn finds_where_a_square_and_a_triangle_cross(rt: HostRuntime) -> Result<(), Fail> {
-        let square = [corner(0, 0), corner(10, 0), corner(10, 10), corner(0, 10)];
-        let triangle = [corner(5, 5), corner(15, 4), corner(15, 6)];
-        let mut pairs = crossings(rt.alloc(), &square, &triangle)?;
-        pairs.sort_unstable();
-        // The right side of the square ends at corner 2. Two sides of the triangle meet at its corner 0.
-        assert!(rt; &pairs[..] == [(2, 0), (2, 1)].as_slice());
-        Ok(())
-    }
-
-    #[test]
-    fn finds_a_corner_that_touches_a_side(rt: HostRuntime) -> Result<(), Fail> {
-        let square = [corner(0, 0), corner(10, 0), corner(10, 10), corner(0, 10)];
-        let triangle = [corner(10, 5), corner(15, 4), corner(15, 6)];
-        assert!(rt; crossings(rt.alloc(), &square, &triangle)?.len() == 2);
+    fn finds_where_a_square_and_a_triangle_meet(rt: HostRuntime) -> Result<(), Fail> {
+        let square = SQUARE.map(|(x, y)| Corner { x, y });
+        for (left, y, count) in TRIANGLES {
+            let triangle = [(left, y), (15, 4), (15, 6)].map(|(x, y)| Corner { x, y });
+            let mut pairs = crossings(rt.alloc(), &square, &triangle)?;
+            pairs.sort_unstable();
+            assert!(rt;
+                pairs.as_slice() == &[(2, 0), (2, 1)][..count],
+                "from {left}"
+            );
+        }
         assert!(rt; crossings(rt.alloc(), &square, &[])?.is_empty());
         Ok(())
     }

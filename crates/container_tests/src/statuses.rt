@@ -1,0 +1,318 @@
+//! Both kinds of status, by calls as data.
+
+use crate::call::{Answer, Call, Step, Store, inserted, reserved, whether};
+use crate::shape::shape;
+use crate::sloped::Sloped;
+use i_tree::Refusal;
+use i_tree::status::exp::StatusCollection;
+use i_tree::status::list::StatusList;
+use i_tree::status::tree::StatusTree;
+use itree_lib::run::{StatusCommand, StatusReply, run_status};
+use std::alloc::{Allocator, Global};
+use std::cell::Cell;
+use std::cmp::Ordering;
+
+// A height at the line.
+#[derive(Clone, Copy)]
+struct Sought {
+    time: i32,
+    height: i64,
+}
+
+type Command = StatusCommand<Sloped, i32, i32, Sought>;
+
+/// A kind of status, by its own calls.
+pub trait StatusKind: StatusCollection<Sloped, i32, i32> + Drop {
+    /// Where it takes its memory.
+    type Memory: Allocator + Copy;
+
+    /// An empty status.
+    fn make(memory: Self::Memory, capacity: usize) -> Result<Self, Refusal>;
+
+    /// Makes room for so many pairs or slots in all.
+    fn reserve(&mut self, capacity: usize) -> Result<(), Refusal>;
+
+    /// How many pairs are stored, and for how many more there is room.
+    fn room(&self) -> (usize, usize);
+
+    /// What a tree answers of its nodes.
+    fn shape(&self, call: Call) -> Answer;
+}
+
+impl<A: Allocator + Copy> StatusKind for StatusList<Sloped, i32, i32, A> {
+    type Memory = A;
+
+    fn make(memory: A, capacity: usize) -> Result<Self, Refusal> {
+        StatusList::new(memory, capacity)
+    }
+
+    fn reserve(&mut self, capacity: usize) -> Result<(), Refusal> {
+        self.reserve_capacity(capacity)
+    }
+
+    fn room(&self) -> (usize, usize) {
+        (self.stored(), self.spare())
+    }
+
+    fn shape(&self, _call: Call) -> Answer {
+        Answer::NoCall
+    }
+}
+
+impl<A: Allocator + Copy> StatusKind for StatusTree<Sloped, i32, i32, A> {
+    type Memory = A;
+
+    fn make(memory: A, capacity: usize) -> Result<Self, Refusal> {
+        StatusTree::new(memory, capacity)
+    }
+
+    fn reserve(&mut self, capacity: usize) -> Result<(), Refusal> {
+        self.reserve_capacity(capacity)
+    }
+
+    fn room(&self) -> (usize, usize) {
+        (self.stored(), self.spare())
+    }
+
+    fn shape(&self, call: Call) -> Answer {
+        shape(self.core(), call)
+    }
+}
+
+/// A status, how often its last closure was asked, and how often about what has ended.
+#[derive(Drop)]
+pub struct Statuses<C> {
+    status: C,
+    asked: Cell<usize>,
+    of_ended: Cell<usize>,
+}
+
+// A segment that goes through the height at time 0.
+fn through(number: i32, slope: i32, end: i32) -> Sloped {
+    Sloped {
+        at: i64::from(number),
+        slope: i64::from(slope),
+        end,
+    }
+}
+
+// The value of the pair, or -1 where there is none.
+fn value(pair: Option<(Sloped, i32)>) -> i32 {
+    match pair {
+        Some((_, val)) => val,
+        None => -1,
+    }
+}
+
+// The answer to an insertion that tells the neighbours.
+fn told_between(
+    told: Result<Option<(Option<(Sloped, i32)>, Option<(Sloped, i32)>)>, Refusal>,
+) -> Answer {
+    match told {
+        Ok(Some((before, after))) => Answer::Between(value(before), value(after)),
+        Ok(None) => Answer::Present,
+        Err(cause) => Answer::Refused(cause),
+    }
+}
+
+// How a segment stands to the height that is sought.
+fn stands(sought: Sought, sloped: Sloped) -> Ordering {
+    sloped.height(sought.time).cmp(&sought.height)
+}
+
+// How a segment stands to the height, where it is counted how often it is asked.
+fn asked(asked: &Cell<usize>, of_ended: &Cell<usize>, sought: Sought, sloped: Sloped) -> Ordering {
+    asked.set(asked.get().saturating_add(1));
+    if sloped.end < sought.time {
+        of_ended.set(of_ended.get().saturating_add(1));
+    }
+    stands(sought, sloped)
+}
+
+impl<C: StatusKind> Statuses<C> {
+    fn insert(&mut self, time: i32, sloped: Sloped, val: i32) -> Answer {
+        let height = sloped.height(time);
+        let sought = Sought { time, height };
+        let told = self.status.insert_by(
+            time,
+            |other| asked(&self.asked, &self.of_ended, sought, other),
+            sloped,
+            val,
+        );
+        inserted(told)
+    }
+
+    fn insert_between(&mut self, time: i32, sloped: Sloped, val: i32) -> Answer {
+        let height = sloped.height(time);
+        let sought = Sought { time, height };
+        let told = self.status.insert_between(
+            time,
+            |other| asked(&self.asked, &self.of_ended, sought, other),
+            sloped,
+            val,
+        );
+        told_between(told)
+    }
+
+    fn at_most(&mut self, sought: Sought) -> Answer {
+        Answer::Value(
+            self.status
+                .first_less_or_equal_by(sought.time, -1, |other| {
+                    asked(&self.asked, &self.of_ended, sought, other)
+                }),
+        )
+    }
+
+    fn above(&mut self, sought: Sought) -> Answer {
+        Answer::Value(
+            self.status.first_greater_by(sought.time, -1, |other| {
+                asked(&self.asked, &self.of_ended, sought, other)
+            }),
+        )
+    }
+
+    fn around(&mut self, sought: Sought) -> Answer {
+        let (before, after) = self.status.neighbours_by(sought.time, |other| {
+            asked(&self.asked, &self.of_ended, sought, other)
+        });
+        Answer::Values(value(before), value(after))
+    }
+
+    fn clear(&mut self) -> Answer {
+        self.status.clear();
+        Answer::Done
+    }
+
+    // Makes a call that asks a closure.
+    fn ask(&mut self, call: Call) -> Answer {
+        match call {
+            Call::Insert(number, end, val, time) => self.insert(time, through(number, 0, end), val),
+            Call::InsertSloped(number, slope, end, val, time) => {
+                self.insert(time, through(number, slope, end), val)
+            }
+            Call::InsertNew(number, end, val, time) => {
+                self.insert_between(time, through(number, 0, end), val)
+            }
+            Call::AtMost(time, number) => self.at_most(height_at(time, number)),
+            Call::Above(time, number) => self.above(height_at(time, number)),
+            Call::Around(time, number) => self.around(height_at(time, number)),
+            _ => Answer::NoCall,
+        }
+    }
+}
+
+fn height_at(time: i32, number: i32) -> Sought {
+    Sought {
+        time,
+        height: i64::from(number),
+    }
+}
+
+impl<C: StatusKind> Store for Statuses<C> {
+    type Memory = C::Memory;
+
+    type Reply = StatusReply<Sloped, i32>;
+
+    fn make(memory: C::Memory, capacity: usize) -> Result<Self, Refusal> {
+        Ok(Statuses {
+            status: C::make(memory, capacity)?,
+            asked: Cell::new(0),
+            of_ended: Cell::new(0),
+        })
+    }
+
+    fn room(&self) -> (usize, usize) {
+        self.status.room()
+    }
+
+    fn call(&mut self, call: Call) -> Answer {
+        match call {
+            Call::Clear => self.clear(),
+            Call::Reserve(capacity) => reserved(self.status.reserve(capacity)),
+            Call::Asked => Answer::Number(self.asked.get()),
+            Call::AskedUpTo(most) => whether(self.asked.get() <= most),
+            Call::Root | Call::LeftOf(_) | Call::RightOf(_) => self.status.shape(call),
+            other => {
+                self.asked.set(0);
+                let answer = self.ask(other);
+                if self.of_ended.get() > 0 {
+                    return Answer::AskedExpired;
+                }
+                answer
+            }
+        }
+    }
+
+    fn run(
+        &mut self,
+        steps: &[Step],
+        out: &mut Vec<StatusReply<Sloped, i32>, C::Memory>,
+        alloc: Global,
+    ) -> Option<Result<(), Refusal>> {
+        let mut commands = Vec::new(alloc);
+        for (call, _) in steps {
+            commands.push(command(*call)?).ok()?;
+        }
+        Some(run_commands(&mut self.status, &commands, out))
+    }
+
+    fn told(reply: &StatusReply<Sloped, i32>) -> Answer {
+        match *reply {
+            StatusReply::Inserted => Answer::Joined,
+            StatusReply::Present => Answer::Present,
+            StatusReply::Late => Answer::Late,
+            StatusReply::Refused(cause) => Answer::Refused(cause),
+            StatusReply::Value(val) => Answer::Value(val),
+            StatusReply::Neighbours(before, after) => Answer::Values(value(before), value(after)),
+            StatusReply::Cleared => Answer::Done,
+        }
+    }
+}
+
+// Runs the commands, and appends their replies to `out`.
+fn run_commands<C: StatusCollection<Sloped, i32, i32>, B: Allocator>(
+    status: &mut C,
+    commands: &[Command],
+    out: &mut Vec<StatusReply<Sloped, i32>, B>,
+) -> Result<(), Refusal> {
+    run_status(status, commands, stands, out)
+}
+
+// Stores the segment where it stands at the time.
+fn insertion(key: Sloped, val: i32, time: i32) -> Command {
+    StatusCommand::InsertBy {
+        key,
+        val,
+        time,
+        probe: Sought {
+            time,
+            height: key.height(time),
+        },
+    }
+}
+
+// The call as a command.
+fn command(call: Call) -> Option<Command> {
+    match call {
+        Call::Insert(number, end, val, time) => Some(insertion(through(number, 0, end), val, time)),
+        Call::InsertSloped(number, slope, end, val, time) => {
+            Some(insertion(through(number, slope, end), val, time))
+        }
+        Call::AtMost(time, number) => Some(StatusCommand::LessOrEqualBy {
+            time,
+            default: -1,
+            probe: height_at(time, number),
+        }),
+        Call::Above(time, number) => Some(StatusCommand::GreaterBy {
+            time,
+            default: -1,
+            probe: height_at(time, number),
+        }),
+        Call::Around(time, number) => Some(StatusCommand::NeighboursBy {
+            time,
+            probe: height_at(time, number),
+        }),
+        Call::Clear => Some(StatusCommand::Clear),
+        _ => None,
+    }
+}
