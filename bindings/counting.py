@@ -1,10 +1,12 @@
 """What the tests of the bindings share: commands that are run, and how many of their tests passed."""
 
 import os
+import pathlib
 import re
 import shutil
 import subprocess
 
+TOP = pathlib.Path(__file__).resolve().parent.parent
 COUNTS = re.compile(r"^(\d+) passed, (\d+) failed$", re.M)
 
 _passed, _failed, _left_out = 0, 0, []
@@ -75,8 +77,9 @@ def quoted(python, document, at, **env):
     says."""
     lines = re.search(r"^```python\n(.*?)^```$", document.read_text(encoding="utf-8"), re.M | re.S)
     wanted = "".join(f"{it}\n" for it in re.findall(r"  # (.*)$", lines.group(1), re.M)) if lines else ""
+    what = f"{document.relative_to(TOP)}, its lines of Python"
     if wanted:
-        compare(f"{document.name}, its lines of Python", [python, "-c", lines.group(1)], wanted, at, **env)
+        compare(what, [python, "-c", lines.group(1)], wanted, at, **env)
     else:
-        print(f"{document} has no lines of Python that say what they print")
-        count(document.name, 0, 1)
+        print("none says what it prints")
+        count(what, 0, 1)
