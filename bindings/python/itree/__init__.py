@@ -175,12 +175,12 @@ def _address(numbers):
     return numbers.buffer_info()[0] or ctypes.addressof(_nothing)
 
 
-def _beside(*names):
+def _beside(*names: str) -> str:
     """The path of a file of this package, or of the checkout that it lies in."""
     return os.path.normpath(os.path.join(os.path.dirname(os.path.abspath(__file__)), *names))
 
 
-def _file_of_library():
+def _file_of_library() -> str:
     named = os.environ.get("ITREE_LIBRARY")
     if os.path.exists(_beside("libitree.so")):
         return _beside("libitree.so")
@@ -194,7 +194,7 @@ def _file_of_library():
     return built
 
 
-def _version():
+def _version() -> str:
     packaged = _beside("VERSION")
     path = packaged if os.path.exists(packaged) else _beside("..", "..", "..", "VERSION")
     with open(path, encoding="ascii") as file:
