@@ -1,0 +1,53 @@
+"""Memory that the library reads and writes: room, views, and where they lie."""
+
+from __future__ import annotations
+
+import array
+import ctypes
+import sys
+from types import ModuleType
+from typing import Optional
+
+
+class _Buffer(ctypes.Structure):
+    """Python's Py_buffer."""
+
+    _fields_ = [
+        ("at", ctypes.c_void_p),
+        ("owner", ctypes.c_void_p),
+        ("bytes", ctypes.c_ssize_t),
+        ("itemsize", ctypes.c_ssize_t),
+        ("readonly", ctypes.c_int),
+        ("ndim", ctypes.c_int),
+        ("format", ctypes.c_char_p),
+        ("shape", ctypes.c_void_p),
+        ("strides", ctypes.c_void_p),
+        ("suboffsets", ctypes.c_void_p),
+        ("internal", ctypes.c_void_p),
+    ]
+
+
+ctypes.pythonapi.PyObject_GetBuffer.argtypes = [ctypes.py_object, ctypes.POINTER(_Buffer), ctypes.c_int]
+ctypes.pythonapi.PyBuffer_Release.argtypes = [ctypes.POINTER(_Buffer)]
+ctypes.pythonapi.PyBuffer_Release.restype = None
+
+
+def address_of(view: memoryview) -> int:
+    """Where the memory of a view lies, whose rows lie one behind the other. It stays there as long as the view does."""
+    buffer = _Buffer()
+    # 0 asks for the address alone.
+    ctypes.pythonapi.PyObject_GetBuffer(view, ctypes.byref(buffer), 0)
+    at: int = buffer.at or 0
+    ctypes.pythonapi.PyBuffer_Release(ctypes.byref(buffer))
+    return at
+
+
+def room_for(count: int, typecode: str) -> memoryview:
+    """Room for so many numbers, each of which is 0."""
+    return memoryview(array.array(typecode, [0]) * count)
+
+
+def numpy_where_loaded() -> Optional[ModuleType]:
+    """numpy, where the caller's program has loaded it. It isn't loaded for this package's sake."""
+    numpy = sys.modules.get("numpy")
+    return numpy if hasattr(numpy, "asarray") else None
