@@ -339,7 +339,8 @@ class HeldRows(Reading):
 
     def test_rows_that_can_be_iterated_over(self):
         for rows in WHOLE_EDGES, [list(row) for row in WHOLE_EDGES], [flat([row], "q") for row in WHOLE_EDGES]:
-            for given in rows, tuple(rows), dict.fromkeys(map(tuple, rows)), halves(rows), [*halves(rows[:1]), *rows[1:]]:
+            mixed = [*halves(rows[:1]), *rows[1:]]
+            for given in rows, tuple(rows), dict.fromkeys(map(tuple, rows)), halves(rows), mixed:
                 self.assert_read(given, WHOLE_EDGES)
         self.assert_read([map(int, row) for row in WHOLE_EDGES], WHOLE_EDGES, ways=[without_numpy])
         self.assert_read([(False, True, 7)], [(0, 1, 7)], _rows.SEGMENTS)
@@ -491,7 +492,8 @@ class HeldArrays(Reading):
             with self.subTest(kind=kind), self.assertRaisesRegex(TypeError, "^edges: .*; whole numbers are wanted$"):
                 itree.meetings(numpy.zeros((2, 4), dtype=kind))
         for shape in (), (4, 9), (9, 3), (9, 4, 1), (9, 1, 4), (0, 3):
-            with self.subTest(shape=shape), self.assertRaisesRegex(ValueError, r"^edges: the shape is \(.*\), and \(n, 4\) or"):
+            said = r"^edges: the shape is \(.*\), and \(n, 4\) or \(n, 2, 2\) is wanted$"
+            with self.subTest(shape=shape), self.assertRaisesRegex(ValueError, said):
                 itree.meetings(numpy.zeros(shape, dtype=int))
 
 
@@ -531,6 +533,10 @@ class FaultyRows(unittest.TestCase):
         """The same of a row that stands behind good ones."""
         self.assert_refused(lambda width: [range(width)] * 5 + [row_of(width)], error, f"NAME, row 5: {said}")
 
+    def ends_with(self, typecode, number, width):
+        """Five good rows, and one of a number."""
+        return array.array(typecode, [*range(5 * width), *[number] * width])
+
     def test_lengths(self):
         for more in -1, 1, 5:
             for name, width, call in self.CALLS:
@@ -543,9 +549,10 @@ class FaultyRows(unittest.TestCase):
             itree.meetings([Unsteady()])
 
     def test_places_behind_many_rows(self):
-        for given in [(1, 2)] * 9999 + [(1,)], ((1, 2, 3)[: 1 + (place != 9999)] for place in range(20000)):
+        rows = [(1, 2)] * 9999 + [(1,), (1, 2)]
+        for given in rows, tuple(rows), iter(rows):
             with self.assertRaisesRegex(ValueError, "^points, row 9999: 1 numbers, 2 are wanted$"):
-                itree.locate([], given if isinstance(given, list) else (row[:2] for row in given))
+                itree.locate([], given)
 
     def test_numbers_that_do_not_fit(self):
         for number in 2**31, -(2**31) - 1, 2**64, 2**127:
@@ -553,9 +560,8 @@ class FaultyRows(unittest.TestCase):
         said = "a number of 33220 bits doesn't fit in 32 bits"
         self.assert_fifth_refused(lambda width: [10**10000] * width, OverflowError, said)
         for typecode, number in ("q", 2**31), ("q", -(2**31) - 1), ("I", 2**32 - 1), ("Q", 2**64 - 1):
-            numbers = array.array(typecode, [number])
             said = f"NAME, row 5: {number} doesn't fit in 32 bits"
-            self.assert_refused(lambda width: array.array(typecode, range(5 * width)) + numbers * width, OverflowError, said)
+            self.assert_refused(lambda width: self.ends_with(typecode, number, width), OverflowError, said)
 
     def test_numbers_that_are_not_whole(self):
         hint = "whole numbers are wanted; scale and round, e.g. round(x * 1e7)"
@@ -573,9 +579,8 @@ class FaultyRows(unittest.TestCase):
         for typecode in "fd":
             said = f"NAME: floats; whole numbers are wanted; {hint}"
             self.assert_refused(lambda width: array.array(typecode, range(6 * width)), TypeError, said)
-            numbers = array.array(typecode, [float("nan")])
             said = f"NAME, row 5: nan; whole numbers are wanted: leave such rows out, then {hint}"
-            self.assert_refused(lambda width: array.array(typecode, range(5 * width)) + numbers * width, TypeError, said)
+            self.assert_refused(lambda width: self.ends_with(typecode, float("nan"), width), TypeError, said)
 
     def test_what_are_no_rows(self):
         for row in 7, None, "1234", "ab", 0.5:
@@ -706,9 +711,10 @@ class Owners(unittest.TestCase):
 
     def setUp(self):
         self.library = Handles()
-        patch = mock.patch.object(_answers, "library", self.library)
-        patch.start()
-        self.addCleanup(patch.stop)
+        for name, there in ("library", self.library), ("pairs_that_meet", _answers._pairs_of_the_library):
+            patch = mock.patch.object(_answers, name, there)
+            patch.start()
+            self.addCleanup(patch.stop)
 
     def assert_given_back(self, *counts):
         gc.collect()
@@ -790,6 +796,10 @@ class Package(unittest.TestCase):
     def test_is_written_in_the_oldest_python(self):
         for path in PACKAGE.glob("*.py"):
             ast.parse(path.read_text(encoding="utf-8"), path.name, feature_version=(3, 8))
+
+    def test_leaves_what_is_shared_as_it_was(self):
+        for call in ctypes.pythonapi.PyObject_GetBuffer, ctypes.pythonapi.PyBuffer_Release:
+            self.assertEqual((call.argtypes, call.restype), (None, ctypes.c_int))
 
     def test_each_name_has_its_help(self):
         for name in itree.__all__:

@@ -71,7 +71,7 @@ from typing import Any, Iterator, List, Literal, Optional, Tuple, Union, overloa
 
 from . import _answers, _library
 from ._library import CROSSING, OVERLAP, checked, library
-from ._memory import address_of, room_for
+from ._memory import room_for
 from ._rows import EDGES, POINTS, SEGMENTS, HeldRows, Rows
 
 __all__ = ["Crossing", "Heights", "Overlap", "below", "locate", "meetings"]
@@ -162,16 +162,16 @@ def below(segments: Rows, points: Rows, as_array: bool = False) -> Union[List[Op
     too. What rows raise that are none is told at help(itree).
     """
     with HeldRows(segments, SEGMENTS) as segment_rows, HeldRows(points, POINTS) as point_rows:
-        numbers, overlap = room_for(2 * point_rows.count, "i"), ctypes.c_size_t()
+        numbers, at = room_for(2 * point_rows.count, "i")
+        overlap = ctypes.c_size_t()
         rows = segment_rows.at, segment_rows.count, point_rows.at, point_rows.count
-        room = address_of(numbers), point_rows.count
-        status = library.itree_below(*rows, *room, ctypes.byref(overlap))
+        status = library.itree_below(*rows, at, point_rows.count, ctypes.byref(overlap))
     if status == OVERLAP:
         raise Overlap(overlap.value)
     checked(status)
     if as_array:
-        return Heights(*_answers.heights_of(numbers))
-    return [y if found else None for found, y in _answers.two_by_two(numbers)]
+        return Heights(*_answers.heights_of(memoryview(numbers)))
+    return [y if found else None for found, y in _answers.two_by_two(memoryview(numbers))]
 
 
 @overload
@@ -248,14 +248,13 @@ def locate(edges: Rows, points: Rows, as_array: bool = False) -> Union[List[Opti
     two cross, too. What rows raise that are none is told at help(itree).
     """
     with HeldRows(edges, EDGES) as edge_rows, HeldRows(points, POINTS) as point_rows:
-        numbers = room_for(2 * point_rows.count, "Q")
+        numbers, at = room_for(2 * point_rows.count, "Q")
         first, second = ctypes.c_size_t(), ctypes.c_size_t()
         rows = edge_rows.at, edge_rows.count, point_rows.at, point_rows.count
-        room = address_of(numbers), point_rows.count
-        status = library.itree_locate(*rows, *room, ctypes.byref(first), ctypes.byref(second))
+        status = library.itree_locate(*rows, at, point_rows.count, ctypes.byref(first), ctypes.byref(second))
     if status == CROSSING:
         raise Crossing((first.value, second.value))
     checked(status)
     if as_array:
-        return _answers.places_of(numbers)
-    return [place if found else None for found, place in _answers.two_by_two(numbers)]
+        return _answers.places_of(memoryview(numbers))
+    return [place if found else None for found, place in _answers.two_by_two(memoryview(numbers))]

@@ -9,7 +9,7 @@ import sys
 from typing import Iterator, NamedTuple, Tuple
 
 from ._library import checked, library
-from ._memory import address_of, numpy_where_loaded, room_for
+from ._memory import numpy_where_loaded, room_for
 from ._rows import HeldRows
 
 _MANY_NUMBERS = 1 << 14
@@ -27,7 +27,7 @@ def in_rows_of_two(numbers: memoryview) -> memoryview:
     count = len(numbers) // 2
     if count == 0:
         # A view without numbers takes no shape.
-        return room_for(2, numbers.format).cast("B").cast("Q", (1, 2))[:0]
+        return memoryview(bytearray(16)).cast("Q", (1, 2))[:0]
     return numbers.cast("B").cast("Q", (count, 2))
 
 
@@ -43,9 +43,10 @@ def places_of(numbers: memoryview) -> memoryview:
     numpy = numpy_where_loaded()
     if numpy is None:
         return memoryview(array.array("q", [found + place - 1 for found, place in two_by_two(numbers)]))
-    signed, places = numpy.asarray(numbers).view("int64"), room_for(len(numbers) // 2, "q")
+    signed = numpy.asarray(numbers).view("int64")
+    places, _ = room_for(len(numbers) // 2, "q")
     numpy.subtract(signed[0::2] + signed[1::2], 1, out=numpy.asarray(places))
-    return places
+    return memoryview(places)
 
 
 class Pairs(NamedTuple):
@@ -59,22 +60,17 @@ class Pairs(NamedTuple):
 def numbers_of(pairs: Pairs) -> memoryview:
     """A flat view of the pairs. The owner stays as long as any view of them, or an array over one."""
     if pairs.length == 0:
-        return room_for(0, "Q")
+        return memoryview(array.array("Q"))
     memory = (ctypes.c_char * (16 * pairs.length)).from_address(pairs.at)
     setattr(memory, "owner", pairs.owner)
     return memoryview(memory).cast("B").cast("Q")
 
 
-def pairs_that_meet(edges: HeldRows) -> Pairs:
-    """All pairs of edges that meet."""
-    return _pairs_of_the_library(edges) if hasattr(library, "itree_meetings_all") else _pairs_by_two_calls(edges)
-
-
 class _Owner:
     """Memory of the library, which is given back with its owner."""
 
-    def __init__(self, at: int, count: int) -> None:
-        self._free, self._memory = library.itree_pairs_free, (at, count)
+    def __init__(self, at: int, length: int) -> None:
+        self._free, self._memory = library.itree_pairs_free, (at, length)
 
     def __del__(self) -> None:
         self._free(*self._memory)
@@ -89,9 +85,13 @@ def _pairs_of_the_library(edges: HeldRows) -> Pairs:
 
 def _pairs_by_two_calls(edges: HeldRows) -> Pairs:
     """The second call is made where more pairs are found than there was room for."""
-    count, room = ctypes.c_size_t(edges.count), -1
-    while room < count.value:
-        room = count.value
-        numbers = room_for(2 * room, "Q")
-        checked(library.itree_meetings(edges.at, edges.count, address_of(numbers), room, ctypes.byref(count)))
-    return Pairs(numbers, address_of(numbers), count.value)
+    count, length = ctypes.c_size_t(edges.count), -1
+    while length < count.value:
+        length = count.value
+        room, at = room_for(2 * length, "Q")
+        checked(library.itree_meetings(edges.at, edges.count, at, length, ctypes.byref(count)))
+    return Pairs(room, at, count.value)
+
+
+# All pairs of edges that meet.
+pairs_that_meet = _pairs_of_the_library if hasattr(library, "itree_meetings_all") else _pairs_by_two_calls

@@ -1,4 +1,4 @@
-"""Memory that the library reads and writes: room, views, and where they lie."""
+"""Memory that the library reads and writes, and where it lies."""
 
 from __future__ import annotations
 
@@ -6,7 +6,7 @@ import array
 import ctypes
 import sys
 from types import ModuleType
-from typing import Optional
+from typing import Optional, Tuple
 
 
 class _Buffer(ctypes.Structure):
@@ -27,24 +27,27 @@ class _Buffer(ctypes.Structure):
     ]
 
 
-ctypes.pythonapi.PyObject_GetBuffer.argtypes = [ctypes.py_object, ctypes.POINTER(_Buffer), ctypes.c_int]
-ctypes.pythonapi.PyBuffer_Release.argtypes = [ctypes.POINTER(_Buffer)]
-ctypes.pythonapi.PyBuffer_Release.restype = None
+# Of its own, for what ctypes.pythonapi has is everybody's, and others give it other types.
+_get = ctypes.PYFUNCTYPE(ctypes.c_int, ctypes.py_object, ctypes.POINTER(_Buffer), ctypes.c_int)
+_release = ctypes.PYFUNCTYPE(None, ctypes.POINTER(_Buffer))
+_get_buffer = _get(("PyObject_GetBuffer", ctypes.pythonapi))
+_release_buffer = _release(("PyBuffer_Release", ctypes.pythonapi))
 
 
 def address_of(view: memoryview) -> int:
     """Where the memory of a view lies, whose rows lie one behind the other. It stays there as long as the view does."""
     buffer = _Buffer()
     # 0 asks for the address alone.
-    ctypes.pythonapi.PyObject_GetBuffer(view, ctypes.byref(buffer), 0)
+    _get_buffer(view, ctypes.byref(buffer), 0)
     at: int = buffer.at or 0
-    ctypes.pythonapi.PyBuffer_Release(ctypes.byref(buffer))
+    _release_buffer(ctypes.byref(buffer))
     return at
 
 
-def room_for(count: int, typecode: str) -> memoryview:
-    """Room for so many numbers, each of which is 0."""
-    return memoryview(array.array(typecode, [0]) * count)
+def room_for(count: int, typecode: str) -> Tuple[array.array[int], int]:
+    """Room for so many numbers, each of which is 0, and where it lies."""
+    room = array.array(typecode, [0]) * count
+    return room, room.buffer_info()[0]
 
 
 def numpy_where_loaded() -> Optional[ModuleType]:

@@ -6,13 +6,14 @@ What lies so already is read where it lies. Buffers are copied in bulk, other ro
 from __future__ import annotations
 
 import array
+import contextlib
 import itertools
 import mmap
 import numbers
 import operator
 import re
 import sys
-from typing import TYPE_CHECKING, Any, Iterable, Iterator, List, NamedTuple, NoReturn, Optional, Sequence, Union
+from typing import TYPE_CHECKING, Any, Iterable, Iterator, List, NamedTuple, NoReturn, Optional, Sequence, Tuple, Union
 
 from ._memory import address_of, numpy_where_loaded
 
@@ -63,8 +64,7 @@ class HeldRows:
     """`count` rows from the address `at`. The memory stays as it is until the end of a `with`."""
 
     def __init__(self, given: Rows, kind: Kind) -> None:
-        self._view = _numbers_of(given, kind)
-        self.at = address_of(self._view)
+        self._view, self.at = _numbers_of(given, kind)
         self.count = self._view.nbytes // (4 * kind.width)
 
     def __enter__(self) -> HeldRows:
@@ -74,23 +74,36 @@ class HeldRows:
         self._view.release()
 
 
-def _numbers_of(given: Any, kind: Kind) -> memoryview:
+def _numbers_of(given: Any, kind: Kind) -> Tuple[memoryview, int]:
+    """A view of the numbers, and where they lie as long as it isn't released."""
+    if isinstance(given, (list, tuple)):
+        return _lying(_copied_by_row(given, kind))
     numpy = numpy_where_loaded()
     if numpy is not None and hasattr(given, "__array__"):
         given = numpy.asarray(given)
     view = _view_of(given, kind)
     if view is None:
-        return memoryview(_copied_by_row(given, kind))
+        return _lying(_copied_by_row(given, kind))
     with view:
-        if view.format == "O":
-            return memoryview(_copied_by_row(given, kind))
-        _check_shape(view, kind)
-        if view.nbytes == 0:
-            return memoryview(array.array("i"))
-        typecode = _typecode_of(view, kind)
-        if typecode == "i" and not _is_swapped(view) and view.c_contiguous and address_of(view) % 4 == 0:
-            return memoryview(view)
-        return _by_numpy(given, view) or memoryview(_copied(view, typecode, kind))
+        return _numbers_of_buffer(given, view, kind)
+
+
+def _numbers_of_buffer(given: Any, view: memoryview, kind: Kind) -> Tuple[memoryview, int]:
+    if view.format == "O":
+        return _lying(_copied_by_row(given, kind))
+    _check_shape(view, kind)
+    if view.nbytes == 0:
+        return _lying(array.array("i"))
+    typecode = _typecode_of(view, kind)
+    if typecode == "i" and view.c_contiguous and not _is_swapped(view):
+        at = address_of(view)
+        if at % 4 == 0:
+            return memoryview(view), at
+    return _copied_by_numpy(given, view) or _lying(_copied(view, typecode, kind))
+
+
+def _lying(copied: array.array[int]) -> Tuple[memoryview, int]:
+    return memoryview(copied), copied.buffer_info()[0]
 
 
 def _view_of(given: Any, kind: Kind) -> Optional[memoryview]:
@@ -143,15 +156,16 @@ def _is_swapped(view: memoryview) -> bool:
     return view.format.startswith(_FOREIGN_ORDER)
 
 
-def _by_numpy(given: Any, view: memoryview) -> Optional[memoryview]:
-    """A copy of the numbers, or None where numpy isn't loaded, doesn't know them, or one of them doesn't fit."""
+def _copied_by_numpy(given: Any, view: memoryview) -> Optional[Tuple[memoryview, int]]:
+    """None where numpy isn't loaded, doesn't know the numbers, or one of them doesn't fit."""
     numpy = numpy_where_loaded()
     if numpy is None or view.format[-1] in "nN":
         return None
     whole = numpy.asarray(given)
     if int(whole.min()) < _LEAST or int(whole.max()) > _GREATEST:
         return None
-    return memoryview(whole.astype(numpy.int32, order="C"))
+    copied = memoryview(whole.astype(numpy.int32, order="C"))
+    return copied, address_of(copied)
 
 
 def _copied(view: memoryview, typecode: str, kind: Kind) -> array.array[int]:
@@ -169,29 +183,26 @@ def _copied(view: memoryview, typecode: str, kind: Kind) -> array.array[int]:
 
 
 def _copied_by_row(given: Any, kind: Kind) -> array.array[int]:
-    _check_iterable(given, kind.name, f"rows of {kind.width} numbers")
     copied, first = array.array("i"), 0
-    for rows in _runs(given):
+    for rows in _runs(given, kind):
         _append(copied, rows, first, kind)
         first += len(rows)
     return copied
 
 
-def _runs(given: Iterable[Any]) -> Iterator[Sequence[Any]]:
+def _runs(given: Any, kind: Kind) -> Iterable[Sequence[Any]]:
     """The rows, many at once, so that those that are made as they are asked for never stand there all."""
     if isinstance(given, (list, tuple)):
-        return iter([given])
-    rows = iter(given)
+        return (given,)
+    rows = _iterated(given, kind.name, f"rows of {kind.width} numbers")
     return iter(lambda: list(itertools.islice(rows, _MANY_ROWS)), [])
 
 
 def _append(copied: array.array[int], rows: Sequence[Any], first: int, kind: Kind) -> None:
     """Appends the numbers of rows, the first of which has the place `first`."""
     before = len(copied)
-    try:
+    with contextlib.suppress(OverflowError, TypeError, ValueError):
         copied.extend(_whole(_flat(rows, kind)))
-    except (OverflowError, TypeError, ValueError):
-        pass
     if len(copied) != before + kind.width * len(rows):
         # The rows aren't alike, or one of them is faulty.
         del copied[before:]
@@ -216,8 +227,7 @@ def _whole(given: Iterable[Any]) -> Iterable[Any]:
 
 def _numbers_in(row: Any, where: str, kind: Kind) -> List[int]:
     """The numbers of one row."""
-    _check_iterable(row, where, f"{kind.width} numbers")
-    items = list(row)
+    items = list(_iterated(row, where, f"{kind.width} numbers"))
     if kind.takes_points() and len(items) == 2 and all(hasattr(it, "__len__") for it in items):
         return [number for point in items for number in _numbers_in(point, where, POINTS)]
     if len(items) != kind.width:
@@ -225,13 +235,14 @@ def _numbers_in(row: Any, where: str, kind: Kind) -> List[int]:
     return [_checked(number, where) for number in items]
 
 
-def _check_iterable(given: Any, where: str, wanted: str) -> None:
-    try:
-        good = not isinstance(given, (str, bytes, bytearray)) and iter(given) is not None
-    except TypeError:
-        good = False
-    if not good:
+def _iterated(given: Any, where: str, wanted: str) -> Iterator[Any]:
+    items: Optional[Iterator[Any]] = None
+    if not isinstance(given, (str, bytes, bytearray)):
+        with contextlib.suppress(TypeError):
+            items = iter(given)
+    if items is None:
         raise TypeError(f"{where}: {_type(given)}; {wanted} are wanted")
+    return items
 
 
 def _checked(number: Any, where: str) -> int:
