@@ -59,8 +59,6 @@ class Pairs(NamedTuple):
 
 def numbers_of(pairs: Pairs) -> memoryview:
     """A flat view of the pairs. The owner stays as long as any view of them, or an array over one."""
-    if pairs.length == 0:
-        return memoryview(array.array("Q"))
     memory = (ctypes.c_char * (16 * pairs.length)).from_address(pairs.at)
     setattr(memory, "owner", pairs.owner)
     return memoryview(memory).cast("B").cast("Q")
