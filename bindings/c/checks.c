@@ -1,5 +1,5 @@
-/* What a call from C meets first. The proved calls take slices: pointers that are aligned and not null, also where there
- * are no items. Here a pointer that no items can stand at is told by a status, and null does where there are none.
+/* What a call from C meets first. The proved calls take slices: pointers that are aligned and not null, also where
+ * there are no items. Here a pointer at which no items can stand is told by a status, and null does where there is none.
  *
  * bindings/build gives the proved calls the names that they have here, and keeps those to itself. */
 #include <itree.h>

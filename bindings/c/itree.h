@@ -5,11 +5,11 @@
  * `pkg-config --cflags --libs itree` prints.
  *
  * The caller owns every array. An array is a pointer and how many items it has. Where it has none, the pointer may be
- * anything, as NULL. A pointer is faulty where there is an item and it is NULL or isn't aligned, or where no memory is as
- * large as so many items: then a call returns ITREE_POINTER. Nothing checks the rest: so many items stand there, what is
- * read has values, what is written overlaps nothing else that the call is given, and no other thread writes an array
- * during the call. What is written needs no values before. The library keeps no pointer, has no state, and gives back what
- * it takes from malloc before it returns: so several threads may call it at once.
+ * anything, as NULL. A pointer is faulty where there is an item and it is NULL or isn't aligned, or where no memory is
+ * as large as so many items: then a call returns ITREE_POINTER. Nothing checks the rest: so many items stand there,
+ * what is read has values, what is written overlaps nothing else that the call is given, and no other thread writes an
+ * array during the call. What is written needs no values before. The library keeps no pointer, has no state, and gives
+ * back what it takes from malloc before it returns: so several threads may call it at once.
  *
  * Numbers are 32-bit and whole, in a unit of the caller's: pixels, or millionths of a degree. Places count from 0. */
 #ifndef ITREE_H

@@ -49,8 +49,8 @@ using Edge = ::itree_edge;
 using Pair = ::itree_pair;
 
 /// Items that stand one behind the other in memory and are only read: of a vector, an array, a list in braces, or a
-/// pointer and a length. It owns nothing, so what it is made of has to live as long: a list in braces does as an argument
-/// of a call.
+/// pointer and a length. It owns nothing, so what it is made of has to live as long: a list in braces does as an
+/// argument of a call.
 template <typename T>
 class Span {
 public:

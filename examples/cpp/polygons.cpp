@@ -38,7 +38,8 @@ void print_whether_inside(const Polygon &polygon, const std::vector<itree::Point
     const auto below = itree::locate(sides, points);
     for (std::size_t place = 0; place < points.size(); place++) {
         const bool inside = below[place] && sides[*below[place]].x0 < sides[*below[place]].x1;
-        std::cout << "(" << points[place].x << ", " << points[place].y << ") lies " << (inside ? "inside" : "outside") << "\n";
+        const auto [x, y] = points[place];
+        std::cout << "(" << x << ", " << y << ") lies " << (inside ? "inside" : "outside") << "\n";
     }
 }
 

@@ -2,8 +2,8 @@
 
 usage: python3 coast.py FILE.svg
 
-It reads GSHHG in low resolution (Debian: gmt-gshhg-low, netcdf-bin). There a coastline lies in many edges, of which each
-meets the next one at the end that they share. Two that meet elsewhere are told: the coastlines cross, or touch.
+It reads GSHHG in low resolution (Debian: gmt-gshhg-low, netcdf-bin). There a coastline lies in many edges, of which
+each meets the next one at the end that they share. Two that meet elsewhere are told: the coastlines cross, or touch.
 """
 
 import array

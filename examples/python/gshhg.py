@@ -1,8 +1,8 @@
 """Reads the world's coastlines (GSHHG, as Debian's gmt-gshhg-low and gmt-gshhg-full have them), with whole numbers.
 
-The earth is cut into square bins, in rows from the north. A coastline lies in a bin as a chain of points, each relative
-to the bin's south-west corner, in 65,535ths of the bin's side; a 65,535th is the unit here, too. Debian's netcdf-bin has
-ncdump, which prints the numbers of a file.
+The earth is cut into square bins, in rows from the north. A coastline lies in a bin as a chain of points, each
+relative to the bin's south-west corner, in 65,535ths of the bin's side; a 65,535th is the unit here, too. Debian's
+netcdf-bin has ncdump, which prints the numbers of a file.
 """
 
 import array

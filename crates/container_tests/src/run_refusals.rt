@@ -24,35 +24,39 @@ enum Before {
     Present,
 }
 
-// Each number from 11 on is inserted, then each is looked for, and then each is inserted again.
-fn step(place: i32, count: i32, before: Before) -> Step {
-    let number = (place % count.max(1)).saturating_add(11);
+// In the first part a number is inserted, in the second it is looked for, and in the third it is inserted again.
+fn step(part: i32, number: i32, before: Before) -> Step {
     let is_refused = before == Before::Absent(Some(number));
     let first = match before {
         Before::Absent(_) if is_refused => Answer::Refused(Refusal::OutOfMemory),
         Before::Absent(_) => Answer::Joined,
         Before::Present => Answer::Present,
     };
-    let lower = if number == 11 {
-        8
-    } else {
-        number.saturating_sub(1)
+    let found = match number {
+        11 if is_refused => 8,
+        _ if is_refused => number.saturating_sub(1),
+        _ => number,
     };
-    match place / count.max(1) {
+    match part {
         0 => (Call::Insert(number, 10, number, 0), first),
-        1 => (
-            Call::AtMost(0, number),
-            Answer::Value(if is_refused { lower } else { number }),
-        ),
+        1 => (Call::AtMost(0, number), Answer::Value(found)),
         _ if is_refused => (Call::Insert(number, 10, number, 0), Answer::Joined),
         _ => (Call::Insert(number, 10, number, 0), Answer::Present),
     }
 }
 
+// Adds a part, about so many numbers from 11 on.
+fn add_part(steps: &mut Vec<Step>, part: i32, count: i32, before: Before) -> Option<()> {
+    for number in 11..=count.saturating_add(10) {
+        steps.push(step(part, number, before)).ok()?;
+    }
+    Some(())
+}
+
 fn steps(alloc: Global, count: i32, before: Before) -> Option<Vec<Step>> {
     let mut steps = Vec::new(alloc);
-    for place in 0..count.saturating_mul(3) {
-        steps.push(step(place, count, before)).ok()?;
+    for part in 0..3 {
+        add_part(&mut steps, part, count, before)?;
     }
     Some(steps)
 }
