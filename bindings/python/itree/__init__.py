@@ -113,7 +113,7 @@ class Heights:
     values: the heights, int32; 0 where there is none.
     found: whether there is one, bool.
 
-    It is unpacked as a tuple is: values, found = below(…, as_array=True).
+    It is unpacked as a tuple is: values, found = below(..., as_array=True).
     """
 
     __slots__ = "values", "found"
@@ -159,7 +159,7 @@ def below(segments: Rows, points: Rows, as_array: bool = False) -> Union[List[Op
 
     Raises Overlap where two segments collide: have one height and cover one x.
     Raises MemoryError where memory was refused, which may be where two collide,
-    too. What rows raise that are none is told at help(itree).
+    too. What is raised for faulty rows is told at help(itree).
     """
     with HeldRows(segments, SEGMENTS) as segment_rows, HeldRows(points, POINTS) as point_rows:
         numbers, at = room_for(2 * point_rows.count, "i")
@@ -199,7 +199,7 @@ def meetings(edges: Rows, as_array: bool = False) -> Union[List[Tuple[int, int]]
     >>> meetings(edges, as_array=True).tolist()
     [[0, 1]]
 
-    Raises MemoryError where memory was refused. What rows raise that are none
+    Raises MemoryError where memory was refused. What is raised for faulty rows
     is told at help(itree).
     """
     with HeldRows(edges, EDGES) as rows:
@@ -245,7 +245,7 @@ def locate(edges: Rows, points: Rows, as_array: bool = False) -> Union[List[Opti
     some whole x that both reach, and above it at another. An upright edge
     crosses none, though it goes through another: it is never told, but by
     `meetings`. Raises MemoryError where memory was refused, which may be where
-    two cross, too. What rows raise that are none is told at help(itree).
+    two cross, too. What is raised for faulty rows is told at help(itree).
     """
     with HeldRows(edges, EDGES) as edge_rows, HeldRows(points, POINTS) as point_rows:
         numbers, at = room_for(2 * point_rows.count, "Q")

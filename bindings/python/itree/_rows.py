@@ -19,14 +19,13 @@ from ._memory import address_of, numpy_where_loaded
 
 if TYPE_CHECKING:
     import ctypes
-    from typing import Dict, Protocol, SupportsIndex
+    from typing import Protocol, SupportsIndex
 
     class _HasBuffer(Protocol):
         def __buffer__(self, __flags: int) -> memoryview: ...
 
     class _HasArray(Protocol):
-        @property
-        def __array_interface__(self) -> Dict[str, Any]: ...
+        def __array__(self) -> Any: ...
 
     _Row = Union[Iterable[SupportsIndex], Iterable[Iterable[SupportsIndex]]]
     Rows = Union[Iterable[_Row], memoryview, array.array[int], ctypes.Array[Any], _HasBuffer, _HasArray]
