@@ -1,21 +1,44 @@
-"""The calls from Python beside a plain model, at faults, over buffers, and with each request for memory refused in
-turn.
+"""The calls from Python beside a plain model, at faults, over each kind of rows, and with each request for memory
+refused in turn.
 
-bindings/test runs it over a library that refuses memory when it is told to (ITREE_LIBRARY).
+bindings/test runs it over a library that refuses memory when it is told to (ITREE_LIBRARY). What needs numpy or mypy is
+skipped where they aren't there.
 """
 
 import array
+import ast
+import contextlib
+import copy
 import ctypes
+import ctypes.util
+import decimal
 import doctest
 import fractions
+import gc
 import itertools
+import mmap
 import os
+import pathlib
+import pickle
 import random
+import re
+import shutil
+import subprocess
+import sys
+import tempfile
 import threading
 import unittest
+from unittest import mock
 
 import itree
+from itree import _answers, _library, _memory, _rows
 
+try:
+    import numpy
+except ImportError:
+    numpy = None
+
+PACKAGE = pathlib.Path(itree.__file__).parent
 WORKED = [(0, 10, 5), (2, 6, 8)], [(6, 7), (2, 9), (11, 9)], [5, 8, None]
 
 
@@ -259,61 +282,580 @@ class Locate(unittest.TestCase):
         self.assertGreater(requests, 3)
 
 
-class Rows(unittest.TestCase):
-    def flat(self, rows):
-        return array.array("i", [number for row in rows for number in row])
+@contextlib.contextmanager
+def without_numpy():
+    """As if the program hadn't loaded numpy."""
+    with mock.patch.object(_rows, "numpy_where_loaded", lambda: None):
+        with mock.patch.object(_answers, "numpy_where_loaded", lambda: None):
+            yield
 
-    def test_takes_buffers(self):
-        segments, points, wanted = WORKED
-        self.assertEqual(itree.below(self.flat(segments), self.flat(points)), wanted)
-        by_row = memoryview(self.flat(points).tobytes()).cast("i", (3, 2))
-        self.assertEqual(itree.below(self.flat(segments), by_row), wanted)
-        row_type, numbers = ctypes.c_int32 * 2, self.flat(points)
-        self.assertEqual(itree.below(segments, (row_type * 3).from_buffer(numbers)), wanted)
 
-    def test_takes_other_numbers_by_their_values(self):
-        segments, points, wanted = WORKED
-        self.assertEqual(itree.below([list(row) for row in segments], (row for row in points)), wanted)
-        self.assertEqual(itree.below([array.array("q", row) for row in segments], points), wanted)
-        self.assertEqual(itree.below([(False, True, 7)], [(True, 9)]), [7])
+WAYS = [without_numpy, contextlib.nullcontext] if numpy else [without_numpy]
+needs_numpy = unittest.skipUnless(numpy, "numpy isn't there")
+EDGES = [(0, 0, 9, 9), (0, 9, 9, 0), (20, 0, 21, 0), (5, 1, 7, 127)]
+WHOLE_EDGES = [*EDGES, (-(2**31), 2**31 - 1, -1, -128)]
 
-    def test_takes_numpy(self):
-        try:
-            import numpy
-        except ImportError:
-            self.skipTest("numpy isn't there")
-        segments, points, wanted = WORKED
-        for kind in numpy.int32, numpy.int64:
-            rows = numpy.array(points, dtype=kind)
-            self.assertEqual(itree.below(numpy.array(segments, dtype=kind), rows), wanted)
-            every_second = numpy.array([*rows, *rows], dtype=kind)[::2]
-            self.assertEqual(itree.below(segments, every_second), [wanted[0], wanted[2], wanted[1]])
+
+def flat(rows, typecode="i"):
+    return array.array(typecode, [number for row in rows for number in row])
+
+
+def shaped(rows, *shape, typecode="i"):
+    return memoryview(flat(rows, typecode)).cast("B").cast(typecode, shape)
+
+
+def moved(rows, offset):
+    """The numbers of rows in a flat buffer, so many bytes behind an address that is a multiple of four."""
+    return memoryview(bytearray(offset) + flat(rows).tobytes())[offset:].cast("i")
+
+
+def of_ctypes(rows, number):
+    row_type = number * len(rows[0])
+    return (row_type * len(rows))(*[row_type(*row) for row in rows])
+
+
+def halves(rows):
+    return [(row[:2], row[2:]) for row in rows]
+
+
+class Unsteady:
+    """A row that says another length than it has."""
+
+    def __init__(self, items):
+        self.items = items
+
+    def __len__(self):
+        return 4
+
+    def __iter__(self):
+        return iter(self.items)
+
+
+class Reading(unittest.TestCase):
+    def assert_read(self, given, rows, kind=_rows.EDGES, ways=WAYS):
+        for way in ways:
+            with self.subTest(given=given, way=way.__name__), way(), _rows.HeldRows(given, kind) as held:
+                self.assertEqual(held.count, len(rows))
+                if rows:
+                    self.assertEqual(held.at % 4, 0)
+                    there = (ctypes.c_int32 * (len(rows) * kind.width)).from_address(held.at)
+                    self.assertEqual(list(there), list(flat(rows)))
+
+    def assert_read_where_it_lies(self, given, rows, at):
+        self.assert_read(given, rows)
+        with _rows.HeldRows(given, _rows.EDGES) as held:
+            self.assertEqual(held.at, at)
+
+
+class HeldRows(Reading):
+    """Each kind of rows is read as the same rows as a list are."""
+
+    def test_rows_that_can_be_iterated_over(self):
+        for rows in WHOLE_EDGES, [list(row) for row in WHOLE_EDGES], [flat([row], "q") for row in WHOLE_EDGES]:
+            mixed = [*halves(rows[:1]), *rows[1:]]
+            for given in rows, tuple(rows), dict.fromkeys(map(tuple, rows)), halves(rows), mixed:
+                self.assert_read(given, WHOLE_EDGES)
+        self.assert_read([map(int, row) for row in WHOLE_EDGES], WHOLE_EDGES, ways=[without_numpy])
+        self.assert_read([WHOLE_EDGES[0], Unsteady(halves(WHOLE_EDGES)[1])], WHOLE_EDGES[:2])
+        self.assert_read([(False, True, 7)], [(0, 1, 7)], _rows.SEGMENTS)
+        for kind in _rows.EDGES, _rows.SEGMENTS, _rows.POINTS:
+            for given in [], (), iter([]), {}:
+                self.assert_read(given, [], kind)
+
+    def test_rows_that_are_made_as_they_are_asked_for(self):
+        rows = [(place, 1, 2, 3) for place in range(10000)]
+        for given in rows, halves(rows), [*rows[:5000], *halves(rows[5000:])]:
+            self.assert_read((row for row in given), rows, ways=[without_numpy])
+
+    def test_what_a_generator_raises_comes_through(self):
+        def rows():
+            yield 1, 2, 3, 4
+            raise LookupError("of the caller's")
+
+        with self.assertRaisesRegex(LookupError, "of the caller's"):
+            itree.meetings(rows())
+
+    def test_buffers_of_each_width(self):
+        for typecode in "bBhHiIlLqQ":
+            self.assert_read(flat(EDGES, typecode), EDGES)
+            self.assert_read(shaped(EDGES, 4, 4, typecode=typecode), EDGES)
+            self.assert_read(shaped(EDGES, 4, 2, 2, typecode=typecode), EDGES)
+            self.assert_read(flat([], typecode), [])
+        for typecode in "ilq":
+            self.assert_read(flat(WHOLE_EDGES, typecode), WHOLE_EDGES)
+        for typecode in "nN":
+            self.assert_read(memoryview(flat(EDGES, "q")).cast("B").cast(typecode, (4, 4)), EDGES)
+        self.assert_read(memoryview(bytes([0, 1, 1])).cast("?"), [(0, 1, 1)], _rows.SEGMENTS)
+
+    def test_buffers_of_either_order(self):
+        for number in ctypes.c_int16, ctypes.c_int32, ctypes.c_int64, ctypes.c_uint32, ctypes.c_uint64:
+            for ordered in number.__ctype_be__, number.__ctype_le__:
+                self.assert_read(of_ctypes(EDGES, ordered), EDGES)
+
+    def test_buffers_whose_numbers_lie_apart(self):
+        for typecode in "iq":
+            self.assert_read(shaped(WHOLE_EDGES, 5, 4, typecode=typecode)[::2], WHOLE_EDGES[::2])
+            self.assert_read(shaped(WHOLE_EDGES, 5, 4, typecode=typecode)[::-1], WHOLE_EDGES[::-1])
+            self.assert_read(memoryview(flat(WHOLE_EDGES, typecode))[::-1], [row[::-1] for row in WHOLE_EDGES[::-1]])
+
+    def test_buffers_that_are_read_where_they_lie(self):
+        numbers = flat(WHOLE_EDGES)
+        at = numbers.buffer_info()[0]
+        self.assert_read_where_it_lies(numbers, WHOLE_EDGES, at)
+        for shape in (5, 4), (5, 2, 2):
+            view = memoryview(numbers).cast("B").cast("i", shape)
+            self.assert_read_where_it_lies(view, WHOLE_EDGES, at)
+            self.assert_read_where_it_lies(view[1:].toreadonly(), WHOLE_EDGES[1:], at + 16)
+        view = moved(EDGES, 4)
+        self.assert_read_where_it_lies(view, EDGES, _memory.address_of(view))
+
+    def test_addresses_that_are_no_multiple_of_four(self):
+        for offset in range(1, 8):
+            self.assert_read(moved(EDGES, offset), EDGES)
+            self.assertEqual(itree.meetings(moved(EDGES, offset)), itree.meetings(EDGES))
 
     def test_a_buffer_is_free_again(self):
-        segments = self.flat(WORKED[0])
+        segments = flat(WORKED[0])
         itree.below(segments, [])
         segments.append(1)
-        with self.assertRaises(ValueError):
+        try:
             itree.below(segments, [])
-        segments.append(2)
+        except ValueError:
+            segments.append(2)
+        segments.append(2**31 - 1)
+        try:
+            itree.below(segments, [(0.5, 1)])
+        except TypeError:
+            segments.append(3)
+        self.assertEqual(len(segments), 10)
 
-    def test_numbers_out_of_range(self):
-        for row in (2**31, 0, 0), (0, -(2**31) - 1, 0), (0, 0, 2**64):
-            with self.assertRaises(OverflowError):
-                itree.below([row], [])
-        self.assertEqual(itree.below([(-(2**31), 2**31 - 1, -(2**31))], [(2**31 - 1, 2**31 - 1)]), [-(2**31)])
+
+@needs_numpy
+class HeldArrays(Reading):
+    """The same, of numpy's arrays."""
+
+    def test_arrays_of_each_type(self):
+        whole = numpy.array(EDGES)
+        for kind in "bhilqBHILQ":
+            for order in "<>":
+                self.assert_read(whole.astype(numpy.dtype(kind).newbyteorder(order)), EDGES)
+        self.assert_read(numpy.array(WHOLE_EDGES), WHOLE_EDGES)
+        self.assert_read(numpy.array(WHOLE_EDGES, dtype=object), WHOLE_EDGES)
+        self.assert_read(numpy.array([[True, False]]), [(1, 0)], _rows.POINTS)
+
+    def test_arrays_of_each_order_and_slice(self):
+        for kind in "iq":
+            rows = numpy.array(WHOLE_EDGES, dtype=kind)
+            wide = numpy.zeros((5, 9), dtype=kind)
+            wide[:, 1::2] = rows
+            for given in rows, numpy.asfortranarray(rows), wide[:, 1::2], rows.reshape(5, 2, 2), rows.ravel():
+                self.assert_read(given, WHOLE_EDGES)
+            self.assert_read(rows.T.copy().T[::-2], WHOLE_EDGES[::-2])
+            self.assert_read(rows[:, ::-1], [row[::-1] for row in WHOLE_EDGES])
+            self.assert_read(numpy.broadcast_to(rows[:1], (3, 4)), [WHOLE_EDGES[0]] * 3)
+
+    def test_arrays_that_are_read_where_they_lie(self):
+        rows = numpy.array(WHOLE_EDGES, dtype="i")
+        self.assert_read_where_it_lies(rows, WHOLE_EDGES, rows.ctypes.data)
+        rows.flags.writeable = False
+        self.assert_read_where_it_lies(rows[1:], WHOLE_EDGES[1:], rows.ctypes.data + 16)
+
+    def test_arrays_that_are_not_aligned(self):
+        packed = numpy.zeros(4, dtype=[("kind", "i1"), ("edge", "i4", 4)])
+        packed["edge"] = EDGES
+        self.assert_read(packed["edge"], EDGES)
+        self.assert_read(numpy.frombuffer(b"0" + numpy.array(EDGES, dtype="i").tobytes(), "i", offset=1), EDGES)
+
+    def test_arrays_without_rows(self):
+        for given in numpy.array([]), numpy.zeros((0, 4)), numpy.zeros((0, 2, 2), dtype=int):
+            self.assert_read(given, [])
+
+    def test_rows_that_are_arrays(self):
+        self.assert_read(list(numpy.array(WHOLE_EDGES)), WHOLE_EDGES)
+        self.assert_read(list(numpy.array(WHOLE_EDGES).reshape(5, 2, 2)), WHOLE_EDGES)
+
+    def test_what_numpy_makes_arrays_of(self):
+        class Table:
+            def __array__(self, dtype=None, copy=None):
+                return numpy.array(EDGES)
+
+        self.assert_read(Table(), EDGES, ways=[contextlib.nullcontext])
+
+    def test_numbers_that_do_not_fit(self):
+        for kind, number in ("q", 2**31), ("q", -(2**31) - 1), ("I", 2**31), ("Q", 2**64 - 1), ("O", 10**30):
+            rows = numpy.zeros((9, 4), dtype=kind)
+            rows[5, 2] = number
+            for given in rows, rows.reshape(9, 2, 2), numpy.asfortranarray(rows):
+                with self.assertRaisesRegex(OverflowError, f"^edges, row 5: {number} doesn't fit in 32 bits$"):
+                    itree.meetings(given)
+
+    def test_floats(self):
+        hint = re.escape("whole numbers are wanted; scale and round, e.g. (xy * 1e7).round().astype('int32')")
+        for kind in "efdg":
+            with self.assertRaisesRegex(TypeError, f"^edges: floats; {hint}$"):
+                itree.meetings(numpy.ones((2, 4), dtype=kind))
+        for kind in "<f", ">f", "<d", ">d":
+            rows = numpy.ones((9, 4), dtype=kind)
+            rows[5, 3] = numpy.nan
+            for given in rows, numpy.asfortranarray(rows):
+                with self.assertRaisesRegex(TypeError, "^edges, row 5: nan; whole numbers are wanted: leave such rows"):
+                    itree.meetings(given)
 
     def test_what_are_no_rows(self):
-        for rows in [(1, 2)], [(1, 2, 3, 4)], array.array("i", [1, 2]), memoryview(bytes(16)).cast("i", (2, 2)):
-            with self.assertRaises(ValueError):
-                itree.below(rows, [])
-        for rows in [1, 2, 3], b"123", "123", [(0.5, 1, 1)], 7, None, array.array("q", [1, 2, 3]), [("1", "2", "3")]:
-            with self.assertRaises(TypeError):
-                itree.below(rows, [])
+        for kind in "M8[s]", "m8[s]", "U3", "S3", "c16", [("x", "i4")]:
+            with self.subTest(kind=kind), self.assertRaisesRegex(TypeError, "^edges: .*; whole numbers are wanted$"):
+                itree.meetings(numpy.zeros((2, 4), dtype=kind))
+        for shape in (), (4, 9), (9, 3), (9, 4, 1), (9, 1, 4), (0, 3):
+            said = r"^edges: the shape is \(.*\), and \(n, 4\) or \(n, 2, 2\) is wanted$"
+            with self.subTest(shape=shape), self.assertRaisesRegex(ValueError, said):
+                itree.meetings(numpy.zeros(shape, dtype=int))
+
+
+class FaultyRows(unittest.TestCase):
+    """What is no row is told in each argument, with its place."""
+
+    CALLS = [
+        ("edges", 4, itree.meetings),
+        ("edges", 4, lambda given: itree.locate(given, [])),
+        ("points", 2, lambda given: itree.locate([], given)),
+        ("segments", 3, lambda given: itree.below(given, [])),
+        ("points", 2, lambda given: itree.below([], given)),
+    ]
+
+    def assert_refused(self, given_of, error, said):
+        """Each call refuses what `given_of` makes for the length of a row, and says what `said` does."""
+        for name, width, call in self.CALLS:
+            for way in WAYS:
+                with self.subTest(said=said, name=name, way=way.__name__), way():
+                    with self.assertRaises(error) as raised:
+                        call(given_of(width))
+                    wanted = said.replace("NAME", name).replace("WIDTH", str(width))
+                    self.assertEqual(type(raised.exception), error)
+                    self.assertEqual(str(raised.exception), wanted)
+
+    def assert_fifth_refused(self, row_of, error, said):
+        """The same of a row that stands behind good ones."""
+        self.assert_refused(lambda width: [range(width)] * 5 + [row_of(width)], error, f"NAME, row 5: {said}")
+
+    def ends_with(self, typecode, number, width):
+        """Five good rows, and one of a number."""
+        return array.array(typecode, [*range(5 * width), *[number] * width])
+
+    def test_lengths(self):
+        for more in -1, 1, 5:
+            for name, width, call in self.CALLS:
+                with self.assertRaisesRegex(ValueError, f"^{name}, row 5: {width + more} numbers, {width} are wanted$"):
+                    call([range(width)] * 5 + [range(width + more)])
+        self.assert_fifth_refused(lambda width: (), ValueError, "0 numbers, WIDTH are wanted")
+        for row in ((1, 2), (3, 4, 5)), ((1, 2, 3), (4,)):
+            with self.assertRaisesRegex(ValueError, "^edges, row 1: 3 numbers, 2 are wanted$"):
+                itree.meetings([((1, 2), (3, 4)), row])
+        with self.assertRaisesRegex(ValueError, "^edges, row 0: 3 numbers, 4 are wanted$"):
+            itree.meetings([Unsteady((1, 2, 3))])
+
+    def test_places_behind_many_rows(self):
+        rows = [(1, 2)] * 9999 + [(1,), (1, 2)]
+        for given in rows, tuple(rows), iter(rows):
+            with self.assertRaisesRegex(ValueError, "^points, row 9999: 1 numbers, 2 are wanted$"):
+                itree.locate([], given)
+
+    def test_numbers_that_do_not_fit(self):
+        for number in 2**31, -(2**31) - 1, 2**64, 2**127:
+            self.assert_fifth_refused(lambda width: [number] * width, OverflowError, f"{number} doesn't fit in 32 bits")
+        said = "a number of 33220 bits doesn't fit in 32 bits"
+        self.assert_fifth_refused(lambda width: [10**10000] * width, OverflowError, said)
+        for typecode, number in ("q", 2**31), ("q", -(2**31) - 1), ("I", 2**32 - 1), ("Q", 2**64 - 1):
+            said = f"NAME, row 5: {number} doesn't fit in 32 bits"
+            self.assert_refused(lambda width: self.ends_with(typecode, number, width), OverflowError, said)
+
+    def test_numbers_that_are_not_whole(self):
+        hint = "whole numbers are wanted; scale and round, e.g. round(x * 1e7)"
+        for number in 0.5, 3.0, float("inf"), decimal.Decimal("0.5"), fractions.Fraction(1, 2), 1j:
+            self.assert_fifth_refused(lambda width: [0] * (width - 1) + [number], TypeError, f"{number}; {hint}")
+        hint = "whole numbers are wanted: leave such rows out, then scale and round, e.g. round(x * 1e7)"
+        for number in float("nan"), decimal.Decimal("nan"):
+            self.assert_fifth_refused(lambda width: [0] * (width - 1) + [number], TypeError, f"{number}; {hint}")
+        for number in "1", None, b"1", [1], object:
+            said = f"{type(number).__name__}; whole numbers are wanted"
+            self.assert_fifth_refused(lambda width: [0] * (width - 1) + [number], TypeError, said)
+
+    def test_floats_in_buffers(self):
+        hint = "scale and round, e.g. (xy * 1e7).round().astype('int32')"
+        for typecode in "fd":
+            said = f"NAME: floats; whole numbers are wanted; {hint}"
+            self.assert_refused(lambda width: array.array(typecode, range(6 * width)), TypeError, said)
+            said = f"NAME, row 5: nan; whole numbers are wanted: leave such rows out, then {hint}"
+            self.assert_refused(lambda width: self.ends_with(typecode, float("nan"), width), TypeError, said)
+
+    def test_what_are_no_rows(self):
+        for row in 7, None, "1234", "ab", 0.5:
+            self.assert_fifth_refused(lambda width: row, TypeError, f"{type(row).__name__}; WIDTH numbers are wanted")
+        for given in 7, None, "1234", object, 0.5:
+            said = f"NAME: {type(given).__name__}; rows of WIDTH numbers are wanted"
+            self.assert_refused(lambda width: given, TypeError, said)
+        said = "NAME: bytes; say what numbers they are, e.g. memoryview(NAME).cast('i')"
+        for given in b"123412341234", bytearray(12), memoryview(b"123412341234"), mmap.mmap(-1, 12):
+            self.assert_refused(lambda width: given, TypeError, said)
+
+    def test_shapes(self):
+        said = "NAME: 25 numbers in a flat buffer, and rows of WIDTH are wanted"
+        for typecode in "iq":
+            self.assert_refused(lambda width: array.array(typecode, range(25)), ValueError, said)
+        for shape in (2, 5), (1, 10), (5, 1, 2):
+            for typecode in "iq":
+                numbers = shaped([range(10)], *shape, typecode=typecode)
+                for name, width, call in self.CALLS:
+                    with self.assertRaises(ValueError) as raised:
+                        call(numbers)
+                    wanted = f"{name}: the shape is {shape}, and (n, {width}){' or (n, 2, 2)' * (width == 4)} is wanted"
+                    self.assertEqual(str(raised.exception), wanted)
+
+    def test_formats(self):
+        class Corner(ctypes.Structure):
+            _fields_ = [("x", ctypes.c_int32)]
+
+        for number in Corner, ctypes.c_void_p, ctypes.c_char:
+            said = f"NAME: numbers of the format {memoryview((number * 12)()).format!r}; whole numbers are wanted"
+            self.assert_refused(lambda width: (number * 12)(), TypeError, said)
+
+    def test_released_views(self):
+        view = memoryview(flat(EDGES))
+        view.release()
+        with self.assertRaisesRegex(TypeError, "^edges: operation forbidden on released memoryview object; "):
+            itree.meetings(view)
+
+
+class Arrays(unittest.TestCase):
+    """Answers as arrays are the answers as lists."""
+
+    def assert_same(self, one, other):
+        # Of lists that are as long as these, unittest takes minutes to say where they differ.
+        self.assertTrue(one == other)
+
+    def test_places(self):
+        numbers = random.Random(32)
+        edges = [(x, y, x + 3, y + 1) for x in range(0, 60, 3) for y in range(0, 20, 2)]
+        points = [(numbers.randrange(-9, 69), numbers.randrange(-9, 29)) for _ in range(40000)]
+        wanted = [-1 if place is None else place for place in itree.locate(edges, points)]
+        self.assertTrue(4000 < wanted.count(-1) < 36000)
+        for way in WAYS:
+            with way():
+                places = itree.locate(edges, points, as_array=True)
+            self.assertEqual((places.format, places.shape), ("q", (40000,)))
+            self.assert_same(places.tolist(), wanted)
+            self.assertEqual(itree.locate(edges, [], True).tolist(), [])
+            self.assertEqual(itree.locate([], [(1, 2)], True).tolist(), [-1])
+
+    def test_heights(self):
+        numbers = random.Random(33)
+        segments = [(3 * x, 3 * x + 2, y - 40) for x in range(20) for y in range(0, 80, 7)]
+        points = [(numbers.randrange(-9, 69), numbers.randrange(-60, 60)) for _ in range(40000)]
+        wanted = itree.below(segments, points)
+        values, found = itree.below(segments, points, as_array=True)
+        self.assertTrue(4000 < wanted.count(None) < 36000)
+        self.assertEqual((values.format, values.shape, found.format, found.shape), ("i", (40000,), "?", (40000,)))
+        self.assert_same(found.tolist(), [height is not None for height in wanted])
+        self.assert_same(values.tolist(), [height or 0 for height in wanted])
+        heights = itree.below([(0, 9, -(2**31)), (0, 9, 2**31 - 1)], [(1, 0), (1, 2**31 - 1), (10, 0)], True)
+        self.assertEqual(heights.values.tolist(), [-(2**31), 2**31 - 1, 0])
+        self.assertEqual(heights.found.tolist(), [True, True, False])
+        for points in [], array.array("q"):
+            self.assertEqual([it.tolist() for it in itree.below(segments, points, as_array=True)], [[], []])
+
+    def test_pairs(self):
+        edges = [(0, place, 400, 400 - place) for place in range(401)]
+        for given, count in (edges, 80200), (EDGES, 3), (EDGES[2:3], 0), ([], 0):
+            pairs = itree.meetings(given, as_array=True)
+            self.assertEqual((pairs.format, pairs.shape, len(pairs)), ("Q", (count, 2), count))
+            self.assert_same(list(map(tuple, pairs.tolist())), itree.meetings(given))
+            self.assertFalse(pairs.readonly)
+
+    def test_faults(self):
+        with self.assertRaises(itree.Overlap):
+            itree.below([(0, 9, 1), (8, 9, 1)], [], as_array=True)
+        with self.assertRaises(itree.Crossing):
+            itree.locate(EDGES, [], as_array=True)
+
+    @needs_numpy
+    def test_numpy_takes_them_without_a_copy(self):
+        edges, points = numpy.array(EDGES), numpy.array([(0, 0), (20, 9), (90, 9)])
+        for view, kind, shape in (
+            (itree.meetings(edges, as_array=True), "uint64", (3, 2)),
+            (itree.meetings(edges[:1], as_array=True), "uint64", (0, 2)),
+            (itree.locate(edges[1:3], points, as_array=True), "int64", (3,)),
+            (itree.below([], points, as_array=True).values, "int32", (3,)),
+            (itree.below([], points, as_array=True).found, "bool", (3,)),
+        ):
+            taken = numpy.asarray(view)
+            self.assertEqual((taken.dtype, taken.shape), (kind, shape))
+            if taken.size:
+                taken[:1] = 1
+                self.assertEqual(view.tolist(), taken.tolist())
+                self.assertTrue(numpy.shares_memory(taken, numpy.asarray(view)))
+
+
+class Handles:
+    """A library that keeps the pairs until they are given back."""
+
+    def __init__(self):
+        self.kept, self.given_back, self.status = {}, [], 0
+
+    def itree_meetings_all(self, edges, edge_count, pairs, count):
+        if self.status:
+            return self.status
+        total = ctypes.c_size_t()
+        _library.library.itree_meetings(edges, edge_count, None, 0, ctypes.byref(total))
+        room = (ctypes.c_size_t * (2 * total.value))()
+        _library.library.itree_meetings(edges, edge_count, room, total.value, ctypes.byref(total))
+        pairs._obj.value, count._obj.value = ctypes.addressof(room), total.value
+        self.kept[pairs._obj.value] = room
+        return 0
+
+    def itree_pairs_free(self, pairs, count):
+        self.given_back.append(count)
+        ctypes.memset(self.kept.pop(pairs), 255, 16 * count)
+
+
+class Owners(unittest.TestCase):
+    """Pairs that the library keeps are given back when nobody sees them any more."""
+
+    def setUp(self):
+        self.library = Handles()
+        for name, there in ("library", self.library), ("pairs_that_meet", _answers._pairs_of_the_library):
+            patch = mock.patch.object(_answers, name, there)
+            patch.start()
+            self.addCleanup(patch.stop)
+
+    def assert_given_back(self, *counts):
+        gc.collect()
+        self.assertEqual((self.library.kept, self.library.given_back), ({}, list(counts)))
+
+    def test_lists(self):
+        self.assertEqual(sorted(itree.meetings(EDGES)), [(0, 1), (0, 3), (1, 3)])
+        self.assert_given_back(3)
+        self.assertEqual(itree.meetings([]), [])
+        self.assert_given_back(3, 0)
+
+    def test_views(self):
+        view = itree.meetings(EDGES, as_array=True)
+        last, wanted = view[-1:], view.tolist()[-1:]
+        del view
+        gc.collect()
+        self.assertEqual((last.tolist(), self.library.given_back), (wanted, []))
+        del last
+        self.assert_given_back(3)
+
+    @needs_numpy
+    def test_arrays(self):
+        wanted = itree.meetings(EDGES, as_array=True).tolist()
+        taken = numpy.asarray(itree.meetings(EDGES, as_array=True))[:, 1][::-1]
+        gc.collect()
+        self.assertEqual(taken.tolist(), [pair[1] for pair in wanted[::-1]])
+        del taken
+        self.assert_given_back(3, 3)
+
+    def test_raises_memory_error(self):
+        self.library.status = _library.REFUSED
+        with self.assertRaises(MemoryError):
+            itree.meetings(EDGES)
+        self.assert_given_back()
+
+
+class Exceptions(unittest.TestCase):
+    def copies(self, fault):
+        pickles = [pickle.loads(pickle.dumps(fault, version)) for version in range(pickle.HIGHEST_PROTOCOL + 1)]
+        return [*pickles, copy.copy(fault), copy.deepcopy(fault)]
+
+    def test_copies(self):
+        with self.assertRaises(itree.Overlap) as overlap:
+            itree.below([(0, 9, 1), (8, 9, 1)], [])
+        with self.assertRaises(itree.Crossing) as crossing:
+            itree.locate(EDGES, [])
+        for fault in overlap.exception, crossing.exception:
+            fault.file = "a.txt"
+            for it in self.copies(fault):
+                self.assertEqual((type(it), str(it), vars(it)), (type(fault), str(fault), vars(fault)))
+
+    def test_statuses_without_a_reason(self):
+        with self.assertRaisesRegex(SystemError, "status 4"):
+            _library.checked(4)
+
+
+class Library(unittest.TestCase):
+    def imported(self, library):
+        """What Python says that imports the package, with a name of the library."""
+        env = {**os.environ, "PYTHONPATH": str(PACKAGE.parent), "ITREE_LIBRARY": library}
+        how = {"stdout": subprocess.PIPE, "stderr": subprocess.STDOUT, "text": True}
+        return subprocess.run([sys.executable, "-c", "import itree; print('good')"], env=env, **how).stdout
+
+    def test_names_that_lead_nowhere(self):
+        self.assertIn("ImportError: /no/where.so isn't there, which ITREE_LIBRARY names", self.imported("/no/where.so"))
+        said = "which ITREE_LIBRARY names, isn't itree's library: "
+        with tempfile.TemporaryDirectory() as folder:
+            self.assertIn(f"ImportError: {folder}, {said}", self.imported(folder))
+        here = os.path.abspath(__file__)
+        self.assertIn(f"ImportError: {here}, {said}", self.imported(here))
+        self.assertRegex(self.imported(ctypes.util.find_library("c") or "libc.so.6"), "ITREE_LIBRARY names")
+
+    def test_names_that_lead_there(self):
+        self.assertEqual(self.imported(os.environ["ITREE_LIBRARY"]), "good\n")
+        self.assertEqual(self.imported(os.path.relpath(os.environ["ITREE_LIBRARY"])), "good\n")
+
+
+class Package(unittest.TestCase):
+    def test_is_written_in_the_oldest_python(self):
+        for path in PACKAGE.glob("*.py"):
+            ast.parse(path.read_text(encoding="utf-8"), path.name, feature_version=(3, 8))
+
+    def test_leaves_what_is_shared_as_it_was(self):
+        for call in ctypes.pythonapi.PyObject_GetBuffer, ctypes.pythonapi.PyBuffer_Release:
+            self.assertEqual((call.argtypes, call.restype), (None, ctypes.c_int))
+
+    def test_each_name_has_its_help(self):
+        for name in itree.__all__:
+            self.assertTrue(getattr(itree, name).__doc__, name)
+
+    @unittest.skipUnless(shutil.which("mypy"), "mypy isn't there")
+    def test_types(self):
+        with tempfile.TemporaryDirectory() as folder:
+            user = pathlib.Path(folder, "user.py")
+            user.write_text(USER)
+            words = ["mypy", "--strict", "--cache-dir", folder, str(user), *map(str, PACKAGE.glob("*.py"))]
+            env = {**os.environ, "MYPYPATH": str(PACKAGE.parent)}
+            told = subprocess.run(words, env=env, stdout=subprocess.PIPE, stderr=subprocess.STDOUT, text=True).stdout
+        faulty = {int(line) for line in re.findall(r"^\S*user\.py:(\d+): error", told, re.M)}
+        wanted = {place for place, line in enumerate(USER.splitlines(), 1) if line.endswith("# error")}
+        self.assertEqual((faulty, told.count("error: ")), (wanted, len(wanted)), told)
+
+
+USER = """\
+import array
+from typing import Iterator, List, Optional, Tuple
+import itree
+edges: List[Tuple[int, int, int, int]] = [(0, 0, 9, 9)]
+def rows() -> Iterator[Tuple[int, ...]]:
+    yield 1, 2, 3, 4
+pairs: List[Tuple[int, int]] = itree.meetings(edges)
+pairs = itree.meetings([[0, 0, 9, 9]]) + itree.meetings([((0, 0), (9, 9))]) + itree.meetings(rows())
+pairs = itree.meetings(array.array("q")) + itree.meetings(memoryview(b""))
+view: memoryview = itree.meetings(edges, as_array=True)
+places: List[Optional[int]] = itree.locate(edges, [(1, 2)])
+view = itree.locate(edges, [(1, 2)], True)
+heights: List[Optional[int]] = itree.below([(1, 2, 3)], [(1, 2)])
+values, found = itree.below([(1, 2, 3)], [(1, 2)], as_array=True)
+view = values
+version: str = itree.__version__
+itree.meetings([(0.5, 1, 2, 3)])  # error
+itree.meetings("abcd")  # error
+itree.meetings(7)  # error
+view = itree.meetings(edges)  # error
+pairs = itree.meetings(edges, as_array=True)  # error
+"""
 
 
 def load_tests(_loader, tests, _pattern):
-    tests.addTests(doctest.DocTestSuite(itree))
+    for module in itree, _answers, _library, _memory, _rows:
+        tests.addTests(doctest.DocTestSuite(module))
     return tests
 
 

@@ -1,221 +1,260 @@
-"""Sweeps over horizontal segments, pairs of edges that meet, and points among edges, by a library that is
-proved in Rattle.
+"""Which edges meet, and which edge or segment lies straight below a point.
+
+The answers are exact, in whole numbers of 32 bits, by a library that is proved
+in Rattle.
 
     >>> import itree
-    >>> itree.below([(0, 10, 5), (2, 6, 8)], [(6, 7), (2, 9), (11, 9)])
-    [5, 8, None]
     >>> itree.meetings([(0, 0, 9, 9), (0, 9, 9, 0), (20, 0, 21, 0)])
     [(0, 1)]
     >>> itree.locate([(0, 0, 9, 9), (0, -5, 9, -5)], [(4, 4), (4, 3), (9, 9)])
     [0, 1, None]
+    >>> itree.below([(0, 10, 5), (2, 6, 8)], [(6, 7), (2, 9), (11, 9)])
+    [5, 8, None]
 
-Rows are tuples or lists of whole numbers, or stand in a buffer of signed 32-bit numbers, as numpy's arrays and
-array.array: flat or row by row. A buffer is read where it lies, without a copy; nothing may write it during the call,
-in which other threads of Python run on. A number that doesn't fit in 32 bits raises OverflowError.
+Rows
+    An edge is (x0, y0, x1, y1), a horizontal segment (x0, x1, y), a point
+    (x, y). The numbers are whole, from -2**31 to 2**31 - 1, in a unit of the
+    caller's: pixels, or ten-millionths of a degree. A place is that of a row
+    among the rows, from 0. Rows are
 
-The library lies in the package. In a checkout it is the file that ITREE_LIBRARY names, or bindings/built/libitree.so,
-which bindings/build makes.
+    - a list, a tuple or another iterable, of rows of numbers;
+    - an array or another buffer of whole numbers of any width and order, as
+      numpy's, array.array or memoryview: of the shape (n, 4) for edges, (n, 3)
+      for segments and (n, 2) for points, or flat.
+
+    An edge may be two points, too: ((x0, y0), (x1, y1)), or one of a buffer of
+    the shape (n, 2, 2).
+
+    >>> import array
+    >>> itree.meetings(array.array("q", [0, 0, 9, 9, 0, 9, 9, 0]))
+    [(0, 1)]
+    >>> itree.meetings([((0, 0), (9, 9)), ((0, 9), (9, 0))])
+    [(0, 1)]
+
+    Signed 32-bit numbers (numpy's int32) that lie row by row in a buffer are
+    read where they lie. Nothing may write them during the call, in which other
+    threads of Python run on. All else is copied first; other buffers in bulk,
+    by numpy where the program has loaded it.
+
+Answers
+    Lists, or with as_array=True memoryviews, which numpy.asarray takes without
+    a copy.
+
+    >>> edges = [(0, 0, 9, 9), (0, 9, 9, 0), (20, 0, 21, 0)]
+    >>> pairs = itree.meetings(edges, as_array=True)
+    >>> pairs.shape, pairs[0, 1], pairs.tolist()
+    ((1, 2), 1, [[0, 1]])
+
+Errors
+    ValueError     a row has too few or too many numbers, or an array has
+                   another shape
+    TypeError      something is no row, or no whole number, as a float
+    OverflowError  a number doesn't fit in 32 bits
+    Overlap        two segments of `below` collide
+    Crossing       two edges of `locate` cross
+    MemoryError    memory was refused
+
+    >>> itree.meetings([(0, 0, 9, 9), (0, 9, 9)])
+    Traceback (most recent call last):
+        ...
+    ValueError: edges, row 1: 3 numbers, 4 are wanted
+
+The library lies in the package. In a checkout it is the file that ITREE_LIBRARY
+names in the environment, or bindings/built/libitree.so, which bindings/build
+makes.
 """
 
-import array
+from __future__ import annotations
+
 import ctypes
-import itertools
-import os
+from typing import Any, Iterator, List, Literal, Optional, Tuple, Union, overload
 
-__all__ = ["Crossing", "Overlap", "below", "locate", "meetings"]
+from . import _answers, _library
+from ._library import CROSSING, OVERLAP, checked, library
+from ._memory import room_for
+from ._rows import EDGES, POINTS, SEGMENTS, HeldRows, Rows
 
-_ANSWERED, _REFUSED, _OVERLAP, _CROSSING = 0, 1, 2, 2
+__all__ = ["Crossing", "Heights", "Overlap", "below", "locate", "meetings"]
+__version__ = _library.version
 
 
 class Overlap(ValueError):
-    """Two segments have one height and cover one x. `index` is the place of the first segment, in the order of x0 and
-    then of place, that collides with one before it."""
+    """Two segments have one height and cover one x.
 
-    def __init__(self, index):
+    index: the place of the first segment, in the order of x0 and then of place,
+    that collides with one before it.
+    """
+
+    def __init__(self, index: int) -> None:
         super().__init__(f"the segment at place {index} overlaps an earlier one")
         self.index = index
 
+    def __reduce__(self) -> Tuple[Any, ...]:
+        return type(self), (self.index,), vars(self)
+
 
 class Crossing(ValueError):
-    """Two edges cross. `pair` is the places (i, j) of two that do, i below j."""
+    """Two edges cross.
 
-    def __init__(self, pair):
+    pair: the places (i, j) of two that do, i below j.
+    """
+
+    def __init__(self, pair: Tuple[int, int]) -> None:
         super().__init__("the edges at places {} and {} cross".format(*pair))
         self.pair = pair
 
+    def __reduce__(self) -> Tuple[Any, ...]:
+        return type(self), (self.pair,), vars(self)
 
-def below(segments, points):
-    """For each point (x, y), in order, the greatest height at most y of the segments (x0, x1, y) that cover x, or None
-    where there is none. A segment covers both its ends, and nothing where x1 is below x0.
 
-    Raises Overlap where two segments collide, and MemoryError where memory was refused, which may be in that case,
-    too."""
-    with _Rows(segments, 3) as segments, _Rows(points, 2) as points:
-        heights = array.array("i", bytes(8 * points.count))
+class Heights:
+    """Answers of `below`, as two memoryviews of the shape (n,).
+
+    values: the heights, int32; 0 where there is none.
+    found: whether there is one, bool.
+
+    It is unpacked as a tuple is: values, found = below(..., as_array=True).
+    """
+
+    __slots__ = "values", "found"
+
+    def __init__(self, values: memoryview, found: memoryview) -> None:
+        self.values = values
+        self.found = found
+
+    def __iter__(self) -> Iterator[memoryview]:
+        return iter((self.values, self.found))
+
+
+@overload
+def below(segments: Rows, points: Rows, as_array: Literal[False] = ...) -> List[Optional[int]]: ...
+@overload
+def below(segments: Rows, points: Rows, as_array: Literal[True]) -> Heights: ...
+@overload
+def below(segments: Rows, points: Rows, as_array: bool) -> Union[List[Optional[int]], Heights]: ...
+def below(segments: Rows, points: Rows, as_array: bool = False) -> Union[List[Optional[int]], Heights]:
+    """The height straight below each point, among horizontal segments.
+
+    segments: rows (x0, x1, y), of the shape (n, 3). A segment covers both its
+    ends, and nothing where x1 is below x0.
+    points: rows (x, y), of the shape (m, 2).
+
+    For each point, in order, the answer is the greatest height at most y of the
+    segments that cover its x, or None where there is none.
+
+    >>> segments, points = [(0, 10, 5), (2, 6, 8)], [(6, 7), (2, 9), (11, 9)]
+    >>> below(segments, points)
+    [5, 8, None]
+
+    With as_array=True it is Heights, of the heights and of a mask:
+
+    >>> values, found = below(segments, points, as_array=True)
+    >>> values.tolist(), found.tolist()
+    ([5, 8, 0], [True, True, False])
+
+    There is a mask, for each number of 32 bits may be a height, and none is
+    left to say that there is none; and it is what numpy picks by:
+    numpy.asarray(values)[found]. Both are views of what the library wrote, so
+    that they take no time, and the numbers of one don't lie side by side.
+
+    Raises Overlap where two segments collide: have one height and cover one x.
+    Raises MemoryError where memory was refused, which may be where two collide,
+    too. What is raised for faulty rows is told at help(itree).
+    """
+    with HeldRows(segments, SEGMENTS) as segment_rows, HeldRows(points, POINTS) as point_rows:
+        numbers, at = room_for(2 * point_rows.count, "i")
         overlap = ctypes.c_size_t()
-        status = _library.itree_below(
-            segments.at, segments.count, points.at, points.count, _address(heights), points.count, ctypes.byref(overlap)
-        )
-    if status == _OVERLAP:
+        rows = segment_rows.at, segment_rows.count, point_rows.at, point_rows.count
+        status = library.itree_below(*rows, at, point_rows.count, ctypes.byref(overlap))
+    if status == OVERLAP:
         raise Overlap(overlap.value)
-    if status != _ANSWERED:
-        raise MemoryError
-    numbers = iter(heights)
-    return [y if found else None for found, y in zip(numbers, numbers)]
+    checked(status)
+    if as_array:
+        return Heights(*_answers.heights_of(memoryview(numbers)))
+    return [y if found else None for found, y in _answers.two_by_two(memoryview(numbers))]
 
 
-def meetings(edges):
-    """The pairs (i, j), i below j, of places of edges (x0, y0, x1, y1) that share a point, each once, in no particular
-    order. An edge is a straight line with both its ends, and may be a point. It is exact: nothing is rounded.
+@overload
+def meetings(edges: Rows, as_array: Literal[False] = ...) -> List[Tuple[int, int]]: ...
+@overload
+def meetings(edges: Rows, as_array: Literal[True]) -> memoryview: ...
+@overload
+def meetings(edges: Rows, as_array: bool) -> Union[List[Tuple[int, int]], memoryview]: ...
+def meetings(edges: Rows, as_array: bool = False) -> Union[List[Tuple[int, int]], memoryview]:
+    """The pairs of edges that share a point, each once, in no particular order.
 
-    Raises MemoryError where memory was refused."""
-    with _Rows(edges, 4) as edges:
-        count, room = ctypes.c_size_t(edges.count), -1
-        while room < count.value:
-            room = count.value
-            pairs = array.array("Q", bytes(16 * room))
-            status = _library.itree_meetings(edges.at, edges.count, _address(pairs), room, ctypes.byref(count))
-            if status != _ANSWERED:
-                raise MemoryError
-    places = itertools.islice(pairs, 2 * count.value)
-    return list(zip(places, places))
+    edges: rows (x0, y0, x1, y1), of the shape (n, 4) or (n, 2, 2). An edge is a
+    straight line with both its ends, and may be a point.
+
+    The answer is a list of pairs (i, j) of places, i below j. It is exact:
+    nothing is rounded.
+
+    >>> edges = [(0, 0, 9, 9), (0, 9, 9, 0), (20, 0, 21, 0)]
+    >>> meetings(edges)
+    [(0, 1)]
+
+    With as_array=True it is a memoryview of unsigned 64-bit numbers, of the
+    shape (pairs, 2), which takes a tenth of the memory:
+
+    >>> meetings(edges, as_array=True).tolist()
+    [[0, 1]]
+
+    Raises MemoryError where memory was refused. What is raised for faulty rows
+    is told at help(itree).
+    """
+    with HeldRows(edges, EDGES) as rows:
+        numbers = _answers.numbers_of(_answers.pairs_that_meet(rows))
+    if as_array:
+        return _answers.in_rows_of_two(numbers)
+    return list(_answers.two_by_two(numbers))
 
 
-def locate(edges, points):
-    """For each point (x, y), in order, the place of the edge (x0, y0, x1, y1) straight below it, or None where there is
-    none. It is exact: nothing is rounded.
+@overload
+def locate(edges: Rows, points: Rows, as_array: Literal[False] = ...) -> List[Optional[int]]: ...
+@overload
+def locate(edges: Rows, points: Rows, as_array: Literal[True]) -> memoryview: ...
+@overload
+def locate(edges: Rows, points: Rows, as_array: bool) -> Union[List[Optional[int]], memoryview]: ...
+def locate(edges: Rows, points: Rows, as_array: bool = False) -> Union[List[Optional[int]], memoryview]:
+    """The place of the edge straight below each point.
 
-    An edge covers the x's from its lesser end up to its greater, which it doesn't cover; an upright edge or a point
-    covers nothing. An edge is under a point where it covers x at a height that is at most y, and straight below it where
-    none that is under it is higher there. Of edges that are as high there, it is the one that is highest just right of
-    the point; of edges along one line any may be told.
+    edges: rows (x0, y0, x1, y1), of the shape (n, 4) or (n, 2, 2). No two cross.
+    points: rows (x, y), of the shape (m, 2).
 
-    Raises Crossing where two edges cross: where the one is below the other at some whole x that both reach, and above it
-    at another. An upright edge crosses none, though it goes through another: it is never told, but by `meetings`. Raises
-    MemoryError where memory was refused, which may be where two cross, too."""
-    with _Rows(edges, 4) as edges, _Rows(points, 2) as points:
-        places = array.array("Q", bytes(16 * points.count))
+    For each point, in order, the answer is a place, or None where no edge is
+    under the point. It is exact: nothing is rounded.
+
+    >>> edges, points = [(0, 0, 9, 9), (0, -5, 9, -5)], [(4, 4), (4, 3), (9, 9)]
+    >>> locate(edges, points)
+    [0, 1, None]
+
+    With as_array=True it is a memoryview of signed 64-bit numbers, of the shape
+    (m,), with -1 where there is none:
+
+    >>> locate(edges, points, as_array=True).tolist()
+    [0, 1, -1]
+
+    An edge covers the x's from its lesser end up to its greater, which it
+    doesn't cover; an upright edge or a point covers nothing. An edge is under a
+    point where it covers x at a height that is at most y, and straight below it
+    where none that is under it is higher there. Of edges that are as high
+    there, it is the one that is highest just right of the point; of edges along
+    one line any may be told.
+
+    Raises Crossing where two edges cross: where the one is below the other at
+    some whole x that both reach, and above it at another. An upright edge
+    crosses none, though it goes through another: it is never told, but by
+    `meetings`. Raises MemoryError where memory was refused, which may be where
+    two cross, too. What is raised for faulty rows is told at help(itree).
+    """
+    with HeldRows(edges, EDGES) as edge_rows, HeldRows(points, POINTS) as point_rows:
+        numbers, at = room_for(2 * point_rows.count, "Q")
         first, second = ctypes.c_size_t(), ctypes.c_size_t()
-        pair = ctypes.byref(first), ctypes.byref(second)
-        room = _address(places), points.count
-        status = _library.itree_locate(edges.at, edges.count, points.at, points.count, *room, *pair)
-    if status == _CROSSING:
+        rows = edge_rows.at, edge_rows.count, point_rows.at, point_rows.count
+        status = library.itree_locate(*rows, at, point_rows.count, ctypes.byref(first), ctypes.byref(second))
+    if status == CROSSING:
         raise Crossing((first.value, second.value))
-    if status != _ANSWERED:
-        raise MemoryError
-    numbers = iter(places)
-    return [place if found else None for found, place in zip(numbers, numbers)]
-
-
-class _Rows:
-    """Rows of `width` signed 32-bit numbers, one behind the other in memory: `count` of them from the address `at`. The
-    memory stays as it is until the end of a `with`."""
-
-    def __init__(self, rows, width):
-        numbers = _numbers_where_they_lie(rows, width)
-        if numbers is None:
-            numbers = memoryview(_copied(rows, width))
-        self.count = numbers.nbytes // (4 * width)
-        self._buffer = _Buffer()
-        # 0 asks for the address alone: how the numbers lie was looked at before.
-        ctypes.pythonapi.PyObject_GetBuffer(ctypes.py_object(numbers), ctypes.byref(self._buffer), 0)
-        self.at = self._buffer.at or ctypes.addressof(_nothing)
-
-    def __enter__(self):
-        return self
-
-    def __exit__(self, *_raised):
-        ctypes.pythonapi.PyBuffer_Release(ctypes.byref(self._buffer))
-
-
-def _numbers_where_they_lie(rows, width):
-    """A view of a buffer of signed 32-bit numbers, or None where it is none. Raises ValueError where they are no
-    rows."""
-    try:
-        view = memoryview(rows)
-    except TypeError:
-        return None
-    if view.itemsize != 4 or view.format.lstrip("@=" + _OWN_ORDER) not in ("i", "l") or not view.c_contiguous:
-        return None
-    if view.ndim == 1 and view.shape[0] % width or view.ndim == 2 and view.shape[1] != width or view.ndim not in (1, 2):
-        raise ValueError(f"rows of {width} numbers are wanted")
-    return view
-
-
-def _copied(rows, width):
-    """The numbers of a sequence of rows, or of a buffer of other numbers."""
-    if isinstance(rows, (bytes, bytearray, str)):
-        raise TypeError(f"rows of {width} numbers are wanted")
-    rows = rows if isinstance(rows, (list, tuple)) else list(rows)
-    if any(length != width for length in set(map(len, rows))):
-        raise ValueError(f"rows of {width} numbers are wanted")
-    return array.array("i", itertools.chain.from_iterable(rows))
-
-
-class _Buffer(ctypes.Structure):
-    """Python's Py_buffer."""
-
-    _fields_ = [
-        ("at", ctypes.c_void_p),
-        ("owner", ctypes.c_void_p),
-        ("bytes", ctypes.c_ssize_t),
-        ("itemsize", ctypes.c_ssize_t),
-        ("readonly", ctypes.c_int),
-        ("ndim", ctypes.c_int),
-        ("format", ctypes.c_char_p),
-        ("shape", ctypes.c_void_p),
-        ("strides", ctypes.c_void_p),
-        ("suboffsets", ctypes.c_void_p),
-        ("internal", ctypes.c_void_p),
-    ]
-
-
-def _address(numbers):
-    """Where an array's numbers lie. The library wants an address where there are none, too."""
-    return numbers.buffer_info()[0] or ctypes.addressof(_nothing)
-
-
-def _beside(*names: str) -> str:
-    """The path of a file of this package, or of the checkout that it lies in."""
-    return os.path.normpath(os.path.join(os.path.dirname(os.path.abspath(__file__)), *names))
-
-
-def _file_of_library() -> str:
-    named = os.environ.get("ITREE_LIBRARY")
-    if os.path.exists(_beside("libitree.so")):
-        return _beside("libitree.so")
-    if named:
-        if not os.path.exists(named):
-            raise ImportError(f"{named} isn't there, which ITREE_LIBRARY names")
-        return os.path.abspath(named)
-    built = _beside("..", "..", "built", "libitree.so")
-    if not os.path.exists(built):
-        raise ImportError(f"{built} isn't there: bindings/build makes it")
-    return built
-
-
-def _version() -> str:
-    packaged = _beside("VERSION")
-    path = packaged if os.path.exists(packaged) else _beside("..", "..", "..", "VERSION")
-    with open(path, encoding="ascii") as file:
-        return file.read().strip()
-
-
-def _opened():
-    library = ctypes.CDLL(_file_of_library())
-    address, length = ctypes.c_void_p, ctypes.c_size_t
-    library.itree_below.argtypes = [address, length, address, length, address, length, address]
-    library.itree_meetings.argtypes = [address, length, address, length, address]
-    library.itree_locate.argtypes = [address, length, address, length, address, length, address, address]
-    for call in library.itree_below, library.itree_meetings, library.itree_locate:
-        call.restype = ctypes.c_int32
-    return library
-
-
-ctypes.pythonapi.PyObject_GetBuffer.argtypes = [ctypes.py_object, ctypes.POINTER(_Buffer), ctypes.c_int]
-ctypes.pythonapi.PyBuffer_Release.argtypes = [ctypes.POINTER(_Buffer)]
-ctypes.pythonapi.PyBuffer_Release.restype = None
-_OWN_ORDER = "<" if memoryview(array.array("i", [1])).tobytes()[0] else ">"
-_nothing = ctypes.c_uint64()
-_library = _opened()
-__version__ = _version()
+    checked(status)
+    if as_array:
+        return _answers.places_of(memoryview(numbers))
+    return [place if found else None for found, place in _answers.two_by_two(memoryview(numbers))]

@@ -1,0 +1,95 @@
+"""Answers as the library writes them, two numbers for each, and what callers get of them."""
+
+from __future__ import annotations
+
+import array
+import ctypes
+import itertools
+import sys
+from typing import Iterator, NamedTuple, Tuple
+
+from ._library import checked, library
+from ._memory import numpy_where_loaded, room_for
+from ._rows import HeldRows
+
+_MANY_NUMBERS = 1 << 14
+
+
+def two_by_two(numbers: memoryview) -> Iterator[Tuple[int, int]]:
+    """The numbers of a flat view in twos. They never stand there all as Python's objects."""
+    firsts = range(0, len(numbers), _MANY_NUMBERS)
+    runs = (iter(numbers[first : first + _MANY_NUMBERS].tolist()) for first in firsts)
+    return itertools.chain.from_iterable(zip(run, run) for run in runs)
+
+
+def in_rows_of_two(numbers: memoryview) -> memoryview:
+    """The numbers of a flat view, which are 64-bit, in the shape (n, 2)."""
+    count = len(numbers) // 2
+    if count == 0:
+        # A view without numbers takes no shape.
+        return memoryview(bytearray(16)).cast("Q", (1, 2))[:0]
+    return numbers.cast("B").cast("Q", (count, 2))
+
+
+def heights_of(numbers: memoryview) -> Tuple[memoryview, memoryview]:
+    """Views of what stands in twos of whether there is a height, and the height: the heights, and whether there are."""
+    low_byte = 0 if sys.byteorder == "little" else numbers.itemsize - 1
+    return numbers[1::2], numbers.cast("B").cast("?")[low_byte :: 2 * numbers.itemsize]
+
+
+def places_of(numbers: memoryview) -> memoryview:
+    """The places of what stands in twos of whether there is a place, and the place: -1 where there is none, which has
+    0 and 0."""
+    numpy = numpy_where_loaded()
+    if numpy is None:
+        return memoryview(array.array("q", [found + place - 1 for found, place in two_by_two(numbers)]))
+    signed = numpy.asarray(numbers).view("int64")
+    places, _ = room_for(len(numbers) // 2, "q")
+    numpy.subtract(signed[0::2] + signed[1::2], 1, out=numpy.asarray(places))
+    return memoryview(places)
+
+
+class Pairs(NamedTuple):
+    """So many pairs of 64-bit numbers, from the address `at`. They stay there as long as the owner does."""
+
+    owner: object
+    at: int
+    length: int
+
+
+def numbers_of(pairs: Pairs) -> memoryview:
+    """A flat view of the pairs. The owner stays as long as any view of them, or an array over one."""
+    memory = (ctypes.c_char * (16 * pairs.length)).from_address(pairs.at)
+    setattr(memory, "owner", pairs.owner)
+    return memoryview(memory).cast("B").cast("Q")
+
+
+class _Owner:
+    """Memory of the library, which is given back with its owner."""
+
+    def __init__(self, at: int, length: int) -> None:
+        self._free, self._memory = library.itree_pairs_free, (at, length)
+
+    def __del__(self) -> None:
+        self._free(*self._memory)
+
+
+def _pairs_of_the_library(edges: HeldRows) -> Pairs:
+    at, count = ctypes.c_void_p(), ctypes.c_size_t()
+    checked(library.itree_meetings_all(edges.at, edges.count, ctypes.byref(at), ctypes.byref(count)))
+    place = at.value or 0
+    return Pairs(_Owner(place, count.value), place, count.value)
+
+
+def _pairs_by_two_calls(edges: HeldRows) -> Pairs:
+    """The second call is made where more pairs are found than there was room for."""
+    count, length = ctypes.c_size_t(edges.count), -1
+    while length < count.value:
+        length = count.value
+        room, at = room_for(2 * length, "Q")
+        checked(library.itree_meetings(edges.at, edges.count, at, length, ctypes.byref(count)))
+    return Pairs(room, at, count.value)
+
+
+# All pairs of edges that meet.
+pairs_that_meet = _pairs_of_the_library if hasattr(library, "itree_meetings_all") else _pairs_by_two_calls

@@ -1,0 +1,75 @@
+"""The library: where it lies, its calls by their types, and the version."""
+
+from __future__ import annotations
+
+import ctypes
+import os
+
+ANSWERED, REFUSED, OVERLAP, CROSSING = 0, 1, 2, 2
+
+_address, _length = ctypes.c_void_p, ctypes.c_size_t
+_CALLS = {
+    "itree_below": [_address, _length, _address, _length, _address, _length, _address],
+    "itree_meetings": [_address, _length, _address, _length, _address],
+    "itree_locate": [_address, _length, _address, _length, _address, _length, _address, _address],
+}
+
+
+def checked(status: int) -> None:
+    """Raises what a status says that is no answer."""
+    if status == REFUSED:
+        raise MemoryError
+    if status != ANSWERED:
+        raise SystemError(f"itree's library ends with the status {status}, which it has no reason for")
+
+
+def _beside(*names: str) -> str:
+    """The path of a file of this package, or of the checkout that it lies in."""
+    return os.path.normpath(os.path.join(os.path.dirname(os.path.abspath(__file__)), *names))
+
+
+def _file_of_library() -> str:
+    named = os.environ.get("ITREE_LIBRARY")
+    if os.path.exists(_beside("libitree.so")):
+        return _beside("libitree.so")
+    if named:
+        if not os.path.exists(named):
+            raise ImportError(f"{named} isn't there, which ITREE_LIBRARY names")
+        return os.path.abspath(named)
+    built = _beside("..", "..", "built", "libitree.so")
+    if not os.path.exists(built):
+        raise ImportError(f"{built} isn't there: bindings/build makes it, or ITREE_LIBRARY names another")
+    return built
+
+
+def _typed(library: ctypes.CDLL) -> ctypes.CDLL:
+    for name, types in _CALLS.items():
+        call = getattr(library, name)
+        call.argtypes, call.restype = types, ctypes.c_int32
+    if hasattr(library, "itree_meetings_all"):
+        library.itree_meetings_all.argtypes = [_address, _length, _address, _address]
+        library.itree_meetings_all.restype = ctypes.c_int32
+        library.itree_pairs_free.argtypes = [_address, _length]
+        library.itree_pairs_free.restype = None
+    return library
+
+
+def _opened() -> ctypes.CDLL:
+    path = _file_of_library()
+    try:
+        return _typed(ctypes.CDLL(path))
+    except (OSError, AttributeError) as fault:
+        named = os.path.abspath(os.environ.get("ITREE_LIBRARY") or "") == path
+        whose = f"{path}, which ITREE_LIBRARY names," if named else path
+        raise ImportError(f"{whose} isn't itree's library: {fault}") from fault
+
+
+def _version() -> str:
+    packaged = _beside("VERSION")
+    path = packaged if os.path.exists(packaged) else _beside("..", "..", "..", "VERSION")
+    with open(path, encoding="ascii") as file:
+        return file.read().strip()
+
+
+library = _opened()
+version = _version()
