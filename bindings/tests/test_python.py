@@ -14,7 +14,6 @@ import ctypes.util
 import decimal
 import doctest
 import fractions
-import gc
 import itertools
 import mmap
 import os
@@ -692,73 +691,6 @@ class Arrays(unittest.TestCase):
                 taken[:1] = 1
                 self.assertEqual(view.tolist(), taken.tolist())
                 self.assertTrue(numpy.shares_memory(taken, numpy.asarray(view)))
-
-
-class Handles:
-    """A library that keeps the pairs until they are given back."""
-
-    def __init__(self):
-        self.kept, self.given_back, self.status = {}, [], 0
-
-    def itree_meetings_all(self, edges, edge_count, pairs, count):
-        if self.status:
-            return self.status
-        total = ctypes.c_size_t()
-        _library.library.itree_meetings(edges, edge_count, None, 0, ctypes.byref(total))
-        room = (ctypes.c_size_t * (2 * total.value))()
-        _library.library.itree_meetings(edges, edge_count, room, total.value, ctypes.byref(total))
-        pairs._obj.value, count._obj.value = ctypes.addressof(room), total.value
-        self.kept[pairs._obj.value] = room
-        return 0
-
-    def itree_pairs_free(self, pairs, count):
-        self.given_back.append(count)
-        ctypes.memset(self.kept.pop(pairs), 255, 16 * count)
-
-
-class Owners(unittest.TestCase):
-    """Pairs that the library keeps are given back when nobody sees them any more."""
-
-    def setUp(self):
-        self.library = Handles()
-        for name, there in ("library", self.library), ("pairs_that_meet", _answers._pairs_of_the_library):
-            patch = mock.patch.object(_answers, name, there)
-            patch.start()
-            self.addCleanup(patch.stop)
-
-    def assert_given_back(self, *counts):
-        gc.collect()
-        self.assertEqual((self.library.kept, self.library.given_back), ({}, list(counts)))
-
-    def test_lists(self):
-        self.assertEqual(sorted(itree.meetings(EDGES)), [(0, 1), (0, 3), (1, 3)])
-        self.assert_given_back(3)
-        self.assertEqual(itree.meetings([]), [])
-        self.assert_given_back(3, 0)
-
-    def test_views(self):
-        view = itree.meetings(EDGES, as_array=True)
-        last, wanted = view[-1:], view.tolist()[-1:]
-        del view
-        gc.collect()
-        self.assertEqual((last.tolist(), self.library.given_back), (wanted, []))
-        del last
-        self.assert_given_back(3)
-
-    @needs_numpy
-    def test_arrays(self):
-        wanted = itree.meetings(EDGES, as_array=True).tolist()
-        taken = numpy.asarray(itree.meetings(EDGES, as_array=True))[:, 1][::-1]
-        gc.collect()
-        self.assertEqual(taken.tolist(), [pair[1] for pair in wanted[::-1]])
-        del taken
-        self.assert_given_back(3, 3)
-
-    def test_raises_memory_error(self):
-        self.library.status = _library.REFUSED
-        with self.assertRaises(MemoryError):
-            itree.meetings(EDGES)
-        self.assert_given_back()
 
 
 class Exceptions(unittest.TestCase):

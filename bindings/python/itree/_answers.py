@@ -64,32 +64,11 @@ def numbers_of(pairs: Pairs) -> memoryview:
     return memoryview(memory).cast("B").cast("Q")
 
 
-class _Owner:
-    """Memory of the library, which is given back with its owner."""
-
-    def __init__(self, at: int, length: int) -> None:
-        self._free, self._memory = library.itree_pairs_free, (at, length)
-
-    def __del__(self) -> None:
-        self._free(*self._memory)
-
-
-def _pairs_of_the_library(edges: HeldRows) -> Pairs:
-    at, count = ctypes.c_void_p(), ctypes.c_size_t()
-    checked(library.itree_meetings_all(edges.at, edges.count, ctypes.byref(at), ctypes.byref(count)))
-    place = at.value or 0
-    return Pairs(_Owner(place, count.value), place, count.value)
-
-
-def _pairs_by_two_calls(edges: HeldRows) -> Pairs:
-    """The second call is made where more pairs are found than there was room for."""
+def pairs_that_meet(edges: HeldRows) -> Pairs:
+    """All pairs of edges that meet. The second call is made where more pairs are found than there was room for."""
     count, length = ctypes.c_size_t(edges.count), -1
     while length < count.value:
         length = count.value
         room, at = room_for(2 * length, "Q")
         checked(library.itree_meetings(edges.at, edges.count, at, length, ctypes.byref(count)))
     return Pairs(room, at, count.value)
-
-
-# All pairs of edges that meet.
-pairs_that_meet = _pairs_of_the_library if hasattr(library, "itree_meetings_all") else _pairs_by_two_calls

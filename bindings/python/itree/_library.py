@@ -46,11 +46,6 @@ def _typed(library: ctypes.CDLL) -> ctypes.CDLL:
     for name, types in _CALLS.items():
         call = getattr(library, name)
         call.argtypes, call.restype = types, ctypes.c_int32
-    if hasattr(library, "itree_meetings_all"):
-        library.itree_meetings_all.argtypes = [_address, _length, _address, _address]
-        library.itree_meetings_all.restype = ctypes.c_int32
-        library.itree_pairs_free.argtypes = [_address, _length]
-        library.itree_pairs_free.restype = None
     return library
 
 
