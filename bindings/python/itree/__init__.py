@@ -171,7 +171,7 @@ def below(segments: Rows, points: Rows, as_array: bool = False) -> Union[List[Op
     checked(status)
     if as_array:
         return Heights(*_answers.heights_of(memoryview(numbers)))
-    return [y if found else None for found, y in _answers.two_by_two(memoryview(numbers))]
+    return [y if found else None for found, y in _answers.two_by_two(numbers)]
 
 
 @overload
@@ -203,9 +203,9 @@ def meetings(edges: Rows, as_array: bool = False) -> Union[List[Tuple[int, int]]
     is told at help(itree).
     """
     with HeldRows(edges, EDGES) as rows:
-        numbers = _answers.numbers_of(_answers.pairs_that_meet(rows))
+        numbers = _answers.pairs_that_meet(rows)
     if as_array:
-        return _answers.in_rows_of_two(numbers)
+        return _answers.in_rows_of_two(memoryview(numbers))
     return list(_answers.two_by_two(numbers))
 
 
@@ -257,4 +257,4 @@ def locate(edges: Rows, points: Rows, as_array: bool = False) -> Union[List[Opti
     checked(status)
     if as_array:
         return _answers.places_of(memoryview(numbers))
-    return [place if found else None for found, place in _answers.two_by_two(memoryview(numbers))]
+    return [place if found else None for found, place in _answers.two_by_two(numbers)]

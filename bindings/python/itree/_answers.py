@@ -4,22 +4,18 @@ from __future__ import annotations
 
 import array
 import ctypes
-import itertools
 import sys
-from typing import Iterator, NamedTuple, Tuple
+from typing import Iterable, Iterator, Tuple
 
 from ._library import checked, library
 from ._memory import numpy_where_loaded, room_for
 from ._rows import HeldRows
 
-_MANY_NUMBERS = 1 << 14
 
-
-def two_by_two(numbers: memoryview) -> Iterator[Tuple[int, int]]:
-    """The numbers of a flat view in twos. They never stand there all as Python's objects."""
-    firsts = range(0, len(numbers), _MANY_NUMBERS)
-    runs = (iter(numbers[first : first + _MANY_NUMBERS].tolist()) for first in firsts)
-    return itertools.chain.from_iterable(zip(run, run) for run in runs)
+def two_by_two(numbers: Iterable[int]) -> Iterator[Tuple[int, int]]:
+    """The numbers in twos. They never stand there all as Python's objects."""
+    one_by_one = iter(numbers)
+    return zip(one_by_one, one_by_one)
 
 
 def in_rows_of_two(numbers: memoryview) -> memoryview:
@@ -49,26 +45,13 @@ def places_of(numbers: memoryview) -> memoryview:
     return memoryview(places)
 
 
-class Pairs(NamedTuple):
-    """So many pairs of 64-bit numbers, from the address `at`. They stay there as long as the owner does."""
-
-    owner: object
-    at: int
-    length: int
-
-
-def numbers_of(pairs: Pairs) -> memoryview:
-    """A flat view of the pairs. The owner stays as long as any view of them, or an array over one."""
-    memory = (ctypes.c_char * (16 * pairs.length)).from_address(pairs.at)
-    setattr(memory, "owner", pairs.owner)
-    return memoryview(memory).cast("B").cast("Q")
-
-
-def pairs_that_meet(edges: HeldRows) -> Pairs:
-    """All pairs of edges that meet. The second call is made where more pairs are found than there was room for."""
+def pairs_that_meet(edges: HeldRows) -> array.array[int]:
+    """All pairs of edges that meet, as flat 64-bit numbers. The second call is made where more pairs are found than there
+    was room for."""
     count, length = ctypes.c_size_t(edges.count), -1
     while length < count.value:
         length = count.value
         room, at = room_for(2 * length, "Q")
         checked(library.itree_meetings(edges.at, edges.count, at, length, ctypes.byref(count)))
-    return Pairs(room, at, count.value)
+    del room[2 * count.value :]
+    return room
