@@ -6,6 +6,7 @@ pub mod Cuts
 pub mod Joined
 pub mod Lists
 pub mod Monotone
+pub mod Numbers
 pub mod Orders
 pub mod Results
 pub mod RisingKeys

@@ -1,5 +1,6 @@
 //! Complete small programs over `i_tree`, as its users write them: each is proved and tested. A loop in `tickets` and one in
-//! `own_descent` have an invariant in a proof file, and `kept_booking` has one for what it promises; the others need none.
+//! `own_descent` have an invariant in a proof file, and `kept_booking` and `sessions` have one for what they promise; the others need
+//! none.
 #![tactic(auto)]
 
 pub mod crossing_candidates;
@@ -12,6 +13,7 @@ pub mod own_descent;
 pub mod own_error;
 pub mod polygon_crossings;
 pub mod seen_below;
+pub mod sessions;
 pub mod sloped_status;
 pub mod sweep_events;
 pub mod tickets;

@@ -11,6 +11,8 @@ use Rattle.i_tree.specs.Root.Live.{is_live}
 use Rattle.i_tree.proofs.RootLemmas.Lists.{Contains-here, Contains-there, Contains-filter}
 -- What is live at a time is live at each earlier one.
 pub use Rattle.i_tree.proofs.SegLemmas.Later.{live-before}
+-- A value is live up to its expiration, where that is a number: `is_live` at a time is this of the expiration and the time.
+pub use Rattle.i_tree.proofs.RootLemmas.Numbers.{ge-upto, int_ge-upto, int_upto-ge}
 -- A query that cleans up, one part after another: no part yet, a further part, and the whole once the last one is. For a walk,
 -- from `copies` of `iter_by_range` to `loses` and `cleans` of `GivesNext`.
 pub use Rattle.i_tree.proofs.SegLemmas.Losing.{LosesExpiredAt-none, LosesExpiredAt-trans, Cleans-after}

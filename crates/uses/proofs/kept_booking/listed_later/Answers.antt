@@ -8,7 +8,7 @@ use Rattle.std.proofs.lemmas.Cmp.{nat_cmp_total, ranked}
 use Rattle.i_tree.specs.Seg.Buckets.{Buckets, Accepts}
 use Rattle.i_tree.specs.Seg.Members.{Member, NotBefore, is_live_yet, member_over}
 use Rattle.i_tree.specs.Root.Live.{is_live}
-use Rattle.i_tree.proofs.SegLemmas.Callers.{finds_overlapping, is_stored, stays_member, live-before}
+use Rattle.i_tree.proofs.SegLemmas.Callers.{finds_overlapping, ge-upto, is_stored, stays_member, live-before}
 use Rattle.uses.specs.declared.kept_booking.Booking.{Booking}
 use Rattle.uses.proofs.kept_booking.listed_later.Goals as goal
 
@@ -23,15 +23,6 @@ collect_by_range-requires-2-clause-accepted c =
 pub collect_by_range-requires-2-clause-in_time : goal.collect_by_range-requires-2-clause-in_time
 collect_by_range-requires-2-clause-in_time c = c.is_in_time-2.ensures.0 c.if-not-is_in_time-2.false
 
--- a booking stands up to its last day
-stands_on : (booking : Booking) (day : ℕ) → day ≤ booking.until → is_live (λ (one : Booking). one.until) nat_cmp day booking ≡ true
-stands_on booking day upto = told (nat_cmp booking.until day) (ranked booking.until day (nat_cmp booking.until day) refl)
-  where
-    told : (r : Ordering) → MatchOrdering r (booking.until < day) (booking.until ≡ day) (day < booking.until) → is_ge r ≡ true
-    told Less before = absurd (omega arith)
-    told Equal same = refl
-    told Greater after = refl
-
 pub returns : goal.returns
 returns c = record {
   found = λ _ first second stands.
@@ -39,7 +30,7 @@ returns c = record {
       let buckets = c.in_ok-collect_by_range.ensures.buckets ∙ c.in_ok-insert_by_range.ensures.buckets in
       let in_time = c.is_in_time.ensures.0 c.if-not-is_in_time.false in
       let in_time_later : NotBefore nat_cmp (Some c.args.today) c.args.later = rw c.in_ok-collect_by_range.ensures.latest at (c.is_in_time-2.ensures.0 c.if-not-is_in_time-2.false) in
-      let last = stands_on c.args.booking c.args.later stands in
+      let last = ge-upto c.args.booking.until c.args.later stands in
       let today = live-before nat_cmp_total (λ (one : Booking). one.until) (Some c.args.today) c.args.later in_time_later c.args.booking last in
       let at_first = live-before nat_cmp_total (λ (one : Booking). one.until) c.args.tree.now.latest c.args.today in_time c.args.booking today in
       let member : Member Booking = member_over c.args.tree.now.buckets c.args.booking.hours.min c.args.booking.hours.max c.args.booking in
