@@ -47,6 +47,7 @@ SOURCES = {
     "`seg::tree::": ["i_tree/src/seg/*.rt"],
     "`itree_lib::run": ["itree_lib/src/run/*.rt"],
     "`itree_lib::sweep": ["itree_lib/src/sweep/mod.rt"],
+    "`event_queue`": ["event_queue/src/lib.rt"],
     "`plane`": ["plane/src/edge.rt", "plane/src/meet/*.rt", "plane/src/locate/*.rt"],
     "`itree_c`": ["itree_c/src/*.rt"],
     "`itree`": ["itree/src/program.rt"],

@@ -78,22 +78,23 @@ def layers():
         text(360, 87, "each of these three uses both crates below, and i_tree", 12, fill=SOFT),
         *titled(20, 108, 332, 50, "itree_lib", "runs of commands; a sweep over segments"),
         *titled(368, 108, 332, 50, "plane", "edges that meet; the edge below a point"),
-        box(20, 170, 680, 208, PAPER),
-        text(30, 188, "i_tree", 14, "start", weight="bold"),
-        *titled(35, 196, 152, 60, "key", "keys that expire", "#e8f0fa"),
-        *titled(201, 196, 152, 60, "status", "what is along a line", "#e8f0fa"),
-        *titled(367, 196, 152, 112, "set", "ordered sets", "#e8f0fa"),
-        *titled(533, 196, 152, 112, "seg", "segments that expire", "#e8f0fa"),
-        text(111, 250, "list and tree", 12, fill=SOFT),
-        text(277, 250, "list and tree", 12, fill=SOFT),
-        text(443, 250, "list and tree", 12, fill=SOFT),
-        text(609, 250, "a heap of buckets", 12, fill=SOFT),
-        *titled(35, 263, 318, 45, "expiring", "what keys and statuses share", "#e8f0fa"),
-        *titled(35, 315, 484, 50, "rb", "the red-black core of the key, status and set trees", "#e8f0fa"),
-        *titled(533, 315, 152, 50, "steps", "what a call counts by", "#e8f0fa"),
-        *titled(20, 390, 680, 45, "std", "i_tree, itree_lib and plane use nothing else", PAPER),
+        *titled(20, 170, 680, 50, "event_queue", "what a sweep meets, in order; it uses std alone"),
+        box(20, 232, 680, 208, PAPER),
+        text(30, 250, "i_tree", 14, "start", weight="bold"),
+        *titled(35, 258, 152, 60, "key", "keys that expire", "#e8f0fa"),
+        *titled(201, 258, 152, 60, "status", "what is along a line", "#e8f0fa"),
+        *titled(367, 258, 152, 112, "set", "ordered sets", "#e8f0fa"),
+        *titled(533, 258, 152, 112, "seg", "segments that expire", "#e8f0fa"),
+        text(111, 312, "list and tree", 12, fill=SOFT),
+        text(277, 312, "list and tree", 12, fill=SOFT),
+        text(443, 312, "list and tree", 12, fill=SOFT),
+        text(609, 312, "a heap of buckets", 12, fill=SOFT),
+        *titled(35, 325, 318, 45, "expiring", "what keys and statuses share", "#e8f0fa"),
+        *titled(35, 377, 484, 50, "rb", "the red-black core of the key, status and set trees", "#e8f0fa"),
+        *titled(533, 377, 152, 50, "steps", "what a call counts by", "#e8f0fa"),
+        *titled(20, 452, 680, 45, "std", "event_queue, i_tree, itree_lib and plane use nothing else", PAPER),
     ]
-    return picture("The crates, each on those below that it uses", 720, 450, parts)
+    return picture("The crates, each on those below that it uses", 720, 512, parts)
 
 
 # A red-black tree.

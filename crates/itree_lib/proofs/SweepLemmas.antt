@@ -1,4 +1,3 @@
-pub mod DoneEvents
+pub mod Begun
 pub mod Events
-pub mod Schedule
 pub mod Status

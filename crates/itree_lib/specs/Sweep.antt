@@ -1,3 +1,3 @@
+pub mod Events
 pub mod Heights
 pub mod Levels
-pub mod Schedule

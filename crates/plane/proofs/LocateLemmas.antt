@@ -7,9 +7,9 @@ pub mod Begins
 pub mod Begun
 pub mod Comparisons
 pub mod Crossings
-pub mod Done
 pub mod Ending
 pub mod Ends
+pub mod Events
 pub mod Exchanged
 pub mod Gaps
 pub mod Happenings
@@ -19,7 +19,6 @@ pub mod Live
 pub mod Neighbours
 pub mod Order
 pub mod Rightwards
-pub mod Schedule
 pub mod Serving
 pub mod Standings
 pub mod Swept

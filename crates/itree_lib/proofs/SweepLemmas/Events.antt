@@ -1,34 +1,32 @@
--- What holds once some events of a schedule are served, and how one more is.
-use Rattle.std.proofs.Common.{◌≡◌, ◌≢◌, ℕ, ◌<◌, ◌+◌, ℤ, ◌≤ℤ◌, List, Option, None, length, get_or, set, take, refl, sym, ap, ◌∙◌, subst, ⊎_elim, arith}
+-- What holds once some events of a queue are served, and how one more is.
+use Rattle.std.proofs.Common.{◌≡◌, ℕ, ◌<◌, ◌+◌, ℤ, ◌≤ℤ◌, List, Option, None, length, get_or, set, take, refl, sym, ap, ◌∙◌, subst, ⊎_elim}
 use Rattle.std.specs.List.{All, Contains}
-use Rattle.std.specs.Ordering.{MatchOrdering, int_cmp, nat_cmp}
-use Rattle.std.specs.declared.cmp.Ordering.{Ordering}
-use Rattle.std.specs.declared.cmp.Ordering.TheVariants.{Less, Equal, Greater}
-use Rattle.std.proofs.lemmas.Cmp.{ranked}
-use Rattle.std.proofs.lemmas.List.{get_or_default, get_or-set_other, length-set}
-use Rattle.std.proofs.lemmas.Grind.{get_or-set_at}
+use Rattle.std.specs.Ordering.{int_cmp}
 use Rattle.std.proofs.lemmas.List.Elements.{Contains-push_cases}
 use Rattle.i_tree.specs.Root.Answer.{AtMost}
 use Rattle.i_tree.specs.Root.Change.{Gains, Without}
 use Rattle.i_tree.specs.Root.Pairs.{HasKey, NoKey}
 use Rattle.itree_lib.specs.Sweep.Levels.{Entry, level_of, entry_of, cmp_levels, live_entries, HasEnded}
-use Rattle.itree_lib.specs.Sweep.Schedule.{beginning_of, answering_of, IsSchedule}
-use Rattle.itree_lib.specs.Sweep.Heights.{IsHeightBelow, Placed, StandsIn, Overlaps, IsFirstOverlap, StandsAt}
+use Rattle.itree_lib.specs.Sweep.Events.{beginning_of, answering_of, IsQueue}
+use Rattle.itree_lib.specs.Sweep.Heights.{IsHeightBelow, Placed, StandsIn, Overlaps, IsFirstOverlap}
 use Rattle.itree_lib.specs.declared.sweep.Point.{Point}
 use Rattle.itree_lib.specs.declared.sweep.Segment.{Segment}
-use Rattle.itree_lib.specs.declared.sweep.events.Event.{Event}
-use Rattle.itree_lib.specs.declared.sweep.events.Task.TheVariants.{Begin, Answer}
-use Rattle.itree_lib.proofs.SweepLemmas.DoneEvents.{none_behind, one_more, begins_of, answers_of, begun_before, begun_upto, comes_before, is_first}
-use Rattle.itree_lib.proofs.SweepLemmas.Status.{Holds, Holds-begun, Holds-answered, IsHeightBelow-at_most, Overlaps-live, none_overlaps, one_element}
+use Rattle.event_queue.specs.declared.Event.{Event}
+use Rattle.event_queue.specs.declared.Task.TheVariants.{Begin, Answer}
+use Rattle.event_queue.specs.Queue.{StandsAt}
+use Rattle.event_queue.proofs.QueueLemmas.Answers.{Answered, Answered-other, Answered-set}
+use Rattle.event_queue.proofs.QueueLemmas.Done.{none_behind, one_more}
+use Rattle.event_queue.proofs.QueueLemmas.Places.{StandsAt-read, one_item}
+use Rattle.itree_lib.proofs.SweepLemmas.Begun.{begins_of, answers_of, begun_before, begun_upto, comes_before, is_first}
+use Rattle.itree_lib.proofs.SweepLemmas.Status.{Holds, Holds-begun, Holds-answered, IsHeightBelow-at_most, Overlaps-live, none_overlaps}
 
 -- The store holds what has begun, none of the segments that have begun overlaps, and the points that are done have their answers.
 pub record Served (segments : List Segment) (points : List Point) (done : List Event) (entries : List Entry) (answers : List (Option ℤ)) : Type 0 where
-  pub room : length answers ≡ length points
   pub holds : Holds segments done entries
   pub free : (placed : Placed) → StandsIn segments placed → Contains done (beginning_of placed.0 placed.1) → ¬ (Overlaps segments placed)
-  pub answered : (place : ℕ) (point : Point) → StandsAt points place point → Contains done (answering_of place point) → IsHeightBelow segments point (get_or answers place None)
+  pub answered : Answered (IsHeightBelow segments) None points done answers
 
-module _ (segments : List Segment) (points : List Point) (events : List Event) (schedule : IsSchedule segments points events)
+module _ (segments : List Segment) (points : List Point) (events : List Event) (queue : IsQueue segments points events)
     (k : ℕ) (event : Event) (inside : k < length events) (is : event ≡ get_or events k event)
     (entries : List Entry) (answers : List (Option ℤ)) (served : Served segments points (take k events) entries answers) where
   -- no event is of both kinds
@@ -39,12 +37,12 @@ module _ (segments : List Segment) (points : List Point) (events : List Event) (
   pub Served-overlap : (d : Segment) → event.task ≡ Begin
       → HasKey cmp_levels (live_entries (get_or segments event.place d).x0 entries) (level_of (get_or segments event.place d)) → IsFirstOverlap segments event.place
   Served-overlap d begins has =
-      let (segment, stands, some, same) = begins_of segments points events schedule k event inside is begins in
-      let one : get_or segments event.place d ≡ segment = get_or_default segments event.place d segment stands.0 ∙ stands.1 in
-      let before = subst (λ x. All (λ (other : Event). other.x ≤ℤ x) (take k events)) (ap (λ (e : Event). e.x) same) (none_behind segments points events schedule k event inside is) in
+      let (segment, stands, some, same) = begins_of segments points events queue k event inside is begins in
+      let one : get_or segments event.place d ≡ segment = one_item segments event.place event.place (get_or segments event.place d) segment refl (StandsAt-read segments event.place d stands.0) stands in
+      let before = subst (λ x. All (λ (other : Event). other.x ≤ℤ x) (take k events)) (ap (λ (e : Event). e.x) same) (none_behind queue k event inside is) in
       let has' = subst (λ (s : Segment). HasKey cmp_levels (live_entries s.x0 entries) (level_of s)) one has in
-      is_first segments points events schedule k event inside is event.place segment same stands served.free
-      (Overlaps-live segments (take k events) entries served.holds segment.x0 before event.place segment refl some (comes_before segments points events schedule k event inside is event.place segment same) has')
+      is_first segments points events queue k event inside is event.place segment same stands served.free
+      (Overlaps-live segments (take k events) entries served.holds segment.x0 before event.place segment refl some (comes_before segments points events queue k event inside is event.place segment same) has')
 
   module _ (entries' : List Entry) where
     -- else it begins
@@ -53,28 +51,24 @@ module _ (segments : List Segment) (points : List Point) (events : List Event) (
         → Gains (HasEnded (get_or segments event.place d).x0) (entry_of (get_or segments event.place d)) entries entries'
         → Served segments points (take (k + 1) events) entries' answers
     Served-begun d begins none gains =
-        let (segment, stands, some, same) = begins_of segments points events schedule k event inside is begins in
-        let one : get_or segments event.place d ≡ segment = get_or_default segments event.place d segment stands.0 ∙ stands.1 in
-        let before = subst (λ x. All (λ (other : Event). other.x ≤ℤ x) (take k events)) (ap (λ (e : Event). e.x) same) (none_behind segments points events schedule k event inside is) in
+        let (segment, stands, some, same) = begins_of segments points events queue k event inside is begins in
+        let one : get_or segments event.place d ≡ segment = one_item segments event.place event.place (get_or segments event.place d) segment refl (StandsAt-read segments event.place d stands.0) stands in
+        let before = subst (λ x. All (λ (other : Event). other.x ≤ℤ x) (take k events)) (ap (λ (e : Event). e.x) same) (none_behind queue k event inside is) in
         let none' = subst (λ (s : Segment). NoKey cmp_levels (live_entries s.x0 entries) (level_of s)) one none in
         let gains' = subst (λ (s : Segment). Gains (HasEnded s.x0) (entry_of s) entries entries') one gains in
-        let alone = none_overlaps segments (take k events) entries served.holds segment.x0 before event.place segment refl some (begun_before segments points events schedule k event inside is event.place segment same) none' in
-        subst (λ done. Served segments points done entries' answers) (sym (one_more segments points events schedule k event inside is))
+        let alone = none_overlaps segments (take k events) entries served.holds segment.x0 before event.place segment refl some (begun_before segments points events queue k event inside is event.place segment same) none' in
+        subst (λ done. Served segments points done entries' answers) (sym (one_more queue k event inside is))
         (record {
-          room = served.room;
           holds = Holds-begun segments (take k events) entries served.holds segment.x0 before event (ap (λ (e : Event). e.x) same) event.place segment stands same entries' gains';
           free = λ placed stands' begun.
               ⊎_elim (served.free placed stands')
               (λ here found.
               let both = sym same ∙ here in
               let place : event.place ≡ placed.0 = ap (λ (e : Event). e.place) both in
-              let this : segment ≡ placed.1 = one_element segments event.place placed.0 segment placed.1 place stands.0 stands.1 stands'.1 in
+              let this : segment ≡ placed.1 = one_item segments event.place placed.0 segment placed.1 place stands stands' in
               alone (subst (λ p. Overlaps segments (p, segment)) (sym place) (subst (λ s. Overlaps segments (placed.0, s)) (sym this) found)))
               (Contains-push_cases (take k events) event (beginning_of placed.0 placed.1) begun);
-          answered = λ place point stands' done.
-              ⊎_elim (served.answered place point stands')
-              (λ here. absurd (apart begins (ap (λ (e : Event). e.task) here)))
-              (Contains-push_cases (take k events) event (answering_of place point) done);
+          answered = Answered-other (IsHeightBelow segments) None points (take k events) answers served.answered event (apart begins);
         })
 
     -- the point at the event's place is answered
@@ -83,23 +77,19 @@ module _ (segments : List Segment) (points : List Point) (events : List Event) (
         → Without (HasEnded (get_or points event.place d).x) entries entries'
         → Served segments points (take (k + 1) events) entries' (set answers event.place value)
     Served-answered d answers_now value at_most without =
-        subst (λ done. Served segments points done entries' (set answers event.place value)) (sym (one_more segments points events schedule k event inside is))
+        subst (λ done. Served segments points done entries' (set answers event.place value)) (sym (one_more queue k event inside is))
         (record {
-          room = length-set answers event.place value ∙ served.room;
           holds = Holds-answered segments (take k events) entries served.holds point.x before event (ap (λ (e : Event). e.x) same) entries' without'
               (λ placed begins. apart (ap (λ (e : Event). e.task) begins) answers_now);
           free = λ placed stands' begun.
               ⊎_elim (served.free placed stands')
               (λ here. absurd (apart (ap (λ (e : Event). e.task) here) answers_now))
               (Contains-push_cases (take k events) event (beginning_of placed.0 placed.1) begun);
-          answered = λ place other stands' done.
-              ⊎_elim (λ earlier. put place other stands' (λ _. served.answered place other stands' earlier))
-              (λ here. put place other stands' (λ elsewhere. absurd (elsewhere (sym (ap (λ (e : Event). e.place) here)))))
-              (Contains-push_cases (take k events) event (answering_of place other) done);
+          answered = Answered-set (IsHeightBelow segments) None points (take k events) answers served.answered event point value stands right;
         })
       where
         whose : (point : Point) × StandsAt points event.place point × (event ≡ answering_of event.place point)
-        whose = answers_of segments points events schedule k event inside is answers_now
+        whose = answers_of segments points events queue k event inside is answers_now
 
         point : Point
         point = whose.0
@@ -111,28 +101,14 @@ module _ (segments : List Segment) (points : List Point) (events : List Event) (
         same = whose.2
 
         one : get_or points event.place d ≡ point
-        one = get_or_default points event.place d point stands.0 ∙ stands.1
+        one = one_item points event.place event.place (get_or points event.place d) point refl (StandsAt-read points event.place d stands.0) stands
 
         before : All (λ (other : Event). other.x ≤ℤ point.x) (take k events)
-        before = subst (λ x. All (λ (other : Event). other.x ≤ℤ x) (take k events)) (ap (λ (e : Event). e.x) same) (none_behind segments points events schedule k event inside is)
+        before = subst (λ x. All (λ (other : Event). other.x ≤ℤ x) (take k events)) (ap (λ (e : Event). e.x) same) (none_behind queue k event inside is)
 
         without' : Without (HasEnded point.x) entries entries'
         without' = subst (λ (p : Point). Without (HasEnded p.x) entries entries') one without
 
         right : IsHeightBelow segments point value
-        right = IsHeightBelow-at_most segments (take k events) entries served.holds point.x before point refl (begun_upto segments points events schedule k event inside is event.place point same) value
+        right = IsHeightBelow-at_most segments (take k events) entries served.holds point.x before point refl (begun_upto segments points events queue k event inside is event.place point same) value
             (subst (λ (p : Point). AtMost cmp_levels (live_entries p.x entries) (λ level. int_cmp level.y p.y) None value) one at_most)
-
-        -- the answer stands at the point's place, and the others are as they were
-        put : (place : ℕ) (other : Point) → StandsAt points place other → (place ≢ event.place → IsHeightBelow segments other (get_or answers place None)) → IsHeightBelow segments other (get_or (set answers event.place value) place None)
-        put place other stands' elsewhere = told (nat_cmp place event.place) (ranked place event.place (nat_cmp place event.place) refl)
-          where
-            away : place ≢ event.place → IsHeightBelow segments other (get_or (set answers event.place value) place None)
-            away differs = subst (IsHeightBelow segments other) (sym (get_or-set_other answers event.place place value None differs)) (elsewhere differs)
-
-            told : (r : Ordering) → MatchOrdering r (place < event.place) (place ≡ event.place) (event.place < place) → IsHeightBelow segments other (get_or (set answers event.place value) place None)
-            told Less below = away (λ here. omega (arith, below, here))
-            told Equal here =
-                subst (IsHeightBelow segments other) (sym (get_or-set_at answers event.place place value None here (let size = served.room in omega (arith, size, stands.0))))
-                (subst (λ p. IsHeightBelow segments p value) (one_element points event.place place point other (sym here) stands.0 stands.1 stands'.1) right)
-            told Greater above = away (λ here. omega (arith, above, here))

@@ -10,18 +10,18 @@ use Rattle.std.proofs.lemmas.Int.{ints}
 use Rattle.std.proofs.lemmas.List.Elements.{All-contains, Contains-append_left, Contains-push, Contains-push_cases}
 use Rattle.std.proofs.lemmas.List.Sorted.{Contains-permutation, IsPermutation-insert, IsPermutation-sym}
 use Rattle.std.specs.List.Sorted.{IsPermutation}
-use Rattle.std.proofs.lemmas.List.{get_or_default}
+use Rattle.event_queue.proofs.QueueLemmas.Places.{StandsAt-read, one_item}
 use Rattle.i_tree.specs.Root.Answer.{AtMost}
 use Rattle.i_tree.specs.Root.Change.{Gains, Without}
 use Rattle.i_tree.specs.Root.Pairs.{HasKey, NoKey}
 use Rattle.i_tree.proofs.RootLemmas.Lists.{Contains-filter, Contains-here, Contains-there}
 use Rattle.i_tree.proofs.RootLemmas.Withouts.{filter-without}
 use Rattle.itree_lib.specs.Sweep.Levels.{Entry, level_of, entry_of, cmp_levels, live_entries, HasEnded}
-use Rattle.itree_lib.specs.Sweep.Schedule.{beginning_of}
+use Rattle.itree_lib.specs.Sweep.Events.{beginning_of}
 use Rattle.itree_lib.specs.Sweep.Heights.{Covers, IsUnder, IsHeightBelow, Placed, StandsIn, ComesBefore, Overlaps}
 use Rattle.itree_lib.specs.declared.sweep.Point.{Point}
 use Rattle.itree_lib.specs.declared.sweep.Segment.{Segment}
-use Rattle.itree_lib.specs.declared.sweep.events.Event.{Event}
+use Rattle.event_queue.specs.declared.Event.{Event}
 use Rattle.itree_lib.proofs.RunLemmas.Members.{Contains-from_filter, Without-within}
 
 -- an entry is live at an x up to its last one
@@ -65,10 +65,6 @@ pub record Holds (segments : List Segment) (done : List Event) (entries : List E
   pub has : (x : ℤ) → All (λ event. event.x ≤ℤ x) done → (placed : Placed) → StandsIn segments placed → Contains done (beginning_of placed.0 placed.1) → x ≤ℤ placed.1.x1
       → Contains entries (entry_of placed.1)
   pub of : (entry : Entry) → Contains entries entry → (placed : Placed) × StandsIn segments placed × Contains done (beginning_of placed.0 placed.1) × (entry ≡ entry_of placed.1)
-
--- one element stands at a place
-pub one_element : {X : Type 0} (xs : List X) (i j : ℕ) (x y : X) → i ≡ j → i < length xs → get_or xs i x ≡ x → get_or xs j y ≡ y → x ≡ y
-one_element xs i j x y same inside at at' = sym at ∙ get_or_default xs i x y inside ∙ ap (λ k. get_or xs k y) same ∙ at'
 
 -- a member is the first element or one of the others
 here_or_there : {X : Type 0} (x : X) (xs : List X) (y : X) → Contains (x ∷ xs) y → (x ≡ y) ⊎ Contains xs y
@@ -145,7 +141,7 @@ module _ (segments : List Segment) (done : List Event) (entries : List Entry) (h
       where
         this_one : (placed : Placed) → StandsIn segments placed → beginning_of place segment ≡ beginning_of placed.0 placed.1 → Contains (entry_of segment ∷ left) (entry_of placed.1)
         this_one placed stands' same =
-            subst (λ (one : Segment). Contains (entry_of segment ∷ left) (entry_of one)) (one_element segments place placed.0 segment placed.1 (ap (λ (event : Event). event.place) same) stands.0 stands.1 stands'.1) (Contains-here (entry_of segment) left)
+            subst (λ (one : Segment). Contains (entry_of segment ∷ left) (entry_of one)) (one_item segments place placed.0 segment placed.1 (ap (λ (event : Event). event.place) same) stands stands') (Contains-here (entry_of segment) left)
 
   -- At a point: what a query for the greatest level at most its height answers is the height below it.
   module _ (point : Point) (at : x ≡ point.x) (begun : (placed : Placed) → StandsIn segments placed → Covers placed.1 x → Contains done (beginning_of placed.0 placed.1)) where
@@ -153,7 +149,7 @@ module _ (segments : List Segment) (done : List Event) (entries : List Entry) (h
     under : (P : Entry → Type 0) → All P (live_entries x entries) → (k : ℕ) (d : Segment) → k < length segments → IsUnder point (get_or segments k d) → P (entry_of (get_or segments k d))
     under P all k d inside (covers, low) =
         let segment = get_or segments k d in
-        let stands : StandsIn segments (k, segment) = (inside, get_or_default segments k segment d inside) in
+        let stands : StandsIn segments (k, segment) = StandsAt-read segments k d inside in
         let here : Covers segment x = subst (Covers segment) (sym at) covers in
         All-contains P (live_entries x entries) (entry_of segment) all (live (k, segment) stands (begun (k, segment) stands here) here.1)
 

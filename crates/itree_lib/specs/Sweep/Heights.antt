@@ -1,5 +1,6 @@
 -- What a sweep over horizontal segments answers, and when two segments overlap.
-use Rattle.std.specs.Prelude.{◌≡◌, ◌⊎◌, ℕ, ◌<◌, ℤ, ◌<ℤ◌, ◌≤ℤ◌, List, Option, Some, None, All, AllPairs, Any, length, get_or}
+use Rattle.std.specs.Prelude.{◌≡◌, ◌⊎◌, ℕ, ◌<◌, ℤ, ◌<ℤ◌, ◌≤ℤ◌, List, Option, Some, None, All, AllPairs, Any}
+use Rattle.event_queue.specs.Queue.{StandsAt}
 use Rattle.itree_lib.specs.declared.sweep.Point.{Point}
 use Rattle.itree_lib.specs.declared.sweep.Segment.{Segment}
 
@@ -25,10 +26,6 @@ Collide first second = (first.y ≡ second.y) × ((x : ℤ) × Covers first x ×
 -- no two segments of the list collide
 abbrev pub NoneCollide : List Segment → Type 0
 NoneCollide segments = AllPairs (λ first second. ¬ (Collide first second)) segments
-
--- the item stands at this place of the list
-abbrev pub StandsAt : {X : Type 0} → List X → ℕ → X → Type 0
-StandsAt items place item = (place < length items) × (get_or items place item ≡ item)
 
 -- a segment and its place in a list
 abbrev pub Placed : Type 0

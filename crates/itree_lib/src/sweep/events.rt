@@ -1,71 +1,39 @@
 //! The events of a sweep, in the order in which they are served.
 
-ghost use Rattle.std.specs.Prelude.{IfOk, OnOk};
-ghost use Rattle.itree_lib.specs.Sweep.Schedule.{IsSchedule, GainsBegins, GainsAnswers};
+ghost use Rattle.std.specs.Prelude.{◌≡◌, IfOk};
+ghost use Rattle.itree_lib.specs.Sweep.Events.{IsQueue, begin_x};
 
 use super::{Point, Segment};
+use event_queue::{Event, events_in_order};
 use std::alloc::{AllocError, Allocator};
 
-/// What is done at an event. At one x segments begin before points are answered.
-#[derive(Clone, Copy, PartialEq, Eq, PartialOrd, Ord)]
-pub enum Task {
-    /// A segment begins.
-    Begin,
-    /// A point is answered.
-    Answer,
-}
-
-/// An event at an x: what is done there, and with the segment or the point at which place.
-#[derive(Clone, Copy, PartialEq, Eq, PartialOrd, Ord)]
-pub struct Event {
-    pub x: i32,
-    pub task: Task,
-    pub place: usize,
-}
-
-/// The events of all segments that cover something, and of all points, in order.
-pub fn schedule<A: Allocator>(
+/// The events of all segments that cover something, and of all points, in order. A level expires behind its segment, so
+/// that no event ends one.
+pub fn events_of<A: Allocator>(
     alloc: A,
     segments: &[Segment],
     points: &[Point],
 ) -> Result<Vec<Event, A>, AllocError>
-    ensures { IfOk result (λ events. IsSchedule segments.now points.now events.items) }
+    ensures { IfOk result (λ events. IsQueue segments.now points.now events.items) }
 {
-    let mut events = Vec::new(alloc);
-    push_begins(&mut events, segments)?;
-    push_answers(&mut events, points)?;
-    events.sort_unstable();
-    Ok(events)
+    let never = |_segment: Segment| None;
+    events_in_order(
+        alloc,
+        segments,
+        points,
+        never,
+        begin_x,
+        |point: Point| Some(point.x),
+    )
 }
 
-// Appends the event of each segment that covers something.
-fn push_begins<A: Allocator>(
-    events: &mut Vec<Event, A>,
-    segments: &[Segment],
-) -> Result<(), AllocError>
-    ensures { OnOk result (GainsBegins segments.now events.old.items events.new.items) }
+/// Where the segment begins, if it covers something.
+fn begin_x(segment: Segment) -> Option<i32>
+    ensures { result ≡ begin_x segment }
 {
-    for (place, segment) in segments.iter().enumerate() {
-        if segment.x0 <= segment.x1 {
-            let task = Task::Begin;
-            let x = segment.x0;
-            events.push(Event { x, task, place })?;
-        }
+    if segment.x1 < segment.x0 {
+        None
+    } else {
+        Some(segment.x0)
     }
-    Ok(())
-}
-
-// Appends the event of each point.
-fn push_answers<A: Allocator>(
-    events: &mut Vec<Event, A>,
-    points: &[Point],
-) -> Result<(), AllocError>
-    ensures { OnOk result (GainsAnswers points.now events.old.items events.new.items) }
-{
-    for (place, point) in points.iter().enumerate() {
-        let task = Task::Answer;
-        let x = point.x;
-        events.push(Event { x, task, place })?;
-    }
-    Ok(())
 }

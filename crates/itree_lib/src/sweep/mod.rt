@@ -7,12 +7,13 @@ ghost use Rattle.i_tree.specs.Root.Answer.{AtMost};
 ghost use Rattle.i_tree.specs.Root.Change.{Gains, Without};
 ghost use Rattle.i_tree.specs.Root.Pairs.{HasKey, NoKey};
 ghost use Rattle.itree_lib.specs.Sweep.Levels.{cmp_levels, entry_of, level_of, live_entries, HasEnded};
-ghost use Rattle.itree_lib.specs.Sweep.Schedule.{IsSchedule};
+ghost use Rattle.itree_lib.specs.Sweep.Events.{IsQueue};
 ghost use Rattle.itree_lib.specs.Sweep.Heights.{IsHeightBelow, NoneCollide, IsFirstOverlap};
 ghost use Rattle.itree_lib.specs.declared.sweep.SweepFault.TheVariants.{Refused};
 ghost use Rattle.i_tree.specs.declared.Refusal.TheVariants.{OutOfMemory};
 
-use events::{Event, Task, schedule};
+use event_queue::{Event, Task};
+use events::events_of;
 use i_tree::key::exp::KeyExpCollection;
 use i_tree::{ExpiredKey, Refusal};
 use std::alloc::{AllocError, AllocFailed, Allocator};
@@ -159,7 +160,7 @@ where
     ensures err { OnErr result (out.new.items ≡ out.old.items) }
 {
     let alloc = *out.allocator();
-    let events = schedule(alloc, segments, points)?;
+    let events = events_of(alloc, segments, points)?;
     let mut answers = Vec::new(alloc);
     answers.resize(points.len(), None)?;
     serve_all(store, segments, points, &events, &mut answers)?;
@@ -176,13 +177,14 @@ fn serve_all<C: KeyExpCollection<Level, i32, Option<i32>>>(
     answers: &mut [Option<i32>],
 ) -> Result<(), SweepFault>
     requires empty { C.stored store.old ≡ [] }
-    requires schedule { IsSchedule segments.now points.now events.now }
+    requires queue { IsQueue segments.now points.now events.now }
     requires room { length answers.old ≡ length points.now }
     ensures ok { OnOk result (NoneCollide segments.now × AllZip (IsHeightBelow segments.now) points.now answers.new) }
     ensures overlap { (place : ℕ) → result ≡ Err (SweepFault.Overlap place) → IsFirstOverlap segments.now place }
 {
     for event in events {
         match event.task {
+            Task::End => {}
             Task::Begin => begin(store, event.place, segments[event.place])?,
             Task::Answer => answers[event.place] = height_below(store, points[event.place]),
         }

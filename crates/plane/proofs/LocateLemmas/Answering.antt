@@ -1,29 +1,28 @@
 -- How a point is answered.
 use Rattle.std.proofs.Common.{◌≡◌, ◌≢◌, inl, inr, ℕ, ◌<◌, ◌+◌, ℤ, pos, ◌+ℤ◌, List, [], ◌∷◌, ◌++◌, Option, Some, None, length, get_or, set, take, refl, sym, ap, ◌∙◌, subst, ⊎_elim, arith}
 use Rattle.std.specs.List.{All, Contains}
-use Rattle.std.specs.Ordering.{MatchOrdering, nat_cmp}
-use Rattle.std.specs.declared.cmp.Ordering.{Ordering}
-use Rattle.std.specs.declared.cmp.Ordering.TheVariants.{Less, Equal, Greater}
-use Rattle.std.proofs.lemmas.Cmp.{ranked}
-use Rattle.std.proofs.lemmas.Grind.{get_or-set_at}
-use Rattle.std.proofs.lemmas.Int.{ints, by_lt_z}
-use Rattle.std.proofs.lemmas.List.{get_or_default, get_or-set_other, length-set}
-use Rattle.std.proofs.lemmas.List.Elements.{All-contains, All-weaker, Contains-append_left, Contains-push_cases}
+use Rattle.std.specs.declared.cmp.Ordering.TheVariants.{Greater}
+use Rattle.std.proofs.lemmas.Int.{ints}
+use Rattle.std.proofs.lemmas.List.Elements.{All-contains, All-weaker, Contains-append_left}
 use Rattle.i_tree.proofs.RootLemmas.Joined.{Contains-middle}
 use Rattle.i_tree.specs.Root.Along.{IsLast, IsMonotoneAlong}
 use Rattle.i_tree.specs.Root.Change.{Without}
+use Rattle.event_queue.proofs.QueueLemmas.Answers.{Answered-set}
+use Rattle.event_queue.proofs.QueueLemmas.Places.{StandsAt-read, one_item, slice_get-stands}
 use Rattle.plane.specs.declared.edge.Edge.{Edge}
 use Rattle.plane.specs.declared.locate.point.Point.{Point}
-use Rattle.plane.specs.declared.locate.events.Event.{Event}
-use Rattle.plane.specs.declared.locate.events.Task.TheVariants.{End, Begin, Answer}
+use Rattle.event_queue.specs.declared.Event.{Event}
+use Rattle.event_queue.specs.declared.Task.TheVariants.{End, Begin, Answer}
 use Rattle.plane.specs.declared.locate.standing.Standing.{Standing}
 use Rattle.plane.specs.Locate.Answers.{IsHighestUnder, IsPlaceBelow}
 use Rattle.plane.specs.Locate.Heights.{rightwards, IsUnder, IsLowerAt}
-use Rattle.plane.specs.Locate.Schedule.{StandsAt, CoversSome, answering_of, Precedes, IsSchedule}
+use Rattle.event_queue.specs.Queue.{StandsAt, Precedes}
+use Rattle.plane.specs.Locate.Events.{CoversSome, answering_of, IsQueue}
 use Rattle.plane.specs.Locate.Serving.{IsPlaceUnder, place_of}
 use Rattle.plane.specs.Locate.Standings.{Entry, cmp_to_point, live_entries, IsExpiredAt}
-use Rattle.plane.proofs.LocateLemmas.Begun.{begin_of, end_of, IsBegun, HasEnded, one_element, slice_get-stands, turned, done_earlier, IsBegun-more, IsBegun-before}
-use Rattle.plane.proofs.LocateLemmas.Done.{upto-precedes, precedes, done_before, one_more, answers_of}
+use Rattle.plane.proofs.LocateLemmas.Begun.{begin_of, end_of, IsBegun, HasEnded, turned, IsBegun-more, IsBegun-before}
+use Rattle.event_queue.proofs.QueueLemmas.Done.{begin-precedes, done_earlier, upto-precedes, precedes, done_before, one_more}
+use Rattle.plane.proofs.LocateLemmas.Events.{answers_of, is_beginning}
 use Rattle.plane.proofs.LocateLemmas.Later.{live-without}
 use Rattle.plane.proofs.LocateLemmas.Line.{AllLiveAt, Line}
 use Rattle.plane.proofs.LocateLemmas.Rightwards.{rightwards-same}
@@ -31,7 +30,7 @@ use Rattle.plane.proofs.LocateLemmas.Swept.{Swept, line_at, all_live_at, live_is
 use Rattle.plane.proofs.LocateLemmas.Turned.{IsUnder-turned, IsLowerAt-turned}
 use Rattle.plane.proofs.LocateLemmas.Under.{point_monotone, none_under, highest_under}
 
-module _ (edges : List Edge) (points : List Point) (events : List Event) (schedule : IsSchedule edges points events)
+module _ (edges : List Edge) (points : List Point) (events : List Event) (queue : IsQueue edges points events)
     (k : ℕ) (event : Event) (inside : k < length events) (is : event ≡ get_or events k event)
     (stored : List Entry) (answers : List (Option ℕ)) (swept : Swept edges points (take k events) stored answers)
     (d : Point) (answers_now : event.task ≡ Answer) where
@@ -39,13 +38,13 @@ module _ (edges : List Edge) (points : List Point) (events : List Event) (schedu
   point = get_or points event.place d
 
   whose : (of : Point) × StandsAt points event.place of × (event ≡ answering_of event.place of)
-  whose = answers_of edges points events schedule k event inside is answers_now
+  whose = answers_of edges points events queue k event inside is answers_now
 
   stands : StandsAt points event.place point
-  stands = let within = whose.1.0 in (within, get_or_default points event.place point d within)
+  stands = let within = whose.1.0 in StandsAt-read points event.place d within
 
   at_answer : event ≡ answering_of event.place point
-  at_answer = whose.2 ∙ ap (answering_of event.place) (one_element points event.place event.place whose.0 point refl whose.1 stands)
+  at_answer = whose.2 ∙ ap (answering_of event.place) (one_item points event.place event.place whose.0 point refl whose.1 stands)
 
   here : event.x ≡ point.x
   here = ap (λ (e : Event). e.x) at_answer
@@ -58,13 +57,13 @@ module _ (edges : List Edge) (points : List Point) (events : List Event) (schedu
 
   -- the line as it stands, which is what is live
   now : Line point.x swept.line
-  now = line_at edges points events schedule k event inside is stored answers swept point.x here
+  now = line_at edges points events queue k event inside is stored answers swept point.x here
 
   all_live : AllLiveAt point.x swept.line
-  all_live = all_live_at edges points events schedule k event inside is stored answers swept point.x here no_end
+  all_live = all_live_at edges points events queue k event inside is stored answers swept point.x here no_end
 
   is_line : live_entries point.x stored ≡ swept.line
-  is_line = live_is_line edges points events schedule k event inside is stored answers swept point.x here no_end
+  is_line = live_is_line edges points events queue k event inside is stored answers swept point.x here no_end
 
   -- an edge that covers the point's x has begun and not ended
   module _ (i : ℕ) (edge : Edge) (at : StandsAt edges i edge) (under : IsUnder point edge) where
@@ -77,19 +76,18 @@ module _ (edges : List Edge) (points : List Point) (events : List Event) (schedu
     first : Precedes (begin_of standing) event
     first =
         let from = under.covers.from in
-        subst (Precedes (begin_of standing)) (sym at_answer)
-        (by_lt_z (rightwards edge).x0 point.x (λ less. inl less) (λ behind. inr (omega (arith, ints, from, behind), tt)))
+        subst (Precedes (begin_of standing)) (sym at_answer) (begin-precedes (rightwards edge).x0 point.x i event.place from)
 
     begun : IsBegun edges (take k events) standing
     begun = record {
       one = record { edge = edge; stands = at; same = refl; onwards = some };
-      begun = done_before edges points events schedule k event inside is (begin_of standing) (schedule.begins i edge at some) first;
+      begun = done_before queue k event inside is (begin_of standing) (is_beginning edges points i edge at some) first;
     }
 
     not_ended : ¬ (HasEnded (take k events) standing)
     not_ended has =
         let before = under.covers.before in
-        let ends = upto-precedes (end_of standing) event (precedes edges points events schedule k event inside is (end_of standing) has) in
+        let ends = upto-precedes (end_of standing) event (precedes queue k event inside is (end_of standing) has) in
         omega (arith, ints, before, ends, here)
 
     in_line : Contains swept.line (standing, tt)
@@ -105,7 +103,7 @@ module _ (edges : List Edge) (points : List Point) (events : List Event) (schedu
   no_edge : IsLast (λ entry. cmp_to_point point entry.0 ≢ Greater) swept.line None → IsPlaceBelow edges point None
   no_edge none i e within under =
       let edge = get_or edges i e in
-      let at : StandsAt edges i (get_or edges i e) = (within, get_or_default edges i edge e within) in
+      let at = StandsAt-read edges i e within in
       All-contains (λ (entry : Entry). ¬ (IsUnder point entry.0.edge)) swept.line (standing i edge at under, tt) (none_under point swept.line now all_live none)
       (in_line i edge at under) (turned_under i edge at under)
 
@@ -114,7 +112,7 @@ module _ (edges : List Edge) (points : List Point) (events : List Event) (schedu
       → All (λ edge. IsUnder point edge → ¬ (IsLowerAt x other edge)) edges
   none_lower one other same x none_higher i e within under lower =
       let edge = get_or edges i e in
-      let at : StandsAt edges i (get_or edges i e) = (within, get_or_default edges i edge e within) in
+      let at = StandsAt-read edges i e within in
       All-contains (λ (entry : Entry). IsUnder point entry.0.edge → ¬ (IsLowerAt x one entry.0.edge)) swept.line (standing i edge at under, tt) none_higher
       (in_line i edge at under) (turned_under i edge at under)
       (IsLowerAt-turned other one (sym same) edge (rightwards edge) (as_turned i edge at under) x lower)
@@ -144,28 +142,7 @@ module _ (edges : List Edge) (points : List Point) (events : List Event) (schedu
       → IsBegun edges (take k events ++ event ∷ []) entry.0 × ¬ (HasEnded (take k events ++ event ∷ []) entry.0)
   still entry (is', not_yet) = (IsBegun-more edges (take k events) event entry.0 is', λ has. not_yet (done_earlier (take k events) event (end_of entry.0) no_end has))
 
-  -- the answer stands at the point's place, and the others are as they were
   module _ (told : Option ℕ) (right : IsPlaceBelow edges point told) where
-    put : (place : ℕ) (other : Point) → StandsAt points place other → (place ≢ event.place → IsPlaceBelow edges other (get_or answers place None)) → IsPlaceBelow edges other (get_or (set answers event.place told) place None)
-    put place other at elsewhere = by_place (nat_cmp place event.place) (ranked place event.place (nat_cmp place event.place) refl)
-      where
-        away : place ≢ event.place → IsPlaceBelow edges other (get_or (set answers event.place told) place None)
-        away differs = subst (IsPlaceBelow edges other) (sym (get_or-set_other answers event.place place told None differs)) (elsewhere differs)
-
-        by_place : (r : Ordering) → MatchOrdering r (place < event.place) (place ≡ event.place) (event.place < place) → IsPlaceBelow edges other (get_or (set answers event.place told) place None)
-        by_place Less below = away (λ this. omega (arith, below, this))
-        by_place Equal this =
-            subst (IsPlaceBelow edges other) (sym (get_or-set_at answers event.place place told None this (let size = swept.room in omega (arith, size, stands.0))))
-            (subst (λ (p : Point). IsPlaceBelow edges p told) (one_element points event.place place point other (sym this) stands at) right)
-        by_place Greater above = away (λ this. omega (arith, above, this))
-
-    answered : (place : ℕ) (other : Point) → StandsAt points place other → Contains (take k events ++ event ∷ []) (answering_of place other) → IsPlaceBelow edges other (get_or (set answers event.place told) place None)
-    answered place other at done =
-        ⊎_elim
-        (λ earlier. put place other at (λ _. swept.answered place other at earlier))
-        (λ this. put place other at (λ elsewhere. absurd (elsewhere (sym (ap (λ (e : Event). e.place) this)))))
-        (Contains-push_cases (take k events) event (answering_of place other) done)
-
     served : (after : List Entry) → Without (IsExpiredAt point.x) stored after → Swept edges points (take k events ++ event ∷ []) after (set answers event.place told)
     served after kept = record {
       line = swept.line;
@@ -175,15 +152,14 @@ module _ (edges : List Edge) (points : List Point) (events : List Event) (schedu
           (λ has. inl (Contains-append_left (take k events) (event ∷ []) (end_of standing) has))
           (λ held. inr held)
           (swept.each standing (IsBegun-before edges (take k events) event standing no_begin is'));
-      in_line = λ later none ends. swept.in_line later (none_behind_before edges points events schedule k event inside is stored answers swept point.x here later none) ends;
+      in_line = λ later none ends. swept.in_line later (none_behind_before edges points events queue k event inside is stored answers swept point.x here later none) ends;
       live = λ later none.
-          sym (live-without point.x later (upto_later edges points events schedule k event inside is stored answers swept point.x here later none) kept)
-          ∙ swept.live later (none_behind_before edges points events schedule k event inside is stored answers swept point.x here later none);
+          sym (live-without point.x later (upto_later edges points events queue k event inside is stored answers swept point.x here later none) kept)
+          ∙ swept.live later (none_behind_before edges points events queue k event inside is stored answers swept point.x here later none);
       ended = λ one other is' is'' has. swept.ended one other
           (IsBegun-before edges (take k events) event one no_begin is') (IsBegun-before edges (take k events) event other no_begin is'')
           (done_earlier (take k events) event (end_of one) no_end has);
-      room = length-set answers event.place told ∙ swept.room;
-      answered = answered;
+      answered = Answered-set (IsPlaceBelow edges) None points (take k events) answers swept.answered event point told stands right;
     }
 
   -- the order to the point is monotone along what is live
@@ -201,5 +177,5 @@ module _ (edges : List Edge) (points : List Point) (events : List Event) (schedu
       let right : IsPlaceBelow edges point told =
       subst (IsPlaceBelow edges point) (sym tells_place)
       (by_found found (subst (λ (entries : List Entry). IsLast (λ entry. cmp_to_point point entry.0 ≢ Greater) entries found) is_line last)) in
-      subst (λ done. Swept edges points done after (set answers event.place told)) (sym (one_more edges points events schedule k event inside is))
+      subst (λ done. Swept edges points done after (set answers event.place told)) (sym (one_more queue k event inside is))
       (served told right after kept)

@@ -1,5 +1,5 @@
 -- How the begin of an edge is served.
-use Rattle.std.proofs.Common.{◌≡◌, ◌≢◌, ◌⊎◌, inl, inr, ℕ, ◌<◌, ◌+◌, ℤ, ◌≤ℤ◌, ◌<ℤ◌, List, [], ◌∷◌, ◌++◌, Option, Some, length, get_or, take, refl, sym, ap, ◌∙◌, subst, ⊎_elim, arith}
+use Rattle.std.proofs.Common.{◌≡◌, ◌≢◌, ◌⊎◌, inl, inr, ℕ, ◌<◌, ◌+◌, ℤ, ◌≤ℤ◌, ◌<ℤ◌, List, [], ◌∷◌, ◌++◌, Option, None, Some, length, get_or, take, refl, sym, ap, ◌∙◌, subst, ⊎_elim, arith}
 use Rattle.std.specs.List.{All, Contains}
 use Rattle.std.proofs.lemmas.Int.{ints}
 use Rattle.std.proofs.lemmas.List.Elements.{All-cons, All-weaker, Contains-append_left, Contains-push, Contains-push_cases, filter-append}
@@ -7,32 +7,36 @@ use Rattle.i_tree.proofs.RootLemmas.Joined.{Contains-middle}
 use Rattle.i_tree.proofs.RootLemmas.Lists.{Without-filter}
 use Rattle.i_tree.specs.Root.Along.{AreNeighbours, IsMonotoneAlong, NoneEqual}
 use Rattle.i_tree.specs.Root.Change.Without.{keeps}
+use Rattle.event_queue.proofs.QueueLemmas.Answers.{Answered-other}
+use Rattle.plane.specs.Locate.Answers.{IsPlaceBelow}
 use Rattle.plane.specs.declared.edge.Edge.{Edge}
 use Rattle.plane.specs.declared.locate.point.Point.{Point}
-use Rattle.plane.specs.declared.locate.events.Event.{Event}
-use Rattle.plane.specs.declared.locate.events.Task.TheVariants.{End, Begin, Answer}
+use Rattle.event_queue.specs.declared.Event.{Event}
+use Rattle.event_queue.specs.declared.Task.TheVariants.{End, Begin, Answer}
 use Rattle.plane.specs.declared.locate.standing.Standing.{Standing}
 use Rattle.plane.specs.Locate.Crossings.{Cross, IsCrossing}
 use Rattle.plane.specs.Locate.Heights.{rightwards}
-use Rattle.plane.specs.Locate.Schedule.{StandsAt, CoversSome, beginning_of, answering_of, Precedes, IsSchedule}
+use Rattle.event_queue.specs.Queue.{StandsAt, Precedes}
+use Rattle.plane.specs.Locate.Events.{CoversSome, beginning_of, IsQueue}
 use Rattle.plane.specs.Locate.Serving.{HaveCrossing, JoinsAt}
 use Rattle.plane.specs.Locate.Standings.{Entry, cmp_standings, is_live_at, live_entries, IsExpiredAt, NotCross}
 use Rattle.plane.proofs.LocateLemmas.Adjacent.{All-joined}
 use Rattle.plane.proofs.LocateLemmas.Advance.{advance}
 use Rattle.plane.proofs.LocateLemmas.Begins.{begin_monotone, begin_new, begin_kept}
-use Rattle.plane.proofs.LocateLemmas.Begun.{begin_of, end_of, IsOneOf, IsBegun, HasEnded, same_standing, edge_at, is_one_of, begin_is, done_earlier, IsBegun-more, IsCrossing-among}
-use Rattle.plane.proofs.LocateLemmas.Done.{upto-precedes, precedes, one_more, begins_of}
+use Rattle.plane.proofs.LocateLemmas.Begun.{begin_of, end_of, IsOneOf, IsBegun, HasEnded, same_standing, edge_at, is_one_of, begin_is, IsBegun-more, IsCrossing-among}
+use Rattle.event_queue.proofs.QueueLemmas.Done.{done_earlier, upto-precedes, precedes, one_more}
+use Rattle.plane.proofs.LocateLemmas.Events.{begins_of}
 use Rattle.plane.proofs.LocateLemmas.Later.{around_more, live-without, Without-append}
 use Rattle.plane.proofs.LocateLemmas.Line.{AllLiveAt, BeganBefore, Line}
 use Rattle.plane.proofs.LocateLemmas.Swept.{Swept, NoneBehind, line_at, all_live_at, live_is_line, live_are, live_onwards, upto_later}
 use Rattle.plane.proofs.LocateLemmas.Turned.{uncrossed_before}
 
-module _ (edges : List Edge) (points : List Point) (events : List Event) (schedule : IsSchedule edges points events)
+module _ (edges : List Edge) (points : List Point) (events : List Event) (queue : IsQueue edges points events)
     (k : ℕ) (event : Event) (inside : k < length events) (is : event ≡ get_or events k event)
     (stored : List Entry) (answers : List (Option ℕ)) (swept : Swept edges points (take k events) stored answers)
     (d : Edge) (begins : event.task ≡ Begin) (beginning : Standing) (edge_is : beginning.edge ≡ rightwards (get_or edges event.place d)) (place_is : beginning.place ≡ event.place) where
   whose : (edge : Edge) × StandsAt edges event.place edge × CoversSome edge × (event ≡ beginning_of event.place edge)
-  whose = begins_of edges points events schedule k event inside is begins
+  whose = begins_of edges points events queue k event inside is begins
 
   same : beginning.edge ≡ rightwards whose.0
   same = edge_at edges beginning event.place whose.0 d whose.1 edge_is
@@ -54,19 +58,19 @@ module _ (edges : List Edge) (points : List Point) (events : List Event) (schedu
 
   -- the line as it stands, which is what is live
   now : Line beginning.edge.x0 swept.line
-  now = line_at edges points events schedule k event inside is stored answers swept beginning.edge.x0 here
+  now = line_at edges points events queue k event inside is stored answers swept beginning.edge.x0 here
 
   all_live : AllLiveAt beginning.edge.x0 swept.line
-  all_live = all_live_at edges points events schedule k event inside is stored answers swept beginning.edge.x0 here no_end
+  all_live = all_live_at edges points events queue k event inside is stored answers swept beginning.edge.x0 here no_end
 
   is_line : live_entries beginning.edge.x0 stored ≡ swept.line
-  is_line = live_is_line edges points events schedule k event inside is stored answers swept beginning.edge.x0 here no_end
+  is_line = live_is_line edges points events queue k event inside is stored answers swept beginning.edge.x0 here no_end
 
   -- it begins last
   last : All (λ entry. BeganBefore entry.0 beginning) swept.line
   last =
       All-weaker (λ (entry : Entry). IsBegun edges (take k events) entry.0 × ¬ (HasEnded (take k events) entry.0)) (λ entry. BeganBefore entry.0 beginning)
-      (λ entry which. let begun = which.0 in subst (Precedes (begin_of entry.0)) at_begin (precedes edges points events schedule k event inside is (begin_of entry.0) begun.begun))
+      (λ entry which. let begun = which.0 in subst (Precedes (begin_of entry.0)) at_begin (precedes queue k event inside is (begin_of entry.0) begun.begun))
       swept.line swept.of
 
   begun : IsBegun edges (take k events ++ event ∷ []) beginning
@@ -76,7 +80,7 @@ module _ (edges : List Edge) (points : List Point) (events : List Event) (schedu
   ended_upto : (standing : Standing) → HasEnded (take k events) standing → standing.edge.x1 ≤ℤ beginning.edge.x0
   ended_upto standing has =
       subst (λ (x : ℤ). standing.edge.x1 ≤ℤ x) here
-      (upto-precedes (end_of standing) event (precedes edges points events schedule k event inside is (end_of standing) has))
+      (upto-precedes (end_of standing) event (precedes queue k event inside is (end_of standing) has))
 
   not_ended : ¬ (HasEnded (take k events ++ event ∷ []) beginning)
   not_ended has =
@@ -121,7 +125,7 @@ module _ (edges : List Edge) (points : List Point) (events : List Event) (schedu
         (subst (λ (entries : List Entry). AreNeighbours (λ other. cmp_standings other beginning) entries found) is_line are) apart_below apart_above
 
     upto : (later : ℤ) → NoneBehind (take k events ++ event ∷ []) later → beginning.edge.x0 ≤ℤ later
-    upto later none = upto_later edges points events schedule k event inside is stored answers swept beginning.edge.x0 here later none
+    upto later none = upto_later edges points events queue k event inside is stored answers swept beginning.edge.x0 here later none
 
     of : All (λ entry. IsBegun edges (take k events ++ event ∷ []) entry.0 × ¬ (HasEnded (take k events ++ event ∷ []) entry.0)) (below ++ (beginning, tt) ∷ above)
     of =
@@ -167,8 +171,7 @@ module _ (edges : List Edge) (points : List Point) (events : List Event) (schedu
       in_line = λ later none ends. advance beginning.edge.x0 later (below ++ (beginning, tt) ∷ above) (upto later none) ends joined;
       live = live_later;
       ended = ended;
-      room = swept.room;
-      answered = λ place point stands done. swept.answered place point stands (done_earlier (take k events) event (answering_of place point) no_answer done);
+      answered = Answered-other (IsPlaceBelow edges) None points (take k events) answers swept.answered event no_answer;
     }
 
   -- it goes to the right, as all that is live does
@@ -176,7 +179,7 @@ module _ (edges : List Edge) (points : List Point) (events : List Event) (schedu
   begin_onwards = one_of.onwards
 
   pub begin_live_onwards : All (λ entry. entry.0.edge.x0 <ℤ entry.0.edge.x1) (live_entries beginning.edge.x0 stored)
-  begin_live_onwards = live_onwards edges points events schedule k event inside is stored answers swept beginning.edge.x0 here
+  begin_live_onwards = live_onwards edges points events queue k event inside is stored answers swept beginning.edge.x0 here
 
   -- the order to the edge is monotone along what is live, none of which it calls Equal
   pub begin_requires : IsMonotoneAlong (λ other. cmp_standings other beginning) (live_entries beginning.edge.x0 stored)
@@ -194,12 +197,12 @@ module _ (edges : List Edge) (points : List Point) (events : List Event) (schedu
   begin_crossing i j among =
       IsCrossing-among edges ((beginning, tt) ∷ live_entries beginning.edge.x0 stored)
       (All-cons (λ (entry : Entry). IsOneOf edges entry.0) (beginning, tt) (live_entries beginning.edge.x0 stored) one_of
-      (live_are edges points events schedule k event inside is stored answers swept beginning.edge.x0 here)) i j among
+      (live_are edges points events queue k event inside is stored answers swept beginning.edge.x0 here)) i j among
 
   -- where it crosses neither of the two beside it, it is served
   pub Swept-begun : (after : List Entry) (found : Option Entry × Option Entry) → AreNeighbours (λ other. cmp_standings other beginning) (live_entries beginning.edge.x0 stored) found
       → NotCross found.0 (Some (beginning, tt)) → NotCross (Some (beginning, tt)) found.1 → JoinsAt beginning.edge.x0 (beginning, tt) stored after
       → Swept edges points (take (k + 1) events) after answers
   Swept-begun after found are apart_below apart_above joins =
-      subst (λ done. Swept edges points done after answers) (sym (one_more edges points events schedule k event inside is))
+      subst (λ done. Swept edges points done after answers) (sym (one_more queue k event inside is))
       (served after found are apart_below apart_above joins)

@@ -4,18 +4,21 @@ use Rattle.std.specs.List.{All, Contains, slice_get}
 use Rattle.std.specs.declared.cmp.Ordering.TheVariants.{Less, Greater}
 use Rattle.std.proofs.lemmas.Bool.{cases_lt}
 use Rattle.std.proofs.lemmas.List.{get_or_default}
-use Rattle.std.proofs.lemmas.List.Elements.{All-contains, Contains-append_left, Contains-push_cases}
-use Rattle.std.proofs.lemmas.Option.{slice_get-get_or}
+use Rattle.std.proofs.lemmas.List.Elements.{All-contains, Contains-append_left}
 use Rattle.plane.specs.declared.edge.Edge.{Edge}
 use Rattle.plane.specs.declared.locate.point.Point.{Point}
-use Rattle.plane.specs.declared.locate.events.Event.{Event}
-use Rattle.plane.specs.declared.locate.events.Task.TheVariants.{End, Begin}
+use Rattle.event_queue.specs.declared.Event.{Event}
+use Rattle.event_queue.specs.declared.Task.TheVariants.{End, Begin}
 use Rattle.plane.specs.declared.locate.standing.Standing.{Standing}
 use Rattle.plane.specs.Locate.Crossings.{Cross, IsCrossing}
 use Rattle.plane.specs.Locate.Heights.{rightwards}
-use Rattle.plane.specs.Locate.Schedule.{StandsAt, CoversSome, ending_of, beginning_of, IsSchedule}
+use Rattle.event_queue.specs.Queue.{StandsAt}
+use Rattle.plane.specs.Locate.Events.{CoversSome, ending_of, beginning_of, IsEventOf}
 use Rattle.plane.specs.Locate.Serving.{ArePlacesOfCrossing, HaveCrossing}
 use Rattle.plane.specs.Locate.Standings.{Entry, cmp_standings}
+use Rattle.event_queue.proofs.QueueLemmas.Done.{done_earlier}
+use Rattle.event_queue.proofs.QueueLemmas.Places.{one_item, slice_get-stands}
+use Rattle.plane.proofs.LocateLemmas.Events.{is_beginning, is_ending}
 use Rattle.plane.proofs.LocateLemmas.Exchanged.{greater_from_less}
 use Rattle.plane.proofs.LocateLemmas.Rightwards.{rightwards-same}
 use Rattle.plane.proofs.LocateLemmas.Turned.{Cross-turned, uncrossed_itself}
@@ -52,13 +55,6 @@ HasEnded done standing = Contains done (end_of standing)
 
 -- ---- the edges
 
--- one element stands at a place
-pub one_element : {X : Type 0} (xs : List X) (i j : ℕ) (x y : X) → i ≡ j → StandsAt xs i x → StandsAt xs j y → x ≡ y
-one_element xs i j x y same (inside, at) (inside', at') = sym at ∙ get_or_default xs i x y inside ∙ ap (λ k. get_or xs k y) same ∙ at'
-
-pub slice_get-stands : {X : Type 0} (xs : List X) (i : ℕ) (x : X) → StandsAt xs i x → slice_get xs i ≡ Some x
-slice_get-stands xs i x (inside, at) = slice_get-get_or xs i x inside ∙ ap Some at
-
 pub standing_of_parts : (one other : Standing) → one.edge ≡ other.edge → one.place ≡ other.place → one ≡ other
 standing_of_parts one other edge place =
     let first : one ≡ record { edge = other.edge; place = one.place } = ap (λ (e : Edge). record { edge = e; place = one.place }) edge in
@@ -75,16 +71,11 @@ begin_is standing place edge same place_is = ap (λ (e : Edge). begin_at standin
 pub never_before_itself : (standing : Standing) → ¬ (cmp_standings standing standing ≡ Less)
 never_before_itself standing less = let apart : Less ≡ Greater = sym less ∙ greater_from_less standing standing less in cc
 
--- what is done after an event of another task was done before it
-pub done_earlier : (done : List Event) (event other : Event) → event.task ≢ other.task → Contains (done ++ event ∷ []) other → Contains done other
-done_earlier done event other differ held =
-    ⊎_elim (λ before. before) (λ this. absurd (differ (ap (λ (e : Event). e.task) this))) (Contains-push_cases done event other held)
-
 module _ (edges : List Edge) where
   -- each is told by its place
   pub same_standing : (one other : Standing) → IsOneOf edges one → IsOneOf edges other → one.place ≡ other.place → one ≡ other
   same_standing one other is is' place =
-      standing_of_parts one other (is.same ∙ ap rightwards (one_element edges one.place other.place is.edge is'.edge place is.stands is'.stands) ∙ sym is'.same) place
+      standing_of_parts one other (is.same ∙ ap rightwards (one_item edges one.place other.place is.edge is'.edge place is.stands is'.stands) ∙ sym is'.same) place
 
   pub turned : (standing : Standing) (is : IsOneOf edges standing) → rightwards standing.edge ≡ rightwards is.edge
   turned standing is = rightwards-same standing.edge is.onwards ∙ is.same
@@ -144,11 +135,11 @@ module _ (edges : List Edge) where
     pub IsBegun-before : event.task ≢ Begin → IsBegun edges (done ++ event ∷ []) standing → IsBegun edges done standing
     IsBegun-before none is = record { one = is.one; begun = done_earlier done event (begin_of standing) none is.begun }
 
-  -- ---- the schedule
+  -- ---- its events
 
-  module _ (points : List Point) (events : List Event) (schedule : IsSchedule edges points events) (standing : Standing) (is : IsOneOf edges standing) where
-    pub begin_known : Contains events (begin_of standing)
-    begin_known = subst (λ (edge : Edge). Contains events (begin_at standing.place edge)) (sym is.same) (schedule.begins standing.place is.edge is.stands (covers standing is))
+  module _ (points : List Point) (standing : Standing) (is : IsOneOf edges standing) where
+    pub begin_known : IsEventOf edges points (begin_of standing)
+    begin_known = subst (λ (edge : Edge). IsEventOf edges points (begin_at standing.place edge)) (sym is.same) (is_beginning edges points standing.place is.edge is.stands (covers standing is))
 
-    pub end_known : Contains events (end_of standing)
-    end_known = subst (λ (edge : Edge). Contains events (end_at standing.place edge)) (sym is.same) (schedule.ends standing.place is.edge is.stands (covers standing is))
+    pub end_known : IsEventOf edges points (end_of standing)
+    end_known = subst (λ (edge : Edge). IsEventOf edges points (end_at standing.place edge)) (sym is.same) (is_ending edges points standing.place is.edge is.stands (covers standing is))

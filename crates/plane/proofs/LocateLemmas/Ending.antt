@@ -1,5 +1,5 @@
 -- How the end of an edge is served.
-use Rattle.std.proofs.Common.{◌≡◌, ◌≢◌, ◌⊎◌, inl, inr, ℕ, ◌<◌, ◌+◌, ℤ, ◌≤ℤ◌, ◌<ℤ◌, List, [], ◌∷◌, ◌++◌, Option, length, get_or, take, refl, sym, ap, ◌∙◌, subst, ⊎_elim, arith}
+use Rattle.std.proofs.Common.{◌≡◌, ◌≢◌, ◌⊎◌, inl, inr, ℕ, ◌<◌, ◌+◌, ℤ, ◌≤ℤ◌, ◌<ℤ◌, List, [], ◌∷◌, ◌++◌, Option, None, length, get_or, take, refl, sym, ap, ◌∙◌, subst, ⊎_elim, arith}
 use Rattle.std.specs.List.{All, Contains}
 use Rattle.std.specs.declared.cmp.Ordering.TheVariants.{Less}
 use Rattle.std.proofs.lemmas.Int.{ints}
@@ -7,20 +7,24 @@ use Rattle.std.proofs.lemmas.List.Elements.{All-append, All-contains, All-weaker
 use Rattle.i_tree.proofs.RootLemmas.Withouts.{Without-middle}
 use Rattle.i_tree.specs.Root.Along.{AreNeighbours, IsMonotoneAlong}
 use Rattle.i_tree.specs.Root.Change.{Without}
+use Rattle.event_queue.proofs.QueueLemmas.Answers.{Answered-other}
+use Rattle.plane.specs.Locate.Answers.{IsPlaceBelow}
 use Rattle.plane.specs.declared.edge.Edge.{Edge}
 use Rattle.plane.specs.declared.locate.point.Point.{Point}
-use Rattle.plane.specs.declared.locate.events.Event.{Event}
-use Rattle.plane.specs.declared.locate.events.Task.TheVariants.{End, Begin, Answer}
+use Rattle.event_queue.specs.declared.Event.{Event}
+use Rattle.event_queue.specs.declared.Task.TheVariants.{End, Begin, Answer}
 use Rattle.plane.specs.declared.locate.standing.Standing.{Standing}
 use Rattle.plane.specs.Locate.Crossings.{Cross, IsCrossing}
 use Rattle.plane.specs.Locate.Heights.{rightwards}
-use Rattle.plane.specs.Locate.Schedule.{StandsAt, CoversSome, ending_of, answering_of, Precedes, IsSchedule}
+use Rattle.event_queue.specs.Queue.{StandsAt, Precedes}
+use Rattle.plane.specs.Locate.Events.{CoversSome, ending_of, IsQueue}
 use Rattle.plane.specs.Locate.Serving.{HaveCrossing}
 use Rattle.plane.specs.Locate.Standings.{Entry, cmp_standings, cmp_to_ending, live_entries, IsExpiredAt, NotCross}
 use Rattle.plane.proofs.LocateLemmas.Adjacent.{All-left_out, AllPairs-before, AllPairs-after}
 use Rattle.plane.proofs.LocateLemmas.Advance.{advance}
-use Rattle.plane.proofs.LocateLemmas.Begun.{begin_of, end_of, IsOneOf, IsBegun, HasEnded, same_standing, edge_at, is_one_of, end_is, done_earlier, IsBegun-more, IsBegun-before, begin_known, never_before_itself, IsCrossing-among}
-use Rattle.plane.proofs.LocateLemmas.Done.{never_both, precedes, done_before, one_more, ends_of}
+use Rattle.plane.proofs.LocateLemmas.Begun.{begin_of, end_of, IsOneOf, IsBegun, HasEnded, same_standing, edge_at, is_one_of, end_is, IsBegun-more, IsBegun-before, begin_known, never_before_itself, IsCrossing-among}
+use Rattle.event_queue.proofs.QueueLemmas.Done.{never_both, precedes, done_before, one_more}
+use Rattle.plane.proofs.LocateLemmas.Events.{ends_of}
 use Rattle.plane.proofs.LocateLemmas.Ends.{end_monotone, end_uncrossed, end_kept}
 use Rattle.plane.proofs.LocateLemmas.Later.{cut_around, around_cases, live-without}
 use Rattle.plane.proofs.LocateLemmas.Line.{Line}
@@ -29,12 +33,12 @@ use Rattle.plane.proofs.LocateLemmas.Swept.{Swept, NoneBehind, line_at, live_at,
 use Rattle.plane.proofs.LocateLemmas.Turned.{uncrossed_itself}
 use Rattle.plane.proofs.LocateLemmas.Uncrossed.{Cross-exchanged}
 
-module _ (edges : List Edge) (points : List Point) (events : List Event) (schedule : IsSchedule edges points events)
+module _ (edges : List Edge) (points : List Point) (events : List Event) (queue : IsQueue edges points events)
     (k : ℕ) (event : Event) (inside : k < length events) (is : event ≡ get_or events k event)
     (stored : List Entry) (answers : List (Option ℕ)) (swept : Swept edges points (take k events) stored answers)
     (d : Edge) (ends : event.task ≡ End) (ending : Standing) (edge_is : ending.edge ≡ rightwards (get_or edges event.place d)) (place_is : ending.place ≡ event.place) where
   whose : (edge : Edge) × StandsAt edges event.place edge × CoversSome edge × (event ≡ ending_of event.place edge)
-  whose = ends_of edges points events schedule k event inside is ends
+  whose = ends_of edges points events queue k event inside is ends
 
   same : ending.edge ≡ rightwards whose.0
   same = edge_at edges ending event.place whose.0 d whose.1 edge_is
@@ -58,13 +62,13 @@ module _ (edges : List Edge) (points : List Point) (events : List Event) (schedu
   begun : IsBegun edges (take k events) ending
   begun = record {
     one = one_of;
-    begun = done_before edges points events schedule k event inside is (begin_of ending) (begin_known edges points events schedule ending one_of)
+    begun = done_before queue k event inside is (begin_of ending) (begin_known edges points ending one_of)
         (subst (Precedes (begin_of ending)) (sym at_end) (let onwards = one_of.onwards in inl onwards));
   }
 
   not_ended : ¬ (HasEnded (take k events) ending)
   not_ended has =
-      let first = subst (λ (e : Event). Precedes e event) (sym at_end) (precedes edges points events schedule k event inside is (end_of ending) has) in
+      let first = subst (λ (e : Event). Precedes e event) (sym at_end) (precedes queue k event inside is (end_of ending) has) in
       never_both event event first first
 
   in_line : Contains swept.line (ending, tt)
@@ -79,10 +83,10 @@ module _ (edges : List Edge) (points : List Point) (events : List Event) (schedu
 
   module _ (front back : List Entry) (cut : swept.line ≡ front ++ (ending, tt) ∷ back) where
     whole : Line ending.edge.x1 (front ++ (ending, tt) ∷ back)
-    whole = subst (λ (entries : List Entry). Line ending.edge.x1 entries) cut (line_at edges points events schedule k event inside is stored answers swept ending.edge.x1 here)
+    whole = subst (λ (entries : List Entry). Line ending.edge.x1 entries) cut (line_at edges points events queue k event inside is stored answers swept ending.edge.x1 here)
 
     live_whole : live_entries ending.edge.x1 stored ≡ live_entries ending.edge.x1 (front ++ (ending, tt) ∷ back)
-    live_whole = live_at edges points events schedule k event inside is stored answers swept ending.edge.x1 here ∙ ap (live_entries ending.edge.x1) cut
+    live_whole = live_at edges points events queue k event inside is stored answers swept ending.edge.x1 here ∙ ap (live_entries ending.edge.x1) cut
 
     monotone : IsMonotoneAlong (cmp_to_ending ending) (live_entries ending.edge.x1 stored)
     monotone =
@@ -138,14 +142,14 @@ module _ (edges : List Edge) (points : List Point) (events : List Event) (schedu
           (subst (λ (entries : List Entry). AreNeighbours (cmp_to_ending ending) entries found) live_whole are) apart
 
       upto : (later : ℤ) → NoneBehind (take k events ++ event ∷ []) later → ending.edge.x1 ≤ℤ later
-      upto later none = upto_later edges points events schedule k event inside is stored answers swept ending.edge.x1 here later none
+      upto later none = upto_later edges points events queue k event inside is stored answers swept ending.edge.x1 here later none
 
       live_later : (later : ℤ) → NoneBehind (take k events ++ event ∷ []) later → live_entries later after ≡ live_entries later (front ++ back)
       live_later later none =
           let onwards = upto later none in
           let gone : IsExpiredAt ending.edge.x1 (ending, tt) = is_live_at-ended ending.edge.x1 (ending, tt) (omega (arith, ints)) in
           sym (live-without ending.edge.x1 later onwards kept)
-          ∙ swept.live later (none_behind_before edges points events schedule k event inside is stored answers swept ending.edge.x1 here later none)
+          ∙ swept.live later (none_behind_before edges points events queue k event inside is stored answers swept ending.edge.x1 here later none)
           ∙ ap (live_entries later) cut
           ∙ live-without ending.edge.x1 later onwards (Without-middle {MayGo = IsExpiredAt ending.edge.x1} front (ending, tt) back gone)
 
@@ -166,8 +170,7 @@ module _ (edges : List Edge) (points : List Point) (events : List Event) (schedu
             (λ before. swept.ended one other one_begun other_begun before cross)
             (λ this. uncrossed other other_begun (subst (λ (s : Standing). Cross s.edge other.edge) (this_one one one_begun.one this) cross))
             (Contains-push_cases (take k events) event (end_of one) has);
-        room = swept.room;
-        answered = λ place point stands done. swept.answered place point stands (done_earlier (take k events) event (answering_of place point) no_answer done);
+        answered = Answered-other (IsPlaceBelow edges) None points (take k events) answers swept.answered event no_answer;
       }
 
   -- it goes to the right, as all that is live does
@@ -175,7 +178,7 @@ module _ (edges : List Edge) (points : List Point) (events : List Event) (schedu
   end_onwards = one_of.onwards
 
   pub end_live_onwards : All (λ entry. entry.0.edge.x0 <ℤ entry.0.edge.x1) (live_entries ending.edge.x1 stored)
-  end_live_onwards = live_onwards edges points events schedule k event inside is stored answers swept ending.edge.x1 here
+  end_live_onwards = live_onwards edges points events queue k event inside is stored answers swept ending.edge.x1 here
 
   -- the order to the edge is monotone along what is live
   pub end_requires : IsMonotoneAlong (cmp_to_ending ending) (live_entries ending.edge.x1 stored)
@@ -186,12 +189,12 @@ module _ (edges : List Edge) (points : List Point) (events : List Event) (schedu
   -- live ones that cross are edges that do
   pub end_crossing : (i j : ℕ) → HaveCrossing (live_entries ending.edge.x1 stored) i j → IsCrossing edges i j
   end_crossing i j among =
-      IsCrossing-among edges (live_entries ending.edge.x1 stored) (live_are edges points events schedule k event inside is stored answers swept ending.edge.x1 here) i j among
+      IsCrossing-among edges (live_entries ending.edge.x1 stored) (live_are edges points events queue k event inside is stored answers swept ending.edge.x1 here) i j among
 
   -- where the two beside it don't cross, it is served
   pub Swept-ended : (after : List Entry) (found : Option Entry × Option Entry) → AreNeighbours (cmp_to_ending ending) (live_entries ending.edge.x1 stored) found → NotCross found.0 found.1
       → Without (IsExpiredAt ending.edge.x1) stored after → Swept edges points (take (k + 1) events) after answers
   Swept-ended after found are apart kept =
       let (front, back, cut) = cut_around swept.line (ending, tt) in_line in
-      subst (λ done. Swept edges points done after answers) (sym (one_more edges points events schedule k event inside is))
+      subst (λ done. Swept edges points done after answers) (sym (one_more queue k event inside is))
       (served front back cut after found are apart kept)

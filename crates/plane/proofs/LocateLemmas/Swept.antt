@@ -1,23 +1,26 @@
--- What holds once some events of a schedule are served: before the first one, at the next one, and once all are.
-use Rattle.std.proofs.Common.{◌≡◌, ◌≢◌, ◌⊎◌, inl, ℕ, suc, ◌<◌, ℤ, ◌≤ℤ◌, ◌<ℤ◌, List, [], ◌∷◌, ◌++◌, Option, None, length, get_or, take, refl, sym, ap, ◌∙◌, subst, arith}
+-- What holds once some events of a queue are served: before the first one, at the next one, and once all are.
+use Rattle.std.proofs.Common.{◌≡◌, ◌≢◌, ◌⊎◌, inl, ℕ, ◌<◌, ℤ, ◌≤ℤ◌, ◌<ℤ◌, List, [], ◌∷◌, ◌++◌, Option, None, length, get_or, take, refl, sym, ap, ◌∙◌, subst, arith}
 use Rattle.std.specs.List.{All, AllZip, Contains}
 use Rattle.std.proofs.lemmas.Int.{by_lt_z}
-use Rattle.std.proofs.lemmas.List.{get_or_default}
 use Rattle.std.proofs.lemmas.List.Elements.{All-filter, All-nil, All-weaker}
 use Rattle.i_tree.proofs.RootLemmas.Joined.{All-front}
 use Rattle.plane.specs.declared.edge.Edge.{Edge}
 use Rattle.plane.specs.declared.locate.point.Point.{Point}
-use Rattle.plane.specs.declared.locate.events.Event.{Event}
-use Rattle.plane.specs.declared.locate.events.Task.TheVariants.{End}
+use Rattle.event_queue.specs.declared.Event.{Event}
+use Rattle.event_queue.specs.declared.Task.TheVariants.{End}
 use Rattle.plane.specs.declared.locate.standing.Standing.{Standing}
 use Rattle.plane.specs.Locate.Answers.{IsPlaceBelow}
 use Rattle.plane.specs.Locate.Crossings.{Cross, NoneCross}
 use Rattle.plane.specs.Locate.Heights.{rightwards}
-use Rattle.plane.specs.Locate.Schedule.{StandsAt, CoversSome, answering_of, Precedes, IsSchedule}
+use Rattle.event_queue.specs.Queue.{StandsAt, Precedes}
+use Rattle.plane.specs.Locate.Events.{CoversSome, answering_of, beginning_of, ending_of, IsQueue}
 use Rattle.plane.specs.Locate.Standings.{Entry, is_live_at, live_entries}
+use Rattle.event_queue.proofs.QueueLemmas.Answers.{Answered, Answered-none, Answered-all}
+use Rattle.event_queue.proofs.QueueLemmas.Places.{StandsAt-read}
 use Rattle.plane.proofs.LocateLemmas.Adjacent.{All-at}
+use Rattle.plane.proofs.LocateLemmas.Events.{is_answering, is_beginning, is_ending}
 use Rattle.plane.proofs.LocateLemmas.Begun.{end_of, IsOneOf, IsBegun, HasEnded, end_known}
-use Rattle.plane.proofs.LocateLemmas.Done.{done_before, end-precedes, none_behind}
+use Rattle.event_queue.proofs.QueueLemmas.Done.{done_before, end-precedes, none_behind}
 use Rattle.plane.proofs.LocateLemmas.Line.{Line, AllLiveAt}
 use Rattle.plane.proofs.LocateLemmas.Live.{live_entries-all}
 use Rattle.plane.proofs.LocateLemmas.Rightwards.{rightwards-same}
@@ -38,8 +41,7 @@ pub record Swept (edges : List Edge) (points : List Point) (done : List Event) (
   pub in_line : (x : ℤ) → NoneBehind done x → All (λ entry. x ≤ℤ entry.0.edge.x1) line → Line x line
   pub live : (x : ℤ) → NoneBehind done x → live_entries x stored ≡ live_entries x line
   pub ended : (one other : Standing) → IsBegun edges done one → IsBegun edges done other → HasEnded done one → ¬ (Cross one.edge other.edge)
-  pub room : length answers ≡ length points
-  pub answered : (place : ℕ) (point : Point) → StandsAt points place point → Contains done (answering_of place point) → IsPlaceBelow edges point (get_or answers place None)
+  pub answered : Answered (IsPlaceBelow edges) None points done answers
 
 no_entries : (x : ℤ) → Line x []
 no_entries x = record {
@@ -59,22 +61,21 @@ Swept-nothing edges points stored answers empty room = record {
   in_line = λ x none ends. no_entries x;
   live = λ x none. ap (live_entries x) empty;
   ended = λ one other is is' has. absurd (omega (arith, has.1));
-  room = room;
-  answered = λ place point stands done. absurd (omega (arith, done.1));
+  answered = Answered-none (IsPlaceBelow edges) None points answers room;
 }
 
 -- At the next event's x:
-module _ (edges : List Edge) (points : List Point) (events : List Event) (schedule : IsSchedule edges points events)
+module _ (edges : List Edge) (points : List Point) (events : List Event) (queue : IsQueue edges points events)
     (k : ℕ) (event : Event) (inside : k < length events) (is : event ≡ get_or events k event)
     (stored : List Entry) (answers : List (Option ℕ)) (swept : Swept edges points (take k events) stored answers)
     (x : ℤ) (here : event.x ≡ x) where
   pub none_behind_at : NoneBehind (take k events) x
-  none_behind_at = subst (NoneBehind (take k events)) here (none_behind edges points events schedule k event inside is)
+  none_behind_at = subst (NoneBehind (take k events)) here (none_behind queue k event inside is)
 
   -- an end that comes before the event is done
   not_before : (entry : Entry) → IsBegun edges (take k events) entry.0 × ¬ (HasEnded (take k events) entry.0) → ¬ (Precedes (end_of entry.0) event)
   not_before entry (begun, not_ended) first =
-      not_ended (done_before edges points events schedule k event inside is (end_of entry.0) (end_known edges points events schedule entry.0 begun.one) first)
+      not_ended (done_before queue k event inside is (end_of entry.0) (end_known edges points entry.0 begun.one) first)
 
   -- none of the line ends before x
   ends_upto : All (λ entry. x ≤ℤ entry.0.edge.x1) swept.line
@@ -120,22 +121,15 @@ module _ (edges : List Edge) (points : List Point) (events : List Event) (schedu
     pub live_is_line : live_entries x stored ≡ swept.line
     live_is_line = live_at ∙ live_entries-all x swept.line all_live_at
 
--- two lists of one length whose elements stand in a relation place by place
-AllZip-each : {A B : Type 0} (R : A → B → Type 0) (e : B) (xs : List A) (ys : List B) → length ys ≡ length xs → ((k : ℕ) (x : A) → k < length xs → get_or xs k x ≡ x → R x (get_or ys k e)) → AllZip R xs ys
-AllZip-each R e [] [] long each = tt
-AllZip-each R e (x ∷ xs) (y ∷ ys) long each = (each 0 x (omega arith) refl, AllZip-each R e xs ys (omega (arith, long)) (λ k x' inside at. each (suc k) x' (omega (arith, inside)) at))
-AllZip-each R e [] (y ∷ ys) long each = absurd (omega (arith, long))
-AllZip-each R e (x ∷ xs) [] long each = absurd (omega (arith, long))
-
 -- Once all events are done, no two edges cross and each point has its answer.
-module _ (edges : List Edge) (points : List Point) (events : List Event) (schedule : IsSchedule edges points events) (stored : List Entry) (answers : List (Option ℕ)) (swept : Swept edges points events stored answers) where
+module _ (edges : List Edge) (points : List Point) (events : List Event) (queue : IsQueue edges points events) (stored : List Entry) (answers : List (Option ℕ)) (swept : Swept edges points events stored answers) where
   -- an edge that covers something has begun and ended
   none_crosses : (i j : ℕ) (one other : Edge) → StandsAt edges i one → StandsAt edges j other → ¬ (Cross one other)
   none_crosses i j one other stands stands' cross =
       swept.ended (record { edge = rightwards one; place = i }) (record { edge = rightwards other; place = j })
-      (record { one = record { edge = one; stands = stands; same = refl; onwards = some }; begun = schedule.begins i one stands some })
-      (record { one = record { edge = other; stands = stands'; same = refl; onwards = other_some }; begun = schedule.begins j other stands' other_some })
-      (schedule.ends i one stands some)
+      (record { one = record { edge = one; stands = stands; same = refl; onwards = some }; begun = queue.each (beginning_of i one) (is_beginning edges points i one stands some) })
+      (record { one = record { edge = other; stands = stands'; same = refl; onwards = other_some }; begun = queue.each (beginning_of j other) (is_beginning edges points j other stands' other_some) })
+      (queue.each (ending_of i one) (is_ending edges points i one stands some))
       (Cross-turned one (rightwards one) other (rightwards other) (sym (rightwards-same (rightwards one) some)) (sym (rightwards-same (rightwards other) other_some)) cross)
     where
       some : CoversSome one
@@ -147,11 +141,9 @@ module _ (edges : List Edge) (points : List Point) (events : List Event) (schedu
   pub none_cross : NoneCross edges
   none_cross i j d below within =
       let first : i < length edges = omega (arith, below, within) in
-      none_crosses i j (get_or edges i d) (get_or edges j d)
-      (first, get_or_default edges i (get_or edges i d) d first)
-      (within, get_or_default edges j (get_or edges j d) d within)
+      none_crosses i j (get_or edges i d) (get_or edges j d) (StandsAt-read edges i d first) (StandsAt-read edges j d within)
 
   pub all_answered : AllZip (IsPlaceBelow edges) points answers
   all_answered =
-      AllZip-each (IsPlaceBelow edges) None points answers swept.room
-      (λ place point inside at. swept.answered place point (inside, at) (schedule.answers place point (inside, at)))
+      Answered-all (IsPlaceBelow edges) None points events answers swept.answered
+      (λ place point stands. (point.x, queue.each (answering_of place point) (is_answering edges points place point stands)))

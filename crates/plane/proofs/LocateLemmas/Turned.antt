@@ -5,7 +5,7 @@ use Rattle.plane.specs.declared.edge.Edge.{Edge}
 use Rattle.plane.specs.declared.locate.point.Point.{Point}
 use Rattle.plane.specs.Locate.Crossings.{Cross}
 use Rattle.plane.specs.Locate.Heights.{rightwards, run, height_by_run, height_by_runs, Spans, IsLowerAt, IsUnder}
-use Rattle.plane.specs.Locate.Schedule.{CoversSome}
+use Rattle.plane.specs.Locate.Events.{CoversSome}
 use Rattle.plane.proofs.LocateLemmas.Rightwards.{rightwards-same}
 
 module _ (one one' : Edge) (same : rightwards one ≡ rightwards one') where

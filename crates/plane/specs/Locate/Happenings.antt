@@ -4,12 +4,12 @@ use Rattle.plane.specs.declared.edge.Edge.{Edge}
 use Rattle.plane.specs.declared.locate.point.Point.{Point}
 use Rattle.plane.specs.declared.locate.ahead.Happening.{Happening}
 use Rattle.plane.specs.declared.locate.ahead.Happening.TheVariants.{Ends, Begins, Asks}
-use Rattle.plane.specs.declared.locate.events.Event.{Event}
-use Rattle.plane.specs.declared.locate.events.Task.{Task}
-use Rattle.plane.specs.declared.locate.events.Task.TheVariants.{End, Begin, Answer}
+use Rattle.event_queue.specs.declared.Event.{Event}
+use Rattle.event_queue.specs.declared.Task.{Task}
+use Rattle.event_queue.specs.declared.Task.TheVariants.{End, Begin, Answer}
 use Rattle.plane.specs.declared.locate.standing.Standing.{Standing}
 use Rattle.plane.specs.Locate.Heights.{rightwards}
-use Rattle.plane.specs.Locate.Schedule.{StandsAt}
+use Rattle.event_queue.specs.Queue.{StandsAt}
 
 -- there is an edge, or a point, at this place, as the task says
 abbrev pub IsPlaceFor : List Edge → List Point → Task → ℕ → Type 0

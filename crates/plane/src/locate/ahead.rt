@@ -3,13 +3,13 @@
 ghost use Rattle.std.specs.Prelude.{◌≡◌, ◌<◌, [], length, IfOk, OnOk};
 ghost use Rattle.plane.specs.Locate.Happenings.{HappensAt, HasItem, IsAhead, IsHappeningOf};
 ghost use Rattle.plane.specs.Locate.Heights.{rightwards};
-ghost use Rattle.plane.specs.Locate.Schedule.{IsSchedule};
+ghost use Rattle.plane.specs.Locate.Events.{IsQueue};
 
-use super::events::{Event, Task};
 use super::heights::turn_rightwards;
 use super::point::Point;
 use super::standing::Standing;
 use crate::edge::Edge;
+use event_queue::{Event, Task};
 use std::alloc::{AllocError, Allocator};
 
 // For so many events it is read at a time.
@@ -52,7 +52,7 @@ impl<A: Allocator> Ahead<A> {
         events: &[Event],
         place: usize,
     ) -> Result<Happening, AllocError>
-        requires schedule { IsSchedule edges.now points.now events.now }
+        requires queue { IsQueue edges.now points.now events.now }
         requires inside { place < length events.now }
         requires ahead { IsAhead edges.now points.now events.now self.old.from self.old.happenings.items }
         ensures value { IfOk result (HappensAt edges.now points.now events.now place) }
@@ -74,7 +74,7 @@ impl<A: Allocator> Ahead<A> {
         events: &[Event],
         from: usize,
     ) -> Result<(), AllocError>
-        requires schedule { IsSchedule edges.now points.now events.now }
+        requires queue { IsQueue edges.now points.now events.now }
         requires inside { from < length events.now }
         ensures { OnOk result (
             (0 < length self.new.happenings.items) × (self.new.from ≡ from)

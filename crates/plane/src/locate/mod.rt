@@ -7,7 +7,7 @@ ghost use Rattle.plane.specs.Locate.Crossings.{IsCrossing, NoneCross};
 
 use crate::edge::Edge;
 pub use crossing::cross;
-use events::schedule;
+use events::events_of;
 pub use fault::LocateFault;
 use i_tree::status::exp::StatusCollection;
 pub use point::Point;
@@ -82,7 +82,7 @@ where
     ensures err { OnErr result (out.new.items ≡ out.old.items) }
 {
     let alloc = *out.allocator();
-    let events = schedule(alloc, edges, points)?;
+    let events = events_of(alloc, edges, points)?;
     let mut answers = Vec::new(alloc);
     answers.resize(points.len(), None)?;
     serve_all(alloc, status, edges, points, &events, &mut answers)?;

@@ -6,19 +6,19 @@ ghost use Rattle.i_tree.specs.Root.Along.{AreNeighbours, IsMonotoneAlong, NoneEq
 ghost use Rattle.i_tree.specs.Root.Change.{Without};
 ghost use Rattle.plane.specs.Locate.Answers.{IsPlaceBelow};
 ghost use Rattle.plane.specs.Locate.Crossings.{IsCrossing, NoneCross};
-ghost use Rattle.plane.specs.Locate.Schedule.{IsSchedule};
+ghost use Rattle.plane.specs.Locate.Events.{IsQueue};
 ghost use Rattle.plane.specs.Locate.Serving.{AreCrossing, HaveCrossing, IsPlaceUnder, JoinsAt};
 ghost use Rattle.plane.specs.Locate.Standings.{AllRight, Entry, live_entries, IsExpiredAt, NotCross};
 ghost use Rattle.plane.specs.Locate.Standings.{cmp_standings, cmp_to_ending, cmp_to_point};
 
 use super::ahead::{Ahead, Happening};
 use super::crossing::cross;
-use super::events::Event;
 use super::fault::LocateFault;
 use super::heights::compare_to_point;
 use super::point::Point;
 use super::standing::{Standing, compare_standings, compare_to_ending};
 use crate::edge::Edge;
+use event_queue::Event;
 use i_tree::status::exp::StatusCollection;
 use std::alloc::Allocator;
 use std::cmp::Ordering;
@@ -36,7 +36,7 @@ where
     C: StatusCollection<Standing, i64, ()>,
     A: Allocator,
     requires empty { C.stored status.old ≡ [] }
-    requires schedule { IsSchedule edges.now points.now events.now }
+    requires queue { IsQueue edges.now points.now events.now }
     requires room { length answers.old ≡ length points.now }
     ensures ok { OnOk result (NoneCross edges.now × AllZip (IsPlaceBelow edges.now) points.now answers.new) }
     ensures crossing { (i j : ℕ) → result ≡ Err (LocateFault.Cross i j) → IsCrossing edges.now i j }

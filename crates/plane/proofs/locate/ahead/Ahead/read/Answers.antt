@@ -5,7 +5,7 @@ use Rattle.plane.proofs.locate.ahead.Ahead.read.Goals as goal
 pub happening_of-requires : goal.happening_of-requires
 happening_of-requires g c =
     let inside : c.loop-place.place < length c.args.events.now = search rules in
-    has_item c.args.edges.now c.args.points.now c.args.events.now c.requires.schedule c.loop-place.place _ inside
+    has_item c.args.edges.now c.args.points.now c.args.events.now c.requires.queue c.loop-place.place _ inside
 
 pub loop-place-preserved : goal.loop-place-preserved
 loop-place-preserved g c =

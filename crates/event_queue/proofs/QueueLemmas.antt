@@ -1,0 +1,6 @@
+-- Lemmas on the events of a sweep: how their list grows and is sorted, what of them is done, and which answers stand.
+pub mod Answers
+pub mod Done
+pub mod Listing
+pub mod Places
+pub mod Sorting

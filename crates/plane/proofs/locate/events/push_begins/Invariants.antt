@@ -1,7 +1,0 @@
-use Rattle.std.proofs.Common.{take}
-use Rattle.plane.specs.Locate.Schedule.{GainsBegins}
-use Rattle.plane.proofs.locate.events.push_begins.Given as goal
-
--- the events of the edges so far
-abbrev pub invariant-loop-place : goal.invariant-loop-place
-invariant-loop-place g l = GainsBegins (take l.place l.edges) l.fn.events.items l.events.items
