@@ -1,3 +1,3 @@
 pub mod LocateLemmas
 pub mod MeetLemmas
-pub mod MeetingsLemmas
+pub mod PairsLemmas

@@ -1,2 +1,3 @@
 pub mod Locate
 pub mod Meet
+pub mod Pairs

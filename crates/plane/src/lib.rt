@@ -7,3 +7,4 @@
 pub mod edge;
 pub mod locate;
 pub mod meet;
+pub mod pairs;

@@ -161,7 +161,7 @@ meets_along_x one other apart along =
         | inl within ↦ common one other other.x1 other.y1 (lies one other.x1 other.y1 apart within.0 within.1 end_on_line) (ends other)
         | inr other_outside ↦
             let around = surrounded one.x0 one.x1 other.x0 other.x1 outside other_outside along.boxes.x in
-            meet_comm (common other one one.x0 one.y0 (lies other one.x0 one.y0 around.0 around.1 around.2 back_on_line) (starts one))
+            meet_comm other one (common other one one.x0 one.y0 (lies other one.x0 one.y0 around.0 around.1 around.2 back_on_line) (starts one))
       ]
     ]
 
@@ -266,7 +266,7 @@ pub meet-of_along : (one other : Edge) → Along one other → Meet one other
 meet-of_along one other along = elim (goes one) [
   | inl way ↦ meets_along_way one other way along
   | inr point ↦ elim (goes other) [
-    | inl way ↦ meet_comm (meets_along_way other one way (along_comm one other along))
+    | inl way ↦ meet_comm other one (meets_along_way other one way (along_comm one other along))
     | inr other_point ↦ meets_points one other point other_point along.boxes
   ]
 ]

@@ -7,13 +7,14 @@ use Rattle.std.proofs.lemmas.Int.{ints, clamps}
 use Rattle.std.proofs.Math.Nat.{mul-le-mul_left, sub-add_cancel}
 use borrow.Author.Differences.{le_out}
 use Rattle.plane.specs.declared.edge.Edge.{Edge}
-use Rattle.plane.specs.Meet.Boxes.{RangesMeet, BoxesMeet}
+use Rattle.plane.specs.Meet.Boxes.{RangesMeet, BoxesMeet, bounds_of}
+use Rattle.plane.specs.Pairs.Bounds.{MeetInBoxes, MeetInBoxesAcross}
 use Rattle.plane.specs.Meet.Edges.{Meet}
 use Rattle.plane.proofs.MeetLemmas.Identities.{Term, number, plus, minus, times, at_most, unscaled}
 
 -- edges meet whichever is named first
-pub meet_comm : {one other : Edge} → Meet one other → Meet other one
-meet_comm (point, first, second) = (point, second, first)
+pub meet_comm : (one other : Edge) → Meet one other → Meet other one
+meet_comm one other (point, first, second) = (point, second, first)
 
 -- a number that isn't above both ends of a way isn't above what lies on it
 parts_above : (a rest : ℕ) (low start end : ℤ) → low ≤ℤ start → low ≤ℤ end → (pos (rest + a) *ℤ low) ≤ℤ ((pos (rest + a) *ℤ start) +ℤ (pos a *ℤ (end -ℤ start)))
@@ -58,6 +59,19 @@ meet-boxes one other (point, (a, first), (b, second)) = record {
   x = ranges_meet point.n a b one.x0 one.x1 other.x0 other.x1 point.positive first.share second.share (sym first.x ∙ second.x);
   y = ranges_meet point.n a b one.y0 one.y1 other.y0 other.y1 point.positive first.share second.share (sym first.y ∙ second.y);
 }
+
+-- as the sweep asks it of items with boxes
+pub meet-in_boxes : MeetInBoxes bounds_of Meet
+meet-in_boxes = record {
+  proper = λ edge. record { wide = omega (arith, ints, clamps); tall = omega (arith, ints, clamps) };
+  exchanged = meet_comm;
+  near = λ one other meet.
+      let boxes = meet-boxes one other meet in
+      record { left = boxes.x.first; right = boxes.x.second; low = boxes.y.first; high = boxes.y.second };
+}
+
+pub meet-in_boxes_across : MeetInBoxesAcross bounds_of bounds_of Meet
+meet-in_boxes_across = record { proper = meet-in_boxes.proper; other_proper = meet-in_boxes.proper; near = meet-in_boxes.near }
 
 le_is_true : (a b : ℤ) → a ≤ℤ b → le_z a b ≡ true
 le_is_true a b below = grind (arith, ints)

@@ -1,18 +1,21 @@
--- Which pairs of a list's edges meet.
-use Rattle.std.specs.Prelude.{◌≡◌, ◌≢◌, ◌↔◌, ℕ, ◌<◌, List, Some, AllPairs, Contains, slice_get}
+-- Which pairs of a list's edges meet, and which pairs of two lists' edges.
+use Rattle.std.specs.Prelude.{ℕ, List}
 use Rattle.plane.specs.declared.edge.Edge.{Edge}
 use Rattle.plane.specs.Meet.Edges.{Meet}
+use Rattle.plane.specs.Pairs.Pairs.{PairAt, PairBetween, ArePairs, ArePairsBetween}
 
 -- The edges at these two places of the list meet, the first place below the second.
-pub record MeetAt (edges : List Edge) (i j : ℕ) : Type 0 where
-  pub one : Edge
-  pub other : Edge
-  pub rising : i < j
-  pub first : slice_get edges i ≡ Some one
-  pub second : slice_get edges j ≡ Some other
-  pub meet : Meet one other
+abbrev pub MeetAt : List Edge → ℕ → ℕ → Type 0
+MeetAt edges i j = PairAt Meet edges i j
 
 -- Each pair of places whose edges meet stands in the list once, and no other pair does. The order is open.
-pub record AreMeetings (edges : List Edge) (pairs : List (ℕ × ℕ)) : Type 0 where
-  pub once : AllPairs (λ pair later. pair ≢ later) pairs
-  pub exact : (i j : ℕ) → Contains pairs (i, j) ↔ MeetAt edges i j
+abbrev pub AreMeetings : List Edge → List (ℕ × ℕ) → Type 0
+AreMeetings edges pairs = ArePairs Meet edges pairs
+
+-- The edge at the first place of the one list meets that at the second place of the other list.
+abbrev pub MeetBetween : List Edge → List Edge → ℕ → ℕ → Type 0
+MeetBetween edges others i j = PairBetween Meet edges others i j
+
+-- Each pair of places whose edges meet, of one list and of the other, stands in the list once, and no other pair does.
+abbrev pub AreMeetingsBetween : List Edge → List Edge → List (ℕ × ℕ) → Type 0
+AreMeetingsBetween edges others pairs = ArePairsBetween Meet edges others pairs

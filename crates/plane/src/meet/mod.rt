@@ -1,66 +1,67 @@
 //! Which edges meet: those that share a point.
 
-ghost use Rattle.std.specs.Prelude.{◌≡◌, ◌++◌, ℕ, List, OnOk, OnErr, IfErr};
+ghost use Rattle.std.specs.Prelude.{◌≡◌, ◌++◌, ◌<◌, ℕ, List, All, drop, length, IfSome, MatchOption, OnOk, OnErr, IfErr, IfOk};
 ghost use Rattle.i_tree.specs.declared.Refusal.TheVariants.{OutOfMemory};
-ghost use Rattle.plane.specs.Meet.Meetings.{AreMeetings};
-ghost use Rattle.plane.specs.Meet.Sweep.{Extends};
+ghost use Rattle.plane.specs.Meet.Meetings.{AreMeetings, AreMeetingsBetween, MeetAt};
 
 use crate::edge::Edge;
-use cut::strips_for;
+use crate::pairs::{first_pair, pairs_among, pairs_between};
 pub use exact::meet;
 use i_tree::Refusal;
-use i_tree::seg::tree::SegExpTree;
-use parts::parts;
 use std::alloc::Allocator;
-use sweep::append_meetings;
 
-mod cut;
-mod ends;
+mod boxes;
 mod exact;
-mod parts;
-mod strips;
-mod sweep;
 
 /// Appends each pair of places `(i, j)` whose edges meet, i below j, once. The order of the pairs is open.
 ///
 /// Edges meet where they share a point, as `meet` says, and nothing is rounded. It is refused for want of memory alone,
 /// and leaves `out` as it was then. The memory is that of `out`'s allocator.
-///
-/// It is the textbook's sweep line over the boxes of the edges, from left to right, with a segment tree over their
-/// heights as its status, and with the exact test of each pair that lies near each other. Where many edges are live at
-/// once, their heights are cut into strips, each with a sweep of its own.
 pub fn meetings<A: Allocator + Copy>(
     edges: &[Edge],
     out: &mut Vec<(usize, usize), A>,
 ) -> Result<(), Refusal>
     ensures ok { OnOk result ((pairs : List (ℕ × ℕ))
         × (out.new.items ≡ out.old.items ++ pairs) × AreMeetings edges.now pairs) }
+    ensures within { OnOk result (All (λ pair. (pair.0 < pair.1) × (pair.1 < length edges.now))
+        (drop (length out.old.items) out.new.items)) }
     ensures err { OnErr result (out.new.items ≡ out.old.items) }
     ensures refused { IfErr result (λ cause. cause ≡ OutOfMemory) }
 {
-    let start = out.len();
-    let outcome = sweep_over(edges, out);
-    if outcome.is_err() {
-        out.truncate(start);
-    }
-    outcome
+    pairs_among(edges, out)
 }
 
-// As `meetings`, but where it is refused, it may have appended some pairs.
-fn sweep_over<A: Allocator + Copy>(
+/// Appends each pair of places `(i, j)` where the edge at i of the first list meets that at j of the second one, once.
+/// The order of the pairs is open.
+///
+/// It is refused for want of memory alone, and leaves `out` as it was then. The memory is that of `out`'s allocator.
+pub fn meetings_between<A: Allocator + Copy>(
     edges: &[Edge],
+    others: &[Edge],
     out: &mut Vec<(usize, usize), A>,
 ) -> Result<(), Refusal>
     ensures ok { OnOk result ((pairs : List (ℕ × ℕ))
-        × (out.new.items ≡ out.old.items ++ pairs) × AreMeetings edges.now pairs) }
-    ensures err { OnErr result (Extends out.old.items out.new.items) }
+        × (out.new.items ≡ out.old.items ++ pairs) × AreMeetingsBetween edges.now others.now pairs) }
+    ensures within { OnOk result (All (λ pair. (pair.0 < length edges.now) × (pair.1 < length others.now))
+        (drop (length out.old.items) out.new.items)) }
+    ensures err { OnErr result (out.new.items ≡ out.old.items) }
     ensures refused { IfErr result (λ cause. cause ≡ OutOfMemory) }
 {
-    let alloc = *out.allocator();
-    let strips = strips_for(edges);
-    let parts = parts(alloc, edges, strips)?;
-    // A strip is wide enough for a layout.
-    let mut tree = SegExpTree::new(alloc, strips.heights())?.unwrap();
-    let mut near = Vec::new(alloc);
-    append_meetings(edges, strips, &parts, &mut tree, &mut near, out)
+    pairs_between(edges, others, out)
+}
+
+/// Some pair of places whose edges meet, the lesser place first, or none exactly where no two edges do. It is refused
+/// for want of memory alone, that of the allocator.
+///
+/// The sweep of `meetings` stops at the first edge that meets others before it.
+pub fn first_meeting<A: Allocator + Copy>(
+    alloc: A,
+    edges: &[Edge],
+) -> Result<Option<(usize, usize)>, Refusal>
+    ensures ok { IfOk result (λ found. MatchOption found ((i j : ℕ) → ¬ (MeetAt edges.now i j))
+        (λ pair. MeetAt edges.now pair.0 pair.1)) }
+    ensures within { IfOk result (λ found. IfSome found (λ pair. (pair.0 < pair.1) × (pair.1 < length edges.now))) }
+    ensures refused { IfErr result (λ cause. cause ≡ OutOfMemory) }
+{
+    first_pair(alloc, edges)
 }

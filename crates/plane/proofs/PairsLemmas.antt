@@ -1,0 +1,15 @@
+-- Lemmas on the sweep that tells all pairs of items that meet.
+pub mod Bags
+pub mod Between
+pub mod Complete
+pub mod Extends
+pub mod First
+pub mod Order
+pub mod Pairs
+pub mod Parts
+pub mod Served
+pub mod Serving
+pub mod Status
+pub mod Strips
+pub mod Told
+pub mod Within

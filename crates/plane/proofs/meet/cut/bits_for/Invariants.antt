@@ -1,9 +1,0 @@
-use Rattle.std.proofs.Common.{◌-◌, ◌≤◌, ◌<◌}
-use Rattle.plane.proofs.meet.cut.bits_for.Given as goal
-
--- the bits are enough for a layout, and few enough for a `u32`
-abbrev pub invariant-loop-bits : goal.invariant-loop-bits
-invariant-loop-bits l = record { wide : 5 ≤ l.bits; fits : l.bits < 32 }
-
-abbrev pub decreases-loop-bits : goal.decreases-loop-bits
-decreases-loop-bits l = l.bits - 5

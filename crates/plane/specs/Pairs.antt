@@ -1,0 +1,7 @@
+-- Definitions of boxes, of pairs of items whose boxes meet, and of the sweep that finds them.
+pub mod Bounds
+pub mod OfTwo
+pub mod Pairs
+pub mod Parts
+pub mod Strips
+pub mod Sweep

@@ -1,0 +1,91 @@
+//! Pairs of items that meet, among those whose boxes do.
+
+ghost use Rattle.std.specs.Prelude.{◌≡◌, ◌++◌, ◌<◌, ℕ, List, All, drop, length, IfSome, MatchOption, OnOk, OnErr, IfErr, IfOk};
+ghost use Rattle.i_tree.specs.declared.Refusal.TheVariants.{OutOfMemory};
+ghost use Rattle.plane.specs.Pairs.Bounds.{MeetInBoxes};
+ghost use Rattle.plane.specs.Pairs.Pairs.{PairAt, ArePairs, GainsAll};
+ghost use Rattle.plane.specs.Pairs.Sweep.{Extends};
+
+pub use between::pairs_between;
+use cut::strips_for;
+use i_tree::Refusal;
+use i_tree::seg::tree::SegExpTree;
+use items::Meets;
+use parts::parts;
+use std::alloc::Allocator;
+use sweep::append_pairs;
+
+mod between;
+mod cut;
+pub mod items;
+mod parts;
+mod strips;
+mod sweep;
+mod two;
+
+/// Appends each pair of places `(i, j)` whose items meet, i below j, once. The order of the pairs is open.
+///
+/// It is refused for want of memory alone, and leaves `out` as it was then. The memory is that of `out`'s allocator.
+///
+/// It is the textbook's sweep line over the boxes of the items, from left to right, with a segment tree over their
+/// heights as its status, and with a test of each pair that lies near each other. Where many items are live at once,
+/// their heights are cut into strips, each with a sweep of its own.
+pub fn pairs_among<T: Meets<T>, A: Allocator + Copy>(
+    items: &[T],
+    out: &mut Vec<(usize, usize), A>,
+) -> Result<(), Refusal>
+    requires { MeetInBoxes T.bounds T.Meeting }
+    ensures ok { OnOk result ((pairs : List (ℕ × ℕ))
+        × (out.new.items ≡ out.old.items ++ pairs) × ArePairs T.Meeting items.now pairs) }
+    ensures within { OnOk result (All (λ pair. (pair.0 < pair.1) × (pair.1 < length items.now))
+        (drop (length out.old.items) out.new.items)) }
+    ensures err { OnErr result (out.new.items ≡ out.old.items) }
+    ensures refused { IfErr result (λ cause. cause ≡ OutOfMemory) }
+{
+    let start = out.len();
+    let outcome = sweep_over(items, false, out);
+    if outcome.is_err() {
+        out.truncate(start);
+    }
+    outcome
+}
+
+/// Some pair of places whose items meet, the lesser place first, or none exactly where no two items do. It is refused
+/// for want of memory alone.
+///
+/// The sweep stops at the first item that meets others before it.
+pub fn first_pair<T: Meets<T>, A: Allocator + Copy>(
+    alloc: A,
+    items: &[T],
+) -> Result<Option<(usize, usize)>, Refusal>
+    requires { MeetInBoxes T.bounds T.Meeting }
+    ensures ok { IfOk result (λ found. MatchOption found ((i j : ℕ) → ¬ (PairAt T.Meeting items.now i j))
+        (λ pair. PairAt T.Meeting items.now pair.0 pair.1)) }
+    ensures within { IfOk result (λ found. IfSome found (λ pair. (pair.0 < pair.1) × (pair.1 < length items.now))) }
+    ensures refused { IfErr result (λ cause. cause ≡ OutOfMemory) }
+{
+    let mut found = Vec::new(alloc);
+    sweep_over(items, true, &mut found)?;
+    Ok(found.first().copied())
+}
+
+// As `pairs_among`, but where it is refused, it may have appended some pairs; and where one is enough, it stops once it
+// has some.
+fn sweep_over<T: Meets<T>, A: Allocator + Copy>(
+    items: &[T],
+    enough: bool,
+    out: &mut Vec<(usize, usize), A>,
+) -> Result<(), Refusal>
+    requires { MeetInBoxes T.bounds T.Meeting }
+    ensures ok { OnOk result (GainsAll T.Meeting items.now enough out.old.items out.new.items) }
+    ensures err { OnErr result (Extends out.old.items out.new.items) }
+    ensures refused { IfErr result (λ cause. cause ≡ OutOfMemory) }
+{
+    let alloc = *out.allocator();
+    let strips = strips_for(items);
+    let parts = parts(alloc, items, strips)?;
+    // A strip is wide enough for a layout.
+    let mut tree = SegExpTree::new(alloc, strips.heights())?.unwrap();
+    let mut near = Vec::new(alloc);
+    append_pairs(items, enough, strips, &parts, &mut tree, &mut near, out)
+}

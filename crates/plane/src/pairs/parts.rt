@@ -1,0 +1,74 @@
+//! The parts of items in the strips that they reach, in the order in which they are served.
+
+ghost use Rattle.std.specs.Prelude.{◌≡◌, ◌<◌, ◌+◌, ◌≤ℤ◌, All, IfOk, OnOk, length, []};
+ghost use Rattle.plane.specs.Pairs.Bounds.{IsBox};
+ghost use Rattle.plane.specs.Pairs.Parts.{AreParts, Lists};
+
+use super::items::Boxed;
+use super::strips::Strips;
+use std::alloc::{AllocError, Allocator};
+
+/// The part of an item in a strip: where its box begins along x, and its place among all items. Parts are served
+/// strip by strip, and in each by where they begin.
+#[derive(Clone, Copy, PartialEq, Eq, PartialOrd, Ord)]
+pub struct Part {
+    pub strip: u32,
+    pub left: i32,
+    pub place: usize,
+}
+
+/// The parts of all items, in order.
+pub fn parts<T: Boxed, A: Allocator>(
+    alloc: A,
+    items: &[T],
+    strips: Strips,
+) -> Result<Vec<Part, A>, AllocError>
+    requires proper { (item : T) → IsBox (T.bounds item) }
+    requires base { All (λ item. strips.base ≤ℤ (T.bounds item).low) items.now }
+    ensures { IfOk result (λ parts. AreParts T.bounds strips items.now parts.items) }
+{
+    let mut parts = Vec::with_capacity(alloc, items.len())?;
+    push_all(&mut parts, items, strips)?;
+    parts.sort_unstable();
+    Ok(parts)
+}
+
+// Appends the parts of all items.
+fn push_all<T: Boxed, A: Allocator>(
+    parts: &mut Vec<Part, A>,
+    items: &[T],
+    strips: Strips,
+) -> Result<(), AllocError>
+    requires proper { (item : T) → IsBox (T.bounds item) }
+    requires base { All (λ item. strips.base ≤ℤ (T.bounds item).low) items.now }
+    requires empty { parts.old.items ≡ [] }
+    ensures { OnOk result (Lists T.bounds strips items.now (λ place _. place < length items.now) parts.new.items) }
+{
+    for place in 0..items.len() {
+        push_parts(parts, items, strips, place)?;
+    }
+    Ok(())
+}
+
+// Appends the parts of the item at the place, from the strip of its lower side to that of its upper one.
+fn push_parts<T: Boxed, A: Allocator>(
+    parts: &mut Vec<Part, A>,
+    items: &[T],
+    strips: Strips,
+    place: usize,
+) -> Result<(), AllocError>
+    requires proper { (item : T) → IsBox (T.bounds item) }
+    requires base { All (λ item. strips.base ≤ℤ (T.bounds item).low) items.now }
+    requires inside { place < length items.now }
+    requires before { Lists T.bounds strips items.now (λ other _. other < place) parts.old.items }
+    ensures { OnOk result (Lists T.bounds strips items.now (λ other _. other < place + 1) parts.new.items) }
+{
+    let bounds = items[place].bounds();
+    let left = bounds.left;
+    let first = strips.strip_at(bounds.low);
+    let last = strips.strip_at(bounds.high);
+    for strip in first..last + 1 {
+        parts.push(Part { strip, left, place })?;
+    }
+    Ok(())
+}

@@ -1,0 +1,171 @@
+//! The sweep from left to right in each strip, over the items that are live at an x.
+
+ghost use Rattle.std.specs.Prelude.{◌≡◌, ◌≢◌, ◌≤ℤ◌, Bool, [], All, MatchBool, OnOk, OnErr, IfErr};
+ghost use Rattle.std.specs.Ordering.{int_cmp};
+ghost use Rattle.std.specs.declared.option.Option.TheVariants.{None, Some};
+ghost use Rattle.i_tree.specs.declared.Refusal.TheVariants.{OutOfMemory};
+ghost use Rattle.i_tree.specs.Seg.Changes.{Clears};
+ghost use Rattle.i_tree.specs.Seg.Members.{NotBefore};
+ghost use Rattle.plane.specs.Pairs.Bounds.{MeetInBoxes};
+ghost use Rattle.plane.specs.Pairs.Pairs.{GainsAll};
+ghost use Rattle.plane.specs.Pairs.Parts.{AreParts};
+ghost use Rattle.plane.specs.Pairs.Strips.{Reaches, IsOverStrip};
+ghost use Rattle.plane.specs.Pairs.Sweep.{Extends, IsTold, GainsPair, GainsPairs, Serves};
+
+use super::items::{Boxed, Meets};
+use super::parts::Part;
+use super::strips::Strips;
+use i_tree::seg::exp::SegExpCollection;
+use i_tree::seg::tree::SegExpTree;
+use i_tree::{ExpiredVal, Refusal};
+use std::alloc::{AllocError, Allocator};
+
+/// An item and its place among all items. It is live up to its greatest x.
+#[derive(Clone, Copy)]
+pub struct Placed<T> {
+    pub item: T,
+    pub place: usize,
+}
+
+impl<T: Boxed> ExpiredVal<i32> for Placed<T> {
+    ghost expiration = { λ placed. (T.bounds placed.item).right };
+
+    fn expiration(&self) -> i32 {
+        self.item.bounds().right
+    }
+}
+
+/// Appends the pairs of places whose items meet. Where one is enough, it stops once it has some. The tree is new, over
+/// the heights of a strip.
+pub fn append_pairs<T: Meets<T>, A: Allocator + Copy>(
+    items: &[T],
+    enough: bool,
+    strips: Strips,
+    parts: &[Part],
+    tree: &mut SegExpTree<u32, i32, Placed<T>, A>,
+    near: &mut Vec<Placed<T>, A>,
+    out: &mut Vec<(usize, usize), A>,
+) -> Result<(), Refusal>
+    requires boxed { MeetInBoxes T.bounds T.Meeting }
+    requires base { All (λ item. strips.base ≤ℤ (T.bounds item).low) items.now }
+    requires parts { AreParts T.bounds strips items.now parts.now }
+    requires over { IsOverStrip strips tree.old.buckets }
+    requires empty { tree.old.members ≡ [] }
+    requires unasked { tree.old.latest ≡ None }
+    ensures ok { OnOk result (GainsAll T.Meeting items.now enough out.old.items out.new.items) }
+    ensures err { OnErr result (Extends out.old.items out.new.items) }
+    ensures refused { IfErr result (λ cause. cause ≡ OutOfMemory) }
+{
+    let start = out.len();
+    let mut strip = 0;
+    for part in parts {
+        enter(tree, strip, part.strip);
+        strip = part.strip;
+        let place = part.place;
+        let item = items[place];
+        serve(strips, strip, Placed { item, place }, tree, near, out)?;
+        if enough && out.len() > start {
+            return Ok(());
+        }
+    }
+    Ok(())
+}
+
+// Goes on from one strip to the next one, or stays in the same.
+fn enter<T: Boxed, A: Allocator + Copy>(
+    tree: &mut SegExpTree<u32, i32, Placed<T>, A>,
+    strip: u32,
+    next: u32,
+)
+    ensures stays { next ≡ strip → tree.new ≡ tree.old }
+    ensures clears { next ≢ strip → Clears tree.old tree.new }
+    ensures buckets { tree.new.buckets ≡ tree.old.buckets }
+{
+    if next != strip {
+        tree.clear();
+    }
+}
+
+// Appends the pairs of the item with those before it in the strip, and puts it among them.
+fn serve<T: Meets<T>, A: Allocator + Copy>(
+    strips: Strips,
+    strip: u32,
+    placed: Placed<T>,
+    tree: &mut SegExpTree<u32, i32, Placed<T>, A>,
+    near: &mut Vec<Placed<T>, A>,
+    out: &mut Vec<(usize, usize), A>,
+) -> Result<(), Refusal>
+    requires boxed { MeetInBoxes T.bounds T.Meeting }
+    requires base { strips.base ≤ℤ (T.bounds placed.item).low }
+    requires reaches { Reaches strips (T.bounds placed.item) strip }
+    requires over { IsOverStrip strips tree.old.buckets }
+    requires in_time { NotBefore int_cmp tree.old.latest (T.bounds placed.item).left }
+    ensures ok { OnOk result (Serves T.bounds T.Meeting strips strip placed tree.old.buckets
+        tree.old.members tree.new.members out.old.items out.new.items) }
+    ensures err { OnErr result (Extends out.old.items out.new.items) }
+    ensures refused { IfErr result (λ cause. cause ≡ OutOfMemory) }
+    ensures latest { OnOk result (tree.new.latest ≡ Some (T.bounds placed.item).left) }
+    ensures buckets { tree.new.buckets ≡ tree.old.buckets }
+{
+    let bounds = placed.item.bounds();
+    let range = strips.range_in(strip, bounds);
+    near.clear();
+    tree.collect_by_range(range, bounds.left, near)?;
+    append_told(strips, strip, placed, near, out)?;
+    tree.insert_by_range(range, placed)
+}
+
+// Appends the pairs of the item with those of the others that it meets, where this strip is the one to tell them.
+fn append_told<T: Meets<T>, A: Allocator>(
+    strips: Strips,
+    strip: u32,
+    placed: Placed<T>,
+    others: &[Placed<T>],
+    out: &mut Vec<(usize, usize), A>,
+) -> Result<(), AllocError>
+    requires boxed { MeetInBoxes T.bounds T.Meeting }
+    requires base { strips.base ≤ℤ (T.bounds placed.item).low }
+    ensures ok { OnOk result (GainsPairs T.bounds T.Meeting strips strip placed others.now
+        out.old.items out.new.items) }
+    ensures err { OnErr result (Extends out.old.items out.new.items) }
+{
+    for other in others {
+        append_if_told(strips, strip, placed, *other, out)?;
+    }
+    Ok(())
+}
+
+// Appends the pair of the two items where they are told in this strip.
+fn append_if_told<T: Meets<T>, A: Allocator>(
+    strips: Strips,
+    strip: u32,
+    placed: Placed<T>,
+    other: Placed<T>,
+    out: &mut Vec<(usize, usize), A>,
+) -> Result<(), AllocError>
+    requires boxed { MeetInBoxes T.bounds T.Meeting }
+    requires base { strips.base ≤ℤ (T.bounds placed.item).low }
+    ensures ok { OnOk result (GainsPair T.bounds T.Meeting strips strip placed other
+        out.old.items out.new.items) }
+    ensures err { OnErr result (out.new.items ≡ out.old.items) }
+{
+    if is_told(strips, strip, placed.item, other.item) {
+        let first = placed.place.min(other.place);
+        let second = placed.place.max(other.place);
+        out.push((first, second))?;
+    }
+    Ok(())
+}
+
+// Whether the items meet, and the greater of their lower sides lies in the strip. Items that meet have heights that do.
+fn is_told<T: Meets<T>>(strips: Strips, strip: u32, one: T, other: T) -> bool
+    requires boxed { MeetInBoxes T.bounds T.Meeting }
+    requires base { strips.base ≤ℤ (T.bounds one).low }
+    ensures { let told = IsTold T.bounds T.Meeting strips strip one other in MatchBool result told (¬ told) }
+{
+    let first = one.bounds();
+    let second = other.bounds();
+    let low = first.low.max(second.low);
+    let high = first.high.min(second.high);
+    low <= high && strips.strip_at(low) == strip && one.meets(other)
+}
