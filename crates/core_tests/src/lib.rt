@@ -1,4 +1,5 @@
 //! For tests alone: the core, a red-black tree. Worked rows, refused memory and many removals.
+//! And what the other crates of tests stand on: the allocator that refuses, and trials over it.
 #![tactic(auto)]
 
 #[cfg(test)]
@@ -8,6 +9,10 @@ mod changes;
 #[cfg(test)]
 mod drops;
 #[cfg(test)]
+mod in_turn;
+#[cfg(test)]
 mod refusals;
+#[cfg(test)]
+mod refusing;
 #[cfg(test)]
 mod rows;
