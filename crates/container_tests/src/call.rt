@@ -3,7 +3,7 @@
 //! A collection holds numbers, each with a value and the last time at which it is live. Sets have no times.
 
 use i_tree::Refusal;
-use std::alloc::{Allocator, Global};
+use std::alloc::{AllocError, Allocator, Global};
 
 /// What is done. Where there are two numbers in front, the first is the time.
 #[derive(Clone, Copy)]
@@ -102,6 +102,11 @@ pub trait Store: Drop {
 
     /// An empty collection.
     fn make(memory: Self::Memory, capacity: usize) -> Result<Self, Refusal>;
+
+    /// A clone, of what has one.
+    fn cloned(&self) -> Option<Result<Self, AllocError>> {
+        None
+    }
 
     /// How many numbers are stored, and for how many more there is room.
     fn room(&self) -> (usize, usize);

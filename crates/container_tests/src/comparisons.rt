@@ -10,7 +10,6 @@ use i_tree::set::sort::SetCollection;
 use i_tree::set::tree::SetTree;
 use i_tree::{EMPTY_REF, Refusal};
 use std::alloc::Global;
-use std::process::Abort;
 use test_kit::counted_key::{CountedKey, Tally, counted_key};
 
 type CountedList<'a> = KeyExpList<CountedKey<'a>, i32, i32, Global>;
@@ -45,7 +44,7 @@ fn list_inserts<'a>(list: &mut CountedList<'a>, tally: &'a Tally, number: i32) -
         return false;
     }
     let more = count.saturating_add(1);
-    list.insert_new(key, 0, 0) == Ok(false) && compared(tally, Kind::List, more, true)
+    matches!(list.insert_new(key, 0, 0), Ok(false)) && compared(tally, Kind::List, more, true)
 }
 
 // Looks in a list for a number of those from 1 to 1000, and for one above them.
@@ -59,20 +58,29 @@ fn list_finds<'a>(list: &mut CountedList<'a>, tally: &'a Tally, number: i32) -> 
     list.contains_key(0, key) == (number <= 1000) && compared(tally, Kind::List, 1000, true)
 }
 
-fn a_list_compares(rt: &impl Abort, tally: &Tally, order: Order, alloc: Global) {
-    let made: Option<CountedList> = CountedList::new(alloc, 0).ok();
-    let mut list = made.expect(rt, "no memory");
+// Inserts the numbers from 1 to 1000 into a list, and 1001 after the queries between.
+fn list_compares<'a>(tally: &'a Tally, order: Order, alloc: Global) -> bool {
+    let made: Result<CountedList<'a>, Refusal> = CountedList::new(alloc, 0);
+    let Ok(mut list) = made else {
+        return false;
+    };
     for place in 0..1000 {
         let number = number_at(order, place).saturating_add(1);
-        assert!(rt;
-            list_inserts(&mut list, tally, number),
-            "{order:?}: {number}"
-        );
+        if !list_inserts(&mut list, tally, number) {
+            return false;
+        }
     }
+    list_finds_all(&mut list, tally) && list_inserts(&mut list, tally, 1001)
+}
+
+// Looks for each number, and for one above them.
+fn list_finds_all<'a>(list: &mut CountedList<'a>, tally: &'a Tally) -> bool {
     for number in 1..=1001 {
-        assert!(rt; list_finds(&mut list, tally, number), "{order:?}: {number}");
+        if !list_finds(list, tally, number) {
+            return false;
+        }
     }
-    assert!(rt; list_inserts(&mut list, tally, 1001), "{order:?}");
+    true
 }
 
 // Inserts a key that is not there among so many into a tree, and then tries to insert it again.
@@ -87,7 +95,7 @@ fn tree_inserts<'a>(tree: &mut CountedTree<'a>, tally: &'a Tally, number: i32) -
         return false;
     }
     let more = count.saturating_add(1);
-    tree.insert_new(key, 0, 0) == Ok(false) && compared(tally, Kind::Tree, more, true)
+    matches!(tree.insert_new(key, 0, 0), Ok(false)) && compared(tally, Kind::Tree, more, true)
 }
 
 // Looks in a tree for a number of those from 1 to 1000, and for one above them.
@@ -101,28 +109,45 @@ fn tree_finds<'a>(tree: &mut CountedTree<'a>, tally: &'a Tally, number: i32) -> 
     tree.contains_key(0, key) == (number <= 1000) && compared(tally, Kind::Tree, 1000, true)
 }
 
-fn a_tree_compares(rt: &impl Abort, tally: &Tally, order: Order, alloc: Global) {
-    let made: Option<CountedTree> = CountedTree::new(alloc, 0).ok();
-    let mut tree = made.expect(rt, "no memory");
+// Inserts the numbers from 1 to 1000 into a tree, and 1001 after the queries between.
+fn tree_compares<'a>(tally: &'a Tally, order: Order, alloc: Global) -> bool {
+    let made: Result<CountedTree<'a>, Refusal> = CountedTree::new(alloc, 0);
+    let Ok(mut tree) = made else {
+        return false;
+    };
     for place in 0..1000 {
         let number = number_at(order, place).saturating_add(1);
-        assert!(rt;
-            tree_inserts(&mut tree, tally, number),
-            "{order:?}: {number}"
-        );
+        if !tree_inserts(&mut tree, tally, number) {
+            return false;
+        }
     }
-    for number in 1..=1001 {
-        assert!(rt; tree_finds(&mut tree, tally, number), "{order:?}: {number}");
-    }
-    assert!(rt; tree_inserts(&mut tree, tally, 1001), "{order:?}");
+    tree_finds_all(&mut tree, tally) && tree_inserts(&mut tree, tally, 1001)
 }
+
+// Looks for each number, and for one above them.
+fn tree_finds_all<'a>(tree: &mut CountedTree<'a>, tally: &'a Tally) -> bool {
+    for number in 1..=1001 {
+        if !tree_finds(tree, tally, number) {
+            return false;
+        }
+    }
+    true
+}
+
+// Orders, by name.
+const ORDERS: [(&str, Order); 3] = [
+    ("rising", Order::Rising),
+    ("falling", Order::Falling),
+    ("scattered", Order::Scattered),
+];
 
 #[test]
 fn keys_are_compared_within_the_bounds(rt: HostRuntime) {
     let tally = Tally::new();
-    for order in [Order::Rising, Order::Falling, Order::Scattered] {
-        a_list_compares(&rt, &tally, order, rt.alloc());
-        a_tree_compares(&rt, &tally, order, rt.alloc());
+    for (name, order) in ORDERS {
+        let is_list = list_compares(&tally, order, rt.alloc());
+        let is_tree = tree_compares(&tally, order, rt.alloc());
+        assert!(rt; is_list && is_tree, "{name}");
     }
 }
 
@@ -184,42 +209,50 @@ fn deletes_all<'a, C: SetCollection<CountedKey<'a>, CountedKey<'a>>>(
     set.len() == 0 && tally.take() == (0, 0)
 }
 
-fn set_compares<'a, C: SetCollection<CountedKey<'a>, CountedKey<'a>> + Drop>(
-    rt: &impl Abort,
+// Looks for each number, and for one below and one above them.
+fn finds_values<'a, C: SetCollection<CountedKey<'a>, CountedKey<'a>>>(
+    set: &C,
+    tally: &'a Tally,
+    kind: Kind,
+) -> bool {
+    for number in 0..=1001 {
+        if !finds_value(set, tally, kind, number) {
+            return false;
+        }
+    }
+    true
+}
+
+// Inserts the numbers from 1 to 1000, and 1001 after the searches between; then it deletes all.
+fn compares_values<'a, C: SetCollection<CountedKey<'a>, CountedKey<'a>> + Drop>(
     made: Result<C, Refusal>,
     tally: &'a Tally,
     kind: Kind,
     order: Order,
-) {
-    let mut set = made.ok().expect(rt, "no memory");
+) -> bool {
+    let Ok(mut set) = made else {
+        return false;
+    };
     for place in 0..1000 {
         let number = number_at(order, place).saturating_add(1);
-        assert!(rt;
-            inserts_value(&mut set, tally, kind, number),
-            "{kind:?}, {order:?}: {number}"
-        );
+        if !inserts_value(&mut set, tally, kind, number) {
+            return false;
+        }
     }
-    for number in 0..=1001 {
-        assert!(rt;
-            finds_value(&set, tally, kind, number),
-            "{kind:?}, {order:?}: {number}"
-        );
-    }
-    assert!(rt;
-        inserts_value(&mut set, tally, kind, 1001),
-        "{kind:?}, {order:?}"
-    );
-    assert!(rt; deletes_all(&mut set, tally), "{kind:?}, {order:?}");
+    finds_values(&set, tally, kind)
+        && inserts_value(&mut set, tally, kind, 1001)
+        && deletes_all(&mut set, tally)
 }
 
 #[test]
 fn sets_compare_within_the_bounds(rt: HostRuntime) {
     let tally = Tally::new();
-    for order in [Order::Rising, Order::Scattered] {
+    for (name, order) in ORDERS {
         let list: Result<SetList<CountedKey, Global>, Refusal> = SetList::new(rt.alloc(), 0);
-        set_compares(&rt, list, &tally, Kind::List, order);
         let tree: Result<CountedSet, Refusal> = SetTree::new(rt.alloc(), 0);
-        set_compares(&rt, tree, &tally, Kind::Tree, order);
+        let is_list = compares_values(list, &tally, Kind::List, order);
+        let is_tree = compares_values(tree, &tally, Kind::Tree, order);
+        assert!(rt; is_list && is_tree, "{name}");
     }
 }
 
@@ -228,7 +261,7 @@ fn insert_lives<'a>(list: &mut CountedList<'a>, tally: &'a Tally) -> bool {
     for number in 0..1000 {
         let mut key = counted_key(number, tally);
         key.expiration = if number % 2 == 0 { 8 } else { 4 };
-        if list.insert_new(key, number, 0) != Ok(true) {
+        if !matches!(list.insert_new(key, number, 0), Ok(true)) {
             return false;
         }
     }
@@ -244,7 +277,7 @@ fn asked_at<'a>(list: &mut CountedList<'a>, tally: &'a Tally, time: i32) -> u64 
 
 // A time, how many expirations are asked for at most, and how many keys are left. Where some have passed, each key is tested, and
 // each that is left is asked when it expires.
-const LIVES: [(i32, u64, usize); 8] = [
+static LIVES: [(i32, u64, usize); 8] = [
     (4, 0, 1000),
     (5, 1500, 500),
     (5, 0, 500),
@@ -255,14 +288,20 @@ const LIVES: [(i32, u64, usize); 8] = [
     (9, 0, 0),
 ];
 
+// Whether queries ask as seldom, and leave as many.
+fn asks_as_seldom<'a>(list: &mut CountedList<'a>, tally: &'a Tally) -> bool {
+    for (time, most, left) in &LIVES {
+        if asked_at(list, tally, *time) > *most || list.stored() != *left {
+            return false;
+        }
+    }
+    true
+}
+
 #[test]
 fn a_list_asks_for_expirations_only_once_some_have_passed(rt: HostRuntime) {
     let tally = Tally::new();
     let made: Result<CountedList, Refusal> = KeyExpList::new(rt.alloc(), 0);
     let mut list = made.ok().expect(&rt, "no memory");
-    assert!(rt; insert_lives(&mut list, &tally));
-    for (time, most, left) in LIVES {
-        let asked = asked_at(&mut list, &tally, time);
-        assert!(rt; asked <= most && list.stored() == left, "at {time}");
-    }
+    assert!(rt; insert_lives(&mut list, &tally) && asks_as_seldom(&mut list, &tally));
 }

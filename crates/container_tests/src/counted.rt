@@ -6,7 +6,6 @@ use i_tree::Refusal;
 use i_tree::key::tree::KeyExpTree;
 use i_tree::steps::Counter;
 use std::alloc::Global;
-use std::process::Abort;
 
 /// How often each thing was counted.
 #[derive(Clone, Copy)]
@@ -186,31 +185,30 @@ fn ask(tree: &mut KeyExpTree<TimedKey, i32, i32, Global>, query: Query, made: &m
 }
 
 // Inserts the keys and asks, and compares the answer and the counts.
-fn go_down(rt: &impl Abort, row: &Row, alloc: Global) {
-    let name = row.name;
-    let tree: Option<KeyExpTree<TimedKey, i32, i32, Global>> = KeyExpTree::new(alloc, 0).ok();
-    let mut tree = tree.expect(rt, "no memory");
+fn goes_down(row: &Row, alloc: Global) -> bool {
+    let tree: Result<KeyExpTree<TimedKey, i32, i32, Global>, Refusal> = KeyExpTree::new(alloc, 0);
+    let Ok(mut tree) = tree else {
+        return false;
+    };
     let mut made = NOTHING;
-    assert!(rt;
-        insert_all(&mut tree, row.keys, &mut made) == Ok(true),
-        "{name}"
-    );
+    if !matches!(insert_all(&mut tree, row.keys, &mut made), Ok(true)) {
+        return false;
+    }
     let turned = made.rotations;
     made = NOTHING;
-    assert!(rt;
-        ask(&mut tree, row.query, &mut made) == row.answer,
-        "{name}"
-    );
+    let answer = ask(&mut tree, row.query, &mut made);
+    let is_turned = match row.rotations {
+        Some(wanted) => (turned, made.rotations) == wanted,
+        None => true,
+    };
     let counts = (made.comparisons, made.tests, made.removals);
-    assert!(rt; counts == row.made && tree.stored() == row.stored, "{name}");
-    if let Some(rotations) = row.rotations {
-        assert!(rt; (turned, made.rotations) == rotations, "{name}");
-    }
+    answer == row.answer && counts == row.made && tree.stored() == row.stored && is_turned
 }
 
 #[test]
 fn a_descent_counts_what_it_makes(rt: HostRuntime) {
     for row in ROWS {
-        go_down(&rt, row, rt.alloc());
+        let name = row.name;
+        assert!(rt; goes_down(row, rt.alloc()), "{name}");
     }
 }

@@ -1,18 +1,15 @@
 //! Calls by chance, and runs of them, beside a plain vector of what was accepted.
 
 use crate::call::{Answer, Call, Step, Store};
-use crate::key_rows::{CountedTree, KeyList, KeyTree};
 use crate::rows::{new_store, run, take};
-use crate::set_rows::{ItemList, ItemTree};
-use crate::status_rows::{SlopedList, SlopedTree};
 use std::alloc::Global;
 use std::process::Abort;
 use test_kit::Refusing;
 use test_kit::random::Random;
 
-// Of what the history is. Sets have no times, and a deletion.
+/// Of what a collection is. Sets have no times, and a deletion.
 #[derive(Clone, Copy, PartialEq, Eq)]
-enum Subject {
+pub enum Subject {
     Keys,
     Sets,
     Statuses,
@@ -172,8 +169,8 @@ fn steps(subject: Subject, is_run: bool, alloc: Global) -> Option<Vec<Step>> {
     Some(steps)
 }
 
-// Goes through the calls one by one, and runs such calls at once.
-fn agrees<S: Store>(
+/// Goes through calls by chance one by one, and runs such calls at once.
+pub fn agrees<S: Store>(
     rt: &impl Abort,
     counted: &Refusing<Global>,
     memory: S::Memory,
@@ -188,21 +185,4 @@ fn agrees<S: Store>(
     let mut store = new_store::<S>(rt, memory, 0);
     let mut out = Vec::new(memory);
     run(rt, &mut store, "a history", &commands, &mut out, alloc);
-}
-
-#[test]
-fn histories_of_keys_agree_with_a_plain_vector(rt: HostRuntime) {
-    let memory = Refusing::new(rt.alloc());
-    agrees::<KeyList>(&rt, &memory, &memory, Subject::Keys, rt.alloc());
-    agrees::<KeyTree>(&rt, &memory, &memory, Subject::Keys, rt.alloc());
-    agrees::<CountedTree>(&rt, &memory, &memory, Subject::Keys, rt.alloc());
-}
-
-#[test]
-fn histories_of_sets_and_statuses_agree_with_a_plain_vector(rt: HostRuntime) {
-    let memory = Refusing::new(rt.alloc());
-    agrees::<ItemList>(&rt, &memory, &memory, Subject::Sets, rt.alloc());
-    agrees::<ItemTree>(&rt, &memory, &memory, Subject::Sets, rt.alloc());
-    agrees::<SlopedList>(&rt, &memory, &memory, Subject::Statuses, rt.alloc());
-    agrees::<SlopedTree>(&rt, &memory, &memory, Subject::Statuses, rt.alloc());
 }

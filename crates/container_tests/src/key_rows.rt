@@ -6,9 +6,9 @@ use crate::call::Call::{
     InsertNew, LeftOf, Overfill, RefuseAll, Requests, Reserve, RightOf, Root, Spare, SpareFrom,
     Stored, StoredBelow,
 };
-use crate::key_types::{Backward, Moment, Momentary, TimedKey};
+use crate::key_types::TimedKey;
 use crate::keys::{Counted, Keys, NoRuns, Plain};
-use crate::rows::{Row, RunRow, go_over, go_over_runs};
+use crate::rows::{Row, RunRow};
 use i_tree::Expiration;
 use i_tree::Refusal::{NoHandle, OutOfMemory};
 use i_tree::key::list::KeyExpList;
@@ -18,9 +18,11 @@ use test_kit::Refusing;
 
 type Memory<'a> = &'a Refusing<Global>;
 
-type ListOf<'a, K, E> = Keys<K, E, KeyExpList<K, E, i32, Memory<'a>>, NoRuns>;
+/// A list of keys of this type, and of times of this one.
+pub type ListOf<'a, K, E> = Keys<K, E, KeyExpList<K, E, i32, Memory<'a>>, NoRuns>;
 
-type TreeOf<'a, K, E> = Keys<K, E, KeyExpTree<K, E, i32, Memory<'a>>, NoRuns>;
+/// A tree of them.
+pub type TreeOf<'a, K, E> = Keys<K, E, KeyExpTree<K, E, i32, Memory<'a>>, NoRuns>;
 
 /// A list of keys.
 pub type KeyList<'a> = Keys<TimedKey, i32, KeyExpList<TimedKey, i32, i32, Memory<'a>>, Plain>;
@@ -37,8 +39,8 @@ const THIRD_EXPIRED: &[(i32, i32)] = &[(1, 10), (2, 10), (3, 1), (4, 10)];
 
 const LEAF_EXPIRED: &[(i32, i32)] = &[(4, 10), (2, 10), (5, 1), (1, 10)];
 
-// Of each kind. Keys expire at 10 where nothing else is said, and are live then still.
-static ROWS: &[Row] = &[
+/// Of each kind. Keys expire at 10 where nothing else is said, and are live then still.
+pub static ROWS: &[Row] = &[
     Row {
         name: "the greatest lower key",
         capacity: 0,
@@ -210,8 +212,8 @@ static ROWS: &[Row] = &[
     },
 ];
 
-// Of a list.
-static LIST_ROWS: &[Row] = &[
+/// Of a list.
+pub static LIST_ROWS: &[Row] = &[
     Row {
         name: "as many keys as there is room for",
         capacity: 3,
@@ -260,8 +262,8 @@ static LIST_ROWS: &[Row] = &[
     },
 ];
 
-// Of a tree.
-static TREE_ROWS: &[Row] = &[
+/// Of a tree.
+pub static TREE_ROWS: &[Row] = &[
     Row {
         name: "the root is removed until nothing is left",
         capacity: 0,
@@ -490,16 +492,16 @@ static TREE_ROWS: &[Row] = &[
     },
 ];
 
-// Of keys in the opposite order.
-static BACKWARD_ROWS: &[Row] = &[Row {
+/// Of keys in the opposite order.
+pub static BACKWARD_ROWS: &[Row] = &[Row {
     name: "keys in the opposite order",
     capacity: 0,
     given: &[(1, 10), (2, 10), (3, 10)],
     steps: &[(Below(0, 2), Value(3)), (Below(0, 3), Value(-1))],
 }];
 
-// Of runs. An expired key comes again one later than its expiration.
-static RUN_ROWS: &[RunRow] = &[
+/// Of runs. An expired key comes again one later than its expiration.
+pub static RUN_ROWS: &[RunRow] = &[
     RunRow {
         name: "present, late and values",
         before: &[],
@@ -544,8 +546,8 @@ static RUN_ROWS: &[RunRow] = &[
     },
 ];
 
-// Of runs over a tree, where an expired key is stored that late commands would find on their way.
-static TREE_RUN_ROWS: &[RunRow] = &[RunRow {
+/// Of runs over a tree, where an expired key is stored that late commands would find on their way.
+pub static TREE_RUN_ROWS: &[RunRow] = &[RunRow {
     name: "late commands leave what is stored",
     before: &[],
     run: &[
@@ -559,34 +561,6 @@ static TREE_RUN_ROWS: &[RunRow] = &[RunRow {
     ],
     after: &[(Stored, Number(2)), (Contains(0, 1), No)],
 }];
-
-#[test]
-fn rows_of_each_kind(rt: HostRuntime) {
-    let memory = Refusing::new(rt.alloc());
-    go_over::<KeyList>(&rt, &memory, &memory, ROWS);
-    go_over::<KeyTree>(&rt, &memory, &memory, ROWS);
-    go_over::<ListOf<Momentary, Moment>>(&rt, &memory, &memory, ROWS);
-    go_over::<TreeOf<Momentary, Moment>>(&rt, &memory, &memory, ROWS);
-}
-
-#[test]
-fn rows_of_one_kind_or_order(rt: HostRuntime) {
-    let memory = Refusing::new(rt.alloc());
-    go_over::<KeyList>(&rt, &memory, &memory, LIST_ROWS);
-    go_over::<KeyTree>(&rt, &memory, &memory, TREE_ROWS);
-    go_over::<ListOf<Backward, i32>>(&rt, &memory, &memory, BACKWARD_ROWS);
-    go_over::<TreeOf<Backward, i32>>(&rt, &memory, &memory, BACKWARD_ROWS);
-}
-
-#[test]
-fn rows_of_runs(rt: HostRuntime) {
-    let memory = Refusing::new(rt.alloc());
-    go_over_runs::<KeyList>(&rt, &memory, &memory, RUN_ROWS, rt.alloc());
-    go_over_runs::<KeyTree>(&rt, &memory, &memory, RUN_ROWS, rt.alloc());
-    go_over_runs::<CountedTree>(&rt, &memory, &memory, RUN_ROWS, rt.alloc());
-    go_over_runs::<KeyTree>(&rt, &memory, &memory, TREE_RUN_ROWS, rt.alloc());
-    go_over_runs::<CountedTree>(&rt, &memory, &memory, TREE_RUN_ROWS, rt.alloc());
-}
 
 #[test]
 fn each_type_has_its_greatest_time(rt: HostRuntime) {

@@ -40,6 +40,11 @@ pub trait KeyKind<K: TestKey<E>, E: TestTime>: KeyExpCollection<K, E, i32> + Dro
     /// An empty collection.
     fn make(memory: Self::Memory, capacity: usize) -> Result<Self, Refusal>;
 
+    /// A clone, of what has one.
+    fn cloned(&self) -> Option<Result<Self, AllocError>> {
+        None
+    }
+
     /// Makes room for so many pairs or slots in all.
     fn reserve(&mut self, capacity: usize) -> Result<(), Refusal>;
 
@@ -55,6 +60,10 @@ impl<K: TestKey<E>, E: TestTime, A: Allocator + Copy> KeyKind<K, E> for KeyExpLi
 
     fn make(memory: A, capacity: usize) -> Result<Self, Refusal> {
         KeyExpList::new(memory, capacity)
+    }
+
+    fn cloned(&self) -> Option<Result<Self, AllocError>> {
+        Some(self.clone())
     }
 
     fn reserve(&mut self, capacity: usize) -> Result<(), Refusal> {
@@ -167,17 +176,6 @@ pub struct Keys<K, E, C, R> {
     types: PhantomData<(K, E, R)>,
 }
 
-impl<K: TestKey<E>, E: TestTime, A: Allocator + Copy, R> Keys<K, E, KeyExpList<K, E, i32, A>, R> {
-    /// A clone of the list.
-    pub fn try_clone(&self) -> Result<Self, AllocError> {
-        Ok(Keys {
-            keys: self.keys.clone()?,
-            asked: 0,
-            types: PhantomData,
-        })
-    }
-}
-
 // How often a closure was asked, and how often about an expired key.
 #[derive(Drop)]
 struct Asking {
@@ -209,31 +207,23 @@ impl<K: TestKey<E>, E: TestTime, C: KeyKind<K, E>, R> Keys<K, E, C, R> {
         joined(self.keys.insert(key, val, time))
     }
 
-    // The answer to a query by a closure.
-    fn asked(&mut self, found: i32, asking: Asking) -> Answer {
+    // The answer to a query by a closure: for the number above, or at most the one that is sought.
+    fn nearest(&mut self, time: E, sought: i32, greater: Option<i32>, is_above: bool) -> Answer {
+        let asking = Asking::new();
+        let ask = |key: K| {
+            asking.note(key.expiration() < time);
+            stands(key.number(), sought, greater)
+        };
+        let found = if is_above {
+            self.keys.first_greater_by(time, -1, ask)
+        } else {
+            self.keys.first_less_or_equal_by(time, -1, ask)
+        };
         self.asked = asking.calls.get();
         if asking.of_expired.get() > 0 {
             return Answer::AskedExpired;
         }
         Answer::Value(found)
-    }
-
-    fn at_most(&mut self, time: E, sought: i32, greater: Option<i32>) -> Answer {
-        let asking = Asking::new();
-        let found = self.keys.first_less_or_equal_by(time, -1, |key| {
-            asking.note(key.expiration() < time);
-            stands(key.number(), sought, greater)
-        });
-        self.asked(found, asking)
-    }
-
-    fn above(&mut self, time: E, sought: i32) -> Answer {
-        let asking = Asking::new();
-        let found = self.keys.first_greater_by(time, -1, |key| {
-            asking.note(key.expiration() < time);
-            stands(key.number(), sought, None)
-        });
-        self.asked(found, asking)
     }
 
     fn clear(&mut self) -> Answer {
@@ -256,6 +246,17 @@ impl<K: TestKey<E>, E: TestTime, C: KeyKind<K, E>, R: KeyRunner<K, E, C>> Store
         })
     }
 
+    fn cloned(&self) -> Option<Result<Self, AllocError>> {
+        match self.keys.cloned()? {
+            Ok(keys) => Some(Ok(Keys {
+                keys,
+                asked: 0,
+                types: PhantomData,
+            })),
+            Err(error) => Some(Err(error)),
+        }
+    }
+
     fn room(&self) -> (usize, usize) {
         self.keys.room()
     }
@@ -271,11 +272,11 @@ impl<K: TestKey<E>, E: TestTime, C: KeyKind<K, E>, R: KeyRunner<K, E, C>> Store
             Call::Below(time, number) => {
                 Answer::Value(self.keys.first_less(E::at(time), -1, K::of(number, 0)))
             }
-            Call::AtMost(time, number) => self.at_most(E::at(time), number, None),
+            Call::AtMost(time, number) => self.nearest(E::at(time), number, None, false),
             Call::AtMostBut(time, number, greater) => {
-                self.at_most(E::at(time), number, Some(greater))
+                self.nearest(E::at(time), number, Some(greater), false)
             }
-            Call::Above(time, number) => self.above(E::at(time), number),
+            Call::Above(time, number) => self.nearest(E::at(time), number, None, true),
             Call::Contains(time, number) => {
                 whether(self.keys.contains_key(E::at(time), K::of(number, 0)))
             }

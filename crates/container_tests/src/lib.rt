@@ -23,6 +23,8 @@ mod key_types;
 #[cfg(test)]
 mod keys;
 #[cfg(test)]
+mod kinds;
+#[cfg(test)]
 mod refusals;
 #[cfg(test)]
 mod rows;

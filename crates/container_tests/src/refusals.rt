@@ -1,18 +1,15 @@
 //! Calls of each kind of collection, with each request for memory refused in turn.
 
 use crate::call::{Answer, Call, Store};
-use crate::key_rows::{KeyList, KeyTree};
+use crate::history::Subject;
 use crate::rows::fill;
-use crate::set_rows::{ItemList, ItemTree};
-use crate::status_rows::{SlopedList, SlopedTree};
 use i_tree::Refusal;
 use std::alloc::{AllocError, Global};
-use std::process::Abort;
 use test_kit::Refusing;
 use test_kit::in_turn::{Trial, refuse_in_turn};
 
 /// How a collection keeps what is stored.
-#[derive(Clone, Copy, Debug, PartialEq, Eq)]
+#[derive(Clone, Copy, PartialEq, Eq)]
 pub enum Kind {
     List,
     Tree,
@@ -61,7 +58,7 @@ impl<S: Store> Trial for Making<S> {
 }
 
 // What changes a full collection of numbers that rise from 1 on.
-#[derive(Clone, Copy, Debug, PartialEq, Eq)]
+#[derive(Clone, Copy)]
 enum Change {
     Reserve(usize),
     // A further number, by both calls.
@@ -146,106 +143,112 @@ impl<S: Store> Trial for Changing<S> {
     }
 }
 
-// Makes each call with each request refused. Each makes one.
-fn refused_in_turn<S: Store>(
-    rt: &impl Abort,
+// What changes a collection. The room of a set isn't reserved.
+fn changes(subject: Subject) -> &'static [Change] {
+    match subject {
+        Subject::Sets => &[Change::Insert, Change::InsertNew],
+        _ => &[Change::Reserve(100), Change::Insert, Change::InsertNew],
+    }
+}
+
+/// Whether each call takes its memory by one request, or changes nothing where that is refused.
+pub fn takes_all_or_nothing<S: Store>(
     counted: &Refusing<Global>,
     memory: S::Memory,
     kind: Kind,
-    changes: &[Change],
-) {
+    subject: Subject,
+) -> bool {
     for capacity in [1, 8, 20] {
         let trial: Making<S> = Making {
             memory,
             kind,
             capacity,
         };
-        assert!(rt;
-            refuse_in_turn(counted, &trial) == Ok(1),
-            "{kind:?} of {capacity}"
-        );
-    }
-    for least in [0, 5, 10, 20, 40] {
-        for change in changes {
-            let trial: Changing<S> = Changing {
-                memory,
-                kind,
-                least,
-                change: *change,
-            };
-            assert!(rt;
-                refuse_in_turn(counted, &trial) == Ok(1),
-                "{kind:?}, {change:?} over {least}"
-            );
+        if !matches!(refuse_in_turn(counted, &trial), Ok(1)) {
+            return false;
         }
     }
+    for change in changes(subject) {
+        if !changes_all_or_nothing::<S>(counted, memory, kind, *change) {
+            return false;
+        }
+    }
+    true
 }
 
-#[test]
-fn a_call_takes_its_memory_at_once_or_changes_nothing(rt: HostRuntime) {
-    let memory = Refusing::new(rt.alloc());
-    let inserts = [Change::Insert, Change::InsertNew];
-    let changes = [Change::Reserve(100), Change::Insert, Change::InsertNew];
-    refused_in_turn::<KeyList>(&rt, &memory, &memory, Kind::List, &changes);
-    refused_in_turn::<KeyTree>(&rt, &memory, &memory, Kind::Tree, &changes);
-    refused_in_turn::<ItemList>(&rt, &memory, &memory, Kind::List, &inserts);
-    refused_in_turn::<ItemTree>(&rt, &memory, &memory, Kind::Tree, &inserts);
-    refused_in_turn::<SlopedList>(&rt, &memory, &memory, Kind::List, &changes);
-    refused_in_turn::<SlopedTree>(&rt, &memory, &memory, Kind::Tree, &changes);
+// Makes the change with its request refused, over collections of several sizes.
+fn changes_all_or_nothing<S: Store>(
+    counted: &Refusing<Global>,
+    memory: S::Memory,
+    kind: Kind,
+    change: Change,
+) -> bool {
+    for least in [0, 5, 10, 20, 40] {
+        let trial: Changing<S> = Changing {
+            memory,
+            kind,
+            least,
+            change,
+        };
+        if !matches!(refuse_in_turn(counted, &trial), Ok(1)) {
+            return false;
+        }
+    }
+    true
 }
 
 // A clone of the keys 0, 3, 5 and 8.
 #[derive(Drop)]
-struct Cloning<'a> {
-    memory: &'a Refusing<Global>,
+struct Cloning<S: Store> {
+    memory: S::Memory,
 }
 
 #[derive(Drop)]
-struct Cloned<'a> {
-    list: KeyList<'a>,
-    clone: Option<Result<KeyList<'a>, AllocError>>,
+struct Cloned<S: Store> {
+    store: S,
+    clone: Option<Result<S, AllocError>>,
 }
 
 // Whether there are the four keys.
-fn has_four(list: &mut KeyList<'_>) -> bool {
-    list.call(Call::Below(0, 4)) == Answer::Value(3)
-        && list.call(Call::Below(0, 0)) == Answer::Value(-1)
-        && list.room().0 == 4
+fn has_four<S: Store>(store: &mut S) -> bool {
+    store.call(Call::Below(0, 4)) == Answer::Value(3)
+        && store.call(Call::Below(0, 0)) == Answer::Value(-1)
+        && store.room().0 == 4
 }
 
-impl<'a> Trial for Cloning<'a> {
-    type State = Cloned<'a>;
+impl<S: Store> Trial for Cloning<S> {
+    type State = Cloned<S>;
 
-    fn begin(&self) -> Option<Cloned<'a>> {
-        let mut list: KeyList<'a> = Store::make(self.memory, 0).ok()?;
+    fn begin(&self) -> Option<Cloned<S>> {
+        let mut store = S::make(self.memory, 0).ok()?;
         for key in [0, 3, 5, 8] {
-            list.call(Call::Insert(key, 10, key, 0));
+            store.call(Call::Insert(key, 10, key, 0));
         }
-        Some(Cloned { list, clone: None })
+        Some(Cloned { store, clone: None })
     }
 
-    fn call(&self, cloned: &mut Cloned<'a>) {
-        cloned.clone = Some(cloned.list.try_clone());
+    fn call(&self, cloned: &mut Cloned<S>) {
+        cloned.clone = cloned.store.cloned();
     }
 
-    fn is_refused(&self, cloned: &mut Cloned<'a>, _nth: u64) -> bool {
-        matches!(cloned.clone, Some(Err(AllocError))) && has_four(&mut cloned.list)
+    fn is_refused(&self, cloned: &mut Cloned<S>, _nth: u64) -> bool {
+        matches!(cloned.clone, Some(Err(AllocError))) && has_four(&mut cloned.store)
     }
 
     // The clone stays as it is where the original is cleared.
-    fn is_done(&self, cloned: &mut Cloned<'a>) -> bool {
+    fn is_done(&self, cloned: &mut Cloned<S>) -> bool {
         let Some(Ok(clone)) = &mut cloned.clone else {
             return false;
         };
-        has_four(&mut cloned.list)
-            && cloned.list.call(Call::Clear) == Answer::Done
-            && cloned.list.call(Call::Below(0, 4)) == Answer::Value(-1)
+        has_four(&mut cloned.store)
+            && cloned.store.call(Call::Clear) == Answer::Done
+            && cloned.store.call(Call::Below(0, 4)) == Answer::Value(-1)
             && has_four(clone)
     }
 }
 
-#[test]
-fn a_clone_takes_its_memory_at_once(rt: HostRuntime) {
-    let memory = Refusing::new(rt.alloc());
-    assert!(rt; refuse_in_turn(&memory, &Cloning { memory: &memory }) == Ok(1));
+/// Whether a clone of keys takes its memory by one request, or isn't made.
+pub fn clones_at_once<S: Store>(counted: &Refusing<Global>, memory: S::Memory) -> bool {
+    let trial: Cloning<S> = Cloning { memory };
+    matches!(refuse_in_turn(counted, &trial), Ok(1))
 }

@@ -19,7 +19,7 @@ pub fn most_of_a_descent(count: usize) -> u64 {
 }
 
 /// In which order a thousand numbers from 0 on come.
-#[derive(Clone, Copy, Debug)]
+#[derive(Clone, Copy)]
 pub enum Order {
     Rising,
     Falling,

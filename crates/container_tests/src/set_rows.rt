@@ -5,7 +5,7 @@ use crate::call::Call::{
     Above, AreHeld, AtMost, Before, Contains, Delete, DeleteBefore, Fill, FillRoom, First, Hold,
     Insert, InsertNew, IsOrdered, RefuseAll, Requests, Stored, Walk, WriteKey, WriteValue,
 };
-use crate::rows::{Row, RunRow, go_over, go_over_runs};
+use crate::rows::{Row, RunRow};
 use crate::sets::Sets;
 use i_tree::Refusal::OutOfMemory;
 use i_tree::set::list::SetList;
@@ -24,8 +24,8 @@ pub type ItemTree<'a> = Sets<SetTree<i32, Item, Memory<'a>>>;
 
 const THREE: &[(i32, i32)] = &[(1, 10), (4, 10), (8, 10)];
 
-// Of both kinds. Each value is its key where nothing else is said.
-static ROWS: &[Row] = &[
+/// Of both kinds. Each value is its key where nothing else is said.
+pub static ROWS: &[Row] = &[
     Row {
         name: "the greatest key at most",
         capacity: 0,
@@ -165,8 +165,8 @@ static ROWS: &[Row] = &[
     },
 ];
 
-// Of a tree.
-static TREE_ROWS: &[Row] = &[Row {
+/// Of a tree.
+pub static TREE_ROWS: &[Row] = &[Row {
     name: "as many as there are slots for, and their handles",
     capacity: 0,
     given: &[],
@@ -180,8 +180,8 @@ static TREE_ROWS: &[Row] = &[Row {
     ],
 }];
 
-// Of runs.
-static RUN_ROWS: &[RunRow] = &[RunRow {
+/// Of runs.
+pub static RUN_ROWS: &[RunRow] = &[RunRow {
     name: "each command",
     before: &[],
     run: &[
@@ -196,13 +196,3 @@ static RUN_ROWS: &[RunRow] = &[RunRow {
     ],
     after: &[(Stored, Number(0))],
 }];
-
-#[test]
-fn rows_of_sets(rt: HostRuntime) {
-    let memory = Refusing::new(rt.alloc());
-    go_over::<ItemList>(&rt, &memory, &memory, ROWS);
-    go_over::<ItemTree>(&rt, &memory, &memory, ROWS);
-    go_over::<ItemTree>(&rt, &memory, &memory, TREE_ROWS);
-    go_over_runs::<ItemList>(&rt, &memory, &memory, RUN_ROWS, rt.alloc());
-    go_over_runs::<ItemTree>(&rt, &memory, &memory, RUN_ROWS, rt.alloc());
-}

@@ -7,7 +7,7 @@ use crate::call::Call::{
     Above, Around, Asked, AskedUpTo, AtMost, Clear, Fill, FillRoom, Insert, InsertNew,
     InsertSloped, LeftOf, RefuseAll, Requests, Reserve, RightOf, Root, Spare, Stored, StoredBelow,
 };
-use crate::rows::{Row, RunRow, go_over, go_over_runs};
+use crate::rows::{Row, RunRow};
 use crate::sloped::Sloped;
 use crate::statuses::Statuses;
 use i_tree::Refusal::{NoHandle, OutOfMemory};
@@ -34,8 +34,8 @@ const RED_NEPHEW: &[(i32, i32)] = &[
     (25, 10),
 ];
 
-// Of both kinds. A segment is level where no slope is said.
-static ROWS: &[Row] = &[
+/// Of both kinds. A segment is level where no slope is said.
+pub static ROWS: &[Row] = &[
     Row {
         name: "nothing where it is empty",
         capacity: 0,
@@ -207,8 +207,8 @@ static ROWS: &[Row] = &[
     },
 ];
 
-// Of a tree.
-static TREE_ROWS: &[Row] = &[
+/// Of a tree.
+pub static TREE_ROWS: &[Row] = &[
     Row {
         name: "the root is removed until nothing is left",
         capacity: 0,
@@ -373,8 +373,8 @@ static TREE_ROWS: &[Row] = &[
     },
 ];
 
-// Of runs.
-static RUN_ROWS: &[RunRow] = &[
+/// Of runs.
+pub static RUN_ROWS: &[RunRow] = &[
     RunRow {
         name: "no command",
         before: &[(Insert(1, 10, 1, 0), Joined), (Insert(2, 10, 2, 0), Joined)],
@@ -463,18 +463,3 @@ static RUN_ROWS: &[RunRow] = &[
         after: &[(Requests, Number(1))],
     },
 ];
-
-#[test]
-fn rows_of_statuses(rt: HostRuntime) {
-    let memory = Refusing::new(rt.alloc());
-    go_over::<SlopedList>(&rt, &memory, &memory, ROWS);
-    go_over::<SlopedTree>(&rt, &memory, &memory, ROWS);
-    go_over::<SlopedTree>(&rt, &memory, &memory, TREE_ROWS);
-}
-
-#[test]
-fn rows_of_status_runs(rt: HostRuntime) {
-    let memory = Refusing::new(rt.alloc());
-    go_over_runs::<SlopedList>(&rt, &memory, &memory, RUN_ROWS, rt.alloc());
-    go_over_runs::<SlopedTree>(&rt, &memory, &memory, RUN_ROWS, rt.alloc());
-}

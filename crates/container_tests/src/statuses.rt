@@ -129,55 +129,25 @@ fn asked(asked: &Cell<usize>, of_ended: &Cell<usize>, sought: Sought, sloped: Sl
     stands(sought, sloped)
 }
 
+// What a call is about: the segment, its value, and the height that is sought, which is where the segment stands at the time. A
+// query is about a level one.
+fn question(call: Call) -> Option<(Sloped, i32, Sought)> {
+    let (number, slope, end, val, time) = match call {
+        Call::Insert(number, end, val, time) | Call::InsertNew(number, end, val, time) => {
+            (number, 0, end, val, time)
+        }
+        Call::InsertSloped(number, slope, end, val, time) => (number, slope, end, val, time),
+        Call::AtMost(time, number) | Call::Above(time, number) | Call::Around(time, number) => {
+            (number, 0, 0, 0, time)
+        }
+        _ => return None,
+    };
+    let sloped = through(number, slope, end);
+    let height = sloped.height(time);
+    Some((sloped, val, Sought { time, height }))
+}
+
 impl<C: StatusKind> Statuses<C> {
-    fn insert(&mut self, time: i32, sloped: Sloped, val: i32) -> Answer {
-        let height = sloped.height(time);
-        let sought = Sought { time, height };
-        let told = self.status.insert_by(
-            time,
-            |other| asked(&self.asked, &self.of_ended, sought, other),
-            sloped,
-            val,
-        );
-        inserted(told)
-    }
-
-    fn insert_between(&mut self, time: i32, sloped: Sloped, val: i32) -> Answer {
-        let height = sloped.height(time);
-        let sought = Sought { time, height };
-        let told = self.status.insert_between(
-            time,
-            |other| asked(&self.asked, &self.of_ended, sought, other),
-            sloped,
-            val,
-        );
-        told_between(told)
-    }
-
-    fn at_most(&mut self, sought: Sought) -> Answer {
-        Answer::Value(
-            self.status
-                .first_less_or_equal_by(sought.time, -1, |other| {
-                    asked(&self.asked, &self.of_ended, sought, other)
-                }),
-        )
-    }
-
-    fn above(&mut self, sought: Sought) -> Answer {
-        Answer::Value(
-            self.status.first_greater_by(sought.time, -1, |other| {
-                asked(&self.asked, &self.of_ended, sought, other)
-            }),
-        )
-    }
-
-    fn around(&mut self, sought: Sought) -> Answer {
-        let (before, after) = self.status.neighbours_by(sought.time, |other| {
-            asked(&self.asked, &self.of_ended, sought, other)
-        });
-        Answer::Values(value(before), value(after))
-    }
-
     fn clear(&mut self) -> Answer {
         self.status.clear();
         Answer::Done
@@ -185,26 +155,21 @@ impl<C: StatusKind> Statuses<C> {
 
     // Makes a call that asks a closure.
     fn ask(&mut self, call: Call) -> Answer {
+        let Some((sloped, val, sought)) = question(call) else {
+            return Answer::NoCall;
+        };
+        let time = sought.time;
+        let ask = |other: Sloped| asked(&self.asked, &self.of_ended, sought, other);
         match call {
-            Call::Insert(number, end, val, time) => self.insert(time, through(number, 0, end), val),
-            Call::InsertSloped(number, slope, end, val, time) => {
-                self.insert(time, through(number, slope, end), val)
+            Call::InsertNew(..) => told_between(self.status.insert_between(time, ask, sloped, val)),
+            Call::AtMost(..) => Answer::Value(self.status.first_less_or_equal_by(time, -1, ask)),
+            Call::Above(..) => Answer::Value(self.status.first_greater_by(time, -1, ask)),
+            Call::Around(..) => {
+                let (before, after) = self.status.neighbours_by(time, ask);
+                Answer::Values(value(before), value(after))
             }
-            Call::InsertNew(number, end, val, time) => {
-                self.insert_between(time, through(number, 0, end), val)
-            }
-            Call::AtMost(time, number) => self.at_most(height_at(time, number)),
-            Call::Above(time, number) => self.above(height_at(time, number)),
-            Call::Around(time, number) => self.around(height_at(time, number)),
-            _ => Answer::NoCall,
+            _ => inserted(self.status.insert_by(time, ask, sloped, val)),
         }
-    }
-}
-
-fn height_at(time: i32, number: i32) -> Sought {
-    Sought {
-        time,
-        height: i64::from(number),
     }
 }
 
@@ -278,41 +243,31 @@ fn run_commands<C: StatusCollection<Sloped, i32, i32>, B: Allocator>(
     run_status(status, commands, stands, out)
 }
 
-// Stores the segment where it stands at the time.
-fn insertion(key: Sloped, val: i32, time: i32) -> Command {
-    StatusCommand::InsertBy {
-        key,
-        val,
-        time,
-        probe: Sought {
-            time,
-            height: key.height(time),
-        },
-    }
-}
-
 // The call as a command.
 fn command(call: Call) -> Option<Command> {
+    if matches!(call, Call::Clear) {
+        return Some(StatusCommand::Clear);
+    }
+    let (key, val, probe) = question(call)?;
+    let time = probe.time;
     match call {
-        Call::Insert(number, end, val, time) => Some(insertion(through(number, 0, end), val, time)),
-        Call::InsertSloped(number, slope, end, val, time) => {
-            Some(insertion(through(number, slope, end), val, time))
-        }
-        Call::AtMost(time, number) => Some(StatusCommand::LessOrEqualBy {
+        Call::Insert(..) | Call::InsertSloped(..) => Some(StatusCommand::InsertBy {
+            key,
+            val,
+            time,
+            probe,
+        }),
+        Call::AtMost(..) => Some(StatusCommand::LessOrEqualBy {
             time,
             default: -1,
-            probe: height_at(time, number),
+            probe,
         }),
-        Call::Above(time, number) => Some(StatusCommand::GreaterBy {
+        Call::Above(..) => Some(StatusCommand::GreaterBy {
             time,
             default: -1,
-            probe: height_at(time, number),
+            probe,
         }),
-        Call::Around(time, number) => Some(StatusCommand::NeighboursBy {
-            time,
-            probe: height_at(time, number),
-        }),
-        Call::Clear => Some(StatusCommand::Clear),
+        Call::Around(..) => Some(StatusCommand::NeighboursBy { time, probe }),
         _ => None,
     }
 }
