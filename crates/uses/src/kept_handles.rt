@@ -33,16 +33,3 @@ pub fn taken_out(alloc: Global, place: i32) -> Result<u32, Refusal> {
     }
     Ok(value)
 }
-
-#[cfg(test)]
-mod tests {
-    use super::*;
-    use std::test::Fail;
-
-    #[test]
-    fn keeps_a_handle_over_an_insertion(rt: HostRuntime) -> Result<(), Fail> {
-        assert_eq!(rt; taken_out(rt.alloc(), 3)?, 0);
-        assert_eq!(rt; taken_out(rt.alloc(), 4)?, 40);
-        Ok(())
-    }
-}

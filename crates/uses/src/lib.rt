@@ -1,6 +1,6 @@
-//! Complete small programs over `i_tree`, as its users write them: each is proved and tested. A loop in `tickets` and one in
-//! `own_descent` have an invariant in a proof file, and `kept_booking` and `sessions` have one for what they promise; the others need
-//! none.
+//! Complete small programs over `i_tree`, as its users write them: each is proved; tests stand in `uses_tests`. A loop in
+//! `tickets` and one in `own_descent` have an invariant in a proof file, and `kept_booking` and `sessions` have one for what
+//! they promise; the others need none.
 #![tactic(auto)]
 
 pub mod crossing_candidates;

@@ -55,24 +55,3 @@ pub fn contains(numbers: &RbTree<i32, Global>, number: i32) -> bool {
     let top = numbers.root();
     top != EMPTY_REF && descend(numbers, top, number).1.is_eq()
 }
-
-#[cfg(test)]
-mod tests {
-    use super::*;
-    use std::test::Fail;
-
-    #[test]
-    fn finds_what_was_put(rt: HostRuntime) -> Result<(), Fail> {
-        let mut numbers = RbTree::new(rt.alloc(), 0)?;
-        assert!(rt; !contains(&numbers, 4));
-        for number in [4, 2, 9, 7, 2, 8, 1, 12, 10, 11] {
-            insert(&mut numbers, number)?;
-        }
-        assert_eq!(rt; numbers.len(), 9);
-        for number in 0..=13 {
-            let wanted = matches!(number, 1 | 2 | 4 | 7..=12);
-            assert_eq!(rt; contains(&numbers, number), wanted);
-        }
-        Ok(())
-    }
-}
