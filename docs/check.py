@@ -48,7 +48,8 @@ SOURCES = {
     "`itree_lib::run": ["itree_lib/src/run/*.rt"],
     "`itree_lib::sweep": ["itree_lib/src/sweep/mod.rt"],
     "`event_queue`": ["event_queue/src/lib.rt"],
-    "`plane`": ["plane/src/edge.rt", "plane/src/meet/*.rt", "plane/src/locate/*.rt"],
+    "`plane`": ["plane/src/*.rt", "plane/src/meet/*.rt", "plane/src/locate/*.rt", "plane/src/sweep_line/*.rt"],
+    "`plane::sweep_line`": ["plane/src/sweep_line/*.rt"],
     "`itree_c`": ["itree_c/src/*.rt"],
     "`itree`": ["itree/src/program.rt"],
 }

@@ -15,9 +15,9 @@ use Rattle.itree.specs.declared.lines.locate.LocateLine.{LocateLine}
 use Rattle.itree.specs.declared.lines.locate.LocateLine.TheVariants as locate_line
 use Rattle.itree.proofs.CommandLines.{command_lines-rise, length-command_lines}
 use Rattle.plane.specs.Locate.Answers.{IsPlaceBelow}
-use Rattle.plane.specs.Locate.Crossings.{IsCrossing, NoneCross}
+use Rattle.plane.specs.SweepLine.Crossings.{IsCrossing, NoneCross}
 use Rattle.plane.specs.declared.edge.Edge.{Edge}
-use Rattle.plane.specs.declared.locate.point.Point.{Point}
+use Rattle.plane.specs.declared.point.Point.{Point}
 
 -- ---- the numbers of lines that say edges
 

@@ -19,7 +19,7 @@ use Rattle.itree_lib.specs.Sweep.Heights.{IsHeightBelow, NoneCollide}
 use Rattle.itree.specs.SweepLines.{segments_of, points_of}
 use Rattle.itree.specs.declared.lines.locate.LocateLine.{LocateLine}
 use Rattle.itree.specs.declared.lines.sweep.SweepLine.{SweepLine}
-use Rattle.plane.specs.Locate.Crossings.{NoneCross}
+use Rattle.plane.specs.SweepLine.Crossings.{NoneCross}
 use Rattle.plane.specs.declared.edge.Edge.{Edge}
 use Rattle.itree_lib.specs.declared.run.keys.KeyReply.{KeyReply}
 use Rattle.itree_lib.specs.declared.run.sets.SetReply.{SetReply}

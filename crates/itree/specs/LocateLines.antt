@@ -7,9 +7,9 @@ use Rattle.itree.specs.Grammar.{Says, LinesSay, command_lines}
 use Rattle.itree.specs.declared.lines.locate.LocateLine.{LocateLine}
 use Rattle.itree.specs.declared.lines.locate.LocateLine.TheVariants as locate_line
 use Rattle.plane.specs.Locate.Answers.{IsPlaceBelow}
-use Rattle.plane.specs.Locate.Crossings.{IsCrossing}
+use Rattle.plane.specs.SweepLine.Crossings.{IsCrossing}
 use Rattle.plane.specs.declared.edge.Edge.{Edge}
-use Rattle.plane.specs.declared.locate.point.Point.{Point}
+use Rattle.plane.specs.declared.point.Point.{Point}
 
 -- the words say the edge, or the point
 abbrev pub SaysLocateLine : List (List ℕ) → LocateLine → Type 0

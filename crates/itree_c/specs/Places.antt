@@ -4,7 +4,7 @@ use Rattle.std.specs.List.{AllZip}
 use Rattle.itree_c.specs.declared.places.Place.{Place}
 use Rattle.plane.specs.Locate.Answers.{IsPlaceBelow}
 use Rattle.plane.specs.declared.edge.Edge.{Edge}
-use Rattle.plane.specs.declared.locate.point.Point.{Point}
+use Rattle.plane.specs.declared.point.Point.{Point}
 
 -- a place as it is written: found is 1 and place the edge's, or both are 0
 abbrev pub place_of : Option ℕ → Place

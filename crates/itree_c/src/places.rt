@@ -3,7 +3,7 @@
 ghost use Rattle.std.specs.Prelude.{◌≡◌, ◌≢◌, ◌↔◌, ℕ, length, map, IfOk};
 ghost use Rattle.std.specs.List.{AllZip};
 ghost use Rattle.plane.specs.Locate.Answers.{IsPlaceBelow};
-ghost use Rattle.plane.specs.Locate.Crossings.{IsCrossing, NoneCross};
+ghost use Rattle.plane.specs.SweepLine.Crossings.{IsCrossing, NoneCross};
 ghost use Rattle.itree_c.specs.Places.{ArePlaces, place_of};
 ghost use Rattle.itree_c.specs.Status.{IsStatus};
 ghost use Rattle.itree_c.specs.declared.status.TheConstants.{ANSWERED, REFUSED, CROSSING, LENGTHS};

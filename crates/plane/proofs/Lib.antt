@@ -1,3 +1,4 @@
 pub mod LocateLemmas
 pub mod MeetLemmas
 pub mod PairsLemmas
+pub mod SweepLineLemmas

@@ -1,27 +1,9 @@
--- Lemmas on heights of edges, on edges that cross, and on the sweep among them.
-pub mod Adjacent
-pub mod Advance
+-- Lemmas on what is below a point, and on the sweep that answers it.
 pub mod Answering
 pub mod Beginning
-pub mod Begins
 pub mod Begun
-pub mod Comparisons
-pub mod Crossings
 pub mod Ending
-pub mod Ends
 pub mod Events
-pub mod Exchanged
-pub mod Gaps
-pub mod Happenings
-pub mod Later
-pub mod Line
-pub mod Live
-pub mod Neighbours
-pub mod Order
-pub mod Rightwards
+pub mod Payloads
 pub mod Serving
-pub mod Standings
 pub mod Swept
-pub mod Turned
-pub mod Uncrossed
-pub mod Under

@@ -1,3 +1,4 @@
 pub mod Locate
 pub mod Meet
 pub mod Pairs
+pub mod SweepLine

@@ -1,8 +1,5 @@
--- Definitions of heights of edges, of edges that cross, of what lies below a point, and of the sweep among edges.
+-- Definitions of what lies below a point, and of the sweep that answers it.
 pub mod Answers
-pub mod Crossings
 pub mod Events
-pub mod Happenings
-pub mod Heights
+pub mod Payloads
 pub mod Serving
-pub mod Standings

@@ -8,3 +8,5 @@ pub mod edge;
 pub mod locate;
 pub mod meet;
 pub mod pairs;
+pub mod point;
+pub mod sweep_line;

@@ -6,7 +6,7 @@ use i_tree::status::exp::StatusCollection;
 use i_tree::status::list::StatusList;
 use i_tree::status::tree::StatusTree;
 use plane::edge::Edge;
-use plane::locate::{LocateFault, Point, Standing, locate};
+use plane::locate::{ActiveEdge, LocateFault, Point, locate};
 use std::alloc::Global;
 use std::cmp::Ordering;
 use std::test::Fail;
@@ -286,7 +286,7 @@ static CORNERS: [(Ends, Ends, (i32, i32)); 12] = [
 pub const EARLIER: Option<usize> = Some(77);
 
 // Stores two level edges over the whole plane, that a call would answer, or find to cross others, if they stayed.
-fn hold_others<C: StatusCollection<Standing, i64, ()>>(status: &mut C) -> Result<(), Refusal> {
+fn hold_others<C: StatusCollection<ActiveEdge, i64, ()>>(status: &mut C) -> Result<(), Refusal> {
     for y in [-4, 1] {
         let edge = Edge {
             x0: LEAST,
@@ -294,14 +294,14 @@ fn hold_others<C: StatusCollection<Standing, i64, ()>>(status: &mut C) -> Result
             x1: MOST,
             y1: y,
         };
-        let stands = |other: Standing| -> Ordering { other.edge.y0.cmp(&y) };
-        let _ = status.insert_by(0, stands, Standing { edge, place: 5 }, ())?;
+        let stands = |other: ActiveEdge| -> Ordering { other.edge.y0.cmp(&y) };
+        let _ = status.insert_by(0, stands, ActiveEdge { edge, place: 5 }, ())?;
     }
     Ok(())
 }
 
 /// Whether nothing is stored, not even what has ended.
-pub fn is_empty<C: StatusCollection<Standing, i64, ()>>(status: &mut C) -> bool {
+pub fn is_empty<C: StatusCollection<ActiveEdge, i64, ()>>(status: &mut C) -> bool {
     let (below, above) = status.neighbours_by(i64::MIN, |_| Ordering::Greater);
     below.is_none() && above.is_none()
 }
@@ -324,7 +324,7 @@ pub fn is_wanted(wanted: Wanted, outcome: Result<(), LocateFault>, out: &[Option
 
 // Locates over a status that holds others, into an `out` that has an answer. Tells whether all is as it is wanted, and the
 // status is empty.
-fn locates_to<C: StatusCollection<Standing, i64, ()>>(
+fn locates_to<C: StatusCollection<ActiveEdge, i64, ()>>(
     alloc: Global,
     status: &mut C,
     edges: &[Edge],
@@ -443,7 +443,7 @@ fn tells_the_upper_of_two_that_part_at_a_corner(rt: HostRuntime) -> Result<(), F
 }
 
 // What is told of a point at which two edges along one line begin.
-fn told<C: StatusCollection<Standing, i64, ()>>(
+fn told<C: StatusCollection<ActiveEdge, i64, ()>>(
     alloc: Global,
     status: &mut C,
 ) -> Result<Option<usize>, Fail> {

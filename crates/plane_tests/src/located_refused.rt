@@ -7,7 +7,7 @@ use i_tree::status::list::StatusList;
 use i_tree::status::tree::StatusTree;
 use i_tree::{Expiration, ExpiredVal, Refusal};
 use plane::edge::Edge;
-use plane::locate::{LocateFault, Point, Standing, locate};
+use plane::locate::{ActiveEdge, LocateFault, Point, locate};
 use std::alloc::{Allocator, Global};
 use std::cmp::Ordering;
 use std::test::Fail;
@@ -17,13 +17,13 @@ use test_kit::in_turn::{Fault, Trial, refuse_in_turn};
 type Memory<'a> = &'a Refusing<Global>;
 
 // A status that takes memory of one kind.
-trait MadeStatus: StatusCollection<Standing, i64, ()> + Drop {
+trait MadeStatus: StatusCollection<ActiveEdge, i64, ()> + Drop {
     type Memory: Allocator + Copy + Drop;
 
     fn make(memory: Self::Memory) -> Result<Self, Refusal>;
 }
 
-impl<A: Allocator + Copy + Drop> MadeStatus for StatusList<Standing, i64, (), A> {
+impl<A: Allocator + Copy + Drop> MadeStatus for StatusList<ActiveEdge, i64, (), A> {
     type Memory = A;
 
     fn make(memory: A) -> Result<Self, Refusal> {
@@ -31,7 +31,7 @@ impl<A: Allocator + Copy + Drop> MadeStatus for StatusList<Standing, i64, (), A>
     }
 }
 
-impl<A: Allocator + Copy + Drop> MadeStatus for StatusTree<Standing, i64, (), A> {
+impl<A: Allocator + Copy + Drop> MadeStatus for StatusTree<ActiveEdge, i64, (), A> {
     type Memory = A;
 
     fn make(memory: A) -> Result<Self, Refusal> {
@@ -122,7 +122,7 @@ fn requests_of<C: MadeStatus>(
 #[test]
 fn keeps_out_at_each_refusal_over_a_list(rt: HostRuntime) -> Result<(), Fail> {
     let memory = Refusing::new(rt.alloc());
-    let requests = requests_of::<StatusList<Standing, i64, (), Memory>>(
+    let requests = requests_of::<StatusList<ActiveEdge, i64, (), Memory>>(
         &memory,
         &memory,
         rt.alloc(),
@@ -134,7 +134,7 @@ fn keeps_out_at_each_refusal_over_a_list(rt: HostRuntime) -> Result<(), Fail> {
 #[test]
 fn keeps_out_at_each_refusal_over_a_tree(rt: HostRuntime) -> Result<(), Fail> {
     let memory = Refusing::new(rt.alloc());
-    let requests = requests_of::<StatusTree<Standing, i64, (), Memory>>(
+    let requests = requests_of::<StatusTree<ActiveEdge, i64, (), Memory>>(
         &memory,
         &memory,
         rt.alloc(),

@@ -11,14 +11,14 @@ use crate::fault::Fault;
 use crate::lines::{LocateLine, command_lines, reply_text};
 use i_tree::status::exp::StatusCollection;
 use plane::edge::Edge;
-use plane::locate::{LocateFault, Point, Standing, locate};
+use plane::locate::{ActiveEdge, LocateFault, Point, locate};
 use std::alloc::{AllocError, Allocator};
 
 /// The text of the replies to the points that the lines of the text say, among the edges that they say.
 ///
 /// The answer is `Fault::Cross` with the numbers of two lines that say edges which cross, or `Fault::Stopped` where memory
 /// was refused.
-pub fn answer_locate<A: Allocator + Copy, C: StatusCollection<Standing, i64, ()>>(
+pub fn answer_locate<A: Allocator + Copy, C: StatusCollection<ActiveEdge, i64, ()>>(
     alloc: A,
     status: &mut C,
     text: &[u8],

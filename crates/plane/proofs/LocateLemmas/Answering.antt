@@ -5,30 +5,31 @@ use Rattle.std.specs.declared.cmp.Ordering.TheVariants.{Greater}
 use Rattle.std.proofs.lemmas.Int.{ints}
 use Rattle.std.proofs.lemmas.List.Elements.{All-contains, All-weaker, Contains-append_left}
 use Rattle.i_tree.proofs.RootLemmas.Joined.{Contains-middle}
-use Rattle.i_tree.specs.Root.Along.{IsLast, IsMonotoneAlong}
+use Rattle.i_tree.specs.Root.Along.{IsLast}
 use Rattle.i_tree.specs.Root.Change.{Without}
 use Rattle.event_queue.proofs.QueueLemmas.Answers.{Answered-set}
 use Rattle.event_queue.proofs.QueueLemmas.Places.{StandsAt-read, one_item, slice_get-stands}
 use Rattle.plane.specs.declared.edge.Edge.{Edge}
-use Rattle.plane.specs.declared.locate.point.Point.{Point}
+use Rattle.plane.specs.declared.point.Point.{Point}
 use Rattle.event_queue.specs.declared.Event.{Event}
 use Rattle.event_queue.specs.declared.Task.TheVariants.{End, Begin, Answer}
-use Rattle.plane.specs.declared.locate.standing.Standing.{Standing}
+use Rattle.plane.specs.declared.sweep_line.active.ActiveEdge.{ActiveEdge}
 use Rattle.plane.specs.Locate.Answers.{IsHighestUnder, IsPlaceBelow}
-use Rattle.plane.specs.Locate.Heights.{rightwards, IsUnder, IsLowerAt}
+use Rattle.plane.specs.SweepLine.Heights.{rightwards, IsUnder, IsLowerAt}
 use Rattle.event_queue.specs.Queue.{StandsAt, Precedes}
 use Rattle.plane.specs.Locate.Events.{CoversSome, answering_of, IsQueue}
 use Rattle.plane.specs.Locate.Serving.{IsPlaceUnder, place_of}
-use Rattle.plane.specs.Locate.Standings.{Entry, cmp_to_point, live_entries, IsExpiredAt}
+use Rattle.plane.specs.SweepLine.Active.{Entry, cmp_to_point, live_entries, IsExpiredAt}
 use Rattle.plane.proofs.LocateLemmas.Begun.{begin_of, end_of, IsBegun, HasEnded, turned, IsBegun-more, IsBegun-before}
 use Rattle.event_queue.proofs.QueueLemmas.Done.{begin-precedes, done_earlier, upto-precedes, precedes, done_before, one_more}
 use Rattle.plane.proofs.LocateLemmas.Events.{answers_of, is_beginning}
-use Rattle.plane.proofs.LocateLemmas.Later.{live-without}
-use Rattle.plane.proofs.LocateLemmas.Line.{AllLiveAt, Line}
-use Rattle.plane.proofs.LocateLemmas.Rightwards.{rightwards-same}
+use Rattle.plane.proofs.SweepLineLemmas.Later.{live-without}
+use Rattle.plane.specs.SweepLine.Line.{IsLineAt, IsSortedAt}
+use Rattle.plane.proofs.SweepLineLemmas.Rightwards.{rightwards-same}
 use Rattle.plane.proofs.LocateLemmas.Swept.{Swept, line_at, all_live_at, live_is_line, none_behind_before, upto_later}
-use Rattle.plane.proofs.LocateLemmas.Turned.{IsUnder-turned, IsLowerAt-turned}
-use Rattle.plane.proofs.LocateLemmas.Under.{point_monotone, none_under, highest_under}
+use Rattle.plane.proofs.SweepLineLemmas.Turned.{IsUnder-turned, IsLowerAt-turned}
+use Rattle.plane.proofs.SweepLineLemmas.Sorted.{IsSortedAt-line}
+use Rattle.plane.proofs.SweepLineLemmas.Under.{none_under, highest_under}
 
 module _ (edges : List Edge) (points : List Point) (events : List Event) (queue : IsQueue edges points events)
     (k : ℕ) (event : Event) (inside : k < length events) (is : event ≡ get_or events k event)
@@ -56,11 +57,11 @@ module _ (edges : List Edge) (points : List Point) (events : List Event) (queue 
   no_begin begins = let apart : Answer ≡ Begin = sym answers_now ∙ begins in cc
 
   -- the line as it stands, which is what is live
-  now : Line point.x swept.line
+  now : IsLineAt point.x swept.line
   now = line_at edges points events queue k event inside is stored answers swept point.x here
 
-  all_live : AllLiveAt point.x swept.line
-  all_live = all_live_at edges points events queue k event inside is stored answers swept point.x here no_end
+  sorted : IsSortedAt point.x swept.line
+  sorted = IsSortedAt-line point.x swept.line now (all_live_at edges points events queue k event inside is stored answers swept point.x here no_end)
 
   is_line : live_entries point.x stored ≡ swept.line
   is_line = live_is_line edges points events queue k event inside is stored answers swept point.x here no_end
@@ -70,28 +71,28 @@ module _ (edges : List Edge) (points : List Point) (events : List Event) (queue 
     some : CoversSome edge
     some = let covers = under.covers in omega (arith, ints, covers.from, covers.before)
 
-    abbrev standing : Standing
-    standing = record { edge = rightwards edge; place = i }
+    abbrev active : ActiveEdge
+    active = record { edge = rightwards edge; place = i }
 
-    first : Precedes (begin_of standing) event
+    first : Precedes (begin_of active) event
     first =
         let from = under.covers.from in
-        subst (Precedes (begin_of standing)) (sym at_answer) (begin-precedes (rightwards edge).x0 point.x i event.place from)
+        subst (Precedes (begin_of active)) (sym at_answer) (begin-precedes (rightwards edge).x0 point.x i event.place from)
 
-    begun : IsBegun edges (take k events) standing
+    begun : IsBegun edges (take k events) active
     begun = record {
       one = record { edge = edge; stands = at; same = refl; onwards = some };
-      begun = done_before queue k event inside is (begin_of standing) (is_beginning edges points i edge at some) first;
+      begun = done_before queue k event inside is (begin_of active) (is_beginning edges points i edge at some) first;
     }
 
-    not_ended : ¬ (HasEnded (take k events) standing)
+    not_ended : ¬ (HasEnded (take k events) active)
     not_ended has =
         let before = under.covers.before in
-        let ends = upto-precedes (end_of standing) event (precedes queue k event inside is (end_of standing) has) in
+        let ends = upto-precedes (end_of active) event (precedes queue k event inside is (end_of active) has) in
         omega (arith, ints, before, ends, here)
 
-    in_line : Contains swept.line (standing, tt)
-    in_line = ⊎_elim (λ has. absurd (not_ended has)) (λ held. held) (swept.each standing begun)
+    in_line : Contains swept.line (active, tt)
+    in_line = ⊎_elim (λ has. absurd (not_ended has)) (λ held. held) (swept.each active begun)
 
     as_turned : rightwards edge ≡ rightwards (rightwards edge)
     as_turned = sym (rightwards-same (rightwards edge) some)
@@ -104,7 +105,7 @@ module _ (edges : List Edge) (points : List Point) (events : List Event) (queue 
   no_edge none i e within under =
       let edge = get_or edges i e in
       let at = StandsAt-read edges i e within in
-      All-contains (λ (entry : Entry). ¬ (IsUnder point entry.0.edge)) swept.line (standing i edge at under, tt) (none_under point swept.line now all_live none)
+      All-contains (λ (entry : Entry). ¬ (IsUnder point entry.0.edge)) swept.line (active i edge at under, tt) (none_under point swept.line sorted none)
       (in_line i edge at under) (turned_under i edge at under)
 
   -- what is below none of the line that is under the point, at some x, is below no edge that is
@@ -113,7 +114,7 @@ module _ (edges : List Edge) (points : List Point) (events : List Event) (queue 
   none_lower one other same x none_higher i e within under lower =
       let edge = get_or edges i e in
       let at = StandsAt-read edges i e within in
-      All-contains (λ (entry : Entry). IsUnder point entry.0.edge → ¬ (IsLowerAt x one entry.0.edge)) swept.line (standing i edge at under, tt) none_higher
+      All-contains (λ (entry : Entry). IsUnder point entry.0.edge → ¬ (IsLowerAt x one entry.0.edge)) swept.line (active i edge at under, tt) none_higher
       (in_line i edge at under) (turned_under i edge at under)
       (IsLowerAt-turned other one (sym same) edge (rightwards edge) (as_turned i edge at under) x lower)
 
@@ -125,7 +126,7 @@ module _ (edges : List Edge) (points : List Point) (events : List Event) (queue 
       let which = All-contains (λ (entry : Entry). IsBegun edges (take k events) entry.0 × ¬ (HasEnded (take k events) entry.0)) swept.line found swept.of held in
       let found_begun = which.0 in
       let one = found_begun.one in
-      let (under, none_higher, none_steeper) = highest_under point swept.line now all_live found last in
+      let (under, none_higher, none_steeper) = highest_under point swept.line sorted found last in
       record {
         edge = one.edge;
         stands = slice_get-stands edges found.0.place one.edge one.stands;
@@ -148,10 +149,10 @@ module _ (edges : List Edge) (points : List Point) (events : List Event) (queue 
       line = swept.line;
       of = All-weaker (λ (entry : Entry). IsBegun edges (take k events) entry.0 × ¬ (HasEnded (take k events) entry.0))
           (λ entry. IsBegun edges (take k events ++ event ∷ []) entry.0 × ¬ (HasEnded (take k events ++ event ∷ []) entry.0)) still swept.line swept.of;
-      each = λ standing is'. ⊎_elim
-          (λ has. inl (Contains-append_left (take k events) (event ∷ []) (end_of standing) has))
+      each = λ active is'. ⊎_elim
+          (λ has. inl (Contains-append_left (take k events) (event ∷ []) (end_of active) has))
           (λ held. inr held)
-          (swept.each standing (IsBegun-before edges (take k events) event standing no_begin is'));
+          (swept.each active (IsBegun-before edges (take k events) event active no_begin is'));
       in_line = λ later none ends. swept.in_line later (none_behind_before edges points events queue k event inside is stored answers swept point.x here later none) ends;
       live = λ later none.
           sym (live-without point.x later (upto_later edges points events queue k event inside is stored answers swept point.x here later none) kept)
@@ -162,11 +163,9 @@ module _ (edges : List Edge) (points : List Point) (events : List Event) (queue 
       answered = Answered-set (IsPlaceBelow edges) None points (take k events) answers swept.answered event point told stands right;
     }
 
-  -- the order to the point is monotone along what is live
-  pub point_requires : IsMonotoneAlong (cmp_to_point (get_or points event.place d)) (live_entries (get_or points event.place d).x stored)
-  point_requires =
-      subst (λ (entries : List Entry). IsMonotoneAlong (cmp_to_point point) entries) (sym is_line)
-      (point_monotone point swept.line now all_live)
+  -- what is live is sorted
+  pub point_requires : IsSortedAt (get_or points event.place d).x (live_entries (get_or points event.place d).x stored)
+  point_requires = subst (IsSortedAt point.x) (sym is_line) sorted
 
   -- with what is told it is answered
   pub Swept-answered : (after : List Entry) (told : Option ℕ) → IsPlaceUnder (get_or points event.place d) (live_entries (get_or points event.place d).x stored) told

@@ -5,36 +5,38 @@ use Rattle.std.proofs.lemmas.Int.{ints}
 use Rattle.std.proofs.lemmas.List.Elements.{All-cons, All-weaker, Contains-append_left, Contains-push, Contains-push_cases, filter-append}
 use Rattle.i_tree.proofs.RootLemmas.Joined.{Contains-middle}
 use Rattle.i_tree.proofs.RootLemmas.Lists.{Without-filter}
-use Rattle.i_tree.specs.Root.Along.{AreNeighbours, IsMonotoneAlong, NoneEqual}
+use Rattle.i_tree.specs.Root.Along.{AreNeighbours}
 use Rattle.i_tree.specs.Root.Change.Without.{keeps}
 use Rattle.event_queue.proofs.QueueLemmas.Answers.{Answered-other}
 use Rattle.plane.specs.Locate.Answers.{IsPlaceBelow}
 use Rattle.plane.specs.declared.edge.Edge.{Edge}
-use Rattle.plane.specs.declared.locate.point.Point.{Point}
+use Rattle.plane.specs.declared.point.Point.{Point}
 use Rattle.event_queue.specs.declared.Event.{Event}
 use Rattle.event_queue.specs.declared.Task.TheVariants.{End, Begin, Answer}
-use Rattle.plane.specs.declared.locate.standing.Standing.{Standing}
-use Rattle.plane.specs.Locate.Crossings.{Cross, IsCrossing}
-use Rattle.plane.specs.Locate.Heights.{rightwards}
+use Rattle.plane.specs.declared.sweep_line.active.ActiveEdge.{ActiveEdge}
+use Rattle.plane.specs.SweepLine.Crossings.{Cross, IsCrossing}
+use Rattle.plane.specs.SweepLine.Heights.{rightwards}
 use Rattle.event_queue.specs.Queue.{StandsAt, Precedes}
 use Rattle.plane.specs.Locate.Events.{CoversSome, beginning_of, IsQueue}
-use Rattle.plane.specs.Locate.Serving.{HaveCrossing, JoinsAt}
-use Rattle.plane.specs.Locate.Standings.{Entry, cmp_standings, is_live_at, live_entries, IsExpiredAt, NotCross}
-use Rattle.plane.proofs.LocateLemmas.Adjacent.{All-joined}
-use Rattle.plane.proofs.LocateLemmas.Advance.{advance}
-use Rattle.plane.proofs.LocateLemmas.Begins.{begin_monotone, begin_new, begin_kept}
-use Rattle.plane.proofs.LocateLemmas.Begun.{begin_of, end_of, IsOneOf, IsBegun, HasEnded, same_standing, edge_at, is_one_of, begin_is, IsBegun-more, IsCrossing-among}
+use Rattle.plane.specs.SweepLine.Line.{JoinsAt}
+use Rattle.plane.specs.Locate.Serving.{HaveCrossing}
+use Rattle.plane.specs.SweepLine.Active.{Entry, cmp_active, is_live_at, live_entries, IsExpiredAt, NotCross}
+use Rattle.plane.proofs.SweepLineLemmas.Adjacent.{All-joined}
+use Rattle.plane.proofs.SweepLineLemmas.Advance.{advance}
+use Rattle.plane.proofs.SweepLineLemmas.Begins.{begin_kept}
+use Rattle.plane.proofs.LocateLemmas.Begun.{begin_of, end_of, IsOneOf, IsBegun, HasEnded, same_active, edge_at, is_one_of, begin_is, IsBegun-more, IsCrossing-among}
 use Rattle.event_queue.proofs.QueueLemmas.Done.{done_earlier, upto-precedes, precedes, one_more}
 use Rattle.plane.proofs.LocateLemmas.Events.{begins_of}
-use Rattle.plane.proofs.LocateLemmas.Later.{around_more, live-without, Without-append}
-use Rattle.plane.proofs.LocateLemmas.Line.{AllLiveAt, BeganBefore, Line}
-use Rattle.plane.proofs.LocateLemmas.Swept.{Swept, NoneBehind, line_at, all_live_at, live_is_line, live_are, live_onwards, upto_later}
-use Rattle.plane.proofs.LocateLemmas.Turned.{uncrossed_before}
+use Rattle.plane.proofs.SweepLineLemmas.Later.{around_more, live-without, Without-append}
+use Rattle.plane.specs.SweepLine.Line.{AllLiveAt, BeganBefore, IsLineAt, IsSortedAt}
+use Rattle.plane.proofs.LocateLemmas.Swept.{Swept, NoneBehind, line_at, all_live_at, live_is_line, live_are, upto_later}
+use Rattle.plane.proofs.SweepLineLemmas.Sorted.{IsSortedAt-line}
+use Rattle.plane.proofs.SweepLineLemmas.Turned.{uncrossed_before}
 
 module _ (edges : List Edge) (points : List Point) (events : List Event) (queue : IsQueue edges points events)
     (k : ℕ) (event : Event) (inside : k < length events) (is : event ≡ get_or events k event)
     (stored : List Entry) (answers : List (Option ℕ)) (swept : Swept edges points (take k events) stored answers)
-    (d : Edge) (begins : event.task ≡ Begin) (beginning : Standing) (edge_is : beginning.edge ≡ rightwards (get_or edges event.place d)) (place_is : beginning.place ≡ event.place) where
+    (d : Edge) (begins : event.task ≡ Begin) (beginning : ActiveEdge) (edge_is : beginning.edge ≡ rightwards (get_or edges event.place d)) (place_is : beginning.place ≡ event.place) where
   whose : (edge : Edge) × StandsAt edges event.place edge × CoversSome edge × (event ≡ beginning_of event.place edge)
   whose = begins_of edges points events queue k event inside is begins
 
@@ -57,7 +59,7 @@ module _ (edges : List Edge) (points : List Point) (events : List Event) (queue 
   no_answer answers_now = let apart : Begin ≡ Answer = sym begins ∙ answers_now in cc
 
   -- the line as it stands, which is what is live
-  now : Line beginning.edge.x0 swept.line
+  now : IsLineAt beginning.edge.x0 swept.line
   now = line_at edges points events queue k event inside is stored answers swept beginning.edge.x0 here
 
   all_live : AllLiveAt beginning.edge.x0 swept.line
@@ -77,10 +79,10 @@ module _ (edges : List Edge) (points : List Point) (events : List Event) (queue 
   begun = record { one = one_of; begun = subst (Contains (take k events ++ event ∷ [])) at_begin (Contains-push (take k events) event) }
 
   -- what has ended did so at this x or before it
-  ended_upto : (standing : Standing) → HasEnded (take k events) standing → standing.edge.x1 ≤ℤ beginning.edge.x0
-  ended_upto standing has =
-      subst (λ (x : ℤ). standing.edge.x1 ≤ℤ x) here
-      (upto-precedes (end_of standing) event (precedes queue k event inside is (end_of standing) has))
+  ended_upto : (active : ActiveEdge) → HasEnded (take k events) active → active.edge.x1 ≤ℤ beginning.edge.x0
+  ended_upto active has =
+      subst (λ (x : ℤ). active.edge.x1 ≤ℤ x) here
+      (upto-precedes (end_of active) event (precedes queue k event inside is (end_of active) has))
 
   not_ended : ¬ (HasEnded (take k events ++ event ∷ []) beginning)
   not_ended has =
@@ -88,24 +90,24 @@ module _ (edges : List Edge) (points : List Point) (events : List Event) (queue 
       let some = one_of.onwards in
       omega (arith, ints, before, some)
 
-  begun_cases : (standing : Standing) → IsBegun edges (take k events ++ event ∷ []) standing → IsBegun edges (take k events) standing ⊎ (beginning ≡ standing)
-  begun_cases standing is' =
+  begun_cases : (active : ActiveEdge) → IsBegun edges (take k events ++ event ∷ []) active → IsBegun edges (take k events) active ⊎ (beginning ≡ active)
+  begun_cases active is' =
       ⊎_elim
       (λ before. inl (record { one = is'.one; begun = before }))
-      (λ this. inr (same_standing edges beginning standing one_of is'.one (ap (λ (e : Event). e.place) (sym at_begin ∙ this))))
-      (Contains-push_cases (take k events) event (begin_of standing) is'.begun)
+      (λ this. inr (same_active edges beginning active one_of is'.one (ap (λ (e : Event). e.place) (sym at_begin ∙ this))))
+      (Contains-push_cases (take k events) event (begin_of active) is'.begun)
 
   still : (entry : Entry) → IsBegun edges (take k events) entry.0 × ¬ (HasEnded (take k events) entry.0)
       → IsBegun edges (take k events ++ event ∷ []) entry.0 × ¬ (HasEnded (take k events ++ event ∷ []) entry.0)
   still entry (is', not_yet) = (IsBegun-more edges (take k events) event entry.0 is', λ has. not_yet (done_earlier (take k events) event (end_of entry.0) no_end has))
 
   -- what has ended doesn't cross it
-  uncrossed : (one : Standing) → IsBegun edges (take k events) one → HasEnded (take k events) one → ¬ (Cross one.edge beginning.edge)
+  uncrossed : (one : ActiveEdge) → IsBegun edges (take k events) one → HasEnded (take k events) one → ¬ (Cross one.edge beginning.edge)
   uncrossed one is' has =
       let first = is'.one in
       uncrossed_before one.edge beginning.edge first.onwards one_of.onwards (ended_upto one has)
 
-  module _ (after : List Entry) (found : Option Entry × Option Entry) (are : AreNeighbours (λ other. cmp_standings other beginning) (live_entries beginning.edge.x0 stored) found)
+  module _ (after : List Entry) (found : Option Entry × Option Entry) (are : AreNeighbours (λ other. cmp_active other beginning) (live_entries beginning.edge.x0 stored) found)
       (apart_below : NotCross found.0 (Some (beginning, tt))) (apart_above : NotCross (Some (beginning, tt)) found.1) (joins : JoinsAt beginning.edge.x0 (beginning, tt) stored after) where
     abbrev below : List Entry
     below = live_entries beginning.edge.x0 joins.front
@@ -119,10 +121,10 @@ module _ (edges : List Edge) (points : List Point) (events : List Event) (queue 
         ∙ live-without beginning.edge.x0 beginning.edge.x0 (omega (arith, ints)) joins.kept
         ∙ filter-append (is_live_at beginning.edge.x0) joins.front joins.back
 
-    joined : Line beginning.edge.x0 (below ++ (beginning, tt) ∷ above)
+    joined : IsLineAt beginning.edge.x0 (below ++ (beginning, tt) ∷ above)
     joined =
-        begin_kept beginning.edge.x0 swept.line (beginning, tt) now all_live refl one_of.onwards below above parts joins.below joins.above found
-        (subst (λ (entries : List Entry). AreNeighbours (λ other. cmp_standings other beginning) entries found) is_line are) apart_below apart_above
+        begin_kept beginning.edge.x0 swept.line (beginning, tt) now refl one_of.onwards below above parts joins.below joins.above found
+        (subst (λ (entries : List Entry). AreNeighbours (λ other. cmp_active other beginning) entries found) is_line are) apart_below apart_above
 
     upto : (later : ℤ) → NoneBehind (take k events ++ event ∷ []) later → beginning.edge.x0 ≤ℤ later
     upto later none = upto_later edges points events queue k event inside is stored answers swept beginning.edge.x0 here later none
@@ -135,15 +137,15 @@ module _ (edges : List Edge) (points : List Point) (events : List Event) (queue 
         (λ entry. IsBegun edges (take k events ++ event ∷ []) entry.0 × ¬ (HasEnded (take k events ++ event ∷ []) entry.0)) still swept.line swept.of))
         (begun, not_ended)
 
-    each : (standing : Standing) → IsBegun edges (take k events ++ event ∷ []) standing → HasEnded (take k events ++ event ∷ []) standing ⊎ Contains (below ++ (beginning, tt) ∷ above) (standing, tt)
-    each standing is' =
+    each : (active : ActiveEdge) → IsBegun edges (take k events ++ event ∷ []) active → HasEnded (take k events ++ event ∷ []) active ⊎ Contains (below ++ (beginning, tt) ∷ above) (active, tt)
+    each active is' =
         ⊎_elim
         (λ before. ⊎_elim
-        (λ has. inl (Contains-append_left (take k events) (event ∷ []) (end_of standing) has))
-        (λ held. inr (around_more below (beginning, tt) above (standing, tt) (subst (λ (entries : List Entry). Contains entries (standing, tt)) parts held)))
-        (swept.each standing before))
-        (λ this. inr (subst (λ (s : Standing). Contains (below ++ (beginning, tt) ∷ above) (s, tt)) this (Contains-middle below (beginning, tt) above)))
-        (begun_cases standing is')
+        (λ has. inl (Contains-append_left (take k events) (event ∷ []) (end_of active) has))
+        (λ held. inr (around_more below (beginning, tt) above (active, tt) (subst (λ (entries : List Entry). Contains entries (active, tt)) parts held)))
+        (swept.each active before))
+        (λ this. inr (subst (λ (s : ActiveEdge). Contains (below ++ (beginning, tt) ∷ above) (s, tt)) this (Contains-middle below (beginning, tt) above)))
+        (begun_cases active is')
 
     live_later : (later : ℤ) → NoneBehind (take k events ++ event ∷ []) later → live_entries later after ≡ live_entries later (below ++ (beginning, tt) ∷ above)
     live_later later none =
@@ -152,15 +154,15 @@ module _ (edges : List Edge) (points : List Point) (events : List Event) (queue 
         (Without-append {MayGo = IsExpiredAt beginning.edge.x0} (Without-filter (is_live_at beginning.edge.x0) joins.front)
         (keeps (beginning, tt) (Without-filter (is_live_at beginning.edge.x0) joins.back)))
 
-    ended : (one other : Standing) → IsBegun edges (take k events ++ event ∷ []) one → IsBegun edges (take k events ++ event ∷ []) other → HasEnded (take k events ++ event ∷ []) one → ¬ (Cross one.edge other.edge)
+    ended : (one other : ActiveEdge) → IsBegun edges (take k events ++ event ∷ []) one → IsBegun edges (take k events ++ event ∷ []) other → HasEnded (take k events ++ event ∷ []) one → ¬ (Cross one.edge other.edge)
     ended one other is' is'' has cross =
         let before = done_earlier (take k events) event (end_of one) no_end has in
         ⊎_elim
         (λ one_begun. ⊎_elim
         (λ other_begun. swept.ended one other one_begun other_begun before cross)
-        (λ this. uncrossed one one_begun before (subst (λ (s : Standing). Cross one.edge s.edge) (sym this) cross))
+        (λ this. uncrossed one one_begun before (subst (λ (s : ActiveEdge). Cross one.edge s.edge) (sym this) cross))
         (begun_cases other is''))
-        (λ this. not_ended (subst (λ (s : Standing). HasEnded (take k events ++ event ∷ []) s) (sym this) has))
+        (λ this. not_ended (subst (λ (s : ActiveEdge). HasEnded (take k events ++ event ∷ []) s) (sym this) has))
         (begun_cases one is')
 
     served : Swept edges points (take k events ++ event ∷ []) after answers
@@ -174,23 +176,16 @@ module _ (edges : List Edge) (points : List Point) (events : List Event) (queue 
       answered = Answered-other (IsPlaceBelow edges) None points (take k events) answers swept.answered event no_answer;
     }
 
-  -- it goes to the right, as all that is live does
+  -- it goes to the right
   pub begin_onwards : beginning.edge.x0 <ℤ beginning.edge.x1
   begin_onwards = one_of.onwards
 
-  pub begin_live_onwards : All (λ entry. entry.0.edge.x0 <ℤ entry.0.edge.x1) (live_entries beginning.edge.x0 stored)
-  begin_live_onwards = live_onwards edges points events queue k event inside is stored answers swept beginning.edge.x0 here
+  -- what is live is sorted, and began before it
+  pub begin_sorted : IsSortedAt beginning.edge.x0 (live_entries beginning.edge.x0 stored)
+  begin_sorted = subst (IsSortedAt beginning.edge.x0) (sym is_line) (IsSortedAt-line beginning.edge.x0 swept.line now all_live)
 
-  -- the order to the edge is monotone along what is live, none of which it calls Equal
-  pub begin_requires : IsMonotoneAlong (λ other. cmp_standings other beginning) (live_entries beginning.edge.x0 stored)
-  begin_requires =
-      subst (λ (entries : List Entry). IsMonotoneAlong (λ other. cmp_standings other beginning) entries) (sym is_line)
-      (begin_monotone beginning.edge.x0 swept.line (beginning, tt) now all_live refl one_of.onwards last)
-
-  pub begin_is_new : NoneEqual (λ other. cmp_standings other beginning) (live_entries beginning.edge.x0 stored)
-  begin_is_new =
-      subst (λ (entries : List Entry). NoneEqual (λ other. cmp_standings other beginning) entries) (sym is_line)
-      (begin_new beginning.edge.x0 swept.line (beginning, tt) now all_live refl one_of.onwards last)
+  pub begin_last : All (λ entry. BeganBefore entry.0 beginning) (live_entries beginning.edge.x0 stored)
+  begin_last = subst (All (λ (entry : Entry). BeganBefore entry.0 beginning)) (sym is_line) last
 
   -- live ones, or it and a live one, that cross are edges that do
   pub begin_crossing : (i j : ℕ) → HaveCrossing ((beginning, tt) ∷ live_entries beginning.edge.x0 stored) i j → IsCrossing edges i j
@@ -200,7 +195,7 @@ module _ (edges : List Edge) (points : List Point) (events : List Event) (queue 
       (live_are edges points events queue k event inside is stored answers swept beginning.edge.x0 here)) i j among
 
   -- where it crosses neither of the two beside it, it is served
-  pub Swept-begun : (after : List Entry) (found : Option Entry × Option Entry) → AreNeighbours (λ other. cmp_standings other beginning) (live_entries beginning.edge.x0 stored) found
+  pub Swept-begun : (after : List Entry) (found : Option Entry × Option Entry) → AreNeighbours (λ other. cmp_active other beginning) (live_entries beginning.edge.x0 stored) found
       → NotCross found.0 (Some (beginning, tt)) → NotCross (Some (beginning, tt)) found.1 → JoinsAt beginning.edge.x0 (beginning, tt) stored after
       → Swept edges points (take (k + 1) events) after answers
   Swept-begun after found are apart_below apart_above joins =

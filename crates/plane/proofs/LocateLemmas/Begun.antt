@@ -6,23 +6,23 @@ use Rattle.std.proofs.lemmas.Bool.{cases_lt}
 use Rattle.std.proofs.lemmas.List.{get_or_default}
 use Rattle.std.proofs.lemmas.List.Elements.{All-contains, Contains-append_left}
 use Rattle.plane.specs.declared.edge.Edge.{Edge}
-use Rattle.plane.specs.declared.locate.point.Point.{Point}
+use Rattle.plane.specs.declared.point.Point.{Point}
 use Rattle.event_queue.specs.declared.Event.{Event}
 use Rattle.event_queue.specs.declared.Task.TheVariants.{End, Begin}
-use Rattle.plane.specs.declared.locate.standing.Standing.{Standing}
-use Rattle.plane.specs.Locate.Crossings.{Cross, IsCrossing}
-use Rattle.plane.specs.Locate.Heights.{rightwards}
+use Rattle.plane.specs.declared.sweep_line.active.ActiveEdge.{ActiveEdge}
+use Rattle.plane.specs.SweepLine.Crossings.{Cross, IsCrossing}
+use Rattle.plane.specs.SweepLine.Heights.{rightwards}
 use Rattle.event_queue.specs.Queue.{StandsAt}
 use Rattle.plane.specs.Locate.Events.{CoversSome, ending_of, beginning_of, IsEventOf}
 use Rattle.plane.specs.Locate.Serving.{ArePlacesOfCrossing, HaveCrossing}
-use Rattle.plane.specs.Locate.Standings.{Entry, cmp_standings}
+use Rattle.plane.specs.SweepLine.Active.{Entry, cmp_active}
 use Rattle.event_queue.proofs.QueueLemmas.Done.{done_earlier}
 use Rattle.event_queue.proofs.QueueLemmas.Places.{one_item, slice_get-stands}
 use Rattle.plane.proofs.LocateLemmas.Events.{is_beginning, is_ending}
-use Rattle.plane.proofs.LocateLemmas.Exchanged.{greater_from_less}
-use Rattle.plane.proofs.LocateLemmas.Rightwards.{rightwards-same}
-use Rattle.plane.proofs.LocateLemmas.Turned.{Cross-turned, uncrossed_itself}
-use Rattle.plane.proofs.LocateLemmas.Uncrossed.{Cross-exchanged}
+use Rattle.plane.proofs.SweepLineLemmas.Exchanged.{greater_from_less}
+use Rattle.plane.proofs.SweepLineLemmas.Rightwards.{rightwards-same}
+use Rattle.plane.proofs.SweepLineLemmas.Turned.{Cross-turned, uncrossed_itself}
+use Rattle.plane.proofs.SweepLineLemmas.Uncrossed.{Cross-exchanged}
 
 -- the events at which an edge that goes to the right begins and ends
 abbrev pub begin_at : ℕ → Edge → Event
@@ -31,64 +31,64 @@ begin_at place edge = record { x = edge.x0; task = Begin; place = place }
 abbrev pub end_at : ℕ → Edge → Event
 end_at place edge = record { x = edge.x1; task = End; place = place }
 
-abbrev pub begin_of : Standing → Event
-begin_of standing = begin_at standing.place standing.edge
+abbrev pub begin_of : ActiveEdge → Event
+begin_of active = begin_at active.place active.edge
 
-abbrev pub end_of : Standing → Event
-end_of standing = end_at standing.place standing.edge
+abbrev pub end_of : ActiveEdge → Event
+end_of active = end_at active.place active.edge
 
 -- It is one of the edges, turned to the right.
-pub record IsOneOf (edges : List Edge) (standing : Standing) : Type 0 where
+pub record IsOneOf (edges : List Edge) (active : ActiveEdge) : Type 0 where
   pub edge : Edge
-  pub stands : StandsAt edges standing.place edge
-  pub same : standing.edge ≡ rightwards edge
-  pub onwards : standing.edge.x0 <ℤ standing.edge.x1
+  pub stands : StandsAt edges active.place edge
+  pub same : active.edge ≡ rightwards edge
+  pub onwards : active.edge.x0 <ℤ active.edge.x1
 
 -- It is one of the edges, and its begin is done.
-pub record IsBegun (edges : List Edge) (done : List Event) (standing : Standing) : Type 0 where
-  pub one : IsOneOf edges standing
-  pub begun : Contains done (begin_of standing)
+pub record IsBegun (edges : List Edge) (done : List Event) (active : ActiveEdge) : Type 0 where
+  pub one : IsOneOf edges active
+  pub begun : Contains done (begin_of active)
 
 -- its end is done
-abbrev pub HasEnded : List Event → Standing → Type 0
-HasEnded done standing = Contains done (end_of standing)
+abbrev pub HasEnded : List Event → ActiveEdge → Type 0
+HasEnded done active = Contains done (end_of active)
 
 -- ---- the edges
 
-pub standing_of_parts : (one other : Standing) → one.edge ≡ other.edge → one.place ≡ other.place → one ≡ other
-standing_of_parts one other edge place =
+pub active_of_parts : (one other : ActiveEdge) → one.edge ≡ other.edge → one.place ≡ other.place → one ≡ other
+active_of_parts one other edge place =
     let first : one ≡ record { edge = other.edge; place = one.place } = ap (λ (e : Edge). record { edge = e; place = one.place }) edge in
     let second : record { edge = other.edge; place = one.place } ≡ other = ap (λ (p : ℕ). record { edge = other.edge; place = p }) place in
     first ∙ second
 
-pub end_is : (standing : Standing) (place : ℕ) (edge : Edge) → standing.edge ≡ rightwards edge → standing.place ≡ place → end_of standing ≡ ending_of place edge
-end_is standing place edge same place_is = ap (λ (e : Edge). end_at standing.place e) same ∙ ap (λ (p : ℕ). end_at p (rightwards edge)) place_is
+pub end_is : (active : ActiveEdge) (place : ℕ) (edge : Edge) → active.edge ≡ rightwards edge → active.place ≡ place → end_of active ≡ ending_of place edge
+end_is active place edge same place_is = ap (λ (e : Edge). end_at active.place e) same ∙ ap (λ (p : ℕ). end_at p (rightwards edge)) place_is
 
-pub begin_is : (standing : Standing) (place : ℕ) (edge : Edge) → standing.edge ≡ rightwards edge → standing.place ≡ place → begin_of standing ≡ beginning_of place edge
-begin_is standing place edge same place_is = ap (λ (e : Edge). begin_at standing.place e) same ∙ ap (λ (p : ℕ). begin_at p (rightwards edge)) place_is
+pub begin_is : (active : ActiveEdge) (place : ℕ) (edge : Edge) → active.edge ≡ rightwards edge → active.place ≡ place → begin_of active ≡ beginning_of place edge
+begin_is active place edge same place_is = ap (λ (e : Edge). begin_at active.place e) same ∙ ap (λ (p : ℕ). begin_at p (rightwards edge)) place_is
 
 -- none stands before itself
-pub never_before_itself : (standing : Standing) → ¬ (cmp_standings standing standing ≡ Less)
-never_before_itself standing less = let apart : Less ≡ Greater = sym less ∙ greater_from_less standing standing less in cc
+pub never_before_itself : (active : ActiveEdge) → ¬ (cmp_active active active ≡ Less)
+never_before_itself active less = let apart : Less ≡ Greater = sym less ∙ greater_from_less active active less in cc
 
 module _ (edges : List Edge) where
   -- each is told by its place
-  pub same_standing : (one other : Standing) → IsOneOf edges one → IsOneOf edges other → one.place ≡ other.place → one ≡ other
-  same_standing one other is is' place =
-      standing_of_parts one other (is.same ∙ ap rightwards (one_item edges one.place other.place is.edge is'.edge place is.stands is'.stands) ∙ sym is'.same) place
+  pub same_active : (one other : ActiveEdge) → IsOneOf edges one → IsOneOf edges other → one.place ≡ other.place → one ≡ other
+  same_active one other is is' place =
+      active_of_parts one other (is.same ∙ ap rightwards (one_item edges one.place other.place is.edge is'.edge place is.stands is'.stands) ∙ sym is'.same) place
 
-  pub turned : (standing : Standing) (is : IsOneOf edges standing) → rightwards standing.edge ≡ rightwards is.edge
-  turned standing is = rightwards-same standing.edge is.onwards ∙ is.same
+  pub turned : (active : ActiveEdge) (is : IsOneOf edges active) → rightwards active.edge ≡ rightwards is.edge
+  turned active is = rightwards-same active.edge is.onwards ∙ is.same
 
-  covers : (standing : Standing) (is : IsOneOf edges standing) → CoversSome is.edge
-  covers standing is = subst (λ (edge : Edge). edge.x0 <ℤ edge.x1) is.same is.onwards
+  covers : (active : ActiveEdge) (is : IsOneOf edges active) → CoversSome is.edge
+  covers active is = subst (λ (edge : Edge). edge.x0 <ℤ edge.x1) is.same is.onwards
 
   -- the edge at an event's place, which covers something
-  pub edge_at : (standing : Standing) (place : ℕ) (edge d : Edge) → StandsAt edges place edge → standing.edge ≡ rightwards (get_or edges place d) → standing.edge ≡ rightwards edge
-  edge_at standing place edge d stands edge_is = edge_is ∙ ap rightwards (get_or_default edges place d edge stands.0 ∙ stands.1)
+  pub edge_at : (active : ActiveEdge) (place : ℕ) (edge d : Edge) → StandsAt edges place edge → active.edge ≡ rightwards (get_or edges place d) → active.edge ≡ rightwards edge
+  edge_at active place edge d stands edge_is = edge_is ∙ ap rightwards (get_or_default edges place d edge stands.0 ∙ stands.1)
 
-  pub is_one_of : (standing : Standing) (place : ℕ) (edge : Edge) → StandsAt edges place edge → CoversSome edge → standing.edge ≡ rightwards edge → standing.place ≡ place → IsOneOf edges standing
-  is_one_of standing place edge stands some same place_is = record {
+  pub is_one_of : (active : ActiveEdge) (place : ℕ) (edge : Edge) → StandsAt edges place edge → CoversSome edge → active.edge ≡ rightwards edge → active.place ≡ place → IsOneOf edges active
+  is_one_of active place edge stands some same place_is = record {
     edge = edge;
     stands = subst (λ p. StandsAt edges p edge) (sym place_is) stands;
     same = same;
@@ -96,7 +96,7 @@ module _ (edges : List Edge) where
   }
 
   -- two of them that cross, at the places that are told
-  crossing_at : (one other : Standing) → IsOneOf edges one → IsOneOf edges other → (i j : ℕ) → i ≤ j → i ≡ one.place → j ≡ other.place → Cross one.edge other.edge → IsCrossing edges i j
+  crossing_at : (one other : ActiveEdge) → IsOneOf edges one → IsOneOf edges other → (i j : ℕ) → i ≤ j → i ≡ one.place → j ≡ other.place → Cross one.edge other.edge → IsCrossing edges i j
   crossing_at one other is is' i j in_order first second cross = record {
     below = ⊎_elim (λ below. below) (λ above. absurd (never (omega (arith, in_order, above)))) (cases_lt i j);
     one = is.edge;
@@ -108,10 +108,10 @@ module _ (edges : List Edge) where
     where
       never : i ≡ j → ⊥
       never at_one =
-          let itself : one ≡ other = same_standing one other is is' (sym first ∙ at_one ∙ second) in
-          uncrossed_itself one.edge (subst (λ (s : Standing). Cross one.edge s.edge) (sym itself) cross)
+          let itself : one ≡ other = same_active one other is is' (sym first ∙ at_one ∙ second) in
+          uncrossed_itself one.edge (subst (λ (s : ActiveEdge). Cross one.edge s.edge) (sym itself) cross)
 
-  pub IsCrossing-places : (one other : Standing) → IsOneOf edges one → IsOneOf edges other → (i j : ℕ) → ArePlacesOfCrossing one other i j → IsCrossing edges i j
+  pub IsCrossing-places : (one other : ActiveEdge) → IsOneOf edges one → IsOneOf edges other → (i j : ℕ) → ArePlacesOfCrossing one other i j → IsCrossing edges i j
   IsCrossing-places one other is is' i j told =
       ⊎_elim
       (λ places. crossing_at one other is is' i j told.in_order places.0 places.1 told.cross)
@@ -127,19 +127,19 @@ module _ (edges : List Edge) where
 
   -- ---- one more event
 
-  module _ (done : List Event) (event : Event) (standing : Standing) where
-    pub IsBegun-more : IsBegun edges done standing → IsBegun edges (done ++ event ∷ []) standing
-    IsBegun-more is = record { one = is.one; begun = Contains-append_left done (event ∷ []) (begin_of standing) is.begun }
+  module _ (done : List Event) (event : Event) (active : ActiveEdge) where
+    pub IsBegun-more : IsBegun edges done active → IsBegun edges (done ++ event ∷ []) active
+    IsBegun-more is = record { one = is.one; begun = Contains-append_left done (event ∷ []) (begin_of active) is.begun }
 
     -- where it is no begin, all had begun before that have
-    pub IsBegun-before : event.task ≢ Begin → IsBegun edges (done ++ event ∷ []) standing → IsBegun edges done standing
-    IsBegun-before none is = record { one = is.one; begun = done_earlier done event (begin_of standing) none is.begun }
+    pub IsBegun-before : event.task ≢ Begin → IsBegun edges (done ++ event ∷ []) active → IsBegun edges done active
+    IsBegun-before none is = record { one = is.one; begun = done_earlier done event (begin_of active) none is.begun }
 
   -- ---- its events
 
-  module _ (points : List Point) (standing : Standing) (is : IsOneOf edges standing) where
-    pub begin_known : IsEventOf edges points (begin_of standing)
-    begin_known = subst (λ (edge : Edge). IsEventOf edges points (begin_at standing.place edge)) (sym is.same) (is_beginning edges points standing.place is.edge is.stands (covers standing is))
+  module _ (points : List Point) (active : ActiveEdge) (is : IsOneOf edges active) where
+    pub begin_known : IsEventOf edges points (begin_of active)
+    begin_known = subst (λ (edge : Edge). IsEventOf edges points (begin_at active.place edge)) (sym is.same) (is_beginning edges points active.place is.edge is.stands (covers active is))
 
-    pub end_known : IsEventOf edges points (end_of standing)
-    end_known = subst (λ (edge : Edge). IsEventOf edges points (end_at standing.place edge)) (sym is.same) (is_ending edges points standing.place is.edge is.stands (covers standing is))
+    pub end_known : IsEventOf edges points (end_of active)
+    end_known = subst (λ (edge : Edge). IsEventOf edges points (end_at active.place edge)) (sym is.same) (is_ending edges points active.place is.edge is.stands (covers active is))

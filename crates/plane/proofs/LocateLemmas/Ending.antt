@@ -10,33 +10,33 @@ use Rattle.i_tree.specs.Root.Change.{Without}
 use Rattle.event_queue.proofs.QueueLemmas.Answers.{Answered-other}
 use Rattle.plane.specs.Locate.Answers.{IsPlaceBelow}
 use Rattle.plane.specs.declared.edge.Edge.{Edge}
-use Rattle.plane.specs.declared.locate.point.Point.{Point}
+use Rattle.plane.specs.declared.point.Point.{Point}
 use Rattle.event_queue.specs.declared.Event.{Event}
 use Rattle.event_queue.specs.declared.Task.TheVariants.{End, Begin, Answer}
-use Rattle.plane.specs.declared.locate.standing.Standing.{Standing}
-use Rattle.plane.specs.Locate.Crossings.{Cross, IsCrossing}
-use Rattle.plane.specs.Locate.Heights.{rightwards}
+use Rattle.plane.specs.declared.sweep_line.active.ActiveEdge.{ActiveEdge}
+use Rattle.plane.specs.SweepLine.Crossings.{Cross, IsCrossing}
+use Rattle.plane.specs.SweepLine.Heights.{rightwards}
 use Rattle.event_queue.specs.Queue.{StandsAt, Precedes}
 use Rattle.plane.specs.Locate.Events.{CoversSome, ending_of, IsQueue}
 use Rattle.plane.specs.Locate.Serving.{HaveCrossing}
-use Rattle.plane.specs.Locate.Standings.{Entry, cmp_standings, cmp_to_ending, live_entries, IsExpiredAt, NotCross}
-use Rattle.plane.proofs.LocateLemmas.Adjacent.{All-left_out, AllPairs-before, AllPairs-after}
-use Rattle.plane.proofs.LocateLemmas.Advance.{advance}
-use Rattle.plane.proofs.LocateLemmas.Begun.{begin_of, end_of, IsOneOf, IsBegun, HasEnded, same_standing, edge_at, is_one_of, end_is, IsBegun-more, IsBegun-before, begin_known, never_before_itself, IsCrossing-among}
+use Rattle.plane.specs.SweepLine.Active.{Entry, cmp_active, cmp_to_ending, live_entries, IsExpiredAt, NotCross}
+use Rattle.plane.proofs.SweepLineLemmas.Adjacent.{All-left_out, AllPairs-before, AllPairs-after}
+use Rattle.plane.proofs.SweepLineLemmas.Advance.{advance}
+use Rattle.plane.proofs.LocateLemmas.Begun.{begin_of, end_of, IsOneOf, IsBegun, HasEnded, same_active, edge_at, is_one_of, end_is, IsBegun-more, IsBegun-before, begin_known, never_before_itself, IsCrossing-among}
 use Rattle.event_queue.proofs.QueueLemmas.Done.{never_both, precedes, done_before, one_more}
 use Rattle.plane.proofs.LocateLemmas.Events.{ends_of}
-use Rattle.plane.proofs.LocateLemmas.Ends.{end_monotone, end_uncrossed, end_kept}
-use Rattle.plane.proofs.LocateLemmas.Later.{cut_around, around_cases, live-without}
-use Rattle.plane.proofs.LocateLemmas.Line.{Line}
-use Rattle.plane.proofs.LocateLemmas.Live.{is_live_at-ended}
+use Rattle.plane.proofs.SweepLineLemmas.Ends.{end_monotone, end_uncrossed, end_kept}
+use Rattle.plane.proofs.SweepLineLemmas.Later.{cut_around, around_cases, live-without}
+use Rattle.plane.specs.SweepLine.Line.{IsLineAt}
+use Rattle.plane.proofs.SweepLineLemmas.Live.{is_live_at-ended}
 use Rattle.plane.proofs.LocateLemmas.Swept.{Swept, NoneBehind, line_at, live_at, live_are, live_onwards, none_behind_before, upto_later}
-use Rattle.plane.proofs.LocateLemmas.Turned.{uncrossed_itself}
-use Rattle.plane.proofs.LocateLemmas.Uncrossed.{Cross-exchanged}
+use Rattle.plane.proofs.SweepLineLemmas.Turned.{uncrossed_itself}
+use Rattle.plane.proofs.SweepLineLemmas.Uncrossed.{Cross-exchanged}
 
 module _ (edges : List Edge) (points : List Point) (events : List Event) (queue : IsQueue edges points events)
     (k : ℕ) (event : Event) (inside : k < length events) (is : event ≡ get_or events k event)
     (stored : List Entry) (answers : List (Option ℕ)) (swept : Swept edges points (take k events) stored answers)
-    (d : Edge) (ends : event.task ≡ End) (ending : Standing) (edge_is : ending.edge ≡ rightwards (get_or edges event.place d)) (place_is : ending.place ≡ event.place) where
+    (d : Edge) (ends : event.task ≡ End) (ending : ActiveEdge) (edge_is : ending.edge ≡ rightwards (get_or edges event.place d)) (place_is : ending.place ≡ event.place) where
   whose : (edge : Edge) × StandsAt edges event.place edge × CoversSome edge × (event ≡ ending_of event.place edge)
   whose = ends_of edges points events queue k event inside is ends
 
@@ -78,12 +78,12 @@ module _ (edges : List Edge) (points : List Point) (events : List Event) (queue 
   ends_now = subst (Contains (take k events ++ event ∷ [])) at_end (Contains-push (take k events) event)
 
   -- what ends at this event is it
-  this_one : (standing : Standing) → IsOneOf edges standing → event ≡ end_of standing → standing ≡ ending
-  this_one standing is' this = same_standing edges standing ending is' one_of (ap (λ (e : Event). e.place) (sym this ∙ at_end))
+  this_one : (active : ActiveEdge) → IsOneOf edges active → event ≡ end_of active → active ≡ ending
+  this_one active is' this = same_active edges active ending is' one_of (ap (λ (e : Event). e.place) (sym this ∙ at_end))
 
   module _ (front back : List Entry) (cut : swept.line ≡ front ++ (ending, tt) ∷ back) where
-    whole : Line ending.edge.x1 (front ++ (ending, tt) ∷ back)
-    whole = subst (λ (entries : List Entry). Line ending.edge.x1 entries) cut (line_at edges points events queue k event inside is stored answers swept ending.edge.x1 here)
+    whole : IsLineAt ending.edge.x1 (front ++ (ending, tt) ∷ back)
+    whole = subst (λ (entries : List Entry). IsLineAt ending.edge.x1 entries) cut (line_at edges points events queue k event inside is stored answers swept ending.edge.x1 here)
 
     live_whole : live_entries ending.edge.x1 stored ≡ live_entries ending.edge.x1 (front ++ (ending, tt) ∷ back)
     live_whole = live_at edges points events queue k event inside is stored answers swept ending.edge.x1 here ∙ ap (live_entries ending.edge.x1) cut
@@ -97,26 +97,26 @@ module _ (edges : List Edge) (points : List Point) (events : List Event) (queue 
     others : All (λ entry. entry.0 ≢ ending) (front ++ back)
     others =
         All-append (λ (entry : Entry). entry.0 ≢ ending) front back
-        (All-weaker (λ (entry : Entry). cmp_standings entry.0 ending ≡ Less) (λ entry. entry.0 ≢ ending)
-        (λ entry less is_it. never_before_itself ending (subst (λ (s : Standing). cmp_standings s ending ≡ Less) is_it less))
-        front (AllPairs-before (λ (one other : Entry). cmp_standings one.0 other.0 ≡ Less) front (ending, tt) back whole.order))
-        (All-weaker (λ (entry : Entry). cmp_standings ending entry.0 ≡ Less) (λ entry. entry.0 ≢ ending)
-        (λ entry less is_it. never_before_itself ending (subst (λ (s : Standing). cmp_standings ending s ≡ Less) is_it less))
-        back (AllPairs-after (λ (one other : Entry). cmp_standings one.0 other.0 ≡ Less) front (ending, tt) back whole.order))
+        (All-weaker (λ (entry : Entry). cmp_active entry.0 ending ≡ Less) (λ entry. entry.0 ≢ ending)
+        (λ entry less is_it. never_before_itself ending (subst (λ (s : ActiveEdge). cmp_active s ending ≡ Less) is_it less))
+        front (AllPairs-before (λ (one other : Entry). cmp_active one.0 other.0 ≡ Less) front (ending, tt) back whole.order))
+        (All-weaker (λ (entry : Entry). cmp_active ending entry.0 ≡ Less) (λ entry. entry.0 ≢ ending)
+        (λ entry less is_it. never_before_itself ending (subst (λ (s : ActiveEdge). cmp_active ending s ≡ Less) is_it less))
+        back (AllPairs-after (λ (one other : Entry). cmp_active one.0 other.0 ≡ Less) front (ending, tt) back whole.order))
 
     -- it is the ending one, or it stands in the line without it
-    in_parts : (standing : Standing) → Contains swept.line (standing, tt) → (ending ≡ standing) ⊎ Contains (front ++ back) (standing, tt)
-    in_parts standing held =
+    in_parts : (active : ActiveEdge) → Contains swept.line (active, tt) → (ending ≡ active) ⊎ Contains (front ++ back) (active, tt)
+    in_parts active held =
         ⊎_elim (λ this. inl (ap (λ (entry : Entry). entry.0) this)) (λ there. inr there)
-        (around_cases front (ending, tt) back (standing, tt) (subst (λ (entries : List Entry). Contains entries (standing, tt)) cut held))
+        (around_cases front (ending, tt) back (active, tt) (subst (λ (entries : List Entry). Contains entries (active, tt)) cut held))
 
     -- it crosses nothing that has begun
-    uncrossed : (other : Standing) → IsBegun edges (take k events) other → ¬ (Cross ending.edge other.edge)
+    uncrossed : (other : ActiveEdge) → IsBegun edges (take k events) other → ¬ (Cross ending.edge other.edge)
     uncrossed other is' cross =
         ⊎_elim
         (λ has. swept.ended other ending is' begun has (Cross-exchanged ending.edge other.edge cross))
         (λ held. ⊎_elim
-        (λ this. uncrossed_itself ending.edge (subst (λ (s : Standing). Cross ending.edge s.edge) (sym this) cross))
+        (λ this. uncrossed_itself ending.edge (subst (λ (s : ActiveEdge). Cross ending.edge s.edge) (sym this) cross))
         (λ there. All-contains (λ (entry : Entry). ¬ (Cross entry.0.edge ending.edge)) (front ++ back) (other, tt) (end_uncrossed ending.edge.x1 front (ending, tt) back whole refl) there (Cross-exchanged ending.edge other.edge cross))
         (in_parts other held))
         (swept.each other is')
@@ -136,7 +136,7 @@ module _ (edges : List Edge) (points : List Point) (events : List Event) (queue 
 
     module _ (after : List Entry) (found : Option Entry × Option Entry) (are : AreNeighbours (cmp_to_ending ending) (live_entries ending.edge.x1 stored) found) (apart : NotCross found.0 found.1)
         (kept : Without (IsExpiredAt ending.edge.x1) stored after) where
-      left : Line ending.edge.x1 (front ++ back)
+      left : IsLineAt ending.edge.x1 (front ++ back)
       left =
           end_kept ending.edge.x1 front (ending, tt) back whole refl found
           (subst (λ (entries : List Entry). AreNeighbours (cmp_to_ending ending) entries found) live_whole are) apart
@@ -157,10 +157,10 @@ module _ (edges : List Edge) (points : List Point) (events : List Event) (queue 
       served = record {
         line = front ++ back;
         of = λ i e within. still (get_or (front ++ back) i e) (all_before i e within) (others i e within);
-        each = λ standing is'. ⊎_elim
-            (λ has. inl (Contains-append_left (take k events) (event ∷ []) (end_of standing) has))
-            (λ held. ⊎_elim (λ this. inl (subst (λ (s : Standing). HasEnded (take k events ++ event ∷ []) s) this ends_now)) (λ there. inr there) (in_parts standing held))
-            (swept.each standing (IsBegun-before edges (take k events) event standing no_begin is'));
+        each = λ active is'. ⊎_elim
+            (λ has. inl (Contains-append_left (take k events) (event ∷ []) (end_of active) has))
+            (λ held. ⊎_elim (λ this. inl (subst (λ (s : ActiveEdge). HasEnded (take k events ++ event ∷ []) s) this ends_now)) (λ there. inr there) (in_parts active held))
+            (swept.each active (IsBegun-before edges (take k events) event active no_begin is'));
         in_line = λ later none ends'. advance ending.edge.x1 later (front ++ back) (upto later none) ends' left;
         live = live_later;
         ended = λ one other is' is'' has cross.
@@ -168,7 +168,7 @@ module _ (edges : List Edge) (points : List Point) (events : List Event) (queue 
             let other_begun = IsBegun-before edges (take k events) event other no_begin is'' in
             ⊎_elim
             (λ before. swept.ended one other one_begun other_begun before cross)
-            (λ this. uncrossed other other_begun (subst (λ (s : Standing). Cross s.edge other.edge) (this_one one one_begun.one this) cross))
+            (λ this. uncrossed other other_begun (subst (λ (s : ActiveEdge). Cross s.edge other.edge) (this_one one one_begun.one this) cross))
             (Contains-push_cases (take k events) event (end_of one) has);
         answered = Answered-other (IsPlaceBelow edges) None points (take k events) answers swept.answered event no_answer;
       }

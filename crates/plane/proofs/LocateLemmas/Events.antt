@@ -8,9 +8,9 @@ use Rattle.event_queue.specs.declared.Task.{Task}
 use Rattle.event_queue.specs.declared.Task.TheVariants.{End, Begin, Answer}
 use Rattle.event_queue.proofs.QueueLemmas.Done.{event_is, event_is_at}
 use Rattle.plane.specs.declared.edge.Edge.{Edge}
-use Rattle.plane.specs.declared.locate.point.Point.{Point}
+use Rattle.plane.specs.declared.point.Point.{Point}
 use Rattle.plane.specs.Locate.Events.{CoversSome, if_covering, end_x, begin_x, answer_x, ending_of, beginning_of, answering_of, IsEventOf, IsQueue}
-use Rattle.plane.specs.Locate.Heights.{rightwards}
+use Rattle.plane.specs.SweepLine.Heights.{rightwards}
 
 less : (a b : ℤ) → a <ℤ b → lt_z a b ≡ true
 less a b below = grind (arith, ints)

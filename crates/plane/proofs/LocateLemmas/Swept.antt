@@ -5,27 +5,27 @@ use Rattle.std.proofs.lemmas.Int.{by_lt_z}
 use Rattle.std.proofs.lemmas.List.Elements.{All-filter, All-nil, All-weaker}
 use Rattle.i_tree.proofs.RootLemmas.Joined.{All-front}
 use Rattle.plane.specs.declared.edge.Edge.{Edge}
-use Rattle.plane.specs.declared.locate.point.Point.{Point}
+use Rattle.plane.specs.declared.point.Point.{Point}
 use Rattle.event_queue.specs.declared.Event.{Event}
 use Rattle.event_queue.specs.declared.Task.TheVariants.{End}
-use Rattle.plane.specs.declared.locate.standing.Standing.{Standing}
+use Rattle.plane.specs.declared.sweep_line.active.ActiveEdge.{ActiveEdge}
 use Rattle.plane.specs.Locate.Answers.{IsPlaceBelow}
-use Rattle.plane.specs.Locate.Crossings.{Cross, NoneCross}
-use Rattle.plane.specs.Locate.Heights.{rightwards}
+use Rattle.plane.specs.SweepLine.Crossings.{Cross, NoneCross}
+use Rattle.plane.specs.SweepLine.Heights.{rightwards}
 use Rattle.event_queue.specs.Queue.{StandsAt, Precedes}
 use Rattle.plane.specs.Locate.Events.{CoversSome, answering_of, beginning_of, ending_of, IsQueue}
-use Rattle.plane.specs.Locate.Standings.{Entry, is_live_at, live_entries}
+use Rattle.plane.specs.SweepLine.Active.{Entry, is_live_at, live_entries}
 use Rattle.event_queue.proofs.QueueLemmas.Answers.{Answered, Answered-none, Answered-all}
 use Rattle.event_queue.proofs.QueueLemmas.Places.{StandsAt-read}
-use Rattle.plane.proofs.LocateLemmas.Adjacent.{All-at}
+use Rattle.plane.proofs.SweepLineLemmas.Adjacent.{All-at}
 use Rattle.plane.proofs.LocateLemmas.Events.{is_answering, is_beginning, is_ending}
 use Rattle.plane.proofs.LocateLemmas.Begun.{end_of, IsOneOf, IsBegun, HasEnded, end_known}
 use Rattle.event_queue.proofs.QueueLemmas.Done.{done_before, end-precedes, none_behind}
-use Rattle.plane.proofs.LocateLemmas.Line.{Line, AllLiveAt}
-use Rattle.plane.proofs.LocateLemmas.Live.{live_entries-all}
-use Rattle.plane.proofs.LocateLemmas.Rightwards.{rightwards-same}
-use Rattle.plane.proofs.LocateLemmas.Turned.{Cross-turned, CoversSome-crossed}
-use Rattle.plane.proofs.LocateLemmas.Uncrossed.{Cross-exchanged}
+use Rattle.plane.specs.SweepLine.Line.{IsLineAt, AllLiveAt}
+use Rattle.plane.proofs.SweepLineLemmas.Live.{live_entries-all}
+use Rattle.plane.proofs.SweepLineLemmas.Rightwards.{rightwards-same}
+use Rattle.plane.proofs.SweepLineLemmas.Turned.{Cross-turned, CoversSome-crossed}
+use Rattle.plane.proofs.SweepLineLemmas.Uncrossed.{Cross-exchanged}
 
 -- x is before none of the done events
 abbrev pub NoneBehind : List Event → ℤ → Type 0
@@ -37,13 +37,13 @@ NoneBehind done x = All (λ event. event.x ≤ℤ x) done
 pub record Swept (edges : List Edge) (points : List Point) (done : List Event) (stored : List Entry) (answers : List (Option ℕ)) : Type 0 where
   pub line : List Entry
   pub of : All (λ entry. IsBegun edges done entry.0 × ¬ (HasEnded done entry.0)) line
-  pub each : (standing : Standing) → IsBegun edges done standing → HasEnded done standing ⊎ Contains line (standing, tt)
-  pub in_line : (x : ℤ) → NoneBehind done x → All (λ entry. x ≤ℤ entry.0.edge.x1) line → Line x line
+  pub each : (active : ActiveEdge) → IsBegun edges done active → HasEnded done active ⊎ Contains line (active, tt)
+  pub in_line : (x : ℤ) → NoneBehind done x → All (λ entry. x ≤ℤ entry.0.edge.x1) line → IsLineAt x line
   pub live : (x : ℤ) → NoneBehind done x → live_entries x stored ≡ live_entries x line
-  pub ended : (one other : Standing) → IsBegun edges done one → IsBegun edges done other → HasEnded done one → ¬ (Cross one.edge other.edge)
+  pub ended : (one other : ActiveEdge) → IsBegun edges done one → IsBegun edges done other → HasEnded done one → ¬ (Cross one.edge other.edge)
   pub answered : Answered (IsPlaceBelow edges) None points done answers
 
-no_entries : (x : ℤ) → Line x []
+no_entries : (x : ℤ) → IsLineAt x []
 no_entries x = record {
   onwards = All-nil (λ entry. entry.0.edge.x0 <ℤ entry.0.edge.x1);
   spans = All-nil (λ entry. (entry.0.edge.x0 ≤ℤ x) × (x ≤ℤ entry.0.edge.x1));
@@ -57,7 +57,7 @@ pub Swept-nothing : (edges : List Edge) (points : List Point) (stored : List Ent
 Swept-nothing edges points stored answers empty room = record {
   line = [];
   of = All-nil (λ entry. IsBegun edges [] entry.0 × ¬ (HasEnded [] entry.0));
-  each = λ standing is. let begun = is.begun in absurd (omega (arith, begun.1));
+  each = λ active is. let begun = is.begun in absurd (omega (arith, begun.1));
   in_line = λ x none ends. no_entries x;
   live = λ x none. ap (live_entries x) empty;
   ended = λ one other is is' has. absurd (omega (arith, has.1));
@@ -85,7 +85,7 @@ module _ (edges : List Edge) (points : List Point) (events : List Event) (queue 
       (λ entry which. by_lt_z entry.0.edge.x1 event.x (λ before. absurd (not_before entry which (inl before))) (λ from. from))
       swept.line swept.of)
 
-  pub line_at : Line x swept.line
+  pub line_at : IsLineAt x swept.line
   line_at = swept.in_line x none_behind_at ends_upto
 
   pub live_at : live_entries x stored ≡ live_entries x swept.line

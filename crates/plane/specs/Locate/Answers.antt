@@ -1,8 +1,8 @@
 -- What is answered for a point: which edge lies straight below it.
 use Rattle.std.specs.Prelude.{◌≡◌, ℕ, pos, ◌+ℤ◌, List, All, Option, Some, None, slice_get}
 use Rattle.plane.specs.declared.edge.Edge.{Edge}
-use Rattle.plane.specs.declared.locate.point.Point.{Point}
-use Rattle.plane.specs.Locate.Heights.{IsUnder, IsLowerAt}
+use Rattle.plane.specs.declared.point.Point.{Point}
+use Rattle.plane.specs.SweepLine.Heights.{IsUnder, IsLowerAt}
 
 -- The edge at this place of the list is under the point, and below no other edge that is: neither at the point's x, nor just
 -- right of it, at the next whole x, which all edges under the point span. So of edges that part at a corner it is the upper

@@ -6,8 +6,8 @@ use Rattle.event_queue.specs.Queue as queue
 use Rattle.event_queue.specs.declared.Event.{Event}
 use Rattle.event_queue.specs.declared.Task.TheVariants.{End, Begin, Answer}
 use Rattle.plane.specs.declared.edge.Edge.{Edge}
-use Rattle.plane.specs.declared.locate.point.Point.{Point}
-use Rattle.plane.specs.Locate.Heights.{rightwards}
+use Rattle.plane.specs.declared.point.Point.{Point}
+use Rattle.plane.specs.SweepLine.Heights.{rightwards}
 
 -- the edge covers some x
 abbrev pub CoversSome : Edge → Type 0

@@ -3,9 +3,9 @@
 ghost use Rattle.std.specs.Prelude.{◌≡◌, IfOk};
 ghost use Rattle.plane.specs.Locate.Events.{IsQueue, begin_x, end_x};
 
-use super::heights::turn_rightwards;
-use super::point::Point;
 use crate::edge::Edge;
+use crate::point::Point;
+use crate::sweep_line::heights::turn_rightwards;
 use event_queue::{Event, events_in_order};
 use std::alloc::{AllocError, Allocator};
 

@@ -3,25 +3,20 @@
 ghost use Rattle.std.specs.Prelude.{◌≡◌, ◌++◌, [], ℕ, List, Option, OnOk, OnErr};
 ghost use Rattle.std.specs.List.{AllZip};
 ghost use Rattle.plane.specs.Locate.Answers.{IsPlaceBelow};
-ghost use Rattle.plane.specs.Locate.Crossings.{IsCrossing, NoneCross};
+ghost use Rattle.plane.specs.SweepLine.Crossings.{IsCrossing, NoneCross};
 
 use crate::edge::Edge;
-pub use crossing::cross;
+pub use crate::point::Point;
+pub use crate::sweep_line::{ActiveEdge, cross};
 use events::events_of;
 pub use fault::LocateFault;
 use i_tree::status::exp::StatusCollection;
-pub use point::Point;
-pub use standing::Standing;
 use std::alloc::Allocator;
 use sweep::serve_all;
 
-mod ahead;
-mod crossing;
 mod events;
 pub mod fault;
-mod heights;
-pub mod point;
-pub mod standing;
+mod read_ahead;
 mod sweep;
 
 /// Appends to `out`, for each of the points in order, the place of the edge straight below it, or `None` where there is none.
@@ -39,7 +34,7 @@ mod sweep;
 ///
 /// For e edges and p points it compares O((e + p) log (e + p)) times beside the calls of the status, which are at most two for
 /// each edge and one for each point. The sweep is our own, and not of the Rust crate. It is the textbook's sweep line after
-/// Shamos and Hoey, which tests edges where they become neighbours along the line, and stops at the first two that cross.
+/// Shamos and Hoey, which checks edges where they become neighbours along the line, and stops at the first two that cross.
 pub fn locate<C, A>(
     status: &mut C,
     edges: &[Edge],
@@ -47,7 +42,7 @@ pub fn locate<C, A>(
     out: &mut Vec<Option<usize>, A>,
 ) -> Result<(), LocateFault>
 where
-    C: StatusCollection<Standing, i64, ()>,
+    C: StatusCollection<ActiveEdge, i64, ()>,
     A: Allocator + Copy,
     ensures ok { OnOk result (
         NoneCross edges.now
@@ -71,7 +66,7 @@ fn append_answers<C, A>(
     out: &mut Vec<Option<usize>, A>,
 ) -> Result<(), LocateFault>
 where
-    C: StatusCollection<Standing, i64, ()>,
+    C: StatusCollection<ActiveEdge, i64, ()>,
     A: Allocator + Copy,
     requires { C.stored status.old ≡ [] }
     ensures ok { OnOk result (

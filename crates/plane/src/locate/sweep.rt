@@ -1,23 +1,25 @@
 //! The sweep among edges: what is done at each event.
 
-ghost use Rattle.std.specs.Prelude.{◌≡◌, ◌<ℤ◌, ◌∷◌, [], ℕ, Option, length, OnOk};
+ghost use Rattle.std.specs.Prelude.{◌≡◌, ◌<ℤ◌, ◌∷◌, [], ℕ, All, Option, length, OnOk};
 ghost use Rattle.std.specs.List.{AllZip};
-ghost use Rattle.i_tree.specs.Root.Along.{AreNeighbours, IsMonotoneAlong, NoneEqual};
+ghost use Rattle.i_tree.specs.Root.Along.{AreNeighbours, IsMonotoneAlong};
 ghost use Rattle.i_tree.specs.Root.Change.{Without};
 ghost use Rattle.plane.specs.Locate.Answers.{IsPlaceBelow};
-ghost use Rattle.plane.specs.Locate.Crossings.{IsCrossing, NoneCross};
+ghost use Rattle.plane.specs.SweepLine.Crossings.{IsCrossing, NoneCross};
 ghost use Rattle.plane.specs.Locate.Events.{IsQueue};
-ghost use Rattle.plane.specs.Locate.Serving.{AreCrossing, HaveCrossing, IsPlaceUnder, JoinsAt};
-ghost use Rattle.plane.specs.Locate.Standings.{AllRight, Entry, live_entries, IsExpiredAt, NotCross};
-ghost use Rattle.plane.specs.Locate.Standings.{cmp_standings, cmp_to_ending, cmp_to_point};
+ghost use Rattle.plane.specs.SweepLine.Line.{BeganBefore, IsSortedAt, JoinsAt};
+ghost use Rattle.plane.specs.Locate.Serving.{AreCrossing, HaveCrossing, IsPlaceUnder};
+ghost use Rattle.plane.specs.SweepLine.Active.{AllRight, Entry, live_entries, IsExpiredAt, NotCross};
+ghost use Rattle.plane.specs.SweepLine.Active.{cmp_active, cmp_to_ending, cmp_to_point};
 
-use super::ahead::{Ahead, Happening};
-use super::crossing::cross;
 use super::fault::LocateFault;
-use super::heights::compare_to_point;
-use super::point::Point;
-use super::standing::{Standing, compare_standings, compare_to_ending};
+use super::read_ahead::{Payload, ReadAhead};
 use crate::edge::Edge;
+use crate::point::Point;
+use crate::sweep_line::active::{ActiveEdge, compare_to_ending};
+use crate::sweep_line::crossing::cross;
+use crate::sweep_line::heights::compare_to_point;
+use crate::sweep_line::insertion::insert_beginning;
 use event_queue::Event;
 use i_tree::status::exp::StatusCollection;
 use std::alloc::Allocator;
@@ -33,7 +35,7 @@ pub fn serve_all<C, A>(
     answers: &mut [Option<usize>],
 ) -> Result<(), LocateFault>
 where
-    C: StatusCollection<Standing, i64, ()>,
+    C: StatusCollection<ActiveEdge, i64, ()>,
     A: Allocator,
     requires empty { C.stored status.old ≡ [] }
     requires queue { IsQueue edges.now points.now events.now }
@@ -41,22 +43,22 @@ where
     ensures ok { OnOk result (NoneCross edges.now × AllZip (IsPlaceBelow edges.now) points.now answers.new) }
     ensures crossing { (i j : ℕ) → result ≡ Err (LocateFault.Cross i j) → IsCrossing edges.now i j }
 {
-    let mut ahead = Ahead::new(alloc);
+    let mut read_ahead = ReadAhead::new(alloc);
     for next in 0..events.len() {
-        let happening = ahead.at(edges, points, events, next)?;
-        match happening {
-            Happening::Ends(standing) => end(status, standing)?,
-            Happening::Begins(standing) => begin(status, standing)?,
-            Happening::Asks(place, point) => answers[place] = place_below(status, point),
+        let payload = read_ahead.at(edges, points, events, next)?;
+        match payload {
+            Payload::Ends(active) => end(status, active)?,
+            Payload::Begins(active) => begin(status, active)?,
+            Payload::Asks(place, point) => answers[place] = place_below(status, point),
         }
     }
     Ok(())
 }
 
-/// Tests the two between which the edge stood that ends.
-fn end<C: StatusCollection<Standing, i64, ()>>(
+/// Checks the two between which the edge stood that ends.
+fn end<C: StatusCollection<ActiveEdge, i64, ()>>(
     status: &mut C,
-    ending: Standing,
+    ending: ActiveEdge,
 ) -> Result<(), LocateFault>
     requires monotone { IsMonotoneAlong (cmp_to_ending ending)
         (live_entries ending.edge.x1 (C.stored status.old)) }
@@ -70,51 +72,44 @@ fn end<C: StatusCollection<Standing, i64, ()>>(
         HaveCrossing (live_entries ending.edge.x1 (C.stored status.old)) i j }
     ensures kept { Without (IsExpiredAt ending.edge.x1) (C.stored status.old) (C.stored status.new) }
 {
-    let stands = |other: Standing| -> Ordering
+    let stands = |other: ActiveEdge| -> Ordering
         requires right { other.edge.x0 <ℤ other.edge.x1 }
         requires ending_right { ending.edge.x0 <ℤ ending.edge.x1 }
         ensures { result ≡ cmp_to_ending ending other }
     { compare_to_ending(other, ending) };
     let (below, above) = status.neighbours_by(ending.edge.x1 as i64, stands);
-    test(below, above)
+    check_neighbours(below, above)
 }
 
-/// Puts the edge that begins where it stands, and tests it with the two between which that is.
-fn begin<C: StatusCollection<Standing, i64, ()>>(
+/// Puts the edge that begins where it stands, and checks it with the two between which that is.
+fn begin<C: StatusCollection<ActiveEdge, i64, ()>>(
     status: &mut C,
-    beginning: Standing,
+    beginning: ActiveEdge,
 ) -> Result<(), LocateFault>
-    requires monotone { IsMonotoneAlong (λ other. cmp_standings other beginning)
-        (live_entries beginning.edge.x0 (C.stored status.old)) }
-    requires is_new { NoneEqual (λ other. cmp_standings other beginning)
-        (live_entries beginning.edge.x0 (C.stored status.old)) }
     requires right { beginning.edge.x0 <ℤ beginning.edge.x1 }
-    requires all_right { AllRight (live_entries beginning.edge.x0 (C.stored status.old)) }
+    requires sorted { IsSortedAt beginning.edge.x0 (live_entries beginning.edge.x0 (C.stored status.old)) }
+    requires last { All (λ entry. BeganBefore entry.0 beginning)
+        (live_entries beginning.edge.x0 (C.stored status.old)) }
     ensures ok { OnOk result (
         (found : Option Entry × Option Entry)
-        × AreNeighbours (λ other. cmp_standings other beginning)
+        × AreNeighbours (λ other. cmp_active other beginning)
         (live_entries beginning.edge.x0 (C.stored status.old)) found
         × NotCross found.0 (Some (beginning, tt)) × NotCross (Some (beginning, tt)) found.1
         × JoinsAt beginning.edge.x0 (beginning, tt) (C.stored status.old) (C.stored status.new)) }
     ensures crossing { (i j : ℕ) → result ≡ Err (LocateFault.Cross i j) →
         HaveCrossing ((beginning, tt) ∷ live_entries beginning.edge.x0 (C.stored status.old)) i j }
 {
-    let stands = |other: Standing| -> Ordering
-        requires right { other.edge.x0 <ℤ other.edge.x1 }
-        requires beginning_right { beginning.edge.x0 <ℤ beginning.edge.x1 }
-        ensures { result ≡ cmp_standings other beginning }
-    { compare_standings(other, beginning) };
-    let x = beginning.edge.x0;
-    let Some((below, above)) = status.insert_between(x as i64, stands, beginning, ())? else {
-        return Ok(());
-    };
+    let (below, above) = insert_beginning(status, beginning)?;
     let begun = Some((beginning, ()));
-    test(below, begun)?;
-    test(begun, above)
+    check_neighbours(below, begun)?;
+    check_neighbours(begun, above)
 }
 
 /// Whether two neighbours, where both are there, don't cross.
-fn test(below: Option<(Standing, ())>, above: Option<(Standing, ())>) -> Result<(), LocateFault>
+fn check_neighbours(
+    below: Option<(ActiveEdge, ())>,
+    above: Option<(ActiveEdge, ())>,
+) -> Result<(), LocateFault>
     ensures ok { OnOk result (NotCross below above) }
     ensures crossing { (i j : ℕ) → result ≡ Err (LocateFault.Cross i j) → AreCrossing below above i j }
 {
@@ -130,20 +125,20 @@ fn test(below: Option<(Standing, ())>, above: Option<(Standing, ())>) -> Result<
 }
 
 /// The place of the last edge of those that are live at the point's x whose height there is at most the point's.
-fn place_below<C: StatusCollection<Standing, i64, ()>>(
+fn place_below<C: StatusCollection<ActiveEdge, i64, ()>>(
     status: &mut C,
     point: Point,
 ) -> Option<usize>
-    requires { IsMonotoneAlong (cmp_to_point point) (live_entries point.x (C.stored status.old)) }
+    requires { IsSortedAt point.x (live_entries point.x (C.stored status.old)) }
     ensures value { IsPlaceUnder point (live_entries point.x (C.stored status.old)) result }
     ensures kept { Without (IsExpiredAt point.x) (C.stored status.old) (C.stored status.new) }
 {
-    let stands = |standing: Standing| -> Ordering
-        ensures { result ≡ cmp_to_point point standing }
-    { compare_to_point(standing.edge, point) };
+    let stands = |active: ActiveEdge| -> Ordering
+        ensures { result ≡ cmp_to_point point active }
+    { compare_to_point(active.edge, point) };
     let (below, _) = status.neighbours_by(point.x as i64, stands);
     match below {
-        Some((standing, _)) => Some(standing.place),
+        Some((active, _)) => Some(active.place),
         None => None,
     }
 }

@@ -1,10 +1,10 @@
 use Rattle.std.proofs.Common.{take}
-use Rattle.plane.specs.Locate.Happenings.{IsAhead}
+use Rattle.plane.specs.Locate.Payloads.{IsReadAhead}
 use Rattle.plane.proofs.LocateLemmas.Swept.{Swept}
 use Rattle.plane.proofs.locate.sweep.serve_all.Given as goal
 
--- the events gone through are served, and what is read ahead is what happens
+-- the events gone through are served, and what is read ahead are their payloads
 abbrev pub invariant-loop-next : goal.invariant-loop-next
 invariant-loop-next g l =
     Swept l.edges l.points (take l.next l.events) (g.C.StatusCollection.stored l.status) l.answers
-    × IsAhead l.edges l.points l.events l.ahead.from l.ahead.happenings.items
+    × IsReadAhead l.edges l.points l.events l.read_ahead.from l.read_ahead.payloads.items

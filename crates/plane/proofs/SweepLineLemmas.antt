@@ -1,0 +1,20 @@
+-- Lemmas on heights of edges, on edges that cross, and on the edges along a sweep line.
+pub mod Active
+pub mod Adjacent
+pub mod Advance
+pub mod Begins
+pub mod Comparisons
+pub mod Crossings
+pub mod Ends
+pub mod Exchanged
+pub mod Gaps
+pub mod Insertion
+pub mod Later
+pub mod Live
+pub mod Neighbours
+pub mod Order
+pub mod Rightwards
+pub mod Sorted
+pub mod Turned
+pub mod Uncrossed
+pub mod Under

@@ -1,0 +1,22 @@
+use Rattle.std.proofs.Common.{◌<ℤ◌, ◌≤ℤ◌, ◌∙◌, rules, w32, FitsSigned}
+use Rattle.plane.proofs.SweepLineLemmas.Comparisons.{starts-later, starts-earlier}
+use Rattle.plane.proofs.sweep_line.heights.compare_starts.Goals as goal
+
+pub returns-then-one-other : goal.returns-then-one-other
+returns-then-one-other c =
+    let one = c.args.one in
+    let other = c.args.other in
+    let x0 : FitsSigned w32 one.x0 = search rules in
+    let other_x0 : FitsSigned w32 other.x0 = search rules in
+    let later : one.x0 <ℤ other.x0 = search rules in
+    starts-later one other c.start_of.result c.compare_to_point.result later c.requires.other_right c.start_of.ensures.x c.start_of.ensures.y c.compare_to_point.ensures
+
+pub returns : goal.returns
+returns c =
+    let one = c.args.one in
+    let other = c.args.other in
+    let x0 : FitsSigned w32 one.x0 = search rules in
+    let other_x0 : FitsSigned w32 other.x0 = search rules in
+    let earlier : other.x0 ≤ℤ one.x0 = search rules in
+    c.reverse.ensures
+    ∙ starts-earlier one other c.start_of-2.result c.compare_to_point-2.result earlier c.requires.right c.start_of-2.ensures.x c.start_of-2.ensures.y c.compare_to_point-2.ensures

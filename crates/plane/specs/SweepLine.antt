@@ -1,0 +1,5 @@
+-- Definitions of heights of edges, of edges that cross, and of the active edges along a sweep line.
+pub mod Active
+pub mod Crossings
+pub mod Heights
+pub mod Line

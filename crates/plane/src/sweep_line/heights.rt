@@ -1,0 +1,109 @@
+//! Heights of edges at an x, compared in whole numbers.
+
+ghost use Rattle.std.specs.Prelude.{◌≡◌, ◌-ℤ◌, ◌*ℤ◌, ◌<ℤ◌};
+ghost use Rattle.std.specs.Int.{int_max, int_min};
+ghost use Rattle.std.specs.Ordering.{int_cmp};
+ghost use Rattle.plane.specs.SweepLine.Active.{end_of};
+ghost use Rattle.plane.specs.SweepLine.Heights.{rightwards, run, height_by_runs, rise_by_run};
+ghost use Rattle.plane.specs.SweepLine.Heights.{height_by_run as height_of};
+
+use crate::edge::Edge;
+use crate::point::Point;
+use std::cmp::Ordering;
+
+/// The edge from its lesser end along x to its greater. A vertical edge, or a point, stays as it is.
+pub fn turn_rightwards(edge: Edge) -> Edge
+    ensures { result ≡ rightwards edge }
+{
+    if edge.x1 < edge.x0 {
+        return Edge {
+            x0: edge.x1,
+            y0: edge.y1,
+            x1: edge.x0,
+            y1: edge.y0,
+        };
+    }
+    edge
+}
+
+/// How the edge's height at the point's x stands to the point's, where the edge goes to the right: by how far both are
+/// above the edge's start, times its run.
+pub fn compare_to_point(edge: Edge, point: Point) -> Ordering
+    ensures { result ≡ int_cmp (height_of edge point.x) (point.y *ℤ run edge) }
+{
+    let climb = product(way(edge.y0, edge.y1), way(edge.x0, point.x));
+    let point_climb = product(way(edge.y0, point.y), way(edge.x0, edge.x1));
+    climb.cmp(&point_climb)
+}
+
+/// How the one's height stands to the other's at the first x that both span. There the later one begins, so that the
+/// point at which it does tells.
+pub fn compare_starts(one: Edge, other: Edge) -> Ordering
+    requires right { one.x0 <ℤ one.x1 }
+    requires other_right { other.x0 <ℤ other.x1 }
+    ensures { let start = int_max one.x0 other.x0 in
+        result ≡ int_cmp (height_by_runs one other start) (height_by_runs other one start) }
+{
+    if one.x0 < other.x0 {
+        return compare_to_point(one, start_of(other));
+    }
+    compare_to_point(other, start_of(one)).reverse()
+}
+
+/// How the one's height stands to the other's at the last x that both span. There the one that ends first ends, so that
+/// the point at which it does tells.
+pub fn compare_ends(one: Edge, other: Edge) -> Ordering
+    requires right { one.x0 <ℤ one.x1 }
+    requires other_right { other.x0 <ℤ other.x1 }
+    ensures { let end = int_min one.x1 other.x1 in
+        result ≡ int_cmp (height_by_runs one other end) (height_by_runs other one end) }
+{
+    if other.x1 < one.x1 {
+        return compare_to_point(one, end_of(other));
+    }
+    compare_to_point(other, end_of(one)).reverse()
+}
+
+/// The point at which the edge begins.
+fn start_of(edge: Edge) -> Point
+    ensures x { result.x ≡ edge.x0 }
+    ensures y { result.y ≡ edge.y0 }
+{
+    Point {
+        x: edge.x0,
+        y: edge.y0,
+    }
+}
+
+/// The point at which the edge ends.
+pub fn end_of(edge: Edge) -> Point
+    ensures { result ≡ end_of edge }
+{
+    Point {
+        x: edge.x1,
+        y: edge.y1,
+    }
+}
+
+/// How the one's slope stands to the other's, where both go to the right.
+pub fn compare_slopes(one: Edge, other: Edge) -> Ordering
+    ensures { result ≡ int_cmp (rise_by_run one other) (rise_by_run other one) }
+{
+    let steepness = product(way(one.y0, one.y1), way(other.x0, other.x1));
+    let other_steepness = product(way(other.y0, other.y1), way(one.x0, one.x1));
+    steepness.cmp(&other_steepness)
+}
+
+/// The way from the one to the other, which takes 33 bits.
+fn way(start: i32, end: i32) -> i64
+    ensures { result ≡ end -ℤ start }
+{
+    end as i64 - start as i64
+}
+
+/// The product of two ways. Of factors that have 64 bits each, one multiplication makes it.
+fn product(one: i64, other: i64) -> i128
+    ensures { result ≡ one *ℤ other }
+{
+    one as i128 * other as i128
+}
