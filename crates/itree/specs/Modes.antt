@@ -1,4 +1,4 @@
--- The modes of the program, a row each, and which arguments name them or ask for help.
+-- The modes of the program, a row each, and which arguments name them or ask for a text of the program's own.
 use Rattle.std.specs.Prelude.{◌≡◌, ◌⊎◌, ⊤, ℕ, ℤ, List, [], ◌∷◌, map, codes}
 use Rattle.std.specs.Borrow.{Bor}
 use Rattle.i_tree.specs.Seg.Buckets.{HasLayout}
@@ -147,3 +147,17 @@ abbrev pub AsksForHelp : List (Bor (List ℕ)) → Type 0
 AsksForHelp [] = ⊥
 AsksForHelp (word ∷ []) = MeansHelp word.now
 AsksForHelp (word ∷ other ∷ words) = ⊥
+
+-- the word asks for the version
+abbrev pub MeansVersion : List ℕ → Type 0
+MeansVersion word = (word ≡ codes "--version") ⊎ (word ≡ codes "-V")
+
+-- the arguments are one word, and it asks for the version
+abbrev pub AsksForVersion : List (Bor (List ℕ)) → Type 0
+AsksForVersion [] = ⊥
+AsksForVersion (word ∷ []) = MeansVersion word.now
+AsksForVersion (word ∷ other ∷ words) = ⊥
+
+-- the arguments ask for a text that the program has: the help or the version
+abbrev pub AsksForText : List (Bor (List ℕ)) → Type 0
+AsksForText words = AsksForHelp words ⊎ AsksForVersion words
