@@ -1,4 +1,4 @@
--- The modes of the program, a row each, and which arguments name them or ask for help.
+-- The modes of the program, a row each, and which arguments name them or ask for a text of the program's own.
 use Rattle.std.specs.Prelude.{◌≡◌, ◌⊎◌, ⊤, ℕ, ℤ, List, [], ◌∷◌, map, codes}
 use Rattle.std.specs.Borrow.{Bor}
 use Rattle.i_tree.specs.Seg.Buckets.{HasLayout}
@@ -150,7 +150,7 @@ AsksForHelp (word ∷ other ∷ words) = ⊥
 
 -- the word asks for the version
 abbrev pub MeansVersion : List ℕ → Type 0
-MeansVersion word = word ≡ codes "--version"
+MeansVersion word = (word ≡ codes "--version") ⊎ (word ≡ codes "-V")
 
 -- the arguments are one word, and it asks for the version
 abbrev pub AsksForVersion : List (Bor (List ℕ)) → Type 0
@@ -158,6 +158,6 @@ AsksForVersion [] = ⊥
 AsksForVersion (word ∷ []) = MeansVersion word.now
 AsksForVersion (word ∷ other ∷ words) = ⊥
 
--- the arguments ask for the help or for the version
+-- the arguments ask for a text that the program has: the help or the version
 abbrev pub AsksForText : List (Bor (List ℕ)) → Type 0
 AsksForText words = AsksForHelp words ⊎ AsksForVersion words

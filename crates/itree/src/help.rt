@@ -1,10 +1,7 @@
-//! What the program prints about itself: its help, and its version.
+//! The help that the program prints.
 
 ghost use Rattle.std.specs.Prelude.{◌↔◌, IsTrue};
-ghost use Rattle.itree.specs.Modes.{MeansHelp, MeansVersion, AsksForHelp, AsksForVersion};
-
-/// The program's name and version, as a line. The file `VERSION` at the top of the repository says the same version.
-pub const VERSION: &str = "itree 0.2.0\n";
+ghost use Rattle.itree.specs.Modes.{MeansHelp, AsksForHelp};
 
 /// Each mode with its lines and their replies, and the statuses. Behind each form of a line stand the forms of its reply.
 pub const HELP: &str = "\
@@ -48,8 +45,7 @@ edge covers the X from its lesser end up to its greater, which it doesn't cover.
   edge X0 Y0 X1 Y1
   point X Y                            edge LINE | none
 
-itree help, itree --help, itree -h: this text
-itree --version: the name and the version
+itree help, itree --help, itree -h: this text; itree --version, itree -V: the version
 
 Numbers are whole, from -2147483648 to 2147483647. A line without words counts, and has no reply.
 refused: there is no memory. The status is 0 where all is answered, 1 where memory, reading or
@@ -76,21 +72,4 @@ fn is_help(word: &str) -> bool
     ensures { IsTrue result ↔ MeansHelp word.now }
 {
     word == "help" || word == "--help" || word == "-h"
-}
-
-/// Whether the arguments ask for the version.
-pub fn asks_for_version(words: &[&str]) -> bool
-    ensures { IsTrue result ↔ AsksForVersion words.now }
-{
-    match words {
-        [word] => is_version(word),
-        _ => false,
-    }
-}
-
-// Whether the word asks for the version.
-fn is_version(word: &str) -> bool
-    ensures { IsTrue result ↔ MeansVersion word.now }
-{
-    word == "--version"
 }

@@ -2,32 +2,33 @@
 
 ghost use Rattle.std.specs.Prelude.{◌≡◌, ◌≢◌, ◌≤◌, ◌↔◌, ◌⊎◌, ℕ, List, IfErr, IfOk, IfSome, OnOk, string_bytes};
 ghost use Rattle.std.specs.Io.KnownBytes.{Appends};
-ghost use Rattle.itree.specs.Modes.{Names, NamesMode, AsksForHelp, AsksForText, AsksForVersion};
+ghost use Rattle.itree.specs.Modes.{Names, NamesMode, AsksForHelp, AsksForVersion, AsksForText};
 ghost use Rattle.itree.specs.Texts.{Answers, HasFirstFaulty, HasOverlapLine, HasCrossingLines, HasFault};
 ghost use Rattle.itree.specs.declared.mode.Mode.{Mode};
 
 use crate::answers::answer_text;
 use crate::fault::Fault;
-use crate::help::{HELP, VERSION, asks_for_help, asks_for_version};
+use crate::help::{HELP, asks_for_help};
 use crate::mode::Mode;
+use crate::version::{VERSION, asks_for_version};
 use std::alloc::Allocator;
 use std::io::{Read, Write};
 
 /// Runs the program: reads all of `input`, and writes one reply line for each command or edge to `output`. In a sweep, and
-/// among edges and points, each point has one, and a segment or an edge has none. Where the words ask for help or for the
-/// version it reads nothing, and writes `HELP` or `VERSION`.
+/// among edges and points, each point has one, and a segment or an edge has none. Where the words ask for help it reads
+/// nothing, and writes `HELP`; where they ask for the version, `VERSION`.
 ///
 /// `words` are the arguments without the program's name, which are to be the one word of a mode: `keytree`, `keylist`,
-/// `settree`, `setlist`, `sweep`, `meetings` or `locate`; or `seg`, `MIN` and `MAX`, the ends of a range that has a layout; or one
-/// word that asks for help (`help`, `--help`, `-h`) or for the version (`--version`). `faults` stands for standard error, and
-/// the answer is the process's status:
+/// `settree`, `setlist`, `sweep`, `meetings` or `locate`; or `seg`, `MIN` and `MAX`, the ends of a range that has a layout; or
+/// one word that asks for help, `help`, `--help` or `-h`, or for the version, `--version` or `-V`. `faults` stands for standard
+/// error, and the answer is the process's status:
 ///
-/// - 0 where all replies, the help or the version were written and flushed. An insertion that was refused has a reply too.
+/// - 0 where all replies, or the text asked for, were written and flushed. An insertion that was refused has a reply too.
 /// - 1 where reading, writing, flushing or memory outside the commands failed, or memory for a sweep or for edges; nothing
 ///   goes to `faults`, and a failed write may have taken a part of the text.
-/// - 2 where the words neither name a mode nor ask for help or the version, before any input is read; where a line is faulty in
-///   the mode, before any command is run; where two segments of a sweep overlap; and where two edges cross that points are
-///   located among. `faults` is told which, and whether it takes that changes nothing.
+/// - 2 where the words neither name a mode nor ask for a text, before any input is read; where a line is faulty in the mode,
+///   before any command is run; where two segments of a sweep overlap; and where two edges cross that points are located
+///   among. `faults` is told which, and whether it takes that changes nothing.
 pub fn run_itree<A: Allocator + Copy, I: Read, O: Write, X: Write>(
     alloc: A,
     words: &[&str],
@@ -41,7 +42,7 @@ pub fn run_itree<A: Allocator + Copy, I: Read, O: Write, X: Write>(
         × Appends (O.contents output.old) (O.contents output.new) replies) }
     ensures helped { AsksForHelp words.now → (result ≢ 2)
         × (result ≡ 0 → Appends (O.contents output.old) (O.contents output.new) HELP.now) }
-    ensures versioned { AsksForVersion words.now → (result ≢ 2)
+    ensures version { AsksForVersion words.now → (result ≢ 2)
         × (result ≡ 0 → Appends (O.contents output.old) (O.contents output.new) VERSION.now) }
     ensures no_replies { result ≡ 2 → output.new ≡ output.old }
     ensures no_fault { result ≢ 2 → faults.new ≡ faults.old }
@@ -60,7 +61,7 @@ pub fn run_itree<A: Allocator + Copy, I: Read, O: Write, X: Write>(
     }
 }
 
-// Writes the help or the version, where the words ask for it, and else the replies to `input`, all at once.
+// Writes the text that the words ask for, and else the replies to `input`, all at once.
 fn serve<A: Allocator + Copy, I: Read, O: Write>(
     alloc: A,
     words: &[&str],
@@ -72,7 +73,7 @@ fn serve<A: Allocator + Copy, I: Read, O: Write>(
         × Appends (O.contents output.old) (O.contents output.new) replies)) }
     ensures helped { OnOk result (AsksForHelp words.now
         → Appends (O.contents output.old) (O.contents output.new) HELP.now) }
-    ensures versioned { OnOk result (AsksForVersion words.now
+    ensures version { OnOk result (AsksForVersion words.now
         → Appends (O.contents output.old) (O.contents output.new) VERSION.now) }
     ensures text_err { AsksForText words.now → IfErr result (λ fault. fault ≡ Fault.Stopped) }
     ensures unwritten { IfErr result (λ fault. fault ≢ Fault.Stopped → output.new ≡ output.old) }

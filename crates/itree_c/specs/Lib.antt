@@ -1,4 +1,6 @@
+pub mod Handle
 pub mod Heights
 pub mod Meetings
 pub mod Places
+pub mod Raw
 pub mod Status

@@ -1,11 +1,15 @@
 //! Calls from C, and so from each language that calls C: a static library over `itree_lib` and `plane`.
 //!
 //! Each function takes slices, which are a pointer and a length in C, writes its answers into slices of its caller's,
-//! and answers a status. Memory comes from the process's `malloc`, and all of it has been given back when a call
+//! and answers a status. An answer whose size isn't known before goes out as a handle, which the caller gives back.
+//! Memory comes from the process's `malloc`, and all of it but what a handle owns has been given back when a call
 //! returns.
 #![tactic(auto)]
 
+pub mod handle;
 pub mod heights;
 pub mod meetings;
+pub mod pairs;
 pub mod places;
+pub mod raw;
 pub mod status;
