@@ -1,8 +1,9 @@
-"""Faulty arguments and those that ask for help, which the program answers before it reads any input; and sound ranges."""
+"""Faulty arguments and those that ask for help or the version, which the program answers before it reads any input; and sound
+ranges."""
 
 import os
 
-from documents import help_text
+from documents import help_text, text_of
 from processes import ARGUMENTS, SOON, Case, Outcome, answered, by_file, outcome_of, redirected
 
 FAULTY = (
@@ -20,7 +21,11 @@ FAULTY = (
     ("a mode and a space", ["keylist "]),
     ("another mode and a space", ["sweep "]),
     ("a line as one argument", ["seg 0 128"]),
-    ("an unknown option", ["--version"]),
+    ("an unknown option", ["--versions"]),
+    ("the version as a word", ["version"]),
+    ("the version and a word", ["--version", "keylist"]),
+    ("the version twice", ["-V", "-V"]),
+    ("a word of an earlier version", ["cross"]),
     ("an option before a mode", ["--", "keylist"]),
     ("help and a word", ["help", "x"]),
     ("help twice", ["--help", "--help"]),
@@ -46,7 +51,7 @@ FAULTY = (
     ("a number after setlist", ["setlist", "4"]),
     ("one too many after sweep", ["sweep", "extra"]),
     ("sweep twice", ["sweep", "sweep"]),
-    ("one too many after cross", ["cross", "cross"]),
+    ("one too many after meetings", ["meetings", "meetings"]),
     ("one too many after locate", ["locate", "-h"]),
     ("locate twice", ["locate", "locate"]),
     ("seg alone", ["seg"]),
@@ -112,10 +117,10 @@ def faulty_arguments():
             yield Case(f"{what}, over {over}", words, b"nonsense\n", Outcome(2, b"", ARGUMENTS), how)
 
 
-def asking_for_help():
-    """Cases of help, over each of the inputs, and over outputs and faults that fail."""
-    text = help_text()
-    for word in HELP:
+def asking_for_text():
+    """Cases of help and of the version, over each of the inputs, and over outputs and faults that fail."""
+    version = f"itree {text_of('VERSION')}".encode()
+    for word, text in (*((word, help_text()) for word in HELP), ("--version", version), ("-V", version)):
         for over, how in INPUTS:
             yield Case(f"{word}, over {over}", [word], b"nonsense\n", Outcome(0, text), how)
         for over, redirections in (("a full device", "> /dev/full"), ("nothing", ">&-")):
@@ -129,4 +134,4 @@ def sound_ranges():
         yield answered(what, mode, b"clear\n", b"cleared\n")
 
 
-PARTS = faulty_arguments, asking_for_help, sound_ranges
+PARTS = faulty_arguments, asking_for_text, sound_ranges

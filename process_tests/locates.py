@@ -6,7 +6,7 @@ from itertools import combinations
 from random import Random
 
 import streams
-from crosses import numbers_by_chance
+from meetings import numbers_by_chance
 from many import MANY, SEED
 from odd import read, texts_by_chance
 from processes import Case, Outcome, answered, by_file, by_pipe, dialogue, lines, refused

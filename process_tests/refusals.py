@@ -12,7 +12,7 @@ import tempfile
 from functools import partial
 from itertools import count
 
-import crosses
+import meetings
 import locates
 import sweeps
 from documents import help_text
@@ -50,7 +50,7 @@ OTHERS = (
     ("sweep", (*(f"segment 0 9 {y}" for y in LEVELS), "point 5 10", "point 5 0"), ("below 9", "none")),
     ("locate", (*(f"edge 0 {y} 9 {y}" for y in LEVELS), "point 5 10", "point 5 0"), ("edge 9", "none")),
     (
-        "cross",
+        "meetings",
         ("edge 0 0 9 9", "edge 0 9 9 0", "edge 0 5 9 5", "edge 5 0 5 9", "edge 20 0 20 5"),
         ("meets", "meets 1", "meets 1 2", "meets 1 2 3", "meets"),
     ),
@@ -73,7 +73,7 @@ BESIDE = (
     ("settree", "setlist", ("find 1", "find 1"), ("find 1", "fine 1")),
 )
 
-MODES = (*PLAIN, sweeps.PLAIN, crosses.PLAIN, locates.PLAIN)
+MODES = (*PLAIN, sweeps.PLAIN, meetings.PLAIN, locates.PLAIN)
 
 # More lines than one read takes.
 LINES = 40_000

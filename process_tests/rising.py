@@ -48,7 +48,7 @@ def sweep():
         yield f"point {x} {x}", f"below {x}"
 
 
-def cross():
+def meetings():
     """Each edge goes up from the first one, and touches no other."""
     yield "edge 0 7 3000 7", "meets"
     for x in range(COUNT):
@@ -69,7 +69,7 @@ MODES = (
     ("setlist", set_of_keys),
     ("seg 0 128", segments),
     ("sweep", sweep),
-    ("cross", cross),
+    ("meetings", meetings),
     ("locate", locate),
 )
 

@@ -31,7 +31,7 @@ GROUPS = (
     "small",
     "many",
     "sweeps",
-    "crosses",
+    "meetings",
     "locates",
 )
 

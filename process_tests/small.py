@@ -8,7 +8,7 @@ from functools import partial
 from itertools import combinations
 from random import Random
 
-from crosses import common_shares
+from meetings import common_shares
 from locates import EachAmong, cross, lines_below
 from many import SEED
 from processes import Case, Outcome, answered, lines
@@ -99,7 +99,7 @@ def located_by_chance(random, bound):
 
 MODES = (
     ("sweep", swept_by_chance, swept),
-    ("cross", some_edges, crossed),
+    ("meetings", some_edges, crossed),
     ("locate", located_by_chance, located),
 )
 

@@ -1,4 +1,5 @@
 pub mod Answered
+pub mod Asked
 pub mod CommandLines
 pub mod Counting
 pub mod Faults

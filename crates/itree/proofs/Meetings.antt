@@ -12,12 +12,12 @@ use Rattle.std.proofs.lemmas.Map.Made.{AllPairs-from_IsDistinct, IsDistinct-from
 use Rattle.std.proofs.lemmas.Option.{get_or_from_slice_get, slice_get_within}
 use Rattle.std.proofs.lemmas.List.{length-map, length-replicate}
 use Rattle.std.proofs.Math.Nat.{eq-or-lt_of_le}
-use Rattle.itree.specs.Answers.{AnswersCross}
-use Rattle.itree.specs.CrossLines.{SaysEdge, AreMetLines}
+use Rattle.itree.specs.Answers.{AnswersMeetings}
+use Rattle.itree.specs.MeetingsLines.{SaysEdge, AreMetLines}
 use Rattle.itree.specs.Grammar.{LinesSay, command_lines}
 use Rattle.itree.specs.Replies.{met_words, reply_lines}
 use Rattle.itree.specs.Told.{number_told, told, lists_of, AreTold, AreOrderedMeetings}
-use Rattle.itree.specs.declared.lines.cross.MetLines.{MetLines}
+use Rattle.itree.specs.declared.lines.meetings.MetLines.{MetLines}
 use Rattle.itree.proofs.CommandLines.{command_lines-rise, length-command_lines}
 use Rattle.plane.specs.Meet.Meetings.{MeetAt, AreMeetings}
 use Rattle.plane.specs.declared.edge.Edge.{Edge}
@@ -152,9 +152,9 @@ lines_of_lists [] = refl
 lines_of_lists (reply ∷ replies) = ap (λ (rest : List ℕ). (met_words reply.numbers.items ++ 10 ∷ []) ++ rest) (lines_of_lists replies)
 
 -- replies that were told the meetings answer the edges
-pub answers_cross : {A : Type 0} (lines : List (List ℕ)) (edges : List Edge) (numbers : List ℕ) (pairs : List (ℕ × ℕ)) (replies : List (MetLines A)) (count : ℕ) (output : List ℕ)
-    → numbers ≡ command_lines lines → AreOrderedMeetings edges pairs → count ≡ length edges → AreTold numbers pairs count (lists_of replies) → output ≡ reply_lines (λ reply. met_words reply.numbers.items) replies → AnswersCross lines edges output
-answers_cross lines edges numbers pairs replies count output are ordered counted all_told written = record {
+pub answers_meetings : {A : Type 0} (lines : List (List ℕ)) (edges : List Edge) (numbers : List ℕ) (pairs : List (ℕ × ℕ)) (replies : List (MetLines A)) (count : ℕ) (output : List ℕ)
+    → numbers ≡ command_lines lines → AreOrderedMeetings edges pairs → count ≡ length edges → AreTold numbers pairs count (lists_of replies) → output ≡ reply_lines (λ reply. met_words reply.numbers.items) replies → AnswersMeetings lines edges output
+answers_meetings lines edges numbers pairs replies count output are ordered counted all_told written = record {
   replies = lists_of replies;
   one_each = all_told.one_each ∙ counted;
   met = λ place list is.

@@ -6,7 +6,7 @@ use Rattle.std.proofs.lemmas.List.{take_more, get_or-map, get_or-set_same, get_o
 use Rattle.std.proofs.lemmas.List.Elements.{filter_map-append}
 use Rattle.std.proofs.lemmas.Option.{slice_get-get_or}
 use Rattle.itree.specs.Told.{number_told, told, lists_of, AreTold}
-use Rattle.itree.specs.declared.lines.cross.MetLines.{MetLines}
+use Rattle.itree.specs.declared.lines.meetings.MetLines.{MetLines}
 
 -- the numbers that a reply lists
 abbrev numbers_in : {A : Type 0} → MetLines A → List ℕ

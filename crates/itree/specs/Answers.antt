@@ -5,7 +5,7 @@ use Rattle.std.specs.List.Sorted.{IsSorted}
 use Rattle.std.specs.Ordering.{int_cmp}
 use Rattle.std.specs.declared.cmp.Ordering.{Ordering}
 use Rattle.i_tree.specs.Seg.Buckets.{Buckets, IsLayout}
-use Rattle.itree.specs.CrossLines.{AreMetLines}
+use Rattle.itree.specs.MeetingsLines.{AreMetLines}
 use Rattle.itree.specs.KeyLines.{KeyLine}
 use Rattle.itree_lib.specs.Run.KeyMachine as keys
 use Rattle.itree.specs.LocateLines.{IsLineBelow, edges_of, points_of as points_among}
@@ -85,7 +85,7 @@ AnswersRange min max commands output = (buckets : Buckets) × IsLayout min max b
 
 -- each edge has one reply, which lists the lines of the earlier edges that it meets, and the output is the lines of these
 -- replies
-pub record AnswersCross (lines : List (List ℕ)) (edges : List Edge) (output : List ℕ) : Type 0 where
+pub record AnswersMeetings (lines : List (List ℕ)) (edges : List Edge) (output : List ℕ) : Type 0 where
   pub replies : List (List ℕ)
   pub one_each : length replies ≡ length edges
   pub met : (place : ℕ) (numbers : List ℕ) → slice_get replies place ≡ Some numbers → AreMetLines lines edges place numbers

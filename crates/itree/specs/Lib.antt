@@ -1,8 +1,9 @@
 pub mod Answers
-pub mod CrossLines
+pub mod Faults
 pub mod Grammar
 pub mod KeyLines
 pub mod LocateLines
+pub mod MeetingsLines
 pub mod Modes
 pub mod Replies
 pub mod SegLines

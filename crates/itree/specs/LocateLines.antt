@@ -2,7 +2,7 @@
 -- edges that cross.
 use Rattle.std.specs.Prelude.{◌≡◌, ◌<◌, ℕ, List, [], ◌∷◌, Option, Some, None, codes, slice_get}
 use Rattle.std.specs.List.{filter_map}
-use Rattle.itree.specs.CrossLines.{SaysEdge}
+use Rattle.itree.specs.MeetingsLines.{SaysEdge}
 use Rattle.itree.specs.Grammar.{Says, LinesSay, command_lines}
 use Rattle.itree.specs.declared.lines.locate.LocateLine.{LocateLine}
 use Rattle.itree.specs.declared.lines.locate.LocateLine.TheVariants as locate_line

@@ -1,9 +1,9 @@
--- The modes of the program, a row each, and which arguments name them or ask for help.
+-- The modes of the program, a row each, and which arguments name them or ask for a text of the program's own.
 use Rattle.std.specs.Prelude.{◌≡◌, ◌⊎◌, ⊤, ℕ, ℤ, List, [], ◌∷◌, map, codes}
 use Rattle.std.specs.Borrow.{Bor}
 use Rattle.i_tree.specs.Seg.Buckets.{HasLayout}
-use Rattle.itree.specs.Answers.{AnswersKeys, AnswersSet, AnswersRange, AnswersSweep, AnswersCross, AnswersLocate}
-use Rattle.itree.specs.CrossLines.{SaysEdge}
+use Rattle.itree.specs.Answers.{AnswersKeys, AnswersSet, AnswersRange, AnswersSweep, AnswersMeetings, AnswersLocate}
+use Rattle.itree.specs.MeetingsLines.{SaysEdge}
 use Rattle.itree.specs.Grammar.{ReadsAll, Says}
 use Rattle.itree.specs.KeyLines.{KeyLine, SaysKeyCommand}
 use Rattle.itree.specs.LocateLines.{SaysLocateLine, AreCrossingLines}
@@ -14,7 +14,7 @@ use Rattle.itree.specs.declared.lines.locate.LocateLine.{LocateLine}
 use Rattle.itree.specs.declared.lines.sweep.SweepLine.{SweepLine}
 use Rattle.plane.specs.declared.edge.Edge.{Edge}
 use Rattle.itree.specs.declared.mode.Mode.{Mode}
-use Rattle.itree.specs.declared.mode.Mode.TheVariants.{KeyTree, KeyList, SetTree, SetList, Segments, Sweep, Cross, Locate}
+use Rattle.itree.specs.declared.mode.Mode.TheVariants.{KeyTree, KeyList, SetTree, SetList, Segments, Sweep, Meetings, Locate}
 
 -- A mode: the word that names it and the numbers behind the word, which are to fit; which words of a line say which command;
 -- which output answers lines and the commands that they say; and which line of a text, and which two, tell a fault beside a
@@ -82,14 +82,14 @@ sweep_row = record {
 }
 
 -- edges of the plane, each beside the earlier ones
-abbrev pub cross_row : Row
-cross_row = record {
-  word = codes "cross";
+abbrev pub meetings_row : Row
+meetings_row = record {
+  word = codes "meetings";
   numbers = [];
   Fits = ⊤;
   Command = Edge;
   SaysCommand = SaysEdge;
-  AnswersAll = AnswersCross;
+  AnswersAll = AnswersMeetings;
   IsOverlap = λ lines number. ⊥;
   AreCrossing = λ lines first second. ⊥;
 }
@@ -115,7 +115,7 @@ row_of SetTree = set_row (codes "settree")
 row_of SetList = set_row (codes "setlist")
 row_of (Segments min max) = segments_row min max
 row_of Sweep = sweep_row
-row_of Cross = cross_row
+row_of Meetings = meetings_row
 row_of Locate = locate_row
 
 -- the numbers of the mode fit: those of segments are the ends of a range that has a layout
@@ -147,3 +147,17 @@ abbrev pub AsksForHelp : List (Bor (List ℕ)) → Type 0
 AsksForHelp [] = ⊥
 AsksForHelp (word ∷ []) = MeansHelp word.now
 AsksForHelp (word ∷ other ∷ words) = ⊥
+
+-- the word asks for the version
+abbrev pub MeansVersion : List ℕ → Type 0
+MeansVersion word = (word ≡ codes "--version") ⊎ (word ≡ codes "-V")
+
+-- the arguments are one word, and it asks for the version
+abbrev pub AsksForVersion : List (Bor (List ℕ)) → Type 0
+AsksForVersion [] = ⊥
+AsksForVersion (word ∷ []) = MeansVersion word.now
+AsksForVersion (word ∷ other ∷ words) = ⊥
+
+-- the arguments ask for a text that the program has: the help or the version
+abbrev pub AsksForText : List (Bor (List ℕ)) → Type 0
+AsksForText words = AsksForHelp words ⊎ AsksForVersion words

@@ -1,7 +1,7 @@
 -- How pairs of edges that meet, and edges below points, are told to the replies.
 use Rattle.std.specs.Prelude.{◌≡◌, ◌==◌, ◌<◌, ◌≤◌, ℕ, if◌then◌else◌, List, Option, Some, None, AllPairs, length, map, slice_get}
 use Rattle.std.specs.List.{filter_map}
-use Rattle.itree.specs.declared.lines.cross.MetLines.{MetLines}
+use Rattle.itree.specs.declared.lines.meetings.MetLines.{MetLines}
 use Rattle.plane.specs.Meet.Meetings.{AreMeetings}
 use Rattle.plane.specs.declared.edge.Edge.{Edge}
 

@@ -15,7 +15,7 @@ use crate::mode::Mode;
 use crate::set_key::SetKey;
 use crate::timed_key::TimedKey;
 use crate::timed_val::TimedVal;
-use cross::answer_cross;
+use meetings::answer_meetings;
 use i_tree::key::exp::KeyExpCollection;
 use i_tree::key::list::KeyExpList;
 use i_tree::key::tree::KeyExpTree;
@@ -31,7 +31,7 @@ use std::alloc::Allocator;
 use std::cmp::Ordering;
 use sweep::answer_sweep;
 
-mod cross;
+mod meetings;
 mod locate;
 mod sweep;
 
@@ -87,9 +87,9 @@ pub fn answer_text<A: Allocator + Copy>(
             let mut tree = KeyExpTree::new(alloc, 0)?;
             answer_sweep(alloc, &mut tree, text, &said)
         }
-        Mode::Cross => {
+        Mode::Meetings => {
             let edges = parse_commands(alloc, text)?;
-            answer_cross(alloc, text, &edges)
+            answer_meetings(alloc, text, &edges)
         }
         Mode::Locate => {
             let said = parse_commands(alloc, text)?;

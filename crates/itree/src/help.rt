@@ -36,8 +36,8 @@ itree sweep: for each point the greatest height, at most its own, of the segment
   segment X0 X1 Y
   point X Y                            below HEIGHT | none
 
-itree cross: for each edge between two points of the plane the lines of the earlier edges that share
-a point with it, rising. An edge has both its ends, and may be a point.
+itree meetings: for each edge between two points of the plane the lines of the earlier edges that
+share a point with it, rising. An edge has both its ends, and may be a point.
   edge X0 Y0 X1 Y1                     meets LINE ..
 
 itree locate: for each point the line of the edge straight below it, at its own height at most. An
@@ -45,7 +45,7 @@ edge covers the X from its lesser end up to its greater, which it doesn't cover.
   edge X0 Y0 X1 Y1
   point X Y                            edge LINE | none
 
-itree help, itree --help, itree -h: this text
+itree help, itree --help, itree -h: this text; itree --version, itree -V: the version
 
 Numbers are whole, from -2147483648 to 2147483647. A line without words counts, and has no reply.
 refused: there is no memory. The status is 0 where all is answered, 1 where memory, reading or

@@ -13,6 +13,7 @@ mod program;
 mod set_key;
 mod timed_key;
 mod timed_val;
+mod version;
 
 use program::run_itree;
 use std::env;

@@ -23,7 +23,7 @@ pub enum Mode {
     /// A sweep over horizontal segments.
     Sweep,
     /// Edges of the plane, and which of them meet.
-    Cross,
+    Meetings,
     /// Points among edges of the plane, and which edge lies straight below each.
     Locate,
 }
@@ -42,7 +42,7 @@ impl Mode {
             ["setlist"] => Some(Mode::SetList),
             ["seg", min, max] => segments(min, max),
             ["sweep"] => Some(Mode::Sweep),
-            ["cross"] => Some(Mode::Cross),
+            ["meetings"] => Some(Mode::Meetings),
             ["locate"] => Some(Mode::Locate),
             _ => None,
         }

@@ -2,7 +2,7 @@
 
 ghost use Rattle.std.specs.Prelude.{◌≡◌, ◌≢◌, ◌≤◌, ◌↔◌, ◌⊎◌, ℕ, List, IfErr, IfOk, IfSome, OnOk, string_bytes};
 ghost use Rattle.std.specs.Io.KnownBytes.{Appends};
-ghost use Rattle.itree.specs.Modes.{Names, NamesMode, AsksForHelp};
+ghost use Rattle.itree.specs.Modes.{Names, NamesMode, AsksForHelp, AsksForVersion, AsksForText};
 ghost use Rattle.itree.specs.Texts.{Answers, HasFirstFaulty, HasOverlapLine, HasCrossingLines, HasFault};
 ghost use Rattle.itree.specs.declared.mode.Mode.{Mode};
 
@@ -10,22 +10,23 @@ use crate::answers::answer_text;
 use crate::fault::Fault;
 use crate::help::{HELP, asks_for_help};
 use crate::mode::Mode;
+use crate::version::{VERSION, asks_for_version};
 use std::alloc::Allocator;
 use std::io::{Read, Write};
 
 /// Runs the program: reads all of `input`, and writes one reply line for each command or edge to `output`. In a sweep, and
 /// among edges and points, each point has one, and a segment or an edge has none. Where the words ask for help it reads
-/// nothing, and writes `HELP`.
+/// nothing, and writes `HELP`; where they ask for the version, `VERSION`.
 ///
 /// `words` are the arguments without the program's name, which are to be the one word of a mode: `keytree`, `keylist`,
-/// `settree`, `setlist`, `sweep`, `cross` or `locate`; or `seg`, `MIN` and `MAX`, the ends of a range that has a layout; or one
-/// word that asks for help: `help`, `--help` or `-h`. `faults` stands for standard error, and the answer is the process's
-/// status:
+/// `settree`, `setlist`, `sweep`, `meetings` or `locate`; or `seg`, `MIN` and `MAX`, the ends of a range that has a layout; or
+/// one word that asks for help, `help`, `--help` or `-h`, or for the version, `--version` or `-V`. `faults` stands for standard
+/// error, and the answer is the process's status:
 ///
-/// - 0 where all replies, or the help, were written and flushed. An insertion that was refused has a reply too.
+/// - 0 where all replies, or the text asked for, were written and flushed. An insertion that was refused has a reply too.
 /// - 1 where reading, writing, flushing or memory outside the commands failed, or memory for a sweep or for edges; nothing
 ///   goes to `faults`, and a failed write may have taken a part of the text.
-/// - 2 where the words neither name a mode nor ask for help, before any input is read; where a line is faulty in the mode,
+/// - 2 where the words neither name a mode nor ask for a text, before any input is read; where a line is faulty in the mode,
 ///   before any command is run; where two segments of a sweep overlap; and where two edges cross that points are located
 ///   among. `faults` is told which, and whether it takes that changes nothing.
 pub fn run_itree<A: Allocator + Copy, I: Read, O: Write, X: Write>(
@@ -36,65 +37,60 @@ pub fn run_itree<A: Allocator + Copy, I: Read, O: Write, X: Write>(
     faults: &mut X,
 ) -> u8
     ensures status { result ≤ 2 }
-    ensures answered { result ≡ 0 → ¬ (AsksForHelp words.now) → (mode : Mode) × Names words.now mode
+    ensures answered { result ≡ 0 → ¬ (AsksForText words.now) → (mode : Mode) × Names words.now mode
         × IfSome (I.remaining input.old) (λ text. (replies : List ℕ) × Answers mode text replies
         × Appends (O.contents output.old) (O.contents output.new) replies) }
     ensures helped { AsksForHelp words.now → (result ≢ 2)
         × (result ≡ 0 → Appends (O.contents output.old) (O.contents output.new) HELP.now) }
+    ensures version { AsksForVersion words.now → (result ≢ 2)
+        × (result ≡ 0 → Appends (O.contents output.old) (O.contents output.new) VERSION.now) }
     ensures no_replies { result ≡ 2 → output.new ≡ output.old }
     ensures no_fault { result ≢ 2 → faults.new ≡ faults.old }
-    ensures faulty_words { ¬ (AsksForHelp words.now) → ¬ (NamesMode words.now) → result ≡ 2 }
+    ensures faulty_words { ¬ (AsksForText words.now) → ¬ (NamesMode words.now) → result ≡ 2 }
     ensures faulty_line { result ≡ 2 → (mode : Mode) → Names words.now mode →
         IfSome (I.remaining input.old) (HasFault mode) }
-    ensures unread { AsksForHelp words.now ⊎ ¬ (NamesMode words.now) → input.new ≡ input.old }
+    ensures unread { AsksForText words.now ⊎ ¬ (NamesMode words.now) → input.new ≡ input.old }
 {
     match serve(alloc, words, input, output) {
         Ok(()) => 0,
-        Err(Fault::Stopped) => 1,
-        Err(Fault::Arguments) => {
-            let _ = faults.write_all(b"itree: arguments\n");
-            2
-        }
-        Err(Fault::Line(number)) => {
-            let _ = writeln!(faults, "itree: line {number}");
-            2
-        }
-        Err(Fault::Overlap(number)) => {
-            let _ = writeln!(faults, "itree: overlap {number}");
-            2
-        }
-        Err(Fault::Cross(first, second)) => {
-            let _ = writeln!(faults, "itree: cross {first} {second}");
-            2
+        Err(fault) => {
+            // Where standard error takes no more, the status tells the fault alone.
+            let _ = fault.tell(faults);
+            fault.status()
         }
     }
 }
 
-// Writes the help, where the words ask for it, and else the replies to `input`, all at once.
+// Writes the text that the words ask for, and else the replies to `input`, all at once.
 fn serve<A: Allocator + Copy, I: Read, O: Write>(
     alloc: A,
     words: &[&str],
     input: &mut I,
     output: &mut O,
 ) -> Result<(), Fault>
-    ensures answered { OnOk result (¬ (AsksForHelp words.now) → (mode : Mode) × Names words.now mode
+    ensures answered { OnOk result (¬ (AsksForText words.now) → (mode : Mode) × Names words.now mode
         × IfSome (I.remaining input.old) (λ text. (replies : List ℕ) × Answers mode text replies
         × Appends (O.contents output.old) (O.contents output.new) replies)) }
     ensures helped { OnOk result (AsksForHelp words.now
         → Appends (O.contents output.old) (O.contents output.new) HELP.now) }
-    ensures help_err { AsksForHelp words.now → IfErr result (λ fault. fault ≡ Fault.Stopped) }
+    ensures version { OnOk result (AsksForVersion words.now
+        → Appends (O.contents output.old) (O.contents output.new) VERSION.now) }
+    ensures text_err { AsksForText words.now → IfErr result (λ fault. fault ≡ Fault.Stopped) }
     ensures unwritten { IfErr result (λ fault. fault ≢ Fault.Stopped → output.new ≡ output.old) }
-    ensures faulty_words { ¬ (AsksForHelp words.now) → ((result ≡ Err Fault.Arguments) ↔ ¬ (NamesMode words.now)) }
+    ensures faulty_words { ¬ (AsksForText words.now) → ((result ≡ Err Fault.Arguments) ↔ ¬ (NamesMode words.now)) }
     ensures faulty_line { (number : ℕ) → result ≡ Err (Fault.Line number) → (mode : Mode) → Names words.now mode →
         IfSome (I.remaining input.old) (λ text. HasFirstFaulty mode text number) }
     ensures overlap { (number : ℕ) → result ≡ Err (Fault.Overlap number) → (mode : Mode) → Names words.now mode →
         IfSome (I.remaining input.old) (λ text. HasOverlapLine mode text number) }
     ensures crossing { (first second : ℕ) → result ≡ Err (Fault.Cross first second) → (mode : Mode) →
         Names words.now mode → IfSome (I.remaining input.old) (λ text. HasCrossingLines mode text first second) }
-    ensures unread { AsksForHelp words.now ⊎ ¬ (NamesMode words.now) → input.new ≡ input.old }
+    ensures unread { AsksForText words.now ⊎ ¬ (NamesMode words.now) → input.new ≡ input.old }
 {
     if asks_for_help(words) {
         return write_whole(output, HELP);
+    }
+    if asks_for_version(words) {
+        return write_whole(output, VERSION);
     }
     let replies = answer(alloc, words, input)?;
     write_whole(output, replies.as_str())

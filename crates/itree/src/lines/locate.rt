@@ -4,7 +4,7 @@ ghost use Rattle.std.specs.Prelude.{◌≡◌, ◌∷◌, codes, map, IfSome, Is
 ghost use Rattle.itree.specs.LocateLines.{SaysLocateLine, SaysNoLocateLine, edge_in, point_in};
 ghost use Rattle.itree.specs.Replies.{edge_words};
 
-use super::cross::parse_edge;
+use super::meetings::parse_edge;
 use super::{LineCommand, LineReply, two_numbers};
 use plane::edge::Edge;
 use plane::locate::Point;

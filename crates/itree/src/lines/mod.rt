@@ -13,14 +13,14 @@ use crate::fault::Fault;
 use std::alloc::{AllocError, Allocator};
 use std::str;
 
-mod cross;
+mod meetings;
 mod keys;
 mod locate;
 mod segments;
 mod sets;
 mod sweep;
 
-pub use cross::MetLines;
+pub use meetings::MetLines;
 pub use keys::KeyLine;
 pub use locate::LocateLine;
 pub use segments::SegLine;

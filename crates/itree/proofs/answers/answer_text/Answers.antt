@@ -5,7 +5,7 @@ use Rattle.i_tree.specs.Rb.Shape.{Shape, entries}
 use Rattle.i_tree.specs.Seg.Buckets.{IsLayout}
 use Rattle.i_tree.specs.Set.Pairs.{values}
 use Rattle.i_tree.specs.Set.SetList.{numbered}
-use Rattle.itree.specs.Answers.{AnswersKeys, AnswersSet, AnswersSegments, AnswersSweep, AnswersCross, AnswersLocate}
+use Rattle.itree.specs.Answers.{AnswersKeys, AnswersSet, AnswersSegments, AnswersSweep, AnswersMeetings, AnswersLocate}
 use Rattle.itree.specs.Grammar.{lines_of}
 use Rattle.itree.specs.KeyLines.{KeyLine}
 use Rattle.itree.specs.SegLines.{SegLine}
@@ -13,7 +13,7 @@ use Rattle.itree.specs.Texts.{HasOverlapLine, HasCrossingLines}
 use Rattle.itree.specs.declared.lines.locate.LocateLine.{LocateLine}
 use Rattle.itree.specs.declared.lines.sweep.SweepLine.{SweepLine}
 use Rattle.itree.specs.declared.mode.Mode.{Mode}
-use Rattle.itree.specs.declared.mode.Mode.TheVariants.{KeyTree, KeyList, SetTree, SetList, Segments, Sweep, Cross, Locate}
+use Rattle.itree.specs.declared.mode.Mode.TheVariants.{KeyTree, KeyList, SetTree, SetList, Segments, Sweep, Meetings, Locate}
 use Rattle.plane.specs.declared.edge.Edge.{Edge}
 use Rattle.itree.specs.declared.set_key.SetKey.{SetKey}
 use Rattle.itree.specs.declared.timed_key.TimedKey.{TimedKey}
@@ -67,11 +67,11 @@ pub returns-in_ok-tree-in-Sweep-clause-overlap : goal.returns-in_ok-tree-in-Swee
 returns-in_ok-tree-in-Sweep-clause-overlap g c = λ number is.
     subst (λ (mode : Mode). HasOverlapLine mode c.args.text.now number) (sym c.in-Sweep.is) (c.answer_sweep.ensures.overlap number is)
 
-pub returns-in_ok-edges-in-Cross-clause-answered : goal.returns-in_ok-edges-in-Cross-clause-answered
-returns-in_ok-edges-in-Cross-clause-answered g c =
-    let parsed = c.in_ok-edges-in-Cross in
-    answered c.answer_cross.result (λ output. string_bytes output) Cross c.args.mode c.in-Cross.is c.args.text.now parsed.edges.items parsed.ensures.said
-    (subst (λ (edges : List Edge). IfOk c.answer_cross.result (λ output. AnswersCross (lines_of c.args.text.now) edges (string_bytes output))) c.deref-in-Cross.ensures.value c.answer_cross.ensures.answered)
+pub returns-in_ok-edges-in-Meetings-clause-answered : goal.returns-in_ok-edges-in-Meetings-clause-answered
+returns-in_ok-edges-in-Meetings-clause-answered g c =
+    let parsed = c.in_ok-edges-in-Meetings in
+    answered c.answer_meetings.result (λ output. string_bytes output) Meetings c.args.mode c.in-Meetings.is c.args.text.now parsed.edges.items parsed.ensures.said
+    (subst (λ (edges : List Edge). IfOk c.answer_meetings.result (λ output. AnswersMeetings (lines_of c.args.text.now) edges (string_bytes output))) c.deref-in-Meetings.ensures.value c.answer_meetings.ensures.answered)
 
 pub returns-in_ok-status-in-Locate-clause-answered : goal.returns-in_ok-status-in-Locate-clause-answered
 returns-in_ok-status-in-Locate-clause-answered g c =

@@ -1,20 +1,26 @@
-use Rattle.std.proofs.Common.{Err, ap}
+-- Which line or lines are at fault, by the fault.
+use Rattle.std.proofs.Common.{◌≡◌, Err, IfSome, refl, ap, sym, ◌∙◌, arith}
 use Rattle.std.proofs.lemmas.Option.{IfSome_then}
+use Rattle.itree.specs.Faults.{status_of}
+use Rattle.itree.specs.Modes.{Names, AsksForText}
+use Rattle.itree.specs.Texts.{HasFault}
+use Rattle.itree.specs.declared.fault.Fault.{Fault}
+use Rattle.itree.specs.declared.fault.Fault.TheVariants.{Arguments, Line, Overlap, Cross, Stopped}
+use Rattle.itree.specs.declared.mode.Mode.{Mode}
 use Rattle.itree.proofs.Faults.{HasFault-line, HasFault-overlap, HasFault-crossing}
 use Rattle.itree.proofs.program.run_itree.Goals as goal
 
-pub returns-in-Err-Line-clause-faulty_line : goal.returns-in-Err-Line-clause-faulty_line
-returns-in-Err-Line-clause-faulty_line g c = λ two mode names.
-    let number = c.in-Err-Line.number in
-    IfSome_then (g.I.Read.remaining c.args.input.now) (c.in-Err-Line.ensures.faulty_line number (ap Err c.in-Err-Line.field-0-is) mode names) (λ text first. HasFault-line mode text number first)
-
-pub returns-in-Err-Overlap-clause-faulty_line : goal.returns-in-Err-Overlap-clause-faulty_line
-returns-in-Err-Overlap-clause-faulty_line g c = λ two mode names.
-    let number = c.in-Err-Overlap.number in
-    IfSome_then (g.I.Read.remaining c.args.input.now) (c.in-Err-Overlap.ensures.overlap number (ap Err c.in-Err-Overlap.field-0-is) mode names) (λ text overlap. HasFault-overlap mode text number overlap)
-
-pub returns-in-Err-Cross-clause-faulty_line : goal.returns-in-Err-Cross-clause-faulty_line
-returns-in-Err-Cross-clause-faulty_line g c = λ two mode names.
-    let first = c.in-Err-Cross.first in
-    let second = c.in-Err-Cross.second in
-    IfSome_then (g.I.Read.remaining c.args.input.now) (c.in-Err-Cross.ensures.crossing first second (ap Err c.in-Err-Cross.field-0-is) mode names) (λ text crossing. HasFault-crossing mode text first second crossing)
+pub returns-in-Err-clause-faulty_line : goal.returns-in-Err-clause-faulty_line
+returns-in-Err-clause-faulty_line g c = λ two. by_fault c.in-Err.fault refl (sym c.status.ensures ∙ two)
+  where
+    by_fault : (fault : Fault) → c.in-Err.fault ≡ fault → status_of fault ≡ 2 → (mode : Mode) → Names c.args.words.now mode → IfSome (g.I.Read.remaining c.args.input.now) (HasFault mode)
+    by_fault Arguments is two mode names =
+        let unasked : ¬ (AsksForText c.args.words.now) = λ asks. absurd (cc (is, c.in-Err.ensures.text_err asks)) in
+        absurd ((c.in-Err.ensures.faulty_words unasked).0 (ap Err is) (mode, names))
+    by_fault (Line number) is two mode names =
+        IfSome_then (g.I.Read.remaining c.args.input.now) (c.in-Err.ensures.faulty_line number (ap Err is) mode names) (λ text first. HasFault-line mode text number first)
+    by_fault (Overlap number) is two mode names =
+        IfSome_then (g.I.Read.remaining c.args.input.now) (c.in-Err.ensures.overlap number (ap Err is) mode names) (λ text overlap. HasFault-overlap mode text number overlap)
+    by_fault (Cross first second) is two mode names =
+        IfSome_then (g.I.Read.remaining c.args.input.now) (c.in-Err.ensures.crossing first second (ap Err is) mode names) (λ text crossing. HasFault-crossing mode text first second crossing)
+    by_fault Stopped is two mode names = absurd (omega (arith, two))

@@ -1,11 +1,11 @@
 use Rattle.std.proofs.Common.{◌≡◌, ◌∙◌, [], ℕ, List, length, replicate, string_bytes, ap, sym, subst}
 use Rattle.itree.specs.Replies.{met_words, reply_lines}
-use Rattle.itree.specs.declared.lines.cross.MetLines.{MetLines}
+use Rattle.itree.specs.declared.lines.meetings.MetLines.{MetLines}
 use Rattle.i_tree.proofs.RbLemmas.Slots.FreeSlots.{written_back}
 use Rattle.itree.specs.Grammar.{lines_of}
 use Rattle.itree.specs.Told.{lists_of, AreOrderedMeetings}
-use Rattle.itree.proofs.Meetings.{in_range, listed, answers_cross}
-use Rattle.itree.proofs.answers.cross.answer_cross.Goals as goal
+use Rattle.itree.proofs.Meetings.{in_range, listed, answers_meetings}
+use Rattle.itree.proofs.answers.meetings.answer_meetings.Goals as goal
 
 pub tell-requires-clause-in_range : goal.tell-requires-clause-in_range
 tell-requires-clause-in_range g c =
@@ -26,5 +26,5 @@ returns-clause-answered g c =
     let told = c.tell.new.replies in
     let back : c.deref-3.result.now ≡ told = c.deref-3.ensures.value ∙ written_back c.in_ok-replies.replies.len c.in_ok-replies.replies.items told (c.tell.auto.replies ∙ ap length c.deref_mut.ensures.value) (sym c.deref_mut.ensures.len ∙ ap length c.deref_mut.ensures.value) in
     let written = c.in_ok-reply_text.ensures ∙ ap (λ (replies : List (MetLines g.row.A.Denot)). reply_lines (λ reply. met_words reply.numbers.items) replies) back in
-    answers_cross (lines_of c.args.text.now) edges c.deref-2.result.now c.deref.result.now told (length c.deref_mut.result.now) (string_bytes c.in_ok-reply_text.field-0)
+    answers_meetings (lines_of c.args.text.now) edges c.deref-2.result.now c.deref.result.now told (length c.deref_mut.result.now) (string_bytes c.in_ok-reply_text.field-0)
     (c.deref-2.ensures.value ∙ c.in_ok-numbers.ensures) ordered (ap length c.deref_mut.ensures.value ∙ listed c.in_ok-replies.replies.items (length edges) c.in_ok-replies.ensures) c.in_ok-tell.ensures written

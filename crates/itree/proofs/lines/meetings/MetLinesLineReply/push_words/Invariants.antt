@@ -1,6 +1,6 @@
 use Rattle.std.proofs.Common.{◌≡◌, ◌++◌, string_bytes, take}
 use Rattle.itree.specs.Replies.{met_words}
-use Rattle.itree.proofs.lines.cross.MetLinesLineReply.push_words.Given as goal
+use Rattle.itree.proofs.lines.meetings.MetLinesLineReply.push_words.Given as goal
 
 -- the words of the numbers so far
 abbrev pub invariant-loop-number : goal.invariant-loop-number

@@ -1,8 +1,8 @@
 use Rattle.std.proofs.Common.{◌<◌, ℕ, length, get_or, ◌++◌, ◌∷◌, [], refl, sym, ap, ◌∙◌, subst}
-use Rattle.itree.specs.declared.lines.cross.MetLines.{MetLines}
+use Rattle.itree.specs.declared.lines.meetings.MetLines.{MetLines}
 use Rattle.std.proofs.lemmas.List.Elements.{All-get_or}
 use Rattle.itree.proofs.Telling.{AreTold-more}
-use Rattle.itree.proofs.answers.cross.tell.Goals as goal
+use Rattle.itree.proofs.answers.meetings.tell.Goals as goal
 
 pub loop-pair-preserved : goal.loop-pair-preserved
 loop-pair-preserved g c =

@@ -1,6 +1,6 @@
 use Rattle.std.proofs.Common.{take, length}
 use Rattle.itree.specs.Told.{lists_of, AreTold}
-use Rattle.itree.proofs.answers.cross.tell.Given as goal
+use Rattle.itree.proofs.answers.meetings.tell.Given as goal
 
 -- the pairs so far are told
 abbrev pub invariant-loop-pair : goal.invariant-loop-pair

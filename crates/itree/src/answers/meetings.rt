@@ -1,10 +1,10 @@
 //! What the program answers to edges.
 
 ghost use Rattle.std.specs.Prelude.{◌≡◌, ◌<◌, [], All, IfErr, IfOk, OnOk, length, replicate, string_bytes};
-ghost use Rattle.itree.specs.CrossLines.{SaysEdge};
+ghost use Rattle.itree.specs.MeetingsLines.{SaysEdge};
 ghost use Rattle.itree.specs.Grammar.{lines_of, LinesSay};
 ghost use Rattle.itree.specs.Told.{lists_of, AreTold, AreOrderedMeetings};
-ghost use Rattle.itree.specs.Answers.{AnswersCross};
+ghost use Rattle.itree.specs.Answers.{AnswersMeetings};
 
 use crate::fault::Fault;
 use crate::lines::{MetLines, command_lines, reply_text};
@@ -14,13 +14,13 @@ use plane::meet::meetings;
 use std::alloc::{AllocError, Allocator};
 
 /// The text of the replies to the edges that the lines of the text say.
-pub fn answer_cross<A: Allocator + Copy>(
+pub fn answer_meetings<A: Allocator + Copy>(
     alloc: A,
     text: &[u8],
     edges: &[Edge],
 ) -> Result<String<A>, Fault>
     requires { LinesSay SaysEdge (lines_of text.now) edges.now }
-    ensures answered { IfOk result (λ output. AnswersCross (lines_of text.now) edges.now (string_bytes output)) }
+    ensures answered { IfOk result (λ output. AnswersMeetings (lines_of text.now) edges.now (string_bytes output)) }
     ensures err { IfErr result (λ fault. fault ≡ Fault.Stopped) }
 {
     let numbers = command_lines(alloc, text)?;

@@ -1,4 +1,4 @@
-"""The mode `cross`: worked examples, faulty lines, and edges by chance beside shares of both."""
+"""The mode `meetings`: worked examples, faulty lines, and edges by chance beside shares of both."""
 
 from functools import partial
 from itertools import combinations
@@ -12,7 +12,7 @@ from text import empty_texts, line_numbers
 LEAST, GREATEST = -2147483648, 2147483647
 
 # The mode with a line and its reply.
-PLAIN = "cross", b"edge 0 0 1 1", b"meets\n"
+PLAIN = "meetings", b"edge 0 0 1 1", b"meets\n"
 
 # The command, with how many numbers it has.
 FORMS = {b"edge": 4}
@@ -132,9 +132,9 @@ def met(edges, numbers):
         yield " ".join(["meets", *map(str, told)])
 
 
-def crossed(name, given, edges, numbers):
+def told(name, given, edges, numbers):
     """The case of these edges, which stand on the lines of these numbers."""
-    return answered(name, "cross", given, lines(*met(edges, numbers)))
+    return answered(name, "meetings", given, lines(*met(edges, numbers)))
 
 
 def line_of(edge):
@@ -145,10 +145,10 @@ def worked():
     """Cases of the rows."""
     for name, said in ANSWERED:
         given, replies = dialogue(said)
-        yield answered(name, "cross", given, replies)
-        yield answered(f"{name}, through a pipe", "cross", given, replies, by_pipe)
+        yield answered(name, "meetings", given, replies)
+        yield answered(f"{name}, through a pipe", "meetings", given, replies, by_pipe)
     for text in FAULTY:
-        yield refused(f"the line '{text}'", "cross", lines("edge 0 0 1 1", "", text, "nonsense"), 3)
+        yield refused(f"the line '{text}'", "meetings", lines("edge 0 0 1 1", "", text, "nonsense"), 3)
 
 
 def odd_texts():
@@ -156,10 +156,10 @@ def odd_texts():
     for text in texts_by_chance(FORMS):
         said, name = read(text, FORMS), f"by chance, {text!r}"
         if isinstance(said, int):
-            yield refused(name, "cross", text, said)
+            yield refused(name, "meetings", text, said)
         else:
             edges = [tuple(map(int, line.split()[1:])) for _, line in said]
-            yield crossed(name, text, edges, [number for number, _ in said])
+            yield told(name, text, edges, [number for number, _ in said])
 
 
 def by_chance():
@@ -169,7 +169,7 @@ def by_chance():
         for turn in range(10):
             edges = [tuple(number() for _ in range(4)) for _ in range(40)]
             given = lines(*map(line_of, edges))
-            yield crossed(f"edges {where}, {turn}", given, edges, range(1, 41))
+            yield told(f"edges {where}, {turn}", given, edges, range(1, 41))
 
 
 def in_cells(count):
@@ -192,7 +192,7 @@ def in_cells(count):
 def many(count=MANY):
     """The case of a million edges."""
     given, replies = in_cells(count)
-    yield answered(f"{count} edges in cells", "cross", given, replies)
+    yield answered(f"{count} edges in cells", "meetings", given, replies)
 
 
 PARTS = worked, odd_texts, by_chance, many, *(partial(part, [PLAIN]) for part in (empty_texts, line_numbers))

@@ -1,6 +1,6 @@
 use Rattle.std.proofs.Common.{◌≡◌, [], replicate}
 use Rattle.itree.specs.Told.{lists_of}
-use Rattle.itree.proofs.answers.cross.unmet.Given as goal
+use Rattle.itree.proofs.answers.meetings.unmet.Given as goal
 
 -- the replies so far list no line
 abbrev pub invariant-loop : goal.invariant-loop

@@ -1,7 +1,7 @@
 use Rattle.std.proofs.Common.{◌≡◌, ◌++◌, ◌∙◌, ℕ, List, ap, subst, arith, rules, IsPermutation}
 use Rattle.std.proofs.lemmas.List.Sorted.{IsNonDecreasingBy-from_sort_by_key}
 use Rattle.itree.proofs.Meetings.{AreMeetings-permuted}
-use Rattle.itree.proofs.answers.cross.ordered_meetings.Goals as goal
+use Rattle.itree.proofs.answers.meetings.ordered_meetings.Goals as goal
 
 pub returns : goal.returns
 returns g c =

@@ -1,7 +1,7 @@
 //! The lines of edges, and the replies to them.
 
 ghost use Rattle.std.specs.Prelude.{◌∷◌, codes, map, IfSome, IsNone};
-ghost use Rattle.itree.specs.CrossLines.{SaysEdge, SaysNoEdge};
+ghost use Rattle.itree.specs.MeetingsLines.{SaysEdge, SaysNoEdge};
 ghost use Rattle.itree.specs.Replies.{met_words};
 
 use super::{LineCommand, LineReply, number, three_numbers};
