@@ -10,6 +10,9 @@ int32_t proved_itree_below(const struct itree_segment *segments, size_t segment_
                            size_t point_count, struct itree_height *heights, size_t height_count, size_t *overlap);
 int32_t proved_itree_meetings(const struct itree_edge *edges, size_t edge_count, struct itree_pair *pairs,
                               size_t pair_count, size_t *count);
+int32_t proved_itree_meetings_all(const struct itree_edge *edges, size_t edge_count, struct itree_pairs **pairs);
+size_t proved_itree_pairs_first(const struct itree_pairs *pairs, struct itree_pair **first);
+void proved_itree_pairs_free(struct itree_pairs *pairs);
 int32_t proved_itree_locate(const struct itree_edge *edges, size_t edge_count, const struct itree_point *points,
                             size_t point_count, struct itree_place *places, size_t place_count, size_t *first,
                             size_t *second);
@@ -50,6 +53,28 @@ int32_t itree_meetings(const struct itree_edge *edges, size_t edge_count, struct
     }
     return proved_itree_meetings(slice(edges, edge_count), edge_count, slice(pairs, pair_count), pair_count,
                                  count ? count : &untold);
+}
+
+int32_t itree_meetings_all(const struct itree_edge *edges, size_t edge_count, struct itree_pairs **pairs) {
+    if (!can_hold(edges, edge_count, OF(struct itree_edge)) || !can_hold(pairs, 1, OF(struct itree_pairs *))) {
+        return ITREE_POINTER;
+    }
+    return proved_itree_meetings_all(slice(edges, edge_count), edge_count, pairs);
+}
+
+/* The proved call tells both at once. */
+size_t itree_pairs_count(const struct itree_pairs *pairs) {
+    struct itree_pair *first;
+    return pairs == NULL ? 0 : proved_itree_pairs_first(pairs, &first);
+}
+
+struct itree_pair *itree_pairs_first(struct itree_pairs *pairs) {
+    struct itree_pair *first = NULL;
+    return pairs == NULL || proved_itree_pairs_first(pairs, &first) == 0 ? NULL : first;
+}
+
+void itree_pairs_free(struct itree_pairs *pairs) {
+    if (pairs != NULL) proved_itree_pairs_free(pairs);
 }
 
 int32_t itree_locate(const struct itree_edge *edges, size_t edge_count, const struct itree_point *points,

@@ -4,12 +4,12 @@
  * here for every input, reads and writes inside the arrays that it is given, and returns. Link it by what
  * `pkg-config --cflags --libs itree` prints.
  *
- * The caller owns every array. An array is a pointer and how many items it has. Where it has none, the pointer may be
+ * The caller owns every array, but for what a handle owns. An array is a pointer and how many items it has. Where it has none, the pointer may be
  * anything, as NULL. A pointer is faulty where there is an item and it is NULL or isn't aligned, or where no memory is
  * as large as so many items: then a call returns ITREE_POINTER. Nothing checks the rest: so many items stand there,
  * what is read has values, what is written overlaps nothing else that the call is given, and no other thread writes an
  * array during the call. What is written needs no values before. The library keeps no pointer, has no state, and gives
- * back what it takes from malloc before it returns: so several threads may call it at once.
+ * back what it takes from malloc before it returns, but for what a handle owns: so several threads may call it at once.
  *
  * Numbers are 32-bit and whole, in a unit of the caller's: pixels, or millionths of a degree. Places count from 0. */
 #ifndef ITREE_H
@@ -84,6 +84,29 @@ struct itree_pair {
  * count may be NULL. */
 int32_t itree_meetings(const struct itree_edge *edges, size_t edge_count, struct itree_pair *pairs, size_t pair_count,
                        size_t *count);
+
+/* A handle of pairs, which owns them. It is read by the calls below, and given back by itree_pairs_free, once. One call
+ * at a time takes a handle, by any thread; different handles don't concern each other. */
+struct itree_pairs;
+
+/* Writes a handle of all pairs of edges that share a point, each once, in no particular order: in one call, where
+ * itree_meetings wants a second one for more pairs than there was room for. The call returns
+ *   ITREE_ANSWERED  and *pairs is the caller's, also where no edges meet;
+ *   ITREE_REFUSED   and *pairs is NULL;
+ *   ITREE_POINTER   exactly where a pointer is faulty, and *pairs stays as it was.
+ * pairs may not be NULL. What *pairs was before isn't looked at. It takes room for the pairs, and 2^24 bytes besides. */
+int32_t itree_meetings_all(const struct itree_edge *edges, size_t edge_count, struct itree_pairs **pairs);
+
+/* How many pairs there are; 0 at NULL. */
+size_t itree_pairs_count(const struct itree_pairs *pairs);
+
+/* Where the first pair lies, and behind it the others, side by side; NULL where there is none, and at NULL. They are the
+ * handle's, and stay until it is given back. The library neither reads nor writes them again: the caller may write them,
+ * as to sort them, and any number of threads may read them. */
+struct itree_pair *itree_pairs_first(struct itree_pairs *pairs);
+
+/* Gives back the handle and its pairs. At NULL it does nothing. */
+void itree_pairs_free(struct itree_pairs *pairs);
 
 /* The edge straight below a point: found is 1 and place its place, or both are 0 where there is none. */
 struct itree_place {

@@ -9,6 +9,7 @@
 #include <cstddef>
 #include <cstdint>
 #include <initializer_list>
+#include <memory>
 #include <new>
 #include <optional>
 #include <stdexcept>
@@ -127,18 +128,59 @@ inline void throw_unless_answered(std::int32_t status) {
     return found;
 }
 
-/// The pairs of edges that share a point, each once, in no particular order. Throws `std::bad_alloc` where memory was
-/// refused.
-[[nodiscard]] inline std::vector<Pair> meetings(Span<Edge> edges) {
-    std::vector<Pair> pairs(edges.size());
-    while (true) {
-        std::size_t count = 0;
-        const auto status = ::itree_meetings(edges.data(), edges.size(), pairs.data(), pairs.size(), &count);
-        detail::throw_unless_answered(status);
-        const bool all = count <= pairs.size();
-        pairs.resize(count);
-        if (all) return pairs;
+/// Pairs of places, which stand one behind the other in memory that is theirs. They are moved, and not copied. Any number
+/// of threads may read them.
+class Pairs {
+public:
+    Pairs() = default;
+    /// Takes over a handle of itree.h.
+    explicit Pairs(::itree_pairs *handle) noexcept
+        : handle_(handle), first_(::itree_pairs_first(handle)), count_(::itree_pairs_count(handle)) {}
+    Pairs(Pairs &&other) noexcept
+        : handle_(std::move(other.handle_)),
+          first_(std::exchange(other.first_, nullptr)),
+          count_(std::exchange(other.count_, 0)) {}
+    Pairs &operator=(Pairs &&other) noexcept {
+        handle_ = std::move(other.handle_);
+        first_ = std::exchange(other.first_, nullptr);
+        count_ = std::exchange(other.count_, 0);
+        return *this;
     }
+
+    [[nodiscard]] std::size_t size() const noexcept { return count_; }
+    [[nodiscard]] bool empty() const noexcept { return count_ == 0; }
+    /// Where the first pair lies, or null where there is none.
+    [[nodiscard]] Pair *data() noexcept { return first_; }
+    [[nodiscard]] const Pair *data() const noexcept { return first_; }
+    [[nodiscard]] Pair *begin() noexcept { return first_; }
+    [[nodiscard]] const Pair *begin() const noexcept { return first_; }
+    [[nodiscard]] Pair *end() noexcept { return first_ + count_; }
+    [[nodiscard]] const Pair *end() const noexcept { return first_ + count_; }
+    /// The pair at a place below `size()`.
+    [[nodiscard]] const Pair &operator[](std::size_t place) const noexcept { return first_[place]; }
+
+private:
+    struct Free {
+        void operator()(::itree_pairs *handle) const noexcept { ::itree_pairs_free(handle); }
+    };
+
+    std::unique_ptr<::itree_pairs, Free> handle_;
+    Pair *first_ = nullptr;
+    std::size_t count_ = 0;
+};
+
+/// The pairs of edges that share a point, each once, in no particular order, where the library wrote them. Throws
+/// `std::bad_alloc` where memory was refused.
+[[nodiscard]] inline Pairs meetings_all(Span<Edge> edges) {
+    ::itree_pairs *handle = nullptr;
+    detail::throw_unless_answered(::itree_meetings_all(edges.data(), edges.size(), &handle));
+    return Pairs(handle);
+}
+
+/// The same in a vector, into which the pairs are copied.
+[[nodiscard]] inline std::vector<Pair> meetings(Span<Edge> edges) {
+    const Pairs pairs = meetings_all(edges);
+    return {pairs.begin(), pairs.end()};
 }
 
 /// For each point, in order, the place of the edge straight below it, if there is one. Which edge that is, and when two

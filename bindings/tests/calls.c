@@ -231,6 +231,95 @@ static void checks_refused_meetings(void) {
     check("with all requests granted all meet", count == 780 && pair.first < pair.second);
 }
 
+/* Whether the handle of edges that meet has all pairs, and they may be written. */
+static int are_all_meetings(const struct itree_edge *edges, size_t edge_count) {
+    struct itree_pairs *pairs = NULL;
+    if (itree_meetings_all(edges, edge_count, &pairs) != ITREE_ANSWERED || pairs == NULL) return 0;
+    const size_t count = itree_pairs_count(pairs);
+    struct itree_pair *first = itree_pairs_first(pairs);
+    int ok = count == plain_count(edges, edge_count) && (first == NULL) == (count == 0);
+    ok = ok && are_meetings(edges, first, count) && itree_pairs_first(pairs) == first;
+    if (count > 0) memset(first, 0x5a, count * sizeof *first);
+    ok = ok && itree_pairs_count(pairs) == count;
+    itree_pairs_free(pairs);
+    return ok;
+}
+
+static void checks_all_meetings(void) {
+    int ok = 1;
+    for (int round = 0; round < 4000; round++) {
+        struct itree_edge edges[MOST];
+        const size_t edge_count = (size_t)random_below(MOST + 1);
+        for (size_t place = 0; place < edge_count; place++) {
+            edges[place] = (struct itree_edge){random_below(9), random_below(9), random_below(9), random_below(9)};
+        }
+        ok = ok && are_all_meetings(edges, edge_count);
+    }
+    check("a handle has all pairs of edges that meet, as the plain model", ok);
+}
+
+/* More pairs than the library moves in one go. */
+static void checks_many_meetings(void) {
+    enum { MANY = 2400 };
+    static struct itree_edge edges[MANY];
+    struct itree_pairs *pairs = NULL;
+    for (int32_t place = 0; place < MANY; place++) edges[place] = (struct itree_edge){0, place, MANY, MANY - place};
+    check("2,878,800 pairs", itree_meetings_all(edges, MANY, &pairs) == ITREE_ANSWERED);
+    const size_t count = itree_pairs_count(pairs);
+    const struct itree_pair *first = itree_pairs_first(pairs);
+    size_t sum = 0;
+    int ok = 1;
+    for (size_t place = 0; place < count; place++) {
+        ok = ok && first[place].first < first[place].second && first[place].second < MANY;
+        sum += MANY * first[place].first + first[place].second;
+    }
+    /* Each place is the lesser one of as many pairs as there are places behind it. */
+    size_t wanted = 0;
+    for (size_t place = 0; place < MANY; place++) wanted += MANY * place * (MANY - 1 - place) + place * place;
+    check("each of them once", ok && count == 2878800 && sum == wanted);
+    itree_pairs_free(pairs);
+}
+
+static void checks_refused_handle(void) {
+    struct itree_edge edges[40];
+    struct itree_pairs *pairs = NULL;
+    size_t requests = 0;
+    int ok = 1;
+    for (int32_t place = 0; place < 40; place++) edges[place] = (struct itree_edge){0, place, 40, 40 - place};
+    while (1) {
+        /* What the handle was before isn't looked at. */
+        pairs = (void *)edges;
+        refuse_after(requests);
+        const int32_t status = itree_meetings_all(edges, 40, &pairs);
+        refuse_after(SIZE_MAX);
+        if (status != ITREE_REFUSED) break;
+        ok = ok && pairs == NULL;
+        requests++;
+    }
+    check("each request for a handle is refused in turn", requests > 4);
+    check("the handle is null then", ok);
+    check("with all requests granted it has all", itree_pairs_count(pairs) == 780);
+    itree_pairs_free(pairs);
+}
+
+static void checks_null_handle(void) {
+    const struct itree_edge edges[] = {{0, 0, 9, 9}, {0, 9, 9, 0}};
+    uint64_t words[8] = {0};
+    char *const odd = (char *)words + 1;
+    struct itree_pairs *pairs = (void *)words;
+    check("no pairs at null", itree_pairs_count(NULL) == 0 && itree_pairs_first(NULL) == NULL);
+    itree_pairs_free(NULL);
+    check("no handle", itree_meetings_all(edges, 2, NULL) == ITREE_POINTER);
+    check("a handle at an odd address", itree_meetings_all(edges, 2, (void *)odd) == ITREE_POINTER);
+    check("no edges for a handle", itree_meetings_all(NULL, 2, &pairs) == ITREE_POINTER);
+    check("edges at an odd address", itree_meetings_all((void *)odd, 2, &pairs) == ITREE_POINTER);
+    check("more edges than memory", itree_meetings_all(edges, SIZE_MAX / 16, &pairs) == ITREE_POINTER);
+    check("the handle stays as it was", pairs == (void *)words);
+    check("null for no edges", itree_meetings_all(NULL, 0, &pairs) == ITREE_ANSWERED && pairs != NULL);
+    check("none meet", itree_pairs_count(pairs) == 0 && itree_pairs_first(pairs) == NULL);
+    itree_pairs_free(pairs);
+}
+
 /* The edge from its lesser end to its greater. */
 static struct itree_edge rightwards(struct itree_edge it) {
     return it.x0 <= it.x1 ? it : (struct itree_edge){it.x1, it.y1, it.x0, it.y0};
@@ -427,6 +516,10 @@ int main(void) {
     checks_refusals();
     checks_meetings();
     checks_refused_meetings();
+    checks_all_meetings();
+    checks_many_meetings();
+    checks_refused_handle();
+    checks_null_handle();
     checks_locate();
     checks_located_nothing();
     checks_refused_locate();

@@ -2,6 +2,7 @@
 #include <algorithm>
 #include <array>
 #include <cstdio>
+#include <future>
 #include <itree.hpp>
 #include <map>
 #include <numeric>
@@ -179,6 +180,43 @@ void checks_meetings() {
     check("refused memory is thrown for pairs", requests > 2);
 }
 
+void checks_pairs() {
+    std::mt19937 random(30);
+    bool ok = true;
+    for (std::size_t round = 0; round < 500; round++) {
+        const auto edges = random_edges(random, round % 14);
+        auto pairs = itree::meetings_all(edges);
+        std::sort(pairs.begin(), pairs.end());
+        ok = ok && sorted({pairs.begin(), pairs.end()}) == plain::meetings(edges) && pairs.empty() == (pairs.size() == 0);
+    }
+    check("pairs where the library wrote them, which are sorted there", ok);
+    const std::vector<itree::Edge> edges{{0, 0, 9, 9}, {0, 9, 9, 0}};
+    auto pairs = itree::meetings_all(edges);
+    const itree::Pair *const first = pairs.data();
+    auto moved = std::move(pairs);
+    check("pairs that are moved stay where they are", moved.data() == first && moved.size() == 1 && moved[0].second == 1);
+    pairs = itree::meetings_all({});
+    check("no pairs", pairs.empty() && pairs.data() == nullptr && pairs.begin() == pairs.end());
+    pairs = std::move(moved);
+    check("pairs are taken over", pairs.size() == 1 && pairs.data() == first);
+    moved = itree::Pairs();
+    check("nothing is a pair", moved.empty() && !std::is_copy_constructible_v<itree::Pairs>);
+    check("they are taken to another thread", std::async(std::launch::async, [it = std::move(pairs)] {
+                                                  return it.size();
+                                              }).get() == 1);
+    std::size_t requests = 0;
+    for (bool refused = true; refused; requests++) {
+        refuse_after(requests);
+        try {
+            (void)itree::meetings_all(edges);
+            refused = false;
+        } catch (const std::bad_alloc &) {
+        }
+        refuse_after(SIZE_MAX);
+    }
+    check("refused memory is thrown for pairs in one call", requests > 4);
+}
+
 using Found = std::vector<std::optional<std::size_t>>;
 
 /// What `locate` gives: places, or a pair that crosses.
@@ -289,6 +327,7 @@ int main() {
     checks_a_null_span();
     checks_faults();
     checks_meetings();
+    checks_pairs();
     checks_locate();
     checks_many_edges();
     checks_locate_faults();

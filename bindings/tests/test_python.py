@@ -14,6 +14,7 @@ import ctypes.util
 import decimal
 import doctest
 import fractions
+import gc
 import itertools
 import mmap
 import os
@@ -149,6 +150,28 @@ class Meetings(unittest.TestCase):
         edges = [(0, place, 40, 40 - place) for place in range(41)]
         self.assertEqual(sorted(itree.meetings(edges)), list(itertools.combinations(range(41), 2)))
         self.assertEqual(itree.meetings([]), [])
+
+    def test_gives_the_pairs_back_with_the_last_view(self):
+        library, given_back = _library.library, []
+        free = library.itree_pairs_free
+        library.itree_pairs_free = lambda at: (given_back.append(at.value), free(at))
+        try:
+            pairs = itree.meetings([(0, 0, 9, 9), (0, 9, 9, 0)], as_array=True)
+            numbers = pairs.cast("B").cast("Q")
+            numbers[0] = 7
+            self.assertEqual(pairs[0, 0], 7)
+            del pairs
+            gc.collect()
+            self.assertEqual(given_back, [])
+            del numbers
+            gc.collect()
+            self.assertEqual(len(given_back), 1)
+            self.assertEqual(itree.meetings([(0, 0, 9, 9), (0, 9, 9, 0)]), [(0, 1)])
+            self.assertEqual(itree.meetings([], as_array=True).tolist(), [])
+            gc.collect()
+            self.assertEqual(len(given_back), 3)
+        finally:
+            library.itree_pairs_free = free
 
     def test_what_are_no_edges(self):
         with self.assertRaises(ValueError):

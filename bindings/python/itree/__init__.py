@@ -205,7 +205,7 @@ def meetings(edges: Rows, as_array: bool = False) -> Union[List[Tuple[int, int]]
     with HeldRows(edges, EDGES) as rows:
         numbers = _answers.pairs_that_meet(rows)
     if as_array:
-        return _answers.in_rows_of_two(memoryview(numbers))
+        return _answers.in_rows_of_two(numbers)
     return list(_answers.two_by_two(numbers))
 
 

@@ -45,13 +45,26 @@ def places_of(numbers: memoryview) -> memoryview:
     return memoryview(places)
 
 
-def pairs_that_meet(edges: HeldRows) -> array.array[int]:
-    """All pairs of edges that meet, as flat 64-bit numbers. The second call is made where more pairs are found than there
-    was room for."""
-    count, length = ctypes.c_size_t(edges.count), -1
-    while length < count.value:
-        length = count.value
-        room, at = room_for(2 * length, "Q")
-        checked(library.itree_meetings(edges.at, edges.count, at, length, ctypes.byref(count)))
-    del room[2 * count.value :]
-    return room
+class _Handle:
+    """A handle of pairs, which is given back with this object."""
+
+    def __init__(self, at: ctypes.c_void_p) -> None:
+        # The call, for at the interpreter's end the module may be empty.
+        self._free, self._at = library.itree_pairs_free, at
+
+    def __del__(self) -> None:
+        self._free(self._at)
+
+
+def pairs_that_meet(edges: HeldRows) -> memoryview:
+    """All pairs of edges that meet, as flat 64-bit numbers, where the library wrote them. Their memory is given back once
+    there is neither a view of them nor an array over one."""
+    at = ctypes.c_void_p()
+    checked(library.itree_meetings_all(edges.at, edges.count, ctypes.byref(at)))
+    handle = _Handle(at)
+    count = library.itree_pairs_count(at)
+    if count == 0:
+        return memoryview(array.array("Q"))
+    memory = (ctypes.c_uint64 * (2 * count)).from_address(library.itree_pairs_first(at))
+    setattr(memory, "handle", handle)
+    return memoryview(memory).cast("B").cast("Q")

@@ -8,10 +8,15 @@ import os
 ANSWERED, REFUSED, OVERLAP, CROSSING = 0, 1, 2, 2
 
 _address, _length = ctypes.c_void_p, ctypes.c_size_t
+_status = ctypes.c_int32
+# What each call answers, and what it takes.
 _CALLS = {
-    "itree_below": [_address, _length, _address, _length, _address, _length, _address],
-    "itree_meetings": [_address, _length, _address, _length, _address],
-    "itree_locate": [_address, _length, _address, _length, _address, _length, _address, _address],
+    "itree_below": (_status, [_address, _length, _address, _length, _address, _length, _address]),
+    "itree_locate": (_status, [_address, _length, _address, _length, _address, _length, _address, _address]),
+    "itree_meetings_all": (_status, [_address, _length, _address]),
+    "itree_pairs_count": (_length, [_address]),
+    "itree_pairs_first": (_address, [_address]),
+    "itree_pairs_free": (None, [_address]),
 }
 
 
@@ -43,9 +48,9 @@ def _file_of_library() -> str:
 
 
 def _typed(library: ctypes.CDLL) -> ctypes.CDLL:
-    for name, types in _CALLS.items():
+    for name, (answer, types) in _CALLS.items():
         call = getattr(library, name)
-        call.argtypes, call.restype = types, ctypes.c_int32
+        call.restype, call.argtypes = answer, types
     return library
 
 

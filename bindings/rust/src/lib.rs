@@ -19,7 +19,10 @@
 
 use std::collections::TryReserveError;
 use std::error::Error;
-use std::fmt::{self, Display, Formatter};
+use std::fmt::{self, Debug, Display, Formatter};
+use std::ops::{Deref, DerefMut};
+use std::ptr::{self, NonNull};
+use std::slice;
 
 /// A horizontal segment at the height `y`, from `x0` to `x1`, both of which it covers. One with `x1 < x0` covers
 /// nothing. They are ordered by `x0`, then `x1`, then `y`.
@@ -130,9 +133,75 @@ impl From<TryReserveError> for LocateFault {
     }
 }
 
+/// The places of two edges that meet, `first` below `second`. They are ordered by `first`, then `second`.
+#[repr(C)]
+#[derive(Clone, Copy, Debug, Default, PartialEq, Eq, PartialOrd, Ord, Hash)]
+pub struct Pair {
+    /// The lesser place.
+    pub first: usize,
+    /// The greater place.
+    pub second: usize,
+}
+
+/// Pairs where the library wrote them, as a slice, which may be written too, as to sort it. They are given back where this
+/// is dropped.
+pub struct Pairs {
+    handle: NonNull<calls::Handle>,
+    first: *mut Pair,
+    count: usize,
+}
+
+// SAFETY: the pairs are this value's own, their memory is the process's, and by a shared reference they are only read.
+unsafe impl Send for Pairs {}
+unsafe impl Sync for Pairs {}
+
+impl Deref for Pairs {
+    type Target = [Pair];
+
+    fn deref(&self) -> &[Pair] {
+        if self.count == 0 {
+            return &[];
+        }
+        // SAFETY: so many pairs lie there, until the handle is given back, and nothing else leads there.
+        unsafe { slice::from_raw_parts(self.first, self.count) }
+    }
+}
+
+impl DerefMut for Pairs {
+    fn deref_mut(&mut self) -> &mut [Pair] {
+        if self.count == 0 {
+            return &mut [];
+        }
+        // SAFETY: as in `deref`.
+        unsafe { slice::from_raw_parts_mut(self.first, self.count) }
+    }
+}
+
+impl Drop for Pairs {
+    fn drop(&mut self) {
+        // SAFETY: the handle is this value's own.
+        unsafe { calls::itree_pairs_free(self.handle.as_ptr()) }
+    }
+}
+
+impl Debug for Pairs {
+    fn fmt(&self, f: &mut Formatter<'_>) -> fmt::Result {
+        f.debug_list().entries(self.iter()).finish()
+    }
+}
+
+impl<'a> IntoIterator for &'a Pairs {
+    type Item = &'a Pair;
+    type IntoIter = slice::Iter<'a, Pair>;
+
+    fn into_iter(self) -> slice::Iter<'a, Pair> {
+        self.iter()
+    }
+}
+
 /// The calls of `itree.h`.
 mod calls {
-    use super::{Edge, Point, Segment};
+    use super::{Edge, Pair, Point, Segment};
 
     pub const ANSWERED: i32 = 0;
     pub const OVERLAP: i32 = 2;
@@ -145,11 +214,10 @@ mod calls {
         pub y: i32,
     }
 
+    /// What a handle points to, which is the library's.
     #[repr(C)]
-    #[derive(Clone, Copy)]
-    pub struct Pair {
-        pub first: usize,
-        pub second: usize,
+    pub struct Handle {
+        _hidden: [u8; 0],
     }
 
     #[repr(C)]
@@ -170,13 +238,13 @@ mod calls {
             overlap: *mut usize,
         ) -> i32;
 
-        pub fn itree_meetings(
-            edges: *const Edge,
-            edge_count: usize,
-            pairs: *mut Pair,
-            pair_count: usize,
-            count: *mut usize,
-        ) -> i32;
+        pub fn itree_meetings_all(edges: *const Edge, edge_count: usize, pairs: *mut *mut Handle) -> i32;
+
+        pub fn itree_pairs_count(pairs: *const Handle) -> usize;
+
+        pub fn itree_pairs_first(pairs: *mut Handle) -> *mut Pair;
+
+        pub fn itree_pairs_free(pairs: *mut Handle);
 
         pub fn itree_locate(
             edges: *const Edge,
@@ -223,29 +291,40 @@ pub fn below(segments: &[Segment], points: &[Point]) -> Result<Vec<Option<i32>>,
     }
 }
 
-/// The pairs `(i, j)`, `i` below `j`, of places of edges that share a point, each once, in no particular order.
+/// The pairs of places of edges that share a point, each once, in no particular order, where the library wrote them.
 ///
 /// It is exact: nothing is rounded.
+///
+/// ```
+/// use itree::{meetings_all, Edge, Pair};
+///
+/// let edges = [Edge { x0: 0, y0: 0, x1: 9, y1: 9 }, Edge { x0: 0, y0: 9, x1: 9, y1: 0 }];
+/// assert_eq!(meetings_all(&edges).unwrap()[..], [Pair { first: 0, second: 1 }]);
+/// ```
+pub fn meetings_all(edges: &[Edge]) -> Result<Pairs, Refused> {
+    let mut handle = ptr::null_mut();
+    // SAFETY: as in `below`.
+    let status = unsafe { calls::itree_meetings_all(edges.as_ptr(), edges.len(), &mut handle) };
+    let handle = NonNull::new(handle).filter(|_| status == calls::ANSWERED).ok_or(Refused)?;
+    // SAFETY: the handle is this call's own.
+    let (first, count) = unsafe {
+        (
+            calls::itree_pairs_first(handle.as_ptr()),
+            calls::itree_pairs_count(handle.as_ptr()),
+        )
+    };
+    Ok(Pairs { handle, first, count })
+}
+
+/// The pairs `(i, j)`, `i` below `j`, of places of edges that share a point, each once, in no particular order.
+///
+/// It is `meetings_all`, whose pairs are copied.
 pub fn meetings(edges: &[Edge]) -> Result<Vec<(usize, usize)>, Refused> {
-    let mut room = edges.len();
-    loop {
-        let mut pairs = items(room, calls::Pair { first: 0, second: 0 })?;
-        let mut count = 0;
-        // SAFETY: as in `below`.
-        let status =
-            unsafe { calls::itree_meetings(edges.as_ptr(), edges.len(), pairs.as_mut_ptr(), pairs.len(), &mut count) };
-        if status != calls::ANSWERED {
-            return Err(Refused);
-        }
-        if count <= room {
-            let mut found = items(count, (0, 0))?;
-            for (places, pair) in found.iter_mut().zip(&pairs) {
-                *places = (pair.first, pair.second);
-            }
-            return Ok(found);
-        }
-        room = count;
-    }
+    let pairs = meetings_all(edges)?;
+    let mut found = Vec::new();
+    found.try_reserve_exact(pairs.len())?;
+    found.extend(pairs.iter().map(|pair| (pair.first, pair.second)));
+    Ok(found)
 }
 
 /// For each point, in order, the place of the edge straight below it, if there is one.

@@ -2,7 +2,7 @@
 
 #![warn(unsafe_op_in_unsafe_fn)]
 
-use itree::{below, locate, meetings, Edge, Fault, LocateFault, Point, Refused, Segment};
+use itree::{below, locate, meetings, meetings_all, Edge, Fault, LocateFault, Point, Refused, Segment};
 use std::cell::Cell;
 use std::ffi::c_void;
 
@@ -164,8 +164,13 @@ fn tells_the_edges_that_meet() {
         let mut found = meetings(&edges).unwrap();
         found.sort_unstable();
         assert_eq!(found, plain_meetings(&edges), "{edges:?}");
+        let mut pairs = meetings_all(&edges).unwrap();
+        pairs.sort_unstable();
+        let places = pairs.iter().map(|pair| (pair.first, pair.second));
+        assert!(places.eq(found), "{edges:?}");
     }
     assert_eq!(meetings(&[]), Ok(vec![]));
+    assert!(meetings_all(&[]).unwrap().is_empty());
 }
 
 #[test]
@@ -184,6 +189,14 @@ fn is_refused_pairs_where_memory_is() {
     }
     assert!(requests > 3, "{requests} requests");
     assert_eq!(meetings(&edges).map(|pairs| pairs.len()), Ok(780));
+    let mut requests = 0;
+    while granted(requests, || meetings_all(&edges)).is_err() {
+        requests += 1;
+    }
+    assert!(requests > 4, "{requests} requests");
+    let pairs = meetings_all(&edges).unwrap();
+    let taken = std::thread::spawn(move || pairs.iter().filter(|pair| pair.first < pair.second).count());
+    assert_eq!(taken.join().unwrap(), 780);
 }
 
 fn rightwards(edge: &Edge) -> Edge {
