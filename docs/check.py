@@ -48,7 +48,7 @@ SOURCES = {
     "`itree_lib::run": ["itree_lib/src/run/*.rt"],
     "`itree_lib::sweep": ["itree_lib/src/sweep/mod.rt"],
     "`event_queue`": ["event_queue/src/lib.rt"],
-    "`plane`": ["plane/src/*.rt", "plane/src/meet/*.rt", "plane/src/locate/*.rt", "plane/src/sweep_line/*.rt"],
+    "`plane`": [f"plane/src/{room}.rt" for room in ("edge", "meet/*", "pairs/*", "locate/*", "sweep_line/*")],
     "`plane::sweep_line`": ["plane/src/sweep_line/*.rt"],
     "`itree_c`": ["itree_c/src/*.rt"],
     "`itree`": ["itree/src/program.rt"],
@@ -175,7 +175,7 @@ def cited_failures():
     for heading, found in blocks(text_of("docs/CALLING.md")):
         calls = set(FUNCTION.findall("\n".join(found)))
         for name, part in parts_by(FUNCTION, sources_of(heading)):
-            contract = re.split(r"\n *\{\n", part)[0] if name in calls else ""
+            contract = re.split(r"(?:\n *| )\{\n|;\n", part)[0] if name in calls else ""
             for word in known.intersection(re.findall(r"\b[A-Z]\w+", contract)):
                 yield None if word in told else f"docs/DEFINITIONS.md: it lacks {word}, which the contract of {name} cites"
 

@@ -3,7 +3,7 @@
 use crate::edges::{Ends, edge, edges_of};
 use i_tree::Refusal;
 use plane::edge::Edge;
-use plane::meet::{meet, meetings};
+use plane::meet::{first_meeting, meet, meetings, meetings_between};
 use std::alloc::Global;
 use std::test::Fail;
 use test_kit::Refusing;
@@ -124,10 +124,37 @@ fn is_met(alloc: Global, row: &Row) -> Result<bool, Fail> {
     Ok(sorted_meetings(alloc, &edges)?.as_slice() == row.pairs)
 }
 
+// Whether the first meeting is one of the pairs, or none where there are none.
+fn is_first(alloc: Global, row: &Row) -> Result<bool, Fail> {
+    let edges = edges_of(alloc, row.edges)?;
+    Ok(match first_meeting(alloc, &edges)? {
+        Some(pair) => row.pairs.contains(&pair),
+        None => row.pairs.is_empty(),
+    })
+}
+
+// Whether the edges before the middle meet those behind it as the pairs say.
+fn is_met_between(alloc: Global, row: &Row) -> Result<bool, Fail> {
+    let middle = row.edges.len() / 2;
+    let (ends, other_ends) = row.edges.split_at(middle);
+    let mut pairs = Vec::new(alloc);
+    meetings_between(&edges_of(alloc, ends)?, &edges_of(alloc, other_ends)?, &mut pairs)?;
+    pairs.sort_unstable();
+    let mut wanted = Vec::new(alloc);
+    for (first, second) in row.pairs {
+        if *first < middle && middle <= *second {
+            wanted.push((*first, *second - middle))?;
+        }
+    }
+    Ok(pairs == wanted)
+}
+
 #[test]
 fn sets_meet_as_worked_by_hand(rt: HostRuntime) -> Result<(), Fail> {
     for row in &ROWS {
         assert!(rt; is_met(rt.alloc(), row)?, "{}", row.name);
+        assert!(rt; is_first(rt.alloc(), row)?, "{}", row.name);
+        assert!(rt; is_met_between(rt.alloc(), row)?, "{}", row.name);
     }
     Ok(())
 }

@@ -2,7 +2,7 @@
 
 use i_tree::Refusal;
 use plane::edge::Edge;
-use plane::meet::meetings;
+use plane::meet::meetings_between;
 use std::alloc::Global;
 
 /// A corner of a polygon.
@@ -39,15 +39,9 @@ pub fn crossings(
 ) -> Result<Vec<(usize, usize)>, Refusal> {
     let mut edges = Vec::new(alloc);
     push_edges(&mut edges, first)?;
-    let count = edges.len();
-    push_edges(&mut edges, second)?;
-    let mut pairs = Vec::new(alloc);
-    meetings(&edges, &mut pairs)?;
+    let mut others = Vec::new(alloc);
+    push_edges(&mut others, second)?;
     let mut crossings = Vec::new(alloc);
-    for (one, other) in &pairs {
-        if *one < count && count <= *other {
-            crossings.push((*one, *other - count))?;
-        }
-    }
+    meetings_between(&edges, &others, &mut crossings)?;
     Ok(crossings)
 }
