@@ -48,7 +48,7 @@ SOURCES = {
     "`itree_lib::run": ["itree_lib/src/run/*.rt"],
     "`itree_lib::sweep": ["itree_lib/src/sweep/mod.rt"],
     "`event_queue`": ["event_queue/src/lib.rt"],
-    "`plane`": [f"plane/src/{room}.rt" for room in ("edge", "meet/*", "pairs/*", "locate/*", "sweep_line/*")],
+    "`plane`": [f"plane/src/{room}.rt" for room in ("*", "meet/*", "pairs/*", "locate/*", "sweep_line/*")],
     "`plane::sweep_line`": ["plane/src/sweep_line/*.rt"],
     "`itree_c`": ["itree_c/src/*.rt"],
     "`itree`": ["itree/src/program.rt"],
