@@ -1,5 +1,5 @@
-"""Faulty arguments and those that ask for help or the version, which the program answers before it reads any input; and sound
-ranges."""
+"""Faulty arguments and those that ask for help or for the version, which the program answers before it reads any input;
+and sound ranges."""
 
 import os
 
@@ -22,9 +22,12 @@ FAULTY = (
     ("another mode and a space", ["sweep "]),
     ("a line as one argument", ["seg 0 128"]),
     ("an unknown option", ["--versions"]),
-    ("the version as a word", ["version"]),
-    ("the version and a word", ["--version", "keylist"]),
+    ("the version and a word", ["--version", "x"]),
     ("the version twice", ["-V", "-V"]),
+    ("a mode and the version", ["sweep", "--version"]),
+    ("the version without its dashes", ["version"]),
+    ("the version by a small letter", ["-v"]),
+    ("the version with a space", ["--version "]),
     ("a word of an earlier version", ["cross"]),
     ("an option before a mode", ["--", "keylist"]),
     ("help and a word", ["help", "x"]),
@@ -83,6 +86,8 @@ FAULTY = (
 
 HELP = ("help", "--help", "-h")
 
+VERSION = ("--version", "-V")
+
 SOUND = (
     ("the least range", "seg 0 31"),
     ("a range from end to end", "seg -2147483648 2147483647"),
@@ -117,15 +122,24 @@ def faulty_arguments():
             yield Case(f"{what}, over {over}", words, b"nonsense\n", Outcome(2, b"", ARGUMENTS), how)
 
 
-def asking_for_text():
-    """Cases of help and of the version, over each of the inputs, and over outputs and faults that fail."""
-    version = f"itree {text_of('VERSION')}".encode()
-    for word, text in (*((word, help_text()) for word in HELP), ("--version", version), ("-V", version)):
+def asking_for(words, text):
+    """Cases of words that ask for a text, over each of the inputs, and over outputs and faults that fail."""
+    for word in words:
         for over, how in INPUTS:
             yield Case(f"{word}, over {over}", [word], b"nonsense\n", Outcome(0, text), how)
         for over, redirections in (("a full device", "> /dev/full"), ("nothing", ">&-")):
             yield Case(f"{word}, to {over}", [word], b"", Outcome(1), redirected(redirections))
         yield Case(f"{word}, a closed standard error", [word], b"", Outcome(0, text), redirected("2>&-"))
+
+
+def asking_for_help():
+    """Cases of help."""
+    return asking_for(HELP, help_text())
+
+
+def asking_for_the_version():
+    """Cases of the version, which the file VERSION says."""
+    return asking_for(VERSION, f"itree {text_of('VERSION')}".encode())
 
 
 def sound_ranges():
@@ -134,4 +148,4 @@ def sound_ranges():
         yield answered(what, mode, b"clear\n", b"cleared\n")
 
 
-PARTS = faulty_arguments, asking_for_text, sound_ranges
+PARTS = faulty_arguments, asking_for_help, asking_for_the_version, sound_ranges

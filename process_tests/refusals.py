@@ -15,7 +15,7 @@ from itertools import count
 import meetings
 import locates
 import sweeps
-from documents import help_text
+from documents import help_text, text_of
 from models import Keys, Segments, Sets
 from processes import ARGUMENTS, Case, Outcome, answered, faulty_line, lines, outcome_of, refused
 from text import PLAIN
@@ -212,8 +212,9 @@ def of_streams(preloaded):
         yield refused("half of each read and write", mode, given + b"nonsense\n", 2, preloaded.under(HALVES=1))
         faulty = Outcome(2, b"", ARGUMENTS)
         yield Case(f"{mode} extra: no read", [*words, "extra"], given, faulty, preloaded.under(FAILED_READ=1))
-    text = help_text()
-    for word in "help", "--help", "-h":
+    help_told, version = help_text(), f"itree {text_of('VERSION')}".encode()
+    asked = *((word, help_told) for word in ("help", "--help", "-h")), ("--version", version), ("-V", version)
+    for word, text in asked:
         yield Case(f"{word}: no read", [word], b"nonsense\n", Outcome(0, text), preloaded.under(FAILED_READ=1))
         yield Case(f"{word}: half of each write", [word], b"", Outcome(0, text), preloaded.under(HALVES=1))
         yield Case(f"{word}: room for 5 bytes", [word], b"", Outcome(1, text[:5]), preloaded.under(ROOM_1=5))

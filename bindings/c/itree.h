@@ -94,7 +94,7 @@ struct itree_pairs;
  *   ITREE_ANSWERED  and *pairs is the caller's, also where no edges meet;
  *   ITREE_REFUSED   and *pairs is NULL;
  *   ITREE_POINTER   exactly where a pointer is faulty, and *pairs stays as it was.
- * pairs may not be NULL. What *pairs was before isn't looked at. It takes room for the pairs, and 2^24 bytes besides. */
+ * pairs may not be NULL. What *pairs was before isn't looked at. It writes to little more memory than the pairs take. */
 int32_t itree_meetings_all(const struct itree_edge *edges, size_t edge_count, struct itree_pairs **pairs);
 
 /* How many pairs there are; 0 at NULL. */

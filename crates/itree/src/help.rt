@@ -45,7 +45,8 @@ edge covers the X from its lesser end up to its greater, which it doesn't cover.
   edge X0 Y0 X1 Y1
   point X Y                            edge LINE | none
 
-itree help, itree --help, itree -h: this text; itree --version, itree -V: the version
+itree help, itree --help, itree -h: this text
+itree --version, itree -V: the version, as itree NUMBER.NUMBER.NUMBER
 
 Numbers are whole, from -2147483648 to 2147483647. A line without words counts, and has no reply.
 refused: there is no memory. The status is 0 where all is answered, 1 where memory, reading or
