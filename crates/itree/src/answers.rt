@@ -15,7 +15,6 @@ use crate::mode::Mode;
 use crate::set_key::SetKey;
 use crate::timed_key::TimedKey;
 use crate::timed_val::TimedVal;
-use meetings::answer_meetings;
 use i_tree::key::exp::KeyExpCollection;
 use i_tree::key::list::KeyExpList;
 use i_tree::key::tree::KeyExpTree;
@@ -27,12 +26,13 @@ use i_tree::set::tree::SetTree;
 use i_tree::status::tree::StatusTree;
 use itree_lib::run::{SegReply, run_keys, run_segments, run_sets};
 use locate::answer_locate;
+use meetings::answer_meetings;
 use std::alloc::Allocator;
 use std::cmp::Ordering;
 use sweep::answer_sweep;
 
-mod meetings;
 mod locate;
+mod meetings;
 mod sweep;
 
 /// The text of the replies to the commands of a text, from an empty collection of the mode on.

@@ -138,7 +138,11 @@ fn is_met_between(alloc: Global, row: &Row) -> Result<bool, Fail> {
     let middle = row.edges.len() / 2;
     let (ends, other_ends) = row.edges.split_at(middle);
     let mut pairs = Vec::new(alloc);
-    meetings_between(&edges_of(alloc, ends)?, &edges_of(alloc, other_ends)?, &mut pairs)?;
+    meetings_between(
+        &edges_of(alloc, ends)?,
+        &edges_of(alloc, other_ends)?,
+        &mut pairs,
+    )?;
     pairs.sort_unstable();
     let mut wanted = Vec::new(alloc);
     for (first, second) in row.pairs {

@@ -13,16 +13,16 @@ use crate::fault::Fault;
 use std::alloc::{AllocError, Allocator};
 use std::str;
 
-mod meetings;
 mod keys;
 mod locate;
+mod meetings;
 mod segments;
 mod sets;
 mod sweep;
 
-pub use meetings::MetLines;
 pub use keys::KeyLine;
 pub use locate::LocateLine;
+pub use meetings::MetLines;
 pub use segments::SegLine;
 pub use sets::SetLine;
 pub use sweep::{SweepLine, segment_line};
