@@ -111,10 +111,15 @@ static ROWS: [Row; 11] = [
     },
 ];
 
-// The pairs of places whose edges meet, in rising order.
+// The pairs of places whose edges meet, in rising order. Each is two indices of the list, by a clause.
 fn sorted_meetings(alloc: Global, edges: &[Edge]) -> Result<Vec<(usize, usize)>, Fail> {
     let mut pairs = Vec::new(alloc);
     meetings(edges, &mut pairs)?;
+    for (one, other) in &pairs {
+        if !meet(edges[*one], edges[*other]) {
+            return Err("a pair that is apart").map_err(Fail::from);
+        }
+    }
     pairs.sort_unstable();
     Ok(pairs)
 }
@@ -128,7 +133,9 @@ fn is_met(alloc: Global, row: &Row) -> Result<bool, Fail> {
 fn is_first(alloc: Global, row: &Row) -> Result<bool, Fail> {
     let edges = edges_of(alloc, row.edges)?;
     Ok(match first_meeting(alloc, &edges)? {
-        Some(pair) => row.pairs.contains(&pair),
+        Some((one, other)) => {
+            row.pairs.contains(&(one, other)) && meet(edges[one], edges[other])
+        }
         None => row.pairs.is_empty(),
     })
 }
@@ -137,12 +144,12 @@ fn is_first(alloc: Global, row: &Row) -> Result<bool, Fail> {
 fn is_met_between(alloc: Global, row: &Row) -> Result<bool, Fail> {
     let middle = row.edges.len() / 2;
     let (ends, other_ends) = row.edges.split_at(middle);
+    let (edges, others) = (edges_of(alloc, ends)?, edges_of(alloc, other_ends)?);
     let mut pairs = Vec::new(alloc);
-    meetings_between(
-        &edges_of(alloc, ends)?,
-        &edges_of(alloc, other_ends)?,
-        &mut pairs,
-    )?;
+    meetings_between(&edges, &others, &mut pairs)?;
+    let all = pairs
+        .iter()
+        .all(|(one, other)| meet(edges[*one], others[*other]));
     pairs.sort_unstable();
     let mut wanted = Vec::new(alloc);
     for (first, second) in row.pairs {
@@ -150,7 +157,7 @@ fn is_met_between(alloc: Global, row: &Row) -> Result<bool, Fail> {
             wanted.push((*first, *second - middle))?;
         }
     }
-    Ok(pairs == wanted)
+    Ok(all && pairs == wanted)
 }
 
 #[test]

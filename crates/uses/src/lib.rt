@@ -1,6 +1,6 @@
 //! Complete small programs over `i_tree`, as its users write them: each is proved; tests stand in `uses_tests`. A loop in
-//! `tickets` and one in `own_descent` have an invariant in a proof file, and `kept_booking` and `sessions` have one for what
-//! they promise; the others need none.
+//! `tickets` and one in `own_descent` have an invariant in a proof file, `kept_booking` and `sessions` have one for what
+//! they promise, and `points_in_rectangles` has one for the condition of a call; the others need none.
 #![tactic(auto)]
 
 pub mod crossing_candidates;
@@ -11,6 +11,7 @@ pub mod leases;
 pub mod level_below;
 pub mod own_descent;
 pub mod own_error;
+pub mod points_in_rectangles;
 pub mod polygon_crossings;
 pub mod seen_below;
 pub mod sessions;

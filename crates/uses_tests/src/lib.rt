@@ -18,6 +18,8 @@ mod own_descent;
 #[cfg(test)]
 mod own_error;
 #[cfg(test)]
+mod points_in_rectangles;
+#[cfg(test)]
 mod polygon_crossings;
 #[cfg(test)]
 mod seen_below;
