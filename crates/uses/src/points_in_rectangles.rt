@@ -1,6 +1,7 @@
 //! Which points lie in which rectangles: items of one's own in the sweep over boxes of `plane`.
 
-ghost use Rattle.std.specs.Prelude.{◌≤ℤ◌};
+ghost use Rattle.std.specs.Prelude.{◌≤ℤ◌, MatchBool};
+ghost use Rattle.uses.specs.Rectangles.{IsBetween};
 
 use i_tree::Refusal;
 use plane::pairs::items::{Bounds, Boxed, Meets};
@@ -52,12 +53,21 @@ impl Boxed for Spot {
 }
 
 impl Meets<Spot> for Rectangle {
-    ghost Meeting = { λ it spot. (it.left ≤ℤ spot.x) × (spot.x ≤ℤ it.right)
-        × (it.low ≤ℤ spot.y) × (spot.y ≤ℤ it.high) };
+    ghost Meeting = { λ it spot. IsBetween it.left spot.x it.right × IsBetween it.low spot.y it.high };
 
     fn meets(self, other: Spot) -> bool {
-        self.left <= other.x && other.x <= self.right && self.low <= other.y && other.y <= self.high
+        if !is_between(self.left, other.x, self.right) {
+            return false;
+        }
+        is_between(self.low, other.y, self.high)
     }
+}
+
+// Whether the number is one of those from the least to the greatest.
+fn is_between(least: i32, number: i32, greatest: i32) -> bool
+    ensures { let between = IsBetween least number greatest in MatchBool result between (¬ between) }
+{
+    least <= number && number <= greatest
 }
 
 /// The places of each rectangle and each point that lies in it, a pair each.

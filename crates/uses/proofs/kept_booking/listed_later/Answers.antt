@@ -1,13 +1,9 @@
 -- That a booking is listed on a later day: it was stored, the query of today kept it, and the query of that day finds it.
-use Rattle.std.proofs.Common.{◌≡◌, ℕ, ◌<◌, ◌≤◌, ◌++◌, true, Some, List, refl, ap, sym, ◌∙◌, subst, arith}
+use Rattle.std.proofs.Common.{◌++◌, Some, List, ap, sym, ◌∙◌, subst}
 use Rattle.std.specs.List.{Contains}
-use Rattle.std.specs.Ordering.{is_ge, nat_cmp, MatchOrdering}
-use Rattle.std.specs.declared.cmp.Ordering.{Ordering}
-use Rattle.std.specs.declared.cmp.Ordering.TheVariants.{Less, Equal, Greater}
-use Rattle.std.proofs.lemmas.Cmp.{nat_cmp_total, ranked}
-use Rattle.i_tree.specs.Seg.Buckets.{Buckets, Accepts}
-use Rattle.i_tree.specs.Seg.Members.{Member, NotBefore, is_live_yet, member_over}
-use Rattle.i_tree.specs.Root.Live.{is_live}
+use Rattle.std.specs.Ordering.{nat_cmp}
+use Rattle.std.proofs.lemmas.Cmp.{nat_cmp_total}
+use Rattle.i_tree.specs.Seg.Members.{Member, NotBefore, member_over}
 use Rattle.i_tree.proofs.SegLemmas.Callers.{finds_overlapping, ge-upto, is_stored, stays_member, live-before}
 use Rattle.uses.specs.declared.kept_booking.Booking.{Booking}
 use Rattle.uses.proofs.kept_booking.listed_later.Goals as goal

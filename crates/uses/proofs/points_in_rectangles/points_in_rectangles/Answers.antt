@@ -7,5 +7,5 @@ pub pairs_between-requires : goal.pairs_between-requires
 pairs_between-requires c = record {
   proper = λ it. record { wide = it.wide; tall = it.tall };
   other_proper = λ spot. record { wide = omega (arith, ints); tall = omega (arith, ints) };
-  near = λ it spot inside. record { left = inside.0; right = inside.1; low = inside.2; high = inside.3 };
+  near = λ it spot inside. record { left = inside.0.above; right = inside.0.below; low = inside.1.above; high = inside.1.below };
 }

@@ -1,5 +1,5 @@
 -- The guest that is found is the session's, so the name is theirs.
-use Rattle.std.proofs.Common.{◌≡◌, ℕ, Option, None, Some, sym, ap, ◌∙◌}
+use Rattle.std.proofs.Common.{ℕ, Option, None, Some, sym, ap, ◌∙◌}
 use Rattle.uses.specs.declared.sessions.Guest.{Guest}
 use Rattle.uses.proofs.sessions.Sessions.name_of.Goals as goal
 
