@@ -14,3 +14,8 @@ pub const CROSSING: i32 = 2;
 
 /// The lengths of two slices don't fit each other.
 pub const LENGTHS: i32 = 3;
+
+// `itree.h` has these numbers.
+const _: () = prove!(
+    ANSWERED == 0 && REFUSED == 1 && OVERLAP == 2 && CROSSING == 2 && LENGTHS == 3
+);
