@@ -8,6 +8,8 @@ use std::alloc::Allocator;
 use std::marker::Model;
 use std::ptr::null_mut;
 
+/// The parts of a box: where its value lies, and the allocator that gives the memory back. Or there is no box, and the pointer
+/// is null. It is no `Drop`, so that whoever has it makes a box of it again or hands the pointer on.
 pub struct Raw<T, A: Allocator> {
     pub at: *mut T,
     pub alloc: A,
@@ -19,6 +21,7 @@ impl<T, A: Allocator> Model for Raw<T, A> {
 }
 
 impl<T, A: Allocator> Raw<T, A> {
+    /// The parts of this box.
     pub fn of(boxed: Box<T, A>) -> Raw<T, A>
     where
         T: Drop,
@@ -28,6 +31,7 @@ impl<T, A: Allocator> Raw<T, A> {
         Raw { at, alloc }
     }
 
+    /// No box, and a null pointer.
     pub fn null(alloc: A) -> Raw<T, A>
         ensures { result.value ≡ None }
     {
@@ -37,6 +41,7 @@ impl<T, A: Allocator> Raw<T, A> {
         }
     }
 
+    /// The box again, where there is one.
     pub fn into_box(self) -> Box<T, A>
         requires { IsSome self.value }
         ensures { Some result.value ≡ self.value }
