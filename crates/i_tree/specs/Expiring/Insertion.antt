@@ -2,7 +2,7 @@
 use Rattle.std.specs.Prelude.{◌≡◌, ◌≢◌, ◌<◌, ℕ, Bool, true, false, if◌then◌else◌, List, ◌∷◌, ◌++◌, All, Any, Option, None, Some, IfSome, Result, Ok, Err, IsOk, IfOk, IfErr, OnErr, MatchBool, is_some, length, ⊤}
 use Rattle.std.specs.declared.cmp.Ordering.{Ordering}
 use Rattle.std.specs.declared.cmp.Ordering.TheVariants.{Less, Equal, Greater}
-use Rattle.i_tree.specs.Expiring.Descent.{AnswersAs, MayCall}
+use Rattle.i_tree.specs.Expiring.Descent.{MayCall}
 use Rattle.i_tree.specs.Expiring.SearchPath.{path_by}
 use Rattle.i_tree.specs.Expiring.Tree.{items, slots_for}
 use Rattle.i_tree.specs.Root.Along.{AreNeighbours, ByEachOrder}
@@ -10,6 +10,7 @@ use Rattle.i_tree.specs.Root.Change.{Without}
 use Rattle.i_tree.specs.Root.Ends.{EndsIn, StartsIn}
 use Rattle.i_tree.specs.Rb.Balance.{IsCore}
 use Rattle.i_tree.specs.Rb.RbTree.{Contents, slots}
+use Rattle.i_tree.specs.Rb.SearchPath.{AnswersAs}
 use Rattle.i_tree.specs.Rb.Shape.{Shape, entries, IsHandle}
 use Rattle.i_tree.specs.declared.Refusal.{Refusal}
 use Rattle.i_tree.specs.declared.Refusal.TheVariants.{OutOfMemory, NoHandle}
