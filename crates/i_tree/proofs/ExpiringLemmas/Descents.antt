@@ -8,6 +8,7 @@ use Rattle.std.specs.declared.cmp.Ordering.TheVariants.{Greater}
 use Rattle.i_tree.proofs.ExpiringLemmas.SearchPath.{IsFollowed}
 use Rattle.i_tree.proofs.RootLemmas.Lists.{Contains-filter}
 use Rattle.i_tree.proofs.RbLemmas.SearchPath.Descent.{IsCutAt, IsCutAt-top, IsPath}
+use Rattle.i_tree.proofs.RbLemmas.SearchPath.Asked.{IsAsked}
 use Rattle.i_tree.proofs.RbLemmas.SearchPath.Counts.{IsCounted}
 use Rattle.i_tree.proofs.RbLemmas.SearchPath.Entries.{values-LosesAt}
 use Rattle.i_tree.proofs.RootLemmas.Joined.{Contains-middle}
@@ -134,6 +135,7 @@ pub record IsDescent {S K V : Type 0} (Made : S → S → Counts → Type 0) (is
   pub slots : slots now ≡ slots before
   pub same : length (entries now.shape) ≡ length (entries before.shape) → now ≡ before
   pub follows : IsFollowed is_live MayAnswer before now here
+  pub asked : IsAsked Made (MayCall is_live MayAnswer) (length (entries now.shape) ≡ length (entries before.shape)) before.shape old new (subtree_at here now.shape)
   pub counted : IsCounted Made old new (rank before.shape) (rank (subtree_at here now.shape)) (length (entries before.shape)) (length (entries now.shape))
   pub core : IsCore now.shape
   pub first : IsCore before.shape

@@ -1,7 +1,7 @@
 -- A pair that joins a tree at the place that a descent has come to.
 use Rattle.std.proofs.Common.{◌≡◌, ◌≢◌, ℕ, ◌+◌, ◌-◌, ◌<◌, ◌≤◌, zero, suc, Bool, true, false, is_some, Option, None, Some, Result, Ok, Err, List, [], ◌∷◌, ◌++◌, length, refl, sym, ap, ◌∙◌, subst, inl, inr, arith, append_assoc, length-append}
 use Rattle.std.specs.Option.{IfSome}
-use Rattle.std.specs.Result.{IfErr, IfOk, IsOk, OnErr}
+use Rattle.std.specs.Result.{IfOk, IsOk, OnErr}
 use Rattle.std.specs.declared.cmp.Ordering.{Ordering}
 use Rattle.std.specs.declared.cmp.Ordering.TheVariants.{Less, Equal, Greater}
 use Rattle.std.proofs.lemmas.List.{length-map}
@@ -39,10 +39,6 @@ module _ {N : Type 0} where
   pub OnErr-joined : (told : Result (Option N) Refusal) (P : Type 0) → OnErr told P → OnErr (has_joined told) P
   OnErr-joined (Ok neighbours) P holds = tt
   OnErr-joined (Err cause) P holds = holds
-
-  pub IfErr-joined : (told : Result (Option N) Refusal) (P : Refusal → Type 0) → IfErr told P → IfErr (has_joined told) P
-  IfErr-joined (Ok neighbours) P holds = tt
-  IfErr-joined (Err cause) P holds = holds
 
 -- what a descent has come to
 module _ {K V : Type 0} (is_live : K → Bool) (May : K → Ordering → Type 0) (tree : Shape (K × V)) (place : Place) (last : ℕ) (said : Ordering) (next : ℕ)

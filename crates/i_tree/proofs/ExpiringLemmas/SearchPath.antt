@@ -8,13 +8,14 @@ use Rattle.i_tree.proofs.RbLemmas.SearchPath.Descent.{IsChosen, IsTop}
 use Rattle.std.specs.Ordering.{is_gt, is_lt}
 use Rattle.std.specs.declared.cmp.Ordering.{Ordering}
 use Rattle.std.specs.declared.cmp.Ordering.TheVariants.{Less, Equal, Greater}
-use Rattle.i_tree.specs.Expiring.Descent.{AnswersAs, FollowsPath, MayCall}
+use Rattle.i_tree.specs.Expiring.Descent.{FollowsPath, MayCall}
 use Rattle.i_tree.proofs.RootLemmas.Joined.{All-behind, All-front}
 use Rattle.i_tree.proofs.RootLemmas.Lists.{All-from_filter}
 use Rattle.i_tree.specs.Expiring.Tree.{items}
 use Rattle.i_tree.specs.Root.Pairs.{NoKey}
 use Rattle.i_tree.specs.Expiring.SearchPath.{path_by}
 use Rattle.i_tree.specs.Rb.RbTree.{Contents}
+use Rattle.i_tree.specs.Rb.SearchPath.{AnswersAs}
 use Rattle.i_tree.specs.Rb.Shape.{Shape, leaf, fork, entries, left_subtree, right_subtree, left_at, right_at, subtree_at}
 
 module _ {K V : Type 0} where

@@ -1,21 +1,21 @@
 -- What a caller of keys that expire wants of its clauses, in a caller's words: what was inserted is found while it lives.
-use Rattle.std.proofs.Common.{◌≡◌, ℕ, zero, suc, ◌≤◌, ◌≢◌, Bool, true, false, inl, inr, refl, List, [], ◌∷◌, length, take, drop, sym, ◌∙◌, ap, subst, arith}
+use Rattle.std.proofs.Common.{◌≡◌, ℕ, zero, suc, ◌≢◌, Bool, true, false, inl, inr, refl, List, [], ◌∷◌, take, drop, sym, ◌∙◌, ap, subst, arith}
 use Rattle.std.specs.Bool.{MatchBool}
 use Rattle.std.specs.Cmp.{IsTotalOrder, alike_right}
 use Rattle.std.specs.List.{Contains, insert}
 use Rattle.std.specs.Ordering.{ordering_reverse}
 use Rattle.std.specs.declared.cmp.Ordering.{Ordering}
-use Rattle.std.specs.declared.cmp.Ordering.TheVariants.{Less, Equal, Greater}
+use Rattle.std.specs.declared.cmp.Ordering.TheVariants.{Less, Equal}
 use Rattle.std.proofs.lemmas.Bool.{both_ways}
 use Rattle.std.proofs.lemmas.List.Elements.{All-contains}
 use Rattle.std.proofs.lemmas.List.Kept.{AllPairs-filter}
 use Rattle.i_tree.specs.Expiring.Live.{live_pairs, IsExpired}
 use Rattle.i_tree.specs.Root.Answer.{AtMost, AtMostBy}
-use Rattle.i_tree.specs.Root.Change.{Gains, Joins, Without}
+use Rattle.i_tree.specs.Root.Change.{Gains, Without}
 use Rattle.i_tree.specs.Root.Change.Without.{none, keeps, loses}
 use Rattle.i_tree.specs.Root.Live.{is_live}
 use Rattle.i_tree.specs.Root.Pairs.{HasKey, IsRising, NoKey}
-use Rattle.i_tree.proofs.RootLemmas.Lists.{AllPairs-head, AllPairs-tail, Contains-filter, Contains-here, Contains-there}
+use Rattle.i_tree.proofs.RootLemmas.Lists.{AllPairs-head, AllPairs-tail, Contains-filter, Contains-there}
 use Rattle.i_tree.proofs.RootLemmas.Joined.{Contains-middle}
 use Rattle.i_tree.proofs.RootLemmas.Monotone.{IsMonotone-compare}
 use Rattle.i_tree.proofs.RootLemmas.Withouts.{filter-without}

@@ -1,4 +1,5 @@
 -- Lemmas on search paths and descents.
+pub mod Asked
 pub mod Counts
 pub mod Descent
 pub mod Entries

@@ -1,31 +1,26 @@
 -- A pair that joins a tree between live ones that were called Less and live ones that were called Greater.
-use Rattle.std.proofs.Common.{◌≡◌, ◌≢◌, ◌≤◌, ◌<◌, ◌+◌, Bool, true, false, if◌then◌else◌, is_some, Option, Result, Ok, Err, length, arith, List, [], ◌∷◌, ◌++◌, refl, sym, ap, ◌∙◌, subst, inl, inr}
+use Rattle.std.proofs.Common.{◌≡◌, ◌≤◌, ◌+◌, Bool, true, false, Result, Ok, Err, length, arith, List, [], ◌∷◌, ◌++◌, refl, sym, ap, ◌∙◌, subst, inl, inr}
 use Rattle.std.specs.Bool.{MatchBool}
 use Rattle.std.specs.List.{All, AllPairs, filter}
-use Rattle.std.specs.Result.{IfErr, IfOk, IsOk, OnErr}
 use Rattle.std.specs.declared.cmp.Ordering.{Ordering}
 use Rattle.std.specs.declared.cmp.Ordering.TheVariants.{Less, Equal, Greater}
 use Rattle.std.proofs.lemmas.List.Elements.{All-contains, All-head, filter-append}
-use Rattle.i_tree.proofs.ExpiringLemmas.Insertion.{IfErr-joined, IfOk-joined, IsOk-joined, OnErr-joined, room_grown, room_same}
+use Rattle.i_tree.proofs.ExpiringLemmas.Insertion.{room_grown, room_same}
 use Rattle.i_tree.proofs.RootLemmas.Along.{All-above, All-less, NoneEqual-between, Rises}
 use Rattle.i_tree.proofs.RootLemmas.Joined.{All-behind, All-front, AllPairs-behind, AllPairs-front}
 use Rattle.i_tree.proofs.RootLemmas.Lists.{Contains-filter}
 use Rattle.i_tree.proofs.RootLemmas.Withouts.{filter-without}
-use Rattle.i_tree.specs.Expiring.Descent.{AnswersAs, MayCall}
-use Rattle.i_tree.specs.Expiring.Insertion.{CallsEqual, HasPlace, IsBetween, JoinsBetween, has_joined}
+use Rattle.i_tree.specs.Expiring.Descent.{MayCall}
+use Rattle.i_tree.specs.Expiring.Insertion.{CallsEqual, HasPlace, IsBetween, JoinsBetween}
 use Rattle.i_tree.specs.Root.Along.{ByEachOrder, HasEqual, IsMonotoneAlong, NoneEqual}
 use Rattle.i_tree.specs.Root.Answer.{AnswersBy}
 use Rattle.i_tree.specs.Root.Change.{Without}
 use Rattle.i_tree.specs.Root.Ends.{EndsIn, LastFinds, StartsIn}
-use Rattle.i_tree.specs.Expiring.SearchPath.{path_by}
-use Rattle.i_tree.specs.Expiring.Tree.{items, slots_for}
-use Rattle.i_tree.specs.Rb.Balance.{IsCore}
-use Rattle.i_tree.specs.Rb.RbTree.{Contents, slots}
+use Rattle.i_tree.specs.Expiring.Tree.{items}
+use Rattle.i_tree.specs.Rb.RbTree.{Contents}
 use Rattle.i_tree.specs.Status.Insertion.{IsNew, JoinsAlong, JoinsOrLeaves}
-use Rattle.i_tree.specs.Status.StatusTree.{IsPathLiveBy, StatusTreeInserts}
+use Rattle.i_tree.specs.Status.StatusTree.{StatusTreeInserts}
 use Rattle.i_tree.specs.declared.Refusal.{Refusal}
-use Rattle.i_tree.specs.declared.Refusal.TheVariants.{NoHandle, OutOfMemory}
-use Rattle.i_tree.specs.declared.TheConstants.{EMPTY_REF}
 
 module _ {K V : Type 0} (is_live : K → Bool) (May : K → Ordering → Type 0) where
   abbrev live : List (K × V) → List (K × V)
@@ -101,26 +96,7 @@ module _ {K V : Type 0} (is_live : K → Bool) (May : K → Ordering → Type 0)
       let says = All-contains (λ (other : K × V). (answer : Ordering) → May other.0 answer → answer ≡ order other.0) (live after) pair answers found in
       (found.0, pair, found.1, found.2, sym (says Equal may)))
 
-  -- what the tree promises of an insertion that tells something just where its pair has joined
-  module _ {N : Type 0} (old : Contents (K × V)) (told : Result (Option N) Refusal) (new : Contents (K × V)) where
-    pub inserts_joined : IsCore new.shape → OnErr told (new ≡ old) → (0 < old.spare → IsOk told) → OnErr told (IsPathLiveBy is_live May old)
-        → (old.spare ≡ 0 → slots old ≡ EMPTY_REF → (passes : K → Bool) → AnswersAs May passes → All (λ pair. is_live pair.0 ≡ true) (path_by passes old.shape) → IfOk told (λ joined. is_some joined ≡ false))
-        → (slots old ≡ EMPTY_REF → IfErr told (λ cause. cause ≡ NoHandle)) → (slots old ≢ EMPTY_REF → IfErr told (λ cause. cause ≡ OutOfMemory))
-        → IfOk told (λ joined. slots new ≡ (if is_some joined then slots_for old (length (items new.shape)) else slots old))
-        → StatusTreeInserts is_live May old (has_joined told) new
-    inserts_joined core err with_spare err_way full no_handle refused grown =
-        record {
-          core = core;
-          err = OnErr-joined told _ err;
-          with_spare = λ spare. IsOk-joined told (with_spare spare);
-          err_way = OnErr-joined told _ err_way;
-          full = λ none no_more passes answers all. IfOk-joined told (λ joined. joined ≡ false) (full none no_more passes answers all);
-          no_handle = λ no_more. IfErr-joined told (λ cause. cause ≡ NoHandle) (no_handle no_more);
-          refused = λ more. IfErr-joined told (λ cause. cause ≡ OutOfMemory) (refused more);
-          slots = IfOk-joined told (λ joined. slots new ≡ (if joined then slots_for old (length (items new.shape)) else slots old)) grown;
-        }
-
-  -- it leaves no less room
+  -- an insertion leaves no less room
   pub room_kept : (old : Contents (K × V)) (result : Result Bool Refusal) (new : Contents (K × V)) → StatusTreeInserts is_live May old result new
       → length (items old.shape) + old.spare ≤ length (items new.shape) + new.spare
   room_kept old (Ok true) new inserts = room_grown old new inserts.slots

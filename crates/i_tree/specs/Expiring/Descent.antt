@@ -1,19 +1,14 @@
 -- Where a descent of a tree of keys that expire ends. For the private contracts of `KeyExpTree`.
-use Rattle.std.specs.Prelude.{◌≡◌, ℕ, Bool, true, not, All, length}
-use Rattle.std.specs.Ordering.{is_gt}
+use Rattle.std.specs.Prelude.{◌≡◌, ℕ, Bool, true, All, length}
 use Rattle.std.specs.declared.cmp.Ordering.{Ordering}
 use Rattle.std.specs.declared.cmp.Ordering.TheVariants.{Greater}
 use Rattle.i_tree.specs.Expiring.SearchPath.{path_by}
 use Rattle.i_tree.specs.Rb.RbTree.{Contents}
 use Rattle.i_tree.specs.Rb.Shape.{Shape, entries}
-use Rattle.i_tree.specs.Rb.SearchPath.{EndsBetween, FindsNotAbove}
+use Rattle.i_tree.specs.Rb.SearchPath.{AnswersAs, EndsBetween, FindsNotAbove}
 use Rattle.i_tree.specs.Root.Ends.{FirstFinds}
 use Rattle.i_tree.specs.declared.TheConstants.{EMPTY_REF}
 use Rattle.i_tree.specs.declared.rb.place.Place.{Place}
-
--- a key passes exactly where it isn't called Greater
-abbrev pub AnswersAs : {K : Type 0} → (K → Ordering → Type 0) → (K → Bool) → Type 0
-AnswersAs {K} may_answer passes = (key : K) (answer : Ordering) → may_answer key answer → not (is_gt answer) ≡ passes key
 
 -- `is_live` says which keys are live, and `MayAnswer` how a key may be called by what is sought.
 module _ {K V : Type 0} (is_live : K → Bool) (MayAnswer : K → Ordering → Type 0) where

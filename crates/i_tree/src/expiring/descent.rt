@@ -5,11 +5,12 @@ ghost use Rattle.std.specs.Ordering.{is_lt};
 ghost use Rattle.std.specs.declared.cmp.Ordering.TheVariants.{Less, Greater};
 ghost use Rattle.i_tree.specs.Root.Change.{Without};
 ghost use Rattle.i_tree.specs.Root.Descent.{Descends};
-ghost use Rattle.i_tree.specs.Expiring.Descent.{DescendsBetween, FollowsPath};
+ghost use Rattle.i_tree.specs.Expiring.Descent.{DescendsBetween, FollowsPath, MayCall};
 ghost use Rattle.i_tree.specs.Expiring.Tree.{items};
 ghost use Rattle.i_tree.specs.Rb.RbTree.{slots};
 ghost use Rattle.i_tree.specs.Rb.Balance.{IsCore};
 ghost use Rattle.i_tree.specs.Rb.Place.{place_below};
+ghost use Rattle.i_tree.specs.Rb.SearchPath.{AsksAlong};
 ghost use Rattle.i_tree.specs.Rb.Shape.{entries, IsHandle};
 
 use super::live::Liveness;
@@ -60,6 +61,8 @@ where
     ensures follows { FollowsPath (L.live lives.now) (F.post stands.now) core.old core.new }
     ensures steps { Descends C.made steps.old steps.new (length (entries core.old.shape))
         (length (entries core.new.shape)) 0 }
+    ensures asks { length (entries core.new.shape) ≡ length (entries core.old.shape)
+        → AsksAlong C.made (MayCall (L.live lives.now) (F.post stands.now)) steps.old steps.new core.old.shape }
     ensures core { IsCore core.new.shape }
 {
     let mut last = EMPTY_REF;

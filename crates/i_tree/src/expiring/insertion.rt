@@ -1,15 +1,9 @@
 //! The insertion of a pair into a tree whose entries expire, by one descent.
 
-ghost use Rattle.std.specs.Prelude.{◌≡◌, ◌≢◌, ◌<◌, Bool, true, false, All, filter, length, is_some, if◌then◌else◌, IfSome, IsOk, IfOk, IfErr, OnErr, MatchBool};
-ghost use Rattle.i_tree.specs.Root.Change.{Without};
+ghost use Rattle.std.specs.Prelude.{◌≡◌, All, filter, length, is_some, if◌then◌else◌, IfSome, IfOk, OnErr};
 ghost use Rattle.i_tree.specs.Root.Descent.{Descends};
-ghost use Rattle.i_tree.specs.Expiring.Descent.{AnswersAs};
-ghost use Rattle.i_tree.specs.Expiring.Insertion.{AreFoundAt, CallsEqual, HasPlace, HoldNeighbours, JoinsBetween, has_joined};
-ghost use Rattle.i_tree.specs.Expiring.Tree.{items, slots_for};
-ghost use Rattle.i_tree.specs.Expiring.SearchPath.{path_by};
-ghost use Rattle.i_tree.specs.Rb.RbTree.{slots};
-ghost use Rattle.i_tree.specs.Rb.Balance.{IsCore};
-ghost use Rattle.i_tree.specs.Rb.Shape.{IsHandle};
+ghost use Rattle.i_tree.specs.Expiring.Insertion.{AreFoundAt, HoldNeighbours, InsertsByPath, IsHandleOrNone, JoinsUnlessEqual, has_joined};
+ghost use Rattle.i_tree.specs.Expiring.Tree.{items};
 
 use super::descent::{descend, pair_at};
 use super::live::Liveness;
@@ -46,35 +40,13 @@ where
     F: Fn(K) -> Ordering,
     requires { All (λ other. F.pre stands.now other.0)
         (filter (λ other. L.live lives.now other.0) (items core.old.shape)) }
-    ensures joins { IfOk result (λ told. MatchBool (is_some told)
-        (JoinsBetween (L.live lives.now) (F.post stands.now) pair (items core.old.shape) (items core.new.shape))
-        (Without (λ other. L.live lives.now other.0 ≡ false) (items core.old.shape) (items core.new.shape))) }
-    ensures equal { IfOk result (λ told. is_some told ≡ false
-        → CallsEqual (L.live lives.now) (F.post stands.now) (items core.new.shape)) }
-    ensures last { IfOk result (λ told. IfSome told (λ beside.
-        beside.last ≢ EMPTY_REF → IsHandle core.new.shape beside.last)) }
-    ensures next { IfOk result (λ told. IfSome told (λ beside.
-        beside.next ≢ EMPTY_REF → IsHandle core.new.shape beside.next)) }
+    ensures pairs { JoinsUnlessEqual (L.live lives.now) (F.post stands.now) pair
+        (items core.old.shape) (has_joined result) (items core.new.shape) }
+    ensures inserts { InsertsByPath (L.live lives.now) (F.post stands.now) core.old (has_joined result) core.new }
+    ensures last { IfOk result (λ told. IfSome told (λ beside. IsHandleOrNone core.new.shape beside.last)) }
+    ensures next { IfOk result (λ told. IfSome told (λ beside. IsHandleOrNone core.new.shape beside.next)) }
     ensures neighbours { IfOk result (λ told. IfSome told (λ beside. HoldNeighbours (F.post stands.now)
         (filter (λ other. L.live lives.now other.0) (items core.old.shape)) core.new.shape beside.last beside.next)) }
-    ensures err { OnErr result (core.new ≡ core.old) }
-    ensures err_place { OnErr result (HasPlace (L.live lives.now) (F.post stands.now) (items core.old.shape)) }
-    ensures core { IsCore core.new.shape }
-
-    // The slots, and when it is refused. All on the search path is live where it is refused, if a test says which keys pass.
-    ensures slots { IfOk result (λ told. slots core.new
-        ≡ (if is_some told then slots_for core.old (length (items core.new.shape)) else slots core.old)) }
-    ensures with_spare { 0 < core.old.spare → IsOk result }
-    ensures err_way { OnErr result ((passes : K → Bool) → AnswersAs (F.post stands.now) passes
-        → All (λ other. L.live lives.now other.0 ≡ true) (path_by passes core.old.shape)) }
-    ensures full { core.old.spare ≡ 0 → slots core.old ≡ EMPTY_REF
-        → (passes : K → Bool) → AnswersAs (F.post stands.now) passes
-        → All (λ other. L.live lives.now other.0 ≡ true) (path_by passes core.old.shape)
-        → IfOk result (λ told. is_some told ≡ false) }
-    ensures no_handle { slots core.old ≡ EMPTY_REF → IfErr result (λ cause. cause ≡ Refusal.NoHandle) }
-    ensures refused { slots core.old ≢ EMPTY_REF → IfErr result (λ cause. cause ≡ Refusal.OutOfMemory) }
-
-    // What was counted.
     ensures steps { IfOk result (λ told. Descends C.made steps.old steps.new
         (length (items core.old.shape)) (length (items core.new.shape)) (if is_some told then 1 else 0)) }
     ensures err_steps { OnErr result (Descends C.made steps.old steps.new
@@ -99,8 +71,8 @@ pub fn pairs_beside<K: Copy, V: Copy, A: Allocator + Copy>(
     core: &RbTree<(K, V), A>,
     told: Option<Beside>,
 ) -> Option<(Option<(K, V)>, Option<(K, V)>)>
-    requires last { IfSome told (λ beside. beside.last ≢ EMPTY_REF → IsHandle core.now.shape beside.last) }
-    requires next { IfSome told (λ beside. beside.next ≢ EMPTY_REF → IsHandle core.now.shape beside.next) }
+    requires last { IfSome told (λ beside. IsHandleOrNone core.now.shape beside.last) }
+    requires next { IfSome told (λ beside. IsHandleOrNone core.now.shape beside.next) }
     ensures same { is_some result ≡ is_some told }
     ensures found { IfSome told (λ beside. IfSome result (AreFoundAt core.now.shape beside.last beside.next)) }
 {

@@ -6,7 +6,7 @@ ghost use Rattle.std.specs.declared.cmp.Ordering.{Ordering};
 ghost use Rattle.i_tree.specs.Rb.Balance.{IsCore};
 ghost use Rattle.i_tree.specs.Rb.Place.{place_below};
 ghost use Rattle.i_tree.specs.Rb.Shape.{entries};
-ghost use Rattle.i_tree.specs.Rb.SearchPath.{SearchesBetween};
+ghost use Rattle.i_tree.specs.Rb.SearchPath.{AsksAlong, SearchesBetween};
 ghost use Rattle.i_tree.specs.Root.Descent.{Searches};
 ghost use Rattle.i_tree.specs.Root.BinarySearch.{TakesItems};
 ghost use Rattle.i_tree.specs.Rb.Items.{items_of};
@@ -40,6 +40,8 @@ pub fn search_down<T, A: Allocator + Copy, C: Counter, F: Fn(&T) -> Ordering>(
     ensures end { SearchesBetween (λ item answer. FnReturnsAt F.Fn f.now item answer) core.now.shape
         (place_below result.above result.on_right) result.found result.said }
     ensures steps { Searches C.made steps.old steps.new (length (entries core.now.shape)) 0 0 }
+    ensures asks { AsksAlong C.made (λ item answer. FnReturnsAt F.Fn f.now item answer)
+        steps.old steps.new core.now.shape }
     ensures core { IsCore core.now.shape }
 {
     let mut found = EMPTY_REF;

@@ -2,6 +2,7 @@ use Rattle.std.proofs.Common.{false, ◌<◌, ◌≡◌, ◌++◌, length, refl,
 use Rattle.i_tree.proofs.RbLemmas.Shape.Contexts.{subtree_at-none}
 use Rattle.i_tree.proofs.RbLemmas.SearchPath.Descent.{IsTop, cut_here, falls_on, path_top, path_end}
 use Rattle.i_tree.proofs.RbLemmas.SearchPath.Search.{le-not_gt, search_on}
+use Rattle.i_tree.proofs.RbLemmas.SearchPath.Asked.{asked_top, asked_on, asked_all}
 use Rattle.i_tree.proofs.RbLemmas.SearchPath.Counts.{counted_none, counted_compare, counted_removal, counted_all}
 use Rattle.i_tree.proofs.ExpiringLemmas.SearchPath.{followed_top, followed_end, followed_on, followed_gone}
 use Rattle.i_tree.proofs.ExpiringLemmas.Search.{last_found, next_found}
@@ -12,6 +13,7 @@ use Rattle.i_tree.specs.Expiring.Tree.{items}
 use Rattle.i_tree.specs.Rb.Shape.{entries, rank, left_at, right_at, subtree_at, occurs}
 use Rattle.i_tree.specs.Rb.Place.{place_below}
 use Rattle.i_tree.specs.Root.Ends.{FirstFinds}
+use Rattle.i_tree.specs.Root.Steps.{one_comparison, one_test, together}
 use Rattle.i_tree.specs.declared.TheConstants.{EMPTY_REF}
 use Rattle.i_tree.proofs.expiring.descent.descend.Goals as goal
 
@@ -24,6 +26,7 @@ loop-here-init g c =
       slots = refl;
       same = λ _. refl;
       follows = followed_top (g.L.Liveness.live c.args.lives.now) (goal.F-post g c.args.stands.now) c.args.core.now c.root-here.result c.root-here.ensures.part;
+      asked = asked_top g.met.C.Counter.law (MayCall (g.L.Liveness.live c.args.lives.now) (goal.F-post g c.args.stands.now)) (length (entries tree) ≡ length (entries tree)) tree c.args.steps.now _ c.root-here.ensures.part;
       counted = counted_none g.met.C.Counter.law c.args.steps.now (rank tree) _ _ (omega (arith, ap rank c.root-here.ensures.part));
       core = c.root-here.ensures.core;
       first = c.root-here.ensures.core;
@@ -76,13 +79,15 @@ loop-here-preserved-then-not-is_live g c =
     let read = c.top_below-here.ensures.part in
     let lower = rank_stays _ _ _ tree tree' here live gone (c.loop-here.last, c.loop-here.said) next c.top_below-here.ensures.live place read way in
     let expired = sym c.is_live.ensures ∙ c.if-not-is_live.true in
+    let counted = counted_removal g.met.C.Counter.law _ c.loop-here.steps c.add_test.new.self c.remove.new.steps _ (rank (subtree_at here tree)) (rank (subtree_at next tree')) _ (length (entries tree)) (length (entries tree')) c.loop-here.invariant.counted lower less c.add_test.ensures c.remove.ensures.steps in
     record {
       way = path_stays _ _ _ tree tree' here live gone (c.loop-here.last, c.loop-here.said) next c.top_below-here.ensures.live place read way;
       kept = Without-trans c.loop-here.invariant.kept (items_without (λ (other : g.row.K.Denot × g.row.V.Denot). g.L.Liveness.live c.args.lives.now other.0 ≡ false) tree tree' front here c.item.result.now back cut loses expired);
       slots = omega (arith, c.loop-here.invariant.slots, c.remove.ensures.spare, less);
       same = λ all. absurd (omega (arith, all, less, c.loop-here.invariant.counted.stores));
       follows = followed_gone (g.L.Liveness.live c.args.lives.now) (goal.F-post g c.args.stands.now) c.args.core.now c.loop-here.core here c.item.result.now c.item.ensures.value c.loop-here.invariant.follows c.remove.new.self next expired (omega (arith, less, c.loop-here.invariant.counted.stores));
-      counted = counted_removal g.met.C.Counter.law _ c.loop-here.steps c.add_test.new.self c.remove.new.steps _ (rank (subtree_at here tree)) (rank (subtree_at next tree')) _ (length (entries tree)) (length (entries tree')) c.loop-here.invariant.counted lower less c.add_test.ensures c.remove.ensures.steps;
+      asked = record { made = counted.made; counted = counted.counted; asked = λ same. absurd (omega (arith, same, less, c.loop-here.invariant.counted.stores)) };
+      counted = counted;
       core = c.remove.ensures.core;
       first = c.loop-here.invariant.first;
     }
@@ -137,6 +142,9 @@ loop-here-preserved g c =
       same = c.loop-here.invariant.same;
       follows = followed_on live May c.args.core.now c.loop-here.core here pair c.item.ensures.value c.loop-here.invariant.follows
           c.left-left.result c.right-right.result on_left on_right answer passed (c.is_le-on_right.ensures ∙ le-not_gt answer) c.select-here.result (c.select-here.ensures.first, c.select-here.ensures.other) called;
+      asked = asked_on g.met.C.Counter.law (MayCall live May) (length (entries tree) ≡ length (entries c.args.core.now.shape)) c.args.core.now.shape tree here pair c.item.ensures.value c.left-left.result c.right-right.result on_left on_right
+          answer called passed c.is_le-on_right.ensures c.select-here.result (c.select-here.ensures.first, c.select-here.ensures.other) _ c.loop-here.steps c.add_comparison.new.self c.loop-here.invariant.asked
+          (together one_test one_comparison) (g.met.C.Counter.law.both c.loop-here.steps c.add_test.new.self c.add_comparison.new.self one_test one_comparison c.add_test.ensures c.add_comparison.ensures) refl;
       counted = counted_compare g.met.C.Counter.law _ c.loop-here.steps c.add_test.new.self c.add_comparison.new.self _ (rank (subtree_at here tree)) (rank (subtree_at c.select-here.result tree)) _ _ c.loop-here.invariant.counted (falls g c)
           c.add_test.ensures c.add_comparison.ensures;
       core = c.loop-here.invariant.core;
@@ -168,3 +176,9 @@ returns-clause-follows g c =
     let tree = c.loop-here.core.shape in
     let empty = subtree_at-none c.loop-here.here tree (ap (λ handle. occurs handle tree) c.loop-here-test.false ∙ c.loop-here.invariant.core.handles.none_empty) in
     followed_end (g.L.Liveness.live c.args.lives.now) (goal.F-post g c.args.stands.now) c.args.core.now c.loop-here.core c.loop-here.here empty c.loop-here.invariant.follows
+
+pub returns-clause-asks : goal.returns-clause-asks
+returns-clause-asks g c same =
+    let tree = c.loop-here.core.shape in
+    let empty = subtree_at-none c.loop-here.here tree (ap (λ handle. occurs handle tree) c.loop-here-test.false ∙ c.loop-here.invariant.core.handles.none_empty) in
+    asked_all g.met.C.Counter.law (MayCall (g.L.Liveness.live c.args.lives.now) (goal.F-post g c.args.stands.now)) (length (entries tree) ≡ length (entries c.args.core.now.shape)) c.args.core.now.shape c.args.steps.now c.loop-here.steps (subtree_at c.loop-here.here tree) empty same c.loop-here.invariant.asked

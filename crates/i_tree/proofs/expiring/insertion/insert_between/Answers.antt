@@ -1,4 +1,4 @@
-use Rattle.std.proofs.Common.{◌≡◌, ◌+◌, ◌++◌, ◌∷◌, ℕ, false, length, sym, subst, ap, ◌∙◌, arith}
+use Rattle.std.proofs.Common.{◌≡◌, ◌+◌, ◌++◌, ◌∷◌, ℕ, false, length, refl, sym, subst, ap, ◌∙◌, arith}
 use Rattle.std.proofs.lemmas.List.{length-map}
 use Rattle.i_tree.proofs.ExpiringLemmas.Insertion.{calls_equal, handle_still, items_cut, none_removed, one_more, place_between, reads_still, slots_joined}
 use Rattle.i_tree.proofs.ExpiringLemmas.Search.{answer_neighbours}
@@ -22,19 +22,28 @@ insert_at-requires g c =
     (end.front, end.back, subst (IsPlaceBetween c.descend-end.new.core.shape end.front end.back) (sym c.place_below-place.ensures) end.between)
 
 -- a live key was called Equal, and nothing joins
-pub returns-then-is_eq-clause-equal : goal.returns-then-is_eq-clause-equal
-returns-then-is_eq-clause-equal g c _ =
+pub returns-then-is_eq-clause-pairs : goal.returns-then-is_eq-clause-pairs
+returns-then-is_eq-clause-pairs g c =
     let end = c.descend-end.ensures.end in
-    let last = c.descend-end.result.last in
-    let next = c.descend-end.result.next in
-    calls_equal (g.L.Liveness.live c.args.lives.now) (goal.F-post g c.args.stands.now) c.descend-end.new.core.shape (place_below c.descend-end.result.above c.descend-end.result.on_right) last c.descend-end.result.said next end
-    (equal_from c.descend-end.result.said (sym c.is_eq.ensures ∙ c.if-is_eq.true))
+    record {
+      joins = c.descend-end.ensures.kept;
+      equal = λ _. calls_equal (g.L.Liveness.live c.args.lives.now) (goal.F-post g c.args.stands.now) c.descend-end.new.core.shape (place_below c.descend-end.result.above c.descend-end.result.on_right) c.descend-end.result.last c.descend-end.result.said c.descend-end.result.next end
+          (equal_from c.descend-end.result.said (sym c.is_eq.ensures ∙ c.if-is_eq.true));
+      refused = tt;
+    }
 
-pub returns-then-is_eq-clause-joins : goal.returns-then-is_eq-clause-joins
-returns-then-is_eq-clause-joins g c = c.descend-end.ensures.kept
-
-pub returns-then-is_eq-clause-slots : goal.returns-then-is_eq-clause-slots
-returns-then-is_eq-clause-slots g c = c.descend-end.ensures.slots
+pub returns-then-is_eq-clause-inserts : goal.returns-then-is_eq-clause-inserts
+returns-then-is_eq-clause-inserts g c =
+    record {
+      core = c.descend-end.ensures.core;
+      err = tt;
+      with_spare = λ _. refl;
+      err_way = tt;
+      full = λ none full passes answers all. refl;
+      no_handle = λ _. tt;
+      refused = λ _. tt;
+      slots = c.descend-end.ensures.slots;
+    }
 
 pub returns-then-is_eq-clause-steps : goal.returns-then-is_eq-clause-steps
 returns-then-is_eq-clause-steps g c =
@@ -48,11 +57,8 @@ none_gone g c = none_removed c.args.core.now c.descend-end.new.core c.args.steps
 held : (g : _) (c : goal.In-Err g) → c.descend-end.new.core ≡ c.args.core.now
 held g c = c.descend-end.ensures.same (none_gone g c).1
 
-pub returns-in-Err-clause-err : goal.returns-in-Err-clause-err
-returns-in-Err-clause-err g c = (c.in-Err.ensures).takes.err ∙ held g c
-
-pub returns-in-Err-clause-err_place : goal.returns-in-Err-clause-err_place
-returns-in-Err-clause-err_place g c =
+pub returns-in-Err-clause-pairs : goal.returns-in-Err-clause-pairs
+returns-in-Err-clause-pairs g c =
     let end = c.descend-end.ensures.end in
     let last = c.descend-end.result.last in
     let next = c.descend-end.result.next in
@@ -61,28 +67,31 @@ returns-in-Err-clause-err_place g c =
     let tree = c.descend-end.new.core.shape in
     let place = place_below c.descend-end.result.above c.descend-end.result.on_right in
     let said = c.descend-end.result.said in
-    subst (λ (contents : Contents (g.row.K.Denot × g.row.V.Denot)). HasPlace live May (items contents.shape)) (held g c)
-    (values end.front, values end.back, items_cut live May tree place last said next end, place_between live May tree place last said next end (not_equal_from said (sym c.is_eq.ensures ∙ c.if-is_eq.false)))
+    record {
+      joins = tt;
+      equal = tt;
+      refused = subst (λ (contents : Contents (g.row.K.Denot × g.row.V.Denot)). HasPlace live May (items contents.shape)) (held g c)
+          (values end.front, values end.back, items_cut live May tree place last said next end, place_between live May tree place last said next end (not_equal_from said (sym c.is_eq.ensures ∙ c.if-is_eq.false)));
+    }
 
-pub returns-in-Err-clause-err_way : goal.returns-in-Err-clause-err_way
-returns-in-Err-clause-err_way g c passes answers = c.descend-end.ensures.follows.all_live passes answers (none_gone g c).1
-
-pub returns-in-Err-clause-with_spare : goal.returns-in-Err-clause-with_spare
-returns-in-Err-clause-with_spare g c spare = absurd (omega (arith, spare, (none_gone g c).0, ap (λ contents. contents.spare) (held g c)))
-
-pub returns-in-Err-clause-no_handle : goal.returns-in-Err-clause-no_handle
-returns-in-Err-clause-no_handle g c full = (c.in-Err.ensures).takes.no_handle (none_gone g c).0 (ap slots (held g c) ∙ full)
-
-pub returns-in-Err-clause-refused : goal.returns-in-Err-clause-refused
-returns-in-Err-clause-refused g c more = (c.in-Err.ensures).takes.refused (λ full. more (ap slots (sym (held g c)) ∙ full))
+pub returns-in-Err-clause-inserts : goal.returns-in-Err-clause-inserts
+returns-in-Err-clause-inserts g c =
+    let takes = (c.in-Err.ensures).takes in
+    record {
+      core = c.insert_at.ensures.core;
+      err = takes.err ∙ held g c;
+      with_spare = λ spare. absurd (omega (arith, spare, (none_gone g c).0, ap (λ contents. contents.spare) (held g c)));
+      err_way = λ passes answers. c.descend-end.ensures.follows.all_live passes answers (none_gone g c).1;
+      full = λ none full passes answers all. tt;
+      no_handle = λ full. takes.no_handle (none_gone g c).0 (ap slots (held g c) ∙ full);
+      refused = λ more. takes.refused (λ full. more (ap slots (sym (held g c)) ∙ full));
+      slots = tt;
+    }
 
 pub returns-in-Err-clause-err_steps : goal.returns-in-Err-clause-err_steps
 returns-in-Err-clause-err_steps g c =
     rw ((c.in-Err.ensures).takes.err, (c.in-Err.ensures).err_steps, length-map (entries c.args.core.now.shape) (λ (entry : ℕ × (g.row.K.Denot × g.row.V.Denot)). entry.1), length-map (entries c.descend-end.new.core.shape) (λ (entry : ℕ × (g.row.K.Denot × g.row.V.Denot)). entry.1))
     c.descend-end.ensures.steps
-
-pub returns-in-Err-clause-core : goal.returns-in-Err-clause-core
-returns-in-Err-clause-core g c = c.insert_at.ensures.core
 
 -- the pair has joined
 joined : (g : _) (c : goal.In_default g) → entries c.insert_at.new.self.shape ≡ c.descend-end.ensures.end.front ++ (c.in_default.field-0, c.args.pair) ∷ c.descend-end.ensures.end.back
@@ -99,8 +108,8 @@ more g c =
     let next = c.descend-end.result.next in
     one_more (entries c.descend-end.new.core.shape) (entries c.insert_at.new.self.shape) end.front (c.in_default.field-0, c.args.pair) end.back end.between.cut (joined g c)
 
-pub returns-clause-joins : goal.returns-clause-joins
-returns-clause-joins g c =
+pub returns-clause-pairs : goal.returns-clause-pairs
+returns-clause-pairs g c =
     let end = c.descend-end.ensures.end in
     let last = c.descend-end.result.last in
     let next = c.descend-end.result.next in
@@ -108,13 +117,34 @@ returns-clause-joins g c =
     let May = goal.F-post g c.args.stands.now in
     let tree = c.descend-end.new.core.shape in
     let place = place_below c.descend-end.result.above c.descend-end.result.on_right in
-    let said = c.descend-end.result.said in (
-      values end.front,
-      values end.back,
-      subst (Without (λ (other : g.row.K.Denot × g.row.V.Denot). live other.0 ≡ false) (items c.args.core.now.shape)) (items_cut live May tree place last said next end) c.descend-end.ensures.kept,
-      place_between live May tree place last said next end (not_equal_from said (sym c.is_eq.ensures ∙ c.if-is_eq.false)),
-      ap values (joined g c) ∙ values-append end.front ((c.in_default.field-0, c.args.pair) ∷ end.back),
-    )
+    let said = c.descend-end.result.said in
+    record {
+      joins = (
+        values end.front,
+        values end.back,
+        subst (Without (λ (other : g.row.K.Denot × g.row.V.Denot). live other.0 ≡ false) (items c.args.core.now.shape)) (items_cut live May tree place last said next end) c.descend-end.ensures.kept,
+        place_between live May tree place last said next end (not_equal_from said (sym c.is_eq.ensures ∙ c.if-is_eq.false)),
+        ap values (joined g c) ∙ values-append end.front ((c.in_default.field-0, c.args.pair) ∷ end.back),
+      );
+      equal = λ is. absurd (cc is);
+      refused = tt;
+    }
+
+pub returns-clause-inserts : goal.returns-clause-inserts
+returns-clause-inserts g c =
+    record {
+      core = c.insert_at.ensures.core;
+      err = tt;
+      with_spare = λ _. refl;
+      err_way = tt;
+      full = λ none full passes answers all.
+          let kept = c.descend-end.ensures.follows.none_gone passes answers all in
+          let refused = (c.in_default.ensures).takes.no_handle (ap (λ contents. contents.spare) kept ∙ none) (ap slots kept ∙ full) in
+          absurd (refused);
+      no_handle = λ _. tt;
+      refused = λ _. tt;
+      slots = slots_joined c.args.core.now c.descend-end.new.core c.insert_at.new.self c.descend-end.ensures.slots (c.in_default.ensures).takes.slots (more g c);
+    }
 
 pub returns-clause-last : goal.returns-clause-last
 returns-clause-last g c some =
@@ -140,20 +170,7 @@ returns-clause-neighbours g c found at =
     last c.descend-end.result.said next end (items c.args.core.now.shape) c.descend-end.ensures.kept
     found.0 found.1 (reads last found.0 at.0) (reads next found.1 at.1)
 
-pub returns-clause-slots : goal.returns-clause-slots
-returns-clause-slots g c =
-    slots_joined c.args.core.now c.descend-end.new.core c.insert_at.new.self c.descend-end.ensures.slots (c.in_default.ensures).takes.slots (more g c)
-
 pub returns-clause-steps : goal.returns-clause-steps
 returns-clause-steps g c =
     rw (length-map (entries c.args.core.now.shape) (λ (entry : ℕ × (g.row.K.Denot × g.row.V.Denot)). entry.1), length-map (entries c.insert_at.new.self.shape) (λ (entry : ℕ × (g.row.K.Denot × g.row.V.Denot)). entry.1))
     (counted_join g.met.C.Counter.law c.args.steps.now c.descend-end.new.steps c.insert_at.new.steps (length (entries c.args.core.now.shape)) (length (entries c.descend-end.new.core.shape)) (length (entries c.insert_at.new.self.shape)) c.descend-end.ensures.steps (c.in_default.ensures).steps (more g c))
-
-pub returns-clause-core : goal.returns-clause-core
-returns-clause-core g c = c.insert_at.ensures.core
-
-pub returns-clause-full : goal.returns-clause-full
-returns-clause-full g c none full passes answers all =
-    let same = c.descend-end.ensures.follows.none_gone passes answers all in
-    let refused = (c.in_default.ensures).takes.no_handle (ap (λ contents. contents.spare) same ∙ none) (ap slots same ∙ full) in
-    absurd (refused)

@@ -1,4 +1,5 @@
 use Rattle.std.proofs.Common.{ℕ, refl, sym, ap, ◌∙◌, arith}
+use Rattle.std.specs.Bool.{⊤}
 use Rattle.std.specs.Fn.{FnReturnsAt}
 use Rattle.std.proofs.lemmas.Fn.{says_at}
 use Rattle.std.specs.declared.cmp.Ordering.{Ordering}
@@ -7,15 +8,18 @@ use Rattle.i_tree.specs.Root.Ends.{StartsIn}
 use Rattle.i_tree.proofs.RbLemmas.Shape.Contexts.{subtree_at-none}
 use Rattle.i_tree.proofs.RbLemmas.SearchPath.Descent.{IsChosen, IsTop, cut_here, falls_left, falls_on, path_top, path_end}
 use Rattle.i_tree.proofs.RbLemmas.SearchPath.Search.{takes_item, search_on}
+use Rattle.i_tree.proofs.RbLemmas.SearchPath.Asked.{asked_top, asked_on, asked_all}
 use Rattle.i_tree.proofs.RbLemmas.SearchPath.Counts.{compared_none, compared_more, compared_all}
 use Rattle.i_tree.specs.Rb.Shape.{entries, left_at, right_at, occurs, rank, subtree_at}
 use Rattle.i_tree.specs.Rb.Place.{place_below}
+use Rattle.i_tree.specs.Root.Steps.{one_comparison}
 use Rattle.i_tree.proofs.rb.search.search_down.Goals as goal
 
 pub loop-here-init : goal.loop-here-init
 loop-here-init g c =
     record {
       way = path_top _ _ _ c.args.core.now.shape c.root-here.result tt (record { live = c.root-here.ensures.live; is = c.root-here.ensures.part });
+      asked = asked_top g.met.C.Counter.law (λ (value : g.row.T.Denot) (answer : Ordering). FnReturnsAt g.F.Fn c.args.f.now value answer) ⊤ c.args.core.now.shape c.args.steps.now _ c.root-here.ensures.part;
       counted = compared_none g.met.C.Counter.law c.args.steps.now _ _ (omega (arith, ap rank c.root-here.ensures.part));
     }
 
@@ -53,6 +57,8 @@ loop-here-preserved g c =
       way = search_on (λ (value : g.row.T.Denot) (answer : Ordering). FnReturnsAt g.F.Fn c.args.f.now value answer) (StartsIn (λ (entry : ℕ × g.row.T.Denot). FnReturnsAt g.F.Fn c.args.f.now entry.1 Greater)) (StartsIn (λ (entry : ℕ × g.row.T.Denot). FnReturnsAt g.F.Fn c.args.f.now entry.1 Greater)) tree here c.loop-here-test.true item c.item.ensures.value c.left-left.result c.right-right.result on_left on_right
           (place_below c.loop-here.above c.loop-here.on_right) c.loop-here.found c.loop-here.said c.loop-here.invariant.way c.f-answer.result (says_at g.F.Fn c.f-answer.ensures refl) c.is_le-on_right.result c.is_le-on_right.ensures (λ _ back holds. holds) (λ _ above back. above)
           c.select-found.result c.select-said.result c.select-here.result (c.select-found.ensures.first, c.select-found.ensures.other) (c.select-said.ensures.first, c.select-said.ensures.other) chosen;
+      asked = asked_on g.met.C.Counter.law (λ (value : g.row.T.Denot) (answer : Ordering). FnReturnsAt g.F.Fn c.args.f.now value answer) ⊤ tree tree here item c.item.ensures.value c.left-left.result c.right-right.result on_left on_right
+          c.f-answer.result (says_at g.F.Fn c.f-answer.ensures refl) c.is_le-on_right.result c.is_le-on_right.ensures c.select-here.result chosen _ c.loop-here.steps c.add_comparison.new.self c.loop-here.invariant.asked one_comparison c.add_comparison.ensures refl;
       counted = compared_more g.met.C.Counter.law _ c.loop-here.steps c.add_comparison.new.self _ _ _ c.loop-here.invariant.counted lower c.add_comparison.ensures;
     }
 
@@ -86,3 +92,21 @@ returns-after-loop-here-clause-end g c =
 pub returns-after-loop-here-clause-steps : goal.returns-after-loop-here-clause-steps
 returns-after-loop-here-clause-steps g c =
     compared_all g.met.C.Counter.law c.args.core.now.shape c.args.steps.now c.loop-here.steps _ c.root-here.ensures.core c.loop-here.invariant.counted
+
+pub returns-then-right-clause-asks : goal.returns-then-right-clause-asks
+returns-then-right-clause-asks g c =
+    let tree = c.args.core.now.shape in
+    let here = c.loop-here.here in
+    let left = c.left-left.result in
+    let on_left : IsTop tree (left_at here tree) left = record { live = c.left-left.ensures.live; is = c.left-left.ensures.part } in
+    let on_right : IsTop tree (right_at here tree) c.right-right.result = record { live = c.right-right.ensures.live; is = c.right-right.ensures.part } in
+    let asked = asked_on g.met.C.Counter.law (λ (value : g.row.T.Denot) (answer : Ordering). FnReturnsAt g.F.Fn c.args.f.now value answer) ⊤ tree tree here c.item.result.now c.item.ensures.value left c.right-right.result on_left on_right
+    c.f-answer.result (says_at g.F.Fn c.f-answer.ensures refl) c.is_le-on_right.result c.is_le-on_right.ensures left (λ _. c.if-left.true ∙ sym c.if-right.true, λ _. refl)
+    c.args.steps.now c.loop-here.steps c.add_comparison.new.self c.loop-here.invariant.asked one_comparison c.add_comparison.ensures refl in
+    asked_all g.met.C.Counter.law (λ (value : g.row.T.Denot) (answer : Ordering). FnReturnsAt g.F.Fn c.args.f.now value answer) ⊤ tree c.args.steps.now c.add_comparison.new.self (subtree_at left tree) (c.left-left.ensures.part ∙ c.left-left.ensures.empty c.if-left.true) tt asked
+
+pub returns-after-loop-here-clause-asks : goal.returns-after-loop-here-clause-asks
+returns-after-loop-here-clause-asks g c =
+    let tree = c.args.core.now.shape in
+    let empty = subtree_at-none c.loop-here.here tree (ap (λ handle. occurs handle tree) c.loop-here-test.false ∙ c.root-here.ensures.core.handles.none_empty) in
+    asked_all g.met.C.Counter.law (λ (value : g.row.T.Denot) (answer : Ordering). FnReturnsAt g.F.Fn c.args.f.now value answer) ⊤ tree c.args.steps.now c.loop-here.steps (subtree_at c.loop-here.here tree) empty tt c.loop-here.invariant.asked

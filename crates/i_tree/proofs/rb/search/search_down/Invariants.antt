@@ -1,6 +1,8 @@
+use Rattle.std.specs.Bool.{⊤}
 use Rattle.std.specs.Fn.{FnReturnsAt}
 use Rattle.std.specs.declared.cmp.Ordering.TheVariants.{Greater}
 use Rattle.i_tree.proofs.RbLemmas.SearchPath.Descent.{IsPath}
+use Rattle.i_tree.proofs.RbLemmas.SearchPath.Asked.{IsAsked}
 use Rattle.i_tree.proofs.RbLemmas.SearchPath.Counts.{IsCompared}
 use Rattle.i_tree.specs.Rb.Shape.{rank, subtree_at}
 use Rattle.i_tree.specs.Rb.Place.{place_below}
@@ -14,6 +16,7 @@ abbrev pub invariant-loop-here : goal.invariant-loop-here
 invariant-loop-here g l =
     record {
       way : IsPath (FindsNotAbove (λ item answer. FnReturnsAt g.F.Fn l.f item answer)) (StartsIn (λ entry. FnReturnsAt g.F.Fn l.f entry.1 Greater)) (EMPTY_REF, Greater) l.core.shape l.here (place_below l.above l.on_right) (l.found, l.said);
+      asked : IsAsked g.C.Counter.made (λ item answer. FnReturnsAt g.F.Fn l.f item answer) ⊤ l.core.shape l.fn.steps l.steps (subtree_at l.here l.core.shape);
       counted : IsCompared g.C.Counter.made l.fn.steps l.steps (rank l.core.shape) (rank (subtree_at l.here l.core.shape));
     }
 

@@ -14,11 +14,11 @@ use Rattle.i_tree.proofs.key.tree.KeyExpTree.insert_counted.Goals as goal
 joined : (g : _) (c : goal.In_default g) → is_some c.in_default.field-0 ≡ true
 joined g c =
     true_unless (is_some c.in_default.field-0)
-    (λ is_false. none_equal g.K.Ord.cmp c.args.key (is_live g.K.ExpiredKey.expiration g.E.Ord.cmp c.args.time) (items c.insert_between.new.core.shape) ((c.in_default.ensures).equal is_false))
+    (λ is_false. none_equal g.K.Ord.cmp c.args.key (is_live g.K.ExpiredKey.expiration g.E.Ord.cmp c.args.time) (items c.insert_between.new.core.shape) ((c.in_default.ensures).pairs.equal is_false))
 
 joins : (g : _) (c : goal.In_default g) → JoinsBetween (is_live g.K.ExpiredKey.expiration g.E.Ord.cmp c.args.time) (λ other answer. answer ≡ (if is_lt (g.K.Ord.cmp other c.args.key) then Less else Greater)) (c.args.key, c.args.val)
     (items c.self.inside.core.shape) (items c.insert_between.new.core.shape)
-joins g c = rw (joined g c) at (c.in_default.ensures).joins
+joins g c = rw (joined g c) at (c.in_default.ensures).pairs.joins
 
 rising : (g : _) (c : goal.In_default g) → IsRising g.K.Ord.cmp (items c.insert_between.new.core.shape)
 rising g c =
@@ -37,24 +37,24 @@ pub invariant_of-self-2 : goal.invariant_of-self-2
 invariant_of-self-2 g c = rising g c
 
 pub returns-clause-slots : goal.returns-clause-slots
-returns-clause-slots g c = rw (← c.self.view_is) (rw (joined g c) at (c.in_default.ensures).slots)
+returns-clause-slots g c = rw (← c.self.view_is) (rw (joined g c) at (c.in_default.ensures).inserts.slots)
 
 pub returns-clause-steps : goal.returns-clause-steps
 returns-clause-steps g c = rw (← c.self.view_is) (rw (joined g c) at (c.in_default.ensures).steps)
 
 pub returns-clause-full : goal.returns-clause-full
 returns-clause-full g c none full all =
-    let refused = (c.in_default.ensures).full (ap (λ contents. contents.spare) c.self.view_is ∙ none) (ap slots c.self.view_is ∙ full) (λ other. is_lt (g.K.Ord.cmp other c.args.key))
+    let refused = (c.in_default.ensures).inserts.full (ap (λ contents. contents.spare) c.self.view_is ∙ none) (ap slots c.self.view_is ∙ full) (λ other. is_lt (g.K.Ord.cmp other c.args.key))
     (λ other answer says. rw says (below-passes (is_lt (g.K.Ord.cmp other c.args.key)))) (rw c.self.view_is all) in
     sym refused ∙ joined g c
 
 pub returns-in-Err-clause-err : goal.returns-in-Err-clause-err
-returns-in-Err-clause-err g c = (c.in-Err.ensures).err ∙ c.self.view_is
+returns-in-Err-clause-err g c = (c.in-Err.ensures).inserts.err ∙ c.self.view_is
 
 pub returns-in-Err-clause-err_way : goal.returns-in-Err-clause-err_way
 returns-in-Err-clause-err_way g c =
     rw (← c.self.view_is)
-    ((c.in-Err.ensures).err_way (λ other. is_lt (g.K.Ord.cmp other c.args.key)) (λ other answer says. rw says (below-passes (is_lt (g.K.Ord.cmp other c.args.key)))))
+    ((c.in-Err.ensures).inserts.err_way (λ other. is_lt (g.K.Ord.cmp other c.args.key)) (λ other answer says. rw says (below-passes (is_lt (g.K.Ord.cmp other c.args.key)))))
 
 pub returns-in-Err-clause-err_steps : goal.returns-in-Err-clause-err_steps
 returns-in-Err-clause-err_steps g c = rw (← c.self.view_is) (c.in-Err.ensures).err_steps

@@ -1,6 +1,6 @@
 use Rattle.std.proofs.Common.{◌≡◌, true, false, not, is_some, Option, None, Some, Result, Ok, Err, refl, sym, ap, ◌∙◌}
 use Rattle.std.specs.Ordering.{is_gt, is_lt}
-use Rattle.i_tree.proofs.ExpiringLemmas.Insertion.{IfOk-joined, IsOk-joined, OnErr-joined}
+use Rattle.i_tree.proofs.ExpiringLemmas.Insertion.{IfOk-joined, OnErr-joined}
 use Rattle.i_tree.proofs.KeyLemmas.Insertion.{gains_or_loses, is_new, new_or_present, refused_new, rising_after}
 use Rattle.i_tree.proofs.RootLemmas.Results.{IfOk-both, OnErr-weaker}
 use Rattle.std.specs.declared.cmp.Ordering.{Ordering}
@@ -16,34 +16,31 @@ use Rattle.i_tree.proofs.key.tree.KeyExpTree.insert_new_counted.Goals as goal
 pub returns-clause-cases : goal.returns-clause-cases
 returns-clause-cases g c =
     rw (c.has_joined.ensures, ← c.self.view_is)
-    (IfOk-joined c.insert_between.result _
-    (IfOk-both c.insert_between.result c.insert_between.ensures.joins c.insert_between.ensures.equal
-    (λ told joins equal. new_or_present g.met.K.Ord.total c.args.key (is_live g.K.ExpiredKey.expiration g.E.Ord.cmp c.args.time) c.args.val (items c.self.inside.core.shape) (items c.insert_between.new.core.shape) c.self.invariant (is_some told) joins equal)))
+    (IfOk-both (has_joined c.insert_between.result) c.insert_between.ensures.pairs.joins c.insert_between.ensures.pairs.equal
+    (λ is_new joins equal. new_or_present g.met.K.Ord.total c.args.key (is_live g.K.ExpiredKey.expiration g.E.Ord.cmp c.args.time) c.args.val (items c.self.inside.core.shape) (items c.insert_between.new.core.shape) c.self.invariant is_new joins equal))
 
 pub returns-clause-ok : goal.returns-clause-ok
 returns-clause-ok g c =
     rw (c.has_joined.ensures, ← c.self.view_is)
-    (IfOk-joined c.insert_between.result _
-    (IfOk-both c.insert_between.result c.insert_between.ensures.joins c.insert_between.ensures.equal
-    (λ told joins equal. gains_or_loses g.met.K.Ord.total c.args.key (is_live g.K.ExpiredKey.expiration g.E.Ord.cmp c.args.time) c.args.val (items c.self.inside.core.shape) (items c.insert_between.new.core.shape) c.self.invariant (is_some told) joins)))
+    (IfOk-both (has_joined c.insert_between.result) c.insert_between.ensures.pairs.joins c.insert_between.ensures.pairs.equal
+    (λ is_new joins equal. gains_or_loses g.met.K.Ord.total c.args.key (is_live g.K.ExpiredKey.expiration g.E.Ord.cmp c.args.time) c.args.val (items c.self.inside.core.shape) (items c.insert_between.new.core.shape) c.self.invariant is_new joins))
 
 pub returns-clause-err : goal.returns-clause-err
 returns-clause-err g c =
-    rw c.has_joined.ensures (OnErr-joined c.insert_between.result _ (OnErr-weaker c.insert_between.result c.insert_between.ensures.err (λ same. same ∙ c.self.view_is)))
+    rw c.has_joined.ensures (OnErr-weaker (has_joined c.insert_between.result) c.insert_between.ensures.inserts.err (λ same. same ∙ c.self.view_is))
 
 pub returns-clause-err_new : goal.returns-clause-err_new
 returns-clause-err_new g c =
     rw (c.has_joined.ensures, ← c.self.view_is)
-    (OnErr-joined c.insert_between.result _
-    (OnErr-weaker c.insert_between.result c.insert_between.ensures.err_place
-    (refused_new g.met.K.Ord.total c.args.key (is_live g.K.ExpiredKey.expiration g.E.Ord.cmp c.args.time) (items c.self.inside.core.shape) c.self.invariant)))
+    (OnErr-weaker (has_joined c.insert_between.result) c.insert_between.ensures.pairs.refused
+    (refused_new g.met.K.Ord.total c.args.key (is_live g.K.ExpiredKey.expiration g.E.Ord.cmp c.args.time) (items c.self.inside.core.shape) c.self.invariant))
 
 rising : (g : _) (c : goal.After-has_joined g) (told : Result (Option _) Refusal) → c.insert_between.result ≡ told → IsRising g.K.Ord.cmp (items c.insert_between.new.core.shape)
 rising g c (Ok told) is =
     rising_after g.met.K.Ord.total c.args.key (is_live g.K.ExpiredKey.expiration g.E.Ord.cmp c.args.time) c.args.val (items c.self.inside.core.shape) (items c.insert_between.new.core.shape) c.self.invariant (is_some told)
-    (rw is at c.insert_between.ensures.joins)
+    (rw is at c.insert_between.ensures.pairs.joins)
 rising g c (Err cause) is =
-    let same : c.insert_between.new.core ≡ c.self.inside.core = rw is at c.insert_between.ensures.err in
+    let same : c.insert_between.new.core ≡ c.self.inside.core = rw is at c.insert_between.ensures.inserts.err in
     rw same c.self.invariant
 
 pub returns-clause-rising : goal.returns-clause-rising
@@ -58,35 +55,35 @@ adds : (g : _) (c : goal.After-has_joined g) (told : Result (Option _) Refusal) 
 adds g c (Ok (Some neighbours)) is =
     let lives = is_live g.K.ExpiredKey.expiration g.E.Ord.cmp c.args.time in
     let old = c.self.inside.core in
-    let absent = is_new g.met.K.Ord.total c.args.key lives (items old.shape) c.self.invariant c.args.val (items c.insert_between.new.core.shape) (rw is at c.insert_between.ensures.joins) in
+    let absent = is_new g.met.K.Ord.total c.args.key lives (items old.shape) c.self.invariant c.args.val (items c.insert_between.new.core.shape) (rw is at c.insert_between.ensures.pairs.joins) in
     record {
-      core = c.insert_between.ensures.core;
+      core = c.insert_between.ensures.inserts.core;
       err = tt;
       with_spare = λ _. refl;
       err_way = tt;
       full = λ none full all.
-          let refused : true ≡ false = rw is at (c.insert_between.ensures.full none full (λ other. not (is_gt (g.K.Ord.cmp other c.args.key))) (λ other answer says. ap (λ (r : Ordering). not (is_gt r)) says)
+          let refused : true ≡ false = rw is at (c.insert_between.ensures.inserts.full none full (λ other. not (is_gt (g.K.Ord.cmp other c.args.key))) (λ other answer says. ap (λ (r : Ordering). not (is_gt r)) says)
           (path_live g.K.Ord.cmp c.args.key lives (λ other. is_lt (g.K.Ord.cmp other c.args.key)) (λ other. not (is_gt (g.K.Ord.cmp other c.args.key))) (λ other differs. sym (not_gt-lt _ differs)) old.shape absent all)) in
           sym refused;
       no_handle = λ _. tt;
       refused = λ _. tt;
-      slots = rw is at c.insert_between.ensures.slots;
+      slots = rw is at c.insert_between.ensures.inserts.slots;
     }
-adds g c (Ok None) is = record { core = c.insert_between.ensures.core; slots = rw is at c.insert_between.ensures.slots }
+adds g c (Ok None) is = record { core = c.insert_between.ensures.inserts.core; slots = rw is at c.insert_between.ensures.inserts.slots }
 adds g c (Err cause) is =
     let lives = is_live g.K.ExpiredKey.expiration g.E.Ord.cmp c.args.time in
     let old = c.self.inside.core in
-    let absent = refused_new g.met.K.Ord.total c.args.key lives (items old.shape) c.self.invariant (rw is at c.insert_between.ensures.err_place) in
+    let absent = refused_new g.met.K.Ord.total c.args.key lives (items old.shape) c.self.invariant (rw is at c.insert_between.ensures.pairs.refused) in
     record {
-      core = c.insert_between.ensures.core;
-      err = rw is at c.insert_between.ensures.err;
-      with_spare = rw is at c.insert_between.ensures.with_spare;
+      core = c.insert_between.ensures.inserts.core;
+      err = rw is at c.insert_between.ensures.inserts.err;
+      with_spare = rw is at c.insert_between.ensures.inserts.with_spare;
       err_way =
           path_live g.K.Ord.cmp c.args.key lives (λ other. not (is_gt (g.K.Ord.cmp other c.args.key))) (λ other. is_lt (g.K.Ord.cmp other c.args.key)) (λ other. not_gt-lt _) old.shape absent
-          ((rw is at c.insert_between.ensures.err_way) (λ other. not (is_gt (g.K.Ord.cmp other c.args.key))) (λ other answer says. ap (λ (r : Ordering). not (is_gt r)) says));
+          ((rw is at c.insert_between.ensures.inserts.err_way) (λ other. not (is_gt (g.K.Ord.cmp other c.args.key))) (λ other answer says. ap (λ (r : Ordering). not (is_gt r)) says));
       full = λ none full all. refl;
-      no_handle = rw is at c.insert_between.ensures.no_handle;
-      refused = rw is at c.insert_between.ensures.refused;
+      no_handle = rw is at c.insert_between.ensures.inserts.no_handle;
+      refused = rw is at c.insert_between.ensures.inserts.refused;
       slots = tt;
     }
 
@@ -94,7 +91,7 @@ pub returns-clause-inserts : goal.returns-clause-inserts
 returns-clause-inserts g c = rw (c.has_joined.ensures, ← c.self.view_is) (adds g c c.insert_between.result refl)
 
 pub returns-clause-with_spare : goal.returns-clause-with_spare
-returns-clause-with_spare g c spare = rw c.has_joined.ensures (IsOk-joined c.insert_between.result (c.insert_between.ensures.with_spare (rw c.self.view_is spare)))
+returns-clause-with_spare g c spare = rw c.has_joined.ensures (c.insert_between.ensures.inserts.with_spare (rw c.self.view_is spare))
 
 pub returns-clause-steps : goal.returns-clause-steps
 returns-clause-steps g c = rw (c.has_joined.ensures, ← c.self.view_is) (IfOk-joined c.insert_between.result _ c.insert_between.ensures.steps)

@@ -1,8 +1,7 @@
 use Rattle.std.proofs.Common.{Ok, Err, is_some, subst}
-use Rattle.std.specs.Bool.{⊤}
 use Rattle.std.proofs.lemmas.Result.{err_from_is_err_and}
 use Rattle.i_tree.proofs.ExpiringLemmas.Insertion.{pairs_told}
-use Rattle.i_tree.proofs.StatusLemmas.TreeInsertion.{inserts_joined, joins_or_leaves, new_or_equal, refused_none}
+use Rattle.i_tree.proofs.StatusLemmas.TreeInsertion.{joins_or_leaves, new_or_equal, refused_none}
 use Rattle.i_tree.specs.Expiring.Live.{live_pairs}
 use Rattle.i_tree.specs.Expiring.Tree.{items}
 use Rattle.i_tree.specs.Root.Live.{is_live}
@@ -13,13 +12,13 @@ pub returns-clause-cases : goal.returns-clause-cases
 returns-clause-cases g c =
     rw (c.pairs_beside.ensures.same, ← c.self.view_is)
     (new_or_equal (is_live g.K.ExpiredVal.expiration g.E.Ord.cmp c.args.time) (goal.F-post g c.args.f) (c.args.key, c.args.val) (items c.self.inside.core.shape) (items c.insert_between.new.core.shape) (is_some c.in_ok-told.told)
-    c.in_ok-told.ensures.joins c.in_ok-told.ensures.equal)
+    c.in_ok-told.ensures.pairs.joins c.in_ok-told.ensures.pairs.equal)
 
 pub returns-clause-ok : goal.returns-clause-ok
 returns-clause-ok g c =
     rw (c.pairs_beside.ensures.same, ← c.self.view_is)
     (joins_or_leaves (is_live g.K.ExpiredVal.expiration g.E.Ord.cmp c.args.time) (goal.F-post g c.args.f) (c.args.key, c.args.val) (items c.self.inside.core.shape) (items c.insert_between.new.core.shape) (is_some c.in_ok-told.told)
-    c.in_ok-told.ensures.joins)
+    c.in_ok-told.ensures.pairs.joins)
 
 pub returns-clause-neighbours : goal.returns-clause-neighbours
 returns-clause-neighbours g c =
@@ -29,11 +28,9 @@ returns-clause-neighbours g c =
 
 pub returns-clause-inserts : goal.returns-clause-inserts
 returns-clause-inserts g c =
-    let ensures = c.in_ok-told.ensures in
     rw c.pairs_beside.ensures.same
     (subst (λ contents. StatusTreeInserts (is_live g.K.ExpiredVal.expiration g.E.Ord.cmp c.args.time) (goal.F-post g c.args.f) contents (Ok (is_some c.in_ok-told.told)) c.insert_between.new.core) c.self.view_is
-    (inserts_joined (is_live g.K.ExpiredVal.expiration g.E.Ord.cmp c.args.time) (goal.F-post g c.args.f) c.self.inside.core (Ok c.in_ok-told.told) c.insert_between.new.core
-    ensures.core ensures.err ensures.with_spare ensures.err_way ensures.full ensures.no_handle ensures.refused ensures.slots))
+    c.in_ok-told.ensures.inserts)
 
 pub returns-clause-steps : goal.returns-clause-steps
 returns-clause-steps g c = rw (c.pairs_beside.ensures.same, ← c.self.view_is) c.in_ok-told.ensures.steps
@@ -42,13 +39,11 @@ pub returns-in_err-told-clause-err_new : goal.returns-in_err-told-clause-err_new
 returns-in_err-told-clause-err_new g c =
     let p = err_from_is_err_and c.from_residual.result c.from_residual.ensures.1 in
     rw (p.1, ← c.self.view_is)
-    (refused_none (is_live g.K.ExpiredVal.expiration g.E.Ord.cmp c.args.time) (goal.F-post g c.args.f) (items c.self.inside.core.shape) c.in_err-told.ensures.err_place)
+    (refused_none (is_live g.K.ExpiredVal.expiration g.E.Ord.cmp c.args.time) (goal.F-post g c.args.f) (items c.self.inside.core.shape) c.in_err-told.ensures.pairs.refused)
 
 pub returns-in_err-told-clause-inserts : goal.returns-in_err-told-clause-inserts
 returns-in_err-told-clause-inserts g c =
     let p = err_from_is_err_and c.from_residual.result c.from_residual.ensures.1 in
-    let ensures = c.in_err-told.ensures in
     rw (p.1, p.2)
     (subst (λ contents. StatusTreeInserts (is_live g.K.ExpiredVal.expiration g.E.Ord.cmp c.args.time) (goal.F-post g c.args.f) contents (Err c.in_err-told.field-0.0) c.insert_between.new.core) c.self.view_is
-    (inserts_joined (is_live g.K.ExpiredVal.expiration g.E.Ord.cmp c.args.time) (goal.F-post g c.args.f) {N = ⊤} c.self.inside.core (Err c.in_err-told.field-0.0) c.insert_between.new.core
-    ensures.core ensures.err ensures.with_spare ensures.err_way ensures.full ensures.no_handle ensures.refused ensures.slots))
+    c.in_err-told.ensures.inserts)

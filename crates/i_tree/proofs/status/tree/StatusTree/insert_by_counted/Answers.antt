@@ -1,7 +1,7 @@
-use Rattle.std.proofs.Common.{is_some, subst, ◌∙◌}
-use Rattle.i_tree.proofs.ExpiringLemmas.Insertion.{IfOk-joined, IsOk-joined, OnErr-joined}
+use Rattle.std.proofs.Common.{subst, ◌∙◌}
+use Rattle.i_tree.proofs.ExpiringLemmas.Insertion.{IfOk-joined, OnErr-joined}
 use Rattle.i_tree.proofs.RootLemmas.Results.{IfOk-both, OnErr-weaker}
-use Rattle.i_tree.proofs.StatusLemmas.TreeInsertion.{inserts_joined, joins_or_leaves, new_or_equal, refused_none}
+use Rattle.i_tree.proofs.StatusLemmas.TreeInsertion.{joins_or_leaves, new_or_equal, refused_none}
 use Rattle.i_tree.specs.Expiring.Insertion.{has_joined}
 use Rattle.i_tree.specs.Expiring.Tree.{items}
 use Rattle.i_tree.specs.Root.Live.{is_live}
@@ -11,38 +11,33 @@ use Rattle.i_tree.proofs.status.tree.StatusTree.insert_by_counted.Goals as goal
 pub returns-clause-cases : goal.returns-clause-cases
 returns-clause-cases g c =
     rw (c.has_joined.ensures, ← c.self.view_is)
-    (IfOk-joined c.insert_between.result _
-    (IfOk-both c.insert_between.result c.insert_between.ensures.joins c.insert_between.ensures.equal
-    (λ told. new_or_equal (is_live g.K.ExpiredVal.expiration g.E.Ord.cmp c.args.time) (goal.F-post g c.args.f) (c.args.key, c.args.val) (items c.self.inside.core.shape) (items c.insert_between.new.core.shape) (is_some told))))
+    (IfOk-both (has_joined c.insert_between.result) c.insert_between.ensures.pairs.joins c.insert_between.ensures.pairs.equal
+    (new_or_equal (is_live g.K.ExpiredVal.expiration g.E.Ord.cmp c.args.time) (goal.F-post g c.args.f) (c.args.key, c.args.val) (items c.self.inside.core.shape) (items c.insert_between.new.core.shape)))
 
 pub returns-clause-ok : goal.returns-clause-ok
 returns-clause-ok g c =
     rw (c.has_joined.ensures, ← c.self.view_is)
-    (IfOk-joined c.insert_between.result _
-    (IfOk-both c.insert_between.result c.insert_between.ensures.joins c.insert_between.ensures.equal
-    (λ told joins equal. joins_or_leaves (is_live g.K.ExpiredVal.expiration g.E.Ord.cmp c.args.time) (goal.F-post g c.args.f) (c.args.key, c.args.val) (items c.self.inside.core.shape) (items c.insert_between.new.core.shape) (is_some told) joins)))
+    (IfOk-both (has_joined c.insert_between.result) c.insert_between.ensures.pairs.joins c.insert_between.ensures.pairs.equal
+    (λ is_new joins equal. joins_or_leaves (is_live g.K.ExpiredVal.expiration g.E.Ord.cmp c.args.time) (goal.F-post g c.args.f) (c.args.key, c.args.val) (items c.self.inside.core.shape) (items c.insert_between.new.core.shape) is_new joins))
 
 pub returns-clause-err : goal.returns-clause-err
 returns-clause-err g c =
-    rw c.has_joined.ensures (OnErr-joined c.insert_between.result _ (OnErr-weaker c.insert_between.result c.insert_between.ensures.err (λ same. same ∙ c.self.view_is)))
+    rw c.has_joined.ensures (OnErr-weaker (has_joined c.insert_between.result) c.insert_between.ensures.inserts.err (λ same. same ∙ c.self.view_is))
 
 pub returns-clause-err_new : goal.returns-clause-err_new
 returns-clause-err_new g c =
     rw (c.has_joined.ensures, ← c.self.view_is)
-    (OnErr-joined c.insert_between.result _
-    (OnErr-weaker c.insert_between.result c.insert_between.ensures.err_place
-    (refused_none (is_live g.K.ExpiredVal.expiration g.E.Ord.cmp c.args.time) (goal.F-post g c.args.f) (items c.self.inside.core.shape))))
+    (OnErr-weaker (has_joined c.insert_between.result) c.insert_between.ensures.pairs.refused
+    (refused_none (is_live g.K.ExpiredVal.expiration g.E.Ord.cmp c.args.time) (goal.F-post g c.args.f) (items c.self.inside.core.shape)))
 
 pub returns-clause-inserts : goal.returns-clause-inserts
 returns-clause-inserts g c =
-    let ensures = c.insert_between.ensures in
     rw c.has_joined.ensures
     (subst (λ contents. StatusTreeInserts (is_live g.K.ExpiredVal.expiration g.E.Ord.cmp c.args.time) (goal.F-post g c.args.f) contents (has_joined c.insert_between.result) c.insert_between.new.core) c.self.view_is
-    (inserts_joined (is_live g.K.ExpiredVal.expiration g.E.Ord.cmp c.args.time) (goal.F-post g c.args.f) c.self.inside.core c.insert_between.result c.insert_between.new.core
-    ensures.core ensures.err ensures.with_spare ensures.err_way ensures.full ensures.no_handle ensures.refused ensures.slots))
+    c.insert_between.ensures.inserts)
 
 pub returns-clause-with_spare : goal.returns-clause-with_spare
-returns-clause-with_spare g c spare = rw c.has_joined.ensures (IsOk-joined c.insert_between.result (c.insert_between.ensures.with_spare (rw c.self.view_is spare)))
+returns-clause-with_spare g c spare = rw c.has_joined.ensures (c.insert_between.ensures.inserts.with_spare (rw c.self.view_is spare))
 
 pub returns-clause-steps : goal.returns-clause-steps
 returns-clause-steps g c = rw (c.has_joined.ensures, ← c.self.view_is) (IfOk-joined c.insert_between.result _ c.insert_between.ensures.steps)
@@ -51,4 +46,4 @@ pub returns-clause-err_steps : goal.returns-clause-err_steps
 returns-clause-err_steps g c = rw (c.has_joined.ensures, ← c.self.view_is) (OnErr-joined c.insert_between.result _ c.insert_between.ensures.err_steps)
 
 pub returns-clause-core : goal.returns-clause-core
-returns-clause-core g c = c.insert_between.ensures.core
+returns-clause-core g c = c.insert_between.ensures.inserts.core
