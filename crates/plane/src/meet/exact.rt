@@ -33,13 +33,13 @@ pub fn meet(one: Edge, other: Edge) -> bool
 
 /// How far it is from one point to another, along x and along y. A difference of two `i32` takes 33 bits.
 #[derive(Clone, Copy)]
-struct Way {
-    x: i64,
-    y: i64,
+pub struct Way {
+    pub x: i64,
+    pub y: i64,
 }
 
 /// The way from the edge's start to its end.
-fn way_along(edge: Edge) -> Way
+pub fn way_along(edge: Edge) -> Way
     ensures x { result.x ≡ edge.x1 -ℤ edge.x0 }
     ensures y { result.y ≡ edge.y1 -ℤ edge.y0 }
 {
@@ -61,7 +61,7 @@ fn way_between(one: Edge, other: Edge) -> Way
 }
 
 /// The cross product of two ways.
-fn cross_product(one: Way, other: Way) -> i128
+pub fn cross_product(one: Way, other: Way) -> i128
     ensures { result ≡ cross one.x one.y other.x other.y }
 {
     product(one.x, other.y) - product(one.y, other.x)
