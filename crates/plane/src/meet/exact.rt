@@ -1,11 +1,12 @@
 //! Whether two edges share a point, in whole numbers.
 
-ghost use Rattle.std.specs.Prelude.{◌≡◌, ◌^◌, ◌-ℤ◌, ◌*ℤ◌, ◌≤ℤ◌, ◌<ℤ◌, pos, neg_ℤ, MatchBool};
+ghost use Rattle.std.specs.Prelude.{◌≡◌, ◌-ℤ◌, ◌≤ℤ◌, MatchBool};
 ghost use Rattle.plane.specs.Meet.Boxes.{RangesMeet, BoxesMeet};
 ghost use Rattle.plane.specs.Meet.Crosses.{cross, IsPart};
 ghost use Rattle.plane.specs.Meet.Edges.{Meet};
 
 use crate::edge::Edge;
+use crate::ways::product;
 
 /// Whether the edges share a point. Both ends of an edge are of it, and an edge may be a point; nothing is rounded.
 ///
@@ -65,15 +66,6 @@ pub fn cross_product(one: Way, other: Way) -> i128
     ensures { result ≡ cross one.x one.y other.x other.y }
 {
     product(one.x, other.y) - product(one.y, other.x)
-}
-
-/// The product. The bounds say that the difference of two products fits too.
-fn product(one: i64, other: i64) -> i128
-    ensures value { result ≡ one *ℤ other }
-    ensures above { neg_ℤ (pos (2 ^ 126)) <ℤ result }
-    ensures upto { result ≤ℤ pos (2 ^ 126) }
-{
-    one as i128 * other as i128
 }
 
 /// Whether the part lies between 0 and the whole. All four comparisons are made, since a branch between them would be
