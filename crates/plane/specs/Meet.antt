@@ -1,4 +1,5 @@
 pub mod Boxes
 pub mod Crosses
 pub mod Edges
+pub mod Kinds
 pub mod Meetings

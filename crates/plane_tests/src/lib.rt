@@ -6,6 +6,8 @@ mod chains;
 #[cfg(test)]
 mod edges;
 #[cfg(test)]
+mod kinds;
+#[cfg(test)]
 mod located;
 #[cfg(test)]
 mod located_refused;

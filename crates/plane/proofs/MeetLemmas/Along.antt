@@ -10,7 +10,7 @@ use Rattle.plane.proofs.MeetLemmas.Identities.{Term, number, plus, minus, times,
 use Rattle.plane.proofs.MeetLemmas.Shares.{whole, part_of_one, part_of_other}
 
 -- A whole point, as one of n parts.
-abbrev whole_point : (n : ℕ) → 0 < n → ℤ → ℤ → RationalPoint
+abbrev pub whole_point : (n : ℕ) → 0 < n → ℤ → ℤ → RationalPoint
 whole_point n some x y = record {
   n = n;
   x = pos n *ℤ x;
@@ -19,13 +19,13 @@ whole_point n some x y = record {
 }
 
 -- A whole point of an edge: of how many parts it is one, and its share.
-record Lies (edge : Edge) (x y : ℤ) : Type 0 where
-  n : ℕ
-  some : 0 < n
-  of_edge : IsOf edge (whole_point n some x y)
+pub record Lies (edge : Edge) (x y : ℤ) : Type 0 where
+  pub n : ℕ
+  pub some : 0 < n
+  pub of_edge : IsOf edge (whole_point n some x y)
 
 -- both ends are of an edge, whatever the parts are
-starts : (edge : Edge) (n : ℕ) (some : 0 < n) → IsOf edge (whole_point n some edge.x0 edge.y0)
+pub starts : (edge : Edge) (n : ℕ) (some : 0 < n) → IsOf edge (whole_point n some edge.x0 edge.y0)
 starts edge n some = (
   0,
   record {
@@ -35,7 +35,7 @@ starts edge n some = (
   },
 )
 
-ends : (edge : Edge) (n : ℕ) (some : 0 < n) → IsOf edge (whole_point n some edge.x1 edge.y1)
+pub ends : (edge : Edge) (n : ℕ) (some : 0 < n) → IsOf edge (whole_point n some edge.x1 edge.y1)
 ends edge n some = (
   n,
   record {
@@ -117,7 +117,7 @@ lies_down edge x y downwards above upto line =
     (identity (times (from edge.x1 edge.x0) (number x)) (plus (times (from edge.x1 edge.x0) (number edge.x0)) (times (from x edge.x0) (from edge.x0 edge.x1))) (omega arith))
     (identity (times (from edge.x1 edge.x0) (number y)) (plus (times (from edge.x1 edge.x0) (number edge.y0)) (times (from x edge.x0) (from edge.y0 edge.y1))) (omega (arith, fact)))
 
-lies : (edge : Edge) (x y : ℤ) → edge.x0 ≢ edge.x1 → int_min edge.x0 edge.x1 ≤ℤ x → x ≤ℤ int_max edge.x0 edge.x1 → ((x -ℤ edge.x0) *ℤ (edge.y1 -ℤ edge.y0)) ≡ ((y -ℤ edge.y0) *ℤ (edge.x1 -ℤ edge.x0)) → Lies edge x y
+pub lies : (edge : Edge) (x y : ℤ) → edge.x0 ≢ edge.x1 → int_min edge.x0 edge.x1 ≤ℤ x → x ≤ℤ int_max edge.x0 edge.x1 → ((x -ℤ edge.x0) *ℤ (edge.y1 -ℤ edge.y0)) ≡ ((y -ℤ edge.y0) *ℤ (edge.x1 -ℤ edge.x0)) → Lies edge x y
 lies edge x y apart above upto line =
     by_lt_z edge.x0 edge.x1
     (λ upwards. let bounds = bounds_up edge.x0 edge.x1 x upwards above upto in lies_up edge x y upwards bounds.0 bounds.1 line)
@@ -168,7 +168,7 @@ meets_along_x one other apart along =
 -- ---- the same where the one is vertical or a point: by turning the plane over, or by the other edge
 
 -- the edge in a plane whose x and y have changed places
-abbrev flipped : Edge → Edge
+abbrev pub flipped : Edge → Edge
 flipped edge = record {
   x0 = edge.y0;
   y0 = edge.x0;
@@ -209,7 +209,7 @@ none_back s t none round = let fact = same_of s (number (pos 0)) none in identit
 abbrev cross_back : (a b c d e f g h : ℤ) → Term
 cross_back a b c d e f g h = minus (times (minus (number a) (number b)) (minus (number c) (number d))) (times (minus (number e) (number f)) (minus (number g) (number h)))
 
-along-flipped : (one other : Edge) → Along one other → Along (flipped one) (flipped other)
+pub along-flipped : (one other : Edge) → Along one other → Along (flipped one) (flipped other)
 along-flipped one other along = record {
   parallel = none_back (cross_back one.x1 one.x0 other.y1 other.y0 one.y1 one.y0 other.x1 other.x0) (cross_back one.y1 one.y0 other.x1 other.x0 one.x1 one.x0 other.y1 other.y0) along.parallel (omega arith);
   of_one = none_back (cross_back other.x0 one.x0 other.y1 other.y0 other.y0 one.y0 other.x1 other.x0) (cross_back other.y0 one.y0 other.x1 other.x0 other.x0 one.x0 other.y1 other.y0) along.of_one (omega arith);
@@ -220,7 +220,7 @@ along-flipped one other along = record {
   };
 }
 
-along_comm : (one other : Edge) → Along one other → Along other one
+pub along_comm : (one other : Edge) → Along one other → Along other one
 along_comm one other along = record {
   parallel = none_back (cross_back one.x1 one.x0 other.y1 other.y0 one.y1 one.y0 other.x1 other.x0) (cross_back other.x1 other.x0 one.y1 one.y0 other.y1 other.y0 one.x1 one.x0) along.parallel (omega arith);
   of_one = none_back (cross_back other.x0 one.x0 one.y1 one.y0 other.y0 one.y0 one.x1 one.x0) (cross_back one.x0 other.x0 one.y1 one.y0 one.y0 other.y0 one.x1 one.x0) along.of_other (omega arith);

@@ -23,7 +23,7 @@ parts_above a rest low start end first second =
     at_most (times whole (number low)) (plus (times whole (number start)) (times (number (pos a)) (minus (number end) (number start))))
     (omega (arith, mul-le-mul_left rest (le_out low start first), mul-le-mul_left a (le_out low end second)))
 
-way_above : (n a : ℕ) (low start end : ℤ) → a ≤ n → low ≤ℤ start → low ≤ℤ end → (pos n *ℤ low) ≤ℤ ((pos n *ℤ start) +ℤ (pos a *ℤ (end -ℤ start)))
+pub way_above : (n a : ℕ) (low start end : ℤ) → a ≤ n → low ≤ℤ start → low ≤ℤ end → (pos n *ℤ low) ≤ℤ ((pos n *ℤ start) +ℤ (pos a *ℤ (end -ℤ start)))
 way_above n a low start end share first second =
     subst (λ (m : ℕ). (pos m *ℤ low) ≤ℤ ((pos m *ℤ start) +ℤ (pos a *ℤ (end -ℤ start)))) (sub-add_cancel share) (parts_above a (n - a) low start end first second)
 
@@ -34,7 +34,7 @@ parts_below a rest high start end first second =
     at_most (plus (times whole (number start)) (times (number (pos a)) (minus (number end) (number start)))) (times whole (number high))
     (omega (arith, mul-le-mul_left rest (le_out start high first), mul-le-mul_left a (le_out end high second)))
 
-way_below : (n a : ℕ) (high start end : ℤ) → a ≤ n → start ≤ℤ high → end ≤ℤ high → ((pos n *ℤ start) +ℤ (pos a *ℤ (end -ℤ start))) ≤ℤ (pos n *ℤ high)
+pub way_below : (n a : ℕ) (high start end : ℤ) → a ≤ n → start ≤ℤ high → end ≤ℤ high → ((pos n *ℤ start) +ℤ (pos a *ℤ (end -ℤ start))) ≤ℤ (pos n *ℤ high)
 way_below n a high start end share first second =
     subst (λ (m : ℕ). ((pos m *ℤ start) +ℤ (pos a *ℤ (end -ℤ start))) ≤ℤ (pos m *ℤ high)) (sub-add_cancel share) (parts_below a (n - a) high start end first second)
 

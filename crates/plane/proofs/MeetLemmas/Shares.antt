@@ -5,7 +5,7 @@ use Rattle.std.proofs.lemmas.Int.{ints, by_lt_z}
 use Rattle.std.proofs.Math.Nat.{mul-le-mul_right}
 use Rattle.plane.specs.declared.edge.Edge.{Edge}
 use Rattle.plane.specs.Meet.Crosses.{cross, IsPart}
-use Rattle.plane.specs.Meet.Edges.{RationalPoint, IsOf, Meet}
+use Rattle.plane.specs.Meet.Edges.{RationalPoint, IsAtShare, IsOf, Meet}
 use Rattle.plane.proofs.MeetLemmas.Identities.{Term, number, plus, minus, times, identity, same_of, unscaled}
 
 -- The cross product as an expression.
@@ -67,6 +67,20 @@ part : (n a : ℕ) (part whole : ℤ) → 0 < n → a ≤ n → (pos n *ℤ part
 part n a s (pos d) some share same = part_up n a d s some share same
 part n a s (negsuc d) some share same = part_down n a d s some share same
 
+-- the share of the one at which a common point lies, by the cross products
+pub share_of_one : (one other : Edge) (point : RationalPoint) (a b : ℕ) → IsAtShare one point a → IsAtShare other point b → (pos point.n *ℤ part_of_one one other) ≡ (pos a *ℤ whole one other)
+share_of_one one other point a b first second =
+    let n = pos point.n in
+    let wx = other.x0 -ℤ one.x0 in
+    let wy = other.y0 -ℤ one.y0 in
+    let ux = one.x1 -ℤ one.x0 in
+    let uy = one.y1 -ℤ one.y0 in
+    let vx = other.x1 -ℤ other.x0 in
+    let vy = other.y1 -ℤ other.y0 in
+    let x = between point.n a b one.x0 ux other.x0 vx (sym first.x ∙ second.x) in
+    let y = between point.n a b one.y0 uy other.y0 vy (sym first.y ∙ second.y) in
+    sym (cross_scaled n wx wy vx vy) ∙ crossed (pos a) (pos b) (n *ℤ wx) (n *ℤ wy) ux uy vx vy x y
+
 -- edges that meet have parts
 pub parts_of_meet : (one other : Edge) → Meet one other → IsPart (part_of_one one other) (whole one other) × IsPart (part_of_other one other) (whole one other)
 parts_of_meet one other (point, (a, first), (b, second)) =
@@ -79,7 +93,7 @@ parts_of_meet one other (point, (a, first), (b, second)) =
     let vy = other.y1 -ℤ other.y0 in
     let x = between point.n a b one.x0 ux other.x0 vx (sym first.x ∙ second.x) in
     let y = between point.n a b one.y0 uy other.y0 vy (sym first.y ∙ second.y) in (
-      part point.n a (cross wx wy vx vy) (cross ux uy vx vy) point.positive first.share (sym (cross_scaled n wx wy vx vy) ∙ crossed (pos a) (pos b) (n *ℤ wx) (n *ℤ wy) ux uy vx vy x y),
+      part point.n a (cross wx wy vx vy) (cross ux uy vx vy) point.positive first.share (share_of_one one other point a b first second),
       part point.n b (cross wx wy ux uy) (cross ux uy vx vy) point.positive second.share (sym (cross_scaled n wx wy ux uy) ∙ crossed_back (pos a) (pos b) (n *ℤ wx) (n *ℤ wy) ux uy vx vy x y),
     )
 

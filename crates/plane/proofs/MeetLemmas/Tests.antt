@@ -31,7 +31,7 @@ meet-of_crosses one other all first second crosses some of_one of_other =
     meet-of_parts one other (λ none. some (all_is ∙ none)) (rw (← first_is, ← all_is) of_one) (rw (← second_is, ← all_is) of_other)
 
 -- a part of nothing is nothing
-part_of_none : (part all : ℤ) → all ≡ pos 0 → IsPart part all → part ≡ pos 0
+pub part_of_none : (part all : ℤ) → all ≡ pos 0 → IsPart part all → part ≡ pos 0
 part_of_none part all none is_part = omega (arith, ints)
 
 -- parallel edges that have both meet where their boxes do

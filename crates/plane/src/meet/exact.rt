@@ -1,11 +1,12 @@
 //! Whether two edges share a point, in whole numbers.
 
-ghost use Rattle.std.specs.Prelude.{◌≡◌, ◌^◌, ◌-ℤ◌, ◌*ℤ◌, ◌≤ℤ◌, ◌<ℤ◌, pos, neg_ℤ, MatchBool};
+ghost use Rattle.std.specs.Prelude.{◌≡◌, ◌-ℤ◌, ◌≤ℤ◌, MatchBool};
 ghost use Rattle.plane.specs.Meet.Boxes.{RangesMeet, BoxesMeet};
 ghost use Rattle.plane.specs.Meet.Crosses.{cross, IsPart};
 ghost use Rattle.plane.specs.Meet.Edges.{Meet};
 
 use crate::edge::Edge;
+use crate::ways::product;
 
 /// Whether the edges share a point. Both ends of an edge are of it, and an edge may be a point; nothing is rounded.
 ///
@@ -33,13 +34,13 @@ pub fn meet(one: Edge, other: Edge) -> bool
 
 /// How far it is from one point to another, along x and along y. A difference of two `i32` takes 33 bits.
 #[derive(Clone, Copy)]
-struct Way {
-    x: i64,
-    y: i64,
+pub struct Way {
+    pub x: i64,
+    pub y: i64,
 }
 
 /// The way from the edge's start to its end.
-fn way_along(edge: Edge) -> Way
+pub fn way_along(edge: Edge) -> Way
     ensures x { result.x ≡ edge.x1 -ℤ edge.x0 }
     ensures y { result.y ≡ edge.y1 -ℤ edge.y0 }
 {
@@ -61,19 +62,10 @@ fn way_between(one: Edge, other: Edge) -> Way
 }
 
 /// The cross product of two ways.
-fn cross_product(one: Way, other: Way) -> i128
+pub fn cross_product(one: Way, other: Way) -> i128
     ensures { result ≡ cross one.x one.y other.x other.y }
 {
     product(one.x, other.y) - product(one.y, other.x)
-}
-
-/// The product. The bounds say that the difference of two products fits too.
-fn product(one: i64, other: i64) -> i128
-    ensures value { result ≡ one *ℤ other }
-    ensures above { neg_ℤ (pos (2 ^ 126)) <ℤ result }
-    ensures upto { result ≤ℤ pos (2 ^ 126) }
-{
-    one as i128 * other as i128
 }
 
 /// Whether the part lies between 0 and the whole. All four comparisons are made, since a branch between them would be

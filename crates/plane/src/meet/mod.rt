@@ -8,10 +8,12 @@ use crate::edge::Edge;
 use crate::pairs::{first_pair, pairs_among, pairs_between};
 pub use exact::meet;
 use i_tree::Refusal;
+pub use kinds::{Meeting, how_they_meet};
 use std::alloc::Allocator;
 
 mod boxes;
 mod exact;
+mod kinds;
 
 /// Appends each pair of places `(i, j)` whose edges meet, i below j, once. The order of the pairs is open.
 ///

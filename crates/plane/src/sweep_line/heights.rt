@@ -9,6 +9,7 @@ ghost use Rattle.plane.specs.SweepLine.Heights.{height_by_run as height_of};
 
 use crate::edge::Edge;
 use crate::point::Point;
+use crate::ways::product;
 use std::cmp::Ordering;
 
 /// The edge from its lesser end along x to its greater. A vertical edge, or a point, stays as it is.
@@ -99,11 +100,4 @@ fn way(start: i32, end: i32) -> i64
     ensures { result ≡ end -ℤ start }
 {
     end as i64 - start as i64
-}
-
-/// The product of two ways. Of factors that have 64 bits each, one multiplication makes it.
-fn product(one: i64, other: i64) -> i128
-    ensures { result ≡ one *ℤ other }
-{
-    one as i128 * other as i128
 }

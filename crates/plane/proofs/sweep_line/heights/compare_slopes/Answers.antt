@@ -26,9 +26,9 @@ returns c =
     let way_3 : FitsSigned w64 c.way-3.result = record { sfits = c.way-3.type_inv } in
     let way_4 : FitsSigned w64 c.way-4.result = record { sfits = c.way-4.type_inv } in
     let steepness : c.product-steepness.result ≡ rise_by_run one other =
-    (simp to_z-of_z at c.product-steepness.ensures) ∙ ap (λ (z : ℤ). z *ℤ c.way-2.result) rises ∙ ap (λ (z : ℤ). rise one *ℤ z) other_runs in
+    (simp to_z-of_z at c.product-steepness.ensures.value) ∙ ap (λ (z : ℤ). z *ℤ c.way-2.result) rises ∙ ap (λ (z : ℤ). rise one *ℤ z) other_runs in
     let other_steepness : c.product-other_steepness.result ≡ rise_by_run other one =
-    (simp to_z-of_z at c.product-other_steepness.ensures) ∙ ap (λ (z : ℤ). z *ℤ c.way-4.result) other_rises ∙ ap (λ (z : ℤ). rise other *ℤ z) runs in
+    (simp to_z-of_z at c.product-other_steepness.ensures.value) ∙ ap (λ (z : ℤ). z *ℤ c.way-4.result) other_rises ∙ ap (λ (z : ℤ). rise other *ℤ z) runs in
     let wide : FitsSigned w128 c.product-steepness.result = record { sfits = c.product-steepness.type_inv } in
     let other_wide : FitsSigned w128 c.product-other_steepness.result = record { sfits = c.product-other_steepness.type_inv } in
     (simp to_z-of_z at c.cmp.ensures)

@@ -25,9 +25,9 @@ returns c =
     let way_3 : FitsSigned w64 c.way-3.result = record { sfits = c.way-3.type_inv } in
     let way_4 : FitsSigned w64 c.way-4.result = record { sfits = c.way-4.type_inv } in
     let climb : c.product-climb.result ≡ (rise edge *ℤ (point.x -ℤ edge.x0)) =
-    (simp to_z-of_z at c.product-climb.ensures) ∙ ap (λ (z : ℤ). z *ℤ c.way-2.result) rises ∙ ap (λ (z : ℤ). rise edge *ℤ z) goes in
+    (simp to_z-of_z at c.product-climb.ensures.value) ∙ ap (λ (z : ℤ). z *ℤ c.way-2.result) rises ∙ ap (λ (z : ℤ). rise edge *ℤ z) goes in
     let point_climb : c.product-point_climb.result ≡ ((point.y -ℤ edge.y0) *ℤ run edge) =
-    (simp to_z-of_z at c.product-point_climb.ensures) ∙ ap (λ (z : ℤ). z *ℤ c.way-4.result) point_rises ∙ ap (λ (z : ℤ). (point.y -ℤ edge.y0) *ℤ z) runs in
+    (simp to_z-of_z at c.product-point_climb.ensures.value) ∙ ap (λ (z : ℤ). z *ℤ c.way-4.result) point_rises ∙ ap (λ (z : ℤ). (point.y -ℤ edge.y0) *ℤ z) runs in
     let wide : FitsSigned w128 c.product-climb.result = record { sfits = c.product-climb.type_inv } in
     let other_wide : FitsSigned w128 c.product-point_climb.result = record { sfits = c.product-point_climb.type_inv } in
     (simp to_z-of_z at c.cmp.ensures)

@@ -2,7 +2,7 @@ use Rattle.std.proofs.Common.{◌^◌, ◌*ℤ◌, arith, FitsSigned}
 use Rattle.std.specs.Int.{w128}
 use Rattle.std.proofs.lemmas.Int.{ints, to_z-of_z, fits_signed_mul}
 use Rattle.plane.proofs.MeetLemmas.Identities.{product_upto, abs_upto}
-use Rattle.plane.proofs.meet.exact.product.Goals as goal
+use Rattle.plane.proofs.ways.product.Goals as goal
 
 pub returns-clause-upto : goal.returns-clause-upto
 returns-clause-upto c =
