@@ -1,11 +1,10 @@
 -- An item is served: what comes of the calls that it takes.
-use Rattle.std.proofs.Common.{◌≡◌, ℕ, pos, ℤ, ◌<ℤ◌, ◌≤ℤ◌, true, Option, Some, List, [], ◌∷◌, ◌++◌, Ordering, Less, Equal, Greater, refl, sym, ap, ◌∙◌, subst, arith}
+use Rattle.std.proofs.Common.{◌≡◌, ℕ, pos, ℤ, ◌≤ℤ◌, true, Option, Some, List, [], ◌∷◌, ◌++◌, sym, ap, ◌∙◌, subst}
 use Rattle.std.specs.List.Sorted.{IsPermutation}
-use Rattle.std.specs.Ordering.{MatchOrdering, int_cmp, is_ge}
+use Rattle.std.specs.Ordering.{int_cmp}
 use Rattle.std.proofs.lemmas.Bool.{cond-true}
-use Rattle.std.proofs.lemmas.Cmp.{int_ranked}
-use Rattle.std.proofs.lemmas.Int.{ints}
 use Rattle.std.proofs.lemmas.List.Sorted.{IsPermutation-cons, IsPermutation-trans}
+use Rattle.i_tree.proofs.RootLemmas.Numbers.{int_ge-upto}
 use Rattle.i_tree.specs.Root.Live.{is_live}
 use Rattle.i_tree.specs.Seg.Buckets.{Buckets, Filters}
 use Rattle.i_tree.specs.Seg.Members.{Member, Appends, Joins, answer, live_members, with_member}
@@ -20,15 +19,7 @@ use Rattle.plane.specs.Pairs.Bounds.{MeetInBoxes}
 
 -- an item is live at each x up to its greater one
 pub is_live-upto : {X : Type 0} (bounds : X → Bounds) (time : ℤ) (placed : Placed X) → time ≤ℤ (bounds placed.item).right → is_live (last_of bounds) int_cmp time placed ≡ true
-is_live-upto bounds time placed within = told (int_cmp last time) (int_ranked last time (int_cmp last time) refl)
-  where
-    last : ℤ
-    last = (bounds placed.item).right
-
-    told : (o : Ordering) → MatchOrdering o (last <ℤ time) (last ≡ time) (time <ℤ last) → is_ge o ≡ true
-    told Less below = absurd (omega (arith, ints))
-    told Equal same = refl
-    told Greater above = refl
+is_live-upto bounds time placed within = int_ge-upto (bounds placed.item).right time within
 
 -- What the calls ensure: a query at the time over the range, from which `near` is appended to an empty list, and which
 -- leaves `mid`; pairs with what it found; and an insertion, which leaves `new`.
