@@ -71,7 +71,7 @@ pub extern "C" fn itree_first_meeting(
             *second = other;
             MEETING
         }
-        Err(_) => REFUSED,
+        Err(_refusal) => REFUSED,
     }
 }
 

@@ -20,10 +20,5 @@ pub const LENGTHS: i32 = 3;
 
 // `itree.h` has these numbers.
 const _: () = prove!(
-    ANSWERED == 0
-        && REFUSED == 1
-        && OVERLAP == 2
-        && CROSSING == 2
-        && MEETING == 2
-        && LENGTHS == 3
+    ANSWERED == 0 && REFUSED == 1 && OVERLAP == 2 && CROSSING == 2 && MEETING == 2 && LENGTHS == 3
 );
