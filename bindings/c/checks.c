@@ -11,6 +11,9 @@ int32_t proved_itree_below(const struct itree_segment *segments, size_t segment_
 int32_t proved_itree_meetings(const struct itree_edge *edges, size_t edge_count, struct itree_pair *pairs,
                               size_t pair_count, size_t *count);
 int32_t proved_itree_meetings_all(const struct itree_edge *edges, size_t edge_count, struct itree_pairs **pairs);
+int32_t proved_itree_meetings_between(const struct itree_edge *edges, size_t edge_count,
+                                      const struct itree_edge *others, size_t other_count, struct itree_pairs **pairs);
+int32_t proved_itree_first_meeting(const struct itree_edge *edges, size_t edge_count, size_t *first, size_t *second);
 size_t proved_itree_pairs_first(const struct itree_pairs *pairs, struct itree_pair **first);
 void proved_itree_pairs_free(struct itree_pairs *pairs);
 int32_t proved_itree_locate(const struct itree_edge *edges, size_t edge_count, const struct itree_point *points,
@@ -60,6 +63,25 @@ int32_t itree_meetings_all(const struct itree_edge *edges, size_t edge_count, st
         return ITREE_POINTER;
     }
     return proved_itree_meetings_all(slice(edges, edge_count), edge_count, pairs);
+}
+
+int32_t itree_meetings_between(const struct itree_edge *edges, size_t edge_count, const struct itree_edge *others,
+                               size_t other_count, struct itree_pairs **pairs) {
+    if (!can_hold(edges, edge_count, OF(struct itree_edge)) ||
+        !can_hold(others, other_count, OF(struct itree_edge)) || !can_hold(pairs, 1, OF(struct itree_pairs *))) {
+        return ITREE_POINTER;
+    }
+    return proved_itree_meetings_between(slice(edges, edge_count), edge_count, slice(others, other_count), other_count,
+                                         pairs);
+}
+
+int32_t itree_first_meeting(const struct itree_edge *edges, size_t edge_count, size_t *first, size_t *second) {
+    size_t untold[2] = {0, 0};
+    if (!can_hold(edges, edge_count, OF(struct itree_edge)) || !can_take(first) || !can_take(second)) {
+        return ITREE_POINTER;
+    }
+    return proved_itree_first_meeting(slice(edges, edge_count), edge_count, first ? first : &untold[0],
+                                      second ? second : &untold[1]);
 }
 
 /* The proved call tells both at once. */

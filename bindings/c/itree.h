@@ -31,6 +31,7 @@ enum itree_status {
     ITREE_REFUSED = 1,  /* Memory was refused, or more than 4,294,967,294 items are met at once. */
     ITREE_OVERLAP = 2,  /* Two segments collide. */
     ITREE_CROSSING = 2, /* Two edges cross. */
+    ITREE_MEETING = 2,  /* Two edges meet. */
     ITREE_LENGTHS = 3,  /* The lengths of two arrays don't fit each other. */
     ITREE_POINTER = 4   /* A pointer is faulty. */
 };
@@ -68,7 +69,7 @@ struct itree_edge {
     int32_t x0, y0, x1, y1;
 };
 
-/* The places of two edges, first below second. */
+/* The places of two edges of one list, first below second; or one of each of two lists. */
 struct itree_pair {
     size_t first, second;
 };
@@ -85,6 +86,15 @@ struct itree_pair {
 int32_t itree_meetings(const struct itree_edge *edges, size_t edge_count, struct itree_pair *pairs, size_t pair_count,
                        size_t *count);
 
+/* Tells whether any two edges share a point, and two that do. It stops at the first edge of its sweep that meets
+ * others before it. It is exact: nothing is rounded. The call returns
+ *   ITREE_ANSWERED  and no two meet;
+ *   ITREE_MEETING   and two do: *first and *second are the places of two that meet, *first below *second;
+ *   ITREE_REFUSED   and two may meet or not;
+ *   ITREE_POINTER   exactly where a pointer is faulty.
+ * *first and *second are written at ITREE_MEETING alone, and may be NULL. */
+int32_t itree_first_meeting(const struct itree_edge *edges, size_t edge_count, size_t *first, size_t *second);
+
 /* A handle of pairs, which owns them. It is read by the calls below, and given back by itree_pairs_free, once. One call
  * at a time takes a handle, by any thread; different handles don't concern each other. */
 struct itree_pairs;
@@ -96,6 +106,13 @@ struct itree_pairs;
  *   ITREE_POINTER   exactly where a pointer is faulty, and *pairs stays as it was.
  * pairs may not be NULL. What *pairs was before isn't looked at. It writes to little more memory than the pairs take. */
 int32_t itree_meetings_all(const struct itree_edge *edges, size_t edge_count, struct itree_pairs **pairs);
+
+/* The same of two lists: a handle of all pairs of an edge of the first list and one of the second that share a point,
+ * each once, in no particular order. There first is a place of the first list and second one of the second list, so
+ * first needn't be below second. Edges of one list aren't compared with each other; both lists may be one array. The
+ * call returns what itree_meetings_all does, and *pairs is as there. */
+int32_t itree_meetings_between(const struct itree_edge *edges, size_t edge_count, const struct itree_edge *others,
+                               size_t other_count, struct itree_pairs **pairs);
 
 /* How many pairs there are; 0 at NULL. */
 size_t itree_pairs_count(const struct itree_pairs *pairs);

@@ -46,7 +46,7 @@ using Segment = ::itree_segment;
 using Point = ::itree_point;
 using Edge = ::itree_edge;
 
-/// The places of two edges that meet, `first` below `second`.
+/// The places of two edges that meet: of one list, `first` below `second`, or one of each of two lists.
 using Pair = ::itree_pair;
 
 /// Items that stand one behind the other in memory and are only read: of a vector, an array, a list in braces, or a
@@ -181,6 +181,26 @@ private:
 [[nodiscard]] inline std::vector<Pair> meetings(Span<Edge> edges) {
     const Pairs pairs = meetings_all(edges);
     return {pairs.begin(), pairs.end()};
+}
+
+/// The pairs of an edge of the first list and one of the second that share a point, each once, in no particular order,
+/// where the library wrote them: `first` is a place of the first list, and `second` one of the second list. Throws
+/// `std::bad_alloc` where memory was refused.
+[[nodiscard]] inline Pairs meetings_between(Span<Edge> edges, Span<Edge> others) {
+    ::itree_pairs *handle = nullptr;
+    detail::throw_unless_answered(
+        ::itree_meetings_between(edges.data(), edges.size(), others.data(), others.size(), &handle));
+    return Pairs(handle);
+}
+
+/// The places of some two edges that share a point, `first` below `second`, or nothing where no two do. Throws
+/// `std::bad_alloc` where memory was refused.
+[[nodiscard]] inline std::optional<Pair> first_meeting(Span<Edge> edges) {
+    Pair pair{0, 0};
+    const auto status = ::itree_first_meeting(edges.data(), edges.size(), &pair.first, &pair.second);
+    if (status == ITREE_MEETING) return pair;
+    detail::throw_unless_answered(status);
+    return std::nullopt;
 }
 
 /// For each point, in order, the place of the edge straight below it, if there is one. Which edge that is, and when two

@@ -258,6 +258,117 @@ static void checks_all_meetings(void) {
     check("a handle has all pairs of edges that meet, as the plain model", ok);
 }
 
+static void fill_with_edges(struct itree_edge *edges, size_t count) {
+    for (size_t place = 0; place < count; place++) {
+        edges[place] = (struct itree_edge){random_below(9), random_below(9), random_below(9), random_below(9)};
+    }
+}
+
+/* Whether the handle of edges of two lists that meet has each pair once, as the plain model. */
+static int are_all_between(const struct itree_edge *edges, size_t edge_count, const struct itree_edge *others,
+                           size_t other_count) {
+    int told[MOST][MOST] = {{0}}, ok = 1;
+    struct itree_pairs *pairs = NULL;
+    if (itree_meetings_between(edges, edge_count, others, other_count, &pairs) != ITREE_ANSWERED) return 0;
+    const size_t count = itree_pairs_count(pairs);
+    const struct itree_pair *first = itree_pairs_first(pairs);
+    for (size_t place = 0; ok && place < count; place++) {
+        ok = first[place].first < edge_count && first[place].second < other_count;
+        if (ok) told[first[place].first][first[place].second]++;
+    }
+    for (size_t one = 0; one < edge_count; one++) {
+        for (size_t other = 0; other < other_count; other++) {
+            ok = ok && told[one][other] == plainly_meet(edges[one], others[other]);
+        }
+    }
+    itree_pairs_free(pairs);
+    return ok;
+}
+
+static void checks_between(void) {
+    int ok = 1;
+    for (int round = 0; round < 4000; round++) {
+        struct itree_edge edges[MOST], others[MOST];
+        const size_t edge_count = (size_t)random_below(MOST + 1), other_count = (size_t)random_below(MOST + 1);
+        fill_with_edges(edges, edge_count);
+        fill_with_edges(others, other_count);
+        ok = ok && are_all_between(edges, edge_count, others, other_count);
+        ok = ok && are_all_between(edges, edge_count, edges, edge_count);
+    }
+    check("a handle has all pairs of edges of two lists that meet, as the plain model", ok);
+    struct itree_edge edges[20], others[30];
+    struct itree_pairs *pairs = NULL;
+    size_t requests = 0;
+    for (int32_t place = 0; place < 20; place++) edges[place] = (struct itree_edge){0, place, 40, place};
+    for (int32_t place = 0; place < 30; place++) others[place] = (struct itree_edge){place, 0, place, 40};
+    while (1) {
+        pairs = (void *)edges;
+        refuse_after(requests);
+        const int32_t status = itree_meetings_between(edges, 20, others, 30, &pairs);
+        refuse_after(SIZE_MAX);
+        if (status != ITREE_REFUSED) break;
+        ok = ok && pairs == NULL;
+        requests++;
+    }
+    check("each request for a handle of two lists is refused in turn", requests > 4 && ok);
+    check("with all requests granted each meets each", itree_pairs_count(pairs) == 600);
+    itree_pairs_free(pairs);
+}
+
+static void checks_faulty_between(void) {
+    const struct itree_edge edges[] = {{0, 0, 9, 9}, {0, 9, 9, 0}};
+    uint64_t words[8] = {0};
+    char *const odd = (char *)words + 1;
+    struct itree_pairs *pairs = (void *)words;
+    check("no handle of two lists", itree_meetings_between(edges, 2, edges, 2, NULL) == ITREE_POINTER);
+    check("no first list", itree_meetings_between(NULL, 2, edges, 2, &pairs) == ITREE_POINTER);
+    check("no second list", itree_meetings_between(edges, 2, NULL, 2, &pairs) == ITREE_POINTER);
+    check("a second list at an odd address", itree_meetings_between(edges, 2, (void *)odd, 2, &pairs) == ITREE_POINTER);
+    check("a second list larger than memory",
+          itree_meetings_between(edges, 2, edges, SIZE_MAX / 16, &pairs) == ITREE_POINTER);
+    check("the handle stays as it was there", pairs == (void *)words);
+    check("null for two lists of none", itree_meetings_between(NULL, 0, NULL, 0, &pairs) == ITREE_ANSWERED);
+    check("none of them meet", pairs != NULL && itree_pairs_count(pairs) == 0);
+    itree_pairs_free(pairs);
+}
+
+static void checks_first_meeting(void) {
+    int ok = 1, meeting = 0;
+    for (int round = 0; round < 4000; round++) {
+        struct itree_edge edges[MOST];
+        const size_t edge_count = (size_t)random_below(6);
+        size_t first = 77, second = 78;
+        fill_with_edges(edges, edge_count);
+        const int32_t status = itree_first_meeting(edges, edge_count, &first, &second);
+        if (plain_count(edges, edge_count) == 0) {
+            ok = ok && status == ITREE_ANSWERED && first == 77 && second == 78;
+            continue;
+        }
+        meeting++;
+        ok = ok && status == ITREE_MEETING && first < second && second < edge_count;
+        ok = ok && plainly_meet(edges[first], edges[second]);
+    }
+    check("two edges that meet, as the plain model", ok);
+    check("some edges meet, and some don't", 500 < meeting && meeting < 3500);
+    struct itree_edge edges[40];
+    size_t first = 7, second = 8, requests = 0;
+    for (int32_t place = 0; place < 40; place++) edges[place] = (struct itree_edge){0, 2 * place, 40, 2 * place};
+    while (1) {
+        refuse_after(requests);
+        const int32_t status = itree_first_meeting(edges, 40, &first, &second);
+        refuse_after(SIZE_MAX);
+        if (status != ITREE_REFUSED) break;
+        requests++;
+    }
+    check("each request for two edges is refused in turn", requests > 0 && first == 7 && second == 8);
+    edges[39].y1 = 0;
+    check("two that meet", itree_first_meeting(edges, 40, &first, &second) == ITREE_MEETING && second == 39);
+    check("nobody asks which", itree_first_meeting(edges, 40, NULL, NULL) == ITREE_MEETING);
+    check("no edges for two", itree_first_meeting(NULL, 1, &first, &second) == ITREE_POINTER);
+    check("a number at an odd address", itree_first_meeting(edges, 1, (void *)((char *)edges + 1), NULL) == ITREE_POINTER);
+    check("null for no edges of which two meet", itree_first_meeting(NULL, 0, NULL, NULL) == ITREE_ANSWERED);
+}
+
 /* More pairs than the library moves in one go. */
 static void checks_many_meetings(void) {
     enum { MANY = 2400 };
@@ -520,6 +631,9 @@ int main(void) {
     checks_many_meetings();
     checks_refused_handle();
     checks_null_handle();
+    checks_between();
+    checks_faulty_between();
+    checks_first_meeting();
     checks_locate();
     checks_located_nothing();
     checks_refused_locate();

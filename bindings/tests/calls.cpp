@@ -217,6 +217,39 @@ void checks_pairs() {
     check("refused memory is thrown for pairs in one call", requests > 4);
 }
 
+void checks_between() {
+    std::mt19937 random(32);
+    bool ok = true;
+    int meeting = 0;
+    for (std::size_t round = 0; round < 2000; round++) {
+        const auto edges = random_edges(random, round % 14), others = random_edges(random, round % 11);
+        const auto pairs = itree::meetings_between(edges, others);
+        ok = ok && sorted({pairs.begin(), pairs.end()}) == plain::meetings_between(edges, others);
+        const auto few = random_edges(random, round % 6);
+        const auto pair = itree::first_meeting(few);
+        ok = ok && pair.has_value() == !plain::meetings(few).empty();
+        if (pair) ok = ok && pair->first < pair->second && plain::meet(few.at(pair->first), few.at(pair->second));
+        meeting += pair.has_value();
+    }
+    check("pairs of two lists, and two edges that meet, as a plain look at each pair", ok);
+    check("of few edges some meet, and some don't", 200 < meeting && meeting < 1800);
+    check("two lists of none", itree::meetings_between({}, {}).empty() && !itree::first_meeting({}));
+    const itree::Edge edges[] = {{50, 0, 60, 0}, {0, 0, 9, 9}}, others[] = {{0, 9, 9, 0}};
+    check("a place of each list", itree::meetings_between(edges, others)[0] == itree::Pair{1, 0});
+    std::size_t requests = 0;
+    for (bool refused = true; refused; requests++) {
+        refuse_after(requests);
+        try {
+            (void)itree::meetings_between(edges, others);
+            (void)itree::first_meeting(edges);
+            refused = false;
+        } catch (const std::bad_alloc &) {
+        }
+        refuse_after(SIZE_MAX);
+    }
+    check("refused memory is thrown for two lists", requests > 4);
+}
+
 using Found = std::vector<std::optional<std::size_t>>;
 
 /// What `locate` gives: places, or a pair that crosses.
@@ -328,6 +361,7 @@ int main() {
     checks_faults();
     checks_meetings();
     checks_pairs();
+    checks_between();
     checks_locate();
     checks_many_edges();
     checks_locate_faults();

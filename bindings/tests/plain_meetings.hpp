@@ -40,6 +40,18 @@ inline std::vector<std::pair<std::size_t, std::size_t>> meetings(const std::vect
     return pairs;
 }
 
+/// The places of edges of two lists that meet, in order.
+inline std::vector<std::pair<std::size_t, std::size_t>> meetings_between(const std::vector<itree::Edge> &edges,
+                                                                         const std::vector<itree::Edge> &others) {
+    std::vector<std::pair<std::size_t, std::size_t>> pairs;
+    for (std::size_t first = 0; first < edges.size(); first++) {
+        for (std::size_t second = 0; second < others.size(); second++) {
+            if (meet(edges[first], others[second])) pairs.push_back({first, second});
+        }
+    }
+    return pairs;
+}
+
 }  // namespace plain
 
 #endif

@@ -195,6 +195,66 @@ class Meetings(unittest.TestCase):
         self.assertGreater(requests, 0)
 
 
+class Between(unittest.TestCase):
+    def test_tells_the_edges_of_two_lists_that_meet(self):
+        numbers = random.Random(34)
+        for whole in 9, 2**32:
+            for _ in range(1000):
+                edges, others = (
+                    [tuple(numbers.randrange(whole) - whole // 2 for _ in range(4)) for _ in range(numbers.randrange(9))]
+                    for _ in range(2)
+                )
+                pairs = itertools.product(range(len(edges)), range(len(others)))
+                wanted = [(i, j) for i, j in pairs if plainly_meet(edges[i], others[j])]
+                self.assertEqual(sorted(itree.meetings_between(edges, others)), wanted)
+                flat_edges = array.array("i", itertools.chain(*edges))
+                told = itree.meetings_between(flat_edges, others, as_array=True)
+                self.assertEqual((told.format, told.shape, told.readonly), ("Q", (len(wanted), 2), False))
+                self.assertEqual(sorted(map(tuple, told.tolist())), wanted)
+
+    def test_tells_two_edges_that_meet(self):
+        numbers, meeting = random.Random(35), 0
+        for _ in range(2000):
+            edges = [tuple(numbers.randrange(9) for _ in range(4)) for _ in range(numbers.randrange(6))]
+            pairs = itertools.combinations(range(len(edges)), 2)
+            meet = [(i, j) for i, j in pairs if plainly_meet(edges[i], edges[j])]
+            self.assertIn(itree.first_meeting(edges), meet or [None])
+            meeting += bool(meet)
+        self.assertTrue(200 < meeting < 1800, meeting)
+
+    def test_nothing_for_nothing(self):
+        self.assertEqual(itree.meetings_between([], [(1, 2, 3, 4)]), [])
+        self.assertEqual(itree.meetings_between([(1, 2, 3, 4)], []), [])
+        self.assertIsNone(itree.first_meeting([]))
+
+    def test_what_are_no_edges(self):
+        for call in itree.first_meeting, lambda rows: itree.meetings_between(rows, []):
+            with self.assertRaises(ValueError):
+                call([(1, 2, 3)])
+        with self.assertRaisesRegex(ValueError, "^others, row 0: "):
+            itree.meetings_between([], [(1, 2, 3)])
+
+    def test_raises_memory_error(self):
+        library, edges = ctypes.CDLL(os.environ["ITREE_LIBRARY"]), [(0, 0, 9, 9), (0, 9, 9, 0)]
+        for call, wanted in (
+            (lambda: itree.meetings_between(edges[:1], edges[1:]), [(0, 0)]),
+            (lambda: itree.first_meeting(edges), (0, 1)),
+        ):
+            requests = 0
+            while True:
+                library.refuse_after(ctypes.c_size_t(requests))
+                try:
+                    answer = call()
+                except MemoryError:
+                    requests += 1
+                    continue
+                finally:
+                    library.refuse_after(ctypes.c_size_t(-1))
+                break
+            self.assertEqual(answer, wanted)
+            self.assertGreater(requests, 0)
+
+
 def rightwards(edge):
     x0, y0, x1, y1 = edge
     return edge if x0 <= x1 else (x1, y1, x0, y0)
@@ -794,6 +854,9 @@ pairs: List[Tuple[int, int]] = itree.meetings(edges)
 pairs = itree.meetings([[0, 0, 9, 9]]) + itree.meetings([((0, 0), (9, 9))]) + itree.meetings(rows())
 pairs = itree.meetings(array.array("q")) + itree.meetings(memoryview(b""))
 view: memoryview = itree.meetings(edges, as_array=True)
+pairs = itree.meetings_between(edges, [((0, 0), (9, 9))])
+view = itree.meetings_between(edges, edges, as_array=True)
+pair: Optional[Tuple[int, int]] = itree.first_meeting(edges)
 places: List[Optional[int]] = itree.locate(edges, [(1, 2)])
 view = itree.locate(edges, [(1, 2)], True)
 heights: List[Optional[int]] = itree.below([(1, 2, 3)], [(1, 2)])
@@ -805,6 +868,8 @@ itree.meetings("abcd")  # error
 itree.meetings(7)  # error
 view = itree.meetings(edges)  # error
 pairs = itree.meetings(edges, as_array=True)  # error
+pairs = itree.meetings_between(edges, edges, as_array=True)  # error
+pair = itree.first_meeting(7)  # error
 """
 
 

@@ -70,11 +70,11 @@ import ctypes
 from typing import Any, Iterator, List, Literal, Optional, Tuple, Union, overload
 
 from . import _answers, _library
-from ._library import CROSSING, OVERLAP, checked, library
+from ._library import CROSSING, MEETING, OVERLAP, checked, library
 from ._memory import room_for
-from ._rows import EDGES, POINTS, SEGMENTS, HeldRows, Rows
+from ._rows import EDGES, OTHERS, POINTS, SEGMENTS, HeldRows, Rows
 
-__all__ = ["Crossing", "Heights", "Overlap", "below", "locate", "meetings"]
+__all__ = ["Crossing", "Heights", "Overlap", "below", "first_meeting", "locate", "meetings", "meetings_between"]
 __version__ = _library.version
 
 
@@ -207,6 +207,67 @@ def meetings(edges: Rows, as_array: bool = False) -> Union[List[Tuple[int, int]]
     if as_array:
         return _answers.in_rows_of_two(numbers)
     return list(_answers.two_by_two(numbers))
+
+
+@overload
+def meetings_between(edges: Rows, others: Rows, as_array: Literal[False] = ...) -> List[Tuple[int, int]]: ...
+@overload
+def meetings_between(edges: Rows, others: Rows, as_array: Literal[True]) -> memoryview: ...
+@overload
+def meetings_between(edges: Rows, others: Rows, as_array: bool) -> Union[List[Tuple[int, int]], memoryview]: ...
+def meetings_between(edges: Rows, others: Rows, as_array: bool = False) -> Union[List[Tuple[int, int]], memoryview]:
+    """The pairs of an edge of each of two lists that share a point, each once.
+
+    edges, others: rows (x0, y0, x1, y1), of the shape (n, 4) or (n, 2, 2), as
+    those of `meetings`.
+
+    The answer is a list of pairs (i, j), in no particular order: i is a place
+    of edges, and j one of others. Edges of one list aren't compared with each
+    other. It is exact: nothing is rounded.
+
+    >>> fences, roads = [(50, 0, 60, 0), (0, 0, 9, 9)], [(0, 9, 9, 0)]
+    >>> meetings_between(fences, roads)
+    [(1, 0)]
+
+    With as_array=True it is what `meetings` gives then:
+
+    >>> meetings_between(fences, roads, as_array=True).tolist()
+    [[1, 0]]
+
+    Raises MemoryError where memory was refused. What is raised for faulty rows
+    is told at help(itree).
+    """
+    with HeldRows(edges, EDGES) as edge_rows, HeldRows(others, OTHERS) as other_rows:
+        numbers = _answers.pairs_between(edge_rows, other_rows)
+    if as_array:
+        return _answers.in_rows_of_two(numbers)
+    return list(_answers.two_by_two(numbers))
+
+
+def first_meeting(edges: Rows) -> Optional[Tuple[int, int]]:
+    """The places of some two edges that share a point, or None where no two do.
+
+    edges: rows (x0, y0, x1, y1), of the shape (n, 4) or (n, 2, 2), as those of
+    `meetings`.
+
+    The answer is a pair (i, j), i below j. It is found without the others: the
+    call stops at the first edge of its sweep that meets others before it.
+
+    >>> first_meeting([(0, 0, 9, 9), (0, 9, 9, 0), (20, 0, 21, 0)])
+    (0, 1)
+    >>> first_meeting([(0, 0, 9, 9), (20, 0, 21, 0)]) is None
+    True
+
+    Raises MemoryError where memory was refused. What is raised for faulty rows
+    is told at help(itree).
+    """
+    with HeldRows(edges, EDGES) as rows:
+        first, second = ctypes.c_size_t(), ctypes.c_size_t()
+        status = library.itree_first_meeting(rows.at, rows.count, ctypes.byref(first), ctypes.byref(second))
+    if status == MEETING:
+        return first.value, second.value
+    checked(status)
+    return None
 
 
 @overload

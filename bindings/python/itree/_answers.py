@@ -61,6 +61,19 @@ def pairs_that_meet(edges: HeldRows) -> memoryview:
     there is neither a view of them nor an array over one."""
     at = ctypes.c_void_p()
     checked(library.itree_meetings_all(edges.at, edges.count, ctypes.byref(at)))
+    return _numbers_of(at)
+
+
+def pairs_between(edges: HeldRows, others: HeldRows) -> memoryview:
+    """All pairs of an edge of the one list and one of the other that meet, as those of `pairs_that_meet`."""
+    at = ctypes.c_void_p()
+    rows = edges.at, edges.count, others.at, others.count
+    checked(library.itree_meetings_between(*rows, ctypes.byref(at)))
+    return _numbers_of(at)
+
+
+def _numbers_of(at: ctypes.c_void_p) -> memoryview:
+    """The numbers of a handle, which is given back with the last view of them."""
     handle = _Handle(at)
     count = library.itree_pairs_count(at)
     if count == 0:

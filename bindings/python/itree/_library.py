@@ -5,15 +5,17 @@ from __future__ import annotations
 import ctypes
 import os
 
-ANSWERED, REFUSED, OVERLAP, CROSSING = 0, 1, 2, 2
+ANSWERED, REFUSED, OVERLAP, CROSSING, MEETING = 0, 1, 2, 2, 2
 
 _address, _length = ctypes.c_void_p, ctypes.c_size_t
 _status = ctypes.c_int32
 # What each call answers, and what it takes.
 _CALLS = {
     "itree_below": (_status, [_address, _length, _address, _length, _address, _length, _address]),
+    "itree_first_meeting": (_status, [_address, _length, _address, _address]),
     "itree_locate": (_status, [_address, _length, _address, _length, _address, _length, _address, _address]),
     "itree_meetings_all": (_status, [_address, _length, _address]),
+    "itree_meetings_between": (_status, [_address, _length, _address, _length, _address]),
     "itree_pairs_count": (_length, [_address]),
     "itree_pairs_first": (_address, [_address]),
     "itree_pairs_free": (None, [_address]),

@@ -56,7 +56,7 @@ class Kind(NamedTuple):
         return self.width == 4
 
 
-EDGES, SEGMENTS, POINTS = Kind("edges", 4), Kind("segments", 3), Kind("points", 2)
+EDGES, OTHERS, SEGMENTS, POINTS = Kind("edges", 4), Kind("others", 4), Kind("segments", 3), Kind("points", 2)
 
 
 class HeldRows:

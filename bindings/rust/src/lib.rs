@@ -133,13 +133,13 @@ impl From<TryReserveError> for LocateFault {
     }
 }
 
-/// The places of two edges that meet, `first` below `second`. They are ordered by `first`, then `second`.
+/// The places of two edges that meet: of one list, `first` below `second`, or one of each of two lists. They are ordered by `first`, then `second`.
 #[repr(C)]
 #[derive(Clone, Copy, Debug, Default, PartialEq, Eq, PartialOrd, Ord, Hash)]
 pub struct Pair {
-    /// The lesser place.
+    /// The lesser place, or that of the first list.
     pub first: usize,
-    /// The greater place.
+    /// The greater place, or that of the second list.
     pub second: usize,
 }
 
@@ -206,6 +206,7 @@ mod calls {
     pub const ANSWERED: i32 = 0;
     pub const OVERLAP: i32 = 2;
     pub const CROSSING: i32 = 2;
+    pub const MEETING: i32 = 2;
 
     #[repr(C)]
     #[derive(Clone, Copy)]
@@ -239,6 +240,17 @@ mod calls {
         ) -> i32;
 
         pub fn itree_meetings_all(edges: *const Edge, edge_count: usize, pairs: *mut *mut Handle) -> i32;
+
+        pub fn itree_meetings_between(
+            edges: *const Edge,
+            edge_count: usize,
+            others: *const Edge,
+            other_count: usize,
+            pairs: *mut *mut Handle,
+        ) -> i32;
+
+        pub fn itree_first_meeting(edges: *const Edge, edge_count: usize, first: *mut usize, second: *mut usize)
+            -> i32;
 
         pub fn itree_pairs_count(pairs: *const Handle) -> usize;
 
@@ -305,8 +317,58 @@ pub fn meetings_all(edges: &[Edge]) -> Result<Pairs, Refused> {
     let mut handle = ptr::null_mut();
     // SAFETY: as in `below`.
     let status = unsafe { calls::itree_meetings_all(edges.as_ptr(), edges.len(), &mut handle) };
-    let handle = NonNull::new(handle).filter(|_| status == calls::ANSWERED).ok_or(Refused)?;
-    // SAFETY: the handle is this call's own.
+    pairs_of(status, handle)
+}
+
+/// The pairs of places of an edge of the first list and one of the second that share a point, each once, in no particular
+/// order, where the library wrote them: `first` is a place of the first list, and `second` one of the second list.
+///
+/// It is exact: nothing is rounded.
+///
+/// ```
+/// use itree::{meetings_between, Edge, Pair};
+///
+/// let fences = [Edge { x0: 50, y0: 0, x1: 60, y1: 0 }, Edge { x0: 0, y0: 0, x1: 9, y1: 9 }];
+/// let roads = [Edge { x0: 0, y0: 9, x1: 9, y1: 0 }];
+/// assert_eq!(meetings_between(&fences, &roads).unwrap()[..], [Pair { first: 1, second: 0 }]);
+/// ```
+pub fn meetings_between(edges: &[Edge], others: &[Edge]) -> Result<Pairs, Refused> {
+    let mut handle = ptr::null_mut();
+    // SAFETY: as in `below`.
+    let status = unsafe {
+        calls::itree_meetings_between(edges.as_ptr(), edges.len(), others.as_ptr(), others.len(), &mut handle)
+    };
+    pairs_of(status, handle)
+}
+
+/// The places `(i, j)`, `i` below `j`, of some two edges that share a point, or `None` where no two do.
+///
+/// It stops at the first edge of its sweep that meets others before it. It is exact: nothing is rounded.
+///
+/// ```
+/// use itree::{first_meeting, Edge};
+///
+/// let edges = [Edge { x0: 0, y0: 0, x1: 9, y1: 9 }, Edge { x0: 0, y0: 9, x1: 9, y1: 0 }];
+/// assert_eq!(first_meeting(&edges), Ok(Some((0, 1))));
+/// assert_eq!(first_meeting(&edges[1..]), Ok(None));
+/// ```
+pub fn first_meeting(edges: &[Edge]) -> Result<Option<(usize, usize)>, Refused> {
+    let (mut first, mut second) = (0, 0);
+    // SAFETY: as in `below`.
+    let status = unsafe { calls::itree_first_meeting(edges.as_ptr(), edges.len(), &mut first, &mut second) };
+    match status {
+        calls::ANSWERED => Ok(None),
+        calls::MEETING => Ok(Some((first, second))),
+        _ => Err(Refused),
+    }
+}
+
+/// The pairs of a handle that a call wrote, where it answered.
+fn pairs_of(status: i32, handle: *mut calls::Handle) -> Result<Pairs, Refused> {
+    let handle = NonNull::new(handle)
+        .filter(|_| status == calls::ANSWERED)
+        .ok_or(Refused)?;
+    // SAFETY: the handle was written by a call, and nothing else has it.
     let (first, count) = unsafe {
         (
             calls::itree_pairs_first(handle.as_ptr()),

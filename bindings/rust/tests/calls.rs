@@ -2,7 +2,10 @@
 
 #![warn(unsafe_op_in_unsafe_fn)]
 
-use itree::{below, locate, meetings, meetings_all, Edge, Fault, LocateFault, Point, Refused, Segment};
+use itree::{
+    below, first_meeting, locate, meetings, meetings_all, meetings_between, Edge, Fault, LocateFault, Point, Refused,
+    Segment,
+};
 use std::cell::Cell;
 use std::ffi::c_void;
 
@@ -171,6 +174,70 @@ fn tells_the_edges_that_meet() {
     }
     assert_eq!(meetings(&[]), Ok(vec![]));
     assert!(meetings_all(&[]).unwrap().is_empty());
+}
+
+#[test]
+fn tells_the_edges_of_two_lists_that_meet() {
+    let mut random = Random(31);
+    let mut meeting = 0;
+    for round in 0..2000 {
+        let mut edges_of = |count: usize| -> Vec<Edge> {
+            let mut number = || random.below(9);
+            let edge = |_| Edge {
+                x0: number(),
+                y0: number(),
+                x1: number(),
+                y1: number(),
+            };
+            (0..count).map(edge).collect()
+        };
+        let (edges, others, few) = (edges_of(round % 14), edges_of(round % 11), edges_of(round % 6));
+        let mut pairs = meetings_between(&edges, &others).unwrap();
+        pairs.sort_unstable();
+        let all = (0..edges.len()).flat_map(|first| (0..others.len()).map(move |second| (first, second)));
+        let wanted = all.filter(|&(first, second)| plainly_meet(&edges[first], &others[second]));
+        let places = pairs.iter().map(|pair| (pair.first, pair.second));
+        assert!(places.eq(wanted), "{edges:?} {others:?}");
+        match first_meeting(&few).unwrap() {
+            Some(pair) => {
+                assert!(plain_meetings(&few).contains(&pair), "{few:?} {pair:?}");
+                meeting += 1;
+            }
+            None => assert!(plain_meetings(&few).is_empty(), "{few:?}"),
+        }
+    }
+    assert!(200 < meeting && meeting < 1800, "{meeting} meeting");
+    assert!(meetings_between(&[], &[]).unwrap().is_empty());
+    assert_eq!(first_meeting(&[]), Ok(None));
+}
+
+#[test]
+fn is_refused_pairs_of_two_lists_where_memory_is() {
+    let level = |y| Edge {
+        x0: 0,
+        y0: y,
+        x1: 40,
+        y1: y,
+    };
+    let upright = |x| Edge {
+        x0: x,
+        y0: 0,
+        x1: x,
+        y1: 40,
+    };
+    let (edges, others): (Vec<Edge>, Vec<Edge>) = ((0..20).map(level).collect(), (0..30).map(upright).collect());
+    let mut requests = 0;
+    while granted(requests, || meetings_between(&edges, &others)).is_err() {
+        requests += 1;
+    }
+    assert!(requests > 4, "{requests} requests");
+    assert_eq!(meetings_between(&edges, &others).unwrap().len(), 600);
+    let mut requests = 0;
+    while granted(requests, || first_meeting(&edges)) == Err(Refused) {
+        requests += 1;
+    }
+    assert!(requests > 0, "{requests} requests");
+    assert_eq!(first_meeting(&edges), Ok(None));
 }
 
 #[test]

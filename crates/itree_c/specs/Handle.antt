@@ -3,7 +3,7 @@ use Rattle.std.specs.Prelude.{◌≡◌, ℕ, ℤ, List, Option, Some, None, map
 use base.Fml.{Fml}
 use denote.RawPtr.{Ptr}
 use Rattle.std.specs.contracts.impls.GlobalAllocator.TheImpl.{ghosts}
-use Rattle.plane.specs.Meet.Meetings.{AreMeetings}
+use Rattle.plane.specs.Meet.Meetings.{AreMeetings, AreMeetingsBetween}
 use Rattle.plane.specs.declared.edge.Edge.{Edge}
 use Rattle.itree_c.specs.Meetings.{pair_of}
 use Rattle.itree_c.specs.Raw.{owns_at}
@@ -24,3 +24,13 @@ AreAllMeetings edges pairs =
 abbrev pub AnswersAll : List Edge → ℤ → Option Pairs → Type 0
 AnswersAll edges status (Some pairs) = (status ≡ ANSWERED) × AreAllMeetings edges pairs
 AnswersAll edges status None = status ≡ REFUSED
+
+-- the pairs are those of an edge of the one list and one of the other that meet, each once
+abbrev pub AreAllBetween : List Edge → List Edge → Pairs → Type 0
+AreAllBetween edges others pairs =
+    (all : List (ℕ × ℕ)) × AreMeetingsBetween edges others all × (pairs.held.items ≡ map pair_of (reverse all))
+
+-- a call over two lists is answered by all pairs, or it is refused and there are none
+abbrev pub AnswersBetween : List Edge → List Edge → ℤ → Option Pairs → Type 0
+AnswersBetween edges others status (Some pairs) = (status ≡ ANSWERED) × AreAllBetween edges others pairs
+AnswersBetween edges others status None = status ≡ REFUSED

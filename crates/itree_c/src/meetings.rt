@@ -1,13 +1,13 @@
-//! `itree_meetings`: which edges of the plane meet.
+//! `itree_meetings` and `itree_first_meeting`: which edges of the plane meet.
 
 ghost use Rattle.std.specs.Prelude.{◌≡◌, ◌≢◌, ◌⊎◌, ℕ, List, length};
-ghost use Rattle.plane.specs.Meet.Meetings.{AreMeetings};
+ghost use Rattle.plane.specs.Meet.Meetings.{AreMeetings, MeetAt};
 ghost use Rattle.itree_c.specs.Meetings.{WritesFirst};
-ghost use Rattle.itree_c.specs.declared.status.TheConstants.{ANSWERED, REFUSED};
+ghost use Rattle.itree_c.specs.declared.status.TheConstants.{ANSWERED, REFUSED, MEETING};
 
-use crate::status::{ANSWERED, REFUSED};
+use crate::status::{ANSWERED, MEETING, REFUSED};
 use plane::edge::Edge;
-use plane::meet::meetings;
+use plane::meet::{first_meeting, meetings};
 use std::alloc::Global;
 
 /// The places of two edges that meet, `first` below `second`.
@@ -44,6 +44,34 @@ pub extern "C" fn itree_meetings(
             ANSWERED
         }
         Err(_) => REFUSED,
+    }
+}
+
+/// Writes the places of some two edges that meet, the lesser first, where two do.
+///
+/// The status is `ANSWERED` (0), and no two edges meet; `MEETING` (2) where two do, and then `first` and `second` are the
+/// places of two that do; or `REFUSED` (1) where memory was refused. Only at `MEETING` is anything written. Which edges
+/// meet, and that it stops at the first edge that meets others before it, is said at `first_meeting` of `plane::meet`.
+#[unsafe(no_mangle)]
+pub extern "C" fn itree_first_meeting(
+    alloc: Global,
+    edges: &[Edge],
+    first: &mut usize,
+    second: &mut usize,
+) -> i32
+    ensures answered { result ≡ ANSWERED → (i j : ℕ) → ¬ (MeetAt edges.now i j) }
+    ensures meeting { result ≡ MEETING → MeetAt edges.now first.new second.new }
+    ensures kept { result ≢ MEETING → (first.new ≡ first.old) × (second.new ≡ second.old) }
+    ensures status { (result ≡ ANSWERED) ⊎ (result ≡ REFUSED) ⊎ (result ≡ MEETING) }
+{
+    match first_meeting(alloc, edges) {
+        Ok(None) => ANSWERED,
+        Ok(Some((one, other))) => {
+            *first = one;
+            *second = other;
+            MEETING
+        }
+        Err(_refusal) => REFUSED,
     }
 }
 

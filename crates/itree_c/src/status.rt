@@ -12,10 +12,13 @@ pub const OVERLAP: i32 = 2;
 /// Two edges cross: the call tells which.
 pub const CROSSING: i32 = 2;
 
+/// Two edges meet: the call tells which.
+pub const MEETING: i32 = 2;
+
 /// The lengths of two slices don't fit each other.
 pub const LENGTHS: i32 = 3;
 
 // `itree.h` has these numbers.
 const _: () = prove!(
-    ANSWERED == 0 && REFUSED == 1 && OVERLAP == 2 && CROSSING == 2 && LENGTHS == 3
+    ANSWERED == 0 && REFUSED == 1 && OVERLAP == 2 && CROSSING == 2 && MEETING == 2 && LENGTHS == 3
 );
