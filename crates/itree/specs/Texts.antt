@@ -1,7 +1,10 @@
 -- What the program answers to a text in a mode, and which of its lines are told as a fault.
-use Rattle.std.specs.Prelude.{◌⊎◌, ℕ, List}
+use Rattle.std.specs.Prelude.{◌⊎◌, ⊤, ℕ, List, Option, IfSome}
+use Rattle.std.specs.Borrow.{Bor}
 use Rattle.itree.specs.Grammar.{lines_of, LinesSay, IsFirstFaulty}
-use Rattle.itree.specs.Modes.{row_of}
+use Rattle.itree.specs.Modes.{row_of, Names}
+use Rattle.itree.specs.declared.fault.Fault.{Fault}
+use Rattle.itree.specs.declared.fault.Fault.TheVariants.{Arguments, Line, Overlap, Cross, Stopped}
 use Rattle.itree.specs.declared.mode.Mode.{Mode}
 
 -- the output answers the commands that the lines of the text say; whether a tree or a list is kept makes no difference
@@ -33,3 +36,12 @@ HasFault mode text =
     HasFaultyLine mode text
     ⊎ (((number : ℕ) × HasOverlapLine mode text number)
     ⊎ ((first : ℕ) × (second : ℕ) × HasCrossingLines mode text first second))
+
+-- what a fault says of the input, in the mode that the arguments name: which of its lines are told
+abbrev pub IsFaultOf : List (Bor (List ℕ)) → Option (List ℕ) → Fault → Type 0
+IsFaultOf words input (Line number) = (mode : Mode) → Names words mode → IfSome input (λ text. HasFirstFaulty mode text number)
+IsFaultOf words input (Overlap number) = (mode : Mode) → Names words mode → IfSome input (λ text. HasOverlapLine mode text number)
+IsFaultOf words input (Cross first second) =
+    (mode : Mode) → Names words mode → IfSome input (λ text. HasCrossingLines mode text first second)
+IsFaultOf words input Arguments = ⊤
+IsFaultOf words input Stopped = ⊤

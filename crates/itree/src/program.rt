@@ -3,7 +3,7 @@
 ghost use Rattle.std.specs.Prelude.{◌≡◌, ◌≢◌, ◌≤◌, ◌↔◌, ◌⊎◌, ℕ, List, IfErr, IfOk, IfSome, OnOk, string_bytes};
 ghost use Rattle.std.specs.Io.KnownBytes.{Appends};
 ghost use Rattle.itree.specs.Modes.{Names, NamesMode, AsksForHelp, AsksForVersion, AsksForText};
-ghost use Rattle.itree.specs.Texts.{Answers, HasFirstFaulty, HasOverlapLine, HasCrossingLines, HasFault};
+ghost use Rattle.itree.specs.Texts.{Answers, HasFirstFaulty, HasOverlapLine, HasCrossingLines, HasFault, IsFaultOf};
 ghost use Rattle.itree.specs.declared.mode.Mode.{Mode};
 
 use crate::answers::answer_text;
@@ -78,12 +78,7 @@ fn serve<A: Allocator + Copy, I: Read, O: Write>(
     ensures text_err { AsksForText words.now → IfErr result (λ fault. fault ≡ Fault.Stopped) }
     ensures unwritten { IfErr result (λ fault. fault ≢ Fault.Stopped → output.new ≡ output.old) }
     ensures faulty_words { ¬ (AsksForText words.now) → ((result ≡ Err Fault.Arguments) ↔ ¬ (NamesMode words.now)) }
-    ensures faulty_line { (number : ℕ) → result ≡ Err (Fault.Line number) → (mode : Mode) → Names words.now mode →
-        IfSome (I.remaining input.old) (λ text. HasFirstFaulty mode text number) }
-    ensures overlap { (number : ℕ) → result ≡ Err (Fault.Overlap number) → (mode : Mode) → Names words.now mode →
-        IfSome (I.remaining input.old) (λ text. HasOverlapLine mode text number) }
-    ensures crossing { (first second : ℕ) → result ≡ Err (Fault.Cross first second) → (mode : Mode) →
-        Names words.now mode → IfSome (I.remaining input.old) (λ text. HasCrossingLines mode text first second) }
+    ensures told { IfErr result (IsFaultOf words.now (I.remaining input.old)) }
     ensures unread { AsksForText words.now ⊎ ¬ (NamesMode words.now) → input.new ≡ input.old }
 {
     if asks_for_help(words) {
