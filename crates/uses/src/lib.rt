@@ -13,6 +13,7 @@ pub mod own_descent;
 pub mod own_error;
 pub mod points_in_rectangles;
 pub mod polygon_crossings;
+pub mod ring_crossings;
 pub mod seen_below;
 pub mod sessions;
 pub mod sloped_status;

@@ -22,6 +22,8 @@ mod points_in_rectangles;
 #[cfg(test)]
 mod polygon_crossings;
 #[cfg(test)]
+mod ring_crossings;
+#[cfg(test)]
 mod seen_below;
 #[cfg(test)]
 mod sloped_status;
