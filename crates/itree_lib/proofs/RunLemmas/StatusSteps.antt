@@ -2,14 +2,18 @@
 use Rattle.std.proofs.Common.{◌≡◌, ◌≤◌, ℕ, Bool, false, List, [], ◌∷◌, Option, Some, None, sym, subst, inl, inr, ⊎_elim, arith}
 use Rattle.std.specs.declared.cmp.Ordering.{Ordering}
 use Rattle.std.specs.List.{All, Contains}
-use Rattle.std.specs.Prelude.{IfSome, MatchOption}
+use Rattle.std.specs.Prelude.{◌<◌, true, IfSome, MatchOption, Result, Ok, Err, IfOk, IsOk, OnErr, length}
+use Rattle.std.proofs.lemmas.Bool.{cases_lt}
 use Rattle.std.proofs.lemmas.Option.{IfSome_then, some_pair_parts}
 use Rattle.std.proofs.lemmas.List.Elements.{Contains-append_left, Contains-append_right, Contains-append_cases}
 use Rattle.i_tree.specs.Expiring.Live.{live_pairs}
+use Rattle.i_tree.specs.Root.Along.{ByEachOrder, NoneEqual}
 use Rattle.i_tree.specs.Root.Late.{is_late}
-use Rattle.i_tree.specs.Status.Insertion.{JoinsAlong}
+use Rattle.i_tree.specs.Root.Live.{is_live}
+use Rattle.i_tree.specs.Status.Insertion.{IsNew, JoinsAlong, JoinsOrLeaves}
+use Rattle.i_tree.specs.declared.Refusal.{Refusal}
 use Rattle.i_tree.proofs.RootLemmas.Lists.{Contains-there}
-use Rattle.itree_lib.specs.Run.StatusMachine.{State, IsLate, Answers, Step}
+use Rattle.itree_lib.specs.Run.StatusMachine.{State, IsLate, Answers, Step, insertion_reply}
 use Rattle.itree_lib.specs.Run.StatusProbes.{asks, known_after, CanProbe, CanProbeAll}
 use Rattle.itree_lib.specs.declared.run.status.StatusCommand.{StatusCommand}
 use Rattle.itree_lib.specs.declared.run.status.StatusCommand.TheVariants.{InsertBy, LessOrEqualBy, GreaterBy, NeighboursBy, Clear}
@@ -122,3 +126,17 @@ module _ {K E V P : Type 0} (expiration : K → E) (cmp_time : E → E → Order
     Step-within room old command reply new (inl (is, late, same)) =
         subst (λ (state : State K E V). Within state.pairs (known_after command old.pairs)) (sym same) (late-within old.last command late old.pairs)
     Step-within room old command reply new (inr (moves, answers)) = Answers-within room old.pairs new.pairs command reply answers
+
+-- the reply to an insertion answers it, whatever its outcome
+module _ {K E V P : Type 0} (expiration : K → E) (cmp_time : E → E → Ordering) (may_answer : P → K → Ordering → Type 0) (room : ℕ) (key : K) (val : V) (time : E) (probe : P) (old new : List (K × V)) where
+  pub insertion-answered : (outcome : Result Bool Refusal)
+      → IfOk outcome (λ is_new. IsNew (may_answer probe) is_new (live_pairs expiration cmp_time time old))
+      → IfOk outcome (λ is_new. JoinsOrLeaves (is_live expiration cmp_time time) (may_answer probe) is_new (key, val) old new)
+      → OnErr outcome (new ≡ old)
+      → OnErr outcome (ByEachOrder (may_answer probe) (live_pairs expiration cmp_time time old) (λ order. NoneEqual order (live_pairs expiration cmp_time time old)))
+      → (length old < room → IsOk outcome)
+      → Answers expiration cmp_time may_answer room old (InsertBy key val time probe) (insertion_reply outcome) new
+  insertion-answered (Ok true) cases ok err err_new with_room = (cases, ok)
+  insertion-answered (Ok false) cases ok err err_new with_room = (cases, ok)
+  insertion-answered (Err cause) cases ok err err_new with_room =
+      (err_new, ⊎_elim (λ fits. let none : false ≡ true = with_room fits in cc) (λ full. full) (cases_lt (length old) room), err)

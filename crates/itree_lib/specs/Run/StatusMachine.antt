@@ -1,5 +1,5 @@
 -- The machine of status commands, over the pairs along a line: what it may reply, and the state that it goes on to.
-use Rattle.std.specs.Prelude.{◌≡◌, ◌≤◌, ◌⊎◌, ℕ, true, false, List, [], Option, Some, None, IsSomeAnd, MatchOption, length}
+use Rattle.std.specs.Prelude.{◌≡◌, ◌≤◌, ◌⊎◌, ℕ, Bool, true, false, List, [], Option, Some, None, IsSomeAnd, MatchOption, Result, Ok, Err, length}
 use Rattle.std.specs.declared.cmp.Ordering.{Ordering}
 use Rattle.i_tree.specs.Expiring.Live.{live_pairs, IsExpired}
 use Rattle.i_tree.specs.Root.Along.{AboveAlong, AreNeighbours, AtMostAlong, ByEachOrder, HasEqual, NoneEqual}
@@ -7,6 +7,7 @@ use Rattle.i_tree.specs.Root.Change.{Without}
 use Rattle.i_tree.specs.Root.Late.{is_late}
 use Rattle.i_tree.specs.Root.Live.{is_live}
 use Rattle.i_tree.specs.Status.Insertion.{JoinsAlong}
+use Rattle.i_tree.specs.declared.Refusal.{Refusal}
 use Rattle.itree_lib.specs.Run.Chain.{Chain}
 use Rattle.itree_lib.specs.Run.StatusProbes.{asks}
 use Rattle.itree_lib.specs.declared.run.status.StatusCommand.{StatusCommand}
@@ -31,6 +32,12 @@ IsLate cmp_time last command = IsSomeAnd (asks command) (λ asked. is_late cmp_t
 abbrev pub Moves : {K E V P : Type 0} → (E → E → Ordering) → Option E → StatusCommand K E V P → Option E → Type 0
 Moves cmp_time last command last' =
     MatchOption (asks command) (last' ≡ None) (λ asked. (is_late cmp_time last asked.0 ≡ false) × (last' ≡ Some asked.0))
+
+-- what is replied to an insertion by its outcome: whether the pair joined, or why it was refused
+abbrev pub insertion_reply : {K V : Type 0} → Result Bool Refusal → StatusReply K V
+insertion_reply (Ok true) = Inserted
+insertion_reply (Ok false) = Present
+insertion_reply (Err cause) = Refused cause
 
 -- `expiration` gives a key's expiration, `cmp_time` compares times, and `may_answer` says how a probe may call a key.
 -- There is `room` for so many pairs, the stored ones among them.

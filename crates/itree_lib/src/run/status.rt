@@ -1,7 +1,7 @@
 //! Runs of commands over a status of a sweep line.
 
 ghost use Rattle.std.specs.Prelude.{◌≡◌, ◌≢◌, ◌≤◌, ◌+◌, ◌++◌, List, length, vec_len, vec_capacity, IsOk, OnOk, OnErr, IfErr};
-ghost use Rattle.itree_lib.specs.Run.StatusMachine.{Answers, Step, RunsOver};
+ghost use Rattle.itree_lib.specs.Run.StatusMachine.{Answers, Step, RunsOver, insertion_reply};
 ghost use Rattle.itree_lib.specs.Run.StatusProbes.{CanProbe, CanProbeAll, asks};
 
 use super::keys::advance;
@@ -158,11 +158,8 @@ where
 {
     match command {
         StatusCommand::InsertBy { key, val, time, .. } => {
-            match c.insert_by(time, stands, key, val) {
-                Ok(true) => StatusReply::Inserted,
-                Ok(false) => StatusReply::Present,
-                Err(cause) => StatusReply::Refused(cause),
-            }
+            let outcome = c.insert_by(time, stands, key, val);
+            insertion_reply(outcome)
         }
         StatusCommand::LessOrEqualBy { time, default, .. } => {
             StatusReply::Value(c.first_less_or_equal_by(time, default, stands))
@@ -175,5 +172,16 @@ where
             StatusReply::Neighbours(before, after)
         }
         StatusCommand::Clear => unreachable!(),
+    }
+}
+
+// The reply to an insertion by its outcome: whether the pair joined, or why it was refused.
+fn insertion_reply<K, V>(outcome: Result<bool, Refusal>) -> StatusReply<K, V>
+    ensures { result ≡ insertion_reply outcome }
+{
+    match outcome {
+        Ok(true) => StatusReply::Inserted,
+        Ok(false) => StatusReply::Present,
+        Err(cause) => StatusReply::Refused(cause),
     }
 }

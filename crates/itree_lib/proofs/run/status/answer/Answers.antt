@@ -1,7 +1,11 @@
+use Rattle.itree_lib.proofs.RunLemmas.StatusSteps.{insertion-answered}
 use Rattle.itree_lib.proofs.run.status.answer.Goals as goal
 
-pub returns-in-Ok-true-clause-answers : goal.returns-in-Ok-true-clause-answers
-returns-in-Ok-true-clause-answers g c = rw c.in-InsertBy.is (rw c.in-Ok-true.field-0-test at (c.in-Ok-true.ensures).cases, rw c.in-Ok-true.field-0-test at (c.in-Ok-true.ensures).ok)
-
-pub returns-in-Ok-false-clause-answers : goal.returns-in-Ok-false-clause-answers
-returns-in-Ok-false-clause-answers g c = rw c.in-InsertBy.is (rw c.in-Ok-false.field-0-test at (c.in-Ok-false.ensures).cases, rw c.in-Ok-false.field-0-test at (c.in-Ok-false.ensures).ok)
+pub returns-in-InsertBy-clause-answers : goal.returns-in-InsertBy-clause-answers
+returns-in-InsertBy-clause-answers g c =
+    let outcome = c.insert_by-outcome in
+    let row = c.in-InsertBy in
+    rw row.is (rw c.insertion_reply.ensures
+    (insertion-answered g.K.ExpiredVal.expiration g.E.Ord.cmp (λ (_ : g.row.P.Denot) (key : g.row.K.Denot). g.F.Fn.post c.args.stands (key, tt)) (g.C.StatusCollection.room c.args.c.now) row.key row.val row.time row.probe
+    (g.C.StatusCollection.stored c.args.c.now) (g.C.StatusCollection.stored outcome.new.self)
+    outcome.result outcome.ensures.cases outcome.ensures.ok outcome.ensures.err outcome.ensures.err_new outcome.ensures.with_room))
