@@ -1,0 +1,21 @@
+-- Lemmas of snap rounding.
+pub mod Along
+pub mod Callers
+pub mod Clear
+pub mod Crossing
+pub mod Exact
+pub mod Falling
+pub mod Heights
+pub mod Hobby
+pub mod Means
+pub mod Near
+pub mod Noded
+pub mod Numbers
+pub mod Passing
+pub mod Paths
+pub mod Pieces
+pub mod Reversed
+pub mod Rising
+pub mod Rounding
+pub mod Sums
+pub mod Windings

@@ -1,0 +1,92 @@
+-- The chains of many edges, added up: what their pieces count, and how many of them start and end.
+use Rattle.std.proofs.Common.{Bool, List, [], ap, arith, cond, refl, suc, ℕ, ◌++◌, ◌+◌, ◌∙◌, ◌∷◌, ◌≡◌}
+use Rattle.std.proofs.lemmas.List.Elements.{All-head, All-tail}
+use Rattle.std.proofs.lemmas.List.Sums.{sum_by-append, sum_by-cons}
+use Rattle.std.specs.List.{All, AllZip, Contains, count_by, flat_map}
+use Rattle.plane.specs.declared.edge.Edge.{Edge}
+use Rattle.plane.specs.declared.point.Point.{Point}
+use Rattle.plane.specs.Meet.Edges.{RationalPoint}
+use Rattle.overlay.specs.Snap.Chains.{AreChains, IsChain}
+use Rattle.overlay.specs.Snap.Near.{IsNear}
+use Rattle.overlay.specs.Snap.Windings.{IsAlongAxis, edge_between, end_of, pieces, pieces_from, start_of, under, winding}
+use Rattle.overlay.proofs.SnapLemmas.Clear.{chain-clear}
+use Rattle.overlay.proofs.SnapLemmas.Exact.{chain-exact}
+use Rattle.overlay.proofs.SnapLemmas.Numbers.{both}
+use Rattle.overlay.proofs.SnapLemmas.Paths.{GoesOn, IsPath, chain-path}
+use Rattle.overlay.proofs.SnapLemmas.Along.{point_at}
+use Rattle.overlay.proofs.SnapLemmas.Windings.{winding-append}
+
+module _ (all : List Edge) (point : RationalPoint) (P : Edge → Type 0) (each : (edge : Edge) (chain : List Point) → IsPath edge chain → P edge → winding (pieces chain) point ≡ under edge point) where
+  total : (edges : List Edge) (chains : List (List Point)) → ((edge : Edge) → Contains edges edge → Contains all edge) → AllZip (IsChain all) edges chains → All P edges → winding (flat_map pieces chains) point ≡ winding edges point
+  total [] [] among are every = refl
+  total [] (chain ∷ chains) among are every = absurd are
+  total (edge ∷ edges) [] among are every = absurd are
+  total (edge ∷ edges) (chain ∷ chains) among (is, are) every =
+      winding-append (pieces chain) (flat_map pieces chains) point
+      ∙ both (winding (pieces chain) point) (under edge point) (winding (flat_map pieces chains) point) (winding edges point)
+      (each edge chain (chain-path all edge chain (among edge (0, omega arith, refl)) is) (All-head P edge edges every))
+      (total edges chains (λ other (k, inside, is_at). among other (suc k, omega (arith, inside), is_at)) are (All-tail P edge edges every))
+
+-- at a point that is near none of the edges
+pub chains-clear : (edges : List Edge) (chains : List (List Point)) (point : RationalPoint) → AreChains edges chains → All (λ edge. ¬ (IsNear edge point)) edges → winding (flat_map pieces chains) point ≡ winding edges point
+chains-clear edges chains point are far = total edges point (λ edge. ¬ (IsNear edge point)) (λ edge chain is far. chain-clear edge chain point is far) edges chains (λ edge among. among) are far
+
+-- at each point, where all edges run along the axes
+pub chains-exact : (edges : List Edge) (chains : List (List Point)) (point : RationalPoint) → AreChains edges chains → All IsAlongAxis edges → winding (flat_map pieces chains) point ≡ winding edges point
+chains-exact edges chains point are axial = total edges point IsAlongAxis (λ edge chain is axis. chain-exact edge chain point is axis) edges chains (λ edge among. among) are axial
+
+-- ---- starts and ends
+
+module _ (test : Point → Bool) where
+  abbrev unit : Point → ℕ
+  unit point = cond (test point) 1 0
+
+  abbrev starts : List Edge → ℕ
+  starts edges = count_by (λ edge. test (start_of edge)) edges
+
+  abbrev ends : List Edge → ℕ
+  ends edges = count_by (λ edge. test (end_of edge)) edges
+
+  starts-cons : (edge : Edge) (edges : List Edge) → starts (edge ∷ edges) ≡ unit (start_of edge) + starts edges
+  starts-cons edge edges = sum_by-cons (λ (e : Edge). unit (start_of e)) edge edges
+
+  ends-cons : (edge : Edge) (edges : List Edge) → ends (edge ∷ edges) ≡ unit (end_of edge) + ends edges
+  ends-cons edge edges = sum_by-cons (λ (e : Edge). unit (end_of e)) edge edges
+
+  starts-append : (xs ys : List Edge) → starts (xs ++ ys) ≡ starts xs + starts ys
+  starts-append xs ys = sum_by-append (λ (e : Edge). unit (start_of e)) xs ys
+
+  ends-append : (xs ys : List Edge) → ends (xs ++ ys) ≡ ends xs + ends ys
+  ends-append xs ys = sum_by-append (λ (e : Edge). unit (end_of e)) xs ys
+
+  -- what a chain's pieces add beside its edge's start and end, they add on both sides
+  along : (edge : Edge) (from : Point) (others : List Point) → GoesOn edge from others → starts (pieces_from from others) + unit (end_of edge) ≡ unit from + ends (pieces_from from others)
+  along edge from [] (x, y) =
+      let same : unit from ≡ unit (end_of edge) = ap (λ a. unit (point_at a from.y)) x ∙ ap (λ b. unit (point_at edge.x1 b)) y in
+      omega (arith, same)
+  along edge from (to ∷ others) (order, passes, rest) =
+      let first = starts-cons (edge_between from to) (pieces_from to others) in
+      let second = ends-cons (edge_between from to) (pieces_from to others) in
+      let later = along edge to others rest in
+      omega (arith, first, second, later)
+
+  along_path : (edge : Edge) (chain : List Point) → IsPath edge chain → starts (pieces chain) + unit (end_of edge) ≡ unit (start_of edge) + ends (pieces chain)
+  along_path edge [] none = absurd none
+  along_path edge (from ∷ others) (x, y, passed, goes) =
+      let same : unit from ≡ unit (start_of edge) = ap (λ a. unit (point_at a from.y)) x ∙ ap (λ b. unit (point_at edge.x0 b)) y in
+      let sum = along edge from others goes in
+      omega (arith, same, sum)
+
+  pub balance : (all edges : List Edge) (chains : List (List Point)) → ((edge : Edge) → Contains edges edge → Contains all edge) → AllZip (IsChain all) edges chains
+      → starts (flat_map pieces chains) + ends edges ≡ starts edges + ends (flat_map pieces chains)
+  balance all [] [] among are = refl
+  balance all [] (chain ∷ chains) among are = absurd are
+  balance all (edge ∷ edges) [] among are = absurd are
+  balance all (edge ∷ edges) (chain ∷ chains) among (is, are) =
+      let here = along_path edge chain (chain-path all edge chain (among edge (0, omega arith, refl)) is) in
+      let later = balance all edges chains (λ other (k, inside, is_at). among other (suc k, omega (arith, inside), is_at)) are in
+      let starts_all = starts-append (pieces chain) (flat_map pieces chains) in
+      let ends_all = ends-append (pieces chain) (flat_map pieces chains) in
+      let starts_edges = starts-cons edge edges in
+      let ends_edges = ends-cons edge edges in
+      omega (arith, here, later, starts_all, ends_all, starts_edges, ends_edges)

@@ -1,0 +1,15 @@
+use Rattle.std.proofs.Common.{rules, w32, FitsSigned}
+use Rattle.std.proofs.lemmas.Int.{to_z-of_z}
+use Rattle.overlay.proofs.snap.passing.passes_rightwards.Goals as goal
+
+pub returns-then-edge : goal.returns-then-edge
+returns-then-edge c =
+    let x : FitsSigned w32 c.args.x = search rules in
+    let y : FitsSigned w32 c.args.y = search rules in
+    simp to_z-of_z at c.passes_rising.ensures
+
+pub returns : goal.returns
+returns c =
+    let x : FitsSigned w32 c.args.x = search rules in
+    let y : FitsSigned w32 c.args.y = search rules in
+    simp to_z-of_z at c.passes_falling.ensures

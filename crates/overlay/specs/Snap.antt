@@ -1,0 +1,8 @@
+-- Definitions of snap rounding: what a point rounds to, the chains that edges become, and what holds of these.
+pub mod Chains
+pub mod Crossing
+pub mod Meeting
+pub mod Near
+pub mod Rounding
+pub mod Tests
+pub mod Windings

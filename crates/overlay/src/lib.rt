@@ -1,0 +1,6 @@
+//! Overlay of polygons on the grid of whole points: edges are broken where they meet, and their pieces have whole ends again.
+//!
+//! All is told in whole numbers, and what is rounded is rounded exactly.
+#![tactic(auto)]
+
+pub mod snap;
