@@ -13,7 +13,7 @@ use Rattle.overlay.proofs.SnapLemmas.Clear.{Agrees, chain-agrees}
 use Rattle.overlay.proofs.SnapLemmas.Heights.{Covering, onwards}
 use Rattle.overlay.proofs.SnapLemmas.Numbers.{n_of, natural, same_test}
 use Rattle.overlay.proofs.SnapLemmas.Paths.{IsPath}
-use Rattle.overlay.proofs.SnapLemmas.Rounding.{low, rounds_on-unique, rounds_whole}
+use Rattle.overlay.proofs.SnapLemmas.Rounding.{rounds_on-unique, rounds_whole}
 use Rattle.plane.proofs.MeetLemmas.Identities.{identity, minus, number, plus, scaled, times, unscaled}
 
 -- ---- a level edge passes points of its height alone

@@ -2,7 +2,7 @@
 use Rattle.std.proofs.Common.{List, [], ap, arith, get_or, inl, inr, map, refl, subst, suc, sym, zero, ◌++◌, ◌∙◌, ◌∷◌, ◌≡◌}
 use Rattle.std.proofs.lemmas.List.Elements.{All-head, All-tail, Contains-get_or}
 use Rattle.std.specs.List.{All, AllPairs, Contains}
-use Rattle.std.specs.Prelude.{List, [], ℤ, ◌∷◌, ◌≡◌}
+use Rattle.std.specs.Prelude.{List, [], ◌∷◌, ◌≡◌}
 use Rattle.plane.specs.declared.edge.Edge.{Edge}
 use Rattle.plane.specs.declared.point.Point.{Point}
 use Rattle.overlay.specs.Snap.Chains.{IsChain, IsHot, Passes, Upto}
