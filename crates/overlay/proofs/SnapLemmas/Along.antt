@@ -11,7 +11,7 @@ use Rattle.plane.specs.Meet.Edges.{IsAtShare, RationalPoint}
 use Rattle.overlay.specs.Snap.Chains.{Passes, Upto, UptoOn}
 use Rattle.overlay.specs.Snap.Rounding.{RoundsOn, RoundsTo}
 use Rattle.overlay.proofs.SnapLemmas.Numbers.{n_of}
-use Rattle.overlay.proofs.SnapLemmas.Rounding.{rounds-itself, rounds_on-monotone, whole}
+use Rattle.overlay.proofs.SnapLemmas.Rounding.{RoundsTo-itself, RoundsOn-monotone, whole}
 use Rattle.plane.proofs.MeetLemmas.Identities.{Term, at_most, at_most_of, identity, minus, number, plus, times}
 use Rattle.plane.proofs.SweepLineLemmas.Gaps.{product_above}
 
@@ -35,22 +35,22 @@ behind n m a b p q start end order way first second =
 
 upto_on : (n m a b : ℕ) (p q c d start end : ℤ) → 0 < n → 0 < m → a * m ≤ b * n → p ≡ ((pos n *ℤ start) +ℤ (pos a *ℤ (end -ℤ start))) → q ≡ ((pos m *ℤ start) +ℤ (pos b *ℤ (end -ℤ start))) → RoundsOn n p c → RoundsOn m q d → UptoOn start end c d
 upto_on n m a b p q c d start end some many order first second rounds other_rounds = record {
-  rising = λ up. rounds_on-monotone n m p q c d some many (ahead n m a b p q start end order up first second) rounds other_rounds;
-  falling = λ down. rounds_on-monotone m n q p d c many some (behind n m a b p q start end order down first second) other_rounds rounds;
+  rising = λ up. RoundsOn-monotone n m p q c d some many (ahead n m a b p q start end order up first second) rounds other_rounds;
+  falling = λ down. RoundsOn-monotone m n q p d c many some (behind n m a b p q start end order down first second) other_rounds rounds;
 }
 
-pub upto_by : (edge : Edge) (x y other_x other_y : ℤ) (one other : RationalPoint) (a b : ℕ) → IsAtShare edge one a → IsAtShare edge other b → RoundsTo one x y → RoundsTo other other_x other_y → a * other.n ≤ b * one.n → Upto edge x y other_x other_y
-upto_by edge x y other_x other_y one other a b first second rounds other_rounds order = record {
+pub Upto-by_shares : (edge : Edge) (x y other_x other_y : ℤ) (one other : RationalPoint) (a b : ℕ) → IsAtShare edge one a → IsAtShare edge other b → RoundsTo one x y → RoundsTo other other_x other_y → a * other.n ≤ b * one.n → Upto edge x y other_x other_y
+Upto-by_shares edge x y other_x other_y one other a b first second rounds other_rounds order = record {
   along_x = upto_on one.n other.n a b one.x other.x x other_x edge.x0 edge.x1 one.positive other.positive order first.x second.x rounds.along_x other_rounds.along_x;
   along_y = upto_on one.n other.n a b one.y other.y y other_y edge.y0 edge.y1 one.positive other.positive order first.y second.y rounds.along_y other_rounds.along_y;
 }
 
 -- of two whole points that an edge passes one isn't behind the other
-pub passes-ordered : (edge : Edge) (x y other_x other_y : ℤ) → Passes edge x y → Passes edge other_x other_y → Upto edge x y other_x other_y ⊎ Upto edge other_x other_y x y
-passes-ordered edge x y other_x other_y (one, (a, first), rounds) (other, (b, second), other_rounds) =
+pub Passes-ordered : (edge : Edge) (x y other_x other_y : ℤ) → Passes edge x y → Passes edge other_x other_y → Upto edge x y other_x other_y ⊎ Upto edge other_x other_y x y
+Passes-ordered edge x y other_x other_y (one, (a, first), rounds) (other, (b, second), other_rounds) =
     by_lt_z (pos (b * one.n)) (pos (a * other.n))
-    (λ back. inr (upto_by edge other_x other_y x y other one b a second first other_rounds rounds (omega (arith, ints, back))))
-    (λ order. inl (upto_by edge x y other_x other_y one other a b first second rounds other_rounds (omega (arith, ints, order))))
+    (λ back. inr (Upto-by_shares edge other_x other_y x y other one b a second first other_rounds rounds (omega (arith, ints, back))))
+    (λ order. inl (Upto-by_shares edge x y other_x other_y one other a b first second rounds other_rounds (omega (arith, ints, order))))
 
 -- ---- the edge's ends are before and behind what it passes
 
@@ -74,20 +74,20 @@ to_at edge = record {
   y = end_on edge.y0 edge.y1;
 }
 
-pub upto-passed : (edge : Edge) (x y : ℤ) → Passes edge x y → Upto edge edge.x0 edge.y0 x y
-upto-passed edge x y (point, (a, at), rounds) =
-    upto_by edge edge.x0 edge.y0 x y (whole edge.x0 edge.y0) point 0 a (from_at edge) at (rounds-itself edge.x0 edge.y0) rounds (omega arith)
+pub Upto-from_start : (edge : Edge) (x y : ℤ) → Passes edge x y → Upto edge edge.x0 edge.y0 x y
+Upto-from_start edge x y (point, (a, at), rounds) =
+    Upto-by_shares edge edge.x0 edge.y0 x y (whole edge.x0 edge.y0) point 0 a (from_at edge) at (RoundsTo-itself edge.x0 edge.y0) rounds (omega arith)
 
-pub passed-upto : (edge : Edge) (x y : ℤ) → Passes edge x y → Upto edge x y edge.x1 edge.y1
-passed-upto edge x y (point, (a, at), rounds) =
+pub Upto-to_end : (edge : Edge) (x y : ℤ) → Passes edge x y → Upto edge x y edge.x1 edge.y1
+Upto-to_end edge x y (point, (a, at), rounds) =
     let share = at.share in
-    upto_by edge x y edge.x1 edge.y1 point (whole edge.x1 edge.y1) a 1 at (to_at edge) rounds (rounds-itself edge.x1 edge.y1) (omega arith)
+    Upto-by_shares edge x y edge.x1 edge.y1 point (whole edge.x1 edge.y1) a 1 at (to_at edge) rounds (RoundsTo-itself edge.x1 edge.y1) (omega arith)
 
-pub passes-from : (edge : Edge) → Passes edge edge.x0 edge.y0
-passes-from edge = (whole edge.x0 edge.y0, (0, from_at edge), rounds-itself edge.x0 edge.y0)
+pub Passes-start : (edge : Edge) → Passes edge edge.x0 edge.y0
+Passes-start edge = (whole edge.x0 edge.y0, (0, from_at edge), RoundsTo-itself edge.x0 edge.y0)
 
-pub passes-to : (edge : Edge) → Passes edge edge.x1 edge.y1
-passes-to edge = (whole edge.x1 edge.y1, (1, to_at edge), rounds-itself edge.x1 edge.y1)
+pub Passes-end : (edge : Edge) → Passes edge edge.x1 edge.y1
+Passes-end edge = (whole edge.x1 edge.y1, (1, to_at edge), RoundsTo-itself edge.x1 edge.y1)
 
 -- ---- points of which neither is behind the other are one
 
@@ -109,8 +109,8 @@ point_at x y = record {
   y = y;
 }
 
-pub upto-same : (edge : Edge) (c d : Point) → Upto edge c.x c.y d.x d.y → Upto edge d.x d.y c.x c.y → c ≡ d
-upto-same edge c d first second =
+pub Upto-same : (edge : Edge) (c d : Point) → Upto edge c.x c.y d.x d.y → Upto edge d.x d.y c.x c.y → c ≡ d
+Upto-same edge c d first second =
     let same_x = same_on edge.x0 edge.x1 c.x d.x first.along_x second.along_x in
     let same_y = same_on edge.y0 edge.y1 c.y d.y first.along_y second.along_y in
     ap (λ x. point_at x c.y) same_x ∙ ap (λ y. point_at d.x y) same_y
@@ -121,8 +121,8 @@ upto_on-itself from to c = record {
   falling = λ down. omega (arith, ints);
 }
 
-pub upto-itself : (edge : Edge) (c : Point) → Upto edge c.x c.y c.x c.y
-upto-itself edge c = record {
+pub Upto-itself : (edge : Edge) (c : Point) → Upto edge c.x c.y c.x c.y
+Upto-itself edge c = record {
   along_x = upto_on-itself edge.x0 edge.x1 c.x;
   along_y = upto_on-itself edge.y0 edge.y1 c.y;
 }
@@ -148,10 +148,10 @@ at_point x y = record {
   high = y;
 }
 
-pub passes-in_box : (edge : Edge) (x y : ℤ) → Passes edge x y → BoundsMeet (bounds_of edge) (at_point x y)
-passes-in_box edge x y passes =
-    let first = upto-passed edge x y passes in
-    let second = passed-upto edge x y passes in
+pub Passes-in_box : (edge : Edge) (x y : ℤ) → Passes edge x y → BoundsMeet (bounds_of edge) (at_point x y)
+Passes-in_box edge x y passes =
+    let first = Upto-from_start edge x y passes in
+    let second = Upto-to_end edge x y passes in
     let along_x = within edge.x0 edge.x1 x first.along_x second.along_x in
     let along_y = within edge.y0 edge.y1 y first.along_y second.along_y in record {
       left = along_x.0;

@@ -11,18 +11,18 @@ use Rattle.overlay.specs.Snap.Chains.{Passes, IsEnd, CrossAt, IsHot, Upto, IsCha
 use Rattle.overlay.specs.Snap.Meeting.{MeetAtEnds}
 use Rattle.overlay.specs.Snap.Near.{IsNear}
 use Rattle.overlay.specs.Snap.Windings.{start_of, end_of, under, winding, pieces, IsAlongAxis, IsClosed}
-use Rattle.overlay.proofs.SnapLemmas.Along.{at_point, passes-in_box, passes-from, passes-to}
+use Rattle.overlay.proofs.SnapLemmas.Along.{at_point, Passes-in_box, Passes-start, Passes-end}
 use Rattle.overlay.proofs.SnapLemmas.Clear.{chain-clear}
 use Rattle.overlay.proofs.SnapLemmas.Exact.{chain-exact}
-use Rattle.overlay.proofs.SnapLemmas.Near.{near-piece}
-use Rattle.overlay.proofs.SnapLemmas.Noded.{chain-pieces, chains-meet, piece-proper, piece-upto}
-use Rattle.overlay.proofs.SnapLemmas.Paths.{chain-path, path-ends}
+use Rattle.overlay.proofs.SnapLemmas.Near.{IsNear-piece}
+use Rattle.overlay.proofs.SnapLemmas.Noded.{IsPiece-chain, chains-meet, piece-proper, piece-upto}
+use Rattle.overlay.proofs.SnapLemmas.Paths.{IsPath-chain, path-ends}
 use Rattle.overlay.proofs.SnapLemmas.Sums.{balance, chains-clear, chains-exact}
 -- A point rounds to one whole point.
-pub use Rattle.overlay.proofs.SnapLemmas.Rounding.{rounds-unique}
+pub use Rattle.overlay.proofs.SnapLemmas.Rounding.{RoundsTo-unique}
 -- What an edge passes lies in its box; of two points that it passes one isn't behind the other, and where neither is they are
 -- one.
-pub use Rattle.overlay.proofs.SnapLemmas.Along.{passes-in_box, passes-ordered, upto-same}
+pub use Rattle.overlay.proofs.SnapLemmas.Along.{Passes-in_box, Passes-ordered, Upto-same}
 -- Two edges that aren't parallel have one crossing, whichever is named first, and no edge crosses itself.
 pub use Rattle.overlay.proofs.SnapLemmas.Crossing.{CrossAt-unique, CrossAt-exchanged, CrossAt-itself}
 
@@ -32,11 +32,11 @@ pub use Rattle.overlay.proofs.SnapLemmas.Crossing.{CrossAt-unique, CrossAt-excha
 pub end-hot : (edges : List Edge) (edge : Edge) (x y : ℤ) → Contains edges edge → IsEnd edge x y → IsHot edges x y × Passes edge x y
 end-hot edges edge x y among (inl (is_x, is_y)) = (
   inl (edge, among, inl (is_x, is_y)),
-  subst (λ (z : ℤ). Passes edge z y) (sym is_x) (subst (λ (z : ℤ). Passes edge edge.x0 z) (sym is_y) (passes-from edge)),
+  subst (λ (z : ℤ). Passes edge z y) (sym is_x) (subst (λ (z : ℤ). Passes edge edge.x0 z) (sym is_y) (Passes-start edge)),
 )
 end-hot edges edge x y among (inr (is_x, is_y)) = (
   inl (edge, among, inr (is_x, is_y)),
-  subst (λ (z : ℤ). Passes edge z y) (sym is_x) (subst (λ (z : ℤ). Passes edge edge.x1 z) (sym is_y) (passes-to edge)),
+  subst (λ (z : ℤ). Passes edge z y) (sym is_x) (subst (λ (z : ℤ). Passes edge edge.x1 z) (sym is_y) (Passes-end edge)),
 )
 
 -- What `crossing` answers of two of the edges is hot, and both pass it.
@@ -76,7 +76,7 @@ module _ (edges : List Edge) (chains : List (List Point)) (are : AreChains edges
 module _ (edges : List Edge) (edge : Edge) (chain : List Point) (among : Contains edges edge) (is : IsChain edges edge chain) where
   -- It begins where its edge does, and goes on by the ends of its pieces.
   pub starts : chain ≡ start_of edge ∷ map end_of (pieces chain)
-  starts = sym (path-ends edge chain (chain-path edges edge chain among is))
+  starts = sym (path-ends edge chain (IsPath-chain edges edge chain among is))
 
   -- Its pieces go the way of their edge, on both axes, and none is a point.
   pub piece-onwards : (piece : Edge) → Contains (pieces chain) piece → Upto edge piece.x0 piece.y0 piece.x1 piece.y1 × (start_of piece ≢ end_of piece)
@@ -84,17 +84,17 @@ module _ (edges : List Edge) (edge : Edge) (chain : List Point) (among : Contain
 
   -- Its points lie in their edge's box.
   pub in_box : (c : Point) → Contains chain c → BoundsMeet (bounds_of edge) (at_point c.x c.y)
-  in_box c inside = passes-in_box edge c.x c.y ((is.exact c).0 inside).1
+  in_box c inside = Passes-in_box edge c.x c.y ((is.exact c).0 inside).1
 
   -- Each point of its pieces is near the edge.
   pub near : (piece : Edge) (point : RationalPoint) → Contains (pieces chain) piece → IsOf piece point → IsNear edge point
   near piece point inside of =
-      let found = chain-pieces edges edge chain is piece inside in
-      near-piece edge piece point found.from_passes found.to_passes of
+      let found = IsPiece-chain edges edge chain is piece inside in
+      IsNear-piece edge piece point found.from_passes found.to_passes of
 
   -- Its pieces count what the edge counts, at a point that isn't near the edge; and at each point where it runs along an axis.
   pub clear-edge : (point : RationalPoint) → ¬ (IsNear edge point) → winding (pieces chain) point ≡ under edge point
-  clear-edge point far = chain-clear edge chain point (chain-path edges edge chain among is) far
+  clear-edge point far = chain-clear edge chain point (IsPath-chain edges edge chain among is) far
 
   pub exact-edge : (point : RationalPoint) → IsAlongAxis edge → winding (pieces chain) point ≡ under edge point
-  exact-edge point axial = chain-exact edge chain point (chain-path edges edge chain among is) axial
+  exact-edge point axial = chain-exact edge chain point (IsPath-chain edges edge chain among is) axial

@@ -10,7 +10,7 @@ use Rattle.overlay.specs.Snap.Windings.{count, edge_between, is_low, pieces, pie
 use Rattle.overlay.proofs.SnapLemmas.Heights.{Covering, same_side}
 use Rattle.overlay.proofs.SnapLemmas.Numbers.{both_zero}
 use Rattle.overlay.proofs.SnapLemmas.Paths.{GoesOn, IsPath}
-use Rattle.overlay.proofs.SnapLemmas.Reversed.{near-reversed, passes-reversed}
+use Rattle.overlay.proofs.SnapLemmas.Reversed.{IsNear-reversed, Passes-reversed}
 use Rattle.overlay.proofs.SnapLemmas.Windings.{after, before, under-left, under-right, within}
 use Rattle.plane.proofs.MeetLemmas.Identities.{scaled}
 
@@ -112,7 +112,7 @@ module _ (edge : Edge) (backwards : edge.x1 ≤ℤ edge.x0) where
         omega (arith, ints, here, none, later))
         (λ inside.
         let d : Covering (reversed (edge_between from to)) point = record { from = inside; before = is } in
-        let same = within (reversed (edge_between from to)) point d ∙ ap count (agrees (reversed (edge_between from to)) (passes-reversed edge to.x to.y passes) (passes-reversed edge from.x from.y passed) c d) in
+        let same = within (reversed (edge_between from to)) point d ∙ ap count (agrees (reversed (edge_between from to)) (Passes-reversed edge to.x to.y passes) (Passes-reversed edge from.x from.y passed) c d) in
         let later = sum_right to others rest inside in
         omega (arith, ints, here, same, later))
 
@@ -161,4 +161,4 @@ pub chain-clear : (edge : Edge) (chain : List Point) (point : RationalPoint) →
 chain-clear edge chain point is far =
     chain-agrees edge chain point is
     (λ piece. same_side edge piece point far)
-    (λ piece. same_side (reversed edge) piece point (λ near. far (near-reversed edge point near)))
+    (λ piece. same_side (reversed edge) piece point (λ near. far (IsNear-reversed edge point near)))

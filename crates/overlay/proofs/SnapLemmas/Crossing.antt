@@ -9,10 +9,10 @@ use Rattle.plane.specs.Meet.Edges.{IsAtShare, IsOf, Meet, RationalPoint}
 use Rattle.overlay.specs.Snap.Chains.{AreNotParallel, CrossAt, Passes, UptoOn}
 use Rattle.overlay.specs.Snap.Crossing.{HasParts, RoundsPart}
 use Rattle.overlay.specs.Snap.Rounding.{RoundsOn, RoundsTo}
-use Rattle.overlay.proofs.SnapLemmas.Along.{passed-upto, same_on, upto-passed, upto_by}
-use Rattle.overlay.proofs.SnapLemmas.Numbers.{minus_of, n_of, share_same, side, way_from}
+use Rattle.overlay.proofs.SnapLemmas.Along.{Upto-to_end, same_on, Upto-from_start, Upto-by_shares}
+use Rattle.overlay.proofs.SnapLemmas.Numbers.{minus_of, n_of, share_same, side, way_from, cross-exchanged}
 use Rattle.overlay.proofs.SnapLemmas.Pieces.{left_of}
-use Rattle.overlay.proofs.SnapLemmas.Rounding.{rounds-scaled}
+use Rattle.overlay.proofs.SnapLemmas.Rounding.{RoundsOn-same}
 use Rattle.plane.proofs.MeetLemmas.Identities.{Term, identity, minus, number, plus, same_of, times}
 use Rattle.plane.proofs.MeetLemmas.Shares.{meet-of_parts, part_of_one, part_of_other, parts_of_meet, whole}
 
@@ -43,8 +43,8 @@ mean_between n a from to c some share rounds =
       },
     ) in
     let passes : Passes edge c c = (point, of, record { along_x = rounds; along_y = rounds }) in record {
-      first = (upto-passed edge c c passes).along_x;
-      second = (passed-upto edge c c passes).along_x;
+      first = (Upto-from_start edge c c passes).along_x;
+      second = (Upto-to_end edge c c passes).along_x;
     }
 
 fits_between : (from to c : ℤ) → Between from to c → FitsSigned w32 from → FitsSigned w32 to → FitsSigned w32 c
@@ -72,7 +72,7 @@ same_rational m n a s start way same =
 
 rounds_at : (m n a : ℕ) (s start way p c : ℤ) → 0 < m → 0 < n → (pos n *ℤ s) ≡ (pos a *ℤ pos m) → p ≡ ((pos n *ℤ start) +ℤ (pos a *ℤ way)) → RoundsOn m ((pos m *ℤ start) +ℤ (s *ℤ way)) c → RoundsOn n p c
 rounds_at m n a s start way p c some many same is rounds =
-    subst (λ (z : ℤ). RoundsOn n z c) (sym is) (rounds-scaled m n ((pos m *ℤ start) +ℤ (s *ℤ way)) ((pos n *ℤ start) +ℤ (pos a *ℤ way)) c some many (same_rational m n a s start way same) rounds)
+    subst (λ (z : ℤ). RoundsOn n z c) (sym is) (RoundsOn-same m n ((pos m *ℤ start) +ℤ (s *ℤ way)) ((pos n *ℤ start) +ℤ (pos a *ℤ way)) c some many (same_rational m n a s start way same) rounds)
 
 -- ---- the share of a common point
 
@@ -183,8 +183,8 @@ pub crossing-rounds : (one other : Edge) (p q : RationalPoint) (x y other_x othe
 crossing-rounds one other p q x y other_x other_y apart (a, first) (b, second) (c, third) (d, fourth) rounds other_rounds =
     let cross = ((one.x1 -ℤ one.x0) *ℤ (other.y1 -ℤ other.y0)) -ℤ ((one.y1 -ℤ one.y0) *ℤ (other.x1 -ℤ other.x0)) in
     let same = share_same p.n q.n b d (left_of one other.x0 other.y0) cross (share_by one other p a b first second) (share_by one other q c d third fourth) apart in
-    let there = upto_by other x y other_x other_y p q b d second fourth rounds other_rounds (omega (arith, same)) in
-    let back = upto_by other other_x other_y x y q p d b fourth second other_rounds rounds (omega (arith, same)) in (
+    let there = Upto-by_shares other x y other_x other_y p q b d second fourth rounds other_rounds (omega (arith, same)) in
+    let back = Upto-by_shares other other_x other_y x y q p d b fourth second other_rounds rounds (omega (arith, same)) in (
       same_on other.x0 other.x1 x other_x there.along_x back.along_x,
       same_on other.y0 other.y1 y other_y there.along_y back.along_y,
     )
@@ -195,14 +195,12 @@ CrossAt-unique one other x y other_x other_y (slanted, (p, of_one, of_other, rou
 
 -- ---- the other edge first, and an edge and itself
 
-cross_exchanged : (ux uy vx vy : ℤ) → cross ux uy vx vy ≢ pos 0 → cross vx vy ux uy ≢ pos 0
-cross_exchanged ux uy vx vy some none =
-    let turn : ℤ → ℤ → ℤ → ℤ → Term = λ a b c d. minus (times (number a) (number d)) (times (number b) (number c)) in
-    some (identity (turn ux uy vx vy) (n_of 0) (omega (arith, same_of (turn vx vy ux uy) (n_of 0) none)))
+not_parallel_back : (ux uy vx vy : ℤ) → cross ux uy vx vy ≢ pos 0 → cross vx vy ux uy ≢ pos 0
+not_parallel_back ux uy vx vy some none = let back = cross-exchanged ux uy vx vy in some (omega (arith, ints, back, none))
 
 pub CrossAt-exchanged : (one other : Edge) (x y : ℤ) → CrossAt one other x y → CrossAt other one x y
 CrossAt-exchanged one other x y (slanted, (point, of_one, of_other, rounds)) = (
-  cross_exchanged (one.x1 -ℤ one.x0) (one.y1 -ℤ one.y0) (other.x1 -ℤ other.x0) (other.y1 -ℤ other.y0) slanted,
+  not_parallel_back (one.x1 -ℤ one.x0) (one.y1 -ℤ one.y0) (other.x1 -ℤ other.x0) (other.y1 -ℤ other.y0) slanted,
   (point, of_other, of_one, rounds),
 )
 

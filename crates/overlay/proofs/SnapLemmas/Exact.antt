@@ -13,7 +13,7 @@ use Rattle.overlay.proofs.SnapLemmas.Clear.{Agrees, chain-agrees}
 use Rattle.overlay.proofs.SnapLemmas.Heights.{Covering, onwards}
 use Rattle.overlay.proofs.SnapLemmas.Numbers.{n_of, natural, same_test}
 use Rattle.overlay.proofs.SnapLemmas.Paths.{IsPath}
-use Rattle.overlay.proofs.SnapLemmas.Rounding.{rounds_on-unique, rounds_whole}
+use Rattle.overlay.proofs.SnapLemmas.Rounding.{RoundsOn-unique, RoundsOn-whole}
 use Rattle.plane.proofs.MeetLemmas.Identities.{identity, minus, number, plus, scaled, times, unscaled}
 
 -- ---- a level edge passes points of its height alone
@@ -26,8 +26,8 @@ level_at n a p y0 y1 level is =
 passes_level : (edge : Edge) (x y : ℤ) → edge.y1 ≡ edge.y0 → Passes edge x y → y ≡ edge.y0
 passes_level edge x y level (point, (a, at), rounds) =
     let there = level_at point.n a point.y edge.y0 edge.y1 level at.y in
-    rounds_on-unique point.n point.y y edge.y0 point.positive rounds.along_y
-    (subst (λ (p : ℤ). RoundsOn point.n p edge.y0) (sym there) (rounds_whole point.n edge.y0 point.positive))
+    RoundsOn-unique point.n point.y y edge.y0 point.positive rounds.along_y
+    (subst (λ (p : ℤ). RoundsOn point.n p edge.y0) (sym there) (RoundsOn-whole point.n edge.y0 point.positive))
 
 -- ---- whose height compares as the number
 

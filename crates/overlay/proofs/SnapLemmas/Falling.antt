@@ -69,8 +69,8 @@ place w h dx dy wide high in_x in_y first second =
     }
 
 -- in the edge's box, with two corners of the pixel on either side of its line, one of them maybe on it
-pub passes-falling : (edge : Edge) (w h dx dy : ℕ) → Falls edge w h → dx ≤ w → dy ≤ h → 2 * (dx * h) ≤ (2 * (dy * w) + w) + h → 2 * (dy * w) < (2 * (dx * h) + h) + w → Passes edge (edge.x0 +ℤ pos dx) (edge.y0 -ℤ pos dy)
-passes-falling edge w h dx dy falls in_x in_y first second =
+pub Passes-falling : (edge : Edge) (w h dx dy : ℕ) → Falls edge w h → dx ≤ w → dy ≤ h → 2 * (dx * h) ≤ (2 * (dy * w) + w) + h → 2 * (dy * w) < (2 * (dx * h) + h) + w → Passes edge (edge.x0 +ℤ pos dx) (edge.y0 -ℤ pos dy)
+Passes-falling edge w h dx dy falls in_x in_y first second =
     let found = place w h dx dy falls.wide falls.high in_x in_y first second in
     let n = 4 * (w * h) in
     let some = mul-pos falls.wide falls.high in
@@ -130,8 +130,8 @@ corner_open n a w h dx dy wide from upto =
     let right = mul-le-mul_left h upto in
     lt_of_mul-lt-mul_left n (omega (arith, left, right))
 
-pub falling-passes : (edge : Edge) (w h dx dy : ℕ) → Falls edge w h → Passes edge (edge.x0 +ℤ pos dx) (edge.y0 -ℤ pos dy) → (2 * (dx * h) ≤ (2 * (dy * w) + w) + h) × (2 * (dy * w) < (2 * (dx * h) + h) + w)
-falling-passes edge w h dx dy falls (point, (a, at), rounds) =
+pub falling-Passes : (edge : Edge) (w h dx dy : ℕ) → Falls edge w h → Passes edge (edge.x0 +ℤ pos dx) (edge.y0 -ℤ pos dy) → (2 * (dx * h) ≤ (2 * (dy * w) + w) + h) × (2 * (dy * w) < (2 * (dx * h) + h) + w)
+falling-Passes edge w h dx dy falls (point, (a, at), rounds) =
     let x = right_from point.n a w dx point.x edge.x0 (edge.x1 -ℤ edge.x0) at.x falls.along_x rounds.along_x in
     let y = down_from point.n a h dy point.y edge.y0 (edge.y1 -ℤ edge.y0) at.y falls.along_y rounds.along_y in (
       corner_closed point.n a w h dx dy point.positive x.0 y.1,

@@ -8,7 +8,7 @@ use Rattle.plane.specs.SweepLine.Heights.{run}
 use Rattle.overlay.specs.Snap.Chains.{Passes}
 use Rattle.overlay.specs.Snap.Near.{IsNear}
 use Rattle.overlay.specs.Snap.Windings.{height_at, is_low}
-use Rattle.overlay.proofs.SnapLemmas.Near.{near-piece, near-self, near-upright}
+use Rattle.overlay.proofs.SnapLemmas.Near.{IsNear-piece, IsNear-itself, IsNear-upright}
 use Rattle.overlay.proofs.SnapLemmas.Numbers.{below, below_of, n_of, natural, same_test}
 use Rattle.plane.proofs.MeetLemmas.Identities.{at_most, at_most_of, identity, minus, number, plus, same_of, times}
 
@@ -109,8 +109,8 @@ pub same_side : (edge piece : Edge) (point : RationalPoint) → ¬ (IsNear edge 
 same_side edge piece point far from_passes to_passes c d =
     let one = height_of edge point c in
     let other = height_of piece point d in
-    let near = near-self edge one.other one.of in
-    let near_too = near-piece edge piece other.other from_passes to_passes other.of in
+    let near = IsNear-itself edge one.other one.of in
+    let near_too = IsNear-piece edge piece other.other from_passes to_passes other.of in
     same_test (height_at piece point) (point.y *ℤ run piece) (height_at edge point) (point.y *ℤ run edge)
-    (λ low high. far (near-upright edge other.other one.other point other.upright one.upright (other.low low) (one.high high) near_too near))
-    (λ low high. far (near-upright edge one.other other.other point one.upright other.upright (one.low low) (other.high high) near near_too))
+    (λ low high. far (IsNear-upright edge other.other one.other point other.upright one.upright (other.low low) (one.high high) near_too near))
+    (λ low high. far (IsNear-upright edge one.other other.other point one.upright other.upright (one.low low) (other.high high) near near_too))

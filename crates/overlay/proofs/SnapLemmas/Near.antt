@@ -7,7 +7,7 @@ use Rattle.plane.specs.Meet.Edges.{IsOf, RationalPoint}
 use Rattle.overlay.specs.Snap.Chains.{Passes}
 use Rattle.overlay.specs.Snap.Near.{IsNear, WithinHalf}
 use Rattle.overlay.specs.Snap.Rounding.{RoundsOn}
-use Rattle.overlay.proofs.SnapLemmas.Means.{between, between-of, mean_on}
+use Rattle.overlay.proofs.SnapLemmas.Means.{between, IsOf-mean, mean_on}
 use Rattle.overlay.proofs.SnapLemmas.Numbers.{n_of, natural}
 use Rattle.overlay.proofs.SnapLemmas.Rounding.{below_out, from_out}
 use Rattle.plane.proofs.MeetLemmas.Identities.{Term, at_most, at_most_of, identity, minus, number, plus, same_of, times, unscaled, value}
@@ -36,10 +36,10 @@ within-mean b a n1 n2 m1 m2 p1 p2 q1 q2 first second =
       below = at_most (apart_back n p m q) (n_of (n * m)) (omega (arith, below1, below2));
     }
 
-pub near-mean : (edge : Edge) (b a : ℕ) (some : 0 < b + a) (one other : RationalPoint) → IsNear edge one → IsNear edge other → IsNear edge (between b a some one other)
-near-mean edge b a some one other first second = record {
+pub IsNear-mean : (edge : Edge) (b a : ℕ) (some : 0 < b + a) (one other : RationalPoint) → IsNear edge one → IsNear edge other → IsNear edge (between b a some one other)
+IsNear-mean edge b a some one other first second = record {
   other = between b a some first.other second.other;
-  of = between-of edge b a some first.other second.other first.of second.of;
+  of = IsOf-mean edge b a some first.other second.other first.of second.of;
   along_x = within-mean b a one.n other.n first.other.n second.other.n one.x other.x first.other.x second.other.x first.along_x second.along_x;
   along_y = within-mean b a one.n other.n first.other.n second.other.n one.y other.y first.other.y second.other.y first.along_y second.along_y;
 }
@@ -68,15 +68,15 @@ within-at b a n n1 n2 p1 p2 c1 c2 z whole is first second =
     (subst (λ (w : ℤ). WithinHalf (b + a) w ((b + a) * (n1 * n2)) (mean_on b a n1 n2 p1 p2)) (sym there) found)
 
 -- each point of a piece is near the edge
-pub near-piece : (edge piece : Edge) (point : RationalPoint) → Passes edge piece.x0 piece.y0 → Passes edge piece.x1 piece.y1 → IsOf piece point → IsNear edge point
-near-piece edge piece point (one, one_of, one_rounds) (other, other_of, other_rounds) (a, at) =
+pub IsNear-piece : (edge piece : Edge) (point : RationalPoint) → Passes edge piece.x0 piece.y0 → Passes edge piece.x1 piece.y1 → IsOf piece point → IsNear edge point
+IsNear-piece edge piece point (one, one_of, one_rounds) (other, other_of, other_rounds) (a, at) =
     let share = at.share in
     let b = point.n - a in
     let whole : (point.n - a) + a ≡ point.n = omega arith in
     let n_some = point.positive in
     let some : 0 < (point.n - a) + a = omega arith in record {
       other = between b a some one other;
-      of = between-of edge b a some one other one_of other_of;
+      of = IsOf-mean edge b a some one other one_of other_of;
       along_x = within-at b a point.n one.n other.n one.x other.x piece.x0 piece.x1 point.x whole at.x one_rounds.along_x other_rounds.along_x;
       along_y = within-at b a point.n one.n other.n one.y other.y piece.y0 piece.y1 point.y whole at.y one_rounds.along_y other_rounds.along_y;
     }
@@ -94,8 +94,8 @@ within-same n1 n m p1 p q some same h =
       below = unscaled n1 (value (back n p)) (pos (n * m)) some (at_most (times (n_of n1) (back n p)) (times (n_of n1) (n_of (n * m))) (omega (arith, equal, below)));
     }
 
-pub near-same : (edge : Edge) (other point : RationalPoint) → (pos point.n *ℤ other.x) ≡ (pos other.n *ℤ point.x) → (pos point.n *ℤ other.y) ≡ (pos other.n *ℤ point.y) → IsNear edge other → IsNear edge point
-near-same edge other point same_x same_y near = record {
+pub IsNear-same : (edge : Edge) (other point : RationalPoint) → (pos point.n *ℤ other.x) ≡ (pos other.n *ℤ point.x) → (pos point.n *ℤ other.y) ≡ (pos other.n *ℤ point.y) → IsNear edge other → IsNear edge point
+IsNear-same edge other point same_x same_y near = record {
   other = near.other;
   of = near.of;
   along_x = within-same other.n point.n near.other.n other.x point.x near.other.x other.positive same_x near.along_x;
@@ -109,8 +109,8 @@ within-self n p = record {
   below = at_most (times (n_of 2) (minus (times (n_of n) (number p)) (times (n_of n) (number p)))) (n_of (n * n)) (omega arith);
 }
 
-pub near-self : (edge : Edge) (point : RationalPoint) → IsOf edge point → IsNear edge point
-near-self edge point of = record {
+pub IsNear-itself : (edge : Edge) (point : RationalPoint) → IsOf edge point → IsNear edge point
+IsNear-itself edge point of = record {
   other = point;
   of = of;
   along_x = within-self point.n point.x;
@@ -134,8 +134,8 @@ mean-upright n n1 n2 d1 d2 p p1 p2 first second =
     identity (times (n_of n) mean) (times (n_of ((n1 * d2 + n2 * d1) * (n1 * n2))) (number p)) (omega (arith, one, two))
 
 -- a point that isn't below the one and is below the other
-pub near-upright : (edge : Edge) (low high point : RationalPoint) → (pos point.n *ℤ low.x) ≡ (pos low.n *ℤ point.x) → (pos point.n *ℤ high.x) ≡ (pos high.n *ℤ point.x) → (pos point.n *ℤ low.y) ≤ℤ (pos low.n *ℤ point.y) → (pos high.n *ℤ point.y) <ℤ (pos point.n *ℤ high.y) → IsNear edge low → IsNear edge high → IsNear edge point
-near-upright edge low high point low_x high_x from below first second =
+pub IsNear-upright : (edge : Edge) (low high point : RationalPoint) → (pos point.n *ℤ low.x) ≡ (pos low.n *ℤ point.x) → (pos point.n *ℤ high.x) ≡ (pos high.n *ℤ point.x) → (pos point.n *ℤ low.y) ≤ℤ (pos low.n *ℤ point.y) → (pos high.n *ℤ point.y) <ℤ (pos point.n *ℤ high.y) → IsNear edge low → IsNear edge high → IsNear edge point
+IsNear-upright edge low high point low_x high_x from below first second =
     let up = natural ((pos low.n *ℤ point.y) -ℤ (pos point.n *ℤ low.y)) (omega (arith, ints, from)) in
     let down = natural ((pos point.n *ℤ high.y) -ℤ (pos high.n *ℤ point.y)) (omega (arith, ints, below)) in
     let is = down.is in
@@ -144,7 +144,7 @@ near-upright edge low high point low_x high_x from below first second =
     let b = low.n * down.k in
     let a = high.n * up.k in
     let some : 0 < b + a = omega arith in
-    near-same edge (between b a some low high) point
+    IsNear-same edge (between b a some low high) point
     (mean-level b a point.n low.n high.n point.x low.x high.x low_x high_x)
     (mean-upright point.n low.n high.n up.k down.k point.y low.y high.y up.is down.is)
-    (near-mean edge b a some low high first second)
+    (IsNear-mean edge b a some low high first second)

@@ -10,7 +10,7 @@ use Rattle.plane.specs.Meet.Edges.{IsOf, RationalPoint}
 use Rattle.overlay.specs.Snap.Chains.{AreChains, IsChain, IsHot, Passes, Upto, UptoOn}
 use Rattle.overlay.specs.Snap.Meeting.{MeetAtEnds}
 use Rattle.overlay.specs.Snap.Windings.{edge_between, end_of, pieces, pieces_from, start_of}
-use Rattle.overlay.proofs.SnapLemmas.Along.{upto-itself}
+use Rattle.overlay.proofs.SnapLemmas.Along.{Upto-itself}
 use Rattle.overlay.proofs.SnapLemmas.Hobby.Ends.{pieces-meet}
 use Rattle.overlay.proofs.SnapLemmas.Along.{point_at}
 use Rattle.overlay.proofs.SnapLemmas.Pieces.{HasCrossings, IsBetween, IsPiece}
@@ -20,46 +20,34 @@ use Rattle.overlay.proofs.SnapLemmas.Pieces.{HasCrossings, IsBetween, IsPiece}
 before_on : (from to c d z : ℤ) → UptoOn from to z c → UptoOn from to c d → IsBetween c d z → z ≡ c
 before_on from to c d z first second between =
     by_lt_z from to
-    (λ up.
-    let zc = first.rising (omega (arith, ints)) in
-    let cd = second.rising (omega (arith, ints)) in
-    squeezed z c d zc cd between)
-    (λ down.
-    let cz = first.falling down in
-    let dc = second.falling down in
-    squeezed_back z c d cz dc between)
+    (λ up. rising (first.rising (omega (arith, ints))) (second.rising (omega (arith, ints))) between)
+    (λ down. falling (first.falling down) (second.falling down) between)
   where
-    squeezed : (z c d : ℤ) → z ≤ℤ c → c ≤ℤ d → IsBetween c d z → z ≡ c
-    squeezed z c d zc cd (inl (from, upto)) = omega (arith, ints)
-    squeezed z c d zc cd (inr (from, upto)) = omega (arith, ints)
+    rising : z ≤ℤ c → c ≤ℤ d → IsBetween c d z → z ≡ c
+    rising first second (inl (low, high)) = omega (arith, ints)
+    rising first second (inr (low, high)) = omega (arith, ints)
 
-    squeezed_back : (z c d : ℤ) → c ≤ℤ z → d ≤ℤ c → IsBetween c d z → z ≡ c
-    squeezed_back z c d cz dc (inl (from, upto)) = omega (arith, ints)
-    squeezed_back z c d cz dc (inr (from, upto)) = omega (arith, ints)
+    falling : c ≤ℤ z → d ≤ℤ c → IsBetween c d z → z ≡ c
+    falling first second (inl (low, high)) = omega (arith, ints)
+    falling first second (inr (low, high)) = omega (arith, ints)
+
+-- the same behind d, by the way back
+back_on : (from to c d : ℤ) → UptoOn from to c d → UptoOn to from d c
+back_on from to c d upto = record {
+  rising = upto.falling;
+  falling = upto.rising;
+}
+
+between_back : (c d z : ℤ) → IsBetween c d z → IsBetween d c z
+between_back c d z (inl within) = inr within
+between_back c d z (inr within) = inl within
 
 after_on : (from to c d z : ℤ) → UptoOn from to d z → UptoOn from to c d → IsBetween c d z → z ≡ d
-after_on from to c d z first second between =
-    by_lt_z from to
-    (λ up.
-    let dz = first.rising (omega (arith, ints)) in
-    let cd = second.rising (omega (arith, ints)) in
-    squeezed z c d dz cd between)
-    (λ down.
-    let zd = first.falling down in
-    let dc = second.falling down in
-    squeezed_back z c d zd dc between)
-  where
-    squeezed : (z c d : ℤ) → d ≤ℤ z → c ≤ℤ d → IsBetween c d z → z ≡ d
-    squeezed z c d dz cd (inl (from, upto)) = omega (arith, ints)
-    squeezed z c d dz cd (inr (from, upto)) = omega (arith, ints)
-
-    squeezed_back : (z c d : ℤ) → z ≤ℤ d → d ≤ℤ c → IsBetween c d z → z ≡ d
-    squeezed_back z c d zd dc (inl (from, upto)) = omega (arith, ints)
-    squeezed_back z c d zd dc (inr (from, upto)) = omega (arith, ints)
+after_on from to c d z first second between = before_on to from d c z (back_on from to d z first) (back_on from to c d second) (between_back c d z between)
 
 -- two hot points that the edge passes, where each other one is before the first or behind the second
-pub piece-neighbours : (hot : ℤ → ℤ → Type 0) (edge piece : Edge) → hot piece.x0 piece.y0 → hot piece.x1 piece.y1 → Passes edge piece.x0 piece.y0 → Passes edge piece.x1 piece.y1 → Upto edge piece.x0 piece.y0 piece.x1 piece.y1 → ((x y : ℤ) → hot x y → Passes edge x y → Upto edge x y piece.x0 piece.y0 ⊎ Upto edge piece.x1 piece.y1 x y) → IsPiece hot edge piece
-piece-neighbours hot edge piece from_hot to_hot from_passes to_passes order others = record {
+pub IsPiece-neighbours : (hot : ℤ → ℤ → Type 0) (edge piece : Edge) → hot piece.x0 piece.y0 → hot piece.x1 piece.y1 → Passes edge piece.x0 piece.y0 → Passes edge piece.x1 piece.y1 → Upto edge piece.x0 piece.y0 piece.x1 piece.y1 → ((x y : ℤ) → hot x y → Passes edge x y → Upto edge x y piece.x0 piece.y0 ⊎ Upto edge piece.x1 piece.y1 x y) → IsPiece hot edge piece
+IsPiece-neighbours hot edge piece from_hot to_hot from_passes to_passes order others = record {
   from_hot = from_hot;
   to_hot = to_hot;
   from_passes = from_passes;
@@ -103,7 +91,7 @@ module _ (edges : List Edge) (edge : Edge) (chain : List Point) (is_chain : IsCh
       (λ before. is_chain.in_order i j d (omega (arith, ints, before)) within)
       (λ back.
       let same : i ≡ j = omega (arith, ints, back, order) in
-      subst (λ (k : ℕ). Upto edge (get_or chain i d).x (get_or chain i d).y (get_or chain k d).x (get_or chain k d).y) same (upto-itself edge (get_or chain i d)))
+      subst (λ (k : ℕ). Upto edge (get_or chain i d).x (get_or chain i d).y (get_or chain k d).x (get_or chain k d).y) same (Upto-itself edge (get_or chain i d)))
 
   neighbours : (k : ℕ) (d : Point) → suc k < length chain → IsPiece (IsHot edges) edge (edge_between (get_or chain k d) (get_or chain (suc k) d))
   neighbours k d within =
@@ -111,7 +99,7 @@ module _ (edges : List Edge) (edge : Edge) (chain : List Point) (is_chain : IsCh
       let next = get_or chain (suc k) d in
       let from = (is_chain.exact one).0 (Contains-get_or chain k d (omega (arith, within))) in
       let to = (is_chain.exact next).0 (Contains-get_or chain (suc k) d within) in
-      piece-neighbours (IsHot edges) edge (edge_between one next) from.0 to.0 from.1 to.1
+      IsPiece-neighbours (IsHot edges) edge (edge_between one next) from.0 to.0 from.1 to.1
       (upto_at k (suc k) d (omega arith) within)
       (λ x y is_hot passed.
       let among = (is_chain.exact (point_at x y)).1 (is_hot, passed) in
@@ -122,8 +110,8 @@ module _ (edges : List Edge) (edge : Edge) (chain : List Point) (is_chain : IsCh
       (λ behind. inr (subst (λ (c : Point). Upto edge next.x next.y c.x c.y) is (upto_at (suc k) m d (omega (arith, ints, behind)) inside)))
       (λ before. inl (subst (λ (c : Point). Upto edge c.x c.y one.x one.y) is (upto_at m k d (omega (arith, ints, before)) (omega (arith, within))))))
 
-  pub chain-pieces : (piece : Edge) → Contains (pieces chain) piece → IsPiece (IsHot edges) edge piece
-  chain-pieces piece among =
+  pub IsPiece-chain : (piece : Edge) → Contains (pieces chain) piece → IsPiece (IsHot edges) edge piece
+  IsPiece-chain piece among =
       let at = place chain piece among in
       subst (λ (e : Edge). IsPiece (IsHot edges) edge e) (at.is (start_of edge)) (neighbours at.k (start_of edge) at.within)
 
@@ -153,7 +141,7 @@ piece_of all [] (chain ∷ chains) piece are among = absurd are
 piece_of all (edge ∷ edges) [] piece are among = absurd are
 piece_of all (edge ∷ edges) (chain ∷ chains) piece (is_chain, are) among =
     elim (Contains-append_cases (pieces chain) (flat_map pieces chains) piece among) [
-      | inl here ↦ record { edge = edge; among = (0, omega arith, refl); is = chain-pieces all edge chain is_chain piece here }
+      | inl here ↦ record { edge = edge; among = (0, omega arith, refl); is = IsPiece-chain all edge chain is_chain piece here }
       | inr later ↦
           let found = piece_of all edges chains piece are later in
           let inside = found.among.1 in record {

@@ -110,6 +110,14 @@ negative z below = omega (arith, ints)
 pub double : (z : ℤ) → pos 0 <ℤ (pos 0 -ℤ (pos 0 -ℤ z)) → pos 0 <ℤ z
 double z above = omega (arith, ints)
 
+-- ---- cross products
+
+-- the other way first
+pub cross-exchanged : (ux uy vx vy : ℤ) → cross vx vy ux uy ≡ (pos 0 -ℤ cross ux uy vx vy)
+cross-exchanged ux uy vx vy =
+    let turn : ℤ → ℤ → ℤ → ℤ → Term = λ a b c d. minus (times (number a) (number d)) (times (number b) (number c)) in
+    identity (turn vx vy ux uy) (minus (n_of 0) (turn ux uy vx vy)) (omega arith)
+
 -- ---- two shares of one point
 
 pub share_same : (n m b c : ℕ) (l d : ℤ) → (pos n *ℤ l) ≡ ((pos 0 -ℤ pos b) *ℤ d) → (pos m *ℤ l) ≡ ((pos 0 -ℤ pos c) *ℤ d) → d ≢ pos 0 → b * m ≡ c * n

@@ -7,11 +7,11 @@ use Rattle.overlay.specs.Snap.Chains.{Passes}
 use Rattle.overlay.specs.Snap.Rounding.{RoundsOn}
 use Rattle.overlay.specs.Snap.Tests.{CrossesFalling, CrossesRising}
 use Rattle.overlay.specs.Snap.Windings.{reversed}
-use Rattle.overlay.proofs.SnapLemmas.Along.{passed-upto, upto-passed}
-use Rattle.overlay.proofs.SnapLemmas.Falling.{falling-passes, passes-falling}
+use Rattle.overlay.proofs.SnapLemmas.Along.{Upto-to_end, Upto-from_start}
+use Rattle.overlay.proofs.SnapLemmas.Falling.{falling-Passes, Passes-falling}
 use Rattle.overlay.proofs.SnapLemmas.Numbers.{below, n_of}
-use Rattle.overlay.proofs.SnapLemmas.Reversed.{passes-reversed}
-use Rattle.overlay.proofs.SnapLemmas.Rising.{passes-rising, rising-passes}
+use Rattle.overlay.proofs.SnapLemmas.Reversed.{Passes-reversed}
+use Rattle.overlay.proofs.SnapLemmas.Rising.{Passes-rising, rising-Passes}
 use Rattle.overlay.proofs.SnapLemmas.Rounding.{high}
 use Rattle.plane.proofs.MeetLemmas.Identities.{at_most, minus, number, plus, times}
 
@@ -22,13 +22,13 @@ Within from to z = (from ≤ℤ z) × (z ≤ℤ to)
 -- ---- what an edge passes lies in its box
 
 pub outside_x : (edge : Edge) (x y : ℤ) → edge.x0 ≤ℤ edge.x1 → ¬ (Within edge.x0 edge.x1 x) → ¬ (Passes edge x y)
-outside_x edge x y right none passes = none ((upto-passed edge x y passes).along_x.rising right, (passed-upto edge x y passes).along_x.rising right)
+outside_x edge x y right none passes = none ((Upto-from_start edge x y passes).along_x.rising right, (Upto-to_end edge x y passes).along_x.rising right)
 
 pub above_below : (edge : Edge) (x y : ℤ) → edge.y0 ≤ℤ edge.y1 → ¬ (Within edge.y0 edge.y1 y) → ¬ (Passes edge x y)
-above_below edge x y up none passes = none ((upto-passed edge x y passes).along_y.rising up, (passed-upto edge x y passes).along_y.rising up)
+above_below edge x y up none passes = none ((Upto-from_start edge x y passes).along_y.rising up, (Upto-to_end edge x y passes).along_y.rising up)
 
 pub below_above : (edge : Edge) (x y : ℤ) → edge.y1 ≤ℤ edge.y0 → ¬ (Within edge.y1 edge.y0 y) → ¬ (Passes edge x y)
-below_above edge x y down none passes = none ((passed-upto edge x y passes).along_y.falling down, (upto-passed edge x y passes).along_y.falling down)
+below_above edge x y down none passes = none ((Upto-to_end edge x y passes).along_y.falling down, (Upto-from_start edge x y passes).along_y.falling down)
 
 -- ---- how far an edge goes, and how far a whole point is from its start
 
@@ -151,21 +151,21 @@ turned_up edge x y w h dx dy down none =
 
 pub upright_down : (edge : Edge) (x y : ℤ) (w h dx dy : ℕ) → Down edge x y w h dx dy → w ≡ 0 → Passes edge x y
 upright_down edge x y w h dx dy down none =
-    passes-reversed (reversed edge) x y (upright (reversed edge) x y w h dx (h - dy) (turned_up edge x y w h dx dy down none) none)
+    Passes-reversed (reversed edge) x y (upright (reversed edge) x y w h dx (h - dy) (turned_up edge x y w h dx dy down none) none)
 
 -- ---- slanted
 
 pub rising_tested : (edge : Edge) (x y : ℤ) (w h dx dy : ℕ) (r : Bool) → Up edge x y w h dx dy → w ≢ 0 → h ≢ 0 → MatchBool r (CrossesRising w h dx dy) (¬ (CrossesRising w h dx dy)) → MatchBool r (Passes edge x y) (¬ (Passes edge x y))
 rising_tested edge x y w h dx dy true up wide high test =
     passes_at edge x y (edge.x0 +ℤ pos dx) (edge.y0 +ℤ pos dy) (stands_at edge.x0 x dx up.far) (stands_at edge.y0 y dy up.up)
-    (passes-rising edge w h dx dy (record {
+    (Passes-rising edge w h dx dy (record {
       along_x = sym up.wide;
       along_y = sym up.high;
       wide = some_of w wide;
       high = some_of h high;
     }) (upto_on edge.x0 edge.x1 x w dx up.wide up.far up.in_x) (upto_on edge.y0 edge.y1 y h dy up.high up.up up.in_y) test.low test.high)
 rising_tested edge x y w h dx dy false up wide high test = λ passes.
-    let both = rising-passes edge w h dx dy (record {
+    let both = rising-Passes edge w h dx dy (record {
       along_x = sym up.wide;
       along_y = sym up.high;
       wide = some_of w wide;
@@ -176,14 +176,14 @@ rising_tested edge x y w h dx dy false up wide high test = λ passes.
 pub falling_tested : (edge : Edge) (x y : ℤ) (w h dx dy : ℕ) (r : Bool) → Down edge x y w h dx dy → w ≢ 0 → 0 < h → MatchBool r (CrossesFalling w h dx dy) (¬ (CrossesFalling w h dx dy)) → MatchBool r (Passes edge x y) (¬ (Passes edge x y))
 falling_tested edge x y w h dx dy true down wide high test =
     passes_at edge x y (edge.x0 +ℤ pos dx) (edge.y0 -ℤ pos dy) (stands_at edge.x0 x dx down.far) (stands_below edge.y0 y dy down.down)
-    (passes-falling edge w h dx dy (record {
+    (Passes-falling edge w h dx dy (record {
       along_x = sym down.wide;
       along_y = turned edge.y0 edge.y1 h down.high;
       wide = some_of w wide;
       high = high;
     }) (upto_on edge.x0 edge.x1 x w dx down.wide down.far down.in_x) (down_on edge.y0 edge.y1 y h dy down.high down.down down.in_y) test.low test.high)
 falling_tested edge x y w h dx dy false down wide high test = λ passes.
-    let both = falling-passes edge w h dx dy (record {
+    let both = falling-Passes edge w h dx dy (record {
       along_x = sym down.wide;
       along_y = turned edge.y0 edge.y1 h down.high;
       wide = some_of w wide;
@@ -194,5 +194,5 @@ falling_tested edge x y w h dx dy false down wide high test = λ passes.
 -- ---- an edge and its flipped one
 
 pub reversed_tested : (edge turned : Edge) (x y : ℤ) (r : Bool) → turned ≡ reversed edge → MatchBool r (Passes turned x y) (¬ (Passes turned x y)) → MatchBool r (Passes edge x y) (¬ (Passes edge x y))
-reversed_tested edge turned x y true is test = passes-reversed (reversed edge) x y (subst (λ (e : Edge). Passes e x y) is test)
-reversed_tested edge turned x y false is test = λ passes. test (subst (λ (e : Edge). Passes e x y) (sym is) (passes-reversed edge x y passes))
+reversed_tested edge turned x y true is test = Passes-reversed (reversed edge) x y (subst (λ (e : Edge). Passes e x y) is test)
+reversed_tested edge turned x y false is test = λ passes. test (subst (λ (e : Edge). Passes e x y) (sym is) (Passes-reversed edge x y passes))

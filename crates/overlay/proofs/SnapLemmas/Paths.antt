@@ -7,7 +7,7 @@ use Rattle.plane.specs.declared.edge.Edge.{Edge}
 use Rattle.plane.specs.declared.point.Point.{Point}
 use Rattle.overlay.specs.Snap.Chains.{IsChain, IsHot, Passes, Upto}
 use Rattle.overlay.specs.Snap.Windings.{end_of, pieces, pieces_from, start_of}
-use Rattle.overlay.proofs.SnapLemmas.Along.{passed-upto, point_at, passes-from, passes-to, upto-passed, upto-same}
+use Rattle.overlay.proofs.SnapLemmas.Along.{Upto-to_end, point_at, Passes-start, Passes-end, Upto-from_start, Upto-same}
 
 -- From the first point on the others go along the edge, each one passed by it, to the edge's end.
 abbrev pub GoesOn : Edge → Point → List Point → Type 0
@@ -31,7 +31,7 @@ module _ (edge : Edge) where
   -- the edge's end, which is the first point or among the others, is among the others where there are any
   end_later : (from to : Point) (others : List Point) → IsPassed to → InOrder from to → Contains (from ∷ to ∷ others) (end_of edge) → Contains (to ∷ others) (end_of edge)
   end_later from to others passed order (zero, inside, is) =
-      let same : to ≡ end_of edge = upto-same edge to (end_of edge) (passed-upto edge to.x to.y passed) (subst (λ (c : Point). InOrder c to) is order) in
+      let same : to ≡ end_of edge = Upto-same edge to (end_of edge) (Upto-to_end edge to.x to.y passed) (subst (λ (c : Point). InOrder c to) is order) in
       (0, omega arith, same)
   end_later from to others passed order (suc k, inside, is) = (k, omega (arith, inside), is)
 
@@ -54,7 +54,7 @@ module _ (edge : Edge) where
   begins first others passed order (zero, inside, is) = is
   begins first others passed order (suc k, inside, is) =
       let ahead = order 0 (suc k) (start_of edge) (omega arith) inside in
-      upto-same edge first (start_of edge) (subst (λ (c : Point). InOrder first c) is ahead) (upto-passed edge first.x first.y passed)
+      Upto-same edge first (start_of edge) (subst (λ (c : Point). InOrder first c) is ahead) (Upto-from_start edge first.x first.y passed)
 
   pub path_of : (chain : List Point) → All IsPassed chain → AllPairs InOrder chain → Contains chain (start_of edge) → Contains chain (end_of edge) → IsPath edge chain
   path_of [] passed order (k, inside, is) to = absurd (omega (arith, inside))
@@ -79,11 +79,11 @@ IsHot-from edges edge among = inl (edge, among, inl (refl, refl))
 pub IsHot-to : (edges : List Edge) (edge : Edge) → Contains edges edge → IsHot edges edge.x1 edge.y1
 IsHot-to edges edge among = inl (edge, among, inr (refl, refl))
 
-pub chain-path : (edges : List Edge) (edge : Edge) (chain : List Point) → Contains edges edge → IsChain edges edge chain → IsPath edge chain
-chain-path edges edge chain among is =
+pub IsPath-chain : (edges : List Edge) (edge : Edge) (chain : List Point) → Contains edges edge → IsChain edges edge chain → IsPath edge chain
+IsPath-chain edges edge chain among is =
     path_of edge chain (all-by (λ c. Passes edge c.x c.y) chain (λ c inside. ((is.exact c).0 inside).1)) is.in_order
-    ((is.exact (start_of edge)).1 (IsHot-from edges edge among, passes-from edge))
-    ((is.exact (end_of edge)).1 (IsHot-to edges edge among, passes-to edge))
+    ((is.exact (start_of edge)).1 (IsHot-from edges edge among, Passes-start edge))
+    ((is.exact (end_of edge)).1 (IsHot-to edges edge among, Passes-end edge))
 
 -- ---- a chain's pieces have its edge's start and end, and else begin where they end
 

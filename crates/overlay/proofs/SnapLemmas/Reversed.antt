@@ -16,8 +16,8 @@ reverse_along n a b p start end whole is =
     there ∙ identity (plus (times (n_of (a + b)) (number start)) (times (n_of a) (minus (number end) (number start)))) (plus (times (n_of (a + b)) (number end)) (times (n_of b) (minus (number start) (number end)))) (omega arith) in
     subst (λ (m : ℕ). p ≡ ((pos m *ℤ end) +ℤ (pos b *ℤ (start -ℤ end)))) whole back
 
-pub reversed-of : (edge : Edge) (point : RationalPoint) → IsOf edge point → IsOf (reversed edge) point
-reversed-of edge point (a, at) =
+pub IsOf-reversed : (edge : Edge) (point : RationalPoint) → IsOf edge point → IsOf (reversed edge) point
+IsOf-reversed edge point (a, at) =
     let share = at.share in (
       point.n - a,
       record {
@@ -27,16 +27,16 @@ reversed-of edge point (a, at) =
       },
     )
 
-pub near-reversed : (edge : Edge) (point : RationalPoint) → IsNear (reversed edge) point → IsNear edge point
-near-reversed edge point near = record {
+pub IsNear-reversed : (edge : Edge) (point : RationalPoint) → IsNear (reversed edge) point → IsNear edge point
+IsNear-reversed edge point near = record {
   other = near.other;
-  of = reversed-of (reversed edge) near.other near.of;
+  of = IsOf-reversed (reversed edge) near.other near.of;
   along_x = near.along_x;
   along_y = near.along_y;
 }
 
-pub passes-reversed : (edge : Edge) (x y : ℤ) → Passes edge x y → Passes (reversed edge) x y
-passes-reversed edge x y (point, of, rounds) = (point, reversed-of edge point of, rounds)
+pub Passes-reversed : (edge : Edge) (x y : ℤ) → Passes edge x y → Passes (reversed edge) x y
+Passes-reversed edge x y (point, of, rounds) = (point, IsOf-reversed edge point of, rounds)
 
 pub left-reversed : (edge : Edge) (x y : ℤ) → left_of (reversed edge) x y ≡ (pos 0 -ℤ left_of edge x y)
 left-reversed edge x y =

@@ -66,8 +66,8 @@ place w h dx dy wide high in_x in_y first second =
     })
 
 -- in the edge's box, with two corners of the pixel on either side of its line: it passes
-pub passes-rising : (edge : Edge) (w h dx dy : ℕ) → Rises edge w h → dx ≤ w → dy ≤ h → 2 * (dx * h) < (2 * (dy * w) + w) + h → 2 * (dy * w) < (2 * (dx * h) + h) + w → Passes edge (edge.x0 +ℤ pos dx) (edge.y0 +ℤ pos dy)
-passes-rising edge w h dx dy rises in_x in_y first second =
+pub Passes-rising : (edge : Edge) (w h dx dy : ℕ) → Rises edge w h → dx ≤ w → dy ≤ h → 2 * (dx * h) < (2 * (dy * w) + w) + h → 2 * (dy * w) < (2 * (dx * h) + h) + w → Passes edge (edge.x0 +ℤ pos dx) (edge.y0 +ℤ pos dy)
+Passes-rising edge w h dx dy rises in_x in_y first second =
     let found = place w h dx dy rises.wide rises.high in_x in_y first second in
     let n = 2 * (w * h) in
     let some = mul-pos rises.wide rises.high in
@@ -118,8 +118,8 @@ corner n a w h dx dy wide from upto =
     let right = mul-lt-mul_of_pos_left {k = w} upto wide in
     lt_of_mul-lt-mul_left n (omega (arith, left, right))
 
-pub rising-passes : (edge : Edge) (w h dx dy : ℕ) → Rises edge w h → Passes edge (edge.x0 +ℤ pos dx) (edge.y0 +ℤ pos dy) → (2 * (dx * h) < (2 * (dy * w) + w) + h) × (2 * (dy * w) < (2 * (dx * h) + h) + w)
-rising-passes edge w h dx dy rises (point, (a, at), rounds) =
+pub rising-Passes : (edge : Edge) (w h dx dy : ℕ) → Rises edge w h → Passes edge (edge.x0 +ℤ pos dx) (edge.y0 +ℤ pos dy) → (2 * (dx * h) < (2 * (dy * w) + w) + h) × (2 * (dy * w) < (2 * (dx * h) + h) + w)
+rising-Passes edge w h dx dy rises (point, (a, at), rounds) =
     let from_x = share_from point.n a w dx point.x edge.x0 (edge.x1 -ℤ edge.x0) at.x rises.along_x rounds.along_x in
     let upto_x = share_upto point.n a w dx point.x edge.x0 (edge.x1 -ℤ edge.x0) at.x rises.along_x rounds.along_x in
     let from_y = share_from point.n a h dy point.y edge.y0 (edge.y1 -ℤ edge.y0) at.y rises.along_y rounds.along_y in

@@ -12,7 +12,7 @@ use Rattle.overlay.specs.Snap.Windings.{IsAlongAxis, edge_between, end_of, piece
 use Rattle.overlay.proofs.SnapLemmas.Clear.{chain-clear}
 use Rattle.overlay.proofs.SnapLemmas.Exact.{chain-exact}
 use Rattle.overlay.proofs.SnapLemmas.Numbers.{both}
-use Rattle.overlay.proofs.SnapLemmas.Paths.{GoesOn, IsPath, chain-path}
+use Rattle.overlay.proofs.SnapLemmas.Paths.{GoesOn, IsPath, IsPath-chain}
 use Rattle.overlay.proofs.SnapLemmas.Along.{point_at}
 use Rattle.overlay.proofs.SnapLemmas.Windings.{winding-append}
 
@@ -24,7 +24,7 @@ module _ (all : List Edge) (point : RationalPoint) (P : Edge → Type 0) (each :
   total (edge ∷ edges) (chain ∷ chains) among (is, are) every =
       winding-append (pieces chain) (flat_map pieces chains) point
       ∙ both (winding (pieces chain) point) (under edge point) (winding (flat_map pieces chains) point) (winding edges point)
-      (each edge chain (chain-path all edge chain (among edge (0, omega arith, refl)) is) (All-head P edge edges every))
+      (each edge chain (IsPath-chain all edge chain (among edge (0, omega arith, refl)) is) (All-head P edge edges every))
       (total edges chains (λ other (k, inside, is_at). among other (suc k, omega (arith, inside), is_at)) are (All-tail P edge edges every))
 
 -- at a point that is near none of the edges
@@ -83,7 +83,7 @@ module _ (test : Point → Bool) where
   balance all [] (chain ∷ chains) among are = absurd are
   balance all (edge ∷ edges) [] among are = absurd are
   balance all (edge ∷ edges) (chain ∷ chains) among (is, are) =
-      let here = along_path edge chain (chain-path all edge chain (among edge (0, omega arith, refl)) is) in
+      let here = along_path edge chain (IsPath-chain all edge chain (among edge (0, omega arith, refl)) is) in
       let later = balance all edges chains (λ other (k, inside, is_at). among other (suc k, omega (arith, inside), is_at)) are in
       let starts_all = starts-append (pieces chain) (flat_map pieces chains) in
       let ends_all = ends-append (pieces chain) (flat_map pieces chains) in

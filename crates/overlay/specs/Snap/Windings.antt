@@ -8,24 +8,13 @@ use Rattle.plane.specs.SweepLine.Heights.{run}
 
 -- The edge from its end to its start.
 abbrev pub reversed : Edge → Edge
-reversed edge = record {
-  x0 = edge.x1;
-  y0 = edge.y1;
-  x1 = edge.x0;
-  y1 = edge.y0;
-}
+reversed edge = record { x0 = edge.x1; y0 = edge.y1; x1 = edge.x0; y1 = edge.y0 }
 
 abbrev pub start_of : Edge → Point
-start_of edge = record {
-  x = edge.x0;
-  y = edge.y0;
-}
+start_of edge = record { x = edge.x0; y = edge.y0 }
 
 abbrev pub end_of : Edge → Point
-end_of edge = record {
-  x = edge.x1;
-  y = edge.y1;
-}
+end_of edge = record { x = edge.x1; y = edge.y1 }
 
 -- ---- an edge that goes rightwards
 
@@ -73,12 +62,7 @@ IsAlongAxis edge = (edge.x1 ≡ edge.x0) ⊎ (edge.y1 ≡ edge.y0)
 -- ---- the pieces of a chain
 
 abbrev pub edge_between : Point → Point → Edge
-edge_between from to = record {
-  x0 = from.x;
-  y0 = from.y;
-  x1 = to.x;
-  y1 = to.y;
-}
+edge_between from to = record { x0 = from.x; y0 = from.y; x1 = to.x; y1 = to.y }
 
 -- from the first point over the others, from each to the next
 abbrev pub pieces_from : Point → List Point → List Edge

@@ -13,9 +13,9 @@ use Rattle.overlay.proofs.SnapLemmas.Hobby.Moved.{mean_of}
 use Rattle.overlay.proofs.SnapLemmas.Hobby.Touches.{Flat, Lies, Touch, by_p1, by_p2, by_s1, by_s2, flat_back, touch_line}
 use Rattle.overlay.proofs.SnapLemmas.Hobby.Turns.{four}
 use Rattle.overlay.proofs.SnapLemmas.Hobby.Uncrossed.{piece-clear, pieces-uncrossed}
-use Rattle.overlay.proofs.SnapLemmas.Numbers.{double, n_of, negate, negate_back, negate_both, negate_times, negative, positive_by, side, way_from, way_to, zero_by}
+use Rattle.overlay.proofs.SnapLemmas.Numbers.{double, n_of, negate, negate_back, negate_both, negate_times, negative, positive_by, side, way_from, way_to, zero_by, cross-exchanged}
 use Rattle.overlay.proofs.SnapLemmas.Pieces.{CrossProperly, CrossesLeft, HasCrossings, IsPiece, left_of}
-use Rattle.overlay.proofs.SnapLemmas.Reversed.{left-reversed, reverse_along, reversed-of}
+use Rattle.overlay.proofs.SnapLemmas.Reversed.{left-reversed, reverse_along, IsOf-reversed}
 use Rattle.plane.proofs.MeetLemmas.Identities.{Term, identity, minus, number, plus, same_of, times}
 
 -- The ends of the other that are on the one are its ends.
@@ -26,7 +26,7 @@ pub record EndsOnly (one other : Edge) : Type 0 where
 -- ---- reversed
 
 reversed-on : (edge : Edge) (x y : ℤ) → HasPoint (reversed edge) x y → HasPoint edge x y
-reversed-on edge x y (point, of, is) = (point, reversed-of (reversed edge) point of, is)
+reversed-on edge x y (point, of, is) = (point, IsOf-reversed (reversed edge) point of, is)
 
 reversed-end : (edge : Edge) (x y : ℤ) → IsEnd edge x y → IsEnd (reversed edge) x y
 reversed-end edge x y (inl from) = inr from
@@ -50,8 +50,8 @@ reversed-end_point edge point (inr to) = inl to
 
 pub reverse_meet_one : (one other : Edge) (point : RationalPoint) → MeetAtEnds (reversed one) other point → MeetAtEnds one other point
 reverse_meet_one one other point (inl (first, second)) = inl (reversed-end_point one point first, second)
-reverse_meet_one one other point (inr (inl (x0, y0, x1, y1))) = inr (inr (x1, y1, x0, y0))
-reverse_meet_one one other point (inr (inr (x0, y0, x1, y1))) = inr (inl (x1, y1, x0, y0))
+reverse_meet_one one other point (inr (inl same)) = inr (inr (ap reversed same))
+reverse_meet_one one other point (inr (inr same)) = inr (inl (ap reversed same))
 
 pub reverse_meet_other : (one other : Edge) (point : RationalPoint) → MeetAtEnds one (reversed other) point → MeetAtEnds one other point
 reverse_meet_other one other point (inl (first, second)) = inl (first, reversed-end_point other point second)
@@ -60,8 +60,8 @@ reverse_meet_other one other point (inr (inr same)) = inr (inl same)
 
 pub exchange_meet : (one other : Edge) (point : RationalPoint) → MeetAtEnds other one point → MeetAtEnds one other point
 exchange_meet one other point (inl (first, second)) = inl (second, first)
-exchange_meet one other point (inr (inl (x0, y0, x1, y1))) = inr (inl (sym x0, sym y0, sym x1, sym y1))
-exchange_meet one other point (inr (inr (x0, y0, x1, y1))) = inr (inr (sym x1, sym y1, sym x0, sym y0))
+exchange_meet one other point (inr (inl same)) = inr (inl (sym same))
+exchange_meet one other point (inr (inr same)) = inr (inr (ap reversed (sym same)))
 
 -- ---- a point that is an end of one of them
 
@@ -106,6 +106,16 @@ reach n a b p start end other_end first second =
     let fact = same_of (at a end) (at b other_end) (sym first ∙ second) in
     identity (times (n_of a) (number end)) (plus (times (n_of a) (number start)) (times (n_of b) (minus (number other_end) (number start)))) (omega (arith, fact))
 
+edges-same : (one other : Edge) → one.x0 ≡ other.x0 → one.y0 ≡ other.y0 → one.x1 ≡ other.x1 → one.y1 ≡ other.y1 → one ≡ other
+edges-same one other x0 y0 x1 y1 =
+    let edge : ℤ → ℤ → ℤ → ℤ → Edge = λ a b c d. record {
+      x0 = a;
+      y0 = b;
+      x1 = c;
+      y1 = d;
+    } in
+    ap (λ a. edge a one.y0 one.x1 one.y1) x0 ∙ ap (λ b. edge other.x0 b one.x1 one.y1) y0 ∙ ap (λ c. edge other.x0 other.y0 c one.y1) x1 ∙ ap (λ d. edge other.x0 other.y0 other.x1 d) y1
+
 -- where the one isn't longer, and the other starts where it starts
 from_common_shorter : (one other : Edge) (point : RationalPoint) (a b : ℕ) → EndsOnly one other → EndsOnly other one → other.x0 ≡ one.x0 → other.y0 ≡ one.y0 → IsAtShare one point a → IsAtShare other point b → 0 < a → b ≤ a → MeetAtEnds one other point
 from_common_shorter one other point a b only only_back same_x same_y first second some shorter =
@@ -136,7 +146,7 @@ from_common_shorter one other point a b only only_back same_x same_y first secon
         x_is = point_along point.n a point.x one.x0 one.x1 first.x (sym (is_x ∙ same_x));
         y_is = point_along point.n a point.y one.y0 one.y1 first.y (sym (is_y ∙ same_y));
       })))
-      | inr (is_x, is_y) ↦ inr (inl (sym same_x, sym same_y, is_x, is_y))
+      | inr (is_x, is_y) ↦ inr (inl (edges-same one other (sym same_x) (sym same_y) is_x is_y))
     ]
 
 from_common : (one other : Edge) (point : RationalPoint) (a b : ℕ) → EndsOnly one other → EndsOnly other one → other.x0 ≡ one.x0 → other.y0 ≡ one.y0 → IsAtShare one point a → IsAtShare other point b → 0 < a → 0 < b → MeetAtEnds one other point
@@ -230,10 +240,7 @@ side_to one other point first second =
     (way_to point.n first.a second.a point.y one.y0 one.y1 other.y0 other.y1 first.at.y second.at.y)
 
 apart_back : (one other : Edge) → apart other one ≡ (pos 0 -ℤ apart one other)
-apart_back one other =
-    let way : ℤ → ℤ → Term = λ a b. minus (number a) (number b) in
-    let turn : Term → Term → Term → Term → Term = λ a b c d. minus (times a d) (times b c) in
-    identity (turn (way other.x1 other.x0) (way other.y1 other.y0) (way one.x1 one.x0) (way one.y1 one.y0)) (minus (n_of 0) (turn (way one.x1 one.x0) (way one.y1 one.y0) (way other.x1 other.x0) (way other.y1 other.y0))) (omega arith)
+apart_back one other = cross-exchanged (one.x1 -ℤ one.x0) (one.y1 -ℤ one.y0) (other.x1 -ℤ other.x0) (other.y1 -ℤ other.y0)
 
 -- What the shares say of the four sides, times n: each is a positive part of d.
 record Parts (one other : Edge) (n : ℕ) (d : ℤ) : Type 0 where

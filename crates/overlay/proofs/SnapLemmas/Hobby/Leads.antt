@@ -13,9 +13,9 @@ use Rattle.overlay.specs.Snap.Windings.{reversed}
 use Rattle.overlay.proofs.SnapLemmas.Hobby.Halves.{Cross, common_of}
 use Rattle.overlay.proofs.SnapLemmas.Hobby.Moved.{MeanRounds, RoundsAll, at_p1, at_p2, at_s1, at_s2, crossing-leads}
 use Rattle.overlay.proofs.SnapLemmas.Hobby.Turns.{Four, crossing_x, crossing_y, four, term, turn1, turn1_term, turn2, turn2_term, turn3, turn4, turns-same}
-use Rattle.overlay.proofs.SnapLemmas.Numbers.{n_of, up_is}
+use Rattle.overlay.proofs.SnapLemmas.Numbers.{n_of, up_is, cross-exchanged}
 use Rattle.overlay.proofs.SnapLemmas.Pieces.{CrossProperly, CrossesLeft, InBox, IsBetween, Leads, MeetsIn, PassesIn}
-use Rattle.overlay.proofs.SnapLemmas.Rounding.{rounds_on-between, rounds_on-scaled, rounds_on-some}
+use Rattle.overlay.proofs.SnapLemmas.Rounding.{RoundsOn-between, RoundsOn-scaled, RoundsOn-some}
 use Rattle.plane.proofs.MeetLemmas.Identities.{Term, identity, minus, number, plus, times}
 
 -- A point of the edge, over n, that rounds to (x, y).
@@ -43,8 +43,8 @@ at_scale edge k n x y some (point, (a, at), rounds) same =
       share = mul-le-mul_left k at.share;
       along_x = scaled k point.n a point.x edge.x0 (edge.x1 -ℤ edge.x0) at.x;
       along_y = scaled k point.n a point.y edge.y0 (edge.y1 -ℤ edge.y0) at.y;
-      rounds_x = rounds_on-scaled k point.n point.x x some rounds.along_x;
-      rounds_y = rounds_on-scaled k point.n point.y y some rounds.along_y;
+      rounds_x = RoundsOn-scaled k point.n point.x x some rounds.along_x;
+      rounds_y = RoundsOn-scaled k point.n point.y y some rounds.along_y;
     } in
     subst (λ (m : ℕ). At edge m x y) same found
 
@@ -82,8 +82,8 @@ passes_in edge piece n x y many one other mean =
     } in record {
       passes = (point, mean_of edge n point.n mean.b mean.a piece.x0 piece.y0 piece.x1 piece.y1 one other point refl refl refl, rounds);
       box = record {
-        along_x = rounds_on-between n mean.b mean.a one.px other.px piece.x0 piece.x1 x mean.some many one.rounds_x other.rounds_x mean.along_x;
-        along_y = rounds_on-between n mean.b mean.a one.py other.py piece.y0 piece.y1 y mean.some many one.rounds_y other.rounds_y mean.along_y;
+        along_x = RoundsOn-between n mean.b mean.a one.px other.px piece.x0 piece.x1 x mean.some many one.rounds_x other.rounds_x mean.along_x;
+        along_y = RoundsOn-between n mean.b mean.a one.py other.py piece.y0 piece.y1 y mean.some many one.rounds_y other.rounds_y mean.along_y;
       };
     }
 
@@ -159,8 +159,8 @@ meets_in edge other piece other_piece n t1 t2 t3 t4 many some whole apart p1 p2 
       positive = mul-pos some many;
     } in
     let there : (t4 + t3) * n ≡ (t2 + t1) * n = ap (λ t. t * n) whole in
-    let x = rounds_on-some point.n point.x point.positive in
-    let y = rounds_on-some point.n point.y point.positive in
+    let x = RoundsOn-some point.n point.x point.positive in
+    let y = RoundsOn-some point.n point.y point.positive in
     let other_some : 0 < t2 + t1 = omega arith in
     let other_x : RoundsOn ((t2 + t1) * n) ((pos t2 *ℤ s1.px) +ℤ (pos t1 *ℤ s2.px)) x.whole =
     subst (λ (m : ℕ). RoundsOn m ((pos t2 *ℤ s1.px) +ℤ (pos t1 *ℤ s2.px)) x.whole) there (subst (λ (p : ℤ). RoundsOn ((t4 + t3) * n) p x.whole) same_x x.rounds) in
@@ -177,20 +177,17 @@ meets_in edge other piece other_piece n t1 t2 t3 t4 many some whole apart p1 p2 
         along_y = y.rounds;
       };
       box = record {
-        along_x = rounds_on-between n t4 t3 p1.px p2.px piece.x0 piece.x1 x.whole some many p1.rounds_x p2.rounds_x x.rounds;
-        along_y = rounds_on-between n t4 t3 p1.py p2.py piece.y0 piece.y1 y.whole some many p1.rounds_y p2.rounds_y y.rounds;
+        along_x = RoundsOn-between n t4 t3 p1.px p2.px piece.x0 piece.x1 x.whole some many p1.rounds_x p2.rounds_x x.rounds;
+        along_y = RoundsOn-between n t4 t3 p1.py p2.py piece.y0 piece.y1 y.whole some many p1.rounds_y p2.rounds_y y.rounds;
       };
       other_box = record {
-        along_x = rounds_on-between n t2 t1 s1.px s2.px other_piece.x0 other_piece.x1 x.whole other_some many s1.rounds_x s2.rounds_x other_x;
-        along_y = rounds_on-between n t2 t1 s1.py s2.py other_piece.y0 other_piece.y1 y.whole other_some many s1.rounds_y s2.rounds_y other_y;
+        along_x = RoundsOn-between n t2 t1 s1.px s2.px other_piece.x0 other_piece.x1 x.whole other_some many s1.rounds_x s2.rounds_x other_x;
+        along_y = RoundsOn-between n t2 t1 s1.py s2.py other_piece.y0 other_piece.y1 y.whole other_some many s1.rounds_y s2.rounds_y other_y;
       };
     }
 
 back_above : (ux uy wx wy : ℤ) → cross ux uy wx wy <ℤ pos 0 → pos 0 <ℤ cross wx wy ux uy
-back_above ux uy wx wy below =
-    let turn : ℤ → ℤ → ℤ → ℤ → Term = λ a b c d. minus (times (number a) (number d)) (times (number b) (number c)) in
-    let same : cross wx wy ux uy ≡ (pos 0 -ℤ cross ux uy wx wy) = identity (turn wx wy ux uy) (minus (n_of 0) (turn ux uy wx wy)) (omega arith) in
-    omega (arith, ints, same, below)
+back_above ux uy wx wy below = let back = cross-exchanged ux uy wx wy in omega (arith, ints, back, below)
 
 crossing : (one other : Edge) → CrossesLeft one other → Cross (four one.x0 one.x1 other.x0 other.x1) (four one.y0 one.y1 other.y0 other.y1)
 crossing one other crosses = record {

@@ -6,7 +6,7 @@ use Rattle.overlay.specs.Snap.Rounding.{RoundsOn}
 use Rattle.overlay.proofs.SnapLemmas.Hobby.Halves.{Cross, half, half_along_y}
 use Rattle.overlay.proofs.SnapLemmas.Hobby.Touches.{Lies, Touch, by_p1, by_p2, by_s1, by_s2}
 use Rattle.overlay.proofs.SnapLemmas.Hobby.Turns.{Four, mix}
-use Rattle.overlay.proofs.SnapLemmas.Rounding.{rounds_on-scaled, rounds_on-touch, rounds_on-whole}
+use Rattle.overlay.proofs.SnapLemmas.Rounding.{RoundsOn-scaled, RoundsOn-touch, RoundsOn-mean_once}
 
 -- A mean of two points, over n, rounds to the whole point (x, y).
 pub record MeanRounds (n : ℕ) (x1 y1 x2 y2 x y : ℤ) : Type 0 where
@@ -53,7 +53,7 @@ mean_of x1 y1 x2 y2 x y lies = mean_by lies.b lies.a x1 y1 x2 y2 x y lies.from l
 
 -- a point that is a mean as it is
 rounds_still : (n b a : ℕ) (q1 q2 r d : ℤ) → 0 < b + a → (pos (b + a) *ℤ r) ≡ ((pos b *ℤ q1) +ℤ (pos a *ℤ q2)) → RoundsOn n r d → RoundsOn ((b + a) * n) ((pos b *ℤ q1) +ℤ (pos a *ℤ q2)) d
-rounds_still n b a q1 q2 r d some mean rounds = subst (λ (p : ℤ). RoundsOn ((b + a) * n) p d) mean (rounds_on-scaled (b + a) n r d some rounds)
+rounds_still n b a q1 q2 r d some mean rounds = subst (λ (p : ℤ). RoundsOn ((b + a) * n) p d) mean (RoundsOn-scaled (b + a) n r d some rounds)
 
 -- the first half: x moves
 moved_x : (n l k : ℕ) (x1 y1 x2 y2 x y cx1 cx2 cx cy : ℤ) → 0 < n → 0 < l → Lies ((pos l *ℤ x1) +ℤ (pos k *ℤ cx1)) y1 ((pos l *ℤ x2) +ℤ (pos k *ℤ cx2)) y2 ((pos l *ℤ x) +ℤ (pos k *ℤ cx)) y → RoundsOn n x1 cx1 → RoundsOn n x2 cx2 → RoundsOn n x cx → RoundsOn n y cy → MeanRounds n x1 y1 x2 y2 cx cy
@@ -62,7 +62,7 @@ moved_x n l k x1 y1 x2 y2 x y cx1 cx2 cx cy many early lies first second third f
       b = mean.b;
       a = mean.a;
       some = mean.some;
-      along_x = rounds_on-touch n l k mean.b mean.a x1 x2 x cx1 cx2 cx mean.some many early mean.along_x first second third;
+      along_x = RoundsOn-touch n l k mean.b mean.a x1 x2 x cx1 cx2 cx mean.some many early mean.along_x first second third;
       along_y = rounds_still n mean.b mean.a y1 y2 y cy mean.some mean.along_y fourth;
     }
 
@@ -73,8 +73,8 @@ moved_y n l k x1 y1 x2 y2 y cx1 cx2 cx cy1 cy2 cy many early lies first second t
       b = mean.b;
       a = mean.a;
       some = mean.some;
-      along_x = rounds_on-whole n mean.b mean.a x1 x2 cx1 cx2 cx mean.some mean.along_x first second;
-      along_y = rounds_on-touch n l k mean.b mean.a y1 y2 y cy1 cy2 cy mean.some many early mean.along_y third fourth fifth;
+      along_x = RoundsOn-mean_once n mean.b mean.a x1 x2 cx1 cx2 cx mean.some mean.along_x first second;
+      along_y = RoundsOn-touch n l k mean.b mean.a y1 y2 y cy1 cy2 cy mean.some many early mean.along_y third fourth fifth;
     }
 
 end_x : (n l k : ℕ) (qx qy cx cy : Four) → 0 < n → 0 < l → RoundsAll n qx cx → RoundsAll n qy cy → Touch (mix l k qx cx) qy → EndRounds n qx qy cx cy

@@ -4,7 +4,7 @@ use Rattle.std.proofs.lemmas.Int.{by_lt_z, ints}
 use Rattle.plane.specs.Meet.Crosses.{cross}
 use Rattle.overlay.proofs.SnapLemmas.Hobby.Lines.{Common, SomeWithin, Weights, Within, common_turned, some_within, turned}
 use Rattle.overlay.proofs.SnapLemmas.Hobby.Turns.{Four, crossing_x, crossing_y, turn1, turn2, turn3, turn4, turns-same}
-use Rattle.overlay.proofs.SnapLemmas.Numbers.{n_of}
+use Rattle.overlay.proofs.SnapLemmas.Numbers.{n_of, cross-exchanged}
 use Rattle.plane.proofs.MeetLemmas.Identities.{Term, identity, minus, number, plus, same_of, times}
 
 -- The point (x, y) is a mean of (x1, y1) and (x2, y2).
@@ -104,10 +104,7 @@ lies_within x1 y1 x2 y2 x y (inr (from, upto, down)) flat =
 
 -- a turn the other way round
 pub flat_back : (ux uy wx wy : ℤ) → cross ux uy wx wy ≡ pos 0 → cross wx wy ux uy ≡ pos 0
-flat_back ux uy wx wy flat =
-    let turn : ℤ → ℤ → ℤ → ℤ → Term = λ a b c d. minus (times (number a) (number d)) (times (number b) (number c)) in
-    let fact = same_of (turn ux uy wx wy) (n_of 0) flat in
-    identity (turn wx wy ux uy) (n_of 0) (omega (arith, fact))
+flat_back ux uy wx wy flat = let back = cross-exchanged ux uy wx wy in omega (arith, ints, back, flat)
 
 -- a turn with its axes exchanged
 flat_exchanged : (ux uy wx wy : ℤ) → cross ux uy wx wy ≡ pos 0 → cross uy ux wy wx ≡ pos 0

@@ -8,7 +8,7 @@ use Rattle.plane.specs.Meet.Kinds.{HasPoint}
 use Rattle.overlay.specs.Snap.Chains.{IsEnd}
 use Rattle.overlay.specs.Snap.Windings.{reversed}
 use Rattle.overlay.proofs.SnapLemmas.Hobby.Leads.{pieces-lead}
-use Rattle.overlay.proofs.SnapLemmas.Means.{passes-on}
+use Rattle.overlay.proofs.SnapLemmas.Means.{Passes-on_piece}
 use Rattle.overlay.proofs.SnapLemmas.Numbers.{n_of}
 use Rattle.overlay.proofs.SnapLemmas.Pieces.{CrossProperly, HasCrossings, InBox, IsBetween, IsPiece, Leads, left_of}
 use Rattle.overlay.proofs.SnapLemmas.Reversed.{left-reversed}
@@ -141,6 +141,6 @@ box-on edge x y (point, (a, at), is) = record {
 pub piece-clear : (hot : ℤ → ℤ → Type 0) (edge piece : Edge) (x y : ℤ) → IsPiece hot edge piece → hot x y → HasPoint piece x y → IsEnd piece x y
 piece-clear hot edge piece x y part is_hot on =
     part.next x y is_hot (record {
-      passes = passes-on edge piece x y part.from_passes part.to_passes on;
+      passes = Passes-on_piece edge piece x y part.from_passes part.to_passes on;
       box = box-on piece x y on;
     })
