@@ -1,5 +1,5 @@
 -- What a caller of snap rounding wants of its chains, in a caller's words.
-use Rattle.std.proofs.Common.{◌≡◌, ◌≢◌, List, ◌∷◌, map, arith, sym, subst, inl, inr}
+use Rattle.std.proofs.Common.{◌≡◌, ◌≢◌, List, [], ◌∷◌, ◌++◌, map, arith, sym, subst, inl, inr}
 use Rattle.std.specs.Prelude.{ℤ}
 use Rattle.std.specs.List.{All, Contains, flat_map}
 use Rattle.plane.specs.declared.edge.Edge.{Edge}
@@ -16,7 +16,7 @@ use Rattle.overlay.proofs.SnapLemmas.Clear.{chain-clear}
 use Rattle.overlay.proofs.SnapLemmas.Exact.{chain-exact}
 use Rattle.overlay.proofs.SnapLemmas.Near.{IsNear-piece}
 use Rattle.overlay.proofs.SnapLemmas.Noded.{IsPiece-chain, chains-meet, piece-proper, piece-upto}
-use Rattle.overlay.proofs.SnapLemmas.Paths.{IsPath-chain, path-ends}
+use Rattle.overlay.proofs.SnapLemmas.Paths.{IsPath-chain, path-begins, path-ends}
 use Rattle.overlay.proofs.SnapLemmas.Sums.{balance, chains-clear, chains-exact}
 -- A point rounds to one whole point.
 pub use Rattle.overlay.proofs.SnapLemmas.Rounding.{RoundsTo-unique}
@@ -77,6 +77,10 @@ module _ (edges : List Edge) (edge : Edge) (chain : List Point) (among : Contain
   -- It begins where its edge does, and goes on by the ends of its pieces.
   pub starts : chain ≡ start_of edge ∷ map end_of (pieces chain)
   starts = sym (path-ends edge chain (IsPath-chain edges edge chain among is))
+
+  -- It goes over the starts of its pieces, and ends where its edge does.
+  pub ends : map start_of (pieces chain) ++ (end_of edge ∷ []) ≡ chain
+  ends = path-begins edge chain (IsPath-chain edges edge chain among is)
 
   -- Its pieces go the way of their edge, on both axes, and none is a point.
   pub piece-onwards : (piece : Edge) → Contains (pieces chain) piece → Upto edge piece.x0 piece.y0 piece.x1 piece.y1 × (start_of piece ≢ end_of piece)

@@ -7,7 +7,12 @@ ghost use Rattle.overlay.specs.Snap.Windings.{reversed};
 
 use plane::edge::Edge;
 
-/// Whether some point of the edge rounds to the whole point (x, y).
+/// Whether the edge passes the whole point (x, y): some point of the edge rounds to it, each coordinate to the nearest whole
+/// number, a half upwards.
+///
+/// The points that round to it are its pixel, a square with its left and its lower border. An edge that goes along an axis
+/// passes the whole points of its box. One that is slanted passes those of them whose pixel has two corners on opposite sides
+/// of it; where it falls, the lower left one may lie on it.
 pub fn passes(edge: Edge, x: i32, y: i32) -> bool
     ensures { MatchBool result (Passes edge x y) (¬ (Passes edge x y)) }
 {
@@ -50,17 +55,17 @@ fn passes_rising(edge: Edge, x: i32, y: i32) -> bool
     if !is_between(edge.y0, edge.y1, y) {
         return false;
     }
-    let w = way(edge.x0, edge.x1);
-    let h = way(edge.y0, edge.y1);
-    let dx = way(edge.x0, x);
-    let dy = way(edge.y0, y);
-    if w == 0 {
+    let width = way(edge.x0, edge.x1);
+    let height = way(edge.y0, edge.y1);
+    let right = way(edge.x0, x);
+    let up = way(edge.y0, y);
+    if width == 0 {
         return true;
     }
-    if h == 0 {
+    if height == 0 {
         return true;
     }
-    crosses_rising(w, h, dx, dy)
+    crosses_rising(width, height, right, up)
 }
 
 fn passes_falling(edge: Edge, x: i32, y: i32) -> bool
@@ -74,14 +79,14 @@ fn passes_falling(edge: Edge, x: i32, y: i32) -> bool
     if !is_between(edge.y1, edge.y0, y) {
         return false;
     }
-    let w = way(edge.x0, edge.x1);
-    let h = way(edge.y1, edge.y0);
-    let dx = way(edge.x0, x);
-    let dy = way(y, edge.y0);
-    if w == 0 {
+    let width = way(edge.x0, edge.x1);
+    let height = way(edge.y1, edge.y0);
+    let right = way(edge.x0, x);
+    let down = way(y, edge.y0);
+    if width == 0 {
         return true;
     }
-    crosses_falling(w, h, dx, dy)
+    crosses_falling(width, height, right, down)
 }
 
 fn is_between(from: i32, to: i32, z: i32) -> bool
@@ -104,20 +109,24 @@ fn product(one: u32, other: u32) -> u64
     one as u64 * other as u64
 }
 
-fn crosses_rising(w: u32, h: u32, dx: u32, dy: u32) -> bool
-    ensures { MatchBool result (CrossesRising w h dx dy) (¬ (CrossesRising w h dx dy)) }
+/// Of a whole point that lies `right` and `up` from the start of an edge, whether the pixel's upper left corner is above the
+/// edge's line and its lower right one below it.
+fn crosses_rising(width: u32, height: u32, right: u32, up: u32) -> bool
+    ensures { MatchBool result (CrossesRising width height right up) (¬ (CrossesRising width height right up)) }
 {
-    let across = 2 * product(dx, h) as u128;
-    let up = 2 * product(dy, w) as u128;
-    let sides = w as u128 + h as u128;
-    (across < up + sides) & (up < across + sides)
+    let line = 2 * product(right, height) as u128;
+    let point = 2 * product(up, width) as u128;
+    let sides = width as u128 + height as u128;
+    (line < point + sides) & (point < line + sides)
 }
 
-fn crosses_falling(w: u32, h: u32, dx: u32, dy: u32) -> bool
-    ensures { MatchBool result (CrossesFalling w h dx dy) (¬ (CrossesFalling w h dx dy)) }
+/// Of a whole point that lies `right` and `down` from the start of an edge, whether the pixel's upper right corner is above the
+/// edge's line and its lower left one isn't.
+fn crosses_falling(width: u32, height: u32, right: u32, down: u32) -> bool
+    ensures { MatchBool result (CrossesFalling width height right down) (¬ (CrossesFalling width height right down)) }
 {
-    let across = 2 * product(dx, h) as u128;
-    let down = 2 * product(dy, w) as u128;
-    let sides = w as u128 + h as u128;
-    (across <= down + sides) & (down < across + sides)
+    let line = 2 * product(right, height) as u128;
+    let point = 2 * product(down, width) as u128;
+    let sides = width as u128 + height as u128;
+    (line <= point + sides) & (point < line + sides)
 }

@@ -18,23 +18,23 @@ returns-then-not-is_between-2 c =
     let down = c.requires.down in
     below_above c.args.edge c.args.x c.args.y (omega (arith, ints, down)) (simp to_z-of_z at c.if-not-is_between-2.ensures)
 
-pub returns-then-w-eq0 : goal.returns-then-w-eq0
-returns-then-w-eq0 c =
+pub returns-then-width-eq0 : goal.returns-then-width-eq0
+returns-then-width-eq0 c =
     let x0 : FitsSigned w32 c.args.edge.x0 = search rules in
     let x1 : FitsSigned w32 c.args.edge.x1 = search rules in
     let y0 : FitsSigned w32 c.args.edge.y0 = search rules in
     let y1 : FitsSigned w32 c.args.edge.y1 = search rules in
     let x : FitsSigned w32 c.args.x = search rules in
     let y : FitsSigned w32 c.args.y = search rules in
-    let down : Down c.args.edge c.args.x c.args.y c.way-w.result c.way-h.result c.way-dx.result c.way-dy.result = record {
-      wide = simp to_z-of_z at c.way-w.ensures;
-      high = simp to_z-of_z at c.way-h.ensures;
-      far = simp to_z-of_z at c.way-dx.ensures;
-      down = simp to_z-of_z at c.way-dy.ensures;
+    let down : Down c.args.edge c.args.x c.args.y c.way-width.result c.way-height.result c.way-right.result c.way-down.result = record {
+      wide = simp to_z-of_z at c.way-width.ensures;
+      high = simp to_z-of_z at c.way-height.ensures;
+      far = simp to_z-of_z at c.way-right.ensures;
+      down = simp to_z-of_z at c.way-down.ensures;
       in_x = simp to_z-of_z at c.if-not-is_between.ensures;
       in_y = simp to_z-of_z at c.if-not-is_between-2.ensures;
     } in
-    upright_down c.args.edge c.args.x c.args.y c.way-w.result c.way-h.result c.way-dx.result c.way-dy.result down c.if-w-eq0.true
+    upright_down c.args.edge c.args.x c.args.y c.way-width.result c.way-height.result c.way-right.result c.way-down.result down c.if-width-eq0.true
 
 pub returns : goal.returns
 returns c =
@@ -44,15 +44,15 @@ returns c =
     let y1 : FitsSigned w32 c.args.edge.y1 = search rules in
     let x : FitsSigned w32 c.args.x = search rules in
     let y : FitsSigned w32 c.args.y = search rules in
-    let down : Down c.args.edge c.args.x c.args.y c.way-w.result c.way-h.result c.way-dx.result c.way-dy.result = record {
-      wide = simp to_z-of_z at c.way-w.ensures;
-      high = simp to_z-of_z at c.way-h.ensures;
-      far = simp to_z-of_z at c.way-dx.ensures;
-      down = simp to_z-of_z at c.way-dy.ensures;
+    let down : Down c.args.edge c.args.x c.args.y c.way-width.result c.way-height.result c.way-right.result c.way-down.result = record {
+      wide = simp to_z-of_z at c.way-width.ensures;
+      high = simp to_z-of_z at c.way-height.ensures;
+      far = simp to_z-of_z at c.way-right.ensures;
+      down = simp to_z-of_z at c.way-down.ensures;
       in_x = simp to_z-of_z at c.if-not-is_between.ensures;
       in_y = simp to_z-of_z at c.if-not-is_between-2.ensures;
     } in
     let below = c.requires.down in
-    let high : pos c.way-h.result ≡ (c.args.edge.y0 -ℤ c.args.edge.y1) = down.high in
-    let some : 0 < c.way-h.result = omega (arith, ints, below, high) in
-    falling_tested c.args.edge c.args.x c.args.y c.way-w.result c.way-h.result c.way-dx.result c.way-dy.result c.crosses_falling.result down c.if-w-eq0.false some c.crosses_falling.ensures
+    let high : pos c.way-height.result ≡ (c.args.edge.y0 -ℤ c.args.edge.y1) = down.high in
+    let some : 0 < c.way-height.result = omega (arith, ints, below, high) in
+    falling_tested c.args.edge c.args.x c.args.y c.way-width.result c.way-height.result c.way-right.result c.way-down.result c.crosses_falling.result down c.if-width-eq0.false some c.crosses_falling.ensures

@@ -17,41 +17,41 @@ returns-then-not-is_between-2 c =
     let y : FitsSigned w32 c.args.y = search rules in
     above_below c.args.edge c.args.x c.args.y c.requires.up (simp to_z-of_z at c.if-not-is_between-2.ensures)
 
-pub returns-then-w-eq0 : goal.returns-then-w-eq0
-returns-then-w-eq0 c =
+pub returns-then-width-eq0 : goal.returns-then-width-eq0
+returns-then-width-eq0 c =
     let x0 : FitsSigned w32 c.args.edge.x0 = search rules in
     let x1 : FitsSigned w32 c.args.edge.x1 = search rules in
     let y0 : FitsSigned w32 c.args.edge.y0 = search rules in
     let y1 : FitsSigned w32 c.args.edge.y1 = search rules in
     let x : FitsSigned w32 c.args.x = search rules in
     let y : FitsSigned w32 c.args.y = search rules in
-    let up : Up c.args.edge c.args.x c.args.y c.way-w.result c.way-h.result c.way-dx.result c.way-dy.result = record {
-      wide = simp to_z-of_z at c.way-w.ensures;
-      high = simp to_z-of_z at c.way-h.ensures;
-      far = simp to_z-of_z at c.way-dx.ensures;
-      up = simp to_z-of_z at c.way-dy.ensures;
+    let up : Up c.args.edge c.args.x c.args.y c.way-width.result c.way-height.result c.way-right.result c.way-up.result = record {
+      wide = simp to_z-of_z at c.way-width.ensures;
+      high = simp to_z-of_z at c.way-height.ensures;
+      far = simp to_z-of_z at c.way-right.ensures;
+      up = simp to_z-of_z at c.way-up.ensures;
       in_x = simp to_z-of_z at c.if-not-is_between.ensures;
       in_y = simp to_z-of_z at c.if-not-is_between-2.ensures;
     } in
-    upright c.args.edge c.args.x c.args.y c.way-w.result c.way-h.result c.way-dx.result c.way-dy.result up c.if-w-eq0.true
+    upright c.args.edge c.args.x c.args.y c.way-width.result c.way-height.result c.way-right.result c.way-up.result up c.if-width-eq0.true
 
-pub returns-then-h-eq0 : goal.returns-then-h-eq0
-returns-then-h-eq0 c =
+pub returns-then-height-eq0 : goal.returns-then-height-eq0
+returns-then-height-eq0 c =
     let x0 : FitsSigned w32 c.args.edge.x0 = search rules in
     let x1 : FitsSigned w32 c.args.edge.x1 = search rules in
     let y0 : FitsSigned w32 c.args.edge.y0 = search rules in
     let y1 : FitsSigned w32 c.args.edge.y1 = search rules in
     let x : FitsSigned w32 c.args.x = search rules in
     let y : FitsSigned w32 c.args.y = search rules in
-    let up : Up c.args.edge c.args.x c.args.y c.way-w.result c.way-h.result c.way-dx.result c.way-dy.result = record {
-      wide = simp to_z-of_z at c.way-w.ensures;
-      high = simp to_z-of_z at c.way-h.ensures;
-      far = simp to_z-of_z at c.way-dx.ensures;
-      up = simp to_z-of_z at c.way-dy.ensures;
+    let up : Up c.args.edge c.args.x c.args.y c.way-width.result c.way-height.result c.way-right.result c.way-up.result = record {
+      wide = simp to_z-of_z at c.way-width.ensures;
+      high = simp to_z-of_z at c.way-height.ensures;
+      far = simp to_z-of_z at c.way-right.ensures;
+      up = simp to_z-of_z at c.way-up.ensures;
       in_x = simp to_z-of_z at c.if-not-is_between.ensures;
       in_y = simp to_z-of_z at c.if-not-is_between-2.ensures;
     } in
-    level c.args.edge c.args.x c.args.y c.way-w.result c.way-h.result c.way-dx.result c.way-dy.result up c.if-w-eq0.false c.if-h-eq0.true
+    level c.args.edge c.args.x c.args.y c.way-width.result c.way-height.result c.way-right.result c.way-up.result up c.if-width-eq0.false c.if-height-eq0.true
 
 pub returns : goal.returns
 returns c =
@@ -61,12 +61,12 @@ returns c =
     let y1 : FitsSigned w32 c.args.edge.y1 = search rules in
     let x : FitsSigned w32 c.args.x = search rules in
     let y : FitsSigned w32 c.args.y = search rules in
-    let up : Up c.args.edge c.args.x c.args.y c.way-w.result c.way-h.result c.way-dx.result c.way-dy.result = record {
-      wide = simp to_z-of_z at c.way-w.ensures;
-      high = simp to_z-of_z at c.way-h.ensures;
-      far = simp to_z-of_z at c.way-dx.ensures;
-      up = simp to_z-of_z at c.way-dy.ensures;
+    let up : Up c.args.edge c.args.x c.args.y c.way-width.result c.way-height.result c.way-right.result c.way-up.result = record {
+      wide = simp to_z-of_z at c.way-width.ensures;
+      high = simp to_z-of_z at c.way-height.ensures;
+      far = simp to_z-of_z at c.way-right.ensures;
+      up = simp to_z-of_z at c.way-up.ensures;
       in_x = simp to_z-of_z at c.if-not-is_between.ensures;
       in_y = simp to_z-of_z at c.if-not-is_between-2.ensures;
     } in
-    rising_tested c.args.edge c.args.x c.args.y c.way-w.result c.way-h.result c.way-dx.result c.way-dy.result c.crosses_rising.result up c.if-w-eq0.false c.if-h-eq0.false c.crosses_rising.ensures
+    rising_tested c.args.edge c.args.x c.args.y c.way-width.result c.way-height.result c.way-right.result c.way-up.result c.crosses_rising.result up c.if-width-eq0.false c.if-height-eq0.false c.crosses_rising.ensures
