@@ -1,8 +1,11 @@
 -- Definitions of snap rounding: what a point rounds to, the chains that edges become, and what holds of these.
 pub mod Chains
 pub mod Crossing
+pub mod Hot
 pub mod Meeting
 pub mod Near
+pub mod Offsets
 pub mod Rounding
+pub mod Stops
 pub mod Tests
 pub mod Windings

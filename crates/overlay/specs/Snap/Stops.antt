@@ -1,0 +1,62 @@
+-- The stops of edges at hot points. For private contracts.
+use Rattle.std.specs.Prelude.{◌≡◌, ◌≢◌, ◌⊎◌, ℕ, ◌<◌, ◌≤◌, ℤ, pos, ◌-ℤ◌, ◌<ℤ◌, cond, List, All, AllPairs, Contains, Some, get_or, length, slice_get}
+use Rattle.std.specs.Int.Signed.{lt_z}
+use Rattle.plane.specs.declared.edge.Edge.{Edge}
+use Rattle.plane.specs.declared.point.Point.{Point}
+use Rattle.overlay.specs.Snap.Chains.{IsHot, Passes}
+use Rattle.overlay.specs.declared.snap.hot.HotPoint.{HotPoint}
+use Rattle.overlay.specs.declared.snap.stops.Stop.{Stop}
+
+-- The number, or where the way from the one number to the other goes down its reflection: so they rise along the way.
+abbrev pub turned : ℤ → ℤ → ℤ → ℤ
+turned from to number = cond (lt_z to from) ((pos 0 -ℤ pos 1) -ℤ number) number
+
+-- The stop of the edge, which is at this place among others, at the whole point (x, y).
+abbrev pub stop_of : ℕ → Edge → ℤ → ℤ → Stop
+stop_of place edge x y = record {
+  place = place;
+  along_x = turned edge.x0 edge.x1 x;
+  along_y = turned edge.y0 edge.y1 y;
+}
+
+-- The point of a stop of the edge.
+abbrev pub point_of : Edge → Stop → Point
+point_of edge stop = record {
+  x = turned edge.x0 edge.x1 stop.along_x;
+  y = turned edge.y0 edge.y1 stop.along_y;
+}
+
+-- The stop of the edge at the first place of the pair, at the hot point at its second place.
+pub record IsStopAt (edges : List Edge) (hot : List HotPoint) (pair : ℕ × ℕ) (stop : Stop) : Type 0 where
+  pub edge : Edge
+  pub point : HotPoint
+  pub first : slice_get edges pair.0 ≡ Some edge
+  pub second : slice_get hot pair.1 ≡ Some point
+  pub is : stop ≡ stop_of pair.0 edge point.x point.y
+
+-- The one stop comes before the other: at an edge before, or before it along the same edge.
+abbrev pub IsBefore : Stop → Stop → Type 0
+IsBefore one other =
+    (one.place < other.place)
+    ⊎ ((one.place ≡ other.place) × ((one.along_x <ℤ other.along_x) ⊎ ((one.along_x ≡ other.along_x) × (one.along_y <ℤ other.along_y))))
+
+-- A stop of one of the edges, at a hot point that the edge passes.
+pub record IsStop (edges : List Edge) (stop : Stop) : Type 0 where
+  pub edge : Edge
+  pub stands : slice_get edges stop.place ≡ Some edge
+  pub hot : IsHot edges (point_of edge stop).x (point_of edge stop).y
+  pub passes : Passes edge (point_of edge stop).x (point_of edge stop).y
+
+-- All stops of the edges, in order.
+pub record AreStops (edges : List Edge) (stops : List Stop) : Type 0 where
+  pub each : (place : ℕ) (edge : Edge) (x y : ℤ) → slice_get edges place ≡ Some edge → IsHot edges x y → Passes edge x y → Contains stops (stop_of place edge x y)
+  pub of : All (IsStop edges) stops
+  pub in_order : AllPairs IsBefore stops
+
+-- From the one place to the other in the list the stops are those at the edge at this place: they end where the list does, or
+-- before a stop at another edge.
+pub record AreAt (place : ℕ) (start end : ℕ) (stops : List Stop) : Type 0 where
+  pub rising : start ≤ end
+  pub inside : end ≤ length stops
+  pub at : (k : ℕ) (default : Stop) → start ≤ k → k < end → (get_or stops k default).place ≡ place
+  pub last : (default : Stop) → end < length stops → (get_or stops end default).place ≢ place
