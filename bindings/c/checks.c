@@ -14,6 +14,7 @@ int32_t proved_itree_meetings_all(const struct itree_edge *edges, size_t edge_co
 int32_t proved_itree_meetings_between(const struct itree_edge *edges, size_t edge_count,
                                       const struct itree_edge *others, size_t other_count, struct itree_pairs **pairs);
 int32_t proved_itree_first_meeting(const struct itree_edge *edges, size_t edge_count, size_t *first, size_t *second);
+int32_t proved_itree_how_they_meet(const struct itree_edge *one, const struct itree_edge *other, int32_t *meeting);
 size_t proved_itree_pairs_first(const struct itree_pairs *pairs, struct itree_pair **first);
 void proved_itree_pairs_free(struct itree_pairs *pairs);
 int32_t proved_itree_locate(const struct itree_edge *edges, size_t edge_count, const struct itree_point *points,
@@ -82,6 +83,14 @@ int32_t itree_first_meeting(const struct itree_edge *edges, size_t edge_count, s
     }
     return proved_itree_first_meeting(slice(edges, edge_count), edge_count, first ? first : &untold[0],
                                       second ? second : &untold[1]);
+}
+
+int32_t itree_how_they_meet(const struct itree_edge *one, const struct itree_edge *other, int32_t *meeting) {
+    if (!can_hold(one, 1, OF(struct itree_edge)) || !can_hold(other, 1, OF(struct itree_edge)) ||
+        !can_hold(meeting, 1, OF(int32_t))) {
+        return ITREE_POINTER;
+    }
+    return proved_itree_how_they_meet(one, other, meeting);
 }
 
 /* The proved call tells both at once. */

@@ -95,6 +95,20 @@ int32_t itree_meetings(const struct itree_edge *edges, size_t edge_count, struct
  * *first and *second are written at ITREE_MEETING alone, and may be NULL. */
 int32_t itree_first_meeting(const struct itree_edge *edges, size_t edge_count, size_t *first, size_t *second);
 
+/* How two edges meet. */
+enum itree_meeting {
+    ITREE_EDGES_APART = 0, /* They share no point. */
+    ITREE_EDGES_TOUCH = 1, /* They share one point alone, and it is an end of one of them or of both. */
+    ITREE_EDGES_CROSS = 2, /* They share one point alone, and it is an end of neither. */
+    ITREE_EDGES_SHARE = 3  /* They share more than one point: a whole stretch of a line. */
+};
+
+/* Tells how two edges meet. It is exact: nothing is rounded. An edge may be a point. The call returns
+ *   ITREE_ANSWERED  and *meeting is one of itree_meeting;
+ *   ITREE_POINTER   exactly where a pointer is faulty, and nothing is written.
+ * No pointer may be NULL; one and other may be the same. It takes no memory, so it is never refused. */
+int32_t itree_how_they_meet(const struct itree_edge *one, const struct itree_edge *other, int32_t *meeting);
+
 /* A handle of pairs, which owns them. It is read by the calls below, and given back by itree_pairs_free, once. One call
  * at a time takes a handle, by any thread; different handles don't concern each other. */
 struct itree_pairs;

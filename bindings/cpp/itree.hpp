@@ -203,6 +203,25 @@ private:
     return std::nullopt;
 }
 
+/// How two edges meet.
+enum class Meeting : std::int32_t {
+    /// They share no point.
+    apart = ITREE_EDGES_APART,
+    /// They share one point alone, and it is an end of one of them or of both.
+    touch = ITREE_EDGES_TOUCH,
+    /// They share one point alone, and it is an end of neither.
+    cross = ITREE_EDGES_CROSS,
+    /// They share more than one point: a whole stretch of a line.
+    share = ITREE_EDGES_SHARE
+};
+
+/// How two edges meet, exactly. An edge may be a point. It takes no memory.
+[[nodiscard]] inline Meeting how_they_meet(const Edge &one, const Edge &other) noexcept {
+    std::int32_t meeting = ITREE_EDGES_APART;
+    ::itree_how_they_meet(&one, &other, &meeting);
+    return static_cast<Meeting>(meeting);
+}
+
 /// For each point, in order, the place of the edge straight below it, if there is one. Which edge that is, and when two
 /// cross, is said at `itree_locate` of itree.h; an upright edge is never told. Throws `Crossing` where two edges cross,
 /// and `std::bad_alloc` where memory was refused, which may be in that case too.

@@ -369,6 +369,61 @@ static void checks_first_meeting(void) {
     check("null for no edges of which two meet", itree_first_meeting(NULL, 0, NULL, NULL) == ITREE_ANSWERED);
 }
 
+static int is_of_both(struct itree_edge one, struct itree_edge other, int32_t x, int32_t y) {
+    const struct itree_edge point = {x, y, x, y};
+    return plainly_meet(one, point) && plainly_meet(other, point);
+}
+
+/* How the edges meet: by how many different ends are of both. */
+static int32_t plain_kind(struct itree_edge one, struct itree_edge other) {
+    const int32_t ends[4][2] = {{one.x0, one.y0}, {one.x1, one.y1}, {other.x0, other.y0}, {other.x1, other.y1}};
+    int shared = 0, last = 0;
+    if (!plainly_meet(one, other)) return ITREE_EDGES_APART;
+    for (int end = 0; end < 4; end++) {
+        if (!is_of_both(one, other, ends[end][0], ends[end][1])) continue;
+        if (shared && ends[end][0] == ends[last][0] && ends[end][1] == ends[last][1]) continue;
+        if (shared) return ITREE_EDGES_SHARE;
+        shared = 1;
+        last = end;
+    }
+    return shared ? ITREE_EDGES_TOUCH : ITREE_EDGES_CROSS;
+}
+
+static void checks_how_they_meet(void) {
+    int ok = 1, told[4] = {0, 0, 0, 0};
+    for (int round = 0; round < 8000; round++) {
+        struct itree_edge edges[2];
+        int32_t kind = 77, turned = 78;
+        fill_with_edges(edges, 2);
+        if (round % 2) edges[1].x1 = edges[1].x0;
+        if (round % 4 == 3) edges[0].x0 = edges[0].x1 = edges[1].x0;
+        ok = ok && itree_how_they_meet(&edges[0], &edges[1], &kind) == ITREE_ANSWERED;
+        ok = ok && itree_how_they_meet(&edges[1], &edges[0], &turned) == ITREE_ANSWERED;
+        ok = ok && kind == plain_kind(edges[0], edges[1]) && turned == kind;
+        if (ok) told[kind]++;
+    }
+    check("how two edges meet, as the plain model", ok);
+    for (int kind = 0; kind < 4; kind++) check("each kind is told", told[kind] > 200);
+    const struct itree_edge least = {INT32_MIN, INT32_MIN, INT32_MAX, INT32_MAX};
+    const struct itree_edge other = {INT32_MIN, INT32_MAX, INT32_MAX, INT32_MIN};
+    int32_t kind = 77;
+    refuse_after(0);
+    check("it takes no memory", itree_how_they_meet(&least, &other, &kind) == ITREE_ANSWERED);
+    refuse_after(SIZE_MAX);
+    check("edges from end to end cross", kind == ITREE_EDGES_CROSS);
+    check("an edge and itself", itree_how_they_meet(&least, &least, &kind) == ITREE_ANSWERED && kind == ITREE_EDGES_SHARE);
+    uint64_t words[8] = {0};
+    char *const odd = (char *)words + 1;
+    kind = 77;
+    check("no first edge", itree_how_they_meet(NULL, &other, &kind) == ITREE_POINTER);
+    check("no second edge", itree_how_they_meet(&least, NULL, &kind) == ITREE_POINTER);
+    check("no place for a kind", itree_how_they_meet(&least, &other, NULL) == ITREE_POINTER);
+    check("a first edge at an odd address", itree_how_they_meet((void *)odd, &other, &kind) == ITREE_POINTER);
+    check("a second edge at an odd address", itree_how_they_meet(&least, (void *)odd, &kind) == ITREE_POINTER);
+    check("a kind at an odd address", itree_how_they_meet(&least, &other, (void *)odd) == ITREE_POINTER);
+    check("no kind is written there", kind == 77);
+}
+
 /* More pairs than the library moves in one go. */
 static void checks_many_meetings(void) {
     enum { MANY = 2400 };
@@ -634,6 +689,7 @@ int main(void) {
     checks_between();
     checks_faulty_between();
     checks_first_meeting();
+    checks_how_they_meet();
     checks_locate();
     checks_located_nothing();
     checks_refused_locate();

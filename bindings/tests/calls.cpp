@@ -250,6 +250,27 @@ void checks_between() {
     check("refused memory is thrown for two lists", requests > 4);
 }
 
+void checks_how_they_meet() {
+    std::mt19937 random(36);
+    bool ok = true;
+    std::size_t told[4] = {0, 0, 0, 0};
+    for (std::uint32_t limit : {3u, 9u, 0xffffffffu}) {
+        const auto number = [&] { return static_cast<std::int32_t>(random() % limit); };
+        for (int round = 0; round < 2000; round++) {
+            const itree::Edge one{number(), number(), number(), number()};
+            const itree::Edge other{number(), number(), number(), number()};
+            const auto kind = itree::how_they_meet(one, other);
+            ok = ok && kind == plain::how_they_meet(one, other) && kind == itree::how_they_meet(other, one);
+            told[static_cast<std::size_t>(kind)]++;
+        }
+    }
+    check("how two edges meet, as a plain count of shared ends", ok);
+    for (const std::size_t count : told) check("each kind is told", count > 30);
+    const itree::Edge edge{0, 0, 9, 9};
+    check("an edge shares a stretch with itself", itree::how_they_meet(edge, edge) == itree::Meeting::share);
+    check("edges in braces", itree::how_they_meet({0, 0, 9, 9}, {0, 9, 9, 0}) == itree::Meeting::cross);
+}
+
 using Found = std::vector<std::optional<std::size_t>>;
 
 /// What `locate` gives: places, or a pair that crosses.
@@ -362,6 +383,7 @@ int main() {
     checks_meetings();
     checks_pairs();
     checks_between();
+    checks_how_they_meet();
     checks_locate();
     checks_many_edges();
     checks_locate_faults();

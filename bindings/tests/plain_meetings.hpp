@@ -5,6 +5,7 @@
 #include <algorithm>
 #include <cstddef>
 #include <itree.hpp>
+#include <set>
 #include <utility>
 #include <vector>
 
@@ -27,6 +28,18 @@ inline bool meet(const itree::Edge &one, const itree::Edge &other) {
            std::min(other.y0, other.y1) <= std::max(one.y0, one.y1) &&
            side_of(one, other.x0, other.y0) * side_of(one, other.x1, other.y1) <= 0 &&
            side_of(other, one.x0, one.y0) * side_of(other, one.x1, one.y1) <= 0;
+}
+
+/// How the edges meet: by how many different ends are of both.
+inline itree::Meeting how_they_meet(const itree::Edge &one, const itree::Edge &other) {
+    if (!meet(one, other)) return itree::Meeting::apart;
+    std::set<std::pair<std::int32_t, std::int32_t>> shared;
+    for (const auto &[x, y] : {std::pair(one.x0, one.y0), std::pair(one.x1, one.y1), std::pair(other.x0, other.y0),
+                               std::pair(other.x1, other.y1)}) {
+        if (meet(one, {x, y, x, y}) && meet(other, {x, y, x, y})) shared.insert({x, y});
+    }
+    if (shared.empty()) return itree::Meeting::cross;
+    return shared.size() == 1 ? itree::Meeting::touch : itree::Meeting::share;
 }
 
 /// The places of edges that meet, in order.

@@ -7,6 +7,7 @@ skipped where they aren't there.
 
 import array
 import ast
+import collections
 import contextlib
 import copy
 import ctypes
@@ -134,6 +135,15 @@ def plainly_meet(one, other):
     return boxes and not parted and side_of(other, *one[:2]) * side_of(other, *one[2:]) <= 0
 
 
+def plain_kind(one, other):
+    """How the edges meet: by how many different ends are of both."""
+    if not plainly_meet(one, other):
+        return "apart"
+    ends = {edge[place : place + 2] for edge in (one, other) for place in (0, 2)}
+    shared = [end for end in ends if plainly_meet(one, end + end) and plainly_meet(other, end + end)]
+    return ["cross", "touch", "share"][min(len(shared), 2)]
+
+
 class Meetings(unittest.TestCase):
     def test_tells_the_edges_that_meet(self):
         numbers = random.Random(29)
@@ -193,6 +203,50 @@ class Meetings(unittest.TestCase):
             break
         self.assertEqual(pairs, [(0, 1)])
         self.assertGreater(requests, 0)
+
+
+class Kinds(unittest.TestCase):
+    KINDS = "apart", "touch", "cross", "share"
+
+    def test_tells_how_edges_meet(self):
+        numbers, told = random.Random(36), collections.Counter()
+        for whole in 3, 9, 2**32:
+            for _ in range(2000):
+                one, other = (tuple(numbers.randrange(whole) - whole // 2 for _ in range(4)) for _ in range(2))
+                kind = itree.how_they_meet(one, other)
+                self.assertEqual(kind, plain_kind(one, other), (one, other))
+                self.assertEqual(itree.how_they_meet(other, one), kind)
+                told[kind] += 1
+        self.assertTrue(all(told[kind] > 30 for kind in self.KINDS), told)
+
+    def test_takes_rows_of_each_form(self):
+        least, most = -(2**31), 2**31 - 1
+        for row in (least, least, most, most), [(least, least), (most, most)], array.array("q", [least, least, most, most]):
+            self.assertEqual(itree.how_they_meet(row, (least, most, most, least)), "cross")
+            self.assertEqual(itree.how_they_meet(row, row), "share")
+            self.assertEqual(itree.how_they_meet((0, 0, 0, 0), iter(row)), "touch")
+
+    def test_what_are_no_edges(self):
+        edge = 0, 0, 9, 9
+        for given, error, said in (
+            ((1, 2, 3), ValueError, "3 numbers, 4 are wanted"),
+            (((1, 2), (3,)), ValueError, "1 numbers, 2 are wanted"),
+            ((1, 2, 3, 2**31), OverflowError, "2147483648 doesn't fit in 32 bits"),
+            (7, TypeError, "int; 4 numbers are wanted"),
+            ("abcd", TypeError, "str; 4 numbers are wanted"),
+        ):
+            with self.assertRaisesRegex(error, f"^one: {said}$"):
+                itree.how_they_meet(given, edge)
+            with self.assertRaisesRegex(error, f"^other: {said}$"):
+                itree.how_they_meet(edge, given)
+
+    def test_takes_no_memory(self):
+        library = ctypes.CDLL(os.environ["ITREE_LIBRARY"])
+        library.refuse_after(ctypes.c_size_t(0))
+        try:
+            self.assertEqual(itree.how_they_meet((0, 0, 9, 9), (0, 9, 9, 0)), "cross")
+        finally:
+            library.refuse_after(ctypes.c_size_t(-1))
 
 
 class Between(unittest.TestCase):
@@ -857,6 +911,9 @@ view: memoryview = itree.meetings(edges, as_array=True)
 pairs = itree.meetings_between(edges, [((0, 0), (9, 9))])
 view = itree.meetings_between(edges, edges, as_array=True)
 pair: Optional[Tuple[int, int]] = itree.first_meeting(edges)
+kind: str = itree.how_they_meet((0, 0, 9, 9), [(0, 9), (9, 0)])
+kind = itree.how_they_meet(edges[0], array.array("i"))
+crosses = itree.how_they_meet(edges[0], edges[0]) == "crosses"  # error
 places: List[Optional[int]] = itree.locate(edges, [(1, 2)])
 view = itree.locate(edges, [(1, 2)], True)
 heights: List[Optional[int]] = itree.below([(1, 2, 3)], [(1, 2)])
@@ -870,6 +927,7 @@ view = itree.meetings(edges)  # error
 pairs = itree.meetings(edges, as_array=True)  # error
 pairs = itree.meetings_between(edges, edges, as_array=True)  # error
 pair = itree.first_meeting(7)  # error
+kind = itree.how_they_meet(7, edges[0])  # error
 """
 
 

@@ -72,10 +72,25 @@ from typing import Any, Iterator, List, Literal, Optional, Tuple, Union, overloa
 from . import _answers, _library
 from ._library import CROSSING, MEETING, OVERLAP, checked, library
 from ._memory import room_for
-from ._rows import EDGES, OTHERS, POINTS, SEGMENTS, HeldRows, Rows
+from ._rows import EDGES, ONE, OTHER, OTHERS, POINTS, SEGMENTS, HeldRow, HeldRows, Row, Rows
 
-__all__ = ["Crossing", "Heights", "Overlap", "below", "first_meeting", "locate", "meetings", "meetings_between"]
+__all__ = [
+    "Crossing",
+    "Heights",
+    "Overlap",
+    "below",
+    "first_meeting",
+    "how_they_meet",
+    "locate",
+    "meetings",
+    "meetings_between",
+]
 __version__ = _library.version
+
+
+# By the numbers that itree.h has for them.
+_MEETINGS: Tuple[Literal["apart"], Literal["touch"], Literal["cross"], Literal["share"]]
+_MEETINGS = "apart", "touch", "cross", "share"
 
 
 class Overlap(ValueError):
@@ -268,6 +283,34 @@ def first_meeting(edges: Rows) -> Optional[Tuple[int, int]]:
         return first.value, second.value
     checked(status)
     return None
+
+
+def how_they_meet(one: Row, other: Row) -> Literal["apart", "touch", "cross", "share"]:
+    """How two edges meet.
+
+    one, other: rows (x0, y0, x1, y1) or ((x0, y0), (x1, y1)). An edge is a
+    straight line with both its ends, and may be a point.
+
+    The answer is one of
+
+    "apart"  they share no point;
+    "touch"  they share one point alone, an end of one of them or of both;
+    "cross"  they share one point alone, an end of neither;
+    "share"  they share more than one point: a whole stretch of a line.
+
+    It is exact: nothing is rounded.
+
+    >>> how_they_meet((0, 0, 9, 9), (0, 9, 9, 0))
+    'cross'
+    >>> how_they_meet((0, 0, 9, 9), ((9, 9), (9, 0)))
+    'touch'
+
+    Raises what `meetings` does for faulty rows.
+    """
+    meeting = ctypes.c_int32()
+    with HeldRow(one, ONE) as first, HeldRow(other, OTHER) as second:
+        checked(library.itree_how_they_meet(first.at, second.at, ctypes.byref(meeting)))
+    return _MEETINGS[meeting.value]
 
 
 @overload

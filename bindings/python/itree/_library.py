@@ -13,6 +13,7 @@ _status = ctypes.c_int32
 _CALLS = {
     "itree_below": (_status, [_address, _length, _address, _length, _address, _length, _address]),
     "itree_first_meeting": (_status, [_address, _length, _address, _address]),
+    "itree_how_they_meet": (_status, [_address, _address, _address]),
     "itree_locate": (_status, [_address, _length, _address, _length, _address, _length, _address, _address]),
     "itree_meetings_all": (_status, [_address, _length, _address]),
     "itree_meetings_between": (_status, [_address, _length, _address, _length, _address]),

@@ -27,10 +27,10 @@ if TYPE_CHECKING:
     class _HasArray(Protocol):
         def __array__(self) -> Any: ...
 
-    _Row = Union[Iterable[SupportsIndex], Iterable[Iterable[SupportsIndex]]]
-    Rows = Union[Iterable[_Row], memoryview, array.array[int], ctypes.Array[Any], _HasBuffer, _HasArray]
+    Row = Union[Iterable[SupportsIndex], Iterable[Iterable[SupportsIndex]]]
+    Rows = Union[Iterable[Row], memoryview, array.array[int], ctypes.Array[Any], _HasBuffer, _HasArray]
 else:
-    Rows = object
+    Row = Rows = object
 
 _LEAST, _GREATEST = -(2**31), 2**31 - 1
 _WHOLE = re.compile("[@=<>!]?([?bBhHiIlLqQnN])")
@@ -57,6 +57,7 @@ class Kind(NamedTuple):
 
 
 EDGES, OTHERS, SEGMENTS, POINTS = Kind("edges", 4), Kind("others", 4), Kind("segments", 3), Kind("points", 2)
+ONE, OTHER = Kind("one", 4), Kind("other", 4)
 
 
 class HeldRows:
@@ -71,6 +72,14 @@ class HeldRows:
 
     def __exit__(self, *_raised: object) -> None:
         self._view.release()
+
+
+class HeldRow(HeldRows):
+    """One row, as `HeldRows` has several."""
+
+    def __init__(self, given: Row, kind: Kind) -> None:
+        self._view, self.at = _lying(array.array("i", _numbers_in(given, kind.name, kind)))
+        self.count = 1
 
 
 def _numbers_of(given: Any, kind: Kind) -> Tuple[memoryview, int]:

@@ -133,6 +133,19 @@ impl From<TryReserveError> for LocateFault {
     }
 }
 
+/// How two edges meet.
+#[derive(Clone, Copy, Debug, PartialEq, Eq, Hash)]
+pub enum Meeting {
+    /// They share no point.
+    Apart,
+    /// They share one point alone, and it is an end of one of them or of both.
+    Touch,
+    /// They share one point alone, and it is an end of neither.
+    Cross,
+    /// They share more than one point: a whole stretch of a line.
+    Share,
+}
+
 /// The places of two edges that meet: of one list, `first` below `second`, or one of each of two lists. They are ordered by `first`, then `second`.
 #[repr(C)]
 #[derive(Clone, Copy, Debug, Default, PartialEq, Eq, PartialOrd, Ord, Hash)]
@@ -208,6 +221,10 @@ mod calls {
     pub const CROSSING: i32 = 2;
     pub const MEETING: i32 = 2;
 
+    pub const APART: i32 = 0;
+    pub const TOUCH: i32 = 1;
+    pub const CROSS: i32 = 2;
+
     #[repr(C)]
     #[derive(Clone, Copy)]
     pub struct Height {
@@ -251,6 +268,8 @@ mod calls {
 
         pub fn itree_first_meeting(edges: *const Edge, edge_count: usize, first: *mut usize, second: *mut usize)
             -> i32;
+
+        pub fn itree_how_they_meet(one: *const Edge, other: *const Edge, meeting: *mut i32) -> i32;
 
         pub fn itree_pairs_count(pairs: *const Handle) -> usize;
 
@@ -360,6 +379,29 @@ pub fn first_meeting(edges: &[Edge]) -> Result<Option<(usize, usize)>, Refused> 
         calls::ANSWERED => Ok(None),
         calls::MEETING => Ok(Some((first, second))),
         _ => Err(Refused),
+    }
+}
+
+/// How two edges meet. An edge may be a point.
+///
+/// It is exact: nothing is rounded. It takes no memory.
+///
+/// ```
+/// use itree::{how_they_meet, Edge, Meeting};
+///
+/// let rising = Edge { x0: 0, y0: 0, x1: 9, y1: 9 };
+/// assert_eq!(how_they_meet(rising, Edge { x0: 0, y0: 9, x1: 9, y1: 0 }), Meeting::Cross);
+/// assert_eq!(how_they_meet(rising, Edge { x0: 9, y0: 9, x1: 9, y1: 0 }), Meeting::Touch);
+/// ```
+pub fn how_they_meet(one: Edge, other: Edge) -> Meeting {
+    let mut meeting = calls::APART;
+    // SAFETY: each pointer is that of a value of this call.
+    unsafe { calls::itree_how_they_meet(&one, &other, &mut meeting) };
+    match meeting {
+        calls::APART => Meeting::Apart,
+        calls::TOUCH => Meeting::Touch,
+        calls::CROSS => Meeting::Cross,
+        _ => Meeting::Share,
     }
 }
 

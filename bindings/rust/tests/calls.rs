@@ -3,10 +3,11 @@
 #![warn(unsafe_op_in_unsafe_fn)]
 
 use itree::{
-    below, first_meeting, locate, meetings, meetings_all, meetings_between, Edge, Fault, LocateFault, Point, Refused,
-    Segment,
+    below, first_meeting, how_they_meet, locate, meetings, meetings_all, meetings_between, Edge, Fault, LocateFault,
+    Meeting, Point, Refused, Segment,
 };
 use std::cell::Cell;
+use std::collections::{BTreeSet, HashMap};
 use std::ffi::c_void;
 
 thread_local! {
@@ -209,6 +210,54 @@ fn tells_the_edges_of_two_lists_that_meet() {
     assert!(200 < meeting && meeting < 1800, "{meeting} meeting");
     assert!(meetings_between(&[], &[]).unwrap().is_empty());
     assert_eq!(first_meeting(&[]), Ok(None));
+}
+
+fn point_of(x: i32, y: i32) -> Edge {
+    Edge {
+        x0: x,
+        y0: y,
+        x1: x,
+        y1: y,
+    }
+}
+
+/// How the edges meet: by how many different ends are of both.
+fn plain_kind(one: &Edge, other: &Edge) -> Meeting {
+    if !plainly_meet(one, other) {
+        return Meeting::Apart;
+    }
+    let ends = [one, other].map(|it| [(it.x0, it.y0), (it.x1, it.y1)]).concat();
+    let is_shared = |&(x, y): &(i32, i32)| [one, other].iter().all(|it| plainly_meet(it, &point_of(x, y)));
+    let shared: BTreeSet<_> = ends.into_iter().filter(is_shared).collect();
+    match shared.len() {
+        0 => Meeting::Cross,
+        1 => Meeting::Touch,
+        _ => Meeting::Share,
+    }
+}
+
+#[test]
+fn tells_how_edges_meet() {
+    let mut random = Random(36);
+    let mut told = HashMap::new();
+    for round in 0..6000 {
+        let limit = [3, 9, 4096][round % 3];
+        let mut number = || random.below(limit);
+        let mut edge = || Edge {
+            x0: number(),
+            y0: number(),
+            x1: number(),
+            y1: number(),
+        };
+        let (one, other) = (edge(), edge());
+        let kind = how_they_meet(one, other);
+        assert_eq!(kind, plain_kind(&one, &other), "{one:?} {other:?}");
+        assert_eq!(kind, how_they_meet(other, one), "{one:?} {other:?}");
+        *told.entry(kind).or_insert(0) += 1;
+    }
+    for kind in [Meeting::Apart, Meeting::Touch, Meeting::Cross, Meeting::Share] {
+        assert!(told[&kind] > 30, "{told:?}");
+    }
 }
 
 #[test]

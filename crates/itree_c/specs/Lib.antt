@@ -1,5 +1,6 @@
 pub mod Handle
 pub mod Heights
+pub mod Kinds
 pub mod Meetings
 pub mod Places
 pub mod Raw

@@ -8,6 +8,7 @@
 
 pub mod handle;
 pub mod heights;
+pub mod kinds;
 pub mod meetings;
 pub mod pairs;
 pub mod places;

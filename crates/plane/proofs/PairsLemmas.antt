@@ -3,6 +3,7 @@ pub mod Bags
 pub mod Between
 pub mod Complete
 pub mod Extends
+pub mod Few
 pub mod First
 pub mod Order
 pub mod Pairs

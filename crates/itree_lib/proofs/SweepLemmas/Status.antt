@@ -15,6 +15,7 @@ use Rattle.i_tree.specs.Root.Answer.{AtMost}
 use Rattle.i_tree.specs.Root.Change.{Gains, Without}
 use Rattle.i_tree.specs.Root.Pairs.{HasKey, NoKey}
 use Rattle.i_tree.proofs.RootLemmas.Lists.{Contains-filter, Contains-here, Contains-there}
+use Rattle.i_tree.proofs.RootLemmas.Numbers.{int_ge-upto, int_upto-ge}
 use Rattle.i_tree.proofs.RootLemmas.Withouts.{filter-without}
 use Rattle.itree_lib.specs.Sweep.Levels.{Entry, level_of, entry_of, cmp_levels, live_entries, HasEnded}
 use Rattle.itree_lib.specs.Sweep.Events.{beginning_of}
@@ -23,23 +24,6 @@ use Rattle.itree_lib.specs.declared.sweep.Point.{Point}
 use Rattle.itree_lib.specs.declared.sweep.Segment.{Segment}
 use Rattle.event_queue.specs.declared.Event.{Event}
 use Rattle.itree_lib.proofs.RunLemmas.Members.{Contains-from_filter, Without-within}
-
--- an entry is live at an x up to its last one
-is_live-upto : (x last : ℤ) → x ≤ℤ last → is_ge (int_cmp last x) ≡ true
-is_live-upto x last within = told (int_cmp last x) (int_ranked last x (int_cmp last x) refl)
-  where
-    told : (r : Ordering) → MatchOrdering r (last <ℤ x) (last ≡ x) (x <ℤ last) → is_ge r ≡ true
-    told Less below = absurd (omega (arith, ints))
-    told Equal same = refl
-    told Greater above = refl
-
-upto-is_live : (x last : ℤ) → is_ge (int_cmp last x) ≡ true → x ≤ℤ last
-upto-is_live x last live = told (int_cmp last x) (int_ranked last x (int_cmp last x) refl) live
-  where
-    told : (r : Ordering) → MatchOrdering r (last <ℤ x) (last ≡ x) (x <ℤ last) → is_ge r ≡ true → x ≤ℤ last
-    told Less below live = cc
-    told Equal same live = omega (arith, ints)
-    told Greater above live = omega (arith, ints)
 
 -- a number that is at most another, and not the same, is less
 less_from : (a b : ℤ) → a ≤ℤ b → int_cmp a b ≢ Equal → int_cmp a b ≡ Less
@@ -82,7 +66,7 @@ Holds-nothing segments entries empty = record {
 kept : (x : ℤ) (entries entries' : List Entry) → Without (HasEnded x) entries entries' → (segment : Segment) → x ≤ℤ segment.x1 → Contains entries (entry_of segment) → Contains entries' (entry_of segment)
 kept x entries entries' without segment within held =
     let test : Entry → Bool = λ entry. is_ge (int_cmp entry.0.last x) in
-    let live = Contains-filter test entries (entry_of segment) (is_live-upto x segment.x1 within) held in
+    let live = Contains-filter test entries (entry_of segment) (int_ge-upto segment.x1 x within) held in
     (Contains-from_filter test entries' (entry_of segment) (subst (λ (kept : List Entry). Contains kept (entry_of segment)) (filter-without test (λ entry ended. ended) without) live)).0
 
 -- At an x that no done event lies behind.
@@ -90,7 +74,7 @@ module _ (segments : List Segment) (done : List Event) (entries : List Entry) (h
   -- a segment that has begun and doesn't end before x is live there
   live : (placed : Placed) → StandsIn segments placed → Contains done (beginning_of placed.0 placed.1) → x ≤ℤ placed.1.x1 → Contains (live_entries x entries) (entry_of placed.1)
   live placed stands begun within =
-      Contains-filter (λ entry. is_ge (int_cmp entry.0.last x)) entries (entry_of placed.1) (is_live-upto x placed.1.x1 within) (holds.has x before placed stands begun within)
+      Contains-filter (λ entry. is_ge (int_cmp entry.0.last x)) entries (entry_of placed.1) (int_ge-upto placed.1.x1 x within) (holds.has x before placed stands begun within)
 
   -- what is live is of a segment that has begun and covers x
   of_live : (entry : Entry) → Contains (live_entries x entries) entry
@@ -98,7 +82,7 @@ module _ (segments : List Segment) (done : List Event) (entries : List Entry) (h
   of_live entry found =
       let (held, test) = Contains-from_filter (λ (other : Entry). is_ge (int_cmp other.0.last x)) entries entry found in
       let (placed, stands, begun, is) = holds.of entry held in
-      let last : x ≤ℤ placed.1.x1 = upto-is_live x placed.1.x1 (ap (λ (other : Entry). is_ge (int_cmp other.0.last x)) (sym is) ∙ test) in
+      let last : x ≤ℤ placed.1.x1 = int_upto-ge placed.1.x1 x (ap (λ (other : Entry). is_ge (int_cmp other.0.last x)) (sym is) ∙ test) in
       (placed, stands, begun, (All-contains (λ (other : Event). other.x ≤ℤ x) done (beginning_of placed.0 placed.1) before begun, last), is)
 
   -- an event at x is done, and some entries that have ended there are gone

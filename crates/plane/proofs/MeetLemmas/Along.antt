@@ -1,10 +1,11 @@
 -- Edges whose ways are parallel: where both lie along one line and their boxes meet, an end of one is of the other.
-use Rattle.std.proofs.Common.{◌≡◌, ◌≢◌, ℕ, ◌+◌, ◌<◌, ◌≤◌, ℤ, pos, negsuc, ◌+ℤ◌, ◌-ℤ◌, ◌*ℤ◌, ◌≤ℤ◌, ◌<ℤ◌, ◌⊎◌, arith, refl, inl, inr}
+use Rattle.std.proofs.Common.{◌≡◌, ◌≢◌, ℕ, ◌+◌, ◌<◌, ◌≤◌, ℤ, pos, negsuc, ◌+ℤ◌, ◌-ℤ◌, ◌*ℤ◌, ◌≤ℤ◌, ◌<ℤ◌, ◌⊎◌, ◌∙◌, arith, refl, inl, inr}
 use Rattle.std.specs.Int.{int_min, int_max}
 use Rattle.std.proofs.lemmas.Int.{ints, clamps, by_lt_z}
 use Rattle.plane.specs.declared.edge.Edge.{Edge}
 use Rattle.plane.specs.Meet.Boxes.{RangesMeet, BoxesMeet}
 use Rattle.plane.specs.Meet.Edges.{RationalPoint, IsOf, Meet}
+use Rattle.plane.specs.Meet.Kinds.{IsEnd}
 use Rattle.plane.proofs.MeetLemmas.Boxes.{meet_comm}
 use Rattle.plane.proofs.MeetLemmas.Identities.{Term, number, plus, minus, times, value, identity, same_of, more, less}
 use Rattle.plane.proofs.MeetLemmas.Shares.{whole, part_of_one, part_of_other}
@@ -24,26 +25,40 @@ pub record Lies (edge : Edge) (x y : ℤ) : Type 0 where
   pub some : 0 < n
   pub of_edge : IsOf edge (whole_point n some x y)
 
--- both ends are of an edge, whatever the parts are
-pub starts : (edge : Edge) (n : ℕ) (some : 0 < n) → IsOf edge (whole_point n some edge.x0 edge.y0)
-starts edge n some = (
+-- no part of a way leads to its start, and all of it to its end
+at_start : (n : ℕ) (start end : ℤ) → (pos n *ℤ start) ≡ ((pos n *ℤ start) +ℤ (pos 0 *ℤ (end -ℤ start)))
+at_start n start end =
+    identity (times (number (pos n)) (number start)) (plus (times (number (pos n)) (number start)) (times (number (pos 0)) (minus (number end) (number start)))) (omega arith)
+
+at_end : (n : ℕ) (start end : ℤ) → (pos n *ℤ end) ≡ ((pos n *ℤ start) +ℤ (pos n *ℤ (end -ℤ start)))
+at_end n start end =
+    identity (times (number (pos n)) (number end)) (plus (times (number (pos n)) (number start)) (times (number (pos n)) (minus (number end) (number start)))) (omega arith)
+
+-- an end of an edge is of it
+pub is_of-end : (edge : Edge) (point : RationalPoint) → IsEnd edge point → IsOf edge point
+is_of-end edge point (inl at) = (
   0,
   record {
     share = omega arith;
-    x = identity (times (number (pos n)) (number edge.x0)) (plus (times (number (pos n)) (number edge.x0)) (times (number (pos 0)) (minus (number edge.x1) (number edge.x0)))) (omega arith);
-    y = identity (times (number (pos n)) (number edge.y0)) (plus (times (number (pos n)) (number edge.y0)) (times (number (pos 0)) (minus (number edge.y1) (number edge.y0)))) (omega arith);
+    x = at.x_is ∙ at_start point.n edge.x0 edge.x1;
+    y = at.y_is ∙ at_start point.n edge.y0 edge.y1;
+  },
+)
+is_of-end edge point (inr at) = (
+  point.n,
+  record {
+    share = omega arith;
+    x = at.x_is ∙ at_end point.n edge.x0 edge.x1;
+    y = at.y_is ∙ at_end point.n edge.y0 edge.y1;
   },
 )
 
+-- so both ends are, whatever the parts are
+pub starts : (edge : Edge) (n : ℕ) (some : 0 < n) → IsOf edge (whole_point n some edge.x0 edge.y0)
+starts edge n some = is_of-end edge (whole_point n some edge.x0 edge.y0) (inl (record { x_is = refl; y_is = refl }))
+
 pub ends : (edge : Edge) (n : ℕ) (some : 0 < n) → IsOf edge (whole_point n some edge.x1 edge.y1)
-ends edge n some = (
-  n,
-  record {
-    share = omega arith;
-    x = identity (times (number (pos n)) (number edge.x1)) (plus (times (number (pos n)) (number edge.x0)) (times (number (pos n)) (minus (number edge.x1) (number edge.x0)))) (omega arith);
-    y = identity (times (number (pos n)) (number edge.y1)) (plus (times (number (pos n)) (number edge.y0)) (times (number (pos n)) (minus (number edge.y1) (number edge.y0)))) (omega arith);
-  },
-)
+ends edge n some = is_of-end edge (whole_point n some edge.x1 edge.y1) (inr (record { x_is = refl; y_is = refl }))
 
 -- a number that isn't negative is a natural one
 natural : (z : ℤ) → pos 0 ≤ℤ z → (n : ℕ) × (pos n ≡ z)
@@ -96,12 +111,18 @@ at_share edge x y way part n a n_is a_is some share x_is y_is = record {
   );
 }
 
+-- differences and cross products, as expressions
+abbrev from : ℤ → ℤ → Term
+from low high = minus (number high) (number low)
+
+abbrev crossing : Term → Term → Term → Term → Term
+crossing x y other_x other_y = minus (times x other_y) (times y other_x)
+
 -- a point on the line of an edge that isn't vertical, between its ends along x, is of it
 lies_up : (edge : Edge) (x y : ℤ) → edge.x0 <ℤ edge.x1 → edge.x0 ≤ℤ x → x ≤ℤ edge.x1 → ((x -ℤ edge.x0) *ℤ (edge.y1 -ℤ edge.y0)) ≡ ((y -ℤ edge.y0) *ℤ (edge.x1 -ℤ edge.x0)) → Lies edge x y
 lies_up edge x y upwards above upto line =
     let way = natural (edge.x1 -ℤ edge.x0) (rise edge.x0 edge.x1 (omega (arith, ints))) in
     let part = natural (x -ℤ edge.x0) (rise edge.x0 x above) in
-    let from : ℤ → ℤ → Term = λ low high. minus (number high) (number low) in
     let fact = same_of (times (from edge.x0 x) (from edge.y0 edge.y1)) (times (from edge.y0 y) (from edge.x0 edge.x1)) line in
     at_share edge x y (edge.x1 -ℤ edge.x0) (x -ℤ edge.x0) way.0 part.0 way.1 part.1 (some_way edge.x0 edge.x1 way.0 upwards way.1) (shorter edge.x0 x edge.x1 part.0 way.0 upto part.1 way.1)
     (identity (times (from edge.x0 edge.x1) (number x)) (plus (times (from edge.x0 edge.x1) (number edge.x0)) (times (from edge.x0 x) (from edge.x0 edge.x1))) (omega arith))
@@ -111,7 +132,6 @@ lies_down : (edge : Edge) (x y : ℤ) → edge.x1 <ℤ edge.x0 → edge.x1 ≤�
 lies_down edge x y downwards above upto line =
     let way = natural (edge.x0 -ℤ edge.x1) (rise edge.x1 edge.x0 (omega (arith, ints))) in
     let part = natural (edge.x0 -ℤ x) (rise x edge.x0 upto) in
-    let from : ℤ → ℤ → Term = λ low high. minus (number high) (number low) in
     let fact = same_of (times (from edge.x0 x) (from edge.y0 edge.y1)) (times (from edge.y0 y) (from edge.x0 edge.x1)) line in
     at_share edge x y (edge.x0 -ℤ edge.x1) (edge.x0 -ℤ x) way.0 part.0 way.1 part.1 (some_way edge.x1 edge.x0 way.0 downwards way.1) (shorter_down edge.x1 x edge.x0 part.0 way.0 above part.1 way.1)
     (identity (times (from edge.x1 edge.x0) (number x)) (plus (times (from edge.x1 edge.x0) (number edge.x0)) (times (from x edge.x0) (from edge.x0 edge.x1))) (omega arith))
@@ -134,91 +154,12 @@ pub record Along (one other : Edge) : Type 0 where
   pub of_other : part_of_other one other ≡ pos 0
   pub boxes : BoxesMeet one other
 
--- where a number lies to a range
-place : (z low high : ℤ) → ((low ≤ℤ z) × (z ≤ℤ high)) ⊎ ((z <ℤ low) ⊎ (high <ℤ z))
-place z low high = by_lt_z z low (λ below. inr (inl below)) (λ above. by_lt_z high z (λ beyond. inr (inr beyond)) (λ upto. inl (above, upto)))
-
--- where both ends of a range lie outside another that it meets, it surrounds that
-surrounded : (start end other_start other_end : ℤ) → (other_start <ℤ int_min start end) ⊎ (int_max start end <ℤ other_start) → (other_end <ℤ int_min start end) ⊎ (int_max start end <ℤ other_end) → RangesMeet start end other_start other_end → (other_start ≢ other_end) × (int_min other_start other_end ≤ℤ start) × (start ≤ℤ int_max other_start other_end)
-surrounded start end other_start other_end first second meet = omega (arith, ints, clamps)
-
--- edges on one line whose boxes meet, the one of which isn't vertical, meet
-meets_along_x : (one other : Edge) → one.x0 ≢ one.x1 → Along one other → Meet one other
-meets_along_x one other apart along =
-    let least = int_min one.x0 one.x1 in
-    let greatest = int_max one.x0 one.x1 in
-    let from : ℤ → ℤ → Term = λ low high. minus (number high) (number low) in
-    let crossing : Term → Term → Term → Term → Term = λ x y other_x other_y. minus (times x other_y) (times y other_x) in
-    let parallel = same_of (crossing (from one.x0 one.x1) (from one.y0 one.y1) (from other.x0 other.x1) (from other.y0 other.y1)) (number (pos 0)) along.parallel in
-    let of_one = same_of (crossing (from one.x0 other.x0) (from one.y0 other.y0) (from other.x0 other.x1) (from other.y0 other.y1)) (number (pos 0)) along.of_one in
-    let of_other = same_of (crossing (from one.x0 other.x0) (from one.y0 other.y0) (from one.x0 one.x1) (from one.y0 one.y1)) (number (pos 0)) along.of_other in
-    let start_on_line = identity (times (from one.x0 other.x0) (from one.y0 one.y1)) (times (from one.y0 other.y0) (from one.x0 one.x1)) (omega (arith, of_other)) in
-    let end_on_line = identity (times (from one.x0 other.x1) (from one.y0 one.y1)) (times (from one.y0 other.y1) (from one.x0 one.x1)) (omega (arith, of_other, parallel)) in
-    let back_on_line = identity (times (from other.x0 one.x0) (from other.y0 other.y1)) (times (from other.y0 one.y0) (from other.x0 other.x1)) (omega (arith, of_one)) in
-    elim (place other.x0 least greatest) [
-      | inl within ↦ common one other other.x0 other.y0 (lies one other.x0 other.y0 apart within.0 within.1 start_on_line) (starts other)
-      | inr outside ↦ elim (place other.x1 least greatest) [
-        | inl within ↦ common one other other.x1 other.y1 (lies one other.x1 other.y1 apart within.0 within.1 end_on_line) (ends other)
-        | inr other_outside ↦
-            let around = surrounded one.x0 one.x1 other.x0 other.x1 outside other_outside along.boxes.x in
-            meet_comm other one (common other one one.x0 one.y0 (lies other one.x0 one.y0 around.0 around.1 around.2 back_on_line) (starts one))
-      ]
-    ]
-
--- ---- the same where the one is vertical or a point: by turning the plane over, or by the other edge
-
--- the edge in a plane whose x and y have changed places
-abbrev pub flipped : Edge → Edge
-flipped edge = record {
-  x0 = edge.y0;
-  y0 = edge.x0;
-  x1 = edge.y1;
-  y1 = edge.x1;
-}
-
-meet-flipped : (one other : Edge) → Meet (flipped one) (flipped other) → Meet one other
-meet-flipped one other (point, (a, first), (b, second)) =
-    let over : RationalPoint = record {
-      n = point.n;
-      x = point.y;
-      y = point.x;
-      positive = point.positive;
-    } in
-    let of_one : IsOf one over = (
-      a,
-      record {
-        share = first.share;
-        x = first.y;
-        y = first.x;
-      },
-    ) in
-    let of_other : IsOf other over = (
-      b,
-      record {
-        share = second.share;
-        x = second.y;
-        y = second.x;
-      },
-    ) in
-    (over, of_one, of_other)
-
 -- what is none, turned round is none
 none_back : (s t : Term) → value s ≡ pos 0 → more s + more t ≡ less s + less t → value t ≡ pos 0
 none_back s t none round = let fact = same_of s (number (pos 0)) none in identity t (number (pos 0)) (omega (arith, fact))
 
 abbrev cross_back : (a b c d e f g h : ℤ) → Term
 cross_back a b c d e f g h = minus (times (minus (number a) (number b)) (minus (number c) (number d))) (times (minus (number e) (number f)) (minus (number g) (number h)))
-
-pub along-flipped : (one other : Edge) → Along one other → Along (flipped one) (flipped other)
-along-flipped one other along = record {
-  parallel = none_back (cross_back one.x1 one.x0 other.y1 other.y0 one.y1 one.y0 other.x1 other.x0) (cross_back one.y1 one.y0 other.x1 other.x0 one.x1 one.x0 other.y1 other.y0) along.parallel (omega arith);
-  of_one = none_back (cross_back other.x0 one.x0 other.y1 other.y0 other.y0 one.y0 other.x1 other.x0) (cross_back other.y0 one.y0 other.x1 other.x0 other.x0 one.x0 other.y1 other.y0) along.of_one (omega arith);
-  of_other = none_back (cross_back other.x0 one.x0 one.y1 one.y0 other.y0 one.y0 one.x1 one.x0) (cross_back other.y0 one.y0 one.x1 one.x0 other.x0 one.x0 one.y1 one.y0) along.of_other (omega arith);
-  boxes = record {
-    x = along.boxes.y;
-    y = along.boxes.x;
-  };
-}
 
 pub along_comm : (one other : Edge) → Along one other → Along other one
 along_comm one other along = record {
@@ -234,6 +175,84 @@ along_comm one other along = record {
       first = along.boxes.y.second;
       second = along.boxes.y.first;
     };
+  };
+}
+
+-- an end of the one lies on the line of the other
+pub start_on_line : (one other : Edge) → Along one other → ((one.x0 -ℤ other.x0) *ℤ (other.y1 -ℤ other.y0)) ≡ ((one.y0 -ℤ other.y0) *ℤ (other.x1 -ℤ other.x0))
+start_on_line one other along =
+    let of_one = same_of (crossing (from one.x0 other.x0) (from one.y0 other.y0) (from other.x0 other.x1) (from other.y0 other.y1)) (number (pos 0)) along.of_one in
+    identity (times (from other.x0 one.x0) (from other.y0 other.y1)) (times (from other.y0 one.y0) (from other.x0 other.x1)) (omega (arith, of_one))
+
+pub end_on_line : (one other : Edge) → Along one other → ((one.x1 -ℤ other.x0) *ℤ (other.y1 -ℤ other.y0)) ≡ ((one.y1 -ℤ other.y0) *ℤ (other.x1 -ℤ other.x0))
+end_on_line one other along =
+    let parallel = same_of (crossing (from one.x0 one.x1) (from one.y0 one.y1) (from other.x0 other.x1) (from other.y0 other.y1)) (number (pos 0)) along.parallel in
+    let of_one = same_of (crossing (from one.x0 other.x0) (from one.y0 other.y0) (from other.x0 other.x1) (from other.y0 other.y1)) (number (pos 0)) along.of_one in
+    identity (times (from other.x0 one.x1) (from other.y0 other.y1)) (times (from other.y0 one.y1) (from other.x0 other.x1)) (omega (arith, of_one, parallel))
+
+-- where a number lies to a range
+place : (z low high : ℤ) → ((low ≤ℤ z) × (z ≤ℤ high)) ⊎ ((z <ℤ low) ⊎ (high <ℤ z))
+place z low high = by_lt_z z low (λ below. inr (inl below)) (λ above. by_lt_z high z (λ beyond. inr (inr beyond)) (λ upto. inl (above, upto)))
+
+-- where both ends of a range lie outside another that it meets, it surrounds that
+surrounded : (start end other_start other_end : ℤ) → (other_start <ℤ int_min start end) ⊎ (int_max start end <ℤ other_start) → (other_end <ℤ int_min start end) ⊎ (int_max start end <ℤ other_end) → RangesMeet start end other_start other_end → (other_start ≢ other_end) × (int_min other_start other_end ≤ℤ start) × (start ≤ℤ int_max other_start other_end)
+surrounded start end other_start other_end first second meet = omega (arith, ints, clamps)
+
+-- edges on one line whose boxes meet, the one of which isn't vertical, meet
+meets_along_x : (one other : Edge) → one.x0 ≢ one.x1 → Along one other → Meet one other
+meets_along_x one other apart along =
+    let back = along_comm one other along in
+    elim (place other.x0 (int_min one.x0 one.x1) (int_max one.x0 one.x1)) [
+      | inl within ↦ common one other other.x0 other.y0 (lies one other.x0 other.y0 apart within.0 within.1 (start_on_line other one back)) (starts other)
+      | inr outside ↦ elim (place other.x1 (int_min one.x0 one.x1) (int_max one.x0 one.x1)) [
+        | inl within ↦ common one other other.x1 other.y1 (lies one other.x1 other.y1 apart within.0 within.1 (end_on_line other one back)) (ends other)
+        | inr other_outside ↦
+            let around = surrounded one.x0 one.x1 other.x0 other.x1 outside other_outside along.boxes.x in
+            meet_comm other one (common other one one.x0 one.y0 (lies other one.x0 one.y0 around.0 around.1 around.2 (start_on_line one other along)) (starts one))
+      ]
+    ]
+
+-- ---- the same where the one is vertical or a point: by turning the plane over, or by the other edge
+
+-- the edge in a plane whose x and y have changed places
+abbrev pub flipped : Edge → Edge
+flipped edge = record {
+  x0 = edge.y0;
+  y0 = edge.x0;
+  x1 = edge.y1;
+  y1 = edge.x1;
+}
+
+-- and a point there
+abbrev pub over : RationalPoint → RationalPoint
+over point = record {
+  n = point.n;
+  x = point.y;
+  y = point.x;
+  positive = point.positive;
+}
+
+pub of-flipped : (edge : Edge) (point : RationalPoint) → IsOf (flipped edge) point → IsOf edge (over point)
+of-flipped edge point (a, at) = (
+  a,
+  record {
+    share = at.share;
+    x = at.y;
+    y = at.x;
+  },
+)
+
+meet-flipped : (one other : Edge) → Meet (flipped one) (flipped other) → Meet one other
+meet-flipped one other (point, of_one, of_other) = (over point, of-flipped one point of_one, of-flipped other point of_other)
+
+pub along-flipped : (one other : Edge) → Along one other → Along (flipped one) (flipped other)
+along-flipped one other along = record {
+  parallel = none_back (cross_back one.x1 one.x0 other.y1 other.y0 one.y1 one.y0 other.x1 other.x0) (cross_back one.y1 one.y0 other.x1 other.x0 one.x1 one.x0 other.y1 other.y0) along.parallel (omega arith);
+  of_one = none_back (cross_back other.x0 one.x0 other.y1 other.y0 other.y0 one.y0 other.x1 other.x0) (cross_back other.y0 one.y0 other.x1 other.x0 other.x0 one.x0 other.y1 other.y0) along.of_one (omega arith);
+  of_other = none_back (cross_back other.x0 one.x0 one.y1 one.y0 other.y0 one.y0 one.x1 one.x0) (cross_back other.y0 one.y0 one.x1 one.x0 other.x0 one.x0 one.y1 one.y0) along.of_other (omega arith);
+  boxes = record {
+    x = along.boxes.y;
+    y = along.boxes.x;
   };
 }
 

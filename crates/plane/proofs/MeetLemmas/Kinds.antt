@@ -1,5 +1,5 @@
 -- Edges that meet share one point, or a stretch of a line.
-use Rattle.std.proofs.Common.{◌≡◌, ◌≢◌, ℕ, ◌*◌, ◌≤◌, ℤ, pos, negsuc, suc, ◌+ℤ◌, ◌-ℤ◌, ◌*ℤ◌, ◌≤ℤ◌, ◌<ℤ◌, ◌⊎◌, arith, refl, ap, sym, subst, ◌∙◌, inl, inr, Bool, true, false, MatchBool}
+use Rattle.std.proofs.Common.{◌≡◌, ◌≢◌, ℕ, ◌*◌, ◌<◌, ◌≤◌, ℤ, pos, negsuc, suc, ◌+ℤ◌, ◌-ℤ◌, ◌*ℤ◌, ◌≤ℤ◌, ◌<ℤ◌, ◌⊎◌, arith, refl, ap, sym, subst, ◌∙◌, inl, inr, Bool, true, false, MatchBool}
 use Rattle.std.specs.Int.{int_min, int_max}
 use Rattle.std.proofs.lemmas.Int.{ints, clamps, by_lt_z}
 use Rattle.std.proofs.Math.Nat.{le_of_mul-le-mul_left}
@@ -9,7 +9,7 @@ use borrow.Author.Differences.{up, down}
 use Rattle.plane.specs.declared.edge.Edge.{Edge}
 use Rattle.plane.specs.Meet.Edges.{RationalPoint, IsOf, Meet}
 use Rattle.plane.specs.Meet.Kinds.{AreSame, IsEnd, IsOfBoth, ShareAtMostOne, ShareTwo, HasPoint, HasEndOf, RangesOverlap}
-use Rattle.plane.proofs.MeetLemmas.Along.{Along, whole_point, starts, ends, lies, flipped, along-flipped, along_comm}
+use Rattle.plane.proofs.MeetLemmas.Along.{Along, Lies, whole_point, is_of-end, starts, ends, lies, flipped, over, of-flipped, along-flipped, along_comm, start_on_line, end_on_line}
 use Rattle.plane.proofs.MeetLemmas.Boxes.{meet-boxes, way_above, way_below}
 use Rattle.plane.proofs.MeetLemmas.Identities.{Term, number, plus, minus, times, identity, same_of, scaled, unscaled}
 use Rattle.plane.proofs.MeetLemmas.Shares.{whole, part_of_one, part_of_other, parts_of_meet, share_of_one}
@@ -61,34 +61,6 @@ point_tested edge x y false apart = λ has. apart (meet-of_has_point edge x y ha
 pub end_tested : (one other : Edge) (r : Bool) → ¬ (HasPoint one other.x0 other.y0) → MatchBool r (HasPoint one other.x1 other.y1) (¬ (HasPoint one other.x1 other.y1)) → MatchBool r (HasEndOf one other) (¬ (HasEndOf one other))
 end_tested one other true none has = inr has
 end_tested one other false none neither = λ has. elim has [ inl start ↦ none start | inr end ↦ neither end ]
-
--- no part of a way leads to its start, and all of it to its end
-at_start : (n : ℕ) (start end : ℤ) → (pos n *ℤ start) ≡ ((pos n *ℤ start) +ℤ (pos 0 *ℤ (end -ℤ start)))
-at_start n start end =
-    identity (times (number (pos n)) (number start)) (plus (times (number (pos n)) (number start)) (times (number (pos 0)) (minus (number end) (number start)))) (omega arith)
-
-at_end : (n : ℕ) (start end : ℤ) → (pos n *ℤ end) ≡ ((pos n *ℤ start) +ℤ (pos n *ℤ (end -ℤ start)))
-at_end n start end =
-    identity (times (number (pos n)) (number end)) (plus (times (number (pos n)) (number start)) (times (number (pos n)) (minus (number end) (number start)))) (omega arith)
-
--- an end of an edge is of it
-pub is_of-end : (edge : Edge) (point : RationalPoint) → IsEnd edge point → IsOf edge point
-is_of-end edge point (inl at) = (
-  0,
-  record {
-    share = omega arith;
-    x = at.x_is ∙ at_start point.n edge.x0 edge.x1;
-    y = at.y_is ∙ at_start point.n edge.y0 edge.y1;
-  },
-)
-is_of-end edge point (inr at) = (
-  point.n,
-  record {
-    share = omega arith;
-    x = at.x_is ∙ at_end point.n edge.x0 edge.x1;
-    y = at.y_is ∙ at_end point.n edge.y0 edge.y1;
-  },
-)
 
 -- an end of the other edge that is of the one is of both
 pub touch-of_end : (one other : Edge) → HasEndOf one other → (point : RationalPoint) × IsOfBoth one other point × IsEnd other point
@@ -219,39 +191,19 @@ both_comm one other x found = record {
   at = found.at;
 }
 
+both_at : (one other : Edge) (x y : ℤ) → Lies other x y → ((n : ℕ) (some : 0 < n) → IsOf one (whole_point n some x y)) → BothAt one other x
+both_at one other x y found of_one = record {
+  point = whole_point found.n found.some x y;
+  both = (of_one found.n found.some, found.of_edge);
+  at = refl {a = pos found.n *ℤ x};
+}
+
 -- of edges on one line, an end of the one whose x is in the other's range is of both
-start_shared : (one other : Edge) → other.x0 ≢ other.x1 → Along one other → int_min other.x0 other.x1 ≤ℤ one.x0 → one.x0 ≤ℤ int_max other.x0 other.x1 → BothAt one other one.x0
-start_shared one other apart along above upto =
-    let from : ℤ → ℤ → Term = λ low high. minus (number high) (number low) in
-    let crossing : Term → Term → Term → Term → Term = λ x y other_x other_y. minus (times x other_y) (times y other_x) in
-    let of_one = same_of (crossing (from one.x0 other.x0) (from one.y0 other.y0) (from other.x0 other.x1) (from other.y0 other.y1)) (number (pos 0)) along.of_one in
-    let on_line = identity (times (from other.x0 one.x0) (from other.y0 other.y1)) (times (from other.y0 one.y0) (from other.x0 other.x1)) (omega (arith, of_one)) in
-    let found = lies other one.x0 one.y0 apart above upto on_line in
-    record {
-      point = whole_point found.n found.some one.x0 one.y0;
-      both = (starts one found.n found.some, found.of_edge);
-      at = refl {a = pos found.n *ℤ one.x0};
-    }
-
-end_shared : (one other : Edge) → other.x0 ≢ other.x1 → Along one other → int_min other.x0 other.x1 ≤ℤ one.x1 → one.x1 ≤ℤ int_max other.x0 other.x1 → BothAt one other one.x1
-end_shared one other apart along above upto =
-    let from : ℤ → ℤ → Term = λ low high. minus (number high) (number low) in
-    let crossing : Term → Term → Term → Term → Term = λ x y other_x other_y. minus (times x other_y) (times y other_x) in
-    let parallel = same_of (crossing (from one.x0 one.x1) (from one.y0 one.y1) (from other.x0 other.x1) (from other.y0 other.y1)) (number (pos 0)) along.parallel in
-    let of_one = same_of (crossing (from one.x0 other.x0) (from one.y0 other.y0) (from other.x0 other.x1) (from other.y0 other.y1)) (number (pos 0)) along.of_one in
-    let on_line = identity (times (from other.x0 one.x1) (from other.y0 other.y1)) (times (from other.y0 one.y1) (from other.x0 other.x1)) (omega (arith, of_one, parallel)) in
-    let found = lies other one.x1 one.y1 apart above upto on_line in
-    record {
-      point = whole_point found.n found.some one.x1 one.y1;
-      both = (ends one found.n found.some, found.of_edge);
-      at = refl {a = pos found.n *ℤ one.x1};
-    }
-
 end_at : (one other : Edge) (x : ℤ) → other.x0 ≢ other.x1 → Along one other → int_min other.x0 other.x1 ≤ℤ x → x ≤ℤ int_max other.x0 other.x1 → (x ≡ one.x0) ⊎ (x ≡ one.x1) → BothAt one other x
-end_at one other x apart along above upto (inl same) =
-    subst (λ (z : ℤ). BothAt one other z) (sym same) (start_shared one other apart along (subst (λ (z : ℤ). int_min other.x0 other.x1 ≤ℤ z) same above) (subst (λ (z : ℤ). z ≤ℤ int_max other.x0 other.x1) same upto))
-end_at one other x apart along above upto (inr same) =
-    subst (λ (z : ℤ). BothAt one other z) (sym same) (end_shared one other apart along (subst (λ (z : ℤ). int_min other.x0 other.x1 ≤ℤ z) same above) (subst (λ (z : ℤ). z ≤ℤ int_max other.x0 other.x1) same upto))
+end_at one other x apart along above upto (inl same) = subst (λ (z : ℤ). BothAt one other z) (sym same)
+    (both_at one other one.x0 one.y0 (lies other one.x0 one.y0 apart (subst (λ (z : ℤ). int_min other.x0 other.x1 ≤ℤ z) same above) (subst (λ (z : ℤ). z ≤ℤ int_max other.x0 other.x1) same upto) (start_on_line one other along)) (starts one))
+end_at one other x apart along above upto (inr same) = subst (λ (z : ℤ). BothAt one other z) (sym same)
+    (both_at one other one.x1 one.y1 (lies other one.x1 one.y1 apart (subst (λ (z : ℤ). int_min other.x0 other.x1 ≤ℤ z) same above) (subst (λ (z : ℤ). z ≤ℤ int_max other.x0 other.x1) same upto) (end_on_line one other along)) (ends one))
 
 -- the ends of what two ranges share are ends of them
 ends_of_low : (start end other_start other_end : ℤ) → ((low_of start end other_start other_end ≡ start) ⊎ (low_of start end other_start other_end ≡ end)) ⊎ ((low_of start end other_start other_end ≡ other_start) ⊎ (low_of start end other_start other_end ≡ other_end))
@@ -312,24 +264,6 @@ two-along_x one other along some =
     (first.point, second.point, first.both, second.both, different first.point second.point low high some first.at second.at)
 
 -- the same along y, by turning the plane over
-abbrev over : RationalPoint → RationalPoint
-over point = record {
-  n = point.n;
-  x = point.y;
-  y = point.x;
-  positive = point.positive;
-}
-
-of-flipped : (edge : Edge) (point : RationalPoint) → IsOf (flipped edge) point → IsOf edge (over point)
-of-flipped edge point (a, at) = (
-  a,
-  record {
-    share = at.share;
-    x = at.y;
-    y = at.x;
-  },
-)
-
 different-flipped : (first second : RationalPoint) → ¬ (AreSame first second) → ¬ (AreSame (over first) (over second))
 different-flipped first second apart same = apart (record { x = same.y; y = same.x })
 

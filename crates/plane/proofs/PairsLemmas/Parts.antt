@@ -16,14 +16,6 @@ abbrev pub IsUpto : ℕ → ℕ → ℕ → ℕ → Type 0
 IsUpto place strip other_place other_strip = (other_place < place) ⊎ ((other_place ≡ place) × (other_strip < strip))
 
 module _ {X : Type 0} (bounds : X → Bounds) (strips : Strips) (items : List X) where
-  -- no parts, where none is wanted
-  pub Lists-nil : (Wanted : ℕ → ℕ → Type 0) → ((place strip : ℕ) → Wanted place strip → ⊥) → Lists bounds strips items Wanted []
-  Lists-nil Wanted none = record {
-    each = λ place strip item stands reaches wanted. absurd (none place strip wanted);
-    of = All-nil (λ part. IsPartOf bounds strips items part × Wanted part.place part.strip);
-    once = λ i j d below within. absurd (omega (arith, within));
-  }
-
   module _ (Wanted Wanted' : ℕ → ℕ → Type 0) (parts : List Part) (lists : Lists bounds strips items Wanted parts) where
     -- the same parts are wanted
     pub Lists-same : ((place strip : ℕ) (item : X) → slice_get items place ≡ Some item → Reaches strips (bounds item) strip → Wanted' place strip → Wanted place strip)

@@ -1,8 +1,9 @@
 //! The parts of items in the strips that they reach, in the order in which they are served.
 
-ghost use Rattle.std.specs.Prelude.{◌≡◌, ◌<◌, ◌+◌, ◌≤ℤ◌, All, IfOk, OnOk, length, []};
+ghost use Rattle.std.specs.Prelude.{◌≡◌, ◌<◌, ◌≤◌, ◌+◌, ◌*◌, ◌≤ℤ◌, All, IfOk, OnOk, length, take, []};
 ghost use Rattle.plane.specs.Pairs.Bounds.{IsBox};
 ghost use Rattle.plane.specs.Pairs.Parts.{AreParts, Lists};
+ghost use Rattle.plane.specs.Pairs.Strips.{ReachFew, reached};
 
 use super::items::Boxed;
 use super::strips::Strips;
@@ -17,7 +18,7 @@ pub struct Part {
     pub place: usize,
 }
 
-/// The parts of all items, in order.
+/// The parts of all items, in order: three an item at most, where items reach no more strips.
 pub fn parts<T: Boxed, A: Allocator>(
     alloc: A,
     items: &[T],
@@ -25,7 +26,9 @@ pub fn parts<T: Boxed, A: Allocator>(
 ) -> Result<Vec<Part, A>, AllocError>
     requires proper { (item : T) → IsBox (T.bounds item) }
     requires base { All (λ item. strips.base ≤ℤ (T.bounds item).low) items.now }
-    ensures { IfOk result (λ parts. AreParts T.bounds strips items.now parts.items) }
+    requires few { ReachFew T.bounds strips items.now }
+    ensures ok { IfOk result (λ parts. AreParts T.bounds strips items.now parts.items) }
+    ensures few { IfOk result (λ parts. length parts.items ≤ 3 * length items.now) }
 {
     let mut parts = Vec::with_capacity(alloc, items.len())?;
     push_all(&mut parts, items, strips)?;
@@ -42,7 +45,8 @@ fn push_all<T: Boxed, A: Allocator>(
     requires proper { (item : T) → IsBox (T.bounds item) }
     requires base { All (λ item. strips.base ≤ℤ (T.bounds item).low) items.now }
     requires empty { parts.old.items ≡ [] }
-    ensures { OnOk result (Lists T.bounds strips items.now (λ place _. place < length items.now) parts.new.items) }
+    ensures lists { OnOk result (Lists T.bounds strips items.now (λ place _. place < length items.now) parts.new.items) }
+    ensures count { OnOk result (length parts.new.items ≡ reached T.bounds strips items.now) }
 {
     for place in 0..items.len() {
         push_parts(parts, items, strips, place)?;
@@ -61,7 +65,9 @@ fn push_parts<T: Boxed, A: Allocator>(
     requires base { All (λ item. strips.base ≤ℤ (T.bounds item).low) items.now }
     requires inside { place < length items.now }
     requires before { Lists T.bounds strips items.now (λ other _. other < place) parts.old.items }
-    ensures { OnOk result (Lists T.bounds strips items.now (λ other _. other < place + 1) parts.new.items) }
+    requires count { length parts.old.items ≡ reached T.bounds strips (take place items.now) }
+    ensures lists { OnOk result (Lists T.bounds strips items.now (λ other _. other < place + 1) parts.new.items) }
+    ensures count { OnOk result (length parts.new.items ≡ reached T.bounds strips (take (place + 1) items.now)) }
 {
     let bounds = items[place].bounds();
     let left = bounds.left;

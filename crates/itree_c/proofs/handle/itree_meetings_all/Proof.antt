@@ -1,119 +1,15 @@
 -- the handle is the pointer of what was made
-use Rattle.std.proofs.Common.{
-  ◌≡◌,
-  ℤ,
-  List,
-  [],
-  ◌∷◌,
-  ◌++◌,
-  length,
-  refl,
-  sym,
-  ap,
-  ◌∙◌,
-  subst,
-  Bool,
-  true,
-  false,
-  ◌&&◌,
-  w32,
-  Option,
-}
-use lib.Dec.{T}
-use mir.Syntax.{impl, tnil, dnil, ty_ptr, named}
-use mir.Val.{Val, vint, vptr, vstruct, vcons, vnil, of_list, of_z, has_ty, WT}
-use base.Logic.{SProp, ent, emp, sep, ex, id⊢, ex_i}
-use base.Fraction.{full_share}
-use base.Fml.{ftrue, flft}
-use prog.Wp.{WpFn}
-use types.Logic.{sem}
-use types.Kit.{
-  ‵,
-  raw,
-  ◌⊛◌,
-  some,
-  later,
-  ◌$◌,
-  ◌∵◌,
-  !,
-  qed,
-  by,
-  move,
-  keep,
-  drop,
-  split,
-  split3,
-  join,
-  fsplit,
-  fsplit3,
-  fjoin,
-  fjoin3,
-  fpick,
-  pick,
-  suffices,
-  use0,
-  use1,
-  await,
-  rewrite,
-  feq_i,
-  feq_l,
-}
-use types.Run.{of_opd, stop, fld, store, no_more, and_then, returns, enter, assigns}
-use types.ByLocal.{alloc_all, pass_all, free_all, look_at, get, get_in, sets, lands_as, through}
-use types.Part.{sub, whole}
-use contract.Monad.{fact, fact_i}
-use contract.Running.{tables}
-use denote.Exit.{yes}
-use denote.Laws.{Is, shows}
-use denote.Memory.{cell_at}
-use denote.RattleType.{RattleType, owns}
-use denote.Signature.{types_at, plain}
-use denote.Builtin.{i32, SliceRefOf}
-use denote.Signed.{sint_Lawful}
-use denote.Slice.{ShrSlice, slice_val}
-use denote.Ref.{MutRef}
-use denote.RawPtr.{Ptr, RawPtr, ptr_val, rawptr_Lawful}
-use denote.Steps.{nothing, only, heard, peeks, opens, closes}
-use denote.Struct.Tuple.{Tuple}
-use denote.Param.{layout}
-use denote.Triple.Clauses.{Lasts, lasts}
-use denote.Triple.Spec.{triple_of}
-use denote.Triple.Call.{calls_at}
-use denote.Triple.Table.{framed}
-use denote.Triple.Walked.{Stays, stay_dropped, stay_ref, walk_of, Goes-dropped, Goes-ref}
-use Rattle.std.proofs.alloc.Calls.{Al, handle_tells}
-use Rattle.std.proofs.ResultValues.{and_tt}
-use Rattle.std.proofs.raw_atomic.Walks.{proved_at, leaves}
-use Rattle.std.specs.contracts.alloc.Global as heap
-use Rattle.std.proofs.alloc.Global.TheLaws as heap_laws
-use Rattle.std.specs.contracts.impls.GlobalAllocator.TheImpl.{ghosts}
-use Rattle.itree_c.specs.Handle.{owns_pairs, AnswersAll}
+use Rattle.itree_c.proofs.Steps.{ℤ, List, [], ◌∷◌, ◌++◌, length, refl, sym, subst, named, Val, vptr, SProp, ent, id⊢, full_share, ftrue, flft, WpFn, ‵, raw, ◌⊛◌, some, later, ◌$◌, ◌∵◌, !, qed, by, move, keep, drop, split, split3, join, fsplit, fsplit3, fjoin, fjoin3, pick, suffices, use1, await, rewrite, feq_i, feq_l, of_opd, stop, fld, store, no_more, and_then, returns, enter, assigns, alloc_all, pass_all, free_all, look_at, get, get_in, sets, lands_as, through, sub, whole, fact, tables, yes, cell_at, RattleType, owns, types_at, plain, SliceRefOf, ShrSlice, slice_val, MutRef, Ptr, RawPtr, ptr_val, nothing, heard, opens, closes, Lasts, lasts, triple_of, calls_at, framed, Stays, stay_dropped, stay_ref, walk_of, Goes-dropped, Goes-ref, handle_tells, proved_at, leaves}
+use Rattle.itree_c.proofs.HandleLemmas.{Z, al, R, Two, status_word, parts_out, made_in}
+use Rattle.itree_c.specs.Handle.{AnswersAll}
 use Rattle.plane.specs.contracts.edge.Edge.{the_row as edge_row}
 use Rattle.itree_c.specs.contracts.pairs.Pairs.{the_row as held_row}
-use Rattle.itree_c.specs.contracts.raw.Raw as parts
 use Rattle.itree_c.specs.contracts.handle.all_meetings as callee
 use Rattle.itree_c.proofs.handle.all_meetings.Met.{met}
 use Rattle.itree_c.specs.contracts.handle.itree_meetings_all.{ended, clauses}
 use Rattle.itree_c.specs.contracts.handle.itree_meetings_all.Key.{name as #self}
 use Rattle.itree_c.proofs.handle.itree_meetings_all.Statement.{statement}
 use Rattle.itree_c.proofs.handle.itree_meetings_all.Code as code
-
-abbrev Z : RattleType
-Z = heap.the_row
-
-abbrev al : Al
-al = record { row = Z; laws = heap_laws.the_row_laws; g = ghosts; d = impl [] tnil dnil; drops = impl [] tnil dnil }
-
-abbrev R : RattleType
-R = parts.the_row held_row Z ghosts
-
-abbrev Two : RattleType
-Two = Tuple (i32 ∷ R ∷ [])
-
-both_tt : (x y : Bool) → T x → T y → T (x && (y && true))
-both_tt true true s t = tt
-both_tt true false s t = absurd t
-both_tt false y s t = absurd s
 
 pub itree_meetings_all_spec : {M : Type 1} → statement M
 itree_meetings_all_spec 𝓤 𝓛 𝓜 𝓡 wired =
@@ -169,7 +65,7 @@ itree_meetings_all_spec 𝓤 𝓛 𝓜 𝓡 wired =
     ) $
     calls_at ! (framed 𝓤 H 𝓜 𝓣) K (met 𝓤 𝓛 𝓜 𝓡 (code.calls-itree_c::handle::all_meetings 𝓡.env wired)) y (and_then !
     (get ! refl) (and_then ! (get ! refl) (no_more !))) (λ v.
-    use1 𝓛 (later (some (λ (r : ℤ × R.Denot). ((‵ (flft κ q) ⊛ ‵ ftrue) ⊛ ‵ (Two.own_val r (v ∷ []))) ⊛ some (λ (ws :
+    use1 𝓛 (later (some (λ (r : ℤ × (R held_row).Denot). ((‵ (flft κ q) ⊛ ‵ ftrue) ⊛ ‵ ((Two held_row).own_val r (v ∷ []))) ⊛ some (λ (ws :
     Lasts callee.ended (κ, tt) y.0.3). ‵ (lasts callee.ended (
       κ,
       tt,
@@ -177,52 +73,27 @@ itree_meetings_all_spec 𝓤 𝓛 𝓜 𝓡 wired =
     await ! tt $ pick ! (λ r. split ! $ move ! (1 ∷ []) $ pick ! (λ ws. split ! $ drop ! $
     heard ! (AnswersAll s.now r.0 r.1.value) (λ told. split ! $ move ! (1 ∷ []) $
     -- [the pair; the token of κ; the token of ν; the reference; nothing]
-    fpick ! (λ vss. fsplit ! $ feq_l ! (λ ev. fsplit3 ! $ peeks ! i32 (Is i32) (shows 𝓛 i32) r.0 vss.0 (λ is.
-    rewrite ! 0 (λ (ws : List Val). ‵ (i32.own_val r.0 ws)) is.0 refl $ move ! (1 ∷ []) $
-    fsplit ! $ fpick ! (λ uss. fsplit ! $ feq_l ! (λ ew. fsplit ! $ feq_l ! (λ ep. fsplit ! $
-    handle_tells al ! r.1.alloc uss.1.0 (λ h' eh' fits'.
-    let p : Ptr = r.1.at in let vp : Val = ptr_val p in let w : Val = vstruct (vcons vp (vcons h' vnil)) in
-    let u : Val = vint w32 (of_z w32 r.0) in
-    let gp : T (has_ty ty_ptr vp) × WT vp = ((rawptr_Lawful 𝓛).typed p _ refl).0 in
-    let gu = ((sint_Lawful 𝓛 w32).typed r.0 _ (refl, is.1)).0 in
-    let gw : T (has_ty (layout R) w) × WT w = (
-      both_tt (has_ty ty_ptr vp) (has_ty (layout Z) h') gp.0 fits'.0,
-      (
-        gp.1,
-        (fits'.1, tt),
-      ),
-    ) in
-    let both : Val = vstruct (vcons u (vcons w vnil)) in let good : T (has_ty (layout Two) both) × WT both = (
-      and_tt
-          _ gw.0,
-      (gu.1, (gw.1, tt)),
-    ) in
-    let is_raw : vss.1.0 ≡ w ∷ [] = ew ∙ (λ j. vstruct (of_list (ep j ++ (eh' j ++ []))) ∷ []) in
-    let is_both : v ≡ both = ap only (ev ∙ (λ j. vstruct (of_list (is.0 j ++ (is_raw j ++ []))) ∷ [])) in
-    lands_as ! is_both refl good $
-    sets ! (of_opd ! (get_in ! (fld ! refl (stop !)) (sub ! 0 refl (whole !)))) refl gu $
-    sets ! (of_opd ! (get_in ! (fld ! refl (fld ! refl (stop !))) (sub ! 0 refl (sub ! 1 refl (whole !))))) refl gp $
-    sets ! (of_opd ! (get ! refl)) refl gp $
-    -- [the handle; nothing; what it owns; the status; nothing; the token of κ; the token of ν; the reference;
-    -- nothing]
-    move ! (7 ∷ []) $ fsplit ! $ fsplit3 ! $ move ! (1 ∷ 2 ∷ 10 ∷ []) $
+    parts_out held_row ! r v (λ is.
+    let p : Ptr = r.1.at in let vp : Val = ptr_val p in let u : Val = status_word held_row r.0 in
+    lands_as ! is.is refl is.good $
+    sets ! (of_opd ! (get_in ! (fld ! refl (stop !)) (sub ! 0 refl (whole !)))) refl is.status $
+    sets ! (of_opd ! (get_in ! (fld ! refl (fld ! refl (stop !))) (sub ! 0 refl (sub ! 1 refl (whole !))))) refl is.at $
+    sets ! (of_opd ! (get ! refl)) refl is.at $
+    -- [what the box owns; the status; the token of κ; the token of ν; the reference; nothing]
+    move ! (4 ∷ []) $ fsplit ! $ fsplit3 ! $ move ! (1 ∷ 2 ∷ 7 ∷ []) $
     opens ! tt RawPtr mb mo (λ ms. move ! (1 ∷ []) $ feq_l ! (λ em. rewrite ! 0 (λ (ws : List Val).
     ‵ (cell_at full_share RawPtr.mir ws mb mo)) em refl $
-    assigns ! (of_opd ! (get ! refl)) (through ! refl (stop !)) (store ! 0 refl gp) $
+    assigns ! (of_opd ! (get ! refl)) (through ! refl (stop !)) (store ! 0 refl is.at) $
     feq_i ! (List Val) (vp ∷ []) (vp ∷ []) refl $ move ! (1 ∷ 0 ∷ []) $ closes ! tt RawPtr p (vp ∷ []) mb mo $
-    sets ! (of_opd ! (get ! refl)) refl gu $ returns ! (look_at ! 0 refl) $ free_all ! refl $
-    -- [two parts of the reference; the token of ν; its first part; nothing; the handle; nothing; what it owns; the
-    -- status; nothing; the token of κ; nothing]
+    sets ! (of_opd ! (get ! refl)) refl is.status $ returns ! (look_at ! 0 refl) $ free_all ! refl $
+    -- [two parts of the reference; the token of ν; its first part; nothing; what the box owns; the status; the tokens;
+    -- nothing]
     move ! (3 ∷ 0 ∷ 1 ∷ []) $ fjoin3 ! $ nothing ! $ move ! (1 ∷ 0 ∷ []) $ fjoin ! $ nothing ! $ fjoin ! $
     nothing ! $ fjoin ! $
-    move ! (8 ∷ []) $ split ! $ move ! (3 ∷ 1 ∷ []) $ join ! $ move ! (1 ∷ 0 ∷ []) $ join ! $
-    -- [the tokens; the parameters; nothing; the handle; nothing; what it owns; the status; nothing]
-    use0 𝓛 (raw (fact 𝓤 (AnswersAll s.now r.0 r.1.value))) (fact_i 𝓤 (AnswersAll s.now r.0 r.1.value) (emp 𝓤) told) $
-    move ! (0 ∷ 6 ∷ []) $ join ! $
-    use1 𝓛 (raw (ex 𝓤 (λ (value : Option (held_row).Denot).
-    sep 𝓤 (fact 𝓤 (AnswersAll s.now r.0 value)) (sem 𝓛 (owns_pairs p value))))) (ex_i 𝓤 (λ (value : Option
-    (held_row).Denot). sep 𝓤 (fact 𝓤 (AnswersAll s.now r.0 value)) (sem 𝓛 (owns_pairs p value))) r.1.value) $
-    keep ! (1 ∷ 2 ∷ 6 ∷ 0 ∷ []) $ by ! (leaves 𝓛 ended hs c z u r.0 (tt, (tt, (p, tt))) (
+    move ! (5 ∷ []) $ split ! $ move ! (3 ∷ 1 ∷ []) $ join ! $ move ! (1 ∷ 0 ∷ []) $ join ! $
+    -- [the tokens; the parameters; nothing; what the box owns; the status; nothing]
+    move ! (3 ∷ []) $ made_in held_row ! (AnswersAll s.now r.0) p r.1.value told $
+    keep ! (1 ∷ 2 ∷ 4 ∷ 0 ∷ []) $ by ! (leaves 𝓛 ended hs c z u r.0 (tt, (tt, (p, tt))) (
       tt,
       (
         tt,
@@ -231,4 +102,4 @@ itree_meetings_all_spec 𝓤 𝓛 𝓜 𝓡 wired =
           tt,
         ),
       ),
-    ))))))))))))))))))
+    ))))))))))))

@@ -1,67 +1,7 @@
 -- the handle's parts become a box, and it is dropped
-use Rattle.std.proofs.Common.{List, [], ◌∷◌, ◌++◌, refl, sym, ap, ◌∙◌, subst, Some}
-use lib.Dec.{T}
-use mir.Syntax.{impl, tnil, dnil}
-use mir.Raw.{raw as bare}
-use mir.Val.{Val, vptr, vstruct, vcons, vnil, vunit, has_ty, WT}
-use base.Logic.{SProp, ent, emp, id⊢, never, fst∗}
-use base.Fml.{ftrue}
-use prog.Wp.{WpFn}
-use types.Logic.{sem}
-use types.Kit.{
-  ‵,
-  raw,
-  ◌⊛◌,
-  some,
-  later,
-  ◌$◌,
-  ◌∵◌,
-  !,
-  qed,
-  by,
-  move,
-  keep,
-  drop,
-  split,
-  join,
-  fsplit3,
-  fjoin,
-  fpack,
-  pick,
-  suffices,
-  use0,
-  use1,
-  await,
-  feq_i,
-  feq_l,
-}
-use types.Run.{of_opd, unit_lit, no_more, and_then, returns, enter}
-use types.ByLocal.{alloc_all, pass_all, free_all, look_at, get, sets, lands_as}
-use types.Part.{agg}
-use contract.Monad.{fact, fact_i}
-use contract.Running.{tables}
-use denote.Exit.{yes}
-use denote.RattleType.{RattleType, Valss, owns}
-use denote.Signature.{types_at, plain}
-use denote.Builtin.{unit}
-use denote.RawPtr.{Ptr, RawPtr, block_ptr, null_ptr, ptr_val, in_a_block}
-use denote.Steps.{nothing, only}
-use denote.Memory.{lone}
-use denote.Param.{layout}
-use denote.Struct.Struct.{within}
-use denote.Struct.Owning.{shape}
-use denote.Triple.Clauses.{Lasts, lasts}
-use denote.Triple.Spec.{triple_of}
-use denote.Triple.Call.{calls_at}
-use denote.Triple.Table.{framed}
-use denote.Triple.Walked.{Stays, stay_dropped, walk_of, Goes-dropped}
-use Rattle.std.proofs.alloc.Calls.{Al, handle_tells}
-use Rattle.std.proofs.ResultValues.{and_tt}
-use Rattle.std.proofs.raw_atomic.Walks.{proved_at, leaves}
-use Rattle.std.specs.Option.{IsSome}
+use Rattle.itree_c.proofs.Steps.{List, [], ◌∷◌, ◌++◌, refl, sym, ap, ◌∙◌, subst, Some, T, impl, tnil, dnil, bare, Val, vptr, vstruct, vcons, vnil, vunit, has_ty, WT, SProp, ent, emp, id⊢, never, fst∗, ftrue, WpFn, sem, ‵, raw, ◌⊛◌, some, later, ◌$◌, ◌∵◌, !, qed, by, move, keep, drop, split, join, fsplit3, fjoin, fpack, pick, suffices, use0, use1, await, feq_i, feq_l, of_opd, unit_lit, no_more, and_then, returns, enter, alloc_all, pass_all, free_all, look_at, get, sets, lands_as, agg, fact, fact_i, tables, yes, RattleType, Valss, owns, types_at, plain, unit, Ptr, RawPtr, block_ptr, null_ptr, ptr_val, in_a_block, nothing, only, lone, layout, within, shape, Lasts, lasts, triple_of, calls_at, framed, Stays, stay_dropped, walk_of, Goes-dropped, Al, handle_tells, and_tt, proved_at, leaves, IsSome, ghosts}
 use Rattle.std.specs.contracts.alloc.Global as heap
 use Rattle.std.proofs.alloc.Global.TheLaws as heap_laws
-use Rattle.std.specs.contracts.impls.GlobalAllocator.TheImpl.{ghosts}
 use Rattle.itree_c.specs.Handle.{owns_pairs}
 use Rattle.itree_c.specs.contracts.pairs.Pairs.{the_row as held_row}
 use Rattle.itree_c.specs.contracts.raw.Raw as parts

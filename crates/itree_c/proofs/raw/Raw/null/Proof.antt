@@ -1,51 +1,6 @@
 -- null owns nothing
-use Rattle.std.proofs.Common.{◌≡◌, List, [], ◌∷◌, ◌++◌, refl, sym, subst, None, lit<}
-use mir.Syntax.{a_type, dcons, dnil}
-use mir.Val.{Val, vnull, vstruct, vcons, vnil}
-use mir.MapTy.{inst_fn}
-use base.Logic.{SProp, ent, id⊢}
-use base.Fml.{ftrue, flft}
-use prog.Wp.{WpFn}
-use types.Kit.{
-  ‵,
-  raw,
-  ◌⊛◌,
-  ◌$◌,
-  ◌∵◌,
-  !,
-  qed,
-  by,
-  move,
-  keep,
-  split,
-  fsplit,
-  fjoin,
-  fpack,
-  feq_i,
-  suffices,
-  use0,
-  use1,
-}
-use types.Run.{lit, of_opd, no_more, and_then, returns, enter}
-use types.ByLocal.{alloc_all, pass_all, free_all, look_at, get, sets}
-use types.Part.{agg}
-use contract.Monad.{fact, fact_i}
-use contract.Running.{tables}
-use denote.Exit.{no}
-use denote.RattleType.{RattleType, Valss, owns}
-use denote.Signature.{types_at, plain}
-use denote.RawPtr.{Ptr, RawPtr, null_ptr}
-use denote.Steps.{nothing}
-use denote.Struct.Struct.{within}
-use denote.Struct.Owning.{shape}
-use denote.Param.{bounded}
-use denote.Triple.Walked.{Stays, stay_dropped, walk_of}
-use base.Logic.{emp}
-use mir.Val.{has_ty}
-use Rattle.std.proofs.alloc.Calls.{α, handle_tells, Goes-blank}
-use Rattle.std.proofs.ResultValues.{and_tt}
+use Rattle.itree_c.proofs.Steps.{◌≡◌, List, [], ◌∷◌, ◌++◌, refl, sym, subst, None, lit<, a_type, dcons, dnil, Val, vnull, vstruct, vcons, vnil, inst_fn, SProp, ent, id⊢, ftrue, flft, WpFn, ‵, raw, ◌⊛◌, ◌$◌, ◌∵◌, !, qed, by, move, keep, split, fsplit, fjoin, fpack, feq_i, suffices, use0, use1, lit, of_opd, no_more, and_then, returns, enter, alloc_all, pass_all, free_all, look_at, get, sets, agg, fact, fact_i, tables, no, RattleType, Valss, owns, types_at, plain, Ptr, RawPtr, null_ptr, nothing, within, shape, bounded, Stays, stay_dropped, walk_of, emp, has_ty, α, handle_tells, Goes-blank, and_tt, proved_at, leaves}
 use Rattle.std.proofs.BoxSteps.Form as box
-use Rattle.std.proofs.raw_atomic.Walks.{proved_at, leaves}
 use Rattle.itree_c.specs.contracts.raw.Raw as made
 use Rattle.itree_c.specs.contracts.raw.Raw.null.{ended, clauses}
 use Rattle.itree_c.specs.contracts.raw.Raw.null.Key.{name as #self}

@@ -1,0 +1,100 @@
+-- What the exports share that write a handle: the status and the parts of a box that a private call answers, and what
+-- the box owns, which the handle leads to.
+--
+-- An export for another kind of handle has a private call that answers `(i32, Raw<Kind, Global>)`, as `all_meetings` does,
+-- and a walk as that of `itree_meetings_all`, over the row of its kind: behind the call `parts_out` takes the answer
+-- apart, and at the end `made_in` says of the handle what the clause `made` does. What is its own are the parameters.
+use Rattle.std.proofs.Common.{◌≡◌, ℤ, List, [], ◌∷◌, ◌++◌, refl, ap, ◌∙◌, Bool, true, false, ◌&&◌, w32, Option}
+use lib.Dec.{T}
+use seplogic.Ra.Ura.{Ura}
+use mir.Syntax.{impl, tnil, dnil, ty_ptr}
+use mir.Val.{Val, vint, vstruct, vcons, vnil, of_list, of_z, has_ty, WT}
+use base.Fml.{Fml}
+use base.Logic.{emp, sep, ex, ex_i}
+use types.Logic.{Logic, sem}
+use types.Kit.{Goal, Item, Seq, Step, step, ‵, raw, ◌$◌, drop, move, fsplit, fsplit3, fpick, feq_l, join, use0, use1, rewrite}
+use contract.Monad.{fact, fact_i}
+use denote.Builtin.{i32}
+use denote.Laws.{Is, shows}
+use denote.Param.{layout}
+use denote.RattleType.{RattleType}
+use denote.RawPtr.{Ptr, ptr_val, rawptr_Lawful}
+use denote.Signed.{sint_Lawful}
+use denote.Steps.{only, peeks}
+use denote.Struct.Tuple.{Tuple}
+use Rattle.std.proofs.ResultValues.{and_tt}
+use Rattle.std.proofs.alloc.Calls.{Al, handle_tells}
+use Rattle.std.proofs.alloc.Global.TheLaws as heap_laws
+use Rattle.std.specs.contracts.alloc.Global as heap
+use Rattle.std.specs.contracts.impls.GlobalAllocator.TheImpl.{ghosts}
+use Rattle.itree_c.specs.Raw.{owns_at}
+use Rattle.itree_c.specs.contracts.raw.Raw as parts
+
+-- the process's allocator
+abbrev pub Z : RattleType
+Z = heap.the_row
+
+abbrev pub al : Al
+al = record { row = Z; laws = heap_laws.the_row_laws; g = ghosts; d = impl [] tnil dnil; drops = impl [] tnil dnil }
+
+both_tt : (x y : Bool) → T x → T y → T (x && (y && true))
+both_tt true true s t = tt
+both_tt true false s t = absurd t
+both_tt false y s t = absurd s
+
+module _ (held : RattleType) where
+  -- the parts of a box of such a value
+  abbrev pub R : RattleType
+  R = parts.the_row held Z ghosts
+
+  -- and a status before them
+  abbrev pub Two : RattleType
+  Two = Tuple (i32 ∷ R ∷ [])
+
+  -- what lies at the pointer, with the right to free it, or that it is null
+  abbrev pub owns : Ptr → Option held.Denot → Fml
+  owns = owns_at (ghosts.dealloc_token (record { memory = record { seal = tt } })) held
+
+  -- the answer as the machine has it, by what it has of the allocator
+  abbrev pub status_word : ℤ → Val
+  status_word status = vint w32 (of_z w32 status)
+
+  abbrev pub word : ℤ × R.Denot → Val → Val
+  word r h = vstruct (vcons (status_word r.0) (vcons (vstruct (vcons (ptr_val r.1.at) (vcons h vnil))) vnil))
+
+  -- the value is this answer, and it and its parts are of their types
+  pub record IsWord (r : ℤ × R.Denot) (v : Val) : Type 0 where
+    pub h : Val
+    pub is : v ≡ word r h
+    pub good : T (has_ty (layout Two) (word r h)) × WT (word r h)
+    pub status : T (has_ty (layout i32) (status_word r.0)) × WT (status_word r.0)
+    pub at : T (has_ty ty_ptr (ptr_val r.1.at)) × WT (ptr_val r.1.at)
+
+module _ (held : RattleType) {M : Type 1} {𝓤 : Ura M} {𝓛 : Logic 𝓤} {K : Type 0} {Γ : List (Item 𝓤)} {G : Goal 𝓤 𝓛.H} where
+  -- An answer is [what the box owns; the status].
+  pub parts_out : K → (r : ℤ × (R held).Denot) (v : Val)
+      → (IsWord held r v → Seq K 𝓛 (‵ (owns held r.1.at r.1.value) ∷ ‵ (i32.own_val r.0 (status_word held r.0 ∷ [])) ∷ Γ) G)
+      → Seq K 𝓛 (‵ ((Two held).own_val r (v ∷ [])) ∷ Γ) G
+  parts_out t r v k =
+      fpick t (λ vss. fsplit t $ feq_l t (λ ev. fsplit3 t $ peeks t i32 (Is i32) (shows 𝓛 i32) r.0 vss.0 (λ is.
+      rewrite t 0 (λ (ws : List Val). ‵ (i32.own_val r.0 ws)) is.0 refl $ move t (1 ∷ []) $
+      fsplit t $ fpick t (λ uss. fsplit t $ feq_l t (λ ew. fsplit t $ feq_l t (λ ep. fsplit t $
+      handle_tells al t r.1.alloc uss.1.0 (λ h eh fits.
+      let p : Ptr = r.1.at in let vp : Val = ptr_val p in let w : Val = vstruct (vcons vp (vcons h vnil)) in
+      let at : T (has_ty ty_ptr vp) × WT vp = ((rawptr_Lawful 𝓛).typed p _ refl).0 in
+      let status = ((sint_Lawful 𝓛 w32).typed r.0 _ (refl, is.1)).0 in
+      let good : T (has_ty (layout (R held)) w) × WT w = (both_tt (has_ty ty_ptr vp) (has_ty (layout Z) h) at.0 fits.0, (at.1, (fits.1, tt))) in
+      let both : T (has_ty (layout (Two held)) (word held r h)) × WT (word held r h) = (and_tt _ good.0, (status.1, (good.1, tt))) in
+      let is_parts : vss.1.0 ≡ w ∷ [] = ew ∙ (λ j. vstruct (of_list (ep j ++ (eh j ++ []))) ∷ []) in
+      let is_word : v ≡ word held r h = ap only (ev ∙ (λ j. vstruct (of_list (is.0 j ++ (is_parts j ++ []))) ∷ [])) in
+      -- [the handle; nothing; what it owns; the status; nothing]
+      drop t $ drop t $ move t (2 ∷ []) $ drop t $
+      k (record { h = h; is = is_word; good = both; status = status; at = at }))))))))
+
+  -- What is owned at the end of a call is what its clause says.
+  pub made_in : K → (Answers : Option held.Denot → Type 0) (at : Ptr) (value : Option held.Denot) → Answers value
+      → Step K 𝓛 (raw (ex 𝓤 (λ (made : Option held.Denot). sep 𝓤 (fact 𝓤 (Answers made)) (sem 𝓛 (owns held at made)))) ∷ Γ) G (‵ (owns held at value) ∷ Γ) G
+  made_in t Answers at value told = step (λ s.
+      use0 𝓛 (raw (fact 𝓤 (Answers value))) (fact_i 𝓤 (Answers value) (emp 𝓤) told) $ join t $
+      use1 𝓛 (raw (ex 𝓤 (λ (made : Option held.Denot). sep 𝓤 (fact 𝓤 (Answers made)) (sem 𝓛 (owns held at made)))))
+      (ex_i 𝓤 (λ (made : Option held.Denot). sep 𝓤 (fact 𝓤 (Answers made)) (sem 𝓛 (owns held at made))) value) $ s)
