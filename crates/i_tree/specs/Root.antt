@@ -2,6 +2,7 @@
 pub mod Along
 pub mod Answer
 pub mod BinarySearch
+pub mod Causes
 pub mod Change
 pub mod Descent
 pub mod Ends

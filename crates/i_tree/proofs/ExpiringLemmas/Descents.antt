@@ -1,11 +1,11 @@
 -- A descent of a tree whose entries go: the place that it has come to, and what it has counted.
 use Rattle.std.proofs.Common.{Bool, true, false, ◌≡◌, ◌≢◌, ℕ, ◌+◌, ◌≤◌, List, [], ◌∷◌, ◌++◌, length, sym, ap, ◌∙◌, arith, length-append}
-use Rattle.std.proofs.lemmas.List.{length-map, map-append}
+use Rattle.std.proofs.lemmas.List.{map-append}
 use Rattle.std.proofs.lemmas.List.Elements.{All-contains}
 use Rattle.std.specs.List.{All, Contains, filter}
 use Rattle.std.specs.declared.cmp.Ordering.{Ordering}
 use Rattle.std.specs.declared.cmp.Ordering.TheVariants.{Greater}
-use Rattle.i_tree.proofs.ExpiringLemmas.SearchPath.{IsFollowed}
+use Rattle.i_tree.proofs.ExpiringLemmas.SearchPath.{IsFollowed, length-items}
 use Rattle.i_tree.proofs.RootLemmas.Lists.{Contains-filter}
 use Rattle.i_tree.proofs.RbLemmas.SearchPath.Descent.{IsCutAt, IsCutAt-top, IsPath}
 use Rattle.i_tree.proofs.RbLemmas.SearchPath.Asked.{IsAsked}
@@ -116,9 +116,7 @@ module _ {T : Type 0} where
 
     pub one_less : length (entries tree') + 1 ≡ length (entries tree)
     one_less =
-        let of_items = length-map (entries tree) (λ (entry : ℕ × T). entry.1) in
-        let of_items' = length-map (entries tree') (λ (entry : ℕ × T). entry.1) in
-        omega (arith, of_items, of_items', ap length items_before, ap length items_after, length-append (values front) (item ∷ values back), length-append (values front) (values back))
+        omega (arith, length-items tree, length-items tree', ap length items_before, ap length items_after, length-append (values front) (item ∷ values back), length-append (values front) (values back))
 
 -- what may be asked about the live ones of the old items may be asked about a live one that is left
 pub asked_here : {T : Type 0} (p : T → Bool) (P : T → Type 0) (old : List T) (tree : Shape T) (front : List (ℕ × T)) (here : ℕ) (item : T) (back : List (ℕ × T))

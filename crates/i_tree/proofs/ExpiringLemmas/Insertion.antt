@@ -4,18 +4,17 @@ use Rattle.std.specs.Option.{IfSome}
 use Rattle.std.specs.Result.{IfOk, IsOk, OnErr}
 use Rattle.std.specs.declared.cmp.Ordering.{Ordering}
 use Rattle.std.specs.declared.cmp.Ordering.TheVariants.{Less, Equal, Greater}
-use Rattle.std.proofs.lemmas.List.{length-map}
 use Rattle.i_tree.proofs.ExpiringLemmas.List.{none_spare}
 use Rattle.i_tree.proofs.ExpiringLemmas.Search.{ReadsAt}
+use Rattle.i_tree.proofs.ExpiringLemmas.SearchPath.{length-items}
 use Rattle.i_tree.proofs.RbLemmas.SearchPath.Entries.{values-append}
 use Rattle.i_tree.proofs.RbLemmas.SearchPath.Search.{less_left}
 use Rattle.i_tree.proofs.RbLemmas.Shape.Contexts.{occurs_among, occurs_among-append, occurs_among-entries}
 use Rattle.i_tree.proofs.RootLemmas.Joined.{Any-behind, Any-here}
-use Rattle.i_tree.specs.Root.Descent.{Descends}
 use Rattle.i_tree.specs.Root.Ends.{EndsIn, FirstFinds, LastFinds, StartsIn}
 use Rattle.i_tree.specs.Expiring.Descent.{DescendsBetween, FindsAbove, MayCall}
 use Rattle.i_tree.specs.Expiring.Insertion.{AreFoundAt, CallsEqual, HoldNeighbours, IsBetween, IsFoundAt, TellsNeighbours, has_joined}
-use Rattle.i_tree.specs.Expiring.Tree.{items, slots_for}
+use Rattle.i_tree.specs.Expiring.Tree.{items, slots_for, TreeDescends}
 use Rattle.i_tree.specs.Rb.RbTree.{Contents, slots, slots_grown, slots_with_room}
 use Rattle.i_tree.specs.Rb.SearchPath.{FindsNotAbove}
 use Rattle.i_tree.specs.Rb.Shape.{Shape, entries, occurs, IsHandle}
@@ -124,15 +123,15 @@ module _ {K V : Type 0} (May : K → Ordering → Type 0) (pairs : List (K × V)
 -- how many slots there are after a pair has joined
 pub slots_joined : {T : Type 0} (first mid last : Contents T) → slots mid ≡ slots first → slots last ≡ slots_with_room mid → length (entries last.shape) ≡ length (entries mid.shape) + 1 → slots last ≡ slots_for first (length (items last.shape))
 slots_joined first mid last same grown more =
-    let left : mid.spare ≡ slots first - length (items last.shape) = omega (arith, same, more, length-map (entries last.shape) (λ (entry : ℕ × _). entry.1)) in
+    let left : mid.spare ≡ slots first - length (items last.shape) = omega (arith, same, more, length-items last.shape) in
     grown ∙ ap (slots_grown mid.spare) same ∙ ap (λ spare. slots_grown spare (slots first)) left
 
 -- a descent after which no slot is free has removed nothing
-pub none_removed : {S T : Type 0} {Made : S → S → Counts → Type 0} (first mid : Contents T) (old new : S) → slots mid ≡ slots first → (0 < mid.spare → false ≡ true) → Descends Made old new (length (entries first.shape)) (length (entries mid.shape)) 0
+pub none_removed : {S T : Type 0} {Made : S → S → Counts → Type 0} (first mid : Contents T) (old new : S) → slots mid ≡ slots first → (0 < mid.spare → false ≡ true) → TreeDescends Made old new first mid false
     → (mid.spare ≡ 0) × (length (entries mid.shape) ≡ length (entries first.shape))
 none_removed first mid old new same spare way =
     let none : mid.spare ≡ 0 = none_spare mid.spare spare in
-    (none, omega (arith, none, same, way.stores))
+    (none, omega (arith, none, same, way.stores, length-items first.shape, length-items mid.shape))
 
 -- there is no less room where there are as many slots as before, or so many as a pair that joined asked for
 module _ {T : Type 0} (old new : Contents T) where
@@ -140,7 +139,7 @@ module _ {T : Type 0} (old new : Contents T) where
   room_in contents = length (items contents.shape) + contents.spare
 
   in_slots : (contents : Contents T) → slots contents ≡ room_in contents + 1
-  in_slots contents = omega (arith, length-map (entries contents.shape) (λ (entry : ℕ × T). entry.1))
+  in_slots contents = omega (arith, length-items contents.shape)
 
   pub room_same : slots new ≡ slots old → room_in old ≤ room_in new
   room_same same = omega (arith, same, in_slots old, in_slots new)

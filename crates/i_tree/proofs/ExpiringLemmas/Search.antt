@@ -139,23 +139,30 @@ module _ {K V : Type 0} (is_live : K → Bool) where
           subst (λ (pairs : List (K × V)). IsFirst (λ pair. order pair.0 ≡ Greater) pairs found) (sym live_cut)
           (IsFirst-at_cut (λ (pair : K × V). order pair.0 ≡ Greater) (live (values end.front)) (live (values end.back)) found front_at_most back_above starts)
 
-    -- so a descent answers
-    pub answer_at_most : (default value : V) → ReadsAt (λ pair. pair.1) default tree last value → ByEachOrder May (live (items tree)) (λ order. AtMostAlong order (live (items tree)) default value)
-    answer_at_most default value read order answers monotone =
-        let (found, ends, is) = last_value default value (live (values end.front)) (last_read (λ pair. pair.1) default value read) in
-        AtMostAlong-from_last order (live (items tree)) default value found monotone (is_last order answers monotone found ends) is
+    -- so a descent answers, by what was stored before it
+    module _ (old : List (K × V)) (kept : Without (λ pair. is_live pair.0 ≡ false) old (items tree)) where
+      by_left : (Holds : List (K × V) → (K → Ordering) → Type 0) → ByEachOrder May (live (items tree)) (Holds (live (items tree))) → ByEachOrder May (live old) (Holds (live old))
+      by_left Holds holds = subst (λ (pairs : List (K × V)). ByEachOrder May pairs (Holds pairs)) (sym (filter-without (λ (pair : K × V). is_live pair.0) (λ x expired. expired) kept)) holds
 
-    pub answer_above : (default value : V) → ReadsAt (λ pair. pair.1) default tree next value → ByEachOrder May (live (items tree)) (λ order. AboveAlong order (live (items tree)) default value)
-    answer_above default value read order answers monotone =
-        let (found, starts, is) = first_value default value (live (values end.back)) (next_read (λ pair. pair.1) default value read) in
-        (found, is_first order answers monotone found starts, is)
+      pub answer_at_most : (default value : V) → ReadsAt (λ pair. pair.1) default tree last value → ByEachOrder May (live old) (λ order. AtMostAlong order (live old) default value)
+      answer_at_most default value read =
+          by_left (λ pairs order. AtMostAlong order pairs default value)
+          (λ order answers monotone.
+          let (found, ends, is) = last_value default value (live (values end.front)) (last_read (λ pair. pair.1) default value read) in
+          AtMostAlong-from_last order (live (items tree)) default value found monotone (is_last order answers monotone found ends) is)
 
-    pub answer_neighbours : (old : List (K × V)) → Without (λ pair. is_live pair.0 ≡ false) old (items tree)
-        → (before after : Option (K × V)) → ReadsAt (λ pair. Some pair) None tree last before → ReadsAt (λ pair. Some pair) None tree next after
-        → ByEachOrder May (live old) (λ order. AreNeighbours order (live old) (before, after))
-    answer_neighbours old kept before after read_last read_next =
-        subst (λ (pairs : List (K × V)). ByEachOrder May pairs (λ order. AreNeighbours order pairs (before, after))) (sym (filter-without (λ (pair : K × V). is_live pair.0) (λ x expired. expired) kept))
-        (λ order answers monotone. (
-          is_last order answers monotone before (last_read (λ pair. Some pair) None before read_last),
-          is_first order answers monotone after (next_read (λ pair. Some pair) None after read_next),
-        ))
+      pub answer_above : (default value : V) → ReadsAt (λ pair. pair.1) default tree next value → ByEachOrder May (live old) (λ order. AboveAlong order (live old) default value)
+      answer_above default value read =
+          by_left (λ pairs order. AboveAlong order pairs default value)
+          (λ order answers monotone.
+          let (found, starts, is) = first_value default value (live (values end.back)) (next_read (λ pair. pair.1) default value read) in
+          (found, is_first order answers monotone found starts, is))
+
+      pub answer_neighbours : (before after : Option (K × V)) → ReadsAt (λ pair. Some pair) None tree last before → ReadsAt (λ pair. Some pair) None tree next after
+          → ByEachOrder May (live old) (λ order. AreNeighbours order (live old) (before, after))
+      answer_neighbours before after read_last read_next =
+          by_left (λ pairs order. AreNeighbours order pairs (before, after))
+          (λ order answers monotone. (
+            is_last order answers monotone before (last_read (λ pair. Some pair) None before read_last),
+            is_first order answers monotone after (next_read (λ pair. Some pair) None after read_next),
+          ))

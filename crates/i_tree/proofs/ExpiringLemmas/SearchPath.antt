@@ -2,7 +2,7 @@
 use Rattle.std.proofs.Common.{◌≡◌, ◌≢◌, ℕ, ◌<◌, Bool, true, false, not, ◌∷◌, ◌++◌, length, if◌then◌else◌, refl, sym, ap, ◌∙◌, subst, arith}
 use Rattle.std.specs.List.{All, filter}
 use Rattle.std.proofs.lemmas.Bool.{both_ways}
-use Rattle.std.proofs.lemmas.List.{append_cancel_left, map-append}
+use Rattle.std.proofs.lemmas.List.{append_cancel_left, length-map, map-append}
 use Rattle.std.proofs.lemmas.List.Elements.{All-nil, All-cons, All-head, All-tail}
 use Rattle.i_tree.proofs.RbLemmas.SearchPath.Descent.{IsChosen, IsTop}
 use Rattle.std.specs.Ordering.{is_gt, is_lt}
@@ -17,6 +17,10 @@ use Rattle.i_tree.specs.Expiring.SearchPath.{path_by}
 use Rattle.i_tree.specs.Rb.RbTree.{Contents}
 use Rattle.i_tree.specs.Rb.SearchPath.{AnswersAs}
 use Rattle.i_tree.specs.Rb.Shape.{Shape, leaf, fork, entries, left_subtree, right_subtree, left_at, right_at, subtree_at}
+
+-- a core has as many items as entries
+pub length-items : {T : Type 0} (tree : Shape T) → length (items tree) ≡ length (entries tree)
+length-items {T} tree = length-map (entries tree) (λ (entry : ℕ × T). entry.1)
 
 module _ {K V : Type 0} where
   -- the search path on from the top of a subtree

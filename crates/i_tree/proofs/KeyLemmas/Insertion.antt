@@ -13,7 +13,7 @@ use Rattle.i_tree.proofs.RbLemmas.SearchPath.Entries.{StartsIn-with}
 use Rattle.i_tree.proofs.RootLemmas.Joined.{All-behind, All-front, All-from_end, All-from_start, AllPairs-behind, AllPairs-front, AllPairs-joined}
 use Rattle.i_tree.proofs.RootLemmas.Lists.{All-from_filter, Contains-filter}
 use Rattle.i_tree.proofs.RootLemmas.Orders.{above}
-use Rattle.i_tree.proofs.RootLemmas.Withouts.{AllPairs-without, filter-without}
+use Rattle.i_tree.proofs.RootLemmas.Withouts.{IsRising-without, filter-without}
 use Rattle.i_tree.specs.Root.Change.{Gains, Without}
 use Rattle.i_tree.specs.Root.Ends.{EndsIn, LastFinds}
 use Rattle.i_tree.specs.Expiring.Descent.{MayCall}
@@ -79,12 +79,12 @@ module _ {K V : Type 0} {cmp : K → K → Ordering} (o : IsTotalOrder cmp) (key
     module _ (before : List (K × V)) (rising : IsRising cmp before) where
       pub rising_new : (val : V) (after : List (K × V)) → JoinsBetween is_live (StandsTo cmp key) (key, val) before after → IsRising cmp after
       rising_new val after (front, back, kept, between, is) =
-          let rises = AllPairs-without (λ (earlier : K × V) later. cmp earlier.0 later.0 ≡ Less) kept rising in
+          let rises = IsRising-without cmp kept rising in
           subst (IsRising cmp) (sym is) (rising_joined front back (around_new front back rises between) val rises)
 
       pub is_new : (val : V) (after : List (K × V)) → JoinsBetween is_live (StandsTo cmp key) (key, val) before after → NoKey cmp (live before) key
       is_new val after (front, back, kept, between, is) =
-          let rises = AllPairs-without (λ (earlier : K × V) later. cmp earlier.0 later.0 ≡ Less) kept rising in
+          let rises = IsRising-without cmp kept rising in
           subst (λ (pairs : List (K × V)). NoKey cmp pairs key) (sym (filter-without (λ (pair : K × V). is_live pair.0) (λ x expired. expired) kept))
           (All-filter (λ (pair : K × V). is_live pair.0) (λ pair. cmp pair.0 key ≢ Equal) (front ++ back) (missing front back (around_new front back rises between)))
 
@@ -127,13 +127,13 @@ module _ {K V : Type 0} {cmp : K → K → Ordering} (o : IsTotalOrder cmp) (key
         where
           by : (b : Bool) → MatchBool b Joins Loses → IsRising cmp after
           by true between = rising_new before rising val after between
-          by false loses = AllPairs-without (λ (earlier : K × V) later. cmp earlier.0 later.0 ≡ Less) loses rising
+          by false loses = IsRising-without cmp loses rising
 
     -- by a test whether the other keys are below, where no live one compares Equal
     pub rising_absent : (val : V) (before after : List (K × V)) → IsRising cmp before → NoKey cmp (live before) key
         → JoinsBetween is_live (λ other answer. answer ≡ (if is_lt (cmp other key) then Less else Greater)) (key, val) before after → IsRising cmp after
     rising_absent val before after rising absent (front, back, kept, between, is) =
-        let rises = AllPairs-without (λ (earlier : K × V) later. cmp earlier.0 later.0 ≡ Less) kept rising in
+        let rises = IsRising-without cmp kept rising in
         subst (IsRising cmp) (sym is)
         (rising_joined front back
         (keys_around_place May Differs (λ pair _ called. lower_from (cmp pair.0 key) called.1) (λ pair differs called. above o pair.0 key (not_lower_from (cmp pair.0 key) called.1) (differs called.0)) front back rises

@@ -1,22 +1,21 @@
 -- What a descent of a tree of keys that rise answers.
-use Rattle.std.proofs.Common.{◌≡◌, ◌≢◌, ◌≤◌, ℕ, Bool, true, false, not, if◌then◌else◌, List, refl, sym, ap, subst, arith}
+use Rattle.std.proofs.Common.{◌≡◌, ◌≢◌, ◌≤◌, ℕ, Bool, true, false, not, if◌then◌else◌, List, refl, ap, inl, inr, arith}
 use Rattle.std.specs.Cmp.{IsTotalOrder}
 use Rattle.std.specs.Ordering.{is_gt, is_lt, ordering_index}
 use Rattle.std.specs.declared.cmp.Ordering.{Ordering}
 use Rattle.std.specs.declared.cmp.Ordering.TheVariants.{Less, Equal, Greater}
-use Rattle.i_tree.proofs.ExpiringLemmas.Search.{ReadsAt, answer_above, answer_at_most, is_last, last_read, live}
-use Rattle.i_tree.proofs.RootLemmas.Along.{IsLast-same, last_value}
+use Rattle.i_tree.proofs.ExpiringLemmas.Search.{ReadsAt, answer_above, answer_at_most, live}
+use Rattle.i_tree.proofs.RootLemmas.Along.{IsLast-same}
 use Rattle.i_tree.proofs.RootLemmas.Lists.{Without-filter}
 use Rattle.i_tree.proofs.RootLemmas.RisingKeys.{Above-from_along, AtMost-from_along, GreatestOr-from_last, IsMonotoneAlong-rising}
-use Rattle.i_tree.proofs.RootLemmas.Withouts.{AllPairs-without, filter-without}
-use Rattle.i_tree.specs.Root.Along.{IsMonotoneAlong}
+use Rattle.i_tree.proofs.RootLemmas.Withouts.{IsRising-without}
+use Rattle.i_tree.specs.Root.Along.{AtMostAlong, IsMonotoneAlong}
 use Rattle.i_tree.specs.Root.Answer.{AboveBy, AtMostBy, Below}
 use Rattle.i_tree.specs.Root.Change.{Without}
 use Rattle.i_tree.specs.Root.Pairs.{IsRising}
 use Rattle.i_tree.specs.Expiring.Descent.{DescendsBetween}
 use Rattle.i_tree.specs.Expiring.Tree.{items}
 use Rattle.i_tree.specs.Rb.Shape.{Shape}
-use Rattle.i_tree.specs.Set.Pairs.{values}
 use Rattle.i_tree.specs.declared.rb.place.Place.{Place}
 
 -- a test that is Less where it holds, and else Greater, passes where it holds
@@ -28,13 +27,15 @@ below-passes false = refl
 abbrev pub below_or_not : Ordering → Ordering
 below_or_not r = if is_lt r then Less else Greater
 
-below_apart : (r : Ordering) → below_or_not r ≢ Greater → r ≡ Less
-below_apart Less apart = refl
-below_apart Equal apart = absurd (apart refl)
-below_apart Greater apart = absurd (apart refl)
+below_less : (r : Ordering) → below_or_not r ≡ Less → r ≡ Less
+below_less Less is = refl
+below_less Equal is = absurd (cc is)
+below_less Greater is = absurd (cc is)
 
-apart_below : (r : Ordering) → r ≡ Less → below_or_not r ≢ Greater
-apart_below r below above = let same = ap below_or_not below in absurd (cc (same, above))
+below_apart : (r : Ordering) → below_or_not r ≢ Equal
+below_apart Less is = cc is
+below_apart Equal is = cc is
+below_apart Greater is = cc is
 
 module _ {K V : Type 0} {cmp : K → K → Ordering} (o : IsTotalOrder cmp) (key : K) where
   -- along keys that rise, those below a key come first
@@ -52,41 +53,35 @@ module _ {K V : Type 0} {cmp : K → K → Ordering} (o : IsTotalOrder cmp) (key
       by_answers Greater Equal down = omega arith
       by_answers Greater Greater down = omega arith
 
+  -- what is at most by the test is below the key
+  below_along : (pairs : List (K × V)) → IsRising cmp pairs → (default value : V) → AtMostAlong (λ other. below_or_not (cmp other key)) pairs default value → Below cmp pairs key default value
+  below_along pairs rising default value (inl (k, pair, within, at, (equal, is))) = absurd (below_apart (cmp pair.0 key) equal)
+  below_along pairs rising default value (inr (none, (found, last, is))) =
+      GreatestOr-from_last o (λ other. cmp other key ≡ Less) pairs default value rising (
+        found,
+        IsLast-same (λ (pair : K × V). below_or_not (cmp pair.0 key) ≡ Less) (λ pair. cmp pair.0 key ≡ Less) (λ pair. below_less (cmp pair.0 key)) (λ pair. ap below_or_not) pairs found last,
+        is,
+      )
+
 module _ {K V : Type 0} {cmp : K → K → Ordering} (o : IsTotalOrder cmp) (is_live : K → Bool) (before : List (K × V)) (rising : IsRising cmp before) (May : K → Ordering → Type 0) (tree : Shape (K × V)) (place : Place) (last : ℕ) (said : Ordering) (next : ℕ)
     (kept : Without (λ pair. is_live pair.0 ≡ false) before (items tree)) (default value : V) (end : DescendsBetween is_live May tree place last said next) where
-  same_live : live is_live before ≡ live is_live (items tree)
-  same_live = filter-without (λ (pair : K × V). is_live pair.0) (λ x expired. expired) kept
+  rising_live : IsRising cmp (live is_live before)
+  rising_live = IsRising-without cmp (Without-filter (λ (pair : K × V). is_live pair.0) before) rising
 
-  rising_live : IsRising cmp (live is_live (items tree))
-  rising_live =
-      AllPairs-without (λ (earlier : K × V) later. cmp earlier.0 later.0 ≡ Less) (Without-filter (λ (pair : K × V). is_live pair.0) (items tree))
-      (AllPairs-without (λ (earlier : K × V) later. cmp earlier.0 later.0 ≡ Less) kept rising)
-
+  -- what a descent to a key answers, by what was stored before, and what a descent by a closure does
   module _ (read : ReadsAt (λ (pair : K × V). pair.1) default tree last value) where
-    -- what a descent to a key answers, by what was stored before
     pub answer_below : (key : K) → ((other : K) (answer : Ordering) → May other answer → answer ≡ below_or_not (cmp other key)) → Below cmp (live is_live before) key default value
     answer_below key says =
-        let order = λ (other : K). below_or_not (cmp other key) in
-        let (found, ends, is) = last_value default value (live is_live (values end.front)) (last_read is_live May tree place last said next end (λ pair. pair.1) default value read) in
-        rw same_live
-        (GreatestOr-from_last o (λ other. cmp other key ≡ Less) (live is_live (items tree)) default value rising_live (
-          found,
-          IsLast-same (λ (pair : K × V). order pair.0 ≢ Greater) (λ pair. cmp pair.0 key ≡ Less) (λ pair. below_apart (cmp pair.0 key)) (λ pair. apart_below (cmp pair.0 key)) (live is_live (items tree)) found
-              (is_last is_live May tree place last said next end order (λ k d within answer may. says _ answer may) (monotone_below o key (live is_live (items tree)) rising_live) found ends),
-          is,
-        ))
+        below_along o key (live is_live before) rising_live default value
+        (answer_at_most is_live May tree place last said next end before kept default value read (λ other. below_or_not (cmp other key)) (λ k d within answer may. says _ answer may)
+        (monotone_below o key (live is_live before) rising_live))
 
-    -- and what a descent by a closure does
     pub answer_at_most_by : AtMostBy cmp May (live is_live before) default value
-    answer_at_most_by =
-        subst (λ (pairs : List (K × V)). AtMostBy cmp May pairs default value) (sym same_live)
-        (λ order answers monotone.
-        AtMost-from_along o (live is_live (items tree)) order default value rising_live
-        (answer_at_most is_live May tree place last said next end default value read order answers (IsMonotoneAlong-rising cmp (live is_live (items tree)) order rising_live monotone)))
+    answer_at_most_by order answers monotone =
+        AtMost-from_along o (live is_live before) order default value rising_live
+        (answer_at_most is_live May tree place last said next end before kept default value read order answers (IsMonotoneAlong-rising cmp (live is_live before) order rising_live monotone))
 
   pub answer_above_by : ReadsAt (λ (pair : K × V). pair.1) default tree next value → AboveBy cmp May (live is_live before) default value
-  answer_above_by read =
-      subst (λ (pairs : List (K × V)). AboveBy cmp May pairs default value) (sym same_live)
-      (λ order answers monotone.
-      Above-from_along o (live is_live (items tree)) order default value rising_live
-      (answer_above is_live May tree place last said next end default value read order answers (IsMonotoneAlong-rising cmp (live is_live (items tree)) order rising_live monotone)))
+  answer_above_by read order answers monotone =
+      Above-from_along o (live is_live before) order default value rising_live
+      (answer_above is_live May tree place last said next end before kept default value read order answers (IsMonotoneAlong-rising cmp (live is_live before) order rising_live monotone))

@@ -6,6 +6,9 @@ use Rattle.std.proofs.lemmas.List.Kept.{AllPairs-cons}
 use Rattle.i_tree.proofs.RootLemmas.Lists.{AllPairs-head, AllPairs-tail}
 use Rattle.i_tree.specs.Root.Change.{Without}
 use Rattle.i_tree.specs.Root.Change.Without.{none, keeps, loses}
+use Rattle.i_tree.specs.Root.Pairs.{IsRising}
+use Rattle.std.specs.declared.cmp.Ordering.{Ordering}
+use Rattle.std.specs.declared.cmp.Ordering.TheVariants.{Less}
 
 module _ {X : Type 0} {MayGo : X → Type 0} where
   pub Without-refl : (xs : List X) → Without MayGo xs xs
@@ -39,3 +42,7 @@ module _ {X : Type 0} {MayGo : X → Type 0} where
   AllPairs-without R (keeps {before = before} {after = after} x rest) pairs =
       AllPairs-cons R x after (All-without (R x) rest (AllPairs-head R x before pairs)) (AllPairs-without R rest (AllPairs-tail R x before pairs))
   AllPairs-without R (loses {before = before} x goes rest) pairs = AllPairs-without R rest (AllPairs-tail R x before pairs)
+
+-- keys that rise still do where some are gone
+pub IsRising-without : {K V : Type 0} (cmp : K → K → Ordering) {MayGo : K × V → Type 0} {before after : List (K × V)} → Without MayGo before after → IsRising cmp before → IsRising cmp after
+IsRising-without cmp kept rising = AllPairs-without (λ earlier later. cmp earlier.0 later.0 ≡ Less) kept rising

@@ -6,80 +6,37 @@ use Rattle.i_tree.proofs.SegLemmas.Widths.{width_of_exponent}
 use Rattle.i_tree.specs.Seg.Nodes.{covered, is_covered, is_canonical, is_met, mask_below, nodes_where, canonical_nodes, meeting_set, nodes_from, nodes_of}
 
 -- the buckets of some nodes
-node_0 : covered 0 ≡ between 0 31
+nodes_cover :
+    (covered 0 ≡ between 0 31)
+    × (covered 6 ≡ between 24 31)
+    × (covered 7 ≡ between 0 3)
+    × (covered 30 ≡ between 30 31)
+    × (covered 31 ≡ between 0 0)
+    × (covered 62 ≡ between 31 31)
 unfolding covered
-node_0 = refl
-
-node_6 : covered 6 ≡ between 24 31
-unfolding covered
-node_6 = refl
-
-node_7 : covered 7 ≡ between 0 3
-unfolding covered
-node_7 = refl
-
-node_30 : covered 30 ≡ between 30 31
-unfolding covered
-node_30 = refl
-
-node_31 : covered 31 ≡ between 0 0
-unfolding covered
-node_31 = refl
-
-node_62 : covered 62 ≡ between 31 31
-unfolding covered
-node_62 = refl
+nodes_cover = (refl, refl, refl, refl, refl, refl)
 
 -- where some intervals are placed
-placed_0_31 : nodes_of (canonical_nodes (between 0 31)) ≡ 0 ∷ []
+placed :
+    (nodes_of (canonical_nodes (between 0 31)) ≡ 0 ∷ [])
+    × (nodes_of (canonical_nodes (between 0 30)) ≡ 1 ∷ 5 ∷ 13 ∷ 29 ∷ 61 ∷ [])
+    × (nodes_of (canonical_nodes (between 1 30)) ≡ 4 ∷ 5 ∷ 8 ∷ 13 ∷ 16 ∷ 29 ∷ 32 ∷ 61 ∷ [])
+    × (nodes_of (canonical_nodes (between 30 31)) ≡ 30 ∷ [])
+    × (nodes_of (canonical_nodes (between 29 31)) ≡ 30 ∷ 60 ∷ [])
+    × (nodes_of (canonical_nodes (between 15 16)) ≡ 46 ∷ 47 ∷ [])
+    × (nodes_of (canonical_nodes (between 0 12)) ≡ 3 ∷ 9 ∷ 43 ∷ [])
 unfolding nodes_of nodes_from nodes_where mask_below is_canonical is_covered covered
-placed_0_31 = refl
+placed = (refl, refl, refl, refl, refl, refl, refl)
 
-placed_0_30 : nodes_of (canonical_nodes (between 0 30)) ≡ 1 ∷ 5 ∷ 13 ∷ 29 ∷ 61 ∷ []
-unfolding nodes_of nodes_from nodes_where mask_below is_canonical is_covered covered
-placed_0_30 = refl
-
-placed_1_30 : nodes_of (canonical_nodes (between 1 30)) ≡ 4 ∷ 5 ∷ 8 ∷ 13 ∷ 16 ∷ 29 ∷ 32 ∷ 61 ∷ []
-unfolding nodes_of nodes_from nodes_where mask_below is_canonical is_covered covered
-placed_1_30 = refl
-
-placed_30_31 : nodes_of (canonical_nodes (between 30 31)) ≡ 30 ∷ []
-unfolding nodes_of nodes_from nodes_where mask_below is_canonical is_covered covered
-placed_30_31 = refl
-
-placed_29_31 : nodes_of (canonical_nodes (between 29 31)) ≡ 30 ∷ 60 ∷ []
-unfolding nodes_of nodes_from nodes_where mask_below is_canonical is_covered covered
-placed_29_31 = refl
-
-placed_15_16 : nodes_of (canonical_nodes (between 15 16)) ≡ 46 ∷ 47 ∷ []
-unfolding nodes_of nodes_from nodes_where mask_below is_canonical is_covered covered
-placed_15_16 = refl
-
-placed_0_12 : nodes_of (canonical_nodes (between 0 12)) ≡ 3 ∷ 9 ∷ 43 ∷ []
-unfolding nodes_of nodes_from nodes_where mask_below is_canonical is_covered covered
-placed_0_12 = refl
-
--- and where what overlaps some intervals may be placed
-met_0_0 : nodes_of (meeting_set (between 0 0)) ≡ 0 ∷ 1 ∷ 3 ∷ 7 ∷ 15 ∷ 31 ∷ []
+-- and where what overlaps some intervals may be placed; the last has all 63 nodes
+met :
+    (nodes_of (meeting_set (between 0 0)) ≡ 0 ∷ 1 ∷ 3 ∷ 7 ∷ 15 ∷ 31 ∷ [])
+    × (nodes_of (meeting_set (between 1 1)) ≡ 0 ∷ 1 ∷ 3 ∷ 7 ∷ 15 ∷ 32 ∷ [])
+    × (nodes_of (meeting_set (between 0 1)) ≡ 0 ∷ 1 ∷ 3 ∷ 7 ∷ 15 ∷ 31 ∷ 32 ∷ [])
+    × (nodes_of (meeting_set (between 20 20)) ≡ 0 ∷ 2 ∷ 5 ∷ 12 ∷ 25 ∷ 51 ∷ [])
+    × (meeting_set (between 0 31) ≡ 2 ^ 63 - 1)
 unfolding nodes_of nodes_from nodes_where mask_below is_met covered
-met_0_0 = refl
-
-met_1_1 : nodes_of (meeting_set (between 1 1)) ≡ 0 ∷ 1 ∷ 3 ∷ 7 ∷ 15 ∷ 32 ∷ []
-unfolding nodes_of nodes_from nodes_where mask_below is_met covered
-met_1_1 = refl
-
-met_0_1 : nodes_of (meeting_set (between 0 1)) ≡ 0 ∷ 1 ∷ 3 ∷ 7 ∷ 15 ∷ 31 ∷ 32 ∷ []
-unfolding nodes_of nodes_from nodes_where mask_below is_met covered
-met_0_1 = refl
-
-met_20_20 : nodes_of (meeting_set (between 20 20)) ≡ 0 ∷ 2 ∷ 5 ∷ 12 ∷ 25 ∷ 51 ∷ []
-unfolding nodes_of nodes_from nodes_where mask_below is_met covered
-met_20_20 = refl
-
--- all 63 nodes
-met_0_31 : meeting_set (between 0 31) ≡ 2 ^ 63 - 1
-unfolding nodes_where mask_below is_met covered
-met_0_31 = refl
+met = (refl, refl, refl, refl, refl)
 
 -- some ranges, whose widths are checked below
 small : Buckets
@@ -135,20 +92,18 @@ layout_0_31 : HasLayout 31 (pos 0) (pos 31)
 layout_0_31 = record { order = omega (arith, ints); wide = lit≤ tt; allowed = lit≤ tt }
 
 -- the widths of these spans
-width_31 : IsWidth 31 1
-width_31 = width_of_exponent 31 0 (lit≤ tt) (lit< tt)
-
-width_63 : IsWidth 63 2
-width_63 = width_of_exponent 63 1 (lit≤ tt) (lit< tt)
-
-width_128 : IsWidth 128 8
-width_128 = width_of_exponent 128 3 (lit≤ tt) (lit< tt)
-
-width_25600 : IsWidth 25600 1024
-width_25600 = width_of_exponent 25600 10 (lit≤ tt) (lit< tt)
-
-width_255 : IsWidth 255 8
-width_255 = width_of_exponent 255 3 (lit≤ tt) (lit< tt)
-
-width_whole : IsWidth 18446744073709551615 576460752303423488
-width_whole = width_of_exponent 18446744073709551615 59 (lit≤ tt) (lit< tt)
+widths :
+    IsWidth 31 1
+    × IsWidth 63 2
+    × IsWidth 128 8
+    × IsWidth 25600 1024
+    × IsWidth 255 8
+    × IsWidth 18446744073709551615 576460752303423488
+widths = (
+  width_of_exponent 31 0 (lit≤ tt) (lit< tt),
+  width_of_exponent 63 1 (lit≤ tt) (lit< tt),
+  width_of_exponent 128 3 (lit≤ tt) (lit< tt),
+  width_of_exponent 25600 10 (lit≤ tt) (lit< tt),
+  width_of_exponent 255 3 (lit≤ tt) (lit< tt),
+  width_of_exponent 18446744073709551615 59 (lit≤ tt) (lit< tt),
+)

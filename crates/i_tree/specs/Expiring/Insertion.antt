@@ -1,11 +1,12 @@
 -- What an insertion adds that may find its key there already, where its pair stands, and between which.
-use Rattle.std.specs.Prelude.{◌≡◌, ◌≢◌, ◌<◌, ℕ, Bool, true, false, if◌then◌else◌, List, ◌∷◌, ◌++◌, All, Any, Option, None, Some, IfSome, Result, Ok, Err, IsOk, IfOk, IfErr, OnErr, MatchBool, is_some, length, ⊤}
+use Rattle.std.specs.Prelude.{◌≡◌, ◌≢◌, ◌<◌, ℕ, Bool, true, false, if◌then◌else◌, List, ◌∷◌, ◌++◌, All, Any, Option, None, Some, IfSome, Result, Ok, Err, IsOk, IfOk, OnErr, MatchBool, is_some, length, ⊤}
 use Rattle.std.specs.declared.cmp.Ordering.{Ordering}
 use Rattle.std.specs.declared.cmp.Ordering.TheVariants.{Less, Equal, Greater}
 use Rattle.i_tree.specs.Expiring.Descent.{MayCall}
 use Rattle.i_tree.specs.Expiring.SearchPath.{path_by}
 use Rattle.i_tree.specs.Expiring.Tree.{items, slots_for}
 use Rattle.i_tree.specs.Root.Along.{AreNeighbours, ByEachOrder}
+use Rattle.i_tree.specs.Root.Causes.{RefusedFor}
 use Rattle.i_tree.specs.Root.Change.{Without}
 use Rattle.i_tree.specs.Root.Ends.{EndsIn, StartsIn}
 use Rattle.i_tree.specs.Rb.Balance.{IsCore}
@@ -101,6 +102,6 @@ module _ {K V : Type 0} (is_live : K → Bool) (MayAnswer : K → Ordering → T
     pub err_way : OnErr joined (IsPathLiveBy old)
     pub full : old.spare ≡ 0 → slots old ≡ EMPTY_REF → (passes : K → Bool) → AnswersAs MayAnswer passes
         → All (λ pair. is_live pair.0 ≡ true) (path_by passes old.shape) → IfOk joined (λ is_new. is_new ≡ false)
-    pub no_handle : slots old ≡ EMPTY_REF → IfErr joined (λ cause. cause ≡ NoHandle)
-    pub refused : slots old ≢ EMPTY_REF → IfErr joined (λ cause. cause ≡ OutOfMemory)
+    pub no_handle : slots old ≡ EMPTY_REF → RefusedFor NoHandle joined
+    pub refused : slots old ≢ EMPTY_REF → RefusedFor OutOfMemory joined
     pub slots : IfOk joined (λ is_new. slots new ≡ (if is_new then slots_for old (length (items new.shape)) else slots old))

@@ -1,11 +1,13 @@
 -- What a `KeyExpTree` promises beyond the trait.
-use Rattle.std.specs.Prelude.{◌≡◌, ◌≢◌, ◌<◌, Result, IsOk, IsErr, IfErr, OnOk, OnErr, length, ⊤}
+use Rattle.std.specs.Prelude.{◌≡◌, ◌≢◌, ◌<◌, Bool, Result, IsOk, IsErr, OnOk, OnErr, ⊤}
 use Rattle.std.specs.declared.cmp.Ordering.{Ordering}
 use Rattle.i_tree.specs.Rb.Balance.{IsCore}
 use Rattle.i_tree.specs.Rb.RbTree.{Contents, slots}
-use Rattle.i_tree.specs.Expiring.Tree.{items, slots_for}
+use Rattle.i_tree.specs.Expiring.Insertion.{InsertsOrLeaves}
+use Rattle.i_tree.specs.Expiring.Tree.{DoublesIfFull, TreeLeaves}
 use Rattle.i_tree.specs.Expiring.Live.{AllLive}
 use Rattle.i_tree.specs.Expiring.SearchPath.{path_to}
+use Rattle.i_tree.specs.Root.Causes.{RefusedFor}
 use Rattle.i_tree.specs.declared.Refusal.{Refusal}
 use Rattle.i_tree.specs.declared.Refusal.TheVariants.{OutOfMemory, NoHandle}
 use Rattle.i_tree.specs.declared.TheConstants.{EMPTY_REF}
@@ -25,6 +27,10 @@ module _ {K V E : Type 0} (expiration : K → E) (compare : K → K → Ordering
     pub with_spare : 0 < old.spare → IsOk result
     pub err_way : OnErr result (IsPathLive key time old)
     pub full : old.spare ≡ 0 → slots old ≡ EMPTY_REF → IsPathLive key time old → IsErr result
-    pub no_handle : slots old ≡ EMPTY_REF → IfErr result (λ cause. cause ≡ NoHandle)
-    pub refused : slots old ≢ EMPTY_REF → IfErr result (λ cause. cause ≡ OutOfMemory)
-    pub slots : OnOk result (slots new ≡ slots_for old (length (items new.shape)))
+    pub no_handle : slots old ≡ EMPTY_REF → RefusedFor NoHandle result
+    pub refused : slots old ≢ EMPTY_REF → RefusedFor OutOfMemory result
+    pub slots : OnOk result (DoublesIfFull old new)
+
+  -- an insertion of what may be there already: as an insertion where the key is new or it is refused, and else as a query
+  abbrev pub KeyTreeInsertsNew : K → E → Contents (K × V) → Result Bool Refusal → Contents (K × V) → Type 0
+  KeyTreeInsertsNew key time old result new = InsertsOrLeaves (λ done. KeyTreeInserts key time old done new) (TreeLeaves old new) result

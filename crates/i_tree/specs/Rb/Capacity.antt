@@ -7,6 +7,7 @@ use Rattle.i_tree.specs.declared.Refused.{Refused}
 use Rattle.i_tree.specs.Rb.Balance.{IsCore}
 use Rattle.i_tree.specs.Rb.RbTree.{Contents, slots, slots_with_room}
 use Rattle.i_tree.specs.Rb.Shape.{leaf}
+use Rattle.i_tree.specs.Root.Causes.{RefusedFor}
 
 module _ {T : Type 0} where
   -- An empty tree of `max(capacity, 8)` slots. It is refused with `NoHandle` exactly where `capacity` is above `EMPTY_REF`, and
@@ -15,7 +16,7 @@ module _ {T : Type 0} where
     pub empty : IfOk result (λ tree. tree.shape ≡ leaf)
     pub core : IfOk result (λ tree. IsCore tree.shape)
     pub no_handle : EMPTY_REF < capacity → IsErrAnd result (λ cause. cause ≡ NoHandle)
-    pub refused : capacity ≤ EMPTY_REF → IfErr result (λ cause. cause ≡ OutOfMemory)
+    pub refused : capacity ≤ EMPTY_REF → RefusedFor OutOfMemory result
     pub slots : IfOk result (λ tree. slots tree ≡ max capacity 8)
 
   -- So many slots in all, where there were fewer. It is refused as an empty tree of so many is, but never where there are so
@@ -23,7 +24,7 @@ module _ {T : Type 0} where
   pub record Reserves (capacity : ℕ) {R : Type 0} (old new : Contents T) (result : Result R Refusal) : Type 0 where
     pub shape : new.shape ≡ old.shape
     pub no_handle : EMPTY_REF < capacity → IsErrAnd result (λ cause. cause ≡ NoHandle)
-    pub refused : capacity ≤ EMPTY_REF → IfErr result (λ cause. cause ≡ OutOfMemory)
+    pub refused : capacity ≤ EMPTY_REF → RefusedFor OutOfMemory result
     pub err : OnErr result (new ≡ old)
     pub with_slots : capacity ≤ slots old → IsOk result
     pub slots : OnOk result (slots new ≡ max (slots old) capacity)

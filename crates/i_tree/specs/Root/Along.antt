@@ -64,3 +64,19 @@ module _ {K V : Type 0} where
   abbrev pub AreNeighbours : (K → Ordering) → List (K × V) → Option (K × V) × Option (K × V) → Type 0
   AreNeighbours order pairs found =
       IsLast (λ pair. order pair.0 ≢ Greater) pairs found.0 × IsFirst (λ pair. order pair.0 ≡ Greater) pairs found.1
+
+  -- by each order that a closure's answers follow, the value of a pair that it calls Equal, else of the last that it calls Less
+  abbrev pub AtMostAlongBy : (K → Ordering → Type 0) → List (K × V) → V → V → Type 0
+  AtMostAlongBy may_answer pairs default value = ByEachOrder may_answer pairs (λ order. AtMostAlong order pairs default value)
+
+  -- by each order that a closure's answers follow, the value of the first pair that it calls Greater
+  abbrev pub AboveAlongBy : (K → Ordering → Type 0) → List (K × V) → V → V → Type 0
+  AboveAlongBy may_answer pairs default value = ByEachOrder may_answer pairs (λ order. AboveAlong order pairs default value)
+
+  -- by each order that a closure's answers follow, the last pair that it doesn't call Greater, and the first that it does
+  abbrev pub AreNeighboursBy : (K → Ordering → Type 0) → List (K × V) → Option (K × V) × Option (K × V) → Type 0
+  AreNeighboursBy may_answer pairs found = ByEachOrder may_answer pairs (λ order. AreNeighbours order pairs found)
+
+  -- each order that a closure's answers follow calls no pair Equal
+  abbrev pub NoneEqualBy : (K → Ordering → Type 0) → List (K × V) → Type 0
+  NoneEqualBy may_answer pairs = ByEachOrder may_answer pairs (λ order. NoneEqual order pairs)

@@ -1,5 +1,5 @@
 -- How a call changes a list of pairs.
-use Rattle.std.specs.Prelude.{◌≡◌, ◌≤◌, ℕ, List, [], ◌∷◌, length}
+use Rattle.std.specs.Prelude.{◌≡◌, ◌≤◌, ℕ, Bool, List, [], ◌∷◌, length, MatchBool}
 use Rattle.std.specs.List.{insert}
 
 module _ {X : Type 0} where
@@ -16,3 +16,7 @@ module _ {X : Type 0} where
   -- some items that may go are gone, and the item has joined the others
   abbrev pub Gains : (X → Type 0) → X → List X → List X → Type 0
   Gains MayGo x before after = (kept : List X) × Without MayGo before kept × Joins x kept after
+
+  -- where it was new the item has joined so, and else only items that may go are gone
+  abbrev pub GainsOrLoses : (X → Type 0) → Bool → X → List X → List X → Type 0
+  GainsOrLoses MayGo is_new x before after = MatchBool is_new (Gains MayGo x before after) (Without MayGo before after)

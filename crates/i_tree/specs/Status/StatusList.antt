@@ -1,8 +1,9 @@
 -- What a `StatusList` promises beyond the trait. `expiration` gives a key's expiration, and `cmp` compares expirations.
-use Rattle.std.specs.Prelude.{◌≡◌, ◌<◌, Bool, Any, Result, IsOk, IfErr, IfOk, OnErr, MatchBool}
+use Rattle.std.specs.Prelude.{◌≡◌, ◌<◌, Bool, Any, Result, IsOk, IfOk, OnErr, MatchBool}
 use Rattle.std.specs.declared.cmp.Ordering.{Ordering}
 use Rattle.i_tree.specs.Expiring.List.{Contents}
 use Rattle.i_tree.specs.Expiring.Live.{live_pairs, IsExpired}
+use Rattle.i_tree.specs.Root.Causes.{RefusedFor}
 use Rattle.i_tree.specs.Root.Change.{Joins}
 use Rattle.i_tree.specs.declared.Refusal.{Refusal}
 use Rattle.i_tree.specs.declared.Refusal.TheVariants.{OutOfMemory}
@@ -16,6 +17,6 @@ module _ {K V E : Type 0} (expiration : K → E) (cmp : E → E → Ordering) wh
         (Joins pair (live_pairs expiration cmp time old.pairs) new.pairs)
         (new.pairs ≡ live_pairs expiration cmp time old.pairs))
     pub err : OnErr result (new ≡ old)
-    pub refused : IfErr result (λ cause. cause ≡ OutOfMemory)
+    pub refused : RefusedFor OutOfMemory result
     pub with_spare : 0 < old.spare → IsOk result
     pub with_expired : Any (IsExpired expiration cmp time) old.pairs → IsOk result

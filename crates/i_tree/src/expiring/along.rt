@@ -5,7 +5,7 @@ ghost use Rattle.std.specs.Ordering.{is_eq, is_gt};
 ghost use Rattle.std.specs.List.Sorted.{IsPartitionPoint};
 ghost use Rattle.std.specs.declared.cmp.Ordering.{Ordering};
 ghost use Rattle.std.specs.declared.cmp.Ordering.TheVariants.{Less, Greater};
-ghost use Rattle.i_tree.specs.Root.Along.{ByEachOrder, AboveAlong, AreNeighbours, AtMostAlong, HasEqual, value_or};
+ghost use Rattle.i_tree.specs.Root.Along.{AboveAlongBy, AreNeighboursBy, AtMostAlongBy, ByEachOrder, HasEqual, value_or};
 ghost use Rattle.i_tree.specs.Root.Ends.{FirstFinds, LastFinds};
 
 use crate::binary_search::count_passing;
@@ -67,7 +67,7 @@ pub fn value_at_most<K: Copy, V: Copy, F: Fn(K) -> Ordering>(
     default: V,
 ) -> V
     requires { All (λ pair. F.pre f pair.0) pairs.now }
-    ensures { ByEachOrder (F.post f) pairs.now (λ order. AtMostAlong order pairs.now default result) }
+    ensures { AtMostAlongBy (F.post f) pairs.now default result }
 {
     value_or(default, last_pair(pairs, count_at_most(pairs, &f)))
 }
@@ -75,7 +75,7 @@ pub fn value_at_most<K: Copy, V: Copy, F: Fn(K) -> Ordering>(
 /// The value of the first key that `f` calls Greater, or `default`.
 pub fn value_above<K: Copy, V: Copy, F: Fn(K) -> Ordering>(pairs: &[(K, V)], f: F, default: V) -> V
     requires { All (λ pair. F.pre f pair.0) pairs.now }
-    ensures { ByEachOrder (F.post f) pairs.now (λ order. AboveAlong order pairs.now default result) }
+    ensures { AboveAlongBy (F.post f) pairs.now default result }
 {
     value_or(default, next_pair(pairs, count_at_most(pairs, &f)))
 }
@@ -95,7 +95,7 @@ pub fn neighbours<K: Copy, V: Copy, F: Fn(K) -> Ordering>(
     f: F,
 ) -> (Option<(K, V)>, Option<(K, V)>)
     requires { All (λ pair. F.pre f pair.0) pairs.now }
-    ensures { ByEachOrder (F.post f) pairs.now (λ order. AreNeighbours order pairs.now result) }
+    ensures { AreNeighboursBy (F.post f) pairs.now result }
 {
     beside(pairs, count_at_most(pairs, &f))
 }

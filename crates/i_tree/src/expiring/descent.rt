@@ -4,9 +4,8 @@ ghost use Rattle.std.specs.Prelude.{◌≡◌, ◌≢◌, ◌++◌, ◌∷◌, �
 ghost use Rattle.std.specs.Ordering.{is_lt};
 ghost use Rattle.std.specs.declared.cmp.Ordering.TheVariants.{Less, Greater};
 ghost use Rattle.i_tree.specs.Root.Change.{Without};
-ghost use Rattle.i_tree.specs.Root.Descent.{Descends};
 ghost use Rattle.i_tree.specs.Expiring.Descent.{DescendsBetween, FollowsPath, MayCall};
-ghost use Rattle.i_tree.specs.Expiring.Tree.{items};
+ghost use Rattle.i_tree.specs.Expiring.Tree.{items, TreeDescends};
 ghost use Rattle.i_tree.specs.Rb.RbTree.{slots};
 ghost use Rattle.i_tree.specs.Rb.Balance.{IsCore};
 ghost use Rattle.i_tree.specs.Rb.Place.{place_below};
@@ -59,8 +58,7 @@ where
     ensures slots { slots core.new ≡ slots core.old }
     ensures same { length (entries core.new.shape) ≡ length (entries core.old.shape) → core.new ≡ core.old }
     ensures follows { FollowsPath (L.live lives.now) (F.post stands.now) core.old core.new }
-    ensures steps { Descends C.made steps.old steps.new (length (entries core.old.shape))
-        (length (entries core.new.shape)) 0 }
+    ensures steps { TreeDescends C.made steps.old steps.new core.old core.new false }
     ensures asks { length (entries core.new.shape) ≡ length (entries core.old.shape)
         → AsksAlong C.made (MayCall (L.live lives.now) (F.post stands.now)) steps.old steps.new core.old.shape }
     ensures core { IsCore core.new.shape }

@@ -1,9 +1,8 @@
 //! The insertion of a pair into a tree whose entries expire, by one descent.
 
-ghost use Rattle.std.specs.Prelude.{◌≡◌, All, filter, length, is_some, if◌then◌else◌, IfSome, IfOk, OnErr};
-ghost use Rattle.i_tree.specs.Root.Descent.{Descends};
+ghost use Rattle.std.specs.Prelude.{◌≡◌, false, All, filter, is_some, IfSome, IfOk, OnErr};
 ghost use Rattle.i_tree.specs.Expiring.Insertion.{AreFoundAt, HoldNeighbours, InsertsByPath, IsHandleOrNone, JoinsUnlessEqual, has_joined};
-ghost use Rattle.i_tree.specs.Expiring.Tree.{items};
+ghost use Rattle.i_tree.specs.Expiring.Tree.{items, TreeDescends};
 
 use super::descent::{descend, pair_at};
 use super::live::Liveness;
@@ -47,10 +46,8 @@ where
     ensures next { IfOk result (λ told. IfSome told (λ beside. IsHandleOrNone core.new.shape beside.next)) }
     ensures neighbours { IfOk result (λ told. IfSome told (λ beside. HoldNeighbours (F.post stands.now)
         (filter (λ other. L.live lives.now other.0) (items core.old.shape)) core.new.shape beside.last beside.next)) }
-    ensures steps { IfOk result (λ told. Descends C.made steps.old steps.new
-        (length (items core.old.shape)) (length (items core.new.shape)) (if is_some told then 1 else 0)) }
-    ensures err_steps { OnErr result (Descends C.made steps.old steps.new
-        (length (items core.old.shape)) (length (items core.new.shape)) 0) }
+    ensures steps { IfOk result (λ told. TreeDescends C.made steps.old steps.new core.old core.new (is_some told)) }
+    ensures err_steps { OnErr result (TreeDescends C.made steps.old steps.new core.old core.new false) }
 {
     let end = descend(core, steps, lives, stands);
     if end.said.is_eq() {

@@ -1,7 +1,8 @@
 //! `ExpiringList`: pairs whose keys expire, in a vector. Both lists stand on it.
 
-ghost use Rattle.std.specs.Prelude.{◌≡◌, ◌<◌, ◌≤◌, ◌+◌, [], length, IsOk, OnOk, OnErr, IfOk, IfErr};
+ghost use Rattle.std.specs.Prelude.{◌≡◌, ◌<◌, ◌≤◌, ◌+◌, [], length, IsOk, OnOk, OnErr, IfOk};
 ghost use Rattle.std.specs.List.{insert};
+ghost use Rattle.i_tree.specs.Root.Causes.{RefusedFor};
 ghost use Rattle.i_tree.specs.Root.Change.{Without};
 ghost use Rattle.i_tree.specs.Expiring.List.{ListLeaves};
 ghost use Rattle.i_tree.specs.Expiring.Live.{IsExpired};
@@ -48,7 +49,7 @@ impl<X: Expires<K, E>, K: Copy, E: Expiration, V: Copy, A: Allocator + Copy> Exp
     pub fn new(alloc: A, capacity: usize) -> Result<Self, Refusal>
         ensures empty { IfOk result (λ list. list.pairs ≡ []) }
         ensures room { IfOk result (λ list. capacity ≤ list.spare) }
-        ensures refused { IfErr result (λ cause. cause ≡ Refusal.OutOfMemory) }
+        ensures refused { RefusedFor Refusal.OutOfMemory result }
         ensures takes_none { capacity ≡ 0 → IsOk result }
     {
         Ok(ExpiringList {
@@ -64,7 +65,7 @@ impl<X: Expires<K, E>, K: Copy, E: Expiration, V: Copy, A: Allocator + Copy> Exp
         ensures room { OnOk result (capacity ≤ length self.new.pairs + self.new.spare) }
         ensures kept { self.old.spare ≤ self.new.spare }
         ensures err { OnErr result (self.new ≡ self.old) }
-        ensures refused { IfErr result (λ cause. cause ≡ Refusal.OutOfMemory) }
+        ensures refused { RefusedFor Refusal.OutOfMemory result }
         ensures with_room { capacity ≤ length self.old.pairs + self.old.spare → IsOk result }
     {
         self.pairs
@@ -110,7 +111,7 @@ impl<X: Expires<K, E>, K: Copy, E: Expiration, V: Copy, A: Allocator + Copy> Exp
         requires { place ≤ length self.old.pairs }
         ensures ok { OnOk result (self.new.pairs ≡ insert self.old.pairs place (key, val)) }
         ensures err { OnErr result (self.new ≡ self.old) }
-        ensures refused { IfErr result (λ cause. cause ≡ Refusal.OutOfMemory) }
+        ensures refused { RefusedFor Refusal.OutOfMemory result }
         ensures with_spare { 0 < self.old.spare → IsOk result }
         ensures room { length self.old.pairs + self.old.spare ≤ length self.new.pairs + self.new.spare }
     {

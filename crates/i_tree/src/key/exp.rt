@@ -5,9 +5,9 @@ ghost use Rattle.std.specs.declared.cmp.Ordering.{Ordering};
 ghost use Rattle.i_tree.specs.declared.Refusal.{Refusal};
 ghost use Rattle.i_tree.specs.Expiring.Insertion.{InsertsOrLeaves};
 ghost use Rattle.i_tree.specs.Expiring.Live.{live_pairs, IsExpired};
-ghost use Rattle.i_tree.specs.Root.Pairs.{HasKey, NoKey, IsRising};
+ghost use Rattle.i_tree.specs.Root.Pairs.{HasKey, NoKey, IsNewKey, IsRising};
 ghost use Rattle.i_tree.specs.Root.Answer.{Below, AtMostBy, AboveBy};
-ghost use Rattle.i_tree.specs.Root.Change.{Without, Gains};
+ghost use Rattle.i_tree.specs.Root.Change.{Without, Gains, GainsOrLoses};
 
 use crate::{Expiration, ExpiredKey, Refusal};
 use std::cmp::Ordering;
@@ -58,12 +58,9 @@ pub trait KeyExpCollection<K: ExpiredKey<E>, E: Expiration, V: Copy> {
     /// expired pairs may have gone. It is refused as `insert` is, and then no live key compares Equal. There is no condition:
     /// one call stands for `contains_key` and `insert`. It is our own, and answers as std's `BTreeSet::insert`.
     fn insert_new(&mut self, key: K, val: V, time: E) -> Result<bool, Refusal>
-        ensures cases { IfOk result (λ is_new. MatchBool is_new
-            (NoKey K.cmp (live_pairs K.expiration E.cmp time (stored self.old)) key)
-            (HasKey K.cmp (live_pairs K.expiration E.cmp time (stored self.old)) key)) }
-        ensures ok { IfOk result (λ is_new. MatchBool is_new
-            (Gains (IsExpired K.expiration E.cmp time) (key, val) (stored self.old) (stored self.new))
-            (Without (IsExpired K.expiration E.cmp time) (stored self.old) (stored self.new))) }
+        ensures cases { IfOk result (λ is_new. IsNewKey K.cmp (live_pairs K.expiration E.cmp time (stored self.old)) key is_new) }
+        ensures ok { IfOk result (λ is_new. GainsOrLoses (IsExpired K.expiration E.cmp time) is_new
+            (key, val) (stored self.old) (stored self.new)) }
         ensures err { OnErr result (stored self.new ≡ stored self.old) }
         ensures err_new { OnErr result (NoKey K.cmp (live_pairs K.expiration E.cmp time (stored self.old)) key) }
         ensures rising { IsRising K.cmp (stored self.new) }
@@ -102,8 +99,7 @@ pub trait KeyExpCollection<K: ExpiredKey<E>, E: Expiration, V: Copy> {
     /// `f` is asked as by `first_less_or_equal_by`.
     fn first_greater_by<F: Fn(K) -> Ordering>(&mut self, time: E, default: V, f: F) -> V
         requires { All (λ pair. F.pre f pair.0) (live_pairs K.expiration E.cmp time (stored self.old)) }
-        ensures value { AboveBy K.cmp (F.post f)
-            (live_pairs K.expiration E.cmp time (stored self.old)) default result }
+        ensures value { AboveBy K.cmp (F.post f) (live_pairs K.expiration E.cmp time (stored self.old)) default result }
         ensures kept { Without (IsExpired K.expiration E.cmp time) (stored self.old) (stored self.new) }
         ensures rising { IsRising K.cmp (stored self.new) }
         ensures room { room self.old ≤ room self.new }

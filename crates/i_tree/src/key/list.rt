@@ -1,9 +1,10 @@
 //! `KeyExpList`: keys that expire, in a sorted vector.
 
-ghost use Rattle.std.specs.Prelude.{◌≡◌, ◌≢◌, ◌<◌, ◌≤◌, ◌+◌, [], length, IsOk, OnOk, OnErr, IfOk, IfErr};
+ghost use Rattle.std.specs.Prelude.{◌≡◌, ◌≢◌, ◌<◌, ◌≤◌, ◌+◌, [], length, IsOk, OnOk, OnErr, IfOk};
 ghost use Rattle.std.specs.List.{insert};
 ghost use Rattle.std.specs.List.Sorted.{IsPartitionPoint};
 ghost use Rattle.std.specs.declared.cmp.Ordering.TheVariants.{Less};
+ghost use Rattle.i_tree.specs.Root.Causes.{RefusedFor};
 ghost use Rattle.i_tree.specs.Root.Change.{Without};
 ghost use Rattle.i_tree.specs.Expiring.List.{ListLeaves};
 ghost use Rattle.i_tree.specs.Expiring.Live.{IsExpired};
@@ -44,7 +45,7 @@ impl<K: ExpiredKey<E>, E: Expiration, V: Copy, A: Allocator + Copy> KeyExpList<K
     pub fn new(alloc: A, capacity: usize) -> Result<Self, Refusal>
         ensures empty { IfOk result (λ list. list.pairs ≡ []) }
         ensures room { IfOk result (λ list. capacity ≤ list.spare) }
-        ensures refused { IfErr result (λ cause. cause ≡ Refusal.OutOfMemory) }
+        ensures refused { RefusedFor Refusal.OutOfMemory result }
         ensures takes_none { capacity ≡ 0 → IsOk result }
     {
         Ok(KeyExpList {
@@ -58,7 +59,7 @@ impl<K: ExpiredKey<E>, E: Expiration, V: Copy, A: Allocator + Copy> KeyExpList<K
         ensures room { OnOk result (capacity ≤ length self.new.pairs + self.new.spare) }
         ensures kept { self.old.spare ≤ self.new.spare }
         ensures err { OnErr result (self.new ≡ self.old) }
-        ensures refused { IfErr result (λ cause. cause ≡ Refusal.OutOfMemory) }
+        ensures refused { RefusedFor Refusal.OutOfMemory result }
         ensures with_room { capacity ≤ length self.old.pairs + self.old.spare → IsOk result }
     {
         self.held.reserve_capacity(capacity)
@@ -87,7 +88,7 @@ impl<K: ExpiredKey<E>, E: Expiration, V: Copy, A: Allocator + Copy> KeyExpList<K
         ensures ok { OnOk result (self.new.pairs ≡ insert self.old.pairs place (key, val)) }
         ensures err { OnErr result (self.new ≡ self.old) }
         ensures rising { IsRising K.cmp self.new.pairs }
-        ensures refused { IfErr result (λ cause. cause ≡ Refusal.OutOfMemory) }
+        ensures refused { RefusedFor Refusal.OutOfMemory result }
         ensures with_spare { 0 < self.old.spare → IsOk result }
         ensures room { length self.old.pairs + self.old.spare ≤ length self.new.pairs + self.new.spare }
     {

@@ -1,23 +1,20 @@
 //! `KeyExpTree`: keys that expire, in a red-black tree over the core.
 
-ghost use Rattle.std.specs.Prelude.{◌≡◌, ◌≢◌, ◌≤◌, ◌<◌, ◌+◌, All, length, IsOk, OnOk, OnErr, IfOk, IfErr, IsErr, IsErrAnd, MatchBool, max, if◌then◌else◌};
+ghost use Rattle.std.specs.Prelude.{◌≡◌, ◌≢◌, ◌<◌, ◌+◌, All, length, IsOk, OnOk, OnErr, IfOk, IsErr, MatchBool, true, false, if◌then◌else◌};
 ghost use Rattle.std.specs.Ordering.{is_lt};
 ghost use Rattle.std.specs.declared.cmp.Ordering.{Ordering};
 ghost use Rattle.std.specs.declared.cmp.Ordering.TheVariants.{Less, Greater};
+ghost use Rattle.i_tree.specs.Root.Causes.{RefusedFor};
 ghost use Rattle.i_tree.specs.Root.Answer.{Below, AtMostBy, AboveBy};
-ghost use Rattle.i_tree.specs.Root.Change.{Gains, Without};
-ghost use Rattle.i_tree.specs.Root.Descent.{Descends, SearchesFor};
-ghost use Rattle.i_tree.specs.Expiring.Insertion.{InsertsOrLeaves};
-ghost use Rattle.i_tree.specs.Expiring.Tree.{items, slots_for, TreeLeaves};
-ghost use Rattle.i_tree.specs.Key.KeyExpTree.{KeyTreeInserts};
-ghost use Rattle.i_tree.specs.Expiring.SearchPath.{path_to};
-ghost use Rattle.i_tree.specs.Expiring.Live.{live_pairs, AllLive, IsExpired};
-ghost use Rattle.i_tree.specs.Root.Pairs.{HasKey, NoKey, IsRising};
+ghost use Rattle.i_tree.specs.Root.Change.{GainsOrLoses, Without};
+ghost use Rattle.i_tree.specs.Root.Descent.{SearchesFor};
+ghost use Rattle.i_tree.specs.Expiring.Tree.{items, live_in, DoublesIfFull, TreeDescends, TreeGains};
+ghost use Rattle.i_tree.specs.Key.KeyExpTree.{IsPathLive, KeyTreeInsertsNew};
+ghost use Rattle.i_tree.specs.Expiring.Live.{IsExpired};
+ghost use Rattle.i_tree.specs.Root.Pairs.{HasKey, NoKey, IsNewKey, IsRising};
 ghost use Rattle.i_tree.specs.Rb.RbTree.{slots};
 ghost use Rattle.i_tree.specs.Rb.Capacity.{MakesEmpty, Reserves};
 ghost use Rattle.i_tree.specs.Rb.Balance.{IsCore};
-ghost use Rattle.i_tree.specs.Rb.Shape.{leaf, entries};
-ghost use Rattle.i_tree.specs.Rb.Place.{place_below};
 
 use super::exp::KeyExpCollection;
 use crate::expiring::descent::{below_or_not, descend, value_at};
@@ -121,27 +118,24 @@ impl<K: ExpiredKey<E>, E: Expiration, V: Copy, A: Allocator + Copy> KeyExpTree<K
         val: V,
         time: E,
     ) -> Result<(), Refusal>
-        requires { NoKey K.cmp (live_pairs K.expiration E.cmp time (items self.old.shape)) key }
-        ensures ok { OnOk result
-            (Gains (IsExpired K.expiration E.cmp time) (key, val) (items self.old.shape) (items self.new.shape)) }
+        requires { NoKey K.cmp (live_in K.expiration E.cmp time self.old) key }
+        ensures ok { OnOk result (TreeGains K.expiration E.cmp time (key, val) self.old self.new) }
         ensures err { OnErr result (self.new ≡ self.old) }
         ensures rising { IsRising K.cmp (items self.new.shape) }
         ensures core { IsCore self.new.shape }
 
-        // The slots, and when it is refused.
-        ensures slots { OnOk result (slots self.new ≡ slots_for self.old (length (items self.new.shape))) }
+        // Slots and refusals.
+        ensures slots { OnOk result (DoublesIfFull self.old self.new) }
         ensures with_spare { 0 < self.old.spare → IsOk result }
-        ensures err_way { OnErr result (AllLive K.expiration E.cmp time (path_to K.cmp key self.old.shape)) }
+        ensures err_way { OnErr result (IsPathLive K.expiration K.cmp E.cmp key time self.old) }
         ensures full { self.old.spare ≡ 0 → slots self.old ≡ EMPTY_REF
-            → AllLive K.expiration E.cmp time (path_to K.cmp key self.old.shape) → IsErr result }
-        ensures no_handle { slots self.old ≡ EMPTY_REF → IfErr result (λ cause. cause ≡ Refusal.NoHandle) }
-        ensures refused { slots self.old ≢ EMPTY_REF → IfErr result (λ cause. cause ≡ Refusal.OutOfMemory) }
+            → IsPathLive K.expiration K.cmp E.cmp key time self.old → IsErr result }
+        ensures no_handle { slots self.old ≡ EMPTY_REF → RefusedFor Refusal.NoHandle result }
+        ensures refused { slots self.old ≢ EMPTY_REF → RefusedFor Refusal.OutOfMemory result }
 
         // What was counted.
-        ensures steps { OnOk result
-            (Descends C.made steps.old steps.new (length (items self.old.shape)) (length (items self.new.shape)) 1) }
-        ensures err_steps { OnErr result
-            (Descends C.made steps.old steps.new (length (items self.old.shape)) (length (items self.new.shape)) 0) }
+        ensures steps { OnOk result (TreeDescends C.made steps.old steps.new self.old self.new true) }
+        ensures err_steps { OnErr result (TreeDescends C.made steps.old steps.new self.old self.new false) }
     {
         let stands = |other: K| -> Ordering
             ensures { result ≡ (if is_lt (K.cmp other key) then Less else Greater) }
@@ -171,29 +165,21 @@ impl<K: ExpiredKey<E>, E: Expiration, V: Copy, A: Allocator + Copy> KeyExpTree<K
         val: V,
         time: E,
     ) -> Result<bool, Refusal>
-        ensures cases { IfOk result (λ is_new. MatchBool is_new
-            (NoKey K.cmp (live_pairs K.expiration E.cmp time (items self.old.shape)) key)
-            (HasKey K.cmp (live_pairs K.expiration E.cmp time (items self.old.shape)) key)) }
-        ensures ok { IfOk result (λ is_new. MatchBool is_new
-            (Gains (IsExpired K.expiration E.cmp time) (key, val) (items self.old.shape) (items self.new.shape))
-            (Without (IsExpired K.expiration E.cmp time) (items self.old.shape) (items self.new.shape))) }
+        ensures cases { IfOk result (λ is_new. IsNewKey K.cmp (live_in K.expiration E.cmp time self.old) key is_new) }
+        ensures ok { IfOk result (λ is_new. GainsOrLoses (IsExpired K.expiration E.cmp time) is_new
+            (key, val) (items self.old.shape) (items self.new.shape)) }
         ensures err { OnErr result (self.new ≡ self.old) }
-        ensures err_new { OnErr result
-            (NoKey K.cmp (live_pairs K.expiration E.cmp time (items self.old.shape)) key) }
+        ensures err_new { OnErr result (NoKey K.cmp (live_in K.expiration E.cmp time self.old) key) }
         ensures rising { IsRising K.cmp (items self.new.shape) }
 
         // The slots, and when it is refused: as `insert_counted` where the key is new, and else as a query.
-        ensures inserts { InsertsOrLeaves
-            (λ done. KeyTreeInserts K.expiration K.cmp E.cmp key time self.old done self.new)
-            (TreeLeaves self.old self.new) result }
+        ensures inserts { KeyTreeInsertsNew K.expiration K.cmp E.cmp key time self.old result self.new }
         ensures with_spare { 0 < self.old.spare → IsOk result }
         ensures core { IsCore self.new.shape }
 
         // What was counted.
-        ensures steps { IfOk result (λ is_new. Descends C.made steps.old steps.new
-            (length (items self.old.shape)) (length (items self.new.shape)) (if is_new then 1 else 0)) }
-        ensures err_steps { OnErr result
-            (Descends C.made steps.old steps.new (length (items self.old.shape)) (length (items self.new.shape)) 0) }
+        ensures steps { IfOk result (λ is_new. TreeDescends C.made steps.old steps.new self.old self.new is_new) }
+        ensures err_steps { OnErr result (TreeDescends C.made steps.old steps.new self.old self.new false) }
     {
         let stands = |other: K| -> Ordering
             ensures { result ≡ K.cmp other key }
@@ -216,15 +202,14 @@ impl<K: ExpiredKey<E>, E: Expiration, V: Copy, A: Allocator + Copy> KeyExpTree<K
         default: V,
         key: K,
     ) -> V
-        ensures value { Below K.cmp (live_pairs K.expiration E.cmp time (items self.old.shape)) key default result }
+        ensures value { Below K.cmp (live_in K.expiration E.cmp time self.old) key default result }
         ensures kept { Without (IsExpired K.expiration E.cmp time) (items self.old.shape) (items self.new.shape) }
         ensures rising { IsRising K.cmp (items self.new.shape) }
         ensures core { IsCore self.new.shape }
 
         // The slots, and what was counted.
         ensures slots { slots self.new ≡ slots self.old }
-        ensures steps { Descends C.made steps.old steps.new
-            (length (items self.old.shape)) (length (items self.new.shape)) 0 }
+        ensures steps { TreeDescends C.made steps.old steps.new self.old self.new false }
     {
         let stands = |other: K| -> Ordering
             ensures { result ≡ (if is_lt (K.cmp other key) then Less else Greater) }
@@ -241,17 +226,15 @@ impl<K: ExpiredKey<E>, E: Expiration, V: Copy, A: Allocator + Copy> KeyExpTree<K
         default: V,
         f: F,
     ) -> V
-        requires { All (λ pair. F.pre f pair.0) (live_pairs K.expiration E.cmp time (items self.old.shape)) }
-        ensures value { AtMostBy K.cmp (F.post f)
-            (live_pairs K.expiration E.cmp time (items self.old.shape)) default result }
+        requires { All (λ pair. F.pre f pair.0) (live_in K.expiration E.cmp time self.old) }
+        ensures value { AtMostBy K.cmp (F.post f) (live_in K.expiration E.cmp time self.old) default result }
         ensures kept { Without (IsExpired K.expiration E.cmp time) (items self.old.shape) (items self.new.shape) }
         ensures rising { IsRising K.cmp (items self.new.shape) }
         ensures core { IsCore self.new.shape }
 
         // The slots, and what was counted.
         ensures slots { slots self.new ≡ slots self.old }
-        ensures steps { Descends C.made steps.old steps.new
-            (length (items self.old.shape)) (length (items self.new.shape)) 0 }
+        ensures steps { TreeDescends C.made steps.old steps.new self.old self.new false }
     {
         let end = descend(&mut self.core, steps, &LiveAt { time, by: ByKey }, &f);
         value_at(&self.core, end.last, default)
@@ -265,17 +248,15 @@ impl<K: ExpiredKey<E>, E: Expiration, V: Copy, A: Allocator + Copy> KeyExpTree<K
         default: V,
         f: F,
     ) -> V
-        requires { All (λ pair. F.pre f pair.0) (live_pairs K.expiration E.cmp time (items self.old.shape)) }
-        ensures value { AboveBy K.cmp (F.post f)
-            (live_pairs K.expiration E.cmp time (items self.old.shape)) default result }
+        requires { All (λ pair. F.pre f pair.0) (live_in K.expiration E.cmp time self.old) }
+        ensures value { AboveBy K.cmp (F.post f) (live_in K.expiration E.cmp time self.old) default result }
         ensures kept { Without (IsExpired K.expiration E.cmp time) (items self.old.shape) (items self.new.shape) }
         ensures rising { IsRising K.cmp (items self.new.shape) }
         ensures core { IsCore self.new.shape }
 
         // The slots, and what was counted.
         ensures slots { slots self.new ≡ slots self.old }
-        ensures steps { Descends C.made steps.old steps.new
-            (length (items self.old.shape)) (length (items self.new.shape)) 0 }
+        ensures steps { TreeDescends C.made steps.old steps.new self.old self.new false }
     {
         let end = descend(&mut self.core, steps, &LiveAt { time, by: ByKey }, &f);
         value_at(&self.core, end.next, default)
@@ -285,8 +266,8 @@ impl<K: ExpiredKey<E>, E: Expiration, V: Copy, A: Allocator + Copy> KeyExpTree<K
     /// compares Equal, live or not, if there is one. The counts are our own.
     pub fn contains_key_counted<C: Counter>(&self, steps: &mut C, time: E, key: K) -> bool
         ensures cases { MatchBool result
-            (HasKey K.cmp (live_pairs K.expiration E.cmp time (items self.now.shape)) key)
-            (NoKey K.cmp (live_pairs K.expiration E.cmp time (items self.now.shape)) key) }
+            (HasKey K.cmp (live_in K.expiration E.cmp time self.now) key)
+            (NoKey K.cmp (live_in K.expiration E.cmp time self.now) key) }
         ensures rising { IsRising K.cmp (items self.now.shape) }
         ensures steps { SearchesFor C.made steps.old steps.new (length (items self.now.shape))
             (HasKey K.cmp (items self.now.shape) key) (NoKey K.cmp (items self.now.shape) key) }

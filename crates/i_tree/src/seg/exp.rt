@@ -1,12 +1,13 @@
 //! `SegRange`, and the trait of collections of segments: what each of them promises.
 
-ghost use Rattle.std.specs.Prelude.{◌≡◌, ◌≤◌, ◌+◌, List, [], length, vec_len, vec_capacity, IsOk, OnOk, OnErr, IfErr, IsPermutation};
+ghost use Rattle.std.specs.Prelude.{◌≡◌, ◌≤◌, ◌+◌, List, [], length, vec_len, vec_capacity, IsOk, OnOk, OnErr, IsPermutation};
 ghost use Rattle.std.specs.declared.option.Option.{Option};
 ghost use Rattle.std.specs.declared.option.Option.TheVariants.{None, Some};
 ghost use Rattle.i_tree.specs.declared.Refusal.TheVariants.{OutOfMemory};
 ghost use Rattle.i_tree.specs.Seg.Buckets.{Buckets, Filters};
 ghost use Rattle.i_tree.specs.Seg.Members.{Member, Appends, Joins, NotBefore, answer, live_members};
 ghost use Rattle.i_tree.specs.Seg.Ranges.{IsAccepted, interval_over, segment_over};
+ghost use Rattle.i_tree.specs.Root.Causes.{RefusedFor};
 
 use crate::{Expiration, ExpiredVal, LayoutNumber, Refusal};
 use std::alloc::Allocator;
@@ -47,7 +48,7 @@ pub trait SegExpCollection<R: LayoutNumber, E: Expiration, V: ExpiredVal<E>> {
         ensures ok { OnOk result (Joins V.expiration E.cmp (latest self.old)
             (segment_over R.whole (buckets self.old) range val) (members self.old) (members self.new)) }
         ensures err { OnErr result (members self.new ≡ members self.old) }
-        ensures refused { IfErr result (λ cause. cause ≡ OutOfMemory) }
+        ensures refused { RefusedFor OutOfMemory result }
         // The time and the buckets stay. Buckets miss no segment that overlaps.
         ensures latest { latest self.new ≡ latest self.old }
         ensures buckets { buckets self.new ≡ buckets self.old }
@@ -70,7 +71,7 @@ pub trait SegExpCollection<R: LayoutNumber, E: Expiration, V: ExpiredVal<E>> {
         ensures ok { OnOk result (Appends (answer V.expiration E.cmp time
             (interval_over R.whole (buckets self.old) range) (members self.old)) out.old.items out.new.items) }
         ensures err { OnErr result (out.new.items ≡ out.old.items) }
-        ensures refused { IfErr result (λ cause. cause ≡ OutOfMemory) }
+        ensures refused { RefusedFor OutOfMemory result }
         ensures with_room { vec_len out.old + length (answer V.expiration E.cmp time
             (interval_over R.whole (buckets self.old) range) (members self.old)) ≤ vec_capacity out.old → IsOk result }
         // The live members stay, and the time is the latest.

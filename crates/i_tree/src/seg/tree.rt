@@ -1,12 +1,13 @@
 //! `SegExpTree`: segments that expire, in a segment tree over at most 32 buckets.
 
-ghost use Rattle.std.specs.Prelude.{◌≡◌, [], ◌↔◌, IsTrue, IsOk, IfOk, IfErr, MatchOption, IfSome, IsPermutation};
+ghost use Rattle.std.specs.Prelude.{◌≡◌, ◌↔◌, [], IsTrue, IsOk, IfOk, MatchOption, IfSome, IsPermutation};
 ghost use Rattle.std.specs.declared.option.Option.TheVariants.{None};
 ghost use Rattle.i_tree.specs.declared.Refusal.TheVariants.{OutOfMemory};
 ghost use Rattle.i_tree.specs.Seg.Changes.{Inserts, Answers, Clears};
 ghost use Rattle.i_tree.specs.Seg.Copies.{chunk_at, copies_at, live_copies, stored_copies};
 ghost use Rattle.i_tree.specs.Seg.Members.{AllLiveYet, NotBefore};
 ghost use Rattle.i_tree.specs.Seg.Ranges.{CanBeCut, IsCutInto, IsAccepted, interval_over, segment_over};
+ghost use Rattle.i_tree.specs.Root.Causes.{RefusedFor};
 
 use super::chunk::{clear_chunks, empty_chunks, make_room, place_copies};
 use super::exp::{SegExpCollection, SegRange};
@@ -63,7 +64,7 @@ impl<R: LayoutNumber, E: Expiration, V: ExpiredVal<E>, A: Allocator + Copy> SegE
             (¬ (CanBeCut R.whole (R.UInt.number R.UInt.HEAP_MIN_SPAN) range))
             (λ _. CanBeCut R.whole (R.UInt.number R.UInt.HEAP_MIN_SPAN) range)) }
         ensures without_layout { ¬ (CanBeCut R.whole (R.UInt.number R.UInt.HEAP_MIN_SPAN) range) → IsOk result }
-        ensures refused { IfErr result (λ cause. cause ≡ OutOfMemory) }
+        ensures refused { RefusedFor OutOfMemory result }
         // The tree is empty.
         ensures layout { IfOk result (λ made. IfSome made (λ tree. IsCutInto R.whole range tree.buckets)) }
         ensures empty { IfOk result (λ made. IfSome made (λ tree. (tree.members ≡ []) × (tree.latest ≡ None))) }

@@ -7,6 +7,7 @@ ghost use Rattle.std.specs.Ordering.{is_gt, is_lt};
 ghost use Rattle.std.specs.declared.cmp.Ordering.{Ordering};
 ghost use Rattle.i_tree.specs.Set.Pairs.{AreApart, HoldsKey, IsOrdered, LacksKey};
 ghost use Rattle.i_tree.specs.Set.SetList.{numbered, IsPlaceFor, SetListInserts};
+ghost use Rattle.i_tree.specs.Root.Causes.{RefusedFor};
 
 use super::sort::{KeyValue, SetCollection};
 use crate::binary_search::count_passing;
@@ -96,7 +97,7 @@ impl<V, A: Allocator + Copy> SetList<V, A> {
     pub fn new(alloc: A, capacity: usize) -> Result<Self, Refusal>
         ensures empty { IfOk result (λ list. list.values ≡ []) }
         ensures room { IfOk result (λ list. capacity ≤ list.spare) }
-        ensures refused { IfErr result (λ cause. cause ≡ Refusal.OutOfMemory) }
+        ensures refused { RefusedFor Refusal.OutOfMemory result }
         ensures takes_none { capacity ≡ 0 → IsOk result }
         ensures handles { IfOk result (λ list. AreApart (numbered list.values)) }
     {

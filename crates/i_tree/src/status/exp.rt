@@ -5,7 +5,7 @@ ghost use Rattle.std.specs.declared.cmp.Ordering.{Ordering};
 ghost use Rattle.i_tree.specs.declared.Refusal.{Refusal};
 ghost use Rattle.i_tree.specs.Expiring.Insertion.{has_joined, TellsNeighbours};
 ghost use Rattle.i_tree.specs.Expiring.Live.{live_pairs, IsExpired};
-ghost use Rattle.i_tree.specs.Root.Along.{ByEachOrder, AboveAlong, AreNeighbours, AtMostAlong, NoneEqual};
+ghost use Rattle.i_tree.specs.Root.Along.{AboveAlongBy, AreNeighboursBy, AtMostAlongBy, NoneEqualBy};
 ghost use Rattle.i_tree.specs.Root.Change.{Without};
 ghost use Rattle.i_tree.specs.Root.Live.{is_live};
 ghost use Rattle.i_tree.specs.Status.Insertion.{JoinsOrLeaves, IsNew};
@@ -60,9 +60,7 @@ pub trait StatusCollection<K: ExpiredVal<E>, E: Expiration, V: Copy> {
         ensures ok { IfOk result (λ is_new. JoinsOrLeaves (is_live K.expiration E.cmp time) (F.post f) is_new
             (key, val) (stored self.old) (stored self.new)) }
         ensures err { OnErr result (stored self.new ≡ stored self.old) }
-        ensures err_new { OnErr result (ByEachOrder (F.post f)
-            (live_pairs K.expiration E.cmp time (stored self.old))
-            (λ order. NoneEqual order (live_pairs K.expiration E.cmp time (stored self.old)))) }
+        ensures err_new { OnErr result (NoneEqualBy (F.post f) (live_pairs K.expiration E.cmp time (stored self.old))) }
 
         // When it is never refused, and what each kind adds.
         ensures with_room { length (stored self.old) < room self.old → IsOk result }
@@ -89,9 +87,7 @@ pub trait StatusCollection<K: ExpiredVal<E>, E: Expiration, V: Copy> {
         ensures neighbours { IfOk result
             (TellsNeighbours (F.post f) (live_pairs K.expiration E.cmp time (stored self.old))) }
         ensures err { OnErr result (stored self.new ≡ stored self.old) }
-        ensures err_new { OnErr result (ByEachOrder (F.post f)
-            (live_pairs K.expiration E.cmp time (stored self.old))
-            (λ order. NoneEqual order (live_pairs K.expiration E.cmp time (stored self.old)))) }
+        ensures err_new { OnErr result (NoneEqualBy (F.post f) (live_pairs K.expiration E.cmp time (stored self.old))) }
 
         // When it is never refused, and what each kind adds.
         ensures with_room { length (stored self.old) < room self.old → IsOk result }
@@ -104,8 +100,7 @@ pub trait StatusCollection<K: ExpiredVal<E>, E: Expiration, V: Copy> {
     /// `f` says how a live key stands to what is sought. Which of several Equal keys is answered is open.
     fn first_less_or_equal_by<F: Fn(K) -> Ordering>(&mut self, time: E, default: V, f: F) -> V
         requires { All (λ pair. F.pre f pair.0) (live_pairs K.expiration E.cmp time (stored self.old)) }
-        ensures value { ByEachOrder (F.post f) (live_pairs K.expiration E.cmp time (stored self.old))
-            (λ order. AtMostAlong order (live_pairs K.expiration E.cmp time (stored self.old)) default result) }
+        ensures value { AtMostAlongBy (F.post f) (live_pairs K.expiration E.cmp time (stored self.old)) default result }
         ensures kept { Without (IsExpired K.expiration E.cmp time) (stored self.old) (stored self.new) }
         ensures room { room self.old ≤ room self.new }
         ensures leaves { leaves time self.old self.new };
@@ -115,8 +110,7 @@ pub trait StatusCollection<K: ExpiredVal<E>, E: Expiration, V: Copy> {
     /// `f` is asked as by `first_less_or_equal_by`.
     fn first_greater_by<F: Fn(K) -> Ordering>(&mut self, time: E, default: V, f: F) -> V
         requires { All (λ pair. F.pre f pair.0) (live_pairs K.expiration E.cmp time (stored self.old)) }
-        ensures value { ByEachOrder (F.post f) (live_pairs K.expiration E.cmp time (stored self.old))
-            (λ order. AboveAlong order (live_pairs K.expiration E.cmp time (stored self.old)) default result) }
+        ensures value { AboveAlongBy (F.post f) (live_pairs K.expiration E.cmp time (stored self.old)) default result }
         ensures kept { Without (IsExpired K.expiration E.cmp time) (stored self.old) (stored self.new) }
         ensures room { room self.old ≤ room self.new }
         ensures leaves { leaves time self.old self.new };
@@ -131,8 +125,7 @@ pub trait StatusCollection<K: ExpiredVal<E>, E: Expiration, V: Copy> {
         f: F,
     ) -> (Option<(K, V)>, Option<(K, V)>)
         requires { All (λ pair. F.pre f pair.0) (live_pairs K.expiration E.cmp time (stored self.old)) }
-        ensures value { ByEachOrder (F.post f) (live_pairs K.expiration E.cmp time (stored self.old))
-            (λ order. AreNeighbours order (live_pairs K.expiration E.cmp time (stored self.old)) result) }
+        ensures value { AreNeighboursBy (F.post f) (live_pairs K.expiration E.cmp time (stored self.old)) result }
         ensures kept { Without (IsExpired K.expiration E.cmp time) (stored self.old) (stored self.new) }
         ensures room { room self.old ≤ room self.new }
         ensures leaves { leaves time self.old self.new };

@@ -1,6 +1,7 @@
 //! `StatusList`: the status of a sweep line, in a vector sorted along it.
 
-ghost use Rattle.std.specs.Prelude.{◌≡◌, ◌≤◌, ◌+◌, [], length, IsOk, OnOk, OnErr, IfOk, IfErr};
+ghost use Rattle.std.specs.Prelude.{◌≡◌, ◌≤◌, ◌+◌, [], length, IsOk, OnOk, OnErr, IfOk};
+ghost use Rattle.i_tree.specs.Root.Causes.{RefusedFor};
 
 use super::exp::StatusCollection;
 use crate::expiring::along::{beside, neighbours, place_by, value_above, value_at_most};
@@ -36,7 +37,7 @@ impl<K: ExpiredVal<E>, E: Expiration, V: Copy, A: Allocator + Copy> StatusList<K
     pub fn new(alloc: A, capacity: usize) -> Result<Self, Refusal>
         ensures empty { IfOk result (λ list. list.pairs ≡ []) }
         ensures room { IfOk result (λ list. capacity ≤ list.spare) }
-        ensures refused { IfErr result (λ cause. cause ≡ Refusal.OutOfMemory) }
+        ensures refused { RefusedFor Refusal.OutOfMemory result }
         ensures takes_none { capacity ≡ 0 → IsOk result }
     {
         Ok(StatusList {
@@ -50,7 +51,7 @@ impl<K: ExpiredVal<E>, E: Expiration, V: Copy, A: Allocator + Copy> StatusList<K
         ensures room { OnOk result (capacity ≤ length self.new.pairs + self.new.spare) }
         ensures kept { self.old.spare ≤ self.new.spare }
         ensures err { OnErr result (self.new ≡ self.old) }
-        ensures refused { IfErr result (λ cause. cause ≡ Refusal.OutOfMemory) }
+        ensures refused { RefusedFor Refusal.OutOfMemory result }
         ensures with_room { capacity ≤ length self.old.pairs + self.old.spare → IsOk result }
     {
         self.held.reserve_capacity(capacity)

@@ -1,18 +1,17 @@
 //! `StatusTree`: the status of a sweep line, in a red-black tree over the core.
 
-ghost use Rattle.std.specs.Prelude.{◌≡◌, ◌<◌, ◌+◌, All, length, is_some, IsOk, IfOk, OnErr, if◌then◌else◌};
-ghost use Rattle.i_tree.specs.Root.Along.{ByEachOrder, AboveAlong, AreNeighbours, AtMostAlong, NoneEqual};
+ghost use Rattle.std.specs.Prelude.{◌≡◌, ◌<◌, ◌+◌, false, All, length, is_some, IsOk, IfOk, OnErr};
+ghost use Rattle.i_tree.specs.Root.Along.{AboveAlongBy, AreNeighboursBy, AtMostAlongBy, NoneEqualBy};
 ghost use Rattle.i_tree.specs.Root.Change.{Without};
-ghost use Rattle.i_tree.specs.Root.Descent.{Descends};
 ghost use Rattle.i_tree.specs.Root.Live.{is_live};
 ghost use Rattle.i_tree.specs.Expiring.Insertion.{TellsNeighbours, has_joined};
-ghost use Rattle.i_tree.specs.Expiring.Live.{live_pairs, IsExpired};
-ghost use Rattle.i_tree.specs.Expiring.Tree.{items};
+ghost use Rattle.i_tree.specs.Expiring.Live.{IsExpired};
+ghost use Rattle.i_tree.specs.Expiring.Tree.{items, live_in, TreeDescends};
 ghost use Rattle.i_tree.specs.Rb.RbTree.{slots};
 ghost use Rattle.i_tree.specs.Rb.Capacity.{MakesEmpty, Reserves};
 ghost use Rattle.i_tree.specs.Rb.Balance.{IsCore};
-ghost use Rattle.i_tree.specs.Status.Insertion.{JoinsOrLeaves, IsNew};
-ghost use Rattle.i_tree.specs.Status.StatusTree.{StatusTreeInserts};
+ghost use Rattle.i_tree.specs.Status.Insertion.{IsNew};
+ghost use Rattle.i_tree.specs.Status.StatusTree.{StatusTreeInserts, StatusTreeJoins};
 
 use super::exp::StatusCollection;
 use crate::expiring::descent::{descend, pair_at, value_at};
@@ -112,26 +111,21 @@ impl<K: ExpiredVal<E>, E: Expiration, V: Copy, A: Allocator + Copy> StatusTree<K
         key: K,
         val: V,
     ) -> Result<bool, Refusal>
-        requires { All (λ pair. F.pre f pair.0) (live_pairs K.expiration E.cmp time (items self.old.shape)) }
-        ensures cases { IfOk result (λ is_new.
-            IsNew (F.post f) is_new (live_pairs K.expiration E.cmp time (items self.old.shape))) }
-        ensures ok { IfOk result (λ is_new. JoinsOrLeaves (is_live K.expiration E.cmp time) (F.post f) is_new
-            (key, val) (items self.old.shape) (items self.new.shape)) }
+        requires { All (λ pair. F.pre f pair.0) (live_in K.expiration E.cmp time self.old) }
+        ensures cases { IfOk result (λ is_new. IsNew (F.post f) is_new (live_in K.expiration E.cmp time self.old)) }
+        ensures ok { IfOk result (λ is_new. StatusTreeJoins (is_live K.expiration E.cmp time) (F.post f) is_new
+            (key, val) self.old self.new) }
         ensures err { OnErr result (self.new ≡ self.old) }
-        ensures err_new { OnErr result (ByEachOrder (F.post f)
-            (live_pairs K.expiration E.cmp time (items self.old.shape))
-            (λ order. NoneEqual order (live_pairs K.expiration E.cmp time (items self.old.shape)))) }
+        ensures err_new { OnErr result (NoneEqualBy (F.post f) (live_in K.expiration E.cmp time self.old)) }
         ensures core { IsCore self.new.shape }
 
-        // The slots, and when it is refused.
+        // Slots and refusals.
         ensures inserts { StatusTreeInserts (is_live K.expiration E.cmp time) (F.post f) self.old result self.new }
         ensures with_spare { 0 < self.old.spare → IsOk result }
 
         // What was counted.
-        ensures steps { IfOk result (λ is_new. Descends C.made steps.old steps.new
-            (length (items self.old.shape)) (length (items self.new.shape)) (if is_new then 1 else 0)) }
-        ensures err_steps { OnErr result
-            (Descends C.made steps.old steps.new (length (items self.old.shape)) (length (items self.new.shape)) 0) }
+        ensures steps { IfOk result (λ is_new. TreeDescends C.made steps.old steps.new self.old self.new is_new) }
+        ensures err_steps { OnErr result (TreeDescends C.made steps.old steps.new self.old self.new false) }
     {
         let pair = (key, val);
         let lives = LiveAt { time, by: ByVal };
@@ -150,29 +144,24 @@ impl<K: ExpiredVal<E>, E: Expiration, V: Copy, A: Allocator + Copy> StatusTree<K
         key: K,
         val: V,
     ) -> Result<Option<(Option<(K, V)>, Option<(K, V)>)>, Refusal>
-        requires { All (λ pair. F.pre f pair.0) (live_pairs K.expiration E.cmp time (items self.old.shape)) }
+        requires { All (λ pair. F.pre f pair.0) (live_in K.expiration E.cmp time self.old) }
         ensures cases { IfOk result (λ told.
-            IsNew (F.post f) (is_some told) (live_pairs K.expiration E.cmp time (items self.old.shape))) }
-        ensures ok { IfOk result (λ told. JoinsOrLeaves (is_live K.expiration E.cmp time) (F.post f) (is_some told)
-            (key, val) (items self.old.shape) (items self.new.shape)) }
-        ensures neighbours { IfOk result
-            (TellsNeighbours (F.post f) (live_pairs K.expiration E.cmp time (items self.old.shape))) }
+            IsNew (F.post f) (is_some told) (live_in K.expiration E.cmp time self.old)) }
+        ensures ok { IfOk result (λ told. StatusTreeJoins (is_live K.expiration E.cmp time) (F.post f) (is_some told)
+            (key, val) self.old self.new) }
+        ensures neighbours { IfOk result (TellsNeighbours (F.post f) (live_in K.expiration E.cmp time self.old)) }
         ensures err { OnErr result (self.new ≡ self.old) }
-        ensures err_new { OnErr result (ByEachOrder (F.post f)
-            (live_pairs K.expiration E.cmp time (items self.old.shape))
-            (λ order. NoneEqual order (live_pairs K.expiration E.cmp time (items self.old.shape)))) }
+        ensures err_new { OnErr result (NoneEqualBy (F.post f) (live_in K.expiration E.cmp time self.old)) }
         ensures core { IsCore self.new.shape }
 
-        // The slots, and when it is refused.
+        // Slots and refusals.
         ensures inserts { StatusTreeInserts (is_live K.expiration E.cmp time) (F.post f)
             self.old (has_joined result) self.new }
         ensures with_spare { 0 < self.old.spare → IsOk result }
 
         // What was counted.
-        ensures steps { IfOk result (λ told. Descends C.made steps.old steps.new
-            (length (items self.old.shape)) (length (items self.new.shape)) (if is_some told then 1 else 0)) }
-        ensures err_steps { OnErr result
-            (Descends C.made steps.old steps.new (length (items self.old.shape)) (length (items self.new.shape)) 0) }
+        ensures steps { IfOk result (λ told. TreeDescends C.made steps.old steps.new self.old self.new (is_some told)) }
+        ensures err_steps { OnErr result (TreeDescends C.made steps.old steps.new self.old self.new false) }
     {
         let pair = (key, val);
         let lives = LiveAt { time, by: ByVal };
@@ -188,16 +177,14 @@ impl<K: ExpiredVal<E>, E: Expiration, V: Copy, A: Allocator + Copy> StatusTree<K
         default: V,
         f: F,
     ) -> V
-        requires { All (λ pair. F.pre f pair.0) (live_pairs K.expiration E.cmp time (items self.old.shape)) }
-        ensures value { ByEachOrder (F.post f) (live_pairs K.expiration E.cmp time (items self.old.shape))
-            (λ order. AtMostAlong order (live_pairs K.expiration E.cmp time (items self.old.shape)) default result) }
+        requires { All (λ pair. F.pre f pair.0) (live_in K.expiration E.cmp time self.old) }
+        ensures value { AtMostAlongBy (F.post f) (live_in K.expiration E.cmp time self.old) default result }
         ensures kept { Without (IsExpired K.expiration E.cmp time) (items self.old.shape) (items self.new.shape) }
         ensures core { IsCore self.new.shape }
 
         // The slots, and what was counted.
         ensures slots { slots self.new ≡ slots self.old }
-        ensures steps { Descends C.made steps.old steps.new
-            (length (items self.old.shape)) (length (items self.new.shape)) 0 }
+        ensures steps { TreeDescends C.made steps.old steps.new self.old self.new false }
     {
         let end = descend(&mut self.core, steps, &LiveAt { time, by: ByVal }, &f);
         value_at(&self.core, end.last, default)
@@ -211,16 +198,14 @@ impl<K: ExpiredVal<E>, E: Expiration, V: Copy, A: Allocator + Copy> StatusTree<K
         default: V,
         f: F,
     ) -> V
-        requires { All (λ pair. F.pre f pair.0) (live_pairs K.expiration E.cmp time (items self.old.shape)) }
-        ensures value { ByEachOrder (F.post f) (live_pairs K.expiration E.cmp time (items self.old.shape))
-            (λ order. AboveAlong order (live_pairs K.expiration E.cmp time (items self.old.shape)) default result) }
+        requires { All (λ pair. F.pre f pair.0) (live_in K.expiration E.cmp time self.old) }
+        ensures value { AboveAlongBy (F.post f) (live_in K.expiration E.cmp time self.old) default result }
         ensures kept { Without (IsExpired K.expiration E.cmp time) (items self.old.shape) (items self.new.shape) }
         ensures core { IsCore self.new.shape }
 
         // The slots, and what was counted.
         ensures slots { slots self.new ≡ slots self.old }
-        ensures steps { Descends C.made steps.old steps.new
-            (length (items self.old.shape)) (length (items self.new.shape)) 0 }
+        ensures steps { TreeDescends C.made steps.old steps.new self.old self.new false }
     {
         let end = descend(&mut self.core, steps, &LiveAt { time, by: ByVal }, &f);
         value_at(&self.core, end.next, default)
@@ -233,16 +218,14 @@ impl<K: ExpiredVal<E>, E: Expiration, V: Copy, A: Allocator + Copy> StatusTree<K
         time: E,
         f: F,
     ) -> (Option<(K, V)>, Option<(K, V)>)
-        requires { All (λ pair. F.pre f pair.0) (live_pairs K.expiration E.cmp time (items self.old.shape)) }
-        ensures value { ByEachOrder (F.post f) (live_pairs K.expiration E.cmp time (items self.old.shape))
-            (λ order. AreNeighbours order (live_pairs K.expiration E.cmp time (items self.old.shape)) result) }
+        requires { All (λ pair. F.pre f pair.0) (live_in K.expiration E.cmp time self.old) }
+        ensures value { AreNeighboursBy (F.post f) (live_in K.expiration E.cmp time self.old) result }
         ensures kept { Without (IsExpired K.expiration E.cmp time) (items self.old.shape) (items self.new.shape) }
         ensures core { IsCore self.new.shape }
 
         // The slots, and what was counted.
         ensures slots { slots self.new ≡ slots self.old }
-        ensures steps { Descends C.made steps.old steps.new
-            (length (items self.old.shape)) (length (items self.new.shape)) 0 }
+        ensures steps { TreeDescends C.made steps.old steps.new self.old self.new false }
     {
         let end = descend(&mut self.core, steps, &LiveAt { time, by: ByVal }, &f);
         (pair_at(&self.core, end.last), pair_at(&self.core, end.next))

@@ -4,7 +4,7 @@ use Rattle.i_tree.proofs.RbLemmas.SearchPath.Descent.{IsTop, cut_here, falls_on,
 use Rattle.i_tree.proofs.RbLemmas.SearchPath.Search.{le-not_gt, search_on}
 use Rattle.i_tree.proofs.RbLemmas.SearchPath.Asked.{asked_top, asked_on, asked_all}
 use Rattle.i_tree.proofs.RbLemmas.SearchPath.Counts.{counted_none, counted_compare, counted_removal, counted_all}
-use Rattle.i_tree.proofs.ExpiringLemmas.SearchPath.{followed_top, followed_end, followed_on, followed_gone}
+use Rattle.i_tree.proofs.ExpiringLemmas.SearchPath.{length-items, followed_top, followed_end, followed_on, followed_gone}
 use Rattle.i_tree.proofs.ExpiringLemmas.Search.{last_found, next_found}
 use Rattle.i_tree.proofs.ExpiringLemmas.Descents.{IsRemoved, place_stays, path_stays, rank_stays, items_without, one_less, asked_here}
 use Rattle.i_tree.proofs.RootLemmas.Withouts.{Without-refl, Without-trans}
@@ -169,7 +169,9 @@ returns-clause-next g c some =
     next_found (g.L.Liveness.live c.args.lives.now) (goal.F-post g c.args.stands.now) c.loop-here.core.shape (place_below c.loop-here.above c.loop-here.on_right) c.loop-here.last c.loop-here.said c.loop-here.next (ended g c) some
 
 pub returns-clause-steps : goal.returns-clause-steps
-returns-clause-steps g c = counted_all g.met.C.Counter.law c.args.core.now.shape c.args.steps.now c.loop-here.steps _ _ c.loop-here.invariant.first c.loop-here.invariant.counted
+returns-clause-steps g c =
+    simp length-items
+    (counted_all g.met.C.Counter.law c.args.core.now.shape c.args.steps.now c.loop-here.steps _ _ c.loop-here.invariant.first c.loop-here.invariant.counted)
 
 pub returns-clause-follows : goal.returns-clause-follows
 returns-clause-follows g c =

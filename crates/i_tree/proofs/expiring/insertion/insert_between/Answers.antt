@@ -1,7 +1,7 @@
 use Rattle.std.proofs.Common.{◌≡◌, ◌+◌, ◌++◌, ◌∷◌, ℕ, false, length, refl, sym, subst, ap, ◌∙◌, arith}
-use Rattle.std.proofs.lemmas.List.{length-map}
 use Rattle.i_tree.proofs.ExpiringLemmas.Insertion.{calls_equal, handle_still, items_cut, none_removed, one_more, place_between, reads_still, slots_joined}
 use Rattle.i_tree.proofs.ExpiringLemmas.Search.{answer_neighbours}
+use Rattle.i_tree.proofs.ExpiringLemmas.SearchPath.{length-items}
 use Rattle.i_tree.proofs.RbLemmas.SearchPath.Counts.{counted_join}
 use Rattle.i_tree.proofs.RbLemmas.SearchPath.Entries.{values-append}
 use Rattle.i_tree.proofs.RbLemmas.SearchPath.Search.{equal_from, not_equal_from}
@@ -46,9 +46,7 @@ returns-then-is_eq-clause-inserts g c =
     }
 
 pub returns-then-is_eq-clause-steps : goal.returns-then-is_eq-clause-steps
-returns-then-is_eq-clause-steps g c =
-    rw (length-map (entries c.args.core.now.shape) (λ (entry : ℕ × (g.row.K.Denot × g.row.V.Denot)). entry.1), length-map (entries c.descend-end.new.core.shape) (λ (entry : ℕ × (g.row.K.Denot × g.row.V.Denot)). entry.1))
-    c.descend-end.ensures.steps
+returns-then-is_eq-clause-steps g c = c.descend-end.ensures.steps
 
 -- a refusal means that nothing was removed
 none_gone : (g : _) (c : goal.In-Err g) → (c.descend-end.new.core.spare ≡ 0) × (length (entries c.descend-end.new.core.shape) ≡ length (entries c.args.core.now.shape))
@@ -89,9 +87,7 @@ returns-in-Err-clause-inserts g c =
     }
 
 pub returns-in-Err-clause-err_steps : goal.returns-in-Err-clause-err_steps
-returns-in-Err-clause-err_steps g c =
-    rw ((c.in-Err.ensures).takes.err, (c.in-Err.ensures).err_steps, length-map (entries c.args.core.now.shape) (λ (entry : ℕ × (g.row.K.Denot × g.row.V.Denot)). entry.1), length-map (entries c.descend-end.new.core.shape) (λ (entry : ℕ × (g.row.K.Denot × g.row.V.Denot)). entry.1))
-    c.descend-end.ensures.steps
+returns-in-Err-clause-err_steps g c = rw ((c.in-Err.ensures).takes.err, (c.in-Err.ensures).err_steps) c.descend-end.ensures.steps
 
 -- the pair has joined
 joined : (g : _) (c : goal.In_default g) → entries c.insert_at.new.self.shape ≡ c.descend-end.ensures.end.front ++ (c.in_default.field-0, c.args.pair) ∷ c.descend-end.ensures.end.back
@@ -172,5 +168,5 @@ returns-clause-neighbours g c found at =
 
 pub returns-clause-steps : goal.returns-clause-steps
 returns-clause-steps g c =
-    rw (length-map (entries c.args.core.now.shape) (λ (entry : ℕ × (g.row.K.Denot × g.row.V.Denot)). entry.1), length-map (entries c.insert_at.new.self.shape) (λ (entry : ℕ × (g.row.K.Denot × g.row.V.Denot)). entry.1))
-    (counted_join g.met.C.Counter.law c.args.steps.now c.descend-end.new.steps c.insert_at.new.steps (length (entries c.args.core.now.shape)) (length (entries c.descend-end.new.core.shape)) (length (entries c.insert_at.new.self.shape)) c.descend-end.ensures.steps (c.in_default.ensures).steps (more g c))
+    counted_join g.met.C.Counter.law c.args.steps.now c.descend-end.new.steps c.insert_at.new.steps _ _ _ c.descend-end.ensures.steps (c.in_default.ensures).steps
+    (length-items c.insert_at.new.self.shape ∙ more g c ∙ ap (λ n. n + 1) (sym (length-items c.descend-end.new.core.shape)))

@@ -1,11 +1,11 @@
 use Rattle.std.proofs.Common.{◌≡◌, ℕ, length, sym, ap, ◌∙◌, subst}
 use Rattle.std.specs.Bool.{MatchBool}
-use Rattle.std.proofs.lemmas.List.{length-map}
 use Rattle.std.specs.List.{All}
 use Rattle.i_tree.proofs.RbLemmas.SearchPath.Insertion.{IsLower, IsHigher}
 use Rattle.i_tree.proofs.RbLemmas.Shape.SubtreeHandles.{live_from_cut, value_at}
 use Rattle.i_tree.proofs.RbLemmas.SearchPath.Counts.{searches_at, searches_past}
 use Rattle.i_tree.proofs.RbLemmas.SearchPath.Search.{keys_around, found_equal, equal_from, not_equal_from}
+use Rattle.i_tree.proofs.ExpiringLemmas.SearchPath.{length-items}
 use Rattle.i_tree.proofs.KeyLemmas.Lookup.{absent_between, below_of_items, cases_equal, missing_between, not_both, stored_equal}
 use Rattle.i_tree.specs.Root.Descent.{SearchesFor}
 use Rattle.i_tree.specs.Expiring.Tree.{items}
@@ -41,7 +41,7 @@ returns-then-not-is_eq-clause-steps g c =
     let end = c.search_down-ended.ensures.end in
     let missing = missing_between g.met.K.Ord.total c.args.key tree end.front end.back end.between.cut (around g c) in
     subst (λ (contents : Contents (g.row.K.Denot × g.row.V.Denot)). SearchesFor g.C.Counter.made c.args.steps.now c.search_down-ended.new.steps (length (items contents.shape)) (HasKey g.K.Ord.cmp (items contents.shape) c.args.key) (NoKey g.K.Ord.cmp (items contents.shape) c.args.key)) c.self.view_is
-    (subst (λ (count : ℕ). SearchesFor g.C.Counter.made c.args.steps.now c.search_down-ended.new.steps count (HasKey g.K.Ord.cmp (items tree) c.args.key) (NoKey g.K.Ord.cmp (items tree) c.args.key)) (sym (length-map (entries tree) (λ (entry : ℕ × (g.row.K.Denot × g.row.V.Denot)). entry.1)))
+    (subst (λ (count : ℕ). SearchesFor g.C.Counter.made c.args.steps.now c.search_down-ended.new.steps count (HasKey g.K.Ord.cmp (items tree) c.args.key) (NoKey g.K.Ord.cmp (items tree) c.args.key)) (sym (length-items tree))
     (searches_past c.args.steps.now c.search_down-ended.new.steps (length (entries tree)) (λ stored. not_both g.K.Ord.cmp (items tree) c.args.key stored missing) c.search_down-ended.ensures.steps))
 
 pub returns-then-not-is_eq-clause-core : goal.returns-then-not-is_eq-clause-core
@@ -80,7 +80,7 @@ returns-clause-steps g c =
     (equal_from ended.said (sym c.is_eq.ensures ∙ c.if-not-is_eq.false)) in
     let stored = stored_equal g.met.K.Ord.total c.args.key g.K.ExpiredKey.expiration g.E.Ord.cmp c.args.time tree at.0 (ended.found, at.1) at.2 at.3 c.self.invariant at.4 in
     subst (λ (contents : Contents (g.row.K.Denot × g.row.V.Denot)). SearchesFor g.C.Counter.made c.args.steps.now c.add_test.new.self (length (items contents.shape)) (HasKey g.K.Ord.cmp (items contents.shape) c.args.key) (NoKey g.K.Ord.cmp (items contents.shape) c.args.key)) c.self.view_is
-    (subst (λ (count : ℕ). SearchesFor g.C.Counter.made c.args.steps.now c.add_test.new.self count (HasKey g.K.Ord.cmp (items tree) c.args.key) (NoKey g.K.Ord.cmp (items tree) c.args.key)) (sym (length-map (entries tree) (λ (entry : ℕ × (g.row.K.Denot × g.row.V.Denot)). entry.1)))
+    (subst (λ (count : ℕ). SearchesFor g.C.Counter.made c.args.steps.now c.add_test.new.self count (HasKey g.K.Ord.cmp (items tree) c.args.key) (NoKey g.K.Ord.cmp (items tree) c.args.key)) (sym (length-items tree))
     (searches_at g.met.C.Counter.law c.args.steps.now c.search_down-ended.new.steps c.add_test.new.self (length (entries tree)) (λ missing. not_both g.K.Ord.cmp (items tree) c.args.key stored missing) c.search_down-ended.ensures.steps c.add_test.ensures))
 
 pub returns-clause-core : goal.returns-clause-core

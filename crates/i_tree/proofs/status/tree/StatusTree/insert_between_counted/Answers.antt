@@ -8,6 +8,9 @@ use Rattle.i_tree.specs.Root.Live.{is_live}
 use Rattle.i_tree.specs.Status.StatusTree.{StatusTreeInserts}
 use Rattle.i_tree.proofs.status.tree.StatusTree.insert_between_counted.Goals as goal
 
+pub insert_between-requires : goal.insert_between-requires
+insert_between-requires g c = rw c.self.view_is c.requires
+
 pub returns-clause-cases : goal.returns-clause-cases
 returns-clause-cases g c =
     rw (c.pairs_beside.ensures.same, ← c.self.view_is)
