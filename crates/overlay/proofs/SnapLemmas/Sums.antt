@@ -17,6 +17,7 @@ use Rattle.overlay.proofs.SnapLemmas.Along.{point_at}
 use Rattle.overlay.proofs.SnapLemmas.Windings.{winding-append}
 
 module _ (all : List Edge) (point : RationalPoint) (P : Edge → Type 0) (each : (edge : Edge) (chain : List Point) → IsPath edge chain → P edge → winding (pieces chain) point ≡ under edge point) where
+  -- what holds of each chain and its edge holds of their sums
   total : (edges : List Edge) (chains : List (List Point)) → ((edge : Edge) → Contains edges edge → Contains all edge) → AllZip (IsChain all) edges chains → All P edges → winding (flat_map pieces chains) point ≡ winding edges point
   total [] [] among are every = refl
   total [] (chain ∷ chains) among are every = absurd are
@@ -47,6 +48,7 @@ module _ (test : Point → Bool) where
   abbrev ends : List Edge → ℕ
   ends edges = count_by (λ edge. test (end_of edge)) edges
 
+  -- one more, and lists one behind the other
   starts-cons : (edge : Edge) (edges : List Edge) → starts (edge ∷ edges) ≡ unit (start_of edge) + starts edges
   starts-cons edge edges = sum_by-cons (λ (e : Edge). unit (start_of e)) edge edges
 
@@ -70,6 +72,7 @@ module _ (test : Point → Bool) where
       let later = along edge to others rest in
       omega (arith, first, second, later)
 
+  -- the same of a whole chain
   along_path : (edge : Edge) (chain : List Point) → IsPath edge chain → starts (pieces chain) + unit (end_of edge) ≡ unit (start_of edge) + ends (pieces chain)
   along_path edge [] none = absurd none
   along_path edge (from ∷ others) (x, y, passed, goes) =
@@ -77,6 +80,7 @@ module _ (test : Point → Bool) where
       let sum = along edge from others goes in
       omega (arith, same, sum)
 
+  -- and of all chains: so their pieces start and end as often as their edges
   pub balance : (all edges : List Edge) (chains : List (List Point)) → ((edge : Edge) → Contains edges edge → Contains all edge) → AllZip (IsChain all) edges chains
       → starts (flat_map pieces chains) + ends edges ≡ starts edges + ends (flat_map pieces chains)
   balance all [] [] among are = refl
