@@ -1,5 +1,5 @@
 -- Rounding, on one axis and of points.
-use Rattle.std.proofs.Common.{ap, arith, inl, inr, negsuc, pos, subst, sym, ℕ, ℤ, ◌*ℤ◌, ◌*◌, ◌+ℤ◌, ◌+◌, ◌-ℤ◌, ◌/◌, ◌<ℤ◌, ◌<◌, ◌∙◌, ◌≡◌, ◌≤ℤ◌, ◌≤◌}
+use Rattle.std.proofs.Common.{ap, arith, inl, inr, negsuc, pos, subst, sym, ℕ, ℤ, ◌*ℤ◌, ◌*◌, ◌+ℤ◌, ◌+◌, ◌/◌, ◌<ℤ◌, ◌<◌, ◌∙◌, ◌≡◌, ◌≤ℤ◌, ◌≤◌}
 use Rattle.std.proofs.Math.Nat.{le_of_mul-le-mul_left, lt-div-mul-add, lt_of_mul-lt-mul_left, mul-div-le, mul-le-mul_left, mul-lt-mul_of_pos_left, mul-pos}
 use Rattle.std.proofs.lemmas.Int.{by_lt_z, ints}
 use Rattle.std.specs.Int.{int_div_euclid}
