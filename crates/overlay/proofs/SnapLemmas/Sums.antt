@@ -1,6 +1,7 @@
 -- The chains of many edges, added up: what their pieces count, and how many of them start and end.
-use Rattle.std.proofs.Common.{Bool, List, [], ap, arith, cond, refl, suc, ℕ, ◌++◌, ◌+◌, ◌∙◌, ◌∷◌, ◌≡◌}
+use Rattle.std.proofs.Common.{Bool, IsPermutation, List, [], ap, arith, cond, map, refl, suc, sum_by, sym, ℕ, ◌++◌, ◌+◌, ◌∙◌, ◌∷◌, ◌≡◌}
 use Rattle.std.proofs.lemmas.List.Elements.{All-head, All-tail}
+use Rattle.std.proofs.lemmas.List.Sorted.{sum_by-IsPermutation}
 use Rattle.std.proofs.lemmas.List.Sums.{sum_by-append, sum_by-cons}
 use Rattle.std.specs.List.{All, AllZip, Contains, count_by, flat_map}
 use Rattle.plane.specs.declared.edge.Edge.{Edge}
@@ -8,7 +9,7 @@ use Rattle.plane.specs.declared.point.Point.{Point}
 use Rattle.plane.specs.Meet.Edges.{RationalPoint}
 use Rattle.overlay.specs.Snap.Chains.{AreChains, IsChain}
 use Rattle.overlay.specs.Snap.Near.{IsNear}
-use Rattle.overlay.specs.Snap.Windings.{IsAlongAxis, edge_between, end_of, pieces, pieces_from, start_of, under, winding}
+use Rattle.overlay.specs.Snap.Windings.{IsAlongAxis, IsClosed, edge_between, end_of, pieces, pieces_from, start_of, under, winding}
 use Rattle.overlay.proofs.SnapLemmas.Clear.{chain-clear}
 use Rattle.overlay.proofs.SnapLemmas.Exact.{chain-exact}
 use Rattle.overlay.proofs.SnapLemmas.Numbers.{both}
@@ -94,3 +95,15 @@ module _ (test : Point → Bool) where
       let starts_edges = starts-cons edge edges in
       let ends_edges = ends-cons edge edges in
       omega (arith, here, later, starts_all, ends_all, starts_edges, ends_edges)
+
+-- ---- closed edges by a permutation
+
+sum_by-map : {X Y : Type 0} (weigh : Y → ℕ) (f : X → Y) (xs : List X) → sum_by weigh (map f xs) ≡ sum_by (λ x. weigh (f x)) xs
+sum_by-map weigh f [] = refl
+sum_by-map weigh f (x ∷ xs) = sum_by-cons weigh (f x) (map f xs) ∙ ap (λ n. weigh (f x) + n) (sum_by-map weigh f xs) ∙ sym (sum_by-cons (λ y. weigh (f y)) x xs)
+
+-- the ends are the starts, in some order
+pub IsClosed-permutation : (edges : List Edge) → IsPermutation (map start_of edges) (map end_of edges) → IsClosed edges
+IsClosed-permutation edges is test =
+    let unit : Point → ℕ = λ point. cond (test point) 1 0 in
+    sym (sum_by-map unit start_of edges) ∙ sym (sum_by-IsPermutation unit (map start_of edges) (map end_of edges) is) ∙ sum_by-map unit end_of edges
