@@ -50,6 +50,7 @@ SOURCES = {
     "`event_queue`": ["event_queue/src/lib.rt"],
     "`plane`": [f"plane/src/{room}.rt" for room in ("*", "meet/*", "pairs/*", "locate/*", "sweep_line/*")],
     "`plane::sweep_line`": ["plane/src/sweep_line/*.rt"],
+    "`overlay::snap`": ["overlay/src/snap/*.rt"],
     "`itree_c`": ["itree_c/src/*.rt"],
     "`itree`": ["itree/src/program.rt"],
 }

@@ -15,6 +15,7 @@ use Rattle.overlay.proofs.SnapLemmas.Rounding.{RoundsTo-itself, RoundsOn-monoton
 use Rattle.plane.proofs.MeetLemmas.Identities.{Term, at_most, at_most_of, identity, minus, number, plus, times}
 use Rattle.plane.proofs.SweepLineLemmas.Gaps.{product_above}
 
+-- the greater share of an edge that rises along the axis is at least as far
 ahead : (n m a b : ℕ) (p q start end : ℤ) → a * m ≤ b * n → start ≤ℤ end → p ≡ ((pos n *ℤ start) +ℤ (pos a *ℤ (end -ℤ start))) → q ≡ ((pos m *ℤ start) +ℤ (pos b *ℤ (end -ℤ start))) → (pos m *ℤ p) ≤ℤ (pos n *ℤ q)
 ahead n m a b p q start end order way first second =
     let at : ℕ → ℕ → Term = λ k s. plus (times (n_of k) (number start)) (times (n_of s) (minus (number end) (number start))) in
@@ -24,6 +25,7 @@ ahead n m a b p q start end order way first second =
     subst (λ (z : ℤ). (pos m *ℤ z) ≤ℤ (pos n *ℤ q)) (sym first)
     (subst (λ (z : ℤ). (pos m *ℤ ((pos n *ℤ start) +ℤ (pos a *ℤ (end -ℤ start)))) ≤ℤ (pos n *ℤ z)) (sym second) there)
 
+-- and of one that falls at most
 behind : (n m a b : ℕ) (p q start end : ℤ) → a * m ≤ b * n → end ≤ℤ start → p ≡ ((pos n *ℤ start) +ℤ (pos a *ℤ (end -ℤ start))) → q ≡ ((pos m *ℤ start) +ℤ (pos b *ℤ (end -ℤ start))) → (pos n *ℤ q) ≤ℤ (pos m *ℤ p)
 behind n m a b p q start end order way first second =
     let at : ℕ → ℕ → Term = λ k s. plus (times (n_of k) (number start)) (times (n_of s) (minus (number end) (number start))) in
@@ -39,6 +41,7 @@ upto_on n m a b p q c d start end some many order first second rounds other_roun
   falling = λ down. RoundsOn-monotone m n q p d c many some (behind n m a b p q start end order down first second) other_rounds rounds;
 }
 
+-- of two points of an edge, what the one at the lesser share rounds to isn't behind what the other rounds to
 pub Upto-by_shares : (edge : Edge) (x y other_x other_y : ℤ) (one other : RationalPoint) (a b : ℕ) → IsAtShare edge one a → IsAtShare edge other b → RoundsTo one x y → RoundsTo other other_x other_y → a * other.n ≤ b * one.n → Upto edge x y other_x other_y
 Upto-by_shares edge x y other_x other_y one other a b first second rounds other_rounds order = record {
   along_x = upto_on one.n other.n a b one.x other.x x other_x edge.x0 edge.x1 one.positive other.positive order first.x second.x rounds.along_x other_rounds.along_x;
@@ -60,6 +63,7 @@ start_on c d = identity (number c) (plus (times (n_of 1) (number c)) (times (n_o
 end_on : (c d : ℤ) → d ≡ ((pos 1 *ℤ c) +ℤ (pos 1 *ℤ (d -ℤ c)))
 end_on c d = identity (number d) (plus (times (n_of 1) (number c)) (times (n_of 1) (minus (number d) (number c)))) (omega arith)
 
+-- the ends, by their shares
 pub from_at : (edge : Edge) → IsAtShare edge (whole edge.x0 edge.y0) 0
 from_at edge = record {
   share = omega arith;
@@ -74,15 +78,18 @@ to_at edge = record {
   y = end_on edge.y0 edge.y1;
 }
 
+-- an edge's start isn't behind anything that it passes
 pub Upto-from_start : (edge : Edge) (x y : ℤ) → Passes edge x y → Upto edge edge.x0 edge.y0 x y
 Upto-from_start edge x y (point, (a, at), rounds) =
     Upto-by_shares edge edge.x0 edge.y0 x y (whole edge.x0 edge.y0) point 0 a (from_at edge) at (RoundsTo-itself edge.x0 edge.y0) rounds (omega arith)
 
+-- and nothing that it passes is behind its end
 pub Upto-to_end : (edge : Edge) (x y : ℤ) → Passes edge x y → Upto edge x y edge.x1 edge.y1
 Upto-to_end edge x y (point, (a, at), rounds) =
     let share = at.share in
     Upto-by_shares edge x y edge.x1 edge.y1 point (whole edge.x1 edge.y1) a 1 at (to_at edge) rounds (RoundsTo-itself edge.x1 edge.y1) (omega arith)
 
+-- an edge passes its ends
 pub Passes-start : (edge : Edge) → Passes edge edge.x0 edge.y0
 Passes-start edge = (whole edge.x0 edge.y0, (0, from_at edge), RoundsTo-itself edge.x0 edge.y0)
 
@@ -91,6 +98,7 @@ Passes-end edge = (whole edge.x1 edge.y1, (1, to_at edge), RoundsTo-itself edge.
 
 -- ---- points of which neither is behind the other are one
 
+-- neither is behind the other
 pub same_on : (from to c d : ℤ) → UptoOn from to c d → UptoOn from to d c → c ≡ d
 same_on from to c d first second =
     by_lt_z from to
@@ -121,6 +129,7 @@ upto_on-itself from to c = record {
   falling = λ down. omega (arith, ints);
 }
 
+-- no point is behind itself
 pub Upto-itself : (edge : Edge) (c : Point) → Upto edge c.x c.y c.x c.y
 Upto-itself edge c = record {
   along_x = upto_on-itself edge.x0 edge.x1 c.x;
@@ -148,6 +157,7 @@ at_point x y = record {
   high = y;
 }
 
+-- what an edge passes lies in its box
 pub Passes-in_box : (edge : Edge) (x y : ℤ) → Passes edge x y → BoundsMeet (bounds_of edge) (at_point x y)
 Passes-in_box edge x y passes =
     let first = Upto-from_start edge x y passes in

@@ -23,6 +23,8 @@ pub use Rattle.overlay.proofs.SnapLemmas.Rounding.{RoundsTo-unique}
 -- What an edge passes lies in its box; of two points that it passes one isn't behind the other, and where neither is they are
 -- one.
 pub use Rattle.overlay.proofs.SnapLemmas.Along.{Passes-in_box, Passes-ordered, Upto-same}
+-- Edges are closed where their ends are their starts in some order, as those of rings are.
+pub use Rattle.overlay.proofs.SnapLemmas.Sums.{IsClosed-permutation}
 -- Two edges that aren't parallel have one crossing, whichever is named first, and no edge crosses itself.
 pub use Rattle.overlay.proofs.SnapLemmas.Crossing.{CrossAt-unique, CrossAt-exchanged, CrossAt-itself}
 

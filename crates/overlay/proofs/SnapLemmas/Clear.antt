@@ -22,6 +22,7 @@ Agrees edge point =
 -- ---- an edge that doesn't go leftwards or rightwards
 
 module _ (edge : Edge) (onwards : edge.x0 ≤ℤ edge.x1) where
+  -- what is left of a chain goes on to the edge's end
   rises : (from : Point) (others : List Point) → GoesOn edge from others → from.x ≤ℤ edge.x1
   rises from [] (x, y) = omega (arith, ints, x)
   rises from (to ∷ others) (order, passes, rest) =
@@ -30,6 +31,7 @@ module _ (edge : Edge) (onwards : edge.x0 ≤ℤ edge.x1) where
       omega (arith, ints, next, upto)
 
   module _ (point : RationalPoint) where
+    -- a point before the rest of a chain has none of it under it
     sum_before : (from : Point) (others : List Point) → GoesOn edge from others → point.x <ℤ (pos point.n *ℤ from.x) → winding (pieces_from from others) point ≡ pos 0
     sum_before from [] goes is = refl
     sum_before from (to ∷ others) (order, passes, rest) is =
@@ -39,6 +41,7 @@ module _ (edge : Edge) (onwards : edge.x0 ≤ℤ edge.x1) where
         (under-right (edge_between from to) point next ∙ before (edge_between from to) point is)
         (sum_before to others rest (omega (arith, ints, is, further)))
 
+    -- nor has one behind the edge
     sum_after : (from : Point) (others : List Point) → GoesOn edge from others → (pos point.n *ℤ edge.x1) ≤ℤ point.x → winding (pieces_from from others) point ≡ pos 0
     sum_after from [] goes is = refl
     sum_after from (to ∷ others) (order, passes, rest) is =
@@ -48,6 +51,7 @@ module _ (edge : Edge) (onwards : edge.x0 ≤ℤ edge.x1) where
         (under-right (edge_between from to) point next ∙ after (edge_between from to) point (omega (arith, ints, is, further)))
         (sum_after to others rest is)
 
+    -- one within has the piece that covers it
     sum_within : Agrees edge point → Covering edge point → (from : Point) (others : List Point) → Passes edge from.x from.y → GoesOn edge from others → (pos point.n *ℤ from.x) ≤ℤ point.x → winding (pieces_from from others) point ≡ count (is_low edge point)
     sum_within agrees c from [] passed (x, y) is =
         let upto = c.before in
@@ -67,6 +71,7 @@ module _ (edge : Edge) (onwards : edge.x0 ≤ℤ edge.x1) where
         omega (arith, ints, here, later))
 
 module _ (edge : Edge) (backwards : edge.x1 ≤ℤ edge.x0) where
+  -- the same leftwards
   falls : (from : Point) (others : List Point) → GoesOn edge from others → edge.x1 ≤ℤ from.x
   falls from [] (x, y) = omega (arith, ints, x)
   falls from (to ∷ others) (order, passes, rest) =
@@ -118,6 +123,7 @@ module _ (edge : Edge) (backwards : edge.x1 ≤ℤ edge.x0) where
 
 -- ---- each edge
 
+-- a chain that doesn't go leftwards, wherever the point is
 winding-right : (edge : Edge) (point : RationalPoint) (from : Point) (others : List Point) → edge.x0 ≤ℤ edge.x1 → Agrees edge point → from.x ≡ edge.x0 → Passes edge from.x from.y → GoesOn edge from others → winding (pieces_from from others) point ≡ under edge point
 winding-right edge point from others onwards agrees is passed goes =
     let total = under-right edge point onwards in
@@ -129,6 +135,7 @@ winding-right edge point from others onwards agrees is passed goes =
     sum_within edge onwards point agrees c from others passed goes (rw is late) ∙ sym (total ∙ within edge point c))
     (λ past. sum_after edge onwards point from others goes past ∙ sym (total ∙ after edge point past)))
 
+-- one that doesn't go rightwards
 winding-left : (edge : Edge) (point : RationalPoint) (from : Point) (others : List Point) → edge.x1 ≤ℤ edge.x0 → Agrees (reversed edge) point → from.x ≡ edge.x0 → Passes edge from.x from.y → GoesOn edge from others → winding (pieces_from from others) point ≡ under edge point
 winding-left edge point from others backwards agrees is passed goes =
     let total = under-left edge point backwards in

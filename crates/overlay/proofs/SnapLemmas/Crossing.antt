@@ -20,6 +20,7 @@ record Between (from to c : ℤ) : Type 0 where
   first : UptoOn from to from c
   second : UptoOn from to c to
 
+-- a rounded mean of two numbers is between them
 mean_between : (n a : ℕ) (from to c : ℤ) → 0 < n → a ≤ n → RoundsOn n ((pos n *ℤ from) +ℤ (pos a *ℤ (to -ℤ from))) c → Between from to c
 mean_between n a from to c some share rounds =
     let edge : Edge = record {
@@ -59,17 +60,20 @@ fits_between from to c between first second =
     let above = between.second.falling downwards in
     omega (arith, ints, above, under))
 
+-- so it fits where they fit
 pub mean-fits : (all first from to c : ℤ) → pos 0 <ℤ all → pos 0 ≤ℤ first → first ≤ℤ all → RoundsOn (unsigned_abs all) ((all *ℤ from) +ℤ (first *ℤ (to -ℤ from))) c → FitsSigned w32 from → FitsSigned w32 to → FitsSigned w32 c
 mean-fits (pos n) (pos a) from to c some first_from first_upto rounds =
     fits_between from to c (mean_between n a from to c (omega (arith, ints, some)) (omega (arith, ints, first_upto)) rounds)
 mean-fits (pos n) (negsuc a) from to c some first_from first_upto rounds = absurd (omega (arith, ints, first_from))
 mean-fits (negsuc n) first from to c some first_from first_upto rounds = absurd (omega (arith, ints, some))
 
+-- the same share over two wholes makes one number
 same_rational : (m n a : ℕ) (s start way : ℤ) → (pos n *ℤ s) ≡ (pos a *ℤ pos m) → (pos m *ℤ ((pos n *ℤ start) +ℤ (pos a *ℤ way))) ≡ (pos n *ℤ ((pos m *ℤ start) +ℤ (s *ℤ way)))
 same_rational m n a s start way same =
     let fact = same_of (times (times (n_of n) (number s)) (number way)) (times (times (n_of a) (n_of m)) (number way)) (ap (λ z. z *ℤ way) same) in
     identity (times (n_of m) (plus (times (n_of n) (number start)) (times (n_of a) (number way)))) (times (n_of n) (plus (times (n_of m) (number start)) (times (number s) (number way)))) (omega (arith, fact))
 
+-- so it rounds to one whole number
 rounds_at : (m n a : ℕ) (s start way p c : ℤ) → 0 < m → 0 < n → (pos n *ℤ s) ≡ (pos a *ℤ pos m) → p ≡ ((pos n *ℤ start) +ℤ (pos a *ℤ way)) → RoundsOn m ((pos m *ℤ start) +ℤ (s *ℤ way)) c → RoundsOn n p c
 rounds_at m n a s start way p c some many same is rounds =
     subst (λ (z : ℤ). RoundsOn n z c) (sym is) (RoundsOn-same m n ((pos m *ℤ start) +ℤ (s *ℤ way)) ((pos n *ℤ start) +ℤ (pos a *ℤ way)) c some many (same_rational m n a s start way same) rounds)
@@ -83,6 +87,7 @@ share_by one other point a b first second =
     (way_from point.n a b point.x one.x0 one.x1 other.x0 other.x1 first.x second.x)
     (way_from point.n a b point.y one.y0 one.y1 other.y0 other.y1 first.y second.y)
 
+-- the part of the one edge, as `plane` has it, and as a turn at the other
 part_is : (x0 y0 ox0 oy0 ox1 oy1 : ℤ) → cross (ox0 -ℤ x0) (oy0 -ℤ y0) (ox1 -ℤ ox0) (oy1 -ℤ oy0) ≡ cross (ox1 -ℤ ox0) (oy1 -ℤ oy0) (x0 -ℤ ox0) (y0 -ℤ oy0)
 part_is x0 y0 ox0 oy0 ox1 oy1 =
     let gap : ℤ → ℤ → Term = λ s t. minus (number s) (number t) in
@@ -92,6 +97,7 @@ turn_cross : (a : ℕ) (ux uy vx vy : ℤ) → ((pos 0 -ℤ pos a) *ℤ cross vx
 turn_cross a ux uy vx vy =
     identity (times (minus_of a) (minus (times (number vx) (number uy)) (times (number vy) (number ux)))) (times (n_of a) (minus (times (number ux) (number vy)) (times (number uy) (number vx)))) (omega arith)
 
+-- the share of a common point is the part over the whole
 share_of : (one other : Edge) (point : RationalPoint) (a b : ℕ) → IsAtShare one point a → IsAtShare other point b → (pos point.n *ℤ part_of_one one other) ≡ (pos a *ℤ whole one other)
 share_of one other point a b first second =
     ap (λ z. pos point.n *ℤ z) (part_is one.x0 one.y0 other.x0 other.y0 other.x1 other.y1)
@@ -100,11 +106,13 @@ share_of one other point a b first second =
 
 -- ---- three numbers are three others, or these with their signs turned
 
+-- the first three are the other three, or those with their signs turned
 abbrev pub AreSigned : ℤ → ℤ → ℤ → ℤ → ℤ → ℤ → Type 0
 AreSigned d s t all first second =
     (d ≡ all) × (s ≡ first) × (t ≡ second)
     ⊎ (d ≡ (pos 0 -ℤ all)) × (s ≡ (pos 0 -ℤ first)) × (t ≡ (pos 0 -ℤ second))
 
+-- what `HasParts` says of these, of the three cross products
 some_there : (d s t all first second : ℤ) → AreSigned d s t all first second → HasParts d s t → all ≢ pos 0
 some_there d s t all first second (inl (x, y, z)) parts none = let some = parts.some in omega (arith, ints, x, none, some)
 some_there d s t all first second (inr (x, y, z)) parts none = let some = parts.some in omega (arith, ints, x, none, some)
@@ -129,6 +137,7 @@ second_there d s t all first second (inr (x, y, z)) parts =
     let upto = parts.second_upto in
     inr (omega (arith, ints, x, z, from, upto), omega (arith, ints, x, z, from, upto))
 
+-- and back
 parts_there : (d s t all first second : ℤ) → pos 0 ≤ℤ d → AreSigned d s t all first second → all ≢ pos 0 → IsPart first all → IsPart second all → HasParts d s t
 parts_there d s t all first second above (inl (x, y, z)) some one other = record {
   some = omega (arith, ints, above, x, some);
@@ -145,6 +154,7 @@ parts_there d s t all first second above (inr (x, y, z)) some one other = record
   second_upto = omega (arith, ints, above, x, z, other);
 }
 
+-- a share is the same with the signs turned
 share_signed : (n a : ℕ) (d s t all first second : ℤ) → AreSigned d s t all first second → (pos n *ℤ first) ≡ (pos a *ℤ all) → (pos n *ℤ s) ≡ (pos a *ℤ d)
 share_signed n a d s t all first second (inl (x, y, z)) same = ap (λ k. pos n *ℤ k) y ∙ same ∙ ap (λ k. pos a *ℤ k) (sym x)
 share_signed n a d s t all first second (inr (x, y, z)) same =
@@ -155,6 +165,7 @@ share_signed n a d s t all first second (inr (x, y, z)) same =
 
 -- ---- together
 
+-- each common point rounds as the part of the one edge does
 rounds_there : (one other : Edge) (d s t x y : ℤ) → AreSigned d s t (whole one other) (part_of_one one other) (part_of_other one other) → RoundsPart one d s t x y → (point : RationalPoint) → IsOf one point → IsOf other point → RoundsTo point x y
 rounds_there one other (pos m) s t x y signed rounds point (a, first) (b, second) =
     let some = rounds.parts.some in
@@ -168,6 +179,7 @@ cross_there : (one other : Edge) (d s t x y : ℤ) → AreSigned d s t (whole on
 cross_there one other d s t x y signed rounds slanted (point, of_one, of_other) =
     (slanted, (point, of_one, of_other, rounds_there one other d s t x y signed rounds point of_one of_other))
 
+-- what the parts say of the crossing, with d not below 0
 pub crossing_tested : (one other : Edge) (d s t : ℤ) (r : Option Point) → pos 0 ≤ℤ d → AreSigned d s t (whole one other) (part_of_one one other) (part_of_other one other) → MatchOption r (¬ (HasParts d s t)) (λ c. RoundsPart one d s t c.x c.y) → MatchOption r (¬ (AreNotParallel one other × Meet one other)) (λ c. CrossAt one other c.x c.y)
 crossing_tested one other d s t None above signed test = λ both.
     let parts = parts_of_meet one other both.1 in
@@ -179,6 +191,7 @@ crossing_tested one other d s t (Some c) above signed test =
 
 -- ---- all common points round to one whole point
 
+-- the share of a common point is one, so all of them are one point
 pub crossing-rounds : (one other : Edge) (p q : RationalPoint) (x y other_x other_y : ℤ) → AreNotParallel one other → IsOf one p → IsOf other p → IsOf one q → IsOf other q → RoundsTo p x y → RoundsTo q other_x other_y → (x ≡ other_x) × (y ≡ other_y)
 crossing-rounds one other p q x y other_x other_y apart (a, first) (b, second) (c, third) (d, fourth) rounds other_rounds =
     let cross = ((one.x1 -ℤ one.x0) *ℤ (other.y1 -ℤ other.y0)) -ℤ ((one.y1 -ℤ one.y0) *ℤ (other.x1 -ℤ other.x0)) in
@@ -189,6 +202,7 @@ crossing-rounds one other p q x y other_x other_y apart (a, first) (b, second) (
       same_on other.y0 other.y1 y other_y there.along_y back.along_y,
     )
 
+-- two edges cross at one whole point
 pub CrossAt-unique : (one other : Edge) (x y other_x other_y : ℤ) → CrossAt one other x y → CrossAt one other other_x other_y → (x ≡ other_x) × (y ≡ other_y)
 CrossAt-unique one other x y other_x other_y (slanted, (p, of_one, of_other, rounds)) (_, (q, of_one_too, of_other_too, other_rounds)) =
     crossing-rounds one other p q x y other_x other_y slanted of_one of_other of_one_too of_other_too rounds other_rounds
@@ -198,6 +212,7 @@ CrossAt-unique one other x y other_x other_y (slanted, (p, of_one, of_other, rou
 not_parallel_back : (ux uy vx vy : ℤ) → cross ux uy vx vy ≢ pos 0 → cross vx vy ux uy ≢ pos 0
 not_parallel_back ux uy vx vy some none = let back = cross-exchanged ux uy vx vy in some (omega (arith, ints, back, none))
 
+-- whichever is named first
 pub CrossAt-exchanged : (one other : Edge) (x y : ℤ) → CrossAt one other x y → CrossAt other one x y
 CrossAt-exchanged one other x y (slanted, (point, of_one, of_other, rounds)) = (
   not_parallel_back (one.x1 -ℤ one.x0) (one.y1 -ℤ one.y0) (other.x1 -ℤ other.x0) (other.y1 -ℤ other.y0) slanted,
@@ -207,5 +222,6 @@ CrossAt-exchanged one other x y (slanted, (point, of_one, of_other, rounds)) = (
 cross_itself : (ux uy : ℤ) → cross ux uy ux uy ≡ pos 0
 cross_itself ux uy = identity (minus (times (number ux) (number uy)) (times (number uy) (number ux))) (n_of 0) (omega arith)
 
+-- an edge is parallel to itself
 pub CrossAt-itself : (edge : Edge) (x y : ℤ) → ¬ (CrossAt edge edge x y)
 CrossAt-itself edge x y (slanted, crossing) = slanted (cross_itself (edge.x1 -ℤ edge.x0) (edge.y1 -ℤ edge.y0))

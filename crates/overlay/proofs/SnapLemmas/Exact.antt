@@ -18,6 +18,7 @@ use Rattle.plane.proofs.MeetLemmas.Identities.{identity, minus, number, plus, sc
 
 -- ---- a level edge passes points of its height alone
 
+-- each point of a level edge has its height
 level_at : (n a : ℕ) (p y0 y1 : ℤ) → y1 ≡ y0 → p ≡ ((pos n *ℤ y0) +ℤ (pos a *ℤ (y1 -ℤ y0))) → p ≡ (pos n *ℤ y0)
 level_at n a p y0 y1 level is =
     is ∙ ap (λ w. (pos n *ℤ y0) +ℤ (pos a *ℤ (w -ℤ y0))) level
@@ -51,6 +52,7 @@ test_level k w h p some is =
     let low : (pos k *ℤ h) ≤ℤ (p *ℤ pos k) = rw (sym (identity (times (n_of k) (number p)) (times (number p) (n_of k)) (omega arith))) there in
     omega (arith, ints, low, above))
 
+-- so the test of heights compares numbers
 low_level : (edge : Edge) (point : RationalPoint) (h : ℤ) → edge.y0 ≡ h → edge.y1 ≡ h → Covering edge point → is_low edge point ≡ int_le (pos point.n *ℤ h) point.y
 low_level edge point h first second c =
     let some = onwards edge point c in
@@ -59,6 +61,7 @@ low_level edge point h first second c =
     ap (λ z. int_le z (point.y *ℤ run edge)) (height_level point.n point.x edge.x0 edge.x1 edge.y0 edge.y1 h first second)
     ∙ test_level width.k (run edge) (pos point.n *ℤ h) point.y (omega (arith, ints, some, is)) is
 
+-- what the edge passes has its height, too
 agrees-level : (edge : Edge) (point : RationalPoint) → edge.y1 ≡ edge.y0 → Agrees edge point
 agrees-level edge point level piece from_passes to_passes c d =
     let from = passes_level edge piece.x0 piece.y0 level from_passes in
@@ -72,6 +75,7 @@ agrees-upright edge point upright piece from_passes to_passes c d =
     let some = onwards edge point c in
     absurd (omega (arith, ints, some, upright))
 
+-- along either axis
 pub chain-exact : (edge : Edge) (chain : List Point) (point : RationalPoint) → IsPath edge chain → IsAlongAxis edge → winding (pieces chain) point ≡ under edge point
 chain-exact edge chain point is (inl upright) = chain-agrees edge chain point is (agrees-upright edge point upright) (agrees-upright (reversed edge) point (sym upright))
 chain-exact edge chain point is (inr level) = chain-agrees edge chain point is (agrees-level edge point level) (agrees-level (reversed edge) point (sym level))

@@ -15,6 +15,7 @@ pub record Falls (edge : Edge) (w h : ℕ) : Type 0 where
   pub wide : 0 < w
   pub high : 0 < h
 
+-- the place s rounds to d along x, and down along y
 rounds_on_way : (n s w h d : ℕ) (start way : ℤ) → n ≡ 4 * (w * h) → way ≡ pos w → 0 < w → 4 * (d * h) ≤ s + 2 * h → s < 4 * (d * h) + 2 * h → RoundsOn n ((pos n *ℤ start) +ℤ (pos s *ℤ way)) (start +ℤ pos d)
 rounds_on_way n s w h d start way whole goes wide from upto =
     let left = mul-le-mul_left (2 * w) from in
@@ -98,6 +99,7 @@ Passes-falling edge w h dx dy falls in_x in_y first second =
 
 -- ---- and only then
 
+-- what the share of a point of the edge says along x, and along y
 right_from : (n a w d : ℕ) (p start way : ℤ) → p ≡ ((pos n *ℤ start) +ℤ (pos a *ℤ way)) → way ≡ pos w → RoundsOn n p (start +ℤ pos d) → (n * (2 * d) ≤ 2 * (a * w) + n) × (2 * (a * w) < n * (2 * d) + n)
 right_from n a w d p start way is goes rounds =
     let there : RoundsOn n ((pos n *ℤ start) +ℤ (pos a *ℤ pos w)) (start +ℤ pos d) =
@@ -118,6 +120,7 @@ down_from n a h d p start way is goes rounds =
       omega (arith, at_most_of (times (n_of n) (minus (times (n_of 2) c) (n_of 1))) (times (n_of 2) p1) there.from),
     )
 
+-- the lower left corner isn't above the edge, the upper right one is
 corner_closed : (n a w h dx dy : ℕ) → 0 < n → n * (2 * dx) ≤ 2 * (a * w) + n → 2 * (a * h) ≤ n * (2 * dy) + n → 2 * (dx * h) ≤ (2 * (dy * w) + w) + h
 corner_closed n a w h dx dy some from upto =
     let left = mul-le-mul_left h from in
@@ -130,6 +133,7 @@ corner_open n a w h dx dy wide from upto =
     let right = mul-le-mul_left h upto in
     lt_of_mul-lt-mul_left n (omega (arith, left, right))
 
+-- a pixel that the edge passes has its corners so
 pub falling-Passes : (edge : Edge) (w h dx dy : ℕ) → Falls edge w h → Passes edge (edge.x0 +ℤ pos dx) (edge.y0 -ℤ pos dy) → (2 * (dx * h) ≤ (2 * (dy * w) + w) + h) × (2 * (dy * w) < (2 * (dx * h) + h) + w)
 falling-Passes edge w h dx dy falls (point, (a, at), rounds) =
     let x = right_from point.n a w dx point.x edge.x0 (edge.x1 -ℤ edge.x0) at.x falls.along_x rounds.along_x in

@@ -17,6 +17,7 @@ pub record Covering (edge : Edge) (point : RationalPoint) : Type 0 where
   pub from : (pos point.n *ℤ edge.x0) ≤ℤ point.x
   pub before : point.x <ℤ (pos point.n *ℤ edge.x1)
 
+-- only an edge that goes rightwards covers a point
 pub onwards : (edge : Edge) (point : RationalPoint) → Covering edge point → edge.x0 <ℤ edge.x1
 onwards edge point c =
     by_lt_z edge.x0 edge.x1 (λ some. some)
@@ -36,6 +37,7 @@ at_x edge point r some = record {
   positive = mul-pos some point.positive;
 }
 
+-- the share of the edge's point at the point's x is how far it is from the start
 pub share_x : (n r a : ℕ) (p x0 w : ℤ) → w ≡ pos r → (p -ℤ (pos n *ℤ x0)) ≡ pos a → (pos r *ℤ p) ≡ ((pos (r * n) *ℤ x0) +ℤ (pos a *ℤ w))
 share_x n r a p x0 w is_run is_share =
     let one = ap (λ k. a * k) (same_of (number w) (n_of r) is_run) in
@@ -52,6 +54,7 @@ share_y n r a p x0 x1 y0 y1 is_run is_share =
     ∙ ap (λ s. ((pos r *ℤ pos n) *ℤ y0) +ℤ (s *ℤ (y1 -ℤ y0))) is_share
     ∙ identity (plus (times (times (n_of r) (n_of n)) (number y0)) (times (n_of a) (minus (number y1) (number y0)))) (plus (times (n_of (r * n)) (number y0)) (times (n_of a) (minus (number y1) (number y0)))) (omega arith)
 
+-- it is a share
 share_upto : (n r a : ℕ) (p x0 x1 : ℤ) → (x1 -ℤ x0) ≡ pos r → (p -ℤ (pos n *ℤ x0)) ≡ pos a → p <ℤ (pos n *ℤ x1) → a ≤ r * n
 share_upto n r a p x0 x1 is_run is_share before =
     let one = ap (λ k. n * k) (same_of (minus (number x1) (number x0)) (n_of r) is_run) in
@@ -79,6 +82,7 @@ pub record Height (edge : Edge) (point : RationalPoint) : Type 0 where
   pub low : height_at edge point ≤ℤ (point.y *ℤ run edge) → (pos point.n *ℤ other.y) ≤ℤ (pos other.n *ℤ point.y)
   pub high : (point.y *ℤ run edge) <ℤ height_at edge point → (pos other.n *ℤ point.y) <ℤ (pos point.n *ℤ other.y)
 
+-- the tests of heights, as numbers over n
 low_out : (n r : ℕ) (h p w : ℤ) → w ≡ pos r → h ≤ℤ (p *ℤ w) → (pos n *ℤ h) ≤ℤ (pos (r * n) *ℤ p)
 low_out n r h p w is_run low =
     let there : h ≤ℤ (p *ℤ pos r) = rw (sym is_run) low in
@@ -91,6 +95,7 @@ high_out n r h p w some is_run high =
     let scaled = mul-le-mul_left n (below_of (times (number p) (n_of r)) (number h) there) in
     below (times (n_of (r * n)) (number p)) (times (n_of n) (number h)) (omega (arith, scaled, some))
 
+-- an edge that covers a point has one
 pub height_of : (edge : Edge) (point : RationalPoint) → Covering edge point → Height edge point
 height_of edge point c =
     let some = onwards edge point c in

@@ -14,6 +14,7 @@ use Rattle.plane.proofs.MeetLemmas.Identities.{Term, identity, minus, number, pl
 abbrev pub mean_on : ℕ → ℕ → ℕ → ℕ → ℤ → ℤ → ℤ
 mean_on b a n1 n2 p1 p2 = (pos b *ℤ (pos n2 *ℤ p1)) +ℤ (pos a *ℤ (pos n1 *ℤ p2))
 
+-- the mean of two points, by these weights
 abbrev pub between : (b a : ℕ) → 0 < b + a → RationalPoint → RationalPoint → RationalPoint
 between b a some one other = record {
   n = (b + a) * (one.n * other.n);
@@ -25,6 +26,7 @@ between b a some one other = record {
 abbrev share : ℕ → ℕ → ℕ → ℕ → ℕ → ℕ → ℕ
 share b a n1 n2 s1 s2 = b * (n2 * s1) + a * (n1 * s2)
 
+-- a mean of two numbers at shares of an edge is at a share
 mean_at_share : (b a n1 n2 s1 s2 : ℕ) (p1 p2 x0 w : ℤ) → p1 ≡ ((pos n1 *ℤ x0) +ℤ (pos s1 *ℤ w)) → p2 ≡ ((pos n2 *ℤ x0) +ℤ (pos s2 *ℤ w)) → mean_on b a n1 n2 p1 p2 ≡ ((pos ((b + a) * (n1 * n2)) *ℤ x0) +ℤ (pos (share b a n1 n2 s1 s2) *ℤ w))
 mean_at_share b a n1 n2 s1 s2 p1 p2 x0 w first second =
     let at : ℕ → ℕ → Term = λ n s. plus (times (n_of n) (number x0)) (times (n_of s) (number w)) in
@@ -69,6 +71,7 @@ Passes-mean edge piece n a b x y parts some at_x at_y (one, one_of, one_rounds) 
       RoundsTo-mean b a positive one other piece.x0 piece.y0 piece.x1 piece.y1 x y weights_x weights_y one_rounds other_rounds,
     )
 
+-- so it passes each hot point on a piece whose ends it passes
 pub Passes-on_piece : (edge piece : Edge) (x y : ℤ) → Passes edge piece.x0 piece.y0 → Passes edge piece.x1 piece.y1 → HasPoint piece x y → Passes edge x y
 Passes-on_piece edge piece x y first second (point, (a, at), is) =
     let share = at.share in

@@ -12,6 +12,7 @@ use Rattle.overlay.proofs.SnapLemmas.Numbers.{n_of, natural}
 use Rattle.overlay.proofs.SnapLemmas.Rounding.{below_out, from_out}
 use Rattle.plane.proofs.MeetLemmas.Identities.{Term, at_most, at_most_of, identity, minus, number, plus, same_of, times, unscaled, value}
 
+-- twice how far two numbers are apart, over both denominators
 abbrev apart : ℕ → Term → ℕ → Term → Term
 apart n p m q = times (n_of 2) (minus (times (n_of m) p) (times (n_of n) q))
 
@@ -36,6 +37,7 @@ within-mean b a n1 n2 m1 m2 p1 p2 q1 q2 first second =
       below = at_most (apart_back n p m q) (n_of (n * m)) (omega (arith, below1, below2));
     }
 
+-- what is near an edge is convex
 pub IsNear-mean : (edge : Edge) (b a : ℕ) (some : 0 < b + a) (one other : RationalPoint) → IsNear edge one → IsNear edge other → IsNear edge (between b a some one other)
 IsNear-mean edge b a some one other first second = record {
   other = between b a some first.other second.other;
@@ -60,6 +62,7 @@ within-piece b a n1 n2 p1 p2 c1 c2 first second =
       below = at_most (apart_back (b + a) c m p) (n_of ((b + a) * m)) (omega (arith, below1, below2));
     }
 
+-- the same at a share
 within-at : (b a n n1 n2 : ℕ) (p1 p2 c1 c2 z : ℤ) → b + a ≡ n → z ≡ ((pos n *ℤ c1) +ℤ (pos a *ℤ (c2 -ℤ c1))) → RoundsOn n1 p1 c1 → RoundsOn n2 p2 c2 → WithinHalf n z ((b + a) * (n1 * n2)) (mean_on b a n1 n2 p1 p2)
 within-at b a n n1 n2 p1 p2 c1 c2 z whole is first second =
     let there : z ≡ ((pos (b + a) *ℤ c1) +ℤ (pos a *ℤ (c2 -ℤ c1))) = rw whole is in
@@ -94,6 +97,7 @@ within-same n1 n m p1 p q some same h =
       below = unscaled n1 (value (back n p)) (pos (n * m)) some (at_most (times (n_of n1) (back n p)) (times (n_of n1) (n_of (n * m))) (omega (arith, equal, below)));
     }
 
+-- nearness is of the point, not of its denominator
 pub IsNear-same : (edge : Edge) (other point : RationalPoint) → (pos point.n *ℤ other.x) ≡ (pos other.n *ℤ point.x) → (pos point.n *ℤ other.y) ≡ (pos other.n *ℤ point.y) → IsNear edge other → IsNear edge point
 IsNear-same edge other point same_x same_y near = record {
   other = near.other;
@@ -109,6 +113,7 @@ within-self n p = record {
   below = at_most (times (n_of 2) (minus (times (n_of n) (number p)) (times (n_of n) (number p)))) (n_of (n * n)) (omega arith);
 }
 
+-- a point of the edge is near it
 pub IsNear-itself : (edge : Edge) (point : RationalPoint) → IsOf edge point → IsNear edge point
 IsNear-itself edge point of = record {
   other = point;
@@ -119,6 +124,7 @@ IsNear-itself edge point of = record {
 
 -- ---- straight between two points that are near
 
+-- a mean of two points that are straight above each other has their x, and one at a height between theirs has that height
 mean-level : (b a n n1 n2 : ℕ) (p p1 p2 : ℤ) → (pos n *ℤ p1) ≡ (pos n1 *ℤ p) → (pos n *ℤ p2) ≡ (pos n2 *ℤ p) → (pos n *ℤ mean_on b a n1 n2 p1 p2) ≡ (pos ((b + a) * (n1 * n2)) *ℤ p)
 mean-level b a n n1 n2 p p1 p2 first second =
     let one = ap (λ k. (b * n2) * k) (same_of (times (n_of n) (number p1)) (times (n_of n1) (number p)) first) in

@@ -17,6 +17,7 @@ use Rattle.overlay.proofs.SnapLemmas.Pieces.{HasCrossings, IsBetween, IsPiece}
 
 -- ---- neighbours along a chain are the ends of a piece
 
+-- what isn't behind c, where c isn't behind d, lies between them only as c
 before_on : (from to c d z : ℤ) → UptoOn from to z c → UptoOn from to c d → IsBetween c d z → z ≡ c
 before_on from to c d z first second between =
     by_lt_z from to
@@ -65,6 +66,7 @@ record IsPieceAt (chain : List Point) (piece : Edge) : Type 0 where
   pub within : suc k < length chain
   pub is : (d : Point) → edge_between (get_or chain k d) (get_or chain (suc k) d) ≡ piece
 
+-- each piece of a chain has one
 place_from : (from : Point) (others : List Point) (piece : Edge) → Contains (pieces_from from others) piece → IsPieceAt (from ∷ others) piece
 place_from from [] piece (k, inside, is) = absurd (omega (arith, inside))
 place_from from (to ∷ others) piece (zero, inside, is) = record {
@@ -85,6 +87,7 @@ place [] piece (k, inside, is) = absurd (omega (arith, inside))
 place (from ∷ others) piece among = place_from from others piece among
 
 module _ (edges : List Edge) (edge : Edge) (chain : List Point) (is_chain : IsChain edges edge chain) where
+  -- of two places of a chain the earlier one isn't behind the later one
   upto_at : (i j : ℕ) (d : Point) → i ≤ j → j < length chain → Upto edge (get_or chain i d).x (get_or chain i d).y (get_or chain j d).x (get_or chain j d).y
   upto_at i j d order within =
       by_lt_z (pos i) (pos j)
@@ -93,6 +96,7 @@ module _ (edges : List Edge) (edge : Edge) (chain : List Point) (is_chain : IsCh
       let same : i ≡ j = omega (arith, ints, back, order) in
       subst (λ (k : ℕ). Upto edge (get_or chain i d).x (get_or chain i d).y (get_or chain k d).x (get_or chain k d).y) same (Upto-itself edge (get_or chain i d)))
 
+  -- from a place to the next goes a piece
   neighbours : (k : ℕ) (d : Point) → suc k < length chain → IsPiece (IsHot edges) edge (edge_between (get_or chain k d) (get_or chain (suc k) d))
   neighbours k d within =
       let one = get_or chain k d in
@@ -110,6 +114,7 @@ module _ (edges : List Edge) (edge : Edge) (chain : List Point) (is_chain : IsCh
       (λ behind. inr (subst (λ (c : Point). Upto edge next.x next.y c.x c.y) is (upto_at (suc k) m d (omega (arith, ints, behind)) inside)))
       (λ before. inl (subst (λ (c : Point). Upto edge c.x c.y one.x one.y) is (upto_at m k d (omega (arith, ints, before)) (omega (arith, within))))))
 
+  -- each edge of a chain's pieces is a piece
   pub IsPiece-chain : (piece : Edge) → Contains (pieces chain) piece → IsPiece (IsHot edges) edge piece
   IsPiece-chain piece among =
       let at = place chain piece among in
@@ -135,6 +140,7 @@ record PieceOf (all edges : List Edge) (piece : Edge) : Type 0 where
   pub among : Contains edges edge
   pub is : IsPiece (IsHot all) edge piece
 
+-- each piece of the chains is a piece of one of the edges
 piece_of : (all edges : List Edge) (chains : List (List Point)) (piece : Edge) → AllZip (IsChain all) edges chains → Contains (flat_map pieces chains) piece → PieceOf all edges piece
 piece_of all [] [] piece are (k, inside, is) = absurd (omega (arith, inside))
 piece_of all [] (chain ∷ chains) piece are among = absurd are

@@ -8,6 +8,7 @@ use borrow.Author.Differences.{down, up}
 use Rattle.plane.specs.Meet.Crosses.{cross}
 use Rattle.plane.proofs.MeetLemmas.Identities.{Term, at_most, at_most_of, identity, less, minus, more, number, plus, same_of, scaled, times, value}
 
+-- a natural number, as an expression
 abbrev pub n_of : ℕ → Term
 n_of n = number (pos n)
 
@@ -27,10 +28,12 @@ pub record Natural (z : ℤ) : Type 0 where
   pub k : ℕ
   pub is : z ≡ pos k
 
+-- each such number is natural
 pub natural : (z : ℤ) → pos 0 ≤ℤ z → Natural z
 natural (pos k) from = record { k = k; is = refl }
 natural (negsuc k) from = absurd (omega (arith, ints, from))
 
+-- a number by its natural parts
 pub up_is : (z : ℤ) → pos 0 ≤ℤ z → pos (up z) ≡ z
 up_is (pos n) above = refl
 up_is (negsuc n) above = absurd (omega (arith, ints))
@@ -50,6 +53,7 @@ both a b c d first second = ap (λ z. z +ℤ c) first ∙ ap (λ z. b +ℤ z) se
 
 -- ---- two tests that agree
 
+-- tests of which neither is true alone
 pub same_test : (a b c d : ℤ) → (a ≤ℤ b → d <ℤ c → ⊥) → (c ≤ℤ d → b <ℤ a → ⊥) → int_le a b ≡ int_le c d
 same_test a b c d first second = by (int_le a b) (int_le c d) refl refl
   where
@@ -61,12 +65,14 @@ same_test a b c d first second = by (int_le a b) (int_le c d) refl refl
 
 -- ---- signs of z where n z is k d
 
+-- a product of positive numbers
 product_positive : (k d : ℤ) → pos 0 <ℤ k → pos 0 <ℤ d → pos 0 <ℤ (k *ℤ d)
 product_positive (pos k) (pos d) first second =
     let some = mul-pos {m = k} {n = d} (omega (arith, ints, first)) (omega (arith, ints, second)) in omega (arith, ints, some)
 product_positive (negsuc k) d first second = absurd (omega (arith, ints, first))
 product_positive (pos k) (negsuc d) first second = absurd (omega (arith, ints, second))
 
+-- z has the sign of k d
 pub positive_by : (n : ℕ) (z k d : ℤ) → (pos n *ℤ z) ≡ (k *ℤ d) → pos 0 <ℤ k → pos 0 <ℤ d → pos 0 <ℤ z
 positive_by n z k d is first second =
     let some = product_positive k d first second in
@@ -74,6 +80,7 @@ positive_by n z k d is first second =
     by_lt_z (pos 0) z (λ above. above) (λ below.
     let upto = scaled n z (pos 0) below in absurd (omega (arith, ints, some, upto, is, none)))
 
+-- the same with signs turned
 pub negate : (n : ℕ) (z k d : ℤ) → (pos n *ℤ z) ≡ (k *ℤ d) → (pos n *ℤ (pos 0 -ℤ z)) ≡ (k *ℤ (pos 0 -ℤ d))
 negate n z k d is =
     let fact = same_of (times (n_of n) (number z)) (times (number k) (number d)) is in
@@ -92,6 +99,7 @@ pub negate_back : (n : ℕ) (z k d : ℤ) → (pos n *ℤ z) ≡ (k *ℤ (pos 0 
 negate_back n z k d is =
     negate n z k (pos 0 -ℤ d) is ∙ identity (times (number k) (minus (n_of 0) (minus (n_of 0) (number d)))) (times (number k) (number d)) (omega arith)
 
+-- z is 0 where d is
 pub zero_by : (n : ℕ) (z k d : ℤ) → 0 < n → (pos n *ℤ z) ≡ (k *ℤ d) → d ≡ pos 0 → z ≡ pos 0
 zero_by n z k d some is none =
     let product : (pos n *ℤ z) ≡ pos 0 = is ∙ ap (λ w. k *ℤ w) none ∙ identity (times (number k) (n_of 0)) (n_of 0) (omega arith) in
@@ -120,6 +128,7 @@ cross-exchanged ux uy vx vy =
 
 -- ---- two shares of one point
 
+-- two shares by which one number is the same part of another are in one ratio
 pub share_same : (n m b c : ℕ) (l d : ℤ) → (pos n *ℤ l) ≡ ((pos 0 -ℤ pos b) *ℤ d) → (pos m *ℤ l) ≡ ((pos 0 -ℤ pos c) *ℤ d) → d ≢ pos 0 → b * m ≡ c * n
 share_same n m b c l (pos zero) first second some = absurd (some refl)
 share_same n m b c l (pos (suc k)) first second some =
@@ -131,6 +140,7 @@ share_same n m b c l (negsuc k) first second some =
     let other = same_of (times (n_of m) (number l)) (times (minus (n_of 0) (n_of c)) (number (negsuc k))) second in
     eq_of_mul-eq-mul_left (suc k) (omega arith) (b * m) (c * n) (omega (arith, ap (λ z. m * z) one, ap (λ z. n * z) other))
 
+-- where a way is j of the one way and k of the other, its cross product with the one is k times theirs
 pub side : (n : ℕ) (j k ux uy vx vy wx wy : ℤ) → (pos n *ℤ wx) ≡ ((j *ℤ ux) +ℤ (k *ℤ vx)) → (pos n *ℤ wy) ≡ ((j *ℤ uy) +ℤ (k *ℤ vy)) → (pos n *ℤ cross ux uy wx wy) ≡ (k *ℤ cross ux uy vx vy)
 side n j k ux uy vx vy wx wy along_x along_y =
     let turn : Term → Term → Term → Term → Term = λ a b c d. minus (times a d) (times b c) in
@@ -140,6 +150,7 @@ side n j k ux uy vx vy wx wy along_x along_y =
     ∙ ap (λ z. cross ux uy ((j *ℤ ux) +ℤ (k *ℤ vx)) z) along_y
     ∙ identity (turn (number ux) (number uy) (sum ux vx) (sum uy vy)) (times (number k) (turn (number ux) (number uy) (number vx) (number vy))) (omega arith)
 
+-- the way from one edge's start to another's, and to its end, by the shares of a common point
 pub way_from : (n a b : ℕ) (p c0 c1 d0 d1 : ℤ) → p ≡ ((pos n *ℤ c0) +ℤ (pos a *ℤ (c1 -ℤ c0))) → p ≡ ((pos n *ℤ d0) +ℤ (pos b *ℤ (d1 -ℤ d0))) → (pos n *ℤ (d0 -ℤ c0)) ≡ ((pos a *ℤ (c1 -ℤ c0)) +ℤ ((pos 0 -ℤ pos b) *ℤ (d1 -ℤ d0)))
 way_from n a b p c0 c1 d0 d1 first second =
     let at : ℕ → ℤ → ℤ → Term = λ s z0 z1. plus (times (n_of n) (number z0)) (times (n_of s) (minus (number z1) (number z0))) in
@@ -154,6 +165,7 @@ way_to n a b p c0 c1 d0 d1 first second =
 
 -- ---- bounds of products
 
+-- z lies between -m and m
 pub record Bounds (m : ℕ) (z : ℤ) : Type 0 where
   pub from : (pos 0 -ℤ pos m) ≤ℤ z
   pub upto : z ≤ℤ pos m
@@ -167,6 +179,7 @@ both_bounds a b m n first second = record {
   upto = at_most (times (number a) (number b)) (n_of (m * n)) (omega (arith, second));
 }
 
+-- a product lies between the products of the bounds
 pub bounds-product : (a b : ℤ) (m n : ℕ) → Bounds m a → Bounds n b → Bounds (m * n) (a *ℤ b)
 bounds-product (pos a) (pos b) m n first second =
     let upto = mul-le a b m n (omega (arith, ints, first.upto)) (omega (arith, ints, second.upto)) in
@@ -183,6 +196,7 @@ bounds-product (negsuc a) (negsuc b) m n first second =
 
 -- ---- sums of what is equal
 
+-- a difference of what is equal, and a mean
 pub sub_same : (a b p q : ℤ) → a ≡ p → b ≡ q → (a -ℤ b) ≡ (p -ℤ q)
 sub_same a b p q first second = ap (λ z. z -ℤ b) first ∙ ap (λ z. p -ℤ z) second
 

@@ -21,6 +21,7 @@ Within from to z = (from ≤ℤ z) × (z ≤ℤ to)
 
 -- ---- what an edge passes lies in its box
 
+-- an edge passes nothing beside its box, nor above or below it
 pub outside_x : (edge : Edge) (x y : ℤ) → edge.x0 ≤ℤ edge.x1 → ¬ (Within edge.x0 edge.x1 x) → ¬ (Passes edge x y)
 outside_x edge x y right none passes = none ((Upto-from_start edge x y passes).along_x.rising right, (Upto-to_end edge x y passes).along_x.rising right)
 
@@ -32,6 +33,7 @@ below_above edge x y down none passes = none ((Upto-to_end edge x y passes).alon
 
 -- ---- how far an edge goes, and how far a whole point is from its start
 
+-- of an edge that rises
 pub record Up (edge : Edge) (x y : ℤ) (w h dx dy : ℕ) : Type 0 where
   pub wide : pos w ≡ (edge.x1 -ℤ edge.x0)
   pub high : pos h ≡ (edge.y1 -ℤ edge.y0)
@@ -40,6 +42,7 @@ pub record Up (edge : Edge) (x y : ℤ) (w h dx dy : ℕ) : Type 0 where
   pub in_x : Within edge.x0 edge.x1 x
   pub in_y : Within edge.y0 edge.y1 y
 
+-- of one that falls
 pub record Down (edge : Edge) (x y : ℤ) (w h dx dy : ℕ) : Type 0 where
   pub wide : pos w ≡ (edge.x1 -ℤ edge.x0)
   pub high : pos h ≡ (edge.y0 -ℤ edge.y1)
@@ -48,6 +51,7 @@ pub record Down (edge : Edge) (x y : ℤ) (w h dx dy : ℕ) : Type 0 where
   pub in_x : Within edge.x0 edge.x1 x
   pub in_y : Within edge.y1 edge.y0 y
 
+-- how far the point is, is at most how far the edge goes
 upto_on : (from to z : ℤ) (w d : ℕ) → pos w ≡ (to -ℤ from) → pos d ≡ (z -ℤ from) → Within from to z → d ≤ w
 upto_on from to z w d wide far within = omega (arith, ints, wide, far, within.1)
 
@@ -66,6 +70,7 @@ turned from to h high = omega (arith, ints, high)
 some_of : (w : ℕ) → w ≢ 0 → 0 < w
 some_of w some = omega (arith, some)
 
+-- the point written in another way
 passes_at : (edge : Edge) (x y x1 y1 : ℤ) → x ≡ x1 → y ≡ y1 → Passes edge x1 y1 → Passes edge x y
 passes_at edge x y x1 y1 same_x same_y passes =
     subst (λ (z : ℤ). Passes edge z y) (sym same_x) (subst (λ (z : ℤ). Passes edge x1 z) (sym same_y) passes)
@@ -76,6 +81,7 @@ passes_to edge x y x1 y1 same_x same_y passes =
 
 -- ---- along an axis
 
+-- a point of the edge that is whole on this axis rounds to itself there
 exact_share : (n a w d : ℕ) (start way : ℤ) → 0 < n → way ≡ pos w → a * w ≡ n * d → RoundsOn n ((pos n *ℤ start) +ℤ (pos a *ℤ way)) (start +ℤ pos d)
 exact_share n a w d start way some goes same =
     let p = plus (times (n_of n) (number start)) (times (n_of a) (n_of w)) in
@@ -86,6 +92,7 @@ exact_share n a w d start way some goes same =
     } in
     subst (λ (z : ℤ). RoundsOn n ((pos n *ℤ start) +ℤ (pos a *ℤ z)) (start +ℤ pos d)) (sym goes) found
 
+-- an edge passes what is at a share of it
 at_share : (edge : Edge) (x y : ℤ) (w h dx dy n a : ℕ) → Up edge x y w h dx dy → 0 < n → a ≤ n → a * w ≡ n * dx → a * h ≡ n * dy → Passes edge x y
 at_share edge x y w h dx dy n a up some share along_x along_y =
     let point : RationalPoint = record {
@@ -114,6 +121,7 @@ at_share edge x y w h dx dy n a up some share along_x along_y =
 none_of : (d w : ℕ) → d ≤ w → w ≡ 0 → d ≡ 0
 none_of d w upto none = omega (arith, upto, none)
 
+-- an upright edge passes all whole points of its box
 pub upright : (edge : Edge) (x y : ℤ) (w h dx dy : ℕ) → Up edge x y w h dx dy → w ≡ 0 → Passes edge x y
 upright edge x y w zero dx dy up none =
     let no_x : dx ≡ 0 = none_of dx w (upto_on edge.x0 edge.x1 x w dx up.wide up.far up.in_x) none in
@@ -125,6 +133,7 @@ upright edge x y w (suc h) dx dy up none =
     let right : suc h * dx ≡ suc h * 0 = ap (λ (k : ℕ). suc h * k) no_x in
     at_share edge x y w (suc h) dx dy (suc h) dy up (omega arith) (upto_on edge.y0 edge.y1 y (suc h) dy up.high up.up up.in_y) (omega (arith, left, right)) (omega arith)
 
+-- and so does a level one
 pub level : (edge : Edge) (x y : ℤ) (w h dx dy : ℕ) → Up edge x y w h dx dy → w ≢ 0 → h ≡ 0 → Passes edge x y
 level edge x y w h dx dy up some none =
     let no_y : dy ≡ 0 = none_of dy h (upto_on edge.y0 edge.y1 y h dy up.high up.up up.in_y) none in
@@ -149,12 +158,14 @@ turned_up edge x y w h dx dy down none =
       in_y = in_y;
     }
 
+-- an upright one that falls, too
 pub upright_down : (edge : Edge) (x y : ℤ) (w h dx dy : ℕ) → Down edge x y w h dx dy → w ≡ 0 → Passes edge x y
 upright_down edge x y w h dx dy down none =
     Passes-reversed (reversed edge) x y (upright (reversed edge) x y w h dx (h - dy) (turned_up edge x y w h dx dy down none) none)
 
 -- ---- slanted
 
+-- an edge that rises, by the two corners
 pub rising_tested : (edge : Edge) (x y : ℤ) (w h dx dy : ℕ) (r : Bool) → Up edge x y w h dx dy → w ≢ 0 → h ≢ 0 → MatchBool r (CrossesRising w h dx dy) (¬ (CrossesRising w h dx dy)) → MatchBool r (Passes edge x y) (¬ (Passes edge x y))
 rising_tested edge x y w h dx dy true up wide high test =
     passes_at edge x y (edge.x0 +ℤ pos dx) (edge.y0 +ℤ pos dy) (stands_at edge.x0 x dx up.far) (stands_at edge.y0 y dy up.up)
@@ -173,6 +184,7 @@ rising_tested edge x y w h dx dy false up wide high test = λ passes.
     }) (passes_to edge x y (edge.x0 +ℤ pos dx) (edge.y0 +ℤ pos dy) (stands_at edge.x0 x dx up.far) (stands_at edge.y0 y dy up.up) passes) in
     test (record { low = both.0; high = both.1 })
 
+-- an edge that falls
 pub falling_tested : (edge : Edge) (x y : ℤ) (w h dx dy : ℕ) (r : Bool) → Down edge x y w h dx dy → w ≢ 0 → 0 < h → MatchBool r (CrossesFalling w h dx dy) (¬ (CrossesFalling w h dx dy)) → MatchBool r (Passes edge x y) (¬ (Passes edge x y))
 falling_tested edge x y w h dx dy true down wide high test =
     passes_at edge x y (edge.x0 +ℤ pos dx) (edge.y0 -ℤ pos dy) (stands_at edge.x0 x dx down.far) (stands_below edge.y0 y dy down.down)
@@ -191,8 +203,9 @@ falling_tested edge x y w h dx dy false down wide high test = λ passes.
     }) (passes_to edge x y (edge.x0 +ℤ pos dx) (edge.y0 -ℤ pos dy) (stands_at edge.x0 x dx down.far) (stands_below edge.y0 y dy down.down) passes) in
     test (record { low = both.0; high = both.1 })
 
--- ---- an edge and its flipped one
+-- ---- an edge and its reversed one
 
+-- an edge passes what the reversed one passes
 pub reversed_tested : (edge turned : Edge) (x y : ℤ) (r : Bool) → turned ≡ reversed edge → MatchBool r (Passes turned x y) (¬ (Passes turned x y)) → MatchBool r (Passes edge x y) (¬ (Passes edge x y))
 reversed_tested edge turned x y true is test = Passes-reversed (reversed edge) x y (subst (λ (e : Edge). Passes e x y) is test)
 reversed_tested edge turned x y false is test = λ passes. test (subst (λ (e : Edge). Passes e x y) (sym is) (Passes-reversed edge x y passes))

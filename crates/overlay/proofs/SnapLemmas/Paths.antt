@@ -35,10 +35,12 @@ module _ (edge : Edge) where
       (0, omega arith, same)
   end_later from to others passed order (suc k, inside, is) = (k, omega (arith, inside), is)
 
+  -- the last point is the edge's end
   end_here : (from : Point) → Contains (from ∷ []) (end_of edge) → (from.x ≡ edge.x1) × (from.y ≡ edge.y1)
   end_here from (zero, inside, is) = (ap (λ c. c.x) is, ap (λ c. c.y) is)
   end_here from (suc k, inside, is) = absurd (omega (arith, inside))
 
+  -- a list that is in order goes on to the edge's end
   goes : (from : Point) (others : List Point) → All IsPassed others → AllPairs InOrder (from ∷ others) → Contains (from ∷ others) (end_of edge) → GoesOn edge from others
   goes from [] passed order to = end_here from to
   goes from (next ∷ others) passed order to =
@@ -56,6 +58,7 @@ module _ (edge : Edge) where
       let ahead = order 0 (suc k) (start_of edge) (omega arith) inside in
       Upto-same edge first (start_of edge) (subst (λ (c : Point). InOrder first c) is ahead) (Upto-from_start edge first.x first.y passed)
 
+  -- a list of passed points in order that has the edge's ends is a path of it
   pub path_of : (chain : List Point) → All IsPassed chain → AllPairs InOrder chain → Contains chain (start_of edge) → Contains chain (end_of edge) → IsPath edge chain
   path_of [] passed order (k, inside, is) to = absurd (omega (arith, inside))
   path_of (first ∷ others) passed order from to =
@@ -69,6 +72,7 @@ module _ (edge : Edge) where
 
 -- ---- a chain
 
+-- what holds of each element holds of all
 all-by : {X : Type 0} (P : X → Type 0) (xs : List X) → ((x : X) → Contains xs x → P x) → All P xs
 all-by P xs each k d inside = each (get_or xs k d) (Contains-get_or xs k d inside)
 
@@ -79,6 +83,7 @@ IsHot-from edges edge among = inl (edge, among, inl (refl, refl))
 pub IsHot-to : (edges : List Edge) (edge : Edge) → Contains edges edge → IsHot edges edge.x1 edge.y1
 IsHot-to edges edge among = inl (edge, among, inr (refl, refl))
 
+-- a chain is a path of its edge
 pub IsPath-chain : (edges : List Edge) (edge : Edge) (chain : List Point) → Contains edges edge → IsChain edges edge chain → IsPath edge chain
 IsPath-chain edges edge chain among is =
     path_of edge chain (all-by (λ c. Passes edge c.x c.y) chain (λ c inside. ((is.exact c).0 inside).1)) is.in_order
@@ -95,10 +100,12 @@ end_from : (from : Point) (others : List Point) → (from ∷ map end_of (pieces
 end_from from [] = refl
 end_from from (to ∷ others) = ap (λ c. from ∷ c) (end_from to others)
 
+-- the starts of a path's pieces, and its edge's end, are its points
 pub path-begins : (edge : Edge) (chain : List Point) → IsPath edge chain → (map start_of (pieces chain) ++ (end_of edge ∷ [])) ≡ chain
 path-begins edge [] none = absurd none
 path-begins edge (from ∷ others) (x, y, passed, goes) = begin_from edge from others goes
 
+-- its edge's start, and the ends of its pieces, are its points
 pub path-ends : (edge : Edge) (chain : List Point) → IsPath edge chain → (start_of edge ∷ map end_of (pieces chain)) ≡ chain
 path-ends edge [] none = absurd none
 path-ends edge (from ∷ others) (x, y, passed, goes) =

@@ -9,6 +9,7 @@ use Rattle.overlay.proofs.SnapLemmas.Numbers.{n_of}
 use Rattle.overlay.proofs.SnapLemmas.Pieces.{left_of}
 use Rattle.plane.proofs.MeetLemmas.Identities.{Term, identity, minus, number, plus, times}
 
+-- a share from the one end, and from the other
 pub reverse_along : (n a b : ℕ) (p start end : ℤ) → a + b ≡ n → p ≡ ((pos n *ℤ start) +ℤ (pos a *ℤ (end -ℤ start))) → p ≡ ((pos n *ℤ end) +ℤ (pos b *ℤ (start -ℤ end)))
 reverse_along n a b p start end whole is =
     let there : p ≡ ((pos (a + b) *ℤ start) +ℤ (pos a *ℤ (end -ℤ start))) = rw whole is in
@@ -16,6 +17,7 @@ reverse_along n a b p start end whole is =
     there ∙ identity (plus (times (n_of (a + b)) (number start)) (times (n_of a) (minus (number end) (number start)))) (plus (times (n_of (a + b)) (number end)) (times (n_of b) (minus (number start) (number end)))) (omega arith) in
     subst (λ (m : ℕ). p ≡ ((pos m *ℤ end) +ℤ (pos b *ℤ (start -ℤ end)))) whole back
 
+-- the reversed edge has the same points
 pub IsOf-reversed : (edge : Edge) (point : RationalPoint) → IsOf edge point → IsOf (reversed edge) point
 IsOf-reversed edge point (a, at) =
     let share = at.share in (
@@ -35,9 +37,11 @@ IsNear-reversed edge point near = record {
   along_y = near.along_y;
 }
 
+-- so it passes the same, and the same is near it
 pub Passes-reversed : (edge : Edge) (x y : ℤ) → Passes edge x y → Passes (reversed edge) x y
 Passes-reversed edge x y (point, of, rounds) = (point, IsOf-reversed edge point of, rounds)
 
+-- what is to the left of an edge is to the right of the reversed one
 pub left-reversed : (edge : Edge) (x y : ℤ) → left_of (reversed edge) x y ≡ (pos 0 -ℤ left_of edge x y)
 left-reversed edge x y =
     let way : ℤ → ℤ → Term = λ a b. minus (number a) (number b) in

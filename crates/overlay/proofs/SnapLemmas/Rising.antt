@@ -40,6 +40,7 @@ record Place (w h dx dy : ℕ) : Type 0 where
   from_y : 2 * (dy * w) ≤ s + w
   upto_y : s < 2 * (dy * w) + w
 
+-- the greater beginning of the two stretches
 place : (w h dx dy : ℕ) → 0 < w → 0 < h → dx ≤ w → dy ≤ h → 2 * (dx * h) < (2 * (dy * w) + w) + h → 2 * (dy * w) < (2 * (dx * h) + h) + w → Place w h dx dy
 place w h dx dy wide high in_x in_y first second =
     let x_upto = mul-le-mul_left h in_x in
@@ -112,12 +113,14 @@ share_upto n a w d p start way is goes rounds =
     let c = plus (number start) (n_of d) in
     omega (arith, below_of (times (n_of 2) p1) (times (n_of n) (plus (times (n_of 2) c) (n_of 1))) there.below)
 
+-- two corners on opposite sides of the edge
 corner : (n a w h dx dy : ℕ) → 0 < w → n * (2 * dx) ≤ 2 * (a * w) + n → 2 * (a * h) < n * (2 * dy) + n → 2 * (dx * h) < (2 * (dy * w) + w) + h
 corner n a w h dx dy wide from upto =
     let left = mul-le-mul_left h from in
     let right = mul-lt-mul_of_pos_left {k = w} upto wide in
     lt_of_mul-lt-mul_left n (omega (arith, left, right))
 
+-- a pixel that the edge passes has its corners so
 pub rising-Passes : (edge : Edge) (w h dx dy : ℕ) → Rises edge w h → Passes edge (edge.x0 +ℤ pos dx) (edge.y0 +ℤ pos dy) → (2 * (dx * h) < (2 * (dy * w) + w) + h) × (2 * (dy * w) < (2 * (dx * h) + h) + w)
 rising-Passes edge w h dx dy rises (point, (a, at), rounds) =
     let from_x = share_from point.n a w dx point.x edge.x0 (edge.x1 -ℤ edge.x0) at.x rises.along_x rounds.along_x in

@@ -87,6 +87,7 @@ pub record Floor (k : ℕ) (z q : ℤ) : Type 0 where
   pub from : (pos k *ℤ q) ≤ℤ z
   pub below : z <ℤ (pos k *ℤ (q +ℤ pos 1))
 
+-- Euclid's division by a positive number rounds down
 pub floor_is : (k : ℕ) (z : ℤ) → 0 < k → Floor k z (int_div_euclid z (pos k))
 floor_is k (pos a) some =
     let q = number (pos (a / k)) in
@@ -103,6 +104,7 @@ floor_is k (negsuc a) some =
       below = below (number (negsuc a)) (times (n_of k) (plus q (n_of 1))) (omega (arith, from_there));
     }
 
+-- what 2 n + k over 2 k rounds down to, n over k rounds to
 rounds_by : (k : ℕ) (n q : ℤ) → Floor (k + k) ((n +ℤ n) +ℤ pos k) q → RoundsOn k n q
 rounds_by k n q floor =
     let sum = plus (plus (number n) (number n)) (n_of k) in
@@ -128,6 +130,7 @@ pub record Rounded (n : ℕ) (p : ℤ) : Type 0 where
   pub whole : ℤ
   pub rounds : RoundsOn n p whole
 
+-- each number rounds to one
 pub RoundsOn-some : (n : ℕ) (p : ℤ) → 0 < n → Rounded n p
 RoundsOn-some n p some = record {
   whole = int_div_euclid ((p +ℤ p) +ℤ pos n) (pos n +ℤ pos n);

@@ -1,6 +1,7 @@
 -- The chains of many edges, added up: what their pieces count, and how many of them start and end.
-use Rattle.std.proofs.Common.{Bool, List, [], ap, arith, cond, refl, suc, ℕ, ◌++◌, ◌+◌, ◌∙◌, ◌∷◌, ◌≡◌}
+use Rattle.std.proofs.Common.{Bool, IsPermutation, List, [], ap, arith, cond, map, refl, suc, sum_by, sym, ℕ, ◌++◌, ◌+◌, ◌∙◌, ◌∷◌, ◌≡◌}
 use Rattle.std.proofs.lemmas.List.Elements.{All-head, All-tail}
+use Rattle.std.proofs.lemmas.List.Sorted.{sum_by-IsPermutation}
 use Rattle.std.proofs.lemmas.List.Sums.{sum_by-append, sum_by-cons}
 use Rattle.std.specs.List.{All, AllZip, Contains, count_by, flat_map}
 use Rattle.plane.specs.declared.edge.Edge.{Edge}
@@ -8,7 +9,7 @@ use Rattle.plane.specs.declared.point.Point.{Point}
 use Rattle.plane.specs.Meet.Edges.{RationalPoint}
 use Rattle.overlay.specs.Snap.Chains.{AreChains, IsChain}
 use Rattle.overlay.specs.Snap.Near.{IsNear}
-use Rattle.overlay.specs.Snap.Windings.{IsAlongAxis, edge_between, end_of, pieces, pieces_from, start_of, under, winding}
+use Rattle.overlay.specs.Snap.Windings.{IsAlongAxis, IsClosed, edge_between, end_of, pieces, pieces_from, start_of, under, winding}
 use Rattle.overlay.proofs.SnapLemmas.Clear.{chain-clear}
 use Rattle.overlay.proofs.SnapLemmas.Exact.{chain-exact}
 use Rattle.overlay.proofs.SnapLemmas.Numbers.{both}
@@ -17,6 +18,7 @@ use Rattle.overlay.proofs.SnapLemmas.Along.{point_at}
 use Rattle.overlay.proofs.SnapLemmas.Windings.{winding-append}
 
 module _ (all : List Edge) (point : RationalPoint) (P : Edge → Type 0) (each : (edge : Edge) (chain : List Point) → IsPath edge chain → P edge → winding (pieces chain) point ≡ under edge point) where
+  -- what holds of each chain and its edge holds of their sums
   total : (edges : List Edge) (chains : List (List Point)) → ((edge : Edge) → Contains edges edge → Contains all edge) → AllZip (IsChain all) edges chains → All P edges → winding (flat_map pieces chains) point ≡ winding edges point
   total [] [] among are every = refl
   total [] (chain ∷ chains) among are every = absurd are
@@ -47,6 +49,7 @@ module _ (test : Point → Bool) where
   abbrev ends : List Edge → ℕ
   ends edges = count_by (λ edge. test (end_of edge)) edges
 
+  -- one more, and lists one behind the other
   starts-cons : (edge : Edge) (edges : List Edge) → starts (edge ∷ edges) ≡ unit (start_of edge) + starts edges
   starts-cons edge edges = sum_by-cons (λ (e : Edge). unit (start_of e)) edge edges
 
@@ -70,6 +73,7 @@ module _ (test : Point → Bool) where
       let later = along edge to others rest in
       omega (arith, first, second, later)
 
+  -- the same of a whole chain
   along_path : (edge : Edge) (chain : List Point) → IsPath edge chain → starts (pieces chain) + unit (end_of edge) ≡ unit (start_of edge) + ends (pieces chain)
   along_path edge [] none = absurd none
   along_path edge (from ∷ others) (x, y, passed, goes) =
@@ -77,6 +81,7 @@ module _ (test : Point → Bool) where
       let sum = along edge from others goes in
       omega (arith, same, sum)
 
+  -- and of all chains: so their pieces start and end as often as their edges
   pub balance : (all edges : List Edge) (chains : List (List Point)) → ((edge : Edge) → Contains edges edge → Contains all edge) → AllZip (IsChain all) edges chains
       → starts (flat_map pieces chains) + ends edges ≡ starts edges + ends (flat_map pieces chains)
   balance all [] [] among are = refl
@@ -90,3 +95,15 @@ module _ (test : Point → Bool) where
       let starts_edges = starts-cons edge edges in
       let ends_edges = ends-cons edge edges in
       omega (arith, here, later, starts_all, ends_all, starts_edges, ends_edges)
+
+-- ---- closed edges by a permutation
+
+sum_by-map : {X Y : Type 0} (weigh : Y → ℕ) (f : X → Y) (xs : List X) → sum_by weigh (map f xs) ≡ sum_by (λ x. weigh (f x)) xs
+sum_by-map weigh f [] = refl
+sum_by-map weigh f (x ∷ xs) = sum_by-cons weigh (f x) (map f xs) ∙ ap (λ n. weigh (f x) + n) (sum_by-map weigh f xs) ∙ sym (sum_by-cons (λ y. weigh (f y)) x xs)
+
+-- the ends are the starts, in some order
+pub IsClosed-permutation : (edges : List Edge) → IsPermutation (map start_of edges) (map end_of edges) → IsClosed edges
+IsClosed-permutation edges is test =
+    let unit : Point → ℕ = λ point. cond (test point) 1 0 in
+    sym (sum_by-map unit start_of edges) ∙ sym (sum_by-IsPermutation unit (map start_of edges) (map end_of edges) is) ∙ sum_by-map unit end_of edges

@@ -25,6 +25,7 @@ pub record EndsOnly (one other : Edge) : Type 0 where
 
 -- ---- reversed
 
+-- the premises and the conclusion hold of reversed edges
 reversed-on : (edge : Edge) (x y : ℤ) → HasPoint (reversed edge) x y → HasPoint edge x y
 reversed-on edge x y (point, of, is) = (point, IsOf-reversed (reversed edge) point of, is)
 
@@ -48,6 +49,7 @@ reversed-end_point : (edge : Edge) (point : RationalPoint) → IsEndPoint (rever
 reversed-end_point edge point (inl from) = inr from
 reversed-end_point edge point (inr to) = inl to
 
+-- MeetAtEnds, with an edge reversed, and with the two exchanged
 pub reverse_meet_one : (one other : Edge) (point : RationalPoint) → MeetAtEnds (reversed one) other point → MeetAtEnds one other point
 reverse_meet_one one other point (inl (first, second)) = inl (reversed-end_point one point first, second)
 reverse_meet_one one other point (inr (inl same)) = inr (inr (ap reversed same))
@@ -65,6 +67,7 @@ exchange_meet one other point (inr (inr same)) = inr (inr (ap reversed (sym same
 
 -- ---- a point that is an end of one of them
 
+-- a point that is whole, where the whole point is an end
 end_there : (edge : Edge) (point : RationalPoint) (x y : ℤ) → IsAt point x y → IsEnd edge x y → IsEndPoint edge point
 end_there edge point x y whole (inl (is_x, is_y)) = inl (record {
   x_is = whole.x_is ∙ ap (λ z. pos point.n *ℤ z) is_x;
@@ -75,6 +78,7 @@ end_there edge point x y whole (inr (is_x, is_y)) = inr (record {
   y_is = whole.y_is ∙ ap (λ z. pos point.n *ℤ z) is_y;
 })
 
+-- an end of the other that is of the one is an end of it
 end_of_other : (one other : Edge) (point : RationalPoint) → EndsOnly one other → IsOf one point → IsEndPoint other point → MeetAtEnds one other point
 end_of_other one other point only of (inl whole) =
     inl (end_there one point other.x0 other.y0 whole (only.from (point, of, whole)), inl whole)
@@ -87,6 +91,7 @@ point_along n a p start end is same =
     let there : p ≡ ((pos n *ℤ start) +ℤ (pos a *ℤ (start -ℤ start))) = is ∙ ap (λ z. (pos n *ℤ start) +ℤ (pos a *ℤ (z -ℤ start))) (sym same) in
     there ∙ identity (plus (times (n_of n) (number start)) (times (n_of a) (minus (number start) (number start)))) (times (n_of n) (number start)) (omega arith)
 
+-- a point at the share 0, and at the whole share
 start_along : (n a : ℕ) (p start end : ℤ) → p ≡ ((pos n *ℤ start) +ℤ (pos a *ℤ (end -ℤ start))) → a ≡ 0 → p ≡ (pos n *ℤ start)
 start_along n a p start end is none =
     let there : p ≡ ((pos n *ℤ start) +ℤ (pos 0 *ℤ (end -ℤ start))) = is ∙ ap (λ z. (pos n *ℤ start) +ℤ (pos z *ℤ (end -ℤ start))) none in
@@ -106,6 +111,7 @@ reach n a b p start end other_end first second =
     let fact = same_of (at a end) (at b other_end) (sym first ∙ second) in
     identity (times (n_of a) (number end)) (plus (times (n_of a) (number start)) (times (n_of b) (minus (number other_end) (number start)))) (omega (arith, fact))
 
+-- edges with the same coordinates are one
 edges-same : (one other : Edge) → one.x0 ≡ other.x0 → one.y0 ≡ other.y0 → one.x1 ≡ other.x1 → one.y1 ≡ other.y1 → one ≡ other
 edges-same one other x0 y0 x1 y1 =
     let edge : ℤ → ℤ → ℤ → ℤ → Edge = λ a b c d. record {
@@ -149,6 +155,7 @@ from_common_shorter one other point a b only only_back same_x same_y first secon
       | inr (is_x, is_y) ↦ inr (inl (edges-same one other (sym same_x) (sym same_y) is_x is_y))
     ]
 
+-- whichever is shorter
 from_common : (one other : Edge) (point : RationalPoint) (a b : ℕ) → EndsOnly one other → EndsOnly other one → other.x0 ≡ one.x0 → other.y0 ≡ one.y0 → IsAtShare one point a → IsAtShare other point b → 0 < a → 0 < b → MeetAtEnds one other point
 from_common one other point a b only only_back same_x same_y first second some other_some =
     by_lt_z (pos a) (pos b)
@@ -157,6 +164,7 @@ from_common one other point a b only only_back same_x same_y first second some o
 
 -- ---- the point is inside both
 
+-- It is of the edge, and neither end.
 record Inside (edge : Edge) (point : RationalPoint) : Type 0 where
   a : ℕ
   at : IsAtShare edge point a
@@ -177,6 +185,7 @@ reversed-inside edge point inside =
       upto = omega arith;
     }
 
+-- where an end of the other is one of the one, both go on from it
 from_end : (one other : Edge) (point : RationalPoint) → EndsOnly one other → EndsOnly other one → Inside one point → Inside other point → IsEnd one other.x0 other.y0 → MeetAtEnds one other point
 from_end one other point only only_back first second (inl (is_x, is_y)) =
     from_common one other point first.a second.a only only_back is_x is_y first.at second.at first.from second.from
@@ -188,6 +197,7 @@ on_along : (b a : ℕ) (c start end : ℤ) → (pos (b + a) *ℤ c) ≡ ((pos b 
 on_along b a c start end is =
     is ∙ identity (plus (times (n_of b) (number start)) (times (n_of a) (number end))) (plus (times (n_of (b + a)) (number start)) (times (n_of a) (minus (number end) (number start)))) (omega arith)
 
+-- a touch, as a point of an edge
 on_lies : (edge : Edge) (x y : ℤ) → Lies edge.x0 edge.y0 edge.x1 edge.y1 x y → HasPoint edge x y
 on_lies edge x y lies =
     let mean = mean_of edge.x0 edge.y0 edge.x1 edge.y1 x y lies in
@@ -212,6 +222,7 @@ on_lies edge x y lies =
       },
     )
 
+-- a touch makes a common end
 from_touch : (one other : Edge) (point : RationalPoint) → EndsOnly one other → EndsOnly other one → Inside one point → Inside other point → Touch (four one.x0 one.x1 other.x0 other.x1) (four one.y0 one.y1 other.y0 other.y1) → MeetAtEnds one other point
 from_touch one other point only only_back first second (by_s1 lies) =
     from_end one other point only only_back first second (only.from (on_lies one other.x0 other.y0 lies))
@@ -224,9 +235,11 @@ from_touch one other point only only_back first second (by_p2 lies) =
 
 -- ---- the sides of the ends, by the shares
 
+-- the cross product of the edges' ways
 abbrev apart : Edge → Edge → ℤ
 apart one other = cross (one.x1 -ℤ one.x0) (one.y1 -ℤ one.y0) (other.x1 -ℤ other.x0) (other.y1 -ℤ other.y0)
 
+-- which side of the one the other's ends are on, by the shares
 side_from : (one other : Edge) (point : RationalPoint) (first : Inside one point) (second : Inside other point) → (pos point.n *ℤ left_of one other.x0 other.y0) ≡ ((pos 0 -ℤ pos second.a) *ℤ apart one other)
 side_from one other point first second =
     side point.n (pos first.a) (pos 0 -ℤ pos second.a) (one.x1 -ℤ one.x0) (one.y1 -ℤ one.y0) (other.x1 -ℤ other.x0) (other.y1 -ℤ other.y0) (other.x0 -ℤ one.x0) (other.y0 -ℤ one.y0)
@@ -257,6 +270,7 @@ record Parts (one other : Edge) (n : ℕ) (d : ℤ) : Type 0 where
   back_from : (pos n *ℤ left_of other one.x0 one.y0) ≡ (kc *ℤ d)
   back_to : (pos n *ℤ (pos 0 -ℤ left_of other one.x1 one.y1)) ≡ (kd *ℤ d)
 
+-- by the shares of the common point
 parts : (one other : Edge) (point : RationalPoint) (first : Inside one point) (second : Inside other point) → Parts one other point.n (apart one other)
 parts one other point first second =
     let d = apart one other in
@@ -279,6 +293,7 @@ parts one other point first second =
       back_to = negate_back point.n (left_of other one.x1 one.y1) (pos point.n -ℤ pos first.a) d (side_to other one point second first ∙ ap (λ z. (pos point.n -ℤ pos first.a) *ℤ z) turned);
     }
 
+-- where the ways aren't parallel they cross properly
 crosses_left : (one other : Edge) (n : ℕ) (d : ℤ) → pos 0 <ℤ d → Parts one other n d → CrossesLeft one other
 crosses_left one other n d some by = record {
   from = negative (left_of one other.x0 other.y0) (positive_by n (pos 0 -ℤ left_of one other.x0 other.y0) by.ka d by.from by.some_a some);
@@ -305,6 +320,7 @@ crosses_right one other n d below by =
       back_to = negative (left_of (reversed other) one.x1 one.y1) (rw (left-reversed other one.x1 one.y1) above4);
     }
 
+-- where they are, all ends are along one line
 flat_by : (one other : Edge) (n : ℕ) (d : ℤ) → 0 < n → d ≡ pos 0 → Parts one other n d → Flat (four one.x0 one.x1 other.x0 other.x1) (four one.y0 one.y1 other.y0 other.y1)
 flat_by one other n d some none by =
     let l1 = left_of one other.x0 other.y0 in
@@ -321,6 +337,7 @@ flat_by one other n d some none by =
       flat4 = flat_back (other.x1 -ℤ other.x0) (other.y1 -ℤ other.y0) (one.x1 -ℤ other.x0) (one.y1 -ℤ other.y0) f4;
     }
 
+-- the common point, as a mean of each edge's ends
 common_along : (n a b : ℕ) (p c0 c1 d0 d1 : ℤ) → p ≡ ((pos n *ℤ c0) +ℤ (pos a *ℤ (c1 -ℤ c0))) → p ≡ ((pos n *ℤ d0) +ℤ (pos b *ℤ (d1 -ℤ d0))) → Common (pos b) (pos n -ℤ pos b) (pos a) (pos n -ℤ pos a) c0 c1 d0 d1
 common_along n a b p c0 c1 d0 d1 first second =
     let at : ℕ → ℤ → ℤ → Term = λ s z0 z1. plus (times (n_of n) (number z0)) (times (n_of s) (minus (number z1) (number z0))) in
@@ -341,6 +358,7 @@ weights_by n a b a_from a_upto b_from b_upto = record {
   whole = omega (arith, ints);
 }
 
+-- a point inside both, of edges that don't cross properly
 inside_both : (one other : Edge) (point : RationalPoint) → EndsOnly one other → EndsOnly other one → (CrossProperly one other → ⊥) → Inside one point → Inside other point → MeetAtEnds one other point
 inside_both one other point only only_back uncrossed first second =
     let d = apart one other in
@@ -359,6 +377,7 @@ inside_both one other point only only_back uncrossed first second =
 
 -- ---- any common point
 
+-- a point of an edge is an end or inside
 end_or : (edge : Edge) (point : RationalPoint) → IsOf edge point → IsEndPoint edge point ⊎ Inside edge point
 end_or edge point (a, at) =
     by_lt_z (pos 0) (pos a)
@@ -381,6 +400,7 @@ end_or edge point (a, at) =
       y_is = start_along point.n a point.y edge.y0 edge.y1 at.y is;
     })))
 
+-- any common point
 pub meet-at_ends : (one other : Edge) (point : RationalPoint) → EndsOnly one other → EndsOnly other one → (CrossProperly one other → ⊥) → IsOf one point → IsOf other point → MeetAtEnds one other point
 meet-at_ends one other point only only_back uncrossed of_one of_other =
     elim (end_or one point of_one) [
@@ -393,6 +413,7 @@ meet-at_ends one other point only only_back uncrossed of_one of_other =
 
 -- ---- pieces
 
+-- a hot point on a piece is an end of it, so each end of another piece
 pieces_ends : (hot : ℤ → ℤ → Type 0) (edge other piece other_piece : Edge) → IsPiece hot edge piece → IsPiece hot other other_piece → EndsOnly piece other_piece
 pieces_ends hot edge other piece other_piece first second = record {
   from = λ on. piece-clear hot edge piece other_piece.x0 other_piece.y0 first second.from_hot on;

@@ -69,6 +69,7 @@ no_turn a b y l k (inr (inr (inl none))) = inr (inr (inl (turn3-mix l k a b y �
 no_turn a b y l k (inr (inr (inr (inl none)))) = inr (inr (inr (inl (turn4-mix l k a b y ∙ none))))
 no_turn a b y l k (inr (inr (inr (inr none)))) = absurd none
 
+-- four numbers, none negative, whose sums are 0
 flat_sum : (t1 t2 t3 t4 : ℤ) → pos 0 ≤ℤ t1 → pos 0 ≤ℤ t2 → pos 0 ≤ℤ t3 → pos 0 ≤ℤ t4 → (t1 +ℤ t2) ≤ℤ pos 0 → (t1 +ℤ t2) ≡ (t3 +ℤ t4) → (t1 ≡ pos 0) × (t2 ≡ pos 0) × (t3 ≡ pos 0) × (t4 ≡ pos 0)
 flat_sum t1 t2 t3 t4 one two three four none whole =
     (omega (arith, ints), omega (arith, ints), omega (arith, ints), omega (arith, ints))
@@ -82,6 +83,7 @@ flat_there x y all none =
       flat4 = found.3;
     }
 
+-- the turns are weights of the crossing
 weights_of : (x y : Four) → Cross x y → Weights (turn1 x y) (turn2 x y) (turn3 x y) (turn4 x y)
 weights_of x y cross = record {
   some1 = cross.left1;
@@ -102,6 +104,7 @@ common_there l k a b y flat =
     let later = common_of (turn1 next y) (turn2 next y) (turn3 next y) (turn4 next y) (turn1 b y) (turn2 b y) (turn3 b y) (turn4 b y) next.p1 next.p2 next.s1 next.s2 is1 is2 is3 is4 (crossing_x next y) in
     step_back l k (turn1 b y) (turn2 b y) (turn3 b y) (turn4 b y) a.p1 a.p2 a.s1 a.s2 b.p1 b.p2 b.s1 b.s2 later (record { same = crossing_x b y })
 
+-- at the last root they touch: the turns' sum is 0 there or not
 touch_there : (a b y : Four) (root : Root (turns a b y)) → Cross b y → Touch (mix root.l root.k a b) y
 touch_there a b y root cross =
     let all = turns_there a b y root in
@@ -165,12 +168,14 @@ touch-mirror x y (by_s2 lies) = by_s1 lies
 touch-mirror x y (by_p1 lies) = by_p1 (lies_back x.s1 y.s1 x.s2 y.s2 x.p1 y.p1 lies)
 touch-mirror x y (by_p2 lies) = by_p2 (lies_back x.s1 y.s1 x.s2 y.s2 x.p2 y.p2 lies)
 
+-- The same while y goes from a to b.
 pub record TouchesAlongY (x a b : Four) : Type 0 where
   pub l : ℕ
   pub k : ℕ
   pub early : 0 < l
   pub touch : Touch x (mix l k a b)
 
+-- by exchanging the axes
 pub half_along_y : (x a b : Four) → Cross x b → Cross x a ⊎ TouchesAlongY x a b
 half_along_y x a b cross =
     elim (half (mirror a) (mirror b) (mirror x) (cross-mirror x b cross)) [

@@ -34,6 +34,7 @@ scaled k n a p start way same =
     ap (λ z. pos k *ℤ z) same
     ∙ identity (times (n_of k) (plus (times (n_of n) (number start)) (times (n_of a) (number way)))) (plus (times (n_of (k * n)) (number start)) (times (n_of (k * a)) (number way))) (omega arith)
 
+-- what an edge passes, over a denominator that is a multiple
 at_scale : (edge : Edge) (k n : ℕ) (x y : ℤ) → 0 < k → (passes : Passes edge x y) → k * passes.0.n ≡ n → At edge n x y
 at_scale edge k n x y some (point, (a, at), rounds) same =
     let found : At edge (k * point.n) x y = record {
@@ -48,6 +49,7 @@ at_scale edge k n x y some (point, (a, at), rounds) same =
     } in
     subst (λ (m : ℕ). At edge m x y) same found
 
+-- a mean of two shares is a share
 mean_along : (n b a s1 s2 : ℕ) (p1 p2 start way : ℤ) → p1 ≡ ((pos n *ℤ start) +ℤ (pos s1 *ℤ way)) → p2 ≡ ((pos n *ℤ start) +ℤ (pos s2 *ℤ way)) → ((pos b *ℤ p1) +ℤ (pos a *ℤ p2)) ≡ ((pos ((b + a) * n) *ℤ start) +ℤ (pos (b * s1 + a * s2) *ℤ way))
 mean_along n b a s1 s2 p1 p2 start way first second =
     let at : ℕ → ℕ → Term = λ m s. plus (times (n_of m) (number start)) (times (n_of s) (number way)) in
@@ -68,6 +70,7 @@ mean_of edge n m b a x0 y0 x1 y1 one other point same same_x same_y =
       },
     )
 
+-- a mean that rounds to a whole point: the edge passes it, in the piece's box
 passes_in : (edge piece : Edge) (n : ℕ) (x y : ℤ) → 0 < n → (one : At edge n piece.x0 piece.y0) (other : At edge n piece.x1 piece.y1) → MeanRounds n one.px one.py other.px other.py x y → PassesIn edge piece x y
 passes_in edge piece n x y many one other mean =
     let point : RationalPoint = record {
@@ -87,6 +90,7 @@ passes_in edge piece n x y many one other mean =
       };
     }
 
+-- the turns as natural numbers
 same_sum : (t1 t2 t3 t4 : ℤ) → pos 0 <ℤ t1 → pos 0 <ℤ t2 → pos 0 <ℤ t3 → pos 0 <ℤ t4 → (t1 +ℤ t2) ≡ (t3 +ℤ t4) → up t4 + up t3 ≡ up t2 + up t1
 same_sum (pos t1) (pos t2) (pos t3) (pos t4) one two three four same = omega (arith, ints, same)
 same_sum (negsuc t1) t2 t3 t4 one two three four same = absurd (omega (arith, ints, one))
@@ -109,6 +113,7 @@ way_between n a1 a2 p1 p2 start way first second =
     ∙ ap (λ p. p -ℤ ((pos n *ℤ start) +ℤ (pos a1 *ℤ way))) second
     ∙ identity (minus (at a2) (at a1)) (times (minus (n_of a2) (n_of a1)) (number way)) (omega arith)
 
+-- a cross product of parts of two ways
 cross_scaled : (s t ux uy vx vy : ℤ) → cross (s *ℤ ux) (s *ℤ uy) (t *ℤ vx) (t *ℤ vy) ≡ ((s *ℤ t) *ℤ cross ux uy vx vy)
 cross_scaled s t ux uy vx vy =
     let turn : Term → Term → Term → Term → Term = λ a b c d. minus (times a d) (times b c) in
@@ -150,6 +155,7 @@ apart_by edge other n x0 y0 x1 y1 x2 y2 x3 y3 p1 p2 s1 s2 some parallel =
     ∙ none_times (s *ℤ t) in
     omega (arith, ints, some, none)
 
+-- the crossing of the two segments is of both edges, and rounds to a point in both boxes
 meets_in : (edge other piece other_piece : Edge) (n t1 t2 t3 t4 : ℕ) → 0 < n → 0 < t4 + t3 → t4 + t3 ≡ t2 + t1 → AreNotParallel edge other → (p1 : At edge n piece.x0 piece.y0) (p2 : At edge n piece.x1 piece.y1) (s1 : At other n other_piece.x0 other_piece.y0) (s2 : At other n other_piece.x1 other_piece.y1) → ((pos t4 *ℤ p1.px) +ℤ (pos t3 *ℤ p2.px)) ≡ ((pos t2 *ℤ s1.px) +ℤ (pos t1 *ℤ s2.px)) → ((pos t4 *ℤ p1.py) +ℤ (pos t3 *ℤ p2.py)) ≡ ((pos t2 *ℤ s1.py) +ℤ (pos t1 *ℤ s2.py)) → MeetsIn edge other piece other_piece
 meets_in edge other piece other_piece n t1 t2 t3 t4 many some whole apart p1 p2 s1 s2 same_x same_y =
     let point : RationalPoint = record {
@@ -189,6 +195,7 @@ meets_in edge other piece other_piece n t1 t2 t3 t4 many some whole apart p1 p2 
 back_above : (ux uy wx wy : ℤ) → cross ux uy wx wy <ℤ pos 0 → pos 0 <ℤ cross wx wy ux uy
 back_above ux uy wx wy below = let back = cross-exchanged ux uy wx wy in omega (arith, ints, back, below)
 
+-- pieces that cross, as four turns
 crossing : (one other : Edge) → CrossesLeft one other → Cross (four one.x0 one.x1 other.x0 other.x1) (four one.y0 one.y1 other.y0 other.y1)
 crossing one other crosses = record {
   left1 = back_above (one.x1 -ℤ one.x0) (one.y1 -ℤ one.y0) (other.x0 -ℤ one.x0) (other.y0 -ℤ one.y0) crosses.from;
@@ -197,6 +204,7 @@ crossing one other crosses = record {
   left4 = back_above (other.x1 -ℤ other.x0) (other.y1 -ℤ other.y0) (one.x1 -ℤ other.x0) (one.y1 -ℤ other.y0) crosses.back_to;
 }
 
+-- where one crosses the other leftwards, with points over one denominator
 leads_at : (edge other piece other_piece : Edge) (n : ℕ) → 0 < n → At edge n piece.x0 piece.y0 → At edge n piece.x1 piece.y1 → At other n other_piece.x0 other_piece.y0 → At other n other_piece.x1 other_piece.y1 → CrossesLeft piece other_piece → Leads edge other piece other_piece
 leads_at edge other piece other_piece n many p1 p2 s1 s2 crosses =
     let qx = four p1.px p2.px s1.px s2.px in
@@ -244,6 +252,7 @@ leads_at edge other piece other_piece n many p1 p2 s1 s2 crosses =
     above_sum : (a b : ℤ) → pos 0 <ℤ a → pos 0 <ℤ b → pos 0 <ℤ (a +ℤ b)
     above_sum a b first second = omega (arith, ints)
 
+-- with points over any
 leads_left : (edge other piece other_piece : Edge) → Passes edge piece.x0 piece.y0 → Passes edge piece.x1 piece.y1 → Passes other other_piece.x0 other_piece.y0 → Passes other other_piece.x1 other_piece.y1 → CrossesLeft piece other_piece → Leads edge other piece other_piece
 leads_left edge other piece other_piece p1 p2 s1 s2 crosses =
     let n1 = p1.0.n in
@@ -266,6 +275,7 @@ between_back : (from to z : ℤ) → IsBetween to from z → IsBetween from to z
 between_back from to z (inl up) = inr up
 between_back from to z (inr down) = inl down
 
+-- the same boxes for a reversed piece
 box_back : (edge : Edge) (x y : ℤ) → InBox (reversed edge) x y → InBox edge x y
 box_back edge x y box = record {
   along_x = between_back edge.x0 edge.x1 x box.along_x;
@@ -278,6 +288,7 @@ passes_back edge piece x y found = record {
   box = box_back piece x y found.box;
 }
 
+-- so a reversed piece leads to the same
 flipped : (edge other piece other_piece : Edge) → Leads edge other piece (reversed other_piece) → Leads edge other piece other_piece
 flipped edge other piece other_piece (inl first) = inr (inl first)
 flipped edge other piece other_piece (inr (inl second)) = inl second
@@ -296,6 +307,7 @@ flipped edge other piece other_piece (inr (inr (inr (inr meets)))) =
       other_box = box_back other_piece meets.x meets.y meets.other_box;
     }))))
 
+-- whichever way they cross
 pub pieces-lead : (edge other piece other_piece : Edge) → Passes edge piece.x0 piece.y0 → Passes edge piece.x1 piece.y1 → Passes other other_piece.x0 other_piece.y0 → Passes other other_piece.x1 other_piece.y1 → CrossProperly piece other_piece → Leads edge other piece other_piece
 pieces-lead edge other piece other_piece p1 p2 s1 s2 (inl left) = leads_left edge other piece other_piece p1 p2 s1 s2 left
 pieces-lead edge other piece other_piece p1 p2 s1 s2 (inr right) = flipped edge other piece other_piece (leads_left edge other piece (reversed other_piece) p1 p2 s2 s1 right)

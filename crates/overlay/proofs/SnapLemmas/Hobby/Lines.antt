@@ -9,6 +9,7 @@ use Rattle.plane.proofs.SweepLineLemmas.Gaps.{product_above}
 pub record Common (w1 w2 w3 w4 p1 p2 s1 s2 : ℤ) : Type 0 where
   pub same : ((w4 *ℤ p1) +ℤ (w3 *ℤ p2)) ≡ ((w2 *ℤ s1) +ℤ (w1 *ℤ s2))
 
+-- All four weights are positive, and those of each mean add up to the same.
 pub record Weights (w1 w2 w3 w4 : ℤ) : Type 0 where
   pub some1 : pos 0 <ℤ w1
   pub some2 : pos 0 <ℤ w2
@@ -29,9 +30,11 @@ apart w1 w2 w3 w4 p1 p2 s1 s2 m weights common first second third fourth =
     let some2 = below_of (n_of 0) (number w2) weights.some2 in
     omega (arith, one, two, three, four, whole, same, some1, some2)
 
+-- s lies between p1 and p2, which aren't one
 abbrev pub Within : ℤ → ℤ → ℤ → Type 0
 Within p1 p2 s = (p1 ≤ℤ s) × (s ≤ℤ p2) × (p1 <ℤ p2) ⊎ (p2 ≤ℤ s) × (s ≤ℤ p1) × (p2 <ℤ p1)
 
+-- One of the four lies between the two of the other pair.
 abbrev pub SomeWithin : ℤ → ℤ → ℤ → ℤ → Type 0
 SomeWithin p1 p2 s1 s2 = Within p1 p2 s1 ⊎ (Within p1 p2 s2 ⊎ (Within s1 s2 p1 ⊎ Within s1 s2 p2))
 
@@ -60,6 +63,7 @@ common_turned w1 w2 w3 w4 p1 p2 s1 s2 common = record { same = sym common.same }
 common_ends : (w1 w2 w3 w4 p1 p2 s1 s2 : ℤ) → Common w1 w2 w3 w4 p1 p2 s1 s2 → Common w1 w2 w4 w3 p2 p1 s1 s2
 common_ends w1 w2 w3 w4 p1 p2 s1 s2 common = record { same = omega (arith, ints, common.same) }
 
+-- where p1 is below p2
 rising : (w1 w2 w3 w4 p1 p2 s1 s2 : ℤ) → Weights w1 w2 w3 w4 → Common w1 w2 w3 w4 p1 p2 s1 s2 → p1 <ℤ p2 → SomeWithin p1 p2 s1 s2
 rising w1 w2 w3 w4 p1 p2 s1 s2 weights common up =
     by_lt_z s1 p1
@@ -76,6 +80,7 @@ exchanged : (p1 p2 s : ℤ) → Within p1 p2 s → Within p2 p1 s
 exchanged p1 p2 s (inl up) = inr up
 exchanged p1 p2 s (inr down) = inl down
 
+-- two pairs with a common mean: one of the four numbers is between two others
 pub some_within : (w1 w2 w3 w4 p1 p2 s1 s2 : ℤ) → Weights w1 w2 w3 w4 → Common w1 w2 w3 w4 p1 p2 s1 s2 → (p1 ≡ p2 → ⊥) → SomeWithin p1 p2 s1 s2
 some_within w1 w2 w3 w4 p1 p2 s1 s2 weights common differ =
     by_lt_z p1 p2

@@ -23,6 +23,7 @@ pub data EndRounds (n : ℕ) (qx qy cx cy : Four) : Type 0 where
   at_p1 : MeanRounds n qx.s1 qy.s1 qx.s2 qy.s2 cx.p1 cy.p1 → EndRounds n qx qy cx cy
   at_p2 : MeanRounds n qx.s1 qy.s1 qx.s2 qy.s2 cx.p2 cy.p2 → EndRounds n qx qy cx cy
 
+-- The four coordinates round to those of c.
 pub record RoundsAll (n : ℕ) (q c : Four) : Type 0 where
   pub p1 : RoundsOn n q.p1 c.p1
   pub p2 : RoundsOn n q.p2 c.p2
@@ -48,6 +49,7 @@ mean_by (pos b) (pos a) x1 y1 x2 y2 x y from upto some along_x along_y = record 
 mean_by (negsuc b) a x1 y1 x2 y2 x y from upto some along_x along_y = absurd (omega (arith, ints, from))
 mean_by (pos b) (negsuc a) x1 y1 x2 y2 x y from upto some along_x along_y = absurd (omega (arith, ints, upto))
 
+-- a mean by whole weights is one by natural weights
 pub mean_of : (x1 y1 x2 y2 x y : ℤ) → Lies x1 y1 x2 y2 x y → Mean x1 y1 x2 y2 x y
 mean_of x1 y1 x2 y2 x y lies = mean_by lies.b lies.a x1 y1 x2 y2 x y lies.from lies.upto lies.some lies.along_x lies.along_y
 
@@ -77,6 +79,7 @@ moved_y n l k x1 y1 x2 y2 y cx1 cx2 cx cy1 cy2 cy many early lies first second t
       along_y = RoundsOn-touch n l k mean.b mean.a y1 y2 y cy1 cy2 cy mean.some many early mean.along_y third fourth fifth;
     }
 
+-- each end, in the first half and in the second
 end_x : (n l k : ℕ) (qx qy cx cy : Four) → 0 < n → 0 < l → RoundsAll n qx cx → RoundsAll n qy cy → Touch (mix l k qx cx) qy → EndRounds n qx qy cx cy
 end_x n l k qx qy cx cy many early rx ry (by_s1 lies) = at_s1 (moved_x n l k qx.p1 qy.p1 qx.p2 qy.p2 qx.s1 qy.s1 cx.p1 cx.p2 cx.s1 cy.s1 many early lies rx.p1 rx.p2 rx.s1 ry.s1)
 end_x n l k qx qy cx cy many early rx ry (by_s2 lies) = at_s2 (moved_x n l k qx.p1 qy.p1 qx.p2 qy.p2 qx.s2 qy.s2 cx.p1 cx.p2 cx.s2 cy.s2 many early lies rx.p1 rx.p2 rx.s2 ry.s2)

@@ -7,6 +7,7 @@ use Rattle.overlay.proofs.SnapLemmas.Numbers.{above_sum, down_is, n_of, up_is}
 use Rattle.plane.proofs.MeetLemmas.Identities.{Term, identity, minus, number, plus, times}
 use Rattle.plane.proofs.SweepLineLemmas.Gaps.{product_above, quotient_above}
 
+-- A linear function of the time, by its first and its last value.
 pub record Linear : Type 0 where
   pub first : ℤ
   pub last : ℤ
@@ -15,6 +16,7 @@ pub record Linear : Type 0 where
 abbrev pub at : ℕ → ℕ → Linear → ℤ
 at l k f = (pos l *ℤ f.first) +ℤ (pos k *ℤ f.last)
 
+-- All are positive at the start; at the end; none is negative at the time; one is 0 at it.
 abbrev pub AllFirst : List Linear → Type 0
 AllFirst [] = Unit {0}
 AllFirst (f ∷ fs) = (pos 0 <ℤ f.first) × AllFirst fs
@@ -31,6 +33,7 @@ abbrev pub AnyZero : ℕ → ℕ → List Linear → Type 0
 AnyZero l k [] = ⊥
 AnyZero l k (f ∷ fs) = (at l k f ≡ pos 0) ⊎ AnyZero l k fs
 
+-- A time before the end at which one is 0 and none is negative.
 pub record Root (fs : List Linear) : Type 0 where
   pub l : ℕ
   pub k : ℕ
@@ -68,6 +71,7 @@ later_one l k f g early first last less g_last above =
     ∙ ap (λ z. (f.last *ℤ g.first) +ℤ (z *ℤ g.last)) (down_is f.first first) in
     subst (λ (z : ℤ). pos 0 ≤ℤ z) (sym rewritten) there
 
+-- so of all
 later : (l k : ℕ) (f : Linear) (fs : List Linear) → 0 < l → f.first ≤ℤ pos 0 → pos 0 <ℤ f.last → at l k f <ℤ pos 0 → AllLast fs → AllAt l k fs → AllAt (up f.last) (down f.first) fs
 later l k f [] early first last less lasts aboves = tt
 later l k f (g ∷ gs) early first last less (g_last, lasts) (above, aboves) = (
@@ -83,6 +87,7 @@ first_below l k f last less =
     let above = above_both l k (f ∷ []) (some, tt) (last, tt) in absurd (omega (arith, ints, above.0)))
     (λ none. none)
 
+-- the root of f is the last one
 fresh : (f : Linear) (fs : List Linear) → f.first ≤ℤ pos 0 → pos 0 <ℤ f.last → AllAt (up f.last) (down f.first) fs → Root (f ∷ fs)
 fresh f fs first last aboves =
     let is = root_is f first last in record {
@@ -93,6 +98,7 @@ fresh f fs first last aboves =
       none = inl is;
     }
 
+-- the last root of the others is the last one
 kept : (f : Linear) (fs : List Linear) (root : Root fs) → pos 0 ≤ℤ at root.l root.k f → Root (f ∷ fs)
 kept f fs root above = record {
   l = root.l;
@@ -102,6 +108,7 @@ kept f fs root above = record {
   none = inr root.none;
 }
 
+-- by recursion over the functions, which keeps the last root so far
 pub last_root : (fs : List Linear) → AllLast fs → AllFirst fs ⊎ Root fs
 last_root [] lasts = inl tt
 last_root (f ∷ fs) (last, lasts) =

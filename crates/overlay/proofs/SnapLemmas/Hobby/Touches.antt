@@ -26,6 +26,7 @@ pub data Touch (x y : Four) : Type 0 where
 
 -- ---- one turn is 0, and the sum isn't
 
+-- with one weight 0 the common point is an end
 alone : (u b a s r p1 p2 : ℤ) → (b +ℤ a) ≡ u → ((b *ℤ p1) +ℤ (a *ℤ p2)) ≡ ((u *ℤ s) +ℤ (pos 0 *ℤ r)) → ((b +ℤ a) *ℤ s) ≡ ((b *ℤ p1) +ℤ (a *ℤ p2))
 alone u b a s r p1 p2 whole same =
     let none = identity (plus (times (number u) (number s)) (times (n_of 0) (number r))) (times (number u) (number s)) (omega arith) in
@@ -50,12 +51,14 @@ pub record AllTurns (x y : Four) : Type 0 where
   pub turns3 : pos 0 ≤ℤ turn3 x y
   pub turns4 : pos 0 ≤ℤ turn4 x y
 
+-- One of them is 0.
 abbrev pub NoTurn : Four → Four → Type 0
 NoTurn x y = (turn1 x y ≡ pos 0) ⊎ ((turn2 x y ≡ pos 0) ⊎ ((turn3 x y ≡ pos 0) ⊎ ((turn4 x y ≡ pos 0) ⊎ ⊥)))
 
 swapped : (a b : ℤ) → (a +ℤ b) ≡ (b +ℤ a)
 swapped a b = omega (arith, ints)
 
+-- by which of the four it is
 touch_apart_by : (t1 t2 t3 t4 : ℤ) (x y : Four) → pos 0 ≤ℤ t1 → pos 0 ≤ℤ t2 → pos 0 ≤ℤ t3 → pos 0 ≤ℤ t4 → pos 0 <ℤ (t1 +ℤ t2) → (t1 +ℤ t2) ≡ (t3 +ℤ t4) → ((t4 *ℤ x.p1) +ℤ (t3 *ℤ x.p2)) ≡ ((t2 *ℤ x.s1) +ℤ (t1 *ℤ x.s2)) → ((t4 *ℤ y.p1) +ℤ (t3 *ℤ y.p2)) ≡ ((t2 *ℤ y.s1) +ℤ (t1 *ℤ y.s2)) → (t1 ≡ pos 0) ⊎ ((t2 ≡ pos 0) ⊎ ((t3 ≡ pos 0) ⊎ ((t4 ≡ pos 0) ⊎ ⊥))) → Touch x y
 touch_apart_by t1 t2 t3 t4 x y one two three four some whole same_x same_y (inl none) =
     by_s1 (alone_at t1 t2 t4 t3 x.p1 y.p1 x.p2 y.p2 x.s1 y.s1 x.s2 y.s2 none (omega (arith, ints)) four three (omega (arith, ints)) same_x same_y)
@@ -67,6 +70,7 @@ touch_apart_by t1 t2 t3 t4 x y one two three four some whole same_x same_y (inr 
     by_p2 (alone_at t4 t3 t2 t1 x.s1 y.s1 x.s2 y.s2 x.p2 y.p2 x.p1 y.p1 none (omega (arith, ints)) two one (omega (arith, ints)) (sym same_x ∙ swapped (t4 *ℤ x.p1) (t3 *ℤ x.p2)) (sym same_y ∙ swapped (t4 *ℤ y.p1) (t3 *ℤ y.p2)))
 touch_apart_by t1 t2 t3 t4 x y one two three four some whole same_x same_y (inr (inr (inr (inr none)))) = absurd none
 
+-- where their sum isn't 0
 pub touch_apart : (x y : Four) → AllTurns x y → pos 0 <ℤ (turn1 x y +ℤ turn2 x y) → NoTurn x y → Touch x y
 touch_apart x y all some none =
     touch_apart_by (turn1 x y) (turn2 x y) (turn3 x y) (turn4 x y) x y all.turns1 all.turns2 all.turns3 all.turns4 some (turns-same x y) (crossing_x x y) (crossing_y x y) none
@@ -113,6 +117,7 @@ flat_exchanged ux uy wx wy flat =
     let fact = same_of (turn ux uy wx wy) (n_of 0) flat in
     identity (turn uy ux wy wx) (n_of 0) (omega (arith, fact))
 
+-- All are 0.
 pub record Flat (x y : Four) : Type 0 where
   pub flat1 : turn1 x y ≡ pos 0
   pub flat2 : turn2 x y ≡ pos 0
@@ -127,6 +132,7 @@ flat-exchanged x y flat = record {
   flat4 = flat_exchanged (x.p2 -ℤ x.s1) (y.p2 -ℤ y.s1) (x.s2 -ℤ x.s1) (y.s2 -ℤ y.s1) flat.flat4;
 }
 
+-- an end that is within the other segment on one axis is of it
 touch_row : (x y : Four) → Flat x y → SomeWithin x.p1 x.p2 x.s1 x.s2 → Touch x y
 touch_row x y flat (inl s1) = by_s1 (lies_within x.p1 y.p1 x.p2 y.p2 x.s1 y.s1 s1 flat.flat1)
 touch_row x y flat (inr (inl s2)) =
@@ -153,12 +159,14 @@ lies_exchanged x1 y1 x2 y2 x y lies = record {
   along_y = lies.along_x;
 }
 
+-- the axes exchanged
 pub touch_exchanged : (x y : Four) → Touch y x → Touch x y
 touch_exchanged x y (by_s1 lies) = by_s1 (lies_exchanged x.p1 y.p1 x.p2 y.p2 x.s1 y.s1 lies)
 touch_exchanged x y (by_s2 lies) = by_s2 (lies_exchanged x.p1 y.p1 x.p2 y.p2 x.s2 y.s2 lies)
 touch_exchanged x y (by_p1 lies) = by_p1 (lies_exchanged x.s1 y.s1 x.s2 y.s2 x.p1 y.p1 lies)
 touch_exchanged x y (by_p2 lies) = by_p2 (lies_exchanged x.s1 y.s1 x.s2 y.s2 x.p2 y.p2 lies)
 
+-- two numbers are one or not
 same_or : (a b : ℤ) → (a ≡ b) ⊎ (a ≡ b → ⊥)
 same_or a b =
     by_lt_z a b
@@ -171,6 +179,7 @@ point_same w1 w2 w3 w4 p1 p2 s1 s2 weights common one =
     let sum = identity (times (plus (number w2) (number w1)) (number s1)) (plus (times (number w2) (number s1)) (times (number w1) (number s1))) (omega arith) in
     ap (λ w. w *ℤ s1) (omega (arith, ints, weights.whole)) ∙ sum ∙ ap (λ s. (w2 *ℤ s1) +ℤ (w1 *ℤ s)) one ∙ sym common.same
 
+-- four ends along one line, of segments with a common point: by an axis on which a segment isn't a point
 pub touch_line : (w1 w2 w3 w4 : ℤ) (x y : Four) → Weights w1 w2 w3 w4 → Common w1 w2 w3 w4 x.p1 x.p2 x.s1 x.s2 → Common w1 w2 w3 w4 y.p1 y.p2 y.s1 y.s2 → Flat x y → Touch x y
 touch_line w1 w2 w3 w4 x y weights common_x common_y flat =
     elim (same_or x.p1 x.p2) [

@@ -57,6 +57,7 @@ turn4_term x y = crossing (minus x.p2 x.s1) (minus y.p2 y.s1) (minus x.s2 x.s1) 
 
 -- ---- how they hang together
 
+-- the two over one segment add up to the two over the other: both sums are the cross product of the segments' ways
 pub turns-same : (x y : Four) → (turn1 x y +ℤ turn2 x y) ≡ (turn3 x y +ℤ turn4 x y)
 turns-same x y =
     let a = term x in
@@ -81,6 +82,7 @@ crossing_y x y =
 abbrev mixed : ℕ → ℕ → ℤ → ℤ → ℤ
 mixed l k a b = (pos l *ℤ a) +ℤ (pos k *ℤ b)
 
+-- at k of l + k parts of the way from a to b, times l + k
 abbrev pub mix : ℕ → ℕ → Four → Four → Four
 mix l k a b = record {
   p1 = mixed l k a.p1 b.p1;
@@ -100,6 +102,7 @@ mix_term l k a b = record {
   s2 = mixed_term l k a.s2 b.s2;
 }
 
+-- each turn there, times l + k, is l times that at a and k times that at b
 pub turn1-mix : (l k : ℕ) (a b y : Four) → turn1 (mix l k a b) y ≡ ((pos l *ℤ turn1 a y) +ℤ (pos k *ℤ turn1 b y))
 turn1-mix l k a b y =
     identity (turn1_term (mix_term l k (term a) (term b)) (term y)) (mixed_term l k (turn1_term (term a) (term y)) (turn1_term (term b) (term y))) (omega arith)
@@ -118,6 +121,7 @@ turn4-mix l k a b y =
 
 -- ---- the axes exchanged, and with them the second segment's ends
 
+-- the second segment from its end to its start
 abbrev pub mirror : Four → Four
 mirror x = record {
   p1 = x.p1;
@@ -126,6 +130,7 @@ mirror x = record {
   s2 = x.s1;
 }
 
+-- with the axes exchanged too, the first two turns change places
 pub turn1-mirror : (x y : Four) → turn1 (mirror y) (mirror x) ≡ turn2 x y
 turn1-mirror x y = identity (turn1_term (term (mirror y)) (term (mirror x))) (turn2_term (term x) (term y)) (omega arith)
 

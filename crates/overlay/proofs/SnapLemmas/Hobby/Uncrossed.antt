@@ -27,6 +27,7 @@ left_none_to x0 y0 x1 y1 =
     let way : ℤ → ℤ → Term = λ a b. minus (number a) (number b) in
     identity (minus (times (way x1 x0) (way y1 y0)) (times (way y1 y0) (way x1 x0))) (n_of 0) (omega arith)
 
+-- an end of an edge is on no side of it
 left-end : (edge : Edge) (x y : ℤ) → IsEnd edge x y → left_of edge x y ≡ pos 0
 left-end edge x y (inl (is_x, is_y)) =
     ap (λ z. left_of edge z y) is_x ∙ ap (λ z. left_of edge edge.x0 z) is_y ∙ left_none_from edge.x0 edge.y0 edge.x1 edge.y1
@@ -49,6 +50,7 @@ below_not z below same = omega (arith, ints)
 turned_not : (z t : ℤ) → t ≡ (pos 0 -ℤ z) → t ≢ pos 0 → z ≢ pos 0
 turned_not z t is apart same = apart (omega (arith, ints, is, same))
 
+-- the ends of edges that cross are on sides
 sides : (one other : Edge) → CrossProperly one other → Sides one other
 sides one other (inl crosses) = record {
   s1 = below_not (left_of one other.x0 other.y0) crosses.from;
@@ -70,6 +72,7 @@ common_end one other x y apart first (inl (is_x, is_y)) =
 common_end one other x y apart first (inr (is_x, is_y)) =
     apart.s2 (ap (λ z. left_of one z other.y1) (sym is_x) ∙ ap (λ z. left_of one x z) (sym is_y) ∙ left-end one x y first)
 
+-- so what pieces that cross lead to is absurd
 uncrossed : (hot : ℤ → ℤ → Type 0) (edge other piece other_piece : Edge) → IsPiece hot edge piece → IsPiece hot other other_piece → HasCrossings hot edge other → Sides piece other_piece → Leads edge other piece other_piece → ⊥
 uncrossed hot edge other piece other_piece first second crossings apart (inl found) =
     apart.s1 (left-end piece other_piece.x0 other_piece.y0 (first.next other_piece.x0 other_piece.y0 second.from_hot found))
@@ -126,18 +129,21 @@ share_back n a b c start end whole is =
     there ∙ identity (plus (times (n_of (a + b)) (number start)) (times (n_of a) (minus (number end) (number start)))) (plus (times (n_of (a + b)) (number end)) (times (n_of b) (minus (number start) (number end)))) (omega arith) in
     subst (λ (m : ℕ). (pos m *ℤ c) ≡ ((pos m *ℤ end) +ℤ (pos b *ℤ (start -ℤ end)))) whole back
 
+-- a whole point at a share lies between the ends
 share_between : (n a : ℕ) (c start end : ℤ) → 0 < n → a ≤ n → (pos n *ℤ c) ≡ ((pos n *ℤ start) +ℤ (pos a *ℤ (end -ℤ start))) → IsBetween start end c
 share_between n a c start end some upto is =
     by_lt_z start end
     (λ up. inl (share_above n a c start end some upto (omega (arith, ints)) is))
     (λ down. inr (share_above n (n - a) c end start some (omega arith) down (share_back n a (n - a) c start end (omega arith) is)))
 
+-- a whole point of an edge lies in its box
 box-on : (edge : Edge) (x y : ℤ) → HasPoint edge x y → InBox edge x y
 box-on edge x y (point, (a, at), is) = record {
   along_x = share_between point.n a x edge.x0 edge.x1 point.positive at.share (sym is.x_is ∙ at.x);
   along_y = share_between point.n a y edge.y0 edge.y1 point.positive at.share (sym is.y_is ∙ at.y);
 }
 
+-- so a hot point on a piece is an end of it
 pub piece-clear : (hot : ℤ → ℤ → Type 0) (edge piece : Edge) (x y : ℤ) → IsPiece hot edge piece → hot x y → HasPoint piece x y → IsEnd piece x y
 piece-clear hot edge piece x y part is_hot on =
     part.next x y is_hot (record {

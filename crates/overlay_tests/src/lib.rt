@@ -1,0 +1,5 @@
+//! For tests alone: worked examples of the public calls of `overlay`.
+#![tactic(auto)]
+
+#[cfg(test)]
+mod snapped;
