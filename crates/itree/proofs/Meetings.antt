@@ -1,5 +1,6 @@
 -- Pairs of edges that meet, in order, and what they tell at each place.
 use Rattle.std.proofs.Common.{◌≡◌, ◌==◌, ◌&&◌, ◌<◌, ◌⊎◌, ℕ, zero, suc, Bool, true, false, cond, List, [], ◌∷◌, ◌++◌, Option, Some, None, length, get_or, replicate, refl, sym, ap, ◌∙◌, subst, inl, inr, ⊎_elim, arith}
+use Rattle.std.proofs.lemmas.Option.{same_Some}
 use Rattle.std.specs.Bool.{Decides}
 use Rattle.std.specs.List.{All, AllPairs, Contains, slice_get, cons_option}
 use Rattle.std.specs.List.Sorted.{IsPermutation}
@@ -159,13 +160,10 @@ answers_meetings lines edges numbers pairs replies count output are ordered coun
   one_each = all_told.one_each ∙ counted;
   met = λ place list is.
       let within : place < count = subst (λ (n : ℕ). place < n) all_told.one_each (slice_get_within (lists_of replies) place list is) in
-      let lists : told (command_lines lines) pairs place ≡ list = some_same (ap (λ (ns : List ℕ). Some (told ns pairs place)) (sym are) ∙ sym (all_told.each place within) ∙ is) in
+      let lists : told (command_lines lines) pairs place ≡ list = same_Some (told (command_lines lines) pairs place) list (ap (λ (ns : List ℕ). Some (told ns pairs place)) (sym are) ∙ sym (all_told.each place within) ∙ is) in
       subst (AreMetLines lines edges place) lists (met_lines lines edges pairs place ordered);
   written = written ∙ lines_of_lists replies;
 }
-  where
-    some_same : {X : Type 0} {x y : X} → Some x ≡ Some y → x ≡ y
-    some_same same = cc
 
 -- each pair has places
 pub in_range : (lines : List (List ℕ)) (edges : List Edge) (numbers : List ℕ) (pairs : List (ℕ × ℕ)) (count : ℕ) → LinesSay SaysEdge lines edges → numbers ≡ command_lines lines → AreOrderedMeetings edges pairs → count ≡ length edges

@@ -19,10 +19,6 @@ pub record Passed (before left : List (List ℕ)) (said : List SweepLine) (count
   pub together : said ≡ earlier ++ later
   pub counted : count ≡ length (segments_of earlier)
 
--- at first no line has passed
-pub Passed-none : (lines : List (List ℕ)) (said : List SweepLine) → LinesSay SaysSweepLine lines said → Passed [] lines said 0
-Passed-none lines said says = record { earlier = []; later = said; says_before = refl; says_left = says; together = refl; counted = refl }
-
 -- one more item that may be there
 appended : (earlier later others : List SweepLine) (said : Option SweepLine) → later ≡ cons_option said others → earlier ++ later ≡ (earlier ++ option_to_list said) ++ others
 appended earlier later others None is = ap (λ (items : List SweepLine). earlier ++ items) is ∙ ap (λ (items : List SweepLine). items ++ others) (sym (append-nil earlier))
@@ -60,28 +56,3 @@ module _ (before left : List (List ℕ)) (line : List ℕ) (after : List (List �
         together = passed.together ∙ appended passed.earlier passed.later others here are;
         counted = number_said count here names (decided here at_line) ∙ counted_on count passed.earlier here passed.counted;
       }
-
-  -- where it says one, this is the segment at the place that counts those before it
-  pub IsSegmentLine-next : (all : List (List ℕ)) (number : ℕ) → names ≡ true → all ≡ before ++ left → number ≡ length before → IsSegmentLine all said count (number + 1)
-  IsSegmentLine-next all number named together counted =
-      let (here, others, at_line, there, are) = subst (λ (lines : List (List ℕ)). LinesSay SaysSweepLine lines passed.later) cut passed.says_left in
-      let (segment, is) = the_segment here (sym (decided here at_line) ∙ named) in
-      record {
-        before = before;
-        line = line;
-        after = after;
-        together = together ∙ ap (λ (lines : List (List ℕ)). before ++ lines) cut;
-        counted = ap (λ n. n + 1) counted;
-        earlier = passed.earlier;
-        segment = segment;
-        later = others;
-        all = passed.together ∙ ap (λ (items : List SweepLine). passed.earlier ++ items) (are ∙ ap (λ (item : Option SweepLine). cons_option item others) is);
-        says_before = passed.says_before;
-        says_here = subst (LineSays SaysSweepLine line) is at_line;
-        placed = passed.counted;
-      }
-
--- where all lines have passed, all segments have
-pub Passed-all : (before : List (List ℕ)) (said : List SweepLine) (count : ℕ) → Passed before [] said count → count ≡ length (segments_of said)
-Passed-all before said count passed =
-    passed.counted ∙ ap (λ (items : List SweepLine). length (segments_of items)) (sym (passed.together ∙ ap (λ (items : List SweepLine). passed.earlier ++ items) passed.says_left ∙ append-nil passed.earlier))

@@ -1,5 +1,6 @@
 -- Pairs that are told to the replies, one after the other.
 use Rattle.std.proofs.Common.{◌≡◌, ◌≢◌, ◌==◌, ◌<◌, ◌+◌, ◌⊎◌, ℕ, Bool, true, false, cond, List, [], ◌∷◌, ◌++◌, Option, Some, None, length, take, get_or, set, sym, ap, ◌∙◌, subst, append-nil, inl, inr}
+use Rattle.std.proofs.lemmas.Option.{same_Some}
 use Rattle.std.specs.List.{filter_map, slice_get, cons_option}
 use Rattle.std.proofs.lemmas.Bool.Decides.{eqb_tells}
 use Rattle.std.proofs.lemmas.List.{take_more, get_or-map, get_or-set_same, get_or-set_other, length-map, length-set}
@@ -38,10 +39,7 @@ listed_at {A} replies place d within =
 
 -- a reply that is listed lists what is told at its place
 listed_is : {A : Type 0} (replies : List (MetLines A)) (place : ℕ) (d : MetLines A) (list : List ℕ) → place < length replies → slice_get (lists_of replies) place ≡ Some list → numbers_in (get_or replies place d) ≡ list
-listed_is replies place d list within is = some_same (sym (listed_at replies place d within) ∙ is)
-  where
-    some_same : {X : Type 0} {x y : X} → Some x ≡ Some y → x ≡ y
-    some_same same = cc
+listed_is replies place d list within is = same_Some _ _ (sym (listed_at replies place d within) ∙ is)
 
 -- the pair at this index is told to the reply at its later place
 pub AreTold-more : {A : Type 0} (numbers : List ℕ) (pairs : List (ℕ × ℕ)) (replies : List (MetLines A)) (i earlier later : ℕ) (reply new : MetLines A)

@@ -1,9 +1,15 @@
--- What the exports share that write a handle: the status and the parts of a box that a private call answers, and what
--- the box owns, which the handle leads to.
+-- What the calls share that write a handle: the status and the parts of a box that a private call answers, and what the
+-- box owns, which the handle leads to.
 --
--- An export for another kind of handle has a private call that answers `(i32, Raw<Kind, Global>)`, as `all_meetings` does,
--- and a walk as that of `itree_meetings_all`, over the row of its kind: behind the call `parts_out` takes the answer
--- apart, and at the end `made_in` says of the handle what the clause `made` does. What is its own are the parameters.
+-- A handle of another kind takes:
+--   a type as `Pairs`, and in `specs/Handle` what a handle of it owns, as `owns_pairs`, and what its call answers, as
+--   `AnswersAll`;
+--   a private call that answers `(i32, Raw<Kind, Global>)`, as `all_meetings`: it is proved as ever;
+--   an export with the clause `made`, as `itree_meetings_all`, and its walk over the row of the kind: behind the private
+--   call `parts_out` takes the answer apart, and at the end `made_in` makes the clause of what is owned. Only what is
+--   done with the parameters is its own: `itree_meetings_between` has one slice more;
+--   walks as those of `itree_pairs_first` and `itree_pairs_free` for what reads it and what frees it.
+-- The walks take the names of the toolchain's logic from `Steps`.
 use Rattle.std.proofs.Common.{◌≡◌, ℤ, List, [], ◌∷◌, ◌++◌, refl, ap, ◌∙◌, Bool, true, false, ◌&&◌, w32, Option}
 use lib.Dec.{T}
 use seplogic.Ra.Ura.{Ura}

@@ -12,12 +12,7 @@ use Rattle.plane.proofs.MeetLemmas.Shares.{whole, part_of_one, part_of_other}
 
 -- A whole point, as one of n parts.
 abbrev pub whole_point : (n : ℕ) → 0 < n → ℤ → ℤ → RationalPoint
-whole_point n some x y = record {
-  n = n;
-  x = pos n *ℤ x;
-  y = pos n *ℤ y;
-  positive = some;
-}
+whole_point n some x y = record { n = n; x = pos n *ℤ x; y = pos n *ℤ y; positive = some }
 
 -- A whole point of an edge: of how many parts it is one, and its share.
 pub record Lies (edge : Edge) (x y : ℤ) : Type 0 where
@@ -38,19 +33,11 @@ at_end n start end =
 pub is_of-end : (edge : Edge) (point : RationalPoint) → IsEnd edge point → IsOf edge point
 is_of-end edge point (inl at) = (
   0,
-  record {
-    share = omega arith;
-    x = at.x_is ∙ at_start point.n edge.x0 edge.x1;
-    y = at.y_is ∙ at_start point.n edge.y0 edge.y1;
-  },
+  record { share = omega arith; x = at.x_is ∙ at_start point.n edge.x0 edge.x1; y = at.y_is ∙ at_start point.n edge.y0 edge.y1 },
 )
 is_of-end edge point (inr at) = (
   point.n,
-  record {
-    share = omega arith;
-    x = at.x_is ∙ at_end point.n edge.x0 edge.x1;
-    y = at.y_is ∙ at_end point.n edge.y0 edge.y1;
-  },
+  record { share = omega arith; x = at.x_is ∙ at_end point.n edge.x0 edge.x1; y = at.y_is ∙ at_end point.n edge.y0 edge.y1 },
 )
 
 -- so both ends are, whatever the parts are
@@ -101,14 +88,7 @@ at_share : (edge : Edge) (x y way part : ℤ) (n a : ℕ) → pos n ≡ way → 
 at_share edge x y way part n a n_is a_is some share x_is y_is = record {
   n = n;
   some = some;
-  of_edge = (
-    a,
-    record {
-      share = share;
-      x = rw (n_is, a_is) x_is;
-      y = rw (n_is, a_is) y_is;
-    },
-  );
+  of_edge = (a, record { share = share; x = rw (n_is, a_is) x_is; y = rw (n_is, a_is) y_is });
 }
 
 -- differences and cross products, as expressions
@@ -167,14 +147,8 @@ along_comm one other along = record {
   of_one = none_back (cross_back other.x0 one.x0 one.y1 one.y0 other.y0 one.y0 one.x1 one.x0) (cross_back one.x0 other.x0 one.y1 one.y0 one.y0 other.y0 one.x1 one.x0) along.of_other (omega arith);
   of_other = none_back (cross_back other.x0 one.x0 other.y1 other.y0 other.y0 one.y0 other.x1 other.x0) (cross_back one.x0 other.x0 other.y1 other.y0 one.y0 other.y0 other.x1 other.x0) along.of_one (omega arith);
   boxes = record {
-    x = record {
-      first = along.boxes.x.second;
-      second = along.boxes.x.first;
-    };
-    y = record {
-      first = along.boxes.y.second;
-      second = along.boxes.y.first;
-    };
+    x = record { first = along.boxes.x.second; second = along.boxes.x.first };
+    y = record { first = along.boxes.y.second; second = along.boxes.y.first };
   };
 }
 
@@ -216,31 +190,14 @@ meets_along_x one other apart along =
 
 -- the edge in a plane whose x and y have changed places
 abbrev pub flipped : Edge → Edge
-flipped edge = record {
-  x0 = edge.y0;
-  y0 = edge.x0;
-  x1 = edge.y1;
-  y1 = edge.x1;
-}
+flipped edge = record { x0 = edge.y0; y0 = edge.x0; x1 = edge.y1; y1 = edge.x1 }
 
 -- and a point there
 abbrev pub over : RationalPoint → RationalPoint
-over point = record {
-  n = point.n;
-  x = point.y;
-  y = point.x;
-  positive = point.positive;
-}
+over point = record { n = point.n; x = point.y; y = point.x; positive = point.positive }
 
 pub of-flipped : (edge : Edge) (point : RationalPoint) → IsOf (flipped edge) point → IsOf edge (over point)
-of-flipped edge point (a, at) = (
-  a,
-  record {
-    share = at.share;
-    x = at.y;
-    y = at.x;
-  },
-)
+of-flipped edge point (a, at) = (a, record { share = at.share; x = at.y; y = at.x })
 
 meet-flipped : (one other : Edge) → Meet (flipped one) (flipped other) → Meet one other
 meet-flipped one other (point, of_one, of_other) = (over point, of-flipped one point of_one, of-flipped other point of_other)
@@ -250,10 +207,7 @@ along-flipped one other along = record {
   parallel = none_back (cross_back one.x1 one.x0 other.y1 other.y0 one.y1 one.y0 other.x1 other.x0) (cross_back one.y1 one.y0 other.x1 other.x0 one.x1 one.x0 other.y1 other.y0) along.parallel (omega arith);
   of_one = none_back (cross_back other.x0 one.x0 other.y1 other.y0 other.y0 one.y0 other.x1 other.x0) (cross_back other.y0 one.y0 other.x1 other.x0 other.x0 one.x0 other.y1 other.y0) along.of_one (omega arith);
   of_other = none_back (cross_back other.x0 one.x0 one.y1 one.y0 other.y0 one.y0 one.x1 one.x0) (cross_back other.y0 one.y0 one.x1 one.x0 other.x0 one.x0 one.y1 one.y0) along.of_other (omega arith);
-  boxes = record {
-    x = along.boxes.y;
-    y = along.boxes.x;
-  };
+  boxes = record { x = along.boxes.y; y = along.boxes.x };
 }
 
 -- an edge that goes somewhere, along an edge that its box meets, meets it

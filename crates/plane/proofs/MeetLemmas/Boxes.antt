@@ -80,17 +80,11 @@ le_is_true a b below = grind (arith, ints)
 pub ranges_tested : (start end other_start other_end least greatest other_least other_greatest : ℤ) → least ≡ int_min start end → other_greatest ≡ int_max other_start other_end → other_least ≡ int_min other_start other_end → greatest ≡ int_max start end → le_z least other_greatest ≡ true → MatchBool (le_z other_least greatest) (RangesMeet start end other_start other_end) (¬ (RangesMeet start end other_start other_end))
 ranges_tested start end other_start other_end least greatest other_least other_greatest least_is other_greatest_is other_least_is greatest_is first =
     cases_from_iff {P = RangesMeet start end other_start other_end} (
-      λ second. record {
-        first = omega (arith, ints);
-        second = omega (arith, ints);
-      },
+      λ second. record { first = omega (arith, ints); second = omega (arith, ints) },
       λ meet. le_is_true other_least greatest (omega (arith, ints, meet.second)),
     )
 
 -- boxes whose ranges along x meet are left to the ranges along y
 pub boxes_tested : (one other : Edge) (r : Bool) → RangesMeet one.x0 one.x1 other.x0 other.x1 → MatchBool r (RangesMeet one.y0 one.y1 other.y0 other.y1) (¬ (RangesMeet one.y0 one.y1 other.y0 other.y1)) → MatchBool r (BoxesMeet one other) (¬ (BoxesMeet one other))
-boxes_tested one other true first second = record {
-  x = first;
-  y = second;
-}
+boxes_tested one other true first second = record { x = first; y = second }
 boxes_tested one other false first second = λ boxes. second boxes.y

@@ -19,12 +19,7 @@ use Rattle.plane.proofs.MeetLemmas.Tests.{part_of_none}
 
 -- The edge that is one point.
 abbrev pub dot : ℤ → ℤ → Edge
-dot x y = record {
-  x0 = x;
-  y0 = y;
-  x1 = x;
-  y1 = y;
-}
+dot x y = record { x0 = x; y0 = y; x1 = x; y1 = y }
 
 -- where an edge goes nowhere, its shares are its start
 stays : (n a : ℕ) (z : ℤ) → ((pos n *ℤ z) +ℤ (pos a *ℤ (z -ℤ z))) ≡ (pos n *ℤ z)
@@ -35,21 +30,14 @@ pub has_point-of_meet : (edge : Edge) (x y : ℤ) → Meet edge (dot x y) → Ha
 has_point-of_meet edge x y (point, of_edge, (a, at)) = (
   point,
   of_edge,
-  record {
-    x_is = at.x ∙ stays point.n a x;
-    y_is = at.y ∙ stays point.n a y;
-  },
+  record { x_is = at.x ∙ stays point.n a x; y_is = at.y ∙ stays point.n a y },
 )
 
 pub meet-of_has_point : (edge : Edge) (x y : ℤ) → HasPoint edge x y → Meet edge (dot x y)
 meet-of_has_point edge x y (point, of_edge, at) =
     let of_dot : IsOf (dot x y) point = (
       0,
-      record {
-        share = omega arith;
-        x = at.x_is ∙ sym (stays point.n 0 x);
-        y = at.y_is ∙ sym (stays point.n 0 y);
-      },
+      record { share = omega arith; x = at.x_is ∙ sym (stays point.n 0 x); y = at.y_is ∙ sym (stays point.n 0 y) },
     ) in
     (point, of_edge, of_dot)
 
@@ -185,11 +173,7 @@ record BothAt (one other : Edge) (x : ℤ) : Type 0 where
   at : point.x ≡ (pos point.n *ℤ x)
 
 both_comm : (one other : Edge) (x : ℤ) → BothAt other one x → BothAt one other x
-both_comm one other x found = record {
-  point = found.point;
-  both = (found.both.1, found.both.0);
-  at = found.at;
-}
+both_comm one other x found = record { point = found.point; both = (found.both.1, found.both.0); at = found.at }
 
 both_at : (one other : Edge) (x y : ℤ) → Lies other x y → ((n : ℕ) (some : 0 < n) → IsOf one (whole_point n some x y)) → BothAt one other x
 both_at one other x y found of_one = record {

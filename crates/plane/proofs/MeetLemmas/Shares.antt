@@ -169,14 +169,7 @@ meet-of_parts one other apart first second =
       y = (pos found.n *ℤ one.y0) +ℤ (pos found.a *ℤ uy);
       positive = found.positive;
     } in
-    let of_one : IsOf one point = (
-      found.a,
-      record {
-        share = found.first;
-        x = refl;
-        y = refl;
-      },
-    ) in
+    let of_one : IsOf one point = (found.a, record { share = found.first; x = refl; y = refl }) in
     let of_other : IsOf other point = (
       found.b,
       record {

@@ -22,11 +22,7 @@ into_box_spec 𝓤 𝓛 𝓜 𝓡 wired X A L LA g d dd allocator md =
     let fn = inst_fn inst code.function in
     let B : RattleType = box.B E in let R : RattleType = made.the_row (box.R E) (box.P E) g in
     let hs : Stays En.signature.params En.kept = (stay_dropped (plain (λ _. R)) no, tt) in
-    proved_at 𝓛 En hs c 𝓜 𝓡 (
-      Goes-blank 𝓛 2 (plain (λ _. R)) no (λ κs x f.
-          tt),
-      tt,
-    ) (#self inst) fn (code.unfolded 𝓤 H 𝓜 𝓡 wired (X, (A, tt)) d dd) (λ z are.
+    proved_at 𝓛 En hs c 𝓜 𝓡 (Goes-blank 𝓛 2 (plain (λ _. R)) no (λ κs x f. tt), tt) (#self inst) fn (code.unfolded 𝓤 H 𝓜 𝓡 wired (X, (A, tt)) d dd) (λ z are.
     let κs = z.0.0 in let qs = z.0.1 in let a = z.0.3.0.alloc in
     let Post : Val → SProp 𝓤 = (walk_of 𝓛 En hs c).post z in let Run : List Val → SProp 𝓤 = λ ws.
     WpFn 𝓤 H 𝓣.C 𝓣.Λ fn ws Post in
@@ -43,19 +39,7 @@ into_box_spec 𝓤 𝓛 𝓜 𝓡 wired X A L LA g d dd allocator md =
     ‵ (R.own_val (raw_at v) z.0.4.0)) there.1 refl $
     use1 𝓛 (‵ (B.own_val boxed z.0.4.0)) (id⊢ 𝓤 _) $ box_out E ! boxed z.0.4.0 (λ b o h e ws fits. fjoin ! $
     -- [what the box owns; the handle; nothing; the tokens; that the types live]
-    let w : Val = box.word E h b o in let y : K.Ghost = (
-      (
-        κs,
-        qs,
-        tt,
-        (a, (block_ptr b o, tt)),
-        (
-          h ∷ [],
-          (vptr b o ∷ [], tt),
-        ),
-      ),
-      x,
-    ) in
+    let w : Val = box.word E h b o in let y : K.Ghost = ((κs, qs, tt, (a, (block_ptr b o, tt)), (h ∷ [], (vptr b o ∷ [], tt))), x) in
     move ! (5 ∷ 0 ∷ []) $ join ! $ move ! (4 ∷ 0 ∷ []) $ join ! $
     move ! (2 ∷ []) $ feq_i ! (List Val) (vptr b o ∷ []) (vptr b o ∷ []) refl $ fjoin ! $ move ! (2 ∷ 0 ∷ []) $
     fjoin ! $ move ! (2 ∷ 0 ∷ []) $ join ! $ join ! $ use1 𝓛 (raw (K.pre y)) (id⊢ 𝓤 _) $

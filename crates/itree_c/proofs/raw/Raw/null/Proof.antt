@@ -16,11 +16,7 @@ null_spec 𝓤 𝓛 𝓜 𝓡 wired T A L LA g d dd allocator md =
     let fn = inst_fn inst code.function in
     let R : RattleType = made.the_row (box.R E) (box.P E) g in
     let hs : Stays En.signature.params En.kept = (stay_dropped (plain (λ _. box.P E)) no, tt) in
-    proved_at 𝓛 En hs c 𝓜 𝓡 (
-      Goes-blank 𝓛 2 (plain (λ _. box.P E)) no (λ κs x f.
-          tt),
-      tt,
-    ) (#self inst) fn (code.unfolded 𝓤 H 𝓜 𝓡 wired (T, (A, tt)) d dd) (λ z are.
+    proved_at 𝓛 En hs c 𝓜 𝓡 (Goes-blank 𝓛 2 (plain (λ _. box.P E)) no (λ κs x f. tt), tt) (#self inst) fn (code.unfolded 𝓤 H 𝓜 𝓡 wired (T, (A, tt)) d dd) (λ z are.
     let κs = z.0.0 in let qs = z.0.1 in let a = z.0.3.0 in let Post : Val → SProp 𝓤 = (walk_of 𝓛 En hs c).post z in
     let Run : List Val → SProp 𝓤 = λ ws. WpFn 𝓤 H 𝓣.C 𝓣.Λ fn ws Post in
     let lives = ‵ (flft κs.0 qs.0) ⊛ ‵ (flft κs.1.0 qs.1.0) ⊛ ‵ ftrue in
@@ -36,22 +32,12 @@ null_spec 𝓤 𝓛 𝓜 𝓡 wired T A L LA g d dd allocator md =
     eh i ++ [])) (id⊢ 𝓤 (Run (h ∷ [])))) $
     enter ! 𝓣.C 𝓣.Λ fn (h ∷ []) Post $ alloc_all ! (λ l. pass_all ! refl (fits, tt) $
     sets ! (of_opd ! (get ! refl)) refl fits $
-    sets ! (agg ! (and_then ! (lit ! tt) (and_then ! (get ! refl) (no_more !)))) refl (
-      and_tt (has_ty (α E.al) h)
-          fits.0,
-      (record { fits = lit< tt }, (fits.1, tt)),
-    ) $ returns ! (look_at ! 0 refl) $ free_all ! refl $
+    sets ! (agg ! (and_then ! (lit ! tt) (and_then ! (get ! refl) (no_more !)))) refl (and_tt (has_ty (α E.al) h) fits.0, (record { fits = lit< tt }, (fits.1, tt))) $ returns ! (look_at ! 0 refl) $ free_all ! refl $
     -- [the handle; nothing; the tokens; nothing]
     feq_i ! Ptr null_ptr null_ptr refl $ nothing ! $ move ! (2 ∷ 0 ∷ []) $ fjoin ! $
     feq_i ! (List Val) (vnull ∷ []) (vnull ∷ []) refl $ fjoin ! $ feq_i ! (List Val) (w ∷ []) (w ∷ []) refl $
     fjoin ! $
-    fpack ! (Valss (RawPtr ∷ box.P E ∷ [])) (within (shape (made.the_type (box.R E) (box.P E) g)) (
-      null_ptr,
-      (
-        a,
-        tt,
-      ),
-    ) (w ∷ [])) (vnull ∷ [], (h ∷ [], tt)) $ fjoin ! $
+    fpack ! (Valss (RawPtr ∷ box.P E ∷ [])) (within (shape (made.the_type (box.R E) (box.P E) g)) (null_ptr, (a, tt)) (w ∷ [])) (vnull ∷ [], (h ∷ [], tt)) $ fjoin ! $
     use1 𝓛 (‵ (R.own_val parts (w ∷ []))) (id⊢ 𝓤 _) $
     use0 𝓛 (raw (fact 𝓤 (parts.value ≡ None))) (fact_i 𝓤 (parts.value ≡ None) (emp 𝓤) refl) $ nothing ! $ nothing ! $
     fjoin ! $

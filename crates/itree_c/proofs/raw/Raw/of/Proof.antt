@@ -18,11 +18,7 @@ of_spec 𝓤 𝓛 𝓜 𝓡 wired T A L LA g d dd dx allocator md glue =
     let fn = inst_fn inst code.function in
     let B : RattleType = box.B E in let R : RattleType = made.the_row (box.R E) (box.P E) g in
     let hs : Stays En.signature.params En.kept = (stay_dropped (plain (λ _. B)) no, tt) in
-    proved_at 𝓛 En hs c 𝓜 𝓡 (
-      Goes-blank 𝓛 2 (plain (λ _. B)) no (λ κs x f.
-          tt),
-      tt,
-    ) (#self inst) fn (code.unfolded 𝓤 H 𝓜 𝓡 wired (T, (A, tt)) d dd dx) (λ z are.
+    proved_at 𝓛 En hs c 𝓜 𝓡 (Goes-blank 𝓛 2 (plain (λ _. B)) no (λ κs x f. tt), tt) (#self inst) fn (code.unfolded 𝓤 H 𝓜 𝓡 wired (T, (A, tt)) d dd dx) (λ z are.
     let κs = z.0.0 in let qs = z.0.1 in let v = z.0.3.0 in let a = v.alloc in
     let Post : Val → SProp 𝓤 = (walk_of 𝓛 En hs c).post z in let Run : List Val → SProp 𝓤 = λ ws.
     WpFn 𝓤 H 𝓣.C 𝓣.Λ fn ws Post in
