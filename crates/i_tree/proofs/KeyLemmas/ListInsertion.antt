@@ -7,7 +7,7 @@ use Rattle.std.specs.declared.cmp.Ordering.{Ordering}
 use Rattle.std.proofs.lemmas.Bool.{false≢true}
 use Rattle.i_tree.proofs.ExpiringLemmas.List.{all_stayed, had_no_spare, none_spare, none_was_expired}
 use Rattle.i_tree.proofs.RootLemmas.Lists.{Without-filter}
-use Rattle.i_tree.proofs.RootLemmas.RisingKeys.{IsRising-insert}
+use Rattle.i_tree.proofs.RootLemmas.RisingKeys.{rises-insert}
 use Rattle.std.specs.Cmp.{IsTotalOrder}
 use Rattle.std.specs.List.Sorted.{IsPartitionPoint}
 use Rattle.std.specs.declared.cmp.Ordering.TheVariants.{Less}
@@ -55,5 +55,5 @@ has_spare stored spare few = omega (arith, few)
 -- keys that rise do so after a new one was put at its place, or refused
 pub rising_put : {K V : Type 0} {compare : K → K → Ordering} (o : IsTotalOrder compare) (old new : Contents K V) (pair : K × V) (place : ℕ) (result : Result ⊤ Refusal) → OnOk result (new.pairs ≡ insert old.pairs place pair) → OnErr result (new ≡ old)
     → IsRising compare old.pairs → IsPartitionPoint (λ other. compare other.0 pair.0 ≡ Less) (λ other. compare other.0 pair.0 ≢ Less) old.pairs place → place ≤ length old.pairs → NoKey compare old.pairs pair.0 → IsRising compare new.pairs
-rising_put {compare = compare} o old new pair place (Ok done) is same rising splits within free = subst (IsRising compare) (sym is) (IsRising-insert o old.pairs pair place rising splits within free)
+rising_put {compare = compare} o old new pair place (Ok done) is same rising splits within free = subst (IsRising compare) (sym is) (rises-insert o (λ (other : _ × _). other.0) old.pairs pair place rising splits within free)
 rising_put {compare = compare} o old new pair place (Err cause) is same rising splits within free = subst (λ (list : Contents _ _). IsRising compare list.pairs) (sym same) rising

@@ -14,7 +14,7 @@ use Rattle.std.proofs.lemmas.List.Elements.{All-append, All-cons, All-head, All-
 use Rattle.std.proofs.lemmas.Option.{get_or_from_slice_get}
 use Rattle.i_tree.proofs.RootLemmas.Joined.{All-behind, All-from_end, All-from_start, AllPairs-across, AllPairs-front, Any-behind, Any-here}
 use Rattle.i_tree.specs.Root.Answer.{AnswersBy}
-use Rattle.i_tree.specs.Root.Along.{AreNeighbours, AtMostAlong, HasEqual, IsFirst, IsLast, IsMonotoneAlong, LastOr, NoneEqual, value_or}
+use Rattle.i_tree.specs.Root.Along.{AreNeighbours, AtMostAlong, HasEqual, IsFirst, IsLast, IsMonotoneAlong, NoneEqual, value_or}
 use Rattle.i_tree.specs.Root.Ends.{FirstFinds, LastFinds, StartsIn}
 
 -- the test that isn't Greater
@@ -132,18 +132,6 @@ module _ {K V : Type 0} where
         subst (λ xs. IsFirst P xs found) (take-append-drop count pairs)
         (IsFirst-at_cut P (take count pairs) (drop count pairs) found (All-before_point (λ pair. ¬ (P pair)) P pairs count within point) (All-behind_point (λ pair. ¬ (P pair)) P pairs count point)
         (FirstFinds-at_count (λ pair. Some pair) None pairs found count none next))
-
-module _ {K V : Type 0} (pairs : List (K × V)) (count : ℕ) (within : count ≤ length pairs) (P : K × V → Type 0) (default value : V) where
-  -- so its value is that of the last that does
-  pub LastOr-at_count : IsPartitionPoint P (λ pair. ¬ (P pair)) pairs count
-      → (count ≡ 0 → value ≡ default) → (0 < count → (pair : K × V) × (slice_get pairs (count - 1) ≡ Some pair) × (value ≡ pair.1)) → LastOr P pairs default value
-  LastOr-at_count point none last =
-      let (found, ends, is) = last_value default value (take count pairs) (LastFinds-at_count (λ pair. pair.1) default pairs value count within none last) in (
-        found,
-        subst (λ xs. IsLast P xs found) (take-append-drop count pairs)
-            (IsLast-at_cut P (take count pairs) (drop count pairs) found (All-before_point P (λ pair. ¬ (P pair)) pairs count within point) (All-behind_point P (λ pair. ¬ (P pair)) pairs count point) ends),
-        is,
-      )
 
 module _ {K V : Type 0} (P Q : K × V → Type 0) (to : (pair : K × V) → P pair → Q pair) (from : (pair : K × V) → Q pair → P pair) where
   -- two ways to say what is met

@@ -1,9 +1,9 @@
 -- Facts on lists that are made of two, where each element stands in a relation to all later ones.
 use Rattle.std.proofs.Common.{◌≡◌, suc, List, [], ◌∷◌, ◌++◌, get_or, map, refl, sym, ap, subst, inl, inr, arith}
 use Rattle.std.specs.List.{All, AllPairs, Any, Contains}
-use Rattle.std.proofs.lemmas.List.Elements.{All-nil, All-cons, All-head, All-tail, All-append, All-weaker}
+use Rattle.std.proofs.lemmas.List.Elements.{Contains-append_right, All-nil, All-cons, All-head, All-tail, All-append, All-weaker}
 use Rattle.std.proofs.lemmas.List.Kept.{AllPairs-cons}
-use Rattle.i_tree.proofs.RootLemmas.Lists.{AllPairs-head, AllPairs-tail, Contains-here, Contains-there}
+use Rattle.i_tree.proofs.RootLemmas.Lists.{AllPairs-head, AllPairs-tail, Contains-here}
 use Rattle.i_tree.specs.Root.Ends.{LastFinds, StartsIn}
 
 module _ {X : Type 0} where
@@ -30,12 +30,8 @@ module _ {X : Type 0} where
     All-of_map {Y} f [] h = All-nil (λ y. P (f y))
     All-of_map {Y} f (y ∷ ys) h = All-cons (λ z. P (f z)) y ys (All-head P (f y) (map f ys) h) (All-of_map f ys (All-tail P (f y) (map f ys) h))
 
-  pub Contains-behind : (xs ys : List X) (x : X) → Contains ys x → Contains (xs ++ ys) x
-  Contains-behind [] ys x h = h
-  Contains-behind (y ∷ xs) ys x h = Contains-there y (xs ++ ys) x (Contains-behind xs ys x h)
-
   pub Contains-middle : (xs : List X) (x : X) (ys : List X) → Contains (xs ++ x ∷ ys) x
-  Contains-middle xs x ys = Contains-behind xs (x ∷ ys) x (Contains-here x ys)
+  Contains-middle xs x ys = Contains-append_right xs (x ∷ ys) x (Contains-here x ys)
 
   -- a list that isn't empty, cut before its last element
   pub last_cut : (x : X) (xs : List X) → (front : List X) × (last : X) × (x ∷ xs ≡ front ++ last ∷ [])

@@ -16,21 +16,12 @@ ge-reverse Less = refl
 ge-reverse Equal = refl
 ge-reverse Greater = refl
 
-not_less : (r : Ordering) → r ≢ Less → is_lt r ≡ false
-not_less Less apart = absurd (apart refl)
-not_less Equal apart = refl
-not_less Greater apart = refl
-
 module _ {T : Type 0} {cmp : T → T → Ordering} (o : IsTotalOrder cmp) where
   pub gt-reversed : (a b : T) → is_gt (cmp a b) ≡ is_lt (cmp b a)
   gt-reversed a b = ap is_gt (o.antisymm a b) ∙ gt-reverse (cmp b a)
 
   pub ge-reversed : (a b : T) → is_ge (cmp a b) ≡ not (is_gt (cmp b a))
   ge-reversed a b = ap is_ge (o.antisymm a b) ∙ ge-reverse (cmp b a)
-
-  -- what isn't before another isn't exceeded by it
-  pub not_before-reversed : (a b : T) → cmp a b ≢ Less → is_gt (cmp b a) ≡ false
-  not_before-reversed a b apart = gt-reversed b a ∙ not_less (cmp a b) apart
 
   -- what is at or after another isn't exceeded by it, and the other way round
   pub at_or_after-reversed : (a b : T) → is_ge (cmp a b) ≡ true → is_gt (cmp b a) ≡ false

@@ -9,7 +9,7 @@ use Rattle.std.specs.List.Sorted.{IsPartitionPoint, IsPartitionedBy}
 use Rattle.std.proofs.lemmas.Bool.{cases_eq, cases_lt, both_ways}
 use Rattle.std.proofs.lemmas.List.Elements.{All-append, All-cons, All-head, All-weaker}
 use Rattle.std.proofs.lemmas.List.{length-take-le, get_or-take, get_or-drop}
-use Rattle.i_tree.proofs.RootLemmas.Along.{AtMostAlong-at_point, IsPartitionedBy-along, LastOr-at_count}
+use Rattle.i_tree.proofs.RootLemmas.Along.{AtMostAlong-at_point, IsPartitionedBy-along}
 use Rattle.i_tree.proofs.RootLemmas.Joined.{AllPairs-across, AllPairs-behind, Contains-middle}
 use Rattle.i_tree.proofs.RootLemmas.Lists.{All-filter_passing, AllPairs-head, AllPairs-insert, Contains-filter}
 use Rattle.i_tree.proofs.RootLemmas.Orders.{above}
@@ -97,15 +97,7 @@ module _ {K V : Type 0} {cmp : K → K → Ordering} (o : IsTotalOrder cmp) wher
   pub Above-from_along : (pairs : List (K × V)) (order : K → Ordering) (default value : V) → IsRising cmp pairs → AboveAlong order pairs default value → Above cmp pairs order default value
   Above-from_along pairs order default value = LeastOr-from_first (λ key. order key ≡ Greater) pairs default value
 
-  -- where the keys at the front meet P and the others don't, the last at the front is the greatest that does
-  pub GreatestOr-at_count : (P : K → Type 0) (pairs : List (K × V)) (count : ℕ) (default value : V) → IsRising cmp pairs
-      → IsPartitionPoint (λ other. P other.0) (λ other. ¬ (P other.0)) pairs count → count ≤ length pairs
-      → (count ≡ 0 → value ≡ default) → (0 < count → (pair : K × V) × (slice_get pairs (count - 1) ≡ Some pair) × (value ≡ pair.1))
-      → GreatestOr cmp P pairs default value
-  GreatestOr-at_count P pairs count default value rising point within none last =
-      GreatestOr-from_last P pairs default value rising (LastOr-at_count pairs count within (λ pair. P pair.0) default value point none last)
-
-  -- the same for the keys that an order doesn't call Greater
+  -- where the keys that an order doesn't call Greater stand in front, the last of them is answered
   pub AtMost-at_count : (pairs : List (K × V)) (order : K → Ordering) (count : ℕ) (default value : V) → IsRising cmp pairs → IsMonotone cmp order pairs
       → IsPartitionPoint (λ other. not (is_gt (order other.0)) ≡ true) (λ other. not (is_gt (order other.0)) ≡ false) pairs count → count ≤ length pairs
       → (count ≡ 0 → value ≡ default) → (0 < count → (pair : K × V) × (slice_get pairs (count - 1) ≡ Some pair) × (value ≡ pair.1))
@@ -113,19 +105,6 @@ module _ {K V : Type 0} {cmp : K → K → Ordering} (o : IsTotalOrder cmp) wher
   AtMost-at_count pairs order count default value rising monotone point within none last =
       AtMost-from_along pairs order default value rising
       (AtMostAlong-at_point order pairs count within point default value (IsMonotoneAlong-rising cmp pairs order rising monotone) none last)
-
-  -- a key that no other compares Equal to joins at its place
-  pub IsRising-insert : (pairs : List (K × V)) (pair : K × V) (place : ℕ) → IsRising cmp pairs
-      → IsPartitionPoint (λ other. cmp other.0 pair.0 ≡ Less) (λ other. cmp other.0 pair.0 ≢ Less) pairs place
-      → place ≤ length pairs → NoKey cmp pairs pair.0 → IsRising cmp (insert pairs place pair)
-  IsRising-insert pairs pair place rising (before, from) within free =
-      AllPairs-insert (λ earlier later. cmp earlier.0 later.0 ≡ Less) pairs place pair rising
-      (λ k d inside.
-      let short = length-take-le place pairs within in
-      rw (get_or-take place pairs k d (omega arith)) (before k d (omega arith) (omega arith)))
-      (λ k d inside.
-      let short = length-drop place pairs in
-      rw (get_or-drop place pairs k d) (above o (get_or pairs (place + k) d).0 pair.0 (from (place + k) d (omega arith) (omega arith)) (free (place + k) d (omega arith))))
 
   -- only the key at the place can compare Equal
   pub equal_at_place : (pairs : List (K × V)) (key : K) (place : ℕ) → IsRising cmp pairs
@@ -167,6 +146,19 @@ module _ {K V : Type 0} {cmp : K → K → Ordering} (o : IsTotalOrder cmp) wher
         let same = equal_at_place pairs key place rising point k d within level in
         let at : cmp (get_or pairs place d).0 key ≡ Equal = subst (λ n. cmp (get_or pairs n d).0 key ≡ Equal) same level in
         both_ways (is_live expiration cmp_time time (get_or pairs place d).0) (at_place d (omega (arith, within, same)) at) (subst (λ n. is_live expiration cmp_time time (get_or pairs n d).0 ≡ true) same live))
+
+-- where keys rise, one that no other compares Equal to joins at its place; `key` gives an item's key
+pub rises-insert : {X K : Type 0} {cmp : K → K → Ordering} (o : IsTotalOrder cmp) (key : X → K) (xs : List X) (x : X) (place : ℕ) → AllPairs (λ earlier later. cmp (key earlier) (key later) ≡ Less) xs
+    → IsPartitionPoint (λ other. cmp (key other) (key x) ≡ Less) (λ other. cmp (key other) (key x) ≢ Less) xs place
+    → place ≤ length xs → All (λ other. cmp (key other) (key x) ≢ Equal) xs → AllPairs (λ earlier later. cmp (key earlier) (key later) ≡ Less) (insert xs place x)
+rises-insert {cmp = cmp} o key xs x place rising (before, from) within free =
+    AllPairs-insert (λ earlier later. cmp (key earlier) (key later) ≡ Less) xs place x rising
+    (λ k d inside.
+    let short = length-take-le place xs within in
+    rw (get_or-take place xs k d (omega arith)) (before k d (omega arith) (omega arith)))
+    (λ k d inside.
+    let short = length-drop place xs in
+    rw (get_or-drop place xs k d) (above o (key (get_or xs (place + k) d)) (key x) (from (place + k) d (omega arith) (omega arith)) (free (place + k) d (omega arith))))
 
 pub same_contents : {K V : Type 0} {a b : Contents K V} → a.pairs ≡ b.pairs → a.spare ≡ b.spare → a ≡ b
 same_contents pairs spare i = record { pairs = pairs i; spare = spare i }

@@ -45,15 +45,6 @@ mask_below-bit (suc bound) test node below =
           (own_bit (test bound) (mask_below bound test) bound (mask_below-lt bound test))
     ]
 
--- the mask of the nodes that pass has those of the heap that pass
-pub nodes_where-has : (test : ℕ → Bool) (node : ℕ) → node < 63 → has_node (nodes_where test) node ≡ test node
-unfolding nodes_where
-nodes_where-has test node within = ap (λ (bit : ℕ). bit == 1) (mask_below-bit 63 test node within) ∙ read (test node)
-  where
-    read : (passes : Bool) → (cond passes 1 0 == 1) ≡ passes
-    read true = refl
-    read false = refl
-
 pub nodes_where-lt : (test : ℕ → Bool) → nodes_where test < 2 ^ 63
 unfolding nodes_where
 nodes_where-lt test = mask_below-lt 63 test

@@ -1,5 +1,5 @@
 -- Facts on a list whose handles are positions.
-use Rattle.std.proofs.Common.{◌≡◌, ◌≢◌, ℕ, zero, suc, ◌+◌, ◌-◌, ◌<◌, ◌≤◌, Bool, true, false, not, List, [], ◌∷◌, ◌++◌, length, min, get_or, Some, refl, sym, ap, ◌∙◌, subst, ⊎_elim, arith, append_assoc, length-append, length-drop}
+use Rattle.std.proofs.Common.{◌≡◌, ◌≢◌, ℕ, zero, suc, ◌+◌, ◌-◌, ◌<◌, ◌≤◌, Bool, true, false, not, List, [], ◌∷◌, ◌++◌, length, min, get_or, Some, refl, sym, ap, ◌∙◌, subst, ⊎_elim, arith, append_assoc, length-append}
 use Rattle.std.specs.Borrow.{Bor}
 use Rattle.std.specs.Cmp.{IsTotalOrder}
 use Rattle.std.specs.List.{All, AllPairs, insert, remove, enumerate_from}
@@ -10,13 +10,11 @@ use Rattle.std.specs.declared.cmp.Ordering.TheVariants.{Less, Equal, Greater}
 use Rattle.std.proofs.Math.Nat.{min-le_left, min-le_right}
 use Rattle.std.proofs.Math.Seq.{get_or-append_seam}
 use Rattle.std.proofs.lemmas.Bool.{both_ways, cases_eq}
-use Rattle.std.proofs.lemmas.List.{get_or_default, get_or-map, length-map, length-take-le, get_or-take, get_or-drop, map-append}
+use Rattle.std.proofs.lemmas.List.{get_or_default, get_or-map, length-map, map-append}
 use Rattle.std.proofs.lemmas.List.Edits.{remove-append_right}
 use Rattle.std.proofs.lemmas.List.FromFn.{length-enumerate_from, get_or-enumerate_from}
 use Rattle.std.proofs.lemmas.Option.{slice_get-get_or}
-use Rattle.i_tree.proofs.RootLemmas.RisingKeys.{AtMost-at_count, IsPartitionedBy-monotone, IsPartitionedBy-rising}
-use Rattle.i_tree.proofs.RootLemmas.Orders.{above}
-use Rattle.i_tree.proofs.RootLemmas.Lists.{AllPairs-insert}
+use Rattle.i_tree.proofs.RootLemmas.RisingKeys.{AtMost-at_count, IsPartitionedBy-monotone, IsPartitionedBy-rising, rises-insert}
 use Rattle.i_tree.proofs.RootLemmas.Joined.{last_cut}
 use Rattle.i_tree.proofs.SetLemmas.Search.{last_handle-end}
 use Rattle.i_tree.specs.Root.Answer.{AnswersBy, IsMonotone}
@@ -175,9 +173,6 @@ module _ {K V : Type 0} (key_of : V → K) where
   )
 
   module _ (cmp : K → K → Ordering) where
-    abbrev Rises : V → V → Type 0
-    Rises earlier later = cmp (key_of earlier) (key_of later) ≡ Less
-
     compared : {a b c d : K × ℕ} → a ≡ c → b ≡ d → cmp a.0 b.0 ≡ cmp c.0 d.0
     compared p q t = cmp (p t).0 (q t).0
 
@@ -213,18 +208,9 @@ module _ {K V : Type 0} (key_of : V → K) where
     -- a value whose key no other compares Equal to joins at its place
     pub ordered-insert : (xs : List V) (x : V) (place : ℕ) → IsOrdered key_of cmp (numbered xs) → LacksKey key_of cmp (numbered xs) (key_of x)
         → IsPlaceFor key_of cmp (key_of x) xs place → place ≤ length xs → IsOrdered key_of cmp (numbered (insert xs place x))
-    ordered-insert xs x place ordered absent (before, from) within =
+    ordered-insert xs x place ordered absent splits within =
         ordered_from_rising cmp (insert xs place x)
-        (AllPairs-insert (Rises cmp) xs place x (rising_from_ordered cmp xs ordered)
-        (λ k d inside.
-        let short = length-take-le place xs within in
-        rw (get_or-take place xs k d (omega arith)) (before k d (omega arith) (omega arith)))
-        (λ k d inside.
-        let short = length-drop place xs in
-        rw (get_or-drop place xs k d) (above o (key_of (get_or xs (place + k) d)) (key_of x) (from (place + k) d (omega arith) (omega arith)) (free (place + k) d (omega arith)))))
-      where
-        free : All (λ y. cmp (key_of y) (key_of x) ≢ Equal) xs
-        free = All-keys (λ key. cmp key (key_of x) ≢ Equal) xs absent
+        (rises-insert o key_of xs x place (rising_from_ordered cmp xs ordered) splits within (All-keys (λ key. cmp key (key_of x) ≢ Equal) xs absent))
 
     module _ (order : K → Ordering) where
       -- the keys that a monotone order doesn't call Greater stand in front

@@ -42,11 +42,5 @@ module _ {V : Type 0} where
       by_rest [] at = at
       by_rest (pair ∷ back) at = absurd (omega (arith, none, ap length at, length-drop (length pairs - left) pairs))
 
-  -- at first all are
-  pub all_left : (pairs : List (ℕ × V)) (left : ℕ) → left ≡ length pairs → drop (length pairs - left) pairs ≡ pairs
-  all_left pairs left all =
-      let none : length pairs - left ≡ 0 = omega (arith, all) in
-      ap (λ (n : ℕ). drop n pairs) none
-
 pub walks_in_order : {K V C : Type 0} (pairs : C → List (ℕ × V)) → WalksInOrder K pairs
 walks_in_order {K} pairs = from_front (YieldsFirstRef (values_left {K = K} pairs)) (λ value. value.now) (values_left pairs) (λ s t ends. ap length ends.0) (λ s x t gives. gives)

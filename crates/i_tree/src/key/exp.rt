@@ -58,7 +58,8 @@ pub trait KeyExpCollection<K: ExpiredKey<E>, E: Expiration, V: Copy> {
     /// expired pairs may have gone. It is refused as `insert` is, and then no live key compares Equal. There is no condition:
     /// one call stands for `contains_key` and `insert`. It is our own, and answers as std's `BTreeSet::insert`.
     fn insert_new(&mut self, key: K, val: V, time: E) -> Result<bool, Refusal>
-        ensures cases { IfOk result (λ is_new. IsNewKey K.cmp (live_pairs K.expiration E.cmp time (stored self.old)) key is_new) }
+        ensures cases { IfOk result (λ is_new.
+            IsNewKey K.cmp (live_pairs K.expiration E.cmp time (stored self.old)) key is_new) }
         ensures ok { IfOk result (λ is_new. GainsOrLoses (IsExpired K.expiration E.cmp time) is_new
             (key, val) (stored self.old) (stored self.new)) }
         ensures err { OnErr result (stored self.new ≡ stored self.old) }

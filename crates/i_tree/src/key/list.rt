@@ -79,6 +79,14 @@ impl<K: ExpiredKey<E>, E: Expiration, V: Copy, A: Allocator + Copy> KeyExpList<K
         self.held.spare()
     }
 
+    // The pairs that are stored.
+    fn pairs(&self) -> &[(K, V)]
+        ensures value { result.now ≡ self.now.pairs }
+        ensures rising { IsRising K.cmp self.now.pairs }
+    {
+        self.held.pairs()
+    }
+
     // Puts the pair at the place of its key, which no stored key compares Equal to.
     fn put(&mut self, place: usize, key: K, val: V) -> Result<(), Refusal>
         requires within { place ≤ length self.old.pairs }
@@ -126,7 +134,7 @@ impl<K: ExpiredKey<E>, E: Expiration, V: Copy, A: Allocator + Copy> KeyExpCollec
     /// A refusal changes nothing at all.
     fn insert(&mut self, key: K, val: V, time: E) -> Result<(), Refusal> {
         self.remove_expired(time);
-        let place = place_of(self.held.pairs(), &key);
+        let place = place_of(self.pairs(), &key);
         self.put(place, key, val)
     }
 
@@ -136,8 +144,8 @@ impl<K: ExpiredKey<E>, E: Expiration, V: Copy, A: Allocator + Copy> KeyExpCollec
     /// It asks for memory only where the key is new, and is refused then as `insert` is.
     fn insert_new(&mut self, key: K, val: V, time: E) -> Result<bool, Refusal> {
         self.remove_expired(time);
-        let place = place_of(self.held.pairs(), &key);
-        if has_key_at(self.held.pairs(), place, &key) {
+        let place = place_of(self.pairs(), &key);
+        if has_key_at(self.pairs(), place, &key) {
             return Ok(false);
         }
         if let Err(cause) = self.put(place, key, val) {
@@ -150,23 +158,23 @@ impl<K: ExpiredKey<E>, E: Expiration, V: Copy, A: Allocator + Copy> KeyExpCollec
     /// where none is below it.
     fn first_less(&mut self, time: E, default: V, key: K) -> V {
         self.remove_expired(time);
-        value_below(self.held.pairs(), &key, default)
+        value_below(self.pairs(), &key, default)
     }
 
     /// Removes what is expired at `time`, and answers by `f`, which is asked about what is left alone.
     fn first_less_or_equal_by<F: Fn(K) -> Ordering>(&mut self, time: E, default: V, f: F) -> V {
         self.remove_expired(time);
-        value_at_most(self.held.pairs(), f, default)
+        value_at_most(self.pairs(), f, default)
     }
 
     /// Removes what is expired at `time`, and answers by `f`, which is asked about what is left alone.
     fn first_greater_by<F: Fn(K) -> Ordering>(&mut self, time: E, default: V, f: F) -> V {
         self.remove_expired(time);
-        value_above(self.held.pairs(), f, default)
+        value_above(self.pairs(), f, default)
     }
 
     fn contains_key(&self, time: E, key: K) -> bool {
-        has_live_key(self.held.pairs(), time, &key)
+        has_live_key(self.pairs(), time, &key)
     }
 
     /// Removes every pair, and keeps the room.

@@ -5,12 +5,12 @@ use Rattle.i_tree.specs.declared.rb.links.Colour.{Colour}
 use Rattle.i_tree.specs.declared.rb.links.Colour.TheVariants.{Red, Black}
 use Rattle.i_tree.specs.declared.rb.links.Side.{Side}
 use Rattle.i_tree.specs.declared.rb.links.Side.TheVariants.{Left, Right}
-use Rattle.i_tree.specs.Rb.Shape.{Shape, leaf, fork, entries, black_levels, left_subtree, right_subtree, IsHandle, AreHandles}
+use Rattle.i_tree.specs.Rb.Shape.{Shape, leaf, fork, entries, black_levels, IsHandle, AreHandles}
 use Rattle.i_tree.specs.Rb.Context.{Frame, fork_on, fill, plug, subtree_on, beside, Replaces, HasRoomOn}
 use Rattle.i_tree.specs.Rb.Balance.{is_black_colour, is_black, MayHold, IsRedBlack, is_black_around, MayStand, Fits, IsRaised}
-use Rattle.i_tree.proofs.RbLemmas.Shape.Contexts.{Cut, cut_at, before_hole, after_hole, entries-plug, length-plug}
+use Rattle.i_tree.proofs.RbLemmas.Shape.Contexts.{Cut, before_hole, after_hole, entries-plug, length-plug}
 use Rattle.i_tree.proofs.RbLemmas.Balance.Ranks.{levels-fork_on}
-use Rattle.i_tree.proofs.RbLemmas.Shape.Subtrees.{list_cut, subtree_at-of_cut}
+use Rattle.i_tree.proofs.RbLemmas.Shape.Subtrees.{list_cut, side_cut}
 
 module _ {T : Type 0} where
   MayHold-swap : (colour : Colour) (before after : Shape T) → MayHold colour before after → MayHold colour after before
@@ -136,25 +136,14 @@ module _ {T : Type 0} where
 
   -- a live handle with no subtree on a side has room there
   HasRoomOn-subtree_on : (side : Side) (tree : Shape T) (handle : ℕ) → AreHandles tree → IsHandle tree handle → subtree_on side handle tree ≡ leaf → HasRoomOn tree handle side
-  HasRoomOn-subtree_on Left tree handle handles live none =
-      let cut = cut_at tree handle live in
-      let empty : cut.before ≡ leaf = sym (ap left_subtree (subtree_at-of_cut tree handle handles cut)) ∙ none in
+  HasRoomOn-subtree_on side tree handle handles live none =
+      let cut = side_cut tree handle side handles live in
       record {
         around = cut.around;
         colour = cut.colour;
         item = cut.item;
-        far = cut.after;
-        is = cut.is ∙ ap (λ subtree. plug cut.around (fork cut.colour subtree handle cut.item cut.after)) empty;
-      }
-  HasRoomOn-subtree_on Right tree handle handles live none =
-      let cut = cut_at tree handle live in
-      let empty : cut.after ≡ leaf = sym (ap right_subtree (subtree_at-of_cut tree handle handles cut)) ∙ none in
-      record {
-        around = cut.around;
-        colour = cut.colour;
-        item = cut.item;
-        far = cut.before;
-        is = cut.is ∙ ap (λ subtree. plug cut.around (fork cut.colour cut.before handle cut.item subtree)) empty;
+        far = cut.far;
+        is = cut.is ∙ ap (λ (subtree : Shape T). plug cut.around (fork_on side cut.colour subtree handle cut.item cut.far)) none;
       }
 
   -- and so in a tree that is kept

@@ -6,41 +6,27 @@ use Rattle.i_tree.specs.declared.rb.links.Colour.{Colour}
 use Rattle.i_tree.specs.declared.rb.links.Side.{Side}
 use Rattle.i_tree.specs.declared.rb.links.Side.TheVariants.{Left, Right}
 use Rattle.i_tree.specs.Rb.Shape.{Shape, leaf, fork, top, entries, subtree_at, left_subtree, right_subtree, left_at, right_at, rank, with_item, IsHandle, AreHandles}
-use Rattle.i_tree.specs.Rb.Context.{Frame, fork_on, plug, HasOneSubtree}
+use Rattle.i_tree.specs.Rb.Context.{Frame, fork_on, plug, other_side, subtree_on, HasOneSubtree}
 use Rattle.i_tree.specs.Rb.Removal.{LosesAt, RebalancesSubtree, ChangesSide}
 use Rattle.i_tree.specs.Rb.Detaching.{IsFirst, TakesOut}
-use Rattle.i_tree.proofs.RbLemmas.Shape.Contexts.{cut_at, before_hole, after_hole, entries-plug, occurs_among, occurs_among-append, occurs_among-entries, one_if_same-same, top-fork_on, plug-append}
-use Rattle.i_tree.proofs.RbLemmas.Shape.Subtrees.{subtree_at-of_cut, subtree_at-empty, list_cut, IsTopOf-subtree}
+use Rattle.i_tree.proofs.RbLemmas.Shape.Contexts.{cut_at, fork_on-other, before_hole, after_hole, entries-plug, occurs_among, occurs_among-append, occurs_among-entries, one_if_same-same, top-fork_on, plug-append}
+use Rattle.i_tree.proofs.RbLemmas.Shape.Subtrees.{subtree_at-of_cut, side_cut, subtree_at-empty, list_cut, IsTopOf-subtree}
 use Rattle.i_tree.proofs.RbLemmas.Balance.Frames.{IsHandle-at}
 use Rattle.i_tree.proofs.RbLemmas.Removal.Items.{set_item, set_item-append, set_item-none, set_item-cut, entries-with_item, rank-with_item}
-use Rattle.i_tree.proofs.RbLemmas.Removal.Sides.{side_at, HasOnSide-from, HasOnSide-with_item, MakesSide, ChangesSide-from}
+use Rattle.i_tree.proofs.RbLemmas.Removal.Sides.{HasOnSide-from, HasOnSide-with_item, MakesSide, ChangesSide-from}
 
 module _ {T : Type 0} where
   -- a node whose subtree on a side has no top
-  pub HasOneSubtree-left : (tree : Shape T) (handle : ℕ) → AreHandles tree → IsHandle tree handle → left_at handle tree ≡ leaf → HasOneSubtree tree handle
-  HasOneSubtree-left tree handle handles live empty =
-      let cut = cut_at tree handle live in
-      let none : cut.before ≡ leaf = sym (ap left_subtree (subtree_at-of_cut tree handle handles cut)) ∙ empty in
+  HasOneSubtree-on : (side : Side) (tree : Shape T) (handle : ℕ) → AreHandles tree → IsHandle tree handle → subtree_on side handle tree ≡ leaf → HasOneSubtree tree handle
+  HasOneSubtree-on side tree handle handles live empty =
+      let cut = side_cut tree handle side handles live in
       record {
         around = cut.around;
-        side = Right;
+        side = other_side side;
         colour = cut.colour;
-        subtree = cut.after;
+        subtree = cut.far;
         item = cut.item;
-        is = cut.is ∙ ap (λ (subtree : Shape T). plug cut.around (fork cut.colour subtree handle cut.item cut.after)) none;
-      }
-
-  pub HasOneSubtree-right : (tree : Shape T) (handle : ℕ) → AreHandles tree → IsHandle tree handle → right_at handle tree ≡ leaf → HasOneSubtree tree handle
-  HasOneSubtree-right tree handle handles live empty =
-      let cut = cut_at tree handle live in
-      let none : cut.after ≡ leaf = sym (ap right_subtree (subtree_at-of_cut tree handle handles cut)) ∙ empty in
-      record {
-        around = cut.around;
-        side = Left;
-        colour = cut.colour;
-        subtree = cut.before;
-        item = cut.item;
-        is = cut.is ∙ ap (λ (subtree : Shape T). plug cut.around (fork cut.colour cut.before handle cut.item subtree)) none;
+        is = cut.is ∙ ap (plug cut.around) (ap (λ (subtree : Shape T). fork_on side cut.colour subtree handle cut.item cut.far) empty ∙ fork_on-other side cut.colour leaf handle cut.item cut.far);
       }
 
   -- where the left or the right subtree has no top
@@ -48,9 +34,9 @@ module _ {T : Type 0} where
       → subtree_at left tree ≡ left_at handle tree → subtree_at right tree ≡ right_at handle tree
       → (left ≡ EMPTY_REF) ⊎ ((left ≢ EMPTY_REF) × (right ≡ EMPTY_REF)) → HasOneSubtree tree handle
   HasOneSubtree-either tree handle left right handles live left_is right_is (inl none) =
-      HasOneSubtree-left tree handle handles live (sym left_is ∙ ap (λ (number : ℕ). subtree_at number tree) none ∙ subtree_at-empty tree handles)
+      HasOneSubtree-on Left tree handle handles live (sym left_is ∙ ap (λ (number : ℕ). subtree_at number tree) none ∙ subtree_at-empty tree handles)
   HasOneSubtree-either tree handle left right handles live left_is right_is (inr none) =
-      HasOneSubtree-right tree handle handles live (sym right_is ∙ ap (λ (number : ℕ). subtree_at number tree) none.1 ∙ subtree_at-empty tree handles)
+      HasOneSubtree-on Right tree handle handles live (sym right_is ∙ ap (λ (number : ℕ). subtree_at number tree) none.1 ∙ subtree_at-empty tree handles)
 
   -- the list without the node, and its item
   record LosesNode (around : List (Frame T)) (subtree : Shape T) (held item : T) (front back : List (ℕ × T)) : Type 0 where
@@ -85,7 +71,7 @@ module _ {T : Type 0} where
       (loses.held_is, inl (takes.list one.around one.side one.colour one.subtree one.item one.is ∙ loses.list))
 
   pub removed_one_side : (old new : Shape T) (handle : ℕ) → AreHandles old → AreHandles new → HasOneSubtree old handle → TakesOut old handle new
-      → (side : Side) (above : ℕ) → IsHandle old above → top (side_at side above old) ≡ handle → ChangesSide old new above (side_at side above old) (side_at side above new)
+      → (side : Side) (above : ℕ) → IsHandle old above → top (subtree_on side above old) ≡ handle → ChangesSide old new above (subtree_on side above old) (subtree_on side above new)
   removed_one_side old new handle handles new_handles one takes side above live_above at_top =
       let node : Shape T = fork_on one.side one.colour one.subtree handle one.item leaf in
       let live = IsHandle-at old one.around one.side one.colour one.subtree handle one.item leaf one.is in
@@ -280,8 +266,8 @@ module _ {T : Type 0} where
           omega arith
 
   pub removed_two_side : (old mid : Shape T) (handle next : ℕ) (taken : T) → AreHandles old → AreHandles mid → HasNext old handle next → TakesOut old next mid
-      → (side : Side) (above : ℕ) → IsHandle old above → top (side_at side above old) ≡ handle
-      → ChangesSide old (with_item handle taken mid) above (side_at side above old) (side_at side above (with_item handle taken mid))
+      → (side : Side) (above : ℕ) → IsHandle old above → top (subtree_on side above old) ≡ handle
+      → ChangesSide old (with_item handle taken mid) above (subtree_on side above old) (subtree_on side above (with_item handle taken mid))
   removed_two_side old mid handle next taken handles mid_handles has takes side above live_above at_top =
       let live = IsHandle-at old has.around Left has.colour has.before handle has.item (plug has.inner (next_node old handle next has)) has.is in
       ChangesSide-from old (with_item handle taken mid) handle above side handles live live_above at_top

@@ -2,9 +2,10 @@
 use Rattle.std.proofs.Common.{◌≡◌, ◌≢◌, ℕ, ◌<◌, ◌≤◌, List, [], ◌∷◌, ◌++◌, length, refl, sym, ap, ◌∙◌, subst, append_assoc, length-append, arith}
 use Rattle.i_tree.specs.declared.TheConstants.{EMPTY_REF}
 use Rattle.i_tree.specs.declared.rb.links.Colour.{Colour}
+use Rattle.i_tree.specs.declared.rb.links.Side.{Side}
 use Rattle.i_tree.specs.declared.rb.links.Side.TheVariants.{Left, Right}
 use Rattle.i_tree.specs.Rb.Shape.{Shape, leaf, fork, top, entries, subtree_at, left_subtree, right_subtree, left_at, right_at, first_handle, last_handle, occurs, IsHandle, AreHandles}
-use Rattle.i_tree.specs.Rb.Context.{Frame, plug}
+use Rattle.i_tree.specs.Rb.Context.{Frame, fork_on, plug, subtree_on}
 use Rattle.i_tree.proofs.RbLemmas.Shape.Contexts.{Cut, cut_at, one_if_same-same, occurs-plug, subtree_at-here, subtree_at-none, subtree_at-cut, before_hole, after_hole, entries-plug, same_cut, occurs_among-entries, occurs_among}
 
 module _ {T : Type 0} where
@@ -62,27 +63,44 @@ module _ {T : Type 0} where
       let P : Shape T → Type 0 = λ whole. occurs handle whole ≤ 1 → subtree_at handle whole ≡ fork cut.colour cut.before handle cut.item cut.after in
       subst P (sym cut.is) (subtree_at-cut cut.around cut.colour cut.before handle cut.item cut.after) (handles.apart handle)
 
-  pub IsTopOf-left : (tree : Shape T) (handle child : ℕ) → AreHandles tree → IsHandle tree handle
-      → ((around : List (Frame T)) (colour : Colour) (near : Shape T) (item : T) (far : Shape T) → tree ≡ plug around (fork colour near handle item far) → child ≡ top near)
-      → IsTopOf tree child (left_at handle tree)
-  IsTopOf-left tree handle child handles live child_is =
-      let cut = cut_at tree handle live in
-      let frame : Frame T = record { side = Left; colour = cut.colour; handle = handle; item = cut.item; sibling = cut.after } in
-      let P : Shape T → Type 0 = λ subtree. IsTopOf tree child subtree in
-      let Q : ℕ → Type 0 = λ number. IsTopOf tree number cut.before in
-      subst P (sym (ap left_subtree (subtree_at-of_cut tree handle handles cut)))
-      (subst Q (sym (child_is cut.around cut.colour cut.before cut.item cut.after cut.is)) (IsTopOf-subtree tree (frame ∷ cut.around) cut.before cut.is handles))
+  -- a node of the tree, seen from one side
+  pub record SideCut (tree : Shape T) (handle : ℕ) (side : Side) : Type 0 where
+    pub around : List (Frame T)
+    pub colour : Colour
+    pub item : T
+    pub far : Shape T
+    pub is : tree ≡ plug around (fork_on side colour (subtree_on side handle tree) handle item far)
 
-  pub IsTopOf-right : (tree : Shape T) (handle child : ℕ) → AreHandles tree → IsHandle tree handle
-      → ((around : List (Frame T)) (colour : Colour) (near : Shape T) (item : T) (far : Shape T) → tree ≡ plug around (fork colour far handle item near) → child ≡ top near)
-      → IsTopOf tree child (right_at handle tree)
-  IsTopOf-right tree handle child handles live child_is =
+  pub side_cut : (tree : Shape T) (handle : ℕ) (side : Side) → AreHandles tree → IsHandle tree handle → SideCut tree handle side
+  side_cut tree handle Left handles live =
       let cut = cut_at tree handle live in
-      let frame : Frame T = record { side = Right; colour = cut.colour; handle = handle; item = cut.item; sibling = cut.before } in
-      let P : Shape T → Type 0 = λ subtree. IsTopOf tree child subtree in
-      let Q : ℕ → Type 0 = λ number. IsTopOf tree number cut.after in
-      subst P (sym (ap right_subtree (subtree_at-of_cut tree handle handles cut)))
-      (subst Q (sym (child_is cut.around cut.colour cut.after cut.item cut.before cut.is)) (IsTopOf-subtree tree (frame ∷ cut.around) cut.after cut.is handles))
+      let near = ap left_subtree (subtree_at-of_cut tree handle handles cut) in
+      record {
+        around = cut.around;
+        colour = cut.colour;
+        item = cut.item;
+        far = cut.after;
+        is = cut.is ∙ ap (λ (subtree : Shape T). plug cut.around (fork cut.colour subtree handle cut.item cut.after)) (sym near);
+      }
+  side_cut tree handle Right handles live =
+      let cut = cut_at tree handle live in
+      let near = ap right_subtree (subtree_at-of_cut tree handle handles cut) in
+      record {
+        around = cut.around;
+        colour = cut.colour;
+        item = cut.item;
+        far = cut.before;
+        is = cut.is ∙ ap (λ (subtree : Shape T). plug cut.around (fork cut.colour cut.before handle cut.item subtree)) (sym near);
+      }
+
+  pub IsTopOf-on : (side : Side) (tree : Shape T) (handle child : ℕ) → AreHandles tree → IsHandle tree handle
+      → ((around : List (Frame T)) (colour : Colour) (near : Shape T) (item : T) (far : Shape T) → tree ≡ plug around (fork_on side colour near handle item far) → child ≡ top near)
+      → IsTopOf tree child (subtree_on side handle tree)
+  IsTopOf-on side tree handle child handles live child_is =
+      let cut = side_cut tree handle side handles live in
+      let near : Shape T = subtree_on side handle tree in
+      let frame : Frame T = record { side = side; colour = cut.colour; handle = handle; item = cut.item; sibling = cut.far } in
+      subst (λ (number : ℕ). IsTopOf tree number near) (sym (child_is cut.around cut.colour near cut.item cut.far cut.is)) (IsTopOf-subtree tree (frame ∷ cut.around) near cut.is handles)
 
   -- the entries of a subtree are those of the two subtrees below it, around its own
   pub entries-subtree_at : (tree : Shape T) (handle : ℕ) (item : T) → AreHandles tree → IsHandle tree handle

@@ -56,20 +56,20 @@ module _ {T : Type 0} where
   IsUsed-sound slots root first_free free handle tree sound live = IsUsed-live slots EMPTY_REF handle tree sound.at live
 
   -- a live handle's node in its frames has these links
-  pub parent_at : (slots : List (Slot T)) (root first_free free handle : ℕ) (tree : Shape T) (links : Links) (around : List (Frame T)) (subtree : Shape T)
+  pub top_links : (slots : List (Slot T)) (root first_free free handle : ℕ) (tree : Shape T) (links : Links) (around : List (Frame T)) (subtree : Shape T)
       → IsSound slots root first_free free tree → IsHandle tree handle → links_of slots handle ≡ Some links → tree ≡ plug around subtree → top subtree ≡ handle
-      → links.parent ≡ hole_parent around
-  parent_at slots root first_free free handle tree links around leaf sound live read is here =
+      → (links.parent ≡ hole_parent around) × (is_black_colour links.colour ≡ is_black subtree)
+  top_links slots root first_free free handle tree links around leaf sound live read is here =
       let none = (AreHandles-sound slots root first_free free tree sound).none_empty in
       let moved = ap (λ other. occurs other tree) here in
       absurd (omega arith)
-  parent_at slots root first_free free handle tree links around (fork shade before own item after) sound live read is here =
+  top_links slots root first_free free handle tree links around (fork shade before own item after) sound live read is here =
       let at = node_at slots root first_free free tree around shade before own item after sound is in
       let Node : Links = record { parent = hole_parent around; left = top before; right = top after; colour = shade } in
       let linked : links_of slots own ≡ Some Node = ap slot_links at in
       let same : Some Node ≡ Some links = sym linked ∙ ap (links_of slots) here ∙ read in
       let equal : Node ≡ links = cc in
-      ap (λ (l : Links). l.parent) (sym equal)
+      (ap (λ (l : Links). l.parent) (sym equal), ap (λ (l : Links). is_black_colour l.colour) (sym equal))
 
   pub child_at : (slots : List (Slot T)) (root first_free free handle : ℕ) (tree : Shape T) (links : Links) (side : Side) (around : List (Frame T)) (shade : Colour) (near : Shape T) (item : T) (far : Shape T)
       → IsSound slots root first_free free tree → links_of slots handle ≡ Some links → tree ≡ plug around (fork_on side shade near handle item far)
@@ -81,21 +81,6 @@ module _ {T : Type 0} where
       let same : Some Node ≡ Some links = sym linked ∙ read in
       let equal : links ≡ Node = cc in
       ap (child_link side) equal ∙ child_link-on side (hole_parent around) (top near) (top far) shade
-
-  pub black_at : (slots : List (Slot T)) (root first_free free handle : ℕ) (tree : Shape T) (links : Links) (around : List (Frame T)) (subtree : Shape T)
-      → IsSound slots root first_free free tree → IsHandle tree handle → links_of slots handle ≡ Some links → tree ≡ plug around subtree → top subtree ≡ handle
-      → is_black_colour links.colour ≡ is_black subtree
-  black_at slots root first_free free handle tree links around leaf sound live read is here =
-      let none = (AreHandles-sound slots root first_free free tree sound).none_empty in
-      let moved = ap (λ other. occurs other tree) here in
-      absurd (omega arith)
-  black_at slots root first_free free handle tree links around (fork shade before own item after) sound live read is here =
-      let at = node_at slots root first_free free tree around shade before own item after sound is in
-      let Node : Links = record { parent = hole_parent around; left = top before; right = top after; colour = shade } in
-      let linked : links_of slots own ≡ Some Node = ap slot_links at in
-      let same : Some Node ≡ Some links = sym linked ∙ ap (links_of slots) here ∙ read in
-      let equal : Node ≡ links = cc in
-      ap (λ (l : Links). is_black_colour l.colour) (sym equal)
 
   -- no node has the handle that stands for none
   pub black_at_none : (tree : Shape T) (around : List (Frame T)) (subtree : Shape T) (handle : ℕ) → AreHandles tree → handle ≡ EMPTY_REF → tree ≡ plug around subtree → top subtree ≡ handle

@@ -1,4 +1,4 @@
-use Rattle.std.proofs.Common.{◌≡◌, ◌+◌, ◌++◌, ◌∷◌, ℕ, false, length, refl, sym, subst, ap, ◌∙◌, arith}
+use Rattle.std.proofs.Common.{◌≡◌, ◌+◌, ◌++◌, ◌∷◌, false, length, refl, sym, subst, ap, ◌∙◌, arith}
 use Rattle.i_tree.proofs.ExpiringLemmas.Insertion.{calls_equal, handle_still, items_cut, none_removed, one_more, place_between, reads_still, slots_joined}
 use Rattle.i_tree.proofs.ExpiringLemmas.Search.{answer_neighbours}
 use Rattle.i_tree.proofs.ExpiringLemmas.SearchPath.{length-items}
@@ -17,8 +17,6 @@ use Rattle.i_tree.proofs.expiring.insertion.insert_between.Goals as goal
 pub insert_at-requires : goal.insert_at-requires
 insert_at-requires g c =
     let end = c.descend-end.ensures.end in
-    let last = c.descend-end.result.last in
-    let next = c.descend-end.result.next in
     (end.front, end.back, subst (IsPlaceBetween c.descend-end.new.core.shape end.front end.back) (sym c.place_below-place.ensures) end.between)
 
 -- a live key was called Equal, and nothing joins
@@ -93,15 +91,11 @@ returns-in-Err-clause-err_steps g c = rw ((c.in-Err.ensures).takes.err, (c.in-Er
 joined : (g : _) (c : goal.In_default g) → entries c.insert_at.new.self.shape ≡ c.descend-end.ensures.end.front ++ (c.in_default.field-0, c.args.pair) ∷ c.descend-end.ensures.end.back
 joined g c =
     let end = c.descend-end.ensures.end in
-    let last = c.descend-end.result.last in
-    let next = c.descend-end.result.next in
     (c.in_default.ensures).joins end.front end.back (subst (IsPlaceBetween c.descend-end.new.core.shape end.front end.back) (sym c.place_below-place.ensures) end.between)
 
 more : (g : _) (c : goal.In_default g) → length (entries c.insert_at.new.self.shape) ≡ length (entries c.descend-end.new.core.shape) + 1
 more g c =
     let end = c.descend-end.ensures.end in
-    let last = c.descend-end.result.last in
-    let next = c.descend-end.result.next in
     one_more (entries c.descend-end.new.core.shape) (entries c.insert_at.new.self.shape) end.front (c.in_default.field-0, c.args.pair) end.back end.between.cut (joined g c)
 
 pub returns-clause-pairs : goal.returns-clause-pairs
@@ -146,13 +140,11 @@ pub returns-clause-last : goal.returns-clause-last
 returns-clause-last g c some =
     let end = c.descend-end.ensures.end in
     let last = c.descend-end.result.last in
-    let next = c.descend-end.result.next in
     handle_still c.descend-end.new.core.shape c.insert_at.new.self.shape end.front (c.in_default.field-0, c.args.pair) end.back end.between.cut (joined g c) last (c.descend-end.ensures.last some)
 
 pub returns-clause-next : goal.returns-clause-next
 returns-clause-next g c some =
     let end = c.descend-end.ensures.end in
-    let last = c.descend-end.result.last in
     let next = c.descend-end.result.next in
     handle_still c.descend-end.new.core.shape c.insert_at.new.self.shape end.front (c.in_default.field-0, c.args.pair) end.back end.between.cut (joined g c) next (c.descend-end.ensures.next some)
 

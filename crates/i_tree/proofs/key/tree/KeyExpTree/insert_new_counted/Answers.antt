@@ -2,7 +2,8 @@ use Rattle.std.proofs.Common.{◌≡◌, true, false, not, is_some, Option, None
 use Rattle.std.specs.Ordering.{is_gt, is_lt}
 use Rattle.i_tree.proofs.ExpiringLemmas.Insertion.{IfOk-joined, OnErr-joined}
 use Rattle.i_tree.proofs.KeyLemmas.Insertion.{gains_or_loses, is_new, new_or_present, refused_new, rising_after}
-use Rattle.i_tree.proofs.RootLemmas.Results.{IfOk-both, OnErr-weaker}
+use Rattle.std.proofs.lemmas.Result.{on_err_weaker}
+use Rattle.i_tree.proofs.RootLemmas.Results.{IfOk-both}
 use Rattle.std.specs.declared.cmp.Ordering.{Ordering}
 use Rattle.i_tree.proofs.ExpiringLemmas.SearchPath.{not_gt-lt, path_live}
 use Rattle.i_tree.specs.Expiring.Insertion.{InsertsOrLeaves, has_joined}
@@ -27,13 +28,13 @@ returns-clause-ok g c =
 
 pub returns-clause-err : goal.returns-clause-err
 returns-clause-err g c =
-    rw c.has_joined.ensures (OnErr-weaker (has_joined c.insert_between.result) c.insert_between.ensures.inserts.err (λ same. same ∙ c.self.view_is))
+    rw c.has_joined.ensures (on_err_weaker (has_joined c.insert_between.result) (λ same. same ∙ c.self.view_is) c.insert_between.ensures.inserts.err)
 
 pub returns-clause-err_new : goal.returns-clause-err_new
 returns-clause-err_new g c =
     rw (c.has_joined.ensures, ← c.self.view_is)
-    (OnErr-weaker (has_joined c.insert_between.result) c.insert_between.ensures.pairs.refused
-    (refused_new g.met.K.Ord.total c.args.key (is_live g.K.ExpiredKey.expiration g.E.Ord.cmp c.args.time) (items c.self.inside.core.shape) c.self.invariant))
+    (on_err_weaker (has_joined c.insert_between.result)
+    (refused_new g.met.K.Ord.total c.args.key (is_live g.K.ExpiredKey.expiration g.E.Ord.cmp c.args.time) (items c.self.inside.core.shape) c.self.invariant) c.insert_between.ensures.pairs.refused)
 
 rising : (g : _) (c : goal.After-has_joined g) (told : Result (Option _) Refusal) → c.insert_between.result ≡ told → IsRising g.K.Ord.cmp (items c.insert_between.new.core.shape)
 rising g c (Ok told) is =

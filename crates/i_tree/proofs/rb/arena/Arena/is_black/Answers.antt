@@ -5,7 +5,7 @@ use Rattle.i_tree.specs.declared.rb.links.Colour.{Colour}
 use Rattle.i_tree.specs.declared.rb.links.Colour.TheVariants.{Red, Black}
 use Rattle.i_tree.specs.Rb.Balance.{is_black_colour}
 use Rattle.i_tree.proofs.RbLemmas.Slots.Layout.{AreHandles-sound}
-use Rattle.i_tree.proofs.RbLemmas.Slots.Reads.{IsSound-view, IsUsed-sound, black_at, black_at_none}
+use Rattle.i_tree.proofs.RbLemmas.Slots.Reads.{IsSound-view, IsUsed-sound, black_at_none, top_links}
 use Rattle.i_tree.proofs.rb.arena.Arena.is_black.Goals as goal
 
 same_as_black : (colour : Colour) → sameb the_type colour Black ≡ is_black_colour colour
@@ -29,5 +29,5 @@ pub returns-else-handle-eq-EMPTY_REF-clause-value :
 returns-else-handle-eq-EMPTY_REF-clause-value g c = λ around subtree is here.
     let sound = IsSound-view _ _ _ _ _ c.args.self.now c.self.invariant c.self.view_is in
     c.eq.ensures ∙ same_as_black c.links_at.result.colour
-    ∙ black_at _ _ _ _ c.args.handle c.args.self.now.shape c.links_at.result around subtree sound (c.requires c.if-handle-eq-EMPTY_REF.false)
-    (rw c.deref.ensures.value at c.links_at.ensures) is here
+    ∙ (top_links _ _ _ _ c.args.handle c.args.self.now.shape c.links_at.result around subtree sound (c.requires c.if-handle-eq-EMPTY_REF.false)
+    (rw c.deref.ensures.value at c.links_at.ensures) is here).1

@@ -1,5 +1,5 @@
 use Rattle.i_tree.proofs.RbLemmas.Slots.Layout.{AreHandles-sound}
-use Rattle.i_tree.proofs.RbLemmas.Slots.Reads.{IsSound-view, IsUsed-sound, parent_at}
+use Rattle.i_tree.proofs.RbLemmas.Slots.Reads.{IsSound-view, IsUsed-sound, top_links}
 use Rattle.i_tree.proofs.rb.arena.Arena.parent.Goals as goal
 
 pub links_at-requires : goal.links_at-requires
@@ -13,4 +13,4 @@ returns-clause-handles g c = AreHandles-sound _ _ _ _ _ (IsSound-view _ _ _ _ _ 
 pub returns-clause-value : goal.returns-clause-value
 returns-clause-value g c = λ around subtree is here.
     let sound = IsSound-view _ _ _ _ _ c.args.self.now c.self.invariant c.self.view_is in
-    parent_at _ _ _ _ c.args.handle c.args.self.now.shape c.links_at.result around subtree sound c.requires (rw c.deref.ensures.value at c.links_at.ensures) is here
+    (top_links _ _ _ _ c.args.handle c.args.self.now.shape c.links_at.result around subtree sound c.requires (rw c.deref.ensures.value at c.links_at.ensures) is here).0

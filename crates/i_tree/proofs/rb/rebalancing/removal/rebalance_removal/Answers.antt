@@ -25,30 +25,19 @@ rebalances_ended g c cut =
     Rebalances-ended c.args.arena.now.shape c.args.parent c.args.short cut c.loop-parent.arena.shape c.rebalance_short_side.new.arena.shape c.loop-parent.node c.loop-parent.side progress
     (c.if-rebalance_short_side.ensures.rebalanced progress.present)
 
-pub returns-then-rebalance_short_side-clause-balanced : goal.returns-then-rebalance_short_side-clause-balanced
-returns-then-rebalance_short_side-clause-balanced g c =
+pub returns-then-rebalance_short_side : goal.returns-then-rebalance_short_side
+returns-then-rebalance_short_side g c =
     let present = (c.loop-parent.invariant.rebalances c.requires).present in
-    balanced-ended c.loop-parent.arena.shape c.rebalance_short_side.new.arena.shape c.loop-parent.node c.loop-parent.side present (c.if-rebalance_short_side.ensures.rebalanced present)
-
-pub returns-then-rebalance_short_side-clause-entries : goal.returns-then-rebalance_short_side-clause-entries
-returns-then-rebalance_short_side-clause-entries g c = (rebalances_ended g c c.requires).entries_are ∙ sym (ap entries c.requires.is)
-
-pub returns-then-rebalance_short_side-clause-spare : goal.returns-then-rebalance_short_side-clause-spare
-returns-then-rebalance_short_side-clause-spare g c =
-    c.rebalance_short_side.ensures.spare ∙ c.loop-parent.invariant.spare
-
-pub returns-then-rebalance_short_side-clause-steps : goal.returns-then-rebalance_short_side-clause-steps
-returns-then-rebalance_short_side-clause-steps g c =
-    OnlyRotates-both g.met.C.Counter.law 3 (omega arith) c.loop-parent.invariant.steps c.if-rebalance_short_side.ensures.steps
-
-pub returns-then-rebalance_short_side-clause-own : goal.returns-then-rebalance_short_side-clause-own
-returns-then-rebalance_short_side-clause-own g c cut = (rebalances_ended g c cut).own
-
-pub returns-then-rebalance_short_side-clause-outer : goal.returns-then-rebalance_short_side-clause-outer
-returns-then-rebalance_short_side-clause-outer g c cut = (rebalances_ended g c cut).outer
-
-pub returns-then-rebalance_short_side-clause-whole : goal.returns-then-rebalance_short_side-clause-whole
-returns-then-rebalance_short_side-clause-whole g c cut = (rebalances_ended g c cut).whole
+    record {
+      balanced = balanced-ended c.loop-parent.arena.shape c.rebalance_short_side.new.arena.shape c.loop-parent.node c.loop-parent.side present (c.if-rebalance_short_side.ensures.rebalanced present);
+      entries = (rebalances_ended g c c.requires).entries_are ∙ sym (ap entries c.requires.is);
+      spare = c.rebalance_short_side.ensures.spare ∙ c.loop-parent.invariant.spare;
+      handles = c.rebalance_short_side.ensures.handles;
+      steps = OnlyRotates-both g.met.C.Counter.law 3 (omega arith) c.loop-parent.invariant.steps c.if-rebalance_short_side.ensures.steps;
+      own = λ cut. (rebalances_ended g c cut).own;
+      outer = λ cut. (rebalances_ended g c cut).outer;
+      whole = λ cut. (rebalances_ended g c cut).whole;
+    }
 
 pub parent-above-requires : goal.parent-above-requires
 parent-above-requires g c =
@@ -67,30 +56,19 @@ rebalances_root g c cut =
     Rebalances-root c.args.arena.now.shape c.args.parent c.args.short cut c.loop-parent.arena.shape c.rebalance_short_side.new.arena.shape c.loop-parent.node c.loop-parent.side progress
     (c.if-rebalance_short_side.ensures.rebalanced progress.present) (root g c progress.present)
 
-pub returns-then-above-clause-balanced : goal.returns-then-above-clause-balanced
-returns-then-above-clause-balanced g c =
+pub returns-then-above : goal.returns-then-above
+returns-then-above g c =
     let present = (c.loop-parent.invariant.rebalances c.requires).present in
-    balanced-root c.loop-parent.arena.shape c.rebalance_short_side.new.arena.shape c.loop-parent.node c.loop-parent.side present (c.if-rebalance_short_side.ensures.rebalanced present) (root g c present)
-
-pub returns-then-above-clause-entries : goal.returns-then-above-clause-entries
-returns-then-above-clause-entries g c = (rebalances_root g c c.requires).entries_are ∙ sym (ap entries c.requires.is)
-
-pub returns-then-above-clause-spare : goal.returns-then-above-clause-spare
-returns-then-above-clause-spare g c =
-    c.rebalance_short_side.ensures.spare ∙ c.loop-parent.invariant.spare
-
-pub returns-then-above-clause-steps : goal.returns-then-above-clause-steps
-returns-then-above-clause-steps g c =
-    OnlyRotates-both g.met.C.Counter.law 3 (omega arith) c.loop-parent.invariant.steps c.if-rebalance_short_side.ensures.steps
-
-pub returns-then-above-clause-own : goal.returns-then-above-clause-own
-returns-then-above-clause-own g c cut = (rebalances_root g c cut).own
-
-pub returns-then-above-clause-outer : goal.returns-then-above-clause-outer
-returns-then-above-clause-outer g c cut = (rebalances_root g c cut).outer
-
-pub returns-then-above-clause-whole : goal.returns-then-above-clause-whole
-returns-then-above-clause-whole g c cut = (rebalances_root g c cut).whole
+    record {
+      balanced = balanced-root c.loop-parent.arena.shape c.rebalance_short_side.new.arena.shape c.loop-parent.node c.loop-parent.side present (c.if-rebalance_short_side.ensures.rebalanced present) (root g c present);
+      entries = (rebalances_root g c c.requires).entries_are ∙ sym (ap entries c.requires.is);
+      spare = c.rebalance_short_side.ensures.spare ∙ c.loop-parent.invariant.spare;
+      handles = c.rebalance_short_side.ensures.handles;
+      steps = OnlyRotates-both g.met.C.Counter.law 3 (omega arith) c.loop-parent.invariant.steps c.if-rebalance_short_side.ensures.steps;
+      own = λ cut. (rebalances_root g c cut).own;
+      outer = λ cut. (rebalances_root g c cut).outer;
+      whole = λ cut. (rebalances_root g c cut).whole;
+    }
 
 pub side_of-side-requires : goal.side_of-side-requires
 side_of-side-requires g c =

@@ -1,7 +1,7 @@
-use Rattle.std.proofs.Common.{length, sym, ap, ◌∙◌, subst, arith}
+use Rattle.std.proofs.Common.{sym, subst}
 use Rattle.std.proofs.lemmas.Result.{on_ok_weaker}
 use Rattle.i_tree.specs.Set.Pairs.{IsOrdered}
-use Rattle.i_tree.specs.Set.SetList.{Contents, numbered, IsPlaceFor}
+use Rattle.i_tree.specs.Set.SetList.{Contents, numbered}
 use Rattle.i_tree.specs.declared.TheConstants.{EMPTY_REF}
 use Rattle.i_tree.proofs.SetLemmas.Insertion.{on_either}
 use Rattle.i_tree.proofs.SetLemmas.Positions.{has_room, joins_numbered, ordered-insert}
@@ -9,11 +9,9 @@ use Rattle.i_tree.proofs.set.list.SetListSetCollection.insert.Goals as goal
 
 pub put-requires : goal.put-requires
 put-requires g c =
-    let same = c.deref.ensures.value ∙ ap (λ list. list.values) c.self.view_is in
-    let at_place = subst (λ values. IsPlaceFor g.V.KeyValue.key_of g.K.Ord.cmp c.key.result.now values c.place_of-place.result) same c.place_of-place.ensures.splits in
     record {
-      within = omega (arith, c.place_of-place.ensures.within, ap length same);
-      place = subst (λ key. IsPlaceFor g.V.KeyValue.key_of g.K.Ord.cmp key c.args.self.now.values c.place_of-place.result) c.key.ensures at_place;
+      within = rw (← c.self.view_is, ← c.deref.ensures.value) c.place_of-place.ensures.within;
+      place = rw (← c.key.ensures, ← c.self.view_is, ← c.deref.ensures.value) c.place_of-place.ensures.splits;
     }
 
 pub returns-clause-ok : goal.returns-clause-ok

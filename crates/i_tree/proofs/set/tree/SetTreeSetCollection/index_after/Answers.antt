@@ -1,18 +1,14 @@
-use Rattle.std.proofs.Common.{ap, sym, ◌∙◌, subst}
 use Rattle.i_tree.proofs.SetLemmas.LiveHandles.{live-HasHandle}
 use Rattle.i_tree.proofs.SetLemmas.Handles.{AreApart-from_handles}
 use Rattle.i_tree.proofs.SetLemmas.Live.{HasHandle-after}
-use Rattle.i_tree.specs.Rb.RbTree.{Contents}
-use Rattle.i_tree.specs.Rb.Shape.{entries, IsHandle}
+use Rattle.i_tree.specs.Rb.Shape.{entries}
 use Rattle.i_tree.proofs.set.tree.SetTreeSetCollection.index_after.Goals as goal
 
 pub after-requires : goal.after-requires
-after-requires g c =
-    subst (λ (contents : Contents g.row.V.Denot). IsHandle contents.shape c.args.index) (sym c.self.view_is) (live-HasHandle c.args.index c.args.self.now.shape c.requires)
+after-requires g c = rw c.self.view_is (live-HasHandle c.args.index c.args.self.now.shape c.requires)
 
 pub returns-clause-value : goal.returns-clause-value
-returns-clause-value g c front value back is =
-    c.after.ensures.value front value back (ap (λ (contents : Contents g.row.V.Denot). entries contents.shape) c.self.view_is ∙ is)
+returns-clause-value g c front value back is = c.after.ensures.value front value back (rw c.self.view_is is)
 
 pub returns-clause-live : goal.returns-clause-live
 returns-clause-live g c = HasHandle-after (entries c.args.self.now.shape) c.args.index c.after.result c.requires (returns-clause-value g c)

@@ -1,33 +1,25 @@
 use Rattle.std.proofs.Common.{◌≡◌, None, Some, List, drop, take, sym, subst, ap, ◌∙◌, arith}
-use Rattle.std.specs.List.{All, Any, insert}
+use Rattle.std.specs.List.{Any, insert}
 use Rattle.std.proofs.lemmas.Bool.{false≢true}
 use Rattle.std.proofs.lemmas.Result.{MatchResult-from_err, err_from_is_err_and}
 use Rattle.i_tree.proofs.ExpiringLemmas.Insertion.{IfOk-joined, OnErr-joined}
 use Rattle.i_tree.proofs.ExpiringLemmas.List.{all_stayed, had_no_spare, none_spare, none_was_expired}
 use Rattle.i_tree.proofs.StatusLemmas.ListInsertion.{IsPlaced, joins_placed, neighbours_placed, none_equal}
 use Rattle.i_tree.specs.Expiring.Live.{live_pairs, IsExpired}
-use Rattle.i_tree.specs.Root.Along.{ByEachOrder, HasEqual}
-use Rattle.i_tree.specs.Root.Change.{Without}
 use Rattle.i_tree.specs.Root.Ends.{FirstFinds, LastFinds}
 use Rattle.i_tree.specs.Root.Live.{is_live}
 use Rattle.i_tree.specs.Status.Insertion.{JoinsAlong}
 use Rattle.i_tree.proofs.status.list.StatusListStatusCollection.insert_between.Goals as goal
 
 pub place_by-requires : goal.place_by-requires
-place_by-requires g c =
-    let live = live_pairs g.K.ExpiredVal.expiration g.E.Ord.cmp {V = g.row.V.Denot} c.args.time in
-    subst (All (λ (pair : g.row.K.Denot × g.row.V.Denot). goal.F-pre g c.args.f pair.0)) (sym (c.pairs.ensures ∙ c.remove_expired.ensures.leaves.keeps_live ∙ ap (λ list. live list.pairs) c.self.view_is)) c.requires
+place_by-requires g c = rw (c.pairs.ensures, c.remove_expired.ensures.leaves.keeps_live, c.self.view_is) c.requires
 
 -- a live key is called Equal
 pub returns-in_default-clause-cases : goal.returns-in_default-clause-cases
-returns-in_default-clause-cases g c =
-    let live = live_pairs g.K.ExpiredVal.expiration g.E.Ord.cmp {V = g.row.V.Denot} c.args.time in
-    subst (λ pairs. ByEachOrder (goal.F-post g c.args.f) pairs (λ order. HasEqual order pairs)) (c.pairs.ensures ∙ c.remove_expired.ensures.leaves.keeps_live ∙ ap (λ list. live list.pairs) c.self.view_is)
-    c.in_default.ensures.place
+returns-in_default-clause-cases g c = rw (← c.self.view_is, ← c.remove_expired.ensures.leaves.keeps_live, ← c.pairs.ensures) c.in_default.ensures.place
 
 pub returns-in_default-clause-ok : goal.returns-in_default-clause-ok
-returns-in_default-clause-ok g c =
-    subst (λ list. Without (IsExpired g.K.ExpiredVal.expiration g.E.Ord.cmp {V = g.row.V.Denot} c.args.time) list.pairs c.remove_expired.new.self.pairs) c.self.view_is c.remove_expired.ensures.kept
+returns-in_default-clause-ok g c = rw (← c.self.view_is) c.remove_expired.ensures.kept
 
 -- a refusal leaves the list that is left as it is, and nothing had gone
 full : (g : _) (c : goal.After-from_residual g) → c.remove_expired.new.self.spare ≡ 0

@@ -1,11 +1,10 @@
-use Rattle.std.proofs.Common.{Ok, Err, is_some, subst}
+use Rattle.std.proofs.Common.{is_some}
 use Rattle.std.proofs.lemmas.Result.{err_from_is_err_and}
 use Rattle.i_tree.proofs.ExpiringLemmas.Insertion.{pairs_told}
 use Rattle.i_tree.proofs.StatusLemmas.TreeInsertion.{joins_or_leaves, new_or_equal, refused_none}
 use Rattle.i_tree.specs.Expiring.Live.{live_pairs}
 use Rattle.i_tree.specs.Expiring.Tree.{items}
 use Rattle.i_tree.specs.Root.Live.{is_live}
-use Rattle.i_tree.specs.Status.StatusTree.{StatusTreeInserts}
 use Rattle.i_tree.proofs.status.tree.StatusTree.insert_between_counted.Goals as goal
 
 pub insert_between-requires : goal.insert_between-requires
@@ -31,9 +30,7 @@ returns-clause-neighbours g c =
 
 pub returns-clause-inserts : goal.returns-clause-inserts
 returns-clause-inserts g c =
-    rw c.pairs_beside.ensures.same
-    (subst (λ contents. StatusTreeInserts (is_live g.K.ExpiredVal.expiration g.E.Ord.cmp c.args.time) (goal.F-post g c.args.f) contents (Ok (is_some c.in_ok-told.told)) c.insert_between.new.core) c.self.view_is
-    c.in_ok-told.ensures.inserts)
+    rw (c.pairs_beside.ensures.same, ← c.self.view_is) c.in_ok-told.ensures.inserts
 
 pub returns-clause-steps : goal.returns-clause-steps
 returns-clause-steps g c = rw (c.pairs_beside.ensures.same, ← c.self.view_is) c.in_ok-told.ensures.steps
@@ -47,6 +44,4 @@ returns-in_err-told-clause-err_new g c =
 pub returns-in_err-told-clause-inserts : goal.returns-in_err-told-clause-inserts
 returns-in_err-told-clause-inserts g c =
     let p = err_from_is_err_and c.from_residual.result c.from_residual.ensures.1 in
-    rw (p.1, p.2)
-    (subst (λ contents. StatusTreeInserts (is_live g.K.ExpiredVal.expiration g.E.Ord.cmp c.args.time) (goal.F-post g c.args.f) contents (Err c.in_err-told.field-0.0) c.insert_between.new.core) c.self.view_is
-    c.in_err-told.ensures.inserts)
+    rw (p.1, p.2, ← c.self.view_is) c.in_err-told.ensures.inserts

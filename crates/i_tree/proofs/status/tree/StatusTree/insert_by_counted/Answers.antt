@@ -1,11 +1,11 @@
-use Rattle.std.proofs.Common.{subst, ◌∙◌}
+use Rattle.std.proofs.Common.{◌∙◌}
 use Rattle.i_tree.proofs.ExpiringLemmas.Insertion.{IfOk-joined, OnErr-joined}
-use Rattle.i_tree.proofs.RootLemmas.Results.{IfOk-both, OnErr-weaker}
+use Rattle.std.proofs.lemmas.Result.{on_err_weaker}
+use Rattle.i_tree.proofs.RootLemmas.Results.{IfOk-both}
 use Rattle.i_tree.proofs.StatusLemmas.TreeInsertion.{joins_or_leaves, new_or_equal, refused_none}
 use Rattle.i_tree.specs.Expiring.Insertion.{has_joined}
 use Rattle.i_tree.specs.Expiring.Tree.{items}
 use Rattle.i_tree.specs.Root.Live.{is_live}
-use Rattle.i_tree.specs.Status.StatusTree.{StatusTreeInserts}
 use Rattle.i_tree.proofs.status.tree.StatusTree.insert_by_counted.Goals as goal
 
 pub returns-clause-cases : goal.returns-clause-cases
@@ -22,19 +22,17 @@ returns-clause-ok g c =
 
 pub returns-clause-err : goal.returns-clause-err
 returns-clause-err g c =
-    rw c.has_joined.ensures (OnErr-weaker (has_joined c.insert_between.result) c.insert_between.ensures.inserts.err (λ same. same ∙ c.self.view_is))
+    rw c.has_joined.ensures (on_err_weaker (has_joined c.insert_between.result) (λ same. same ∙ c.self.view_is) c.insert_between.ensures.inserts.err)
 
 pub returns-clause-err_new : goal.returns-clause-err_new
 returns-clause-err_new g c =
     rw (c.has_joined.ensures, ← c.self.view_is)
-    (OnErr-weaker (has_joined c.insert_between.result) c.insert_between.ensures.pairs.refused
-    (refused_none (is_live g.K.ExpiredVal.expiration g.E.Ord.cmp c.args.time) (goal.F-post g c.args.f) (items c.self.inside.core.shape)))
+    (on_err_weaker (has_joined c.insert_between.result)
+    (refused_none (is_live g.K.ExpiredVal.expiration g.E.Ord.cmp c.args.time) (goal.F-post g c.args.f) (items c.self.inside.core.shape)) c.insert_between.ensures.pairs.refused)
 
 pub returns-clause-inserts : goal.returns-clause-inserts
 returns-clause-inserts g c =
-    rw c.has_joined.ensures
-    (subst (λ contents. StatusTreeInserts (is_live g.K.ExpiredVal.expiration g.E.Ord.cmp c.args.time) (goal.F-post g c.args.f) contents (has_joined c.insert_between.result) c.insert_between.new.core) c.self.view_is
-    c.insert_between.ensures.inserts)
+    rw (c.has_joined.ensures, ← c.self.view_is) c.insert_between.ensures.inserts
 
 pub returns-clause-with_spare : goal.returns-clause-with_spare
 returns-clause-with_spare g c spare = rw c.has_joined.ensures (c.insert_between.ensures.inserts.with_spare (rw c.self.view_is spare))
