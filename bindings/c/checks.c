@@ -17,6 +17,10 @@ int32_t proved_itree_first_meeting(const struct itree_edge *edges, size_t edge_c
 int32_t proved_itree_how_they_meet(const struct itree_edge *one, const struct itree_edge *other, int32_t *meeting);
 size_t proved_itree_pairs_first(const struct itree_pairs *pairs, struct itree_pair **first);
 void proved_itree_pairs_free(struct itree_pairs *pairs);
+int32_t proved_itree_snap(const struct itree_edge *edges, size_t edge_count, struct itree_chains **chains);
+size_t proved_itree_chains_points(const struct itree_chains *chains, struct itree_point **first);
+size_t proved_itree_chains_offsets(const struct itree_chains *chains, size_t **first);
+void proved_itree_chains_free(struct itree_chains *chains);
 int32_t proved_itree_locate(const struct itree_edge *edges, size_t edge_count, const struct itree_point *points,
                             size_t point_count, struct itree_place *places, size_t place_count, size_t *first,
                             size_t *second);
@@ -106,6 +110,39 @@ struct itree_pair *itree_pairs_first(struct itree_pairs *pairs) {
 
 void itree_pairs_free(struct itree_pairs *pairs) {
     if (pairs != NULL) proved_itree_pairs_free(pairs);
+}
+
+int32_t itree_snap(const struct itree_edge *edges, size_t edge_count, struct itree_chains **chains) {
+    if (!can_hold(edges, edge_count, OF(struct itree_edge)) || !can_hold(chains, 1, OF(struct itree_chains *))) {
+        return ITREE_POINTER;
+    }
+    return proved_itree_snap(slice(edges, edge_count), edge_count, chains);
+}
+
+/* There is one offset more than there are chains. */
+size_t itree_chains_count(const struct itree_chains *chains) {
+    size_t *first;
+    return chains == NULL ? 0 : proved_itree_chains_offsets(chains, &first) - 1;
+}
+
+size_t itree_chains_point_count(const struct itree_chains *chains) {
+    struct itree_point *first;
+    return chains == NULL ? 0 : proved_itree_chains_points(chains, &first);
+}
+
+struct itree_point *itree_chains_points(struct itree_chains *chains) {
+    struct itree_point *first = NULL;
+    return chains == NULL || proved_itree_chains_points(chains, &first) == 0 ? NULL : first;
+}
+
+size_t *itree_chains_offsets(struct itree_chains *chains) {
+    size_t *first = NULL;
+    if (chains != NULL) proved_itree_chains_offsets(chains, &first);
+    return first;
+}
+
+void itree_chains_free(struct itree_chains *chains) {
+    if (chains != NULL) proved_itree_chains_free(chains);
 }
 
 int32_t itree_locate(const struct itree_edge *edges, size_t edge_count, const struct itree_point *points,

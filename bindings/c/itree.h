@@ -1,4 +1,5 @@
-/* itree, for C: sweeps over horizontal segments, pairs of edges that meet, and points among edges.
+/* itree, for C: sweeps over horizontal segments, pairs of edges that meet, edges broken where they meet, and points
+ * among edges.
  *
  * Each call looks at the pointers that it is given, and then makes one that is proved in Rattle: that answers as said
  * here for every input, reads and writes inside the arrays that it is given, and returns. Link it by what
@@ -138,6 +139,42 @@ struct itree_pair *itree_pairs_first(struct itree_pairs *pairs);
 
 /* Gives back the handle and its pairs. At NULL it does nothing. */
 void itree_pairs_free(struct itree_pairs *pairs);
+
+/* A handle of chains, which owns them. It is read by the calls below, and given back by itree_chains_free, once. One
+ * call at a time takes a handle, by any thread; different handles don't concern each other. */
+struct itree_chains;
+
+/* Writes a handle of the chains that the edges become by snap rounding: one for each edge, in the order of the edges.
+ *
+ * A point rounds to the whole point that is nearest on each axis, a half upwards. Hot points are all ends of the edges,
+ * and what the points round to in which two edges that aren't parallel meet. The chain of an edge is the hot points that
+ * some point of the edge rounds to, each once, in the order along it from (x0, y0) to (x1, y1). So it begins and ends as
+ * the edge does; that of an edge that is a point is this point alone. The pieces of the chains, from each point to the
+ * next, meet at common ends alone, or are the same. What rounds is told exactly. The call returns
+ *   ITREE_ANSWERED  and *chains is the caller's, also where there are no edges;
+ *   ITREE_REFUSED   and *chains is NULL;
+ *   ITREE_POINTER   exactly where a pointer is faulty, and *chains stays as it was.
+ * chains may not be NULL. What *chains was before isn't looked at. */
+int32_t itree_snap(const struct itree_edge *edges, size_t edge_count, struct itree_chains **chains);
+
+/* How many chains there are: as many as there were edges; 0 at NULL. */
+size_t itree_chains_count(const struct itree_chains *chains);
+
+/* How many points all chains have together; 0 at NULL. */
+size_t itree_chains_point_count(const struct itree_chains *chains);
+
+/* Where the first point of the first chain lies, and behind it the others, side by side, one chain behind the other; NULL
+ * where there is none, and at NULL. They are the handle's, as the offsets are, and both stay until it is given back. The
+ * library neither reads nor writes either again: the caller may write them, and any number of threads may read them. */
+struct itree_point *itree_chains_points(struct itree_chains *chains);
+
+/* Where the offsets lie, side by side, one more than there are chains: the first is 0, and the one at i + 1 is where the
+ * chain at i stops among the points. So the chain at i has the points from the offset at i on and before that at i + 1, as
+ * in a list of the Arrow format. NULL at NULL, and at no other handle. */
+size_t *itree_chains_offsets(struct itree_chains *chains);
+
+/* Gives back the handle and its chains. At NULL it does nothing. */
+void itree_chains_free(struct itree_chains *chains);
 
 /* The edge straight below a point: found is 1 and place its place, or both are 0 where there is none. */
 struct itree_place {

@@ -9,6 +9,7 @@
 #include <cstddef>
 #include <cstdint>
 #include <initializer_list>
+#include <iterator>
 #include <memory>
 #include <new>
 #include <optional>
@@ -65,7 +66,14 @@ public:
     Span(const Items &items) : items_(items.data()), count_(items.size()) {}
 
     std::size_t size() const { return count_; }
+    bool empty() const { return count_ == 0; }
     const T *data() const { return items_; }
+    const T *begin() const { return items_; }
+    const T *end() const { return items_ + count_; }
+    /// The item at a place below `size()`.
+    const T &operator[](std::size_t place) const { return items_[place]; }
+    const T &front() const { return items_[0]; }
+    const T &back() const { return items_[count_ - 1]; }
 
 private:
     static const T *first_of(const std::initializer_list<T> &items) { return items.begin(); }
@@ -191,6 +199,101 @@ private:
     detail::throw_unless_answered(
         ::itree_meetings_between(edges.data(), edges.size(), others.data(), others.size(), &handle));
     return Pairs(handle);
+}
+
+/// A chain of points, which stand one behind the other in memory that is its `Chains`'.
+using Chain = Span<Point>;
+
+/// Chains of points, one for each edge, in memory that is theirs. They are moved, and not copied. Any number of threads
+/// may read them.
+class Chains {
+public:
+    /// Goes over chains, in the order of their edges.
+    class Iterator {
+    public:
+        using iterator_category = std::input_iterator_tag;
+        using value_type = Chain;
+        using difference_type = std::ptrdiff_t;
+        using pointer = const Chain *;
+        using reference = Chain;
+
+        Iterator() = default;
+        Iterator(const Point *points, const std::size_t *offset) noexcept : points_(points), offset_(offset) {}
+        Chain operator*() const noexcept { return {points_ + offset_[0], offset_[1] - offset_[0]}; }
+        Iterator &operator++() noexcept {
+            ++offset_;
+            return *this;
+        }
+        Iterator operator++(int) noexcept {
+            const Iterator before = *this;
+            ++offset_;
+            return before;
+        }
+        friend bool operator==(const Iterator &one, const Iterator &other) noexcept {
+            return one.offset_ == other.offset_;
+        }
+        friend bool operator!=(const Iterator &one, const Iterator &other) noexcept { return !(one == other); }
+
+    private:
+        const Point *points_ = nullptr;
+        const std::size_t *offset_ = nullptr;
+    };
+
+    Chains() = default;
+    /// Takes over a handle of itree.h.
+    explicit Chains(::itree_chains *handle) noexcept
+        : handle_(handle),
+          points_(::itree_chains_points(handle)),
+          offsets_(::itree_chains_offsets(handle)),
+          count_(::itree_chains_count(handle)) {}
+    Chains(Chains &&other) noexcept
+        : handle_(std::move(other.handle_)),
+          points_(std::exchange(other.points_, nullptr)),
+          offsets_(std::exchange(other.offsets_, nullptr)),
+          count_(std::exchange(other.count_, 0)) {}
+    Chains &operator=(Chains &&other) noexcept {
+        handle_ = std::move(other.handle_);
+        points_ = std::exchange(other.points_, nullptr);
+        offsets_ = std::exchange(other.offsets_, nullptr);
+        count_ = std::exchange(other.count_, 0);
+        return *this;
+    }
+
+    /// How many chains there are: as many as there were edges.
+    [[nodiscard]] std::size_t size() const noexcept { return count_; }
+    [[nodiscard]] bool empty() const noexcept { return count_ == 0; }
+    /// The chain at a place below `size()`: that of the edge at this place.
+    [[nodiscard]] Chain operator[](std::size_t place) const noexcept { return *Iterator(points_, offsets_ + place); }
+    [[nodiscard]] Iterator begin() const noexcept { return {points_, offsets_}; }
+    [[nodiscard]] Iterator end() const noexcept { return {points_, offsets_ + count_}; }
+    /// The points of all chains, one chain behind the other.
+    [[nodiscard]] Span<Point> points() const noexcept {
+        return {points_, offsets_ == nullptr ? 0 : offsets_[count_]};
+    }
+    /// Where each chain begins among the points, and at last how many points there are: `size() + 1` numbers, or none
+    /// where nothing was taken over.
+    [[nodiscard]] Span<std::size_t> offsets() const noexcept {
+        return {offsets_, offsets_ == nullptr ? 0 : count_ + 1};
+    }
+
+private:
+    struct Free {
+        void operator()(::itree_chains *handle) const noexcept { ::itree_chains_free(handle); }
+    };
+
+    std::unique_ptr<::itree_chains, Free> handle_;
+    const Point *points_ = nullptr;
+    const std::size_t *offsets_ = nullptr;
+    std::size_t count_ = 0;
+};
+
+/// The chains that the edges become by snap rounding, one for each edge, in their order, where the library wrote them.
+/// Which points are of a chain is said at `itree_snap` of itree.h; it begins and ends as its edge does. Throws
+/// `std::bad_alloc` where memory was refused.
+[[nodiscard]] inline Chains snap(Span<Edge> edges) {
+    ::itree_chains *handle = nullptr;
+    detail::throw_unless_answered(::itree_snap(edges.data(), edges.size(), &handle));
+    return Chains(handle);
 }
 
 /// The places of some two edges that share a point, `first` below `second`, or nothing where no two do. Throws

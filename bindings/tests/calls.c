@@ -675,6 +675,80 @@ static void checks_faulty_pointers(void) {
     check("there are no pairs", second == 0);
 }
 
+/* Whether a chain has these points. */
+static int is_chain(struct itree_chains *chains, size_t place, const struct itree_point *wanted, size_t count) {
+    const size_t *offsets = itree_chains_offsets(chains);
+    return offsets[place + 1] - offsets[place] == count &&
+           !memcmp(itree_chains_points(chains) + offsets[place], wanted, count * sizeof *wanted);
+}
+
+static void checks_snap(void) {
+    const struct itree_edge whole[] = {{0, 0, 10, 10}, {0, 10, 10, 0}}, slanted[] = {{0, 0, 3, 1}, {0, 1, 3, 0}};
+    const struct itree_point rising[] = {{0, 0}, {5, 5}, {10, 10}}, falling[] = {{0, 10}, {5, 5}, {10, 0}};
+    const struct itree_point up[] = {{0, 0}, {2, 1}, {3, 1}}, down[] = {{0, 1}, {2, 1}, {3, 0}};
+    struct itree_chains *chains = NULL;
+    check("edges that meet at a whole point", itree_snap(whole, 2, &chains) == ITREE_ANSWERED);
+    check("two chains, of six points", itree_chains_count(chains) == 2 && itree_chains_point_count(chains) == 6);
+    check("offsets from 0 on", itree_chains_offsets(chains)[0] == 0 && itree_chains_offsets(chains)[2] == 6);
+    check("both are broken there", is_chain(chains, 0, rising, 3) && is_chain(chains, 1, falling, 3));
+    itree_chains_free(chains);
+    check("edges that meet at no whole point", itree_snap(slanted, 2, &chains) == ITREE_ANSWERED);
+    check("both are broken where it rounds to", is_chain(chains, 0, up, 3) && is_chain(chains, 1, down, 3));
+    memset(itree_chains_points(chains), 0x5a, 6 * sizeof(struct itree_point));
+    memset(itree_chains_offsets(chains), 0x5a, 3 * sizeof(size_t));
+    check("points and offsets may be written", itree_chains_count(chains) == 2 && itree_chains_point_count(chains) == 6);
+    itree_chains_free(chains);
+    const struct itree_edge last[] = {{7, 8, 7, 8}, {INT32_MIN, INT32_MIN, INT32_MAX, INT32_MAX}};
+    const struct itree_point point = {7, 8}, ends[] = {{INT32_MIN, INT32_MIN}, {INT32_MAX, INT32_MAX}};
+    check("a point, and an edge from end to end", itree_snap(last, 2, &chains) == ITREE_ANSWERED);
+    check("a point is its chain", is_chain(chains, 0, &point, 1) && is_chain(chains, 1, ends, 2));
+    itree_chains_free(chains);
+}
+
+static void checks_no_chains(void) {
+    const struct itree_edge edges[] = {{0, 0, 9, 9}, {0, 9, 9, 0}};
+    uint64_t words[8] = {0};
+    char *const odd = (char *)words + 1;
+    struct itree_chains *chains = (void *)words;
+    check("no handle for chains", itree_snap(edges, 2, NULL) == ITREE_POINTER);
+    check("a handle for chains at an odd address", itree_snap(edges, 2, (void *)odd) == ITREE_POINTER);
+    check("no edges to break", itree_snap(NULL, 2, &chains) == ITREE_POINTER);
+    check("edges to break at an odd address", itree_snap((void *)odd, 2, &chains) == ITREE_POINTER);
+    check("more edges to break than memory", itree_snap(edges, SIZE_MAX / 16, &chains) == ITREE_POINTER);
+    check("the handle of chains stays as it was there", chains == (void *)words);
+    check("null for no edges to break", itree_snap(NULL, 0, &chains) == ITREE_ANSWERED && chains != NULL);
+    check("there are no chains", itree_chains_count(chains) == 0 && itree_chains_point_count(chains) == 0);
+    check("nor points", itree_chains_points(chains) == NULL && itree_chains_offsets(chains)[0] == 0);
+    itree_chains_free(chains);
+    check("null has no chains", itree_chains_count(NULL) == 0 && itree_chains_point_count(NULL) == 0);
+    check("nor points or offsets", itree_chains_points(NULL) == NULL && itree_chains_offsets(NULL) == NULL);
+    itree_chains_free(NULL);
+}
+
+static void checks_refused_chains(void) {
+    struct itree_edge edges[40];
+    struct itree_chains *chains = NULL;
+    size_t requests = 0;
+    int ok = 1;
+    for (int32_t place = 0; place < 20; place++) {
+        edges[place] = (struct itree_edge){0, place, 40, place};
+        edges[20 + place] = (struct itree_edge){place, 0, place, 40};
+    }
+    while (1) {
+        chains = (void *)edges;
+        refuse_after(requests);
+        const int32_t status = itree_snap(edges, 40, &chains);
+        refuse_after(SIZE_MAX);
+        if (status != ITREE_REFUSED) break;
+        ok = ok && chains == NULL;
+        requests++;
+    }
+    check("each request for chains is refused in turn", requests > 4 && ok);
+    /* Each edge has 20 points where it meets others, of which its start is one, and its end. */
+    check("with all requests granted each is broken", itree_chains_point_count(chains) == 40 * 21);
+    itree_chains_free(chains);
+}
+
 int main(void) {
     checks_random();
     checks_nothing();
@@ -690,6 +764,9 @@ int main(void) {
     checks_faulty_between();
     checks_first_meeting();
     checks_how_they_meet();
+    checks_snap();
+    checks_no_chains();
+    checks_refused_chains();
     checks_locate();
     checks_located_nothing();
     checks_refused_locate();

@@ -271,6 +271,55 @@ void checks_how_they_meet() {
     check("edges in braces", itree::how_they_meet({0, 0, 9, 9}, {0, 9, 9, 0}) == itree::Meeting::cross);
 }
 
+using Chains = std::vector<std::vector<itree::Point>>;
+
+/// The points of each chain.
+Chains copied(const itree::Chains &chains) {
+    Chains all;
+    for (const auto &chain : chains) all.emplace_back(chain.begin(), chain.end());
+    return all;
+}
+
+void checks_snap() {
+    const std::vector<itree::Edge> whole{{0, 0, 10, 10}, {0, 10, 10, 0}}, slanted{{0, 0, 3, 1}, {0, 1, 3, 0}};
+    const Chains wanted{{{0, 0}, {5, 5}, {10, 10}}, {{0, 10}, {5, 5}, {10, 0}}};
+    check("edges that meet at a whole point", copied(itree::snap(whole)) == wanted);
+    check("and at none", copied(itree::snap(slanted)) == Chains{{{0, 0}, {2, 1}, {3, 1}}, {{0, 1}, {2, 1}, {3, 0}}});
+    check("a point in braces", copied(itree::snap({{7, 8, 7, 8}})) == Chains{{{7, 8}}});
+    auto chains = itree::snap(whole);
+    check("a chain by its place", chains.size() == 2 && chains[1].size() == 3 && chains[1].front() == itree::Point{0, 10});
+    check("its last point", chains[1].back() == itree::Point{10, 0} && chains[1][1] == itree::Point{5, 5});
+    const auto offsets = chains.offsets();
+    const std::vector<std::size_t> stops{0, 3, 6};
+    check("offsets from 0 on", std::equal(offsets.begin(), offsets.end(), stops.begin(), stops.end()));
+    const auto points = chains.points();
+    check("all points side by side", points.size() == 6 && points.begin() == chains[0].begin());
+    check("chains are counted", std::distance(chains.begin(), chains.end()) == 2 && chains.begin() != chains.end());
+    auto moved = std::move(chains);
+    check("chains that are moved stay where they are", moved.points().data() == points.data() && moved.size() == 2);
+    chains = itree::snap({});
+    check("no chains", chains.empty() && chains.points().empty() && chains.offsets().size() == 1);
+    chains = std::move(moved);
+    check("chains are taken over", chains.size() == 2 && chains.points().data() == points.data());
+    moved = itree::Chains();
+    check("nothing is a chain", moved.empty() && moved.begin() == moved.end() && moved.offsets().empty());
+    check("they aren't copied", moved.points().empty() && !std::is_copy_constructible_v<itree::Chains>);
+    check("chains are taken to another thread", std::async(std::launch::async, [it = std::move(chains)] {
+                                                    return it.points().size();
+                                                }).get() == 6);
+    std::size_t requests = 0;
+    for (bool refused = true; refused; requests++) {
+        refuse_after(requests);
+        try {
+            (void)itree::snap(whole);
+            refused = false;
+        } catch (const std::bad_alloc &) {
+        }
+        refuse_after(SIZE_MAX);
+    }
+    check("refused memory is thrown for chains", requests > 4);
+}
+
 using Found = std::vector<std::optional<std::size_t>>;
 
 /// What `locate` gives: places, or a pair that crosses.
@@ -384,6 +433,7 @@ int main() {
     checks_pairs();
     checks_between();
     checks_how_they_meet();
+    checks_snap();
     checks_locate();
     checks_many_edges();
     checks_locate_faults();

@@ -17,6 +17,7 @@ import doctest
 import fractions
 import gc
 import itertools
+import math
 import mmap
 import os
 import pathlib
@@ -39,6 +40,7 @@ try:
 except ImportError:
     numpy = None
 
+needs_numpy = unittest.skipUnless(numpy, "numpy isn't there")
 PACKAGE = pathlib.Path(itree.__file__).parent
 WORKED = [(0, 10, 5), (2, 6, 8)], [(6, 7), (2, 9), (11, 9)], [5, 8, None]
 
@@ -309,6 +311,133 @@ class Between(unittest.TestCase):
             self.assertGreater(requests, 0)
 
 
+def common_point(one, other):
+    """The point that is of both edges, which aren't parallel, or None."""
+    x0, y0, x1, y1 = one
+    along, across = (other[2] - other[0], other[3] - other[1]), (other[0] - x0, other[1] - y0)
+    turn = (x1 - x0) * along[1] - (y1 - y0) * along[0]
+    if turn == 0:
+        return None
+    at = fractions.Fraction(across[0] * along[1] - across[1] * along[0], turn)
+    at_other = fractions.Fraction(across[0] * (y1 - y0) - across[1] * (x1 - x0), turn)
+    if not (0 <= at <= 1 and 0 <= at_other <= 1):
+        return None
+    return x0 + at * (x1 - x0), y0 + at * (y1 - y0)
+
+
+def rounded(point):
+    return tuple(math.floor(number + fractions.Fraction(1, 2)) for number in point)
+
+
+def passes(edge, point):
+    """Whether some point of the edge rounds to the whole point: the part of it that does, by where it begins and ends,
+    and whether it has no first point, and whether it has a last one."""
+    first, last = (fractions.Fraction(0), False), (fractions.Fraction(1), True)
+    for axis, whole in enumerate(point):
+        start, way = edge[axis], edge[axis + 2] - edge[axis]
+        if way == 0:
+            if start != whole:
+                return False
+            continue
+        low, high = (fractions.Fraction(2 * (whole - start) + side, 2 * way) for side in (-1, 1))
+        first = max(first, (low, False) if way > 0 else (high, True))
+        last = min(last, (high, False) if way > 0 else (low, True))
+    return first[0] < last[0] or (first[0] == last[0] and not first[1] and last[1])
+
+
+def plain_chains(edges):
+    hot = {edge[place : place + 2] for edge in edges for place in (0, 2)}
+    common = (common_point(*pair) for pair in itertools.combinations(edges, 2))
+    hot.update(rounded(point) for point in common if point is not None)
+    chains = []
+    for edge in edges:
+        signs = [1 if edge[axis] <= edge[axis + 2] else -1 for axis in (0, 1)]
+        passed = (point for point in hot if passes(edge, point))
+        chains.append(sorted(passed, key=lambda it: (signs[0] * it[0], signs[1] * it[1])))
+    return chains
+
+
+class Snap(unittest.TestCase):
+    WORKED = (
+        ([(0, 0, 10, 10), (0, 10, 10, 0)], [[(0, 0), (5, 5), (10, 10)], [(0, 10), (5, 5), (10, 0)]]),
+        ([(0, 0, 3, 1), (0, 1, 3, 0)], [[(0, 0), (2, 1), (3, 1)], [(0, 1), (2, 1), (3, 0)]]),
+        ([(7, 8, 7, 8)], [[(7, 8)]]),
+        ([], []),
+    )
+
+    def test_breaks_edges_where_they_meet(self):
+        for edges, wanted in self.WORKED:
+            self.assertEqual(plain_chains(edges), wanted)
+            self.assertEqual(itree.snap(edges), wanted)
+
+    def test_answers_as_the_plain_model(self):
+        numbers = random.Random(37)
+        for whole, rounds in (9, 600), (40, 300), (2**32, 100):
+            for _ in range(rounds):
+                rows = range(numbers.randrange(9))
+                edges = [tuple(numbers.randrange(whole) - whole // 2 for _ in range(4)) for _ in rows]
+                self.assertEqual(itree.snap(edges), plain_chains(edges), edges)
+
+    def test_answers_arrays(self):
+        for edges, wanted in self.WORKED:
+            points, offsets = itree.snap(edges, as_array=True)
+            count = sum(map(len, wanted))
+            self.assertEqual((points.format, points.shape, points.readonly), ("i", (count, 2), False))
+            self.assertEqual((offsets.format, offsets.shape, offsets.readonly), ("q", (len(wanted) + 1,), False))
+            self.assertEqual(offsets.tolist(), [0, *itertools.accumulate(map(len, wanted))])
+            self.assertEqual(list(map(tuple, points.tolist())), list(itertools.chain(*wanted)))
+
+    @needs_numpy
+    def test_numpy_takes_them_without_a_copy(self):
+        edges, wanted = self.WORKED[1]
+        told = itree.snap(numpy.array(edges, dtype=numpy.int32), as_array=True)
+        points, offsets = map(numpy.asarray, told)
+        self.assertEqual((points.dtype, offsets.dtype), (numpy.int32, numpy.int64))
+        told.points[0, 0], told.offsets[0] = 77, 78
+        self.assertEqual((points[0, 0], offsets[0]), (77, 78))
+        self.assertEqual(points[offsets[1] : offsets[2]].tolist(), list(map(list, wanted[1])))
+
+    def test_gives_the_chains_back_with_the_last_view(self):
+        library, given_back = _library.library, []
+        free = library.itree_chains_free
+        library.itree_chains_free = lambda at: (given_back.append(at.value), free(at))
+        try:
+            for kept in 0, 1:
+                views = list(itree.snap(self.WORKED[0][0], as_array=True))
+                last = views[kept]
+                del views
+                gc.collect()
+                self.assertEqual(len(given_back), kept)
+                self.assertEqual(last.tolist()[-1], [[10, 0], 6][kept])
+                del last
+                gc.collect()
+                self.assertEqual(len(given_back), kept + 1)
+            self.assertEqual(itree.snap([]), [])
+            gc.collect()
+            self.assertEqual(len(given_back), 3)
+        finally:
+            library.itree_chains_free = free
+
+    def test_what_are_no_edges(self):
+        with self.assertRaisesRegex(ValueError, "^edges, row 0: 3 numbers, 4 are wanted$"):
+            itree.snap([(1, 2, 3)])
+
+    def test_raises_memory_error(self):
+        library, requests = ctypes.CDLL(os.environ["ITREE_LIBRARY"]), 0
+        while True:
+            library.refuse_after(ctypes.c_size_t(requests))
+            try:
+                chains = itree.snap(self.WORKED[1][0])
+            except MemoryError:
+                requests += 1
+                continue
+            finally:
+                library.refuse_after(ctypes.c_size_t(-1))
+            break
+        self.assertEqual(chains, self.WORKED[1][1])
+        self.assertGreater(requests, 4)
+
+
 def rightwards(edge):
     x0, y0, x1, y1 = edge
     return edge if x0 <= x1 else (x1, y1, x0, y0)
@@ -427,7 +556,6 @@ def without_numpy():
 
 
 WAYS = [without_numpy, contextlib.nullcontext] if numpy else [without_numpy]
-needs_numpy = unittest.skipUnless(numpy, "numpy isn't there")
 EDGES = [(0, 0, 9, 9), (0, 9, 9, 0), (20, 0, 21, 0), (5, 1, 7, 127)]
 WHOLE_EDGES = [*EDGES, (-(2**31), 2**31 - 1, -1, -128)]
 

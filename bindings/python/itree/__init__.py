@@ -1,4 +1,5 @@
-"""Which edges meet, and which edge or segment lies straight below a point.
+"""Which edges meet, edges broken where they meet, and which edge or segment
+lies straight below a point.
 
 The answers are exact, in whole numbers of 32 bits, by a library that is proved
 in Rattle.
@@ -6,6 +7,8 @@ in Rattle.
     >>> import itree
     >>> itree.meetings([(0, 0, 9, 9), (0, 9, 9, 0), (20, 0, 21, 0)])
     [(0, 1)]
+    >>> itree.snap([(0, 0, 10, 10), (0, 10, 10, 0)])
+    [[(0, 0), (5, 5), (10, 10)], [(0, 10), (5, 5), (10, 0)]]
     >>> itree.locate([(0, 0, 9, 9), (0, -5, 9, -5)], [(4, 4), (4, 3), (9, 9)])
     [0, 1, None]
     >>> itree.below([(0, 10, 5), (2, 6, 8)], [(6, 7), (2, 9), (11, 9)])
@@ -75,6 +78,7 @@ from ._memory import room_for
 from ._rows import EDGES, ONE, OTHER, OTHERS, POINTS, SEGMENTS, HeldRow, HeldRows, Row, Rows
 
 __all__ = [
+    "Chains",
     "Crossing",
     "Heights",
     "Overlap",
@@ -84,6 +88,7 @@ __all__ = [
     "locate",
     "meetings",
     "meetings_between",
+    "snap",
 ]
 __version__ = _library.version
 
@@ -139,6 +144,28 @@ class Heights:
 
     def __iter__(self) -> Iterator[memoryview]:
         return iter((self.values, self.found))
+
+
+class Chains:
+    """Answers of `snap`, as two memoryviews.
+
+    points: the points of all chains, one chain behind the other, int32, of the
+    shape (points, 2).
+    offsets: signed 64-bit numbers, one more than there are chains. The chain at
+    i is points[offsets[i]:offsets[i + 1]]. The first offset is 0, and the last
+    is how many points there are, as in a large list of the Arrow format.
+
+    It is unpacked as a tuple is: points, offsets = snap(..., as_array=True).
+    """
+
+    __slots__ = "points", "offsets"
+
+    def __init__(self, points: memoryview, offsets: memoryview) -> None:
+        self.points = points
+        self.offsets = offsets
+
+    def __iter__(self) -> Iterator[memoryview]:
+        return iter((self.points, self.offsets))
 
 
 @overload
@@ -311,6 +338,50 @@ def how_they_meet(one: Row, other: Row) -> Literal["apart", "touch", "cross", "s
     with HeldRow(one, ONE) as first, HeldRow(other, OTHER) as second:
         checked(library.itree_how_they_meet(first.at, second.at, ctypes.byref(meeting)))
     return _MEETINGS[meeting.value]
+
+
+@overload
+def snap(edges: Rows, as_array: Literal[False] = ...) -> List[List[Tuple[int, int]]]: ...
+@overload
+def snap(edges: Rows, as_array: Literal[True]) -> Chains: ...
+@overload
+def snap(edges: Rows, as_array: bool) -> Union[List[List[Tuple[int, int]]], Chains]: ...
+def snap(edges: Rows, as_array: bool = False) -> Union[List[List[Tuple[int, int]]], Chains]:
+    """The chains that the edges become by snap rounding: edges that are broken
+    where they meet, at whole points.
+
+    edges: rows (x0, y0, x1, y1), of the shape (n, 4) or (n, 2, 2), as those of
+    `meetings`.
+
+    The answer is a list of chains, one for each edge, in the order of the edges.
+    A chain is a list of points (x, y), in the order along the edge.
+
+    >>> snap([(0, 0, 3, 1), (0, 1, 3, 0)])
+    [[(0, 0), (2, 1), (3, 1)], [(0, 1), (2, 1), (3, 0)]]
+
+    A point rounds to the whole point that is nearest on each axis, a half
+    upwards. Hot points are all ends of the edges, and what the points round to
+    in which two edges that aren't parallel meet. The chain of an edge is the
+    hot points that some point of the edge rounds to, each once. So it begins
+    and ends as the edge does; that of an edge that is a point is this point
+    alone. The pieces of the chains, from each point to the next, meet at common
+    ends alone, or are the same. What rounds is told exactly.
+
+    With as_array=True it is Chains, of the points and of where each chain
+    begins and stops among them, where the library wrote them:
+
+    >>> points, offsets = snap([(0, 0, 3, 1), (0, 1, 3, 0)], as_array=True)
+    >>> points.tolist(), offsets.tolist()
+    ([[0, 0], [2, 1], [3, 1], [0, 1], [2, 1], [3, 0]], [0, 3, 6])
+
+    Raises MemoryError where memory was refused. What is raised for faulty rows
+    is told at help(itree).
+    """
+    with HeldRows(edges, EDGES) as rows:
+        points, offsets = _answers.chains_of(rows)
+    if as_array:
+        return Chains(_answers.in_rows_of_two(points, "i"), offsets)
+    return _answers.in_chains(points, offsets)
 
 
 @overload

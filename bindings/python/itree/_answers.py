@@ -4,8 +4,9 @@ from __future__ import annotations
 
 import array
 import ctypes
+import itertools
 import sys
-from typing import Iterable, Iterator, Tuple
+from typing import Callable, Iterable, Iterator, List, Literal, Tuple
 
 from ._library import checked, library
 from ._memory import numpy_where_loaded, room_for
@@ -18,13 +19,13 @@ def two_by_two(numbers: Iterable[int]) -> Iterator[Tuple[int, int]]:
     return zip(one_by_one, one_by_one)
 
 
-def in_rows_of_two(numbers: memoryview) -> memoryview:
-    """The numbers of a flat view, which are 64-bit, in the shape (n, 2)."""
+def in_rows_of_two(numbers: memoryview, letter: Literal["i", "Q"] = "Q") -> memoryview:
+    """The numbers of a flat view, which have this letter of array.array, in the shape (n, 2)."""
     count = len(numbers) // 2
     if count == 0:
         # A view without numbers takes no shape.
-        return memoryview(bytearray(16)).cast("Q", (1, 2))[:0]
-    return numbers.cast("B").cast("Q", (count, 2))
+        return memoryview(bytearray(2 * numbers.itemsize)).cast(letter, (1, 2))[:0]
+    return numbers.cast("B").cast(letter, (count, 2))
 
 
 def heights_of(numbers: memoryview) -> Tuple[memoryview, memoryview]:
@@ -46,11 +47,11 @@ def places_of(numbers: memoryview) -> memoryview:
 
 
 class _Handle:
-    """A handle of pairs, which is given back with this object."""
+    """A handle of the library's, which is given back with this object."""
 
-    def __init__(self, at: ctypes.c_void_p) -> None:
+    def __init__(self, at: ctypes.c_void_p, free: Callable[[ctypes.c_void_p], None]) -> None:
         # The call, for at the interpreter's end the module may be empty.
-        self._free, self._at = library.itree_pairs_free, at
+        self._free, self._at = free, at
 
     def __del__(self) -> None:
         self._free(self._at)
@@ -73,11 +74,34 @@ def pairs_between(edges: HeldRows, others: HeldRows) -> memoryview:
 
 
 def _numbers_of(at: ctypes.c_void_p) -> memoryview:
-    """The numbers of a handle, which is given back with the last view of them."""
-    handle = _Handle(at)
-    count = library.itree_pairs_count(at)
+    """The numbers of a handle of pairs, which is given back with the last view of them."""
+    handle = _Handle(at, library.itree_pairs_free)
+    return _held(handle, library.itree_pairs_first(at), 2 * library.itree_pairs_count(at), "Q")
+
+
+def chains_of(edges: HeldRows) -> Tuple[memoryview, memoryview]:
+    """The points of all chains, as flat 32-bit numbers, and the offsets, as signed 64-bit numbers, where the library wrote
+    them. Their memory is given back once there is neither a view of them nor an array over one."""
+    at = ctypes.c_void_p()
+    checked(library.itree_snap(edges.at, edges.count, ctypes.byref(at)))
+    handle = _Handle(at, library.itree_chains_free)
+    points = _held(handle, library.itree_chains_points(at), 2 * library.itree_chains_point_count(at), "i")
+    return points, _held(handle, library.itree_chains_offsets(at), library.itree_chains_count(at) + 1, "q")
+
+
+def in_chains(points: memoryview, offsets: memoryview) -> List[List[Tuple[int, int]]]:
+    """The points of flat numbers, in a list for each chain."""
+    numbers = two_by_two(points)
+    return [list(itertools.islice(numbers, stop - start)) for start, stop in zip(offsets, offsets[1:])]
+
+
+_TYPES = {"i": ctypes.c_int32, "q": ctypes.c_int64, "Q": ctypes.c_uint64}
+
+
+def _held(handle: _Handle, at: int, count: int, letter: Literal["i", "q", "Q"]) -> memoryview:
+    """So many numbers of a handle, which is given back with the last view of them."""
     if count == 0:
-        return memoryview(array.array("Q"))
-    memory = (ctypes.c_uint64 * (2 * count)).from_address(library.itree_pairs_first(at))
+        return memoryview(array.array(letter))
+    memory = (_TYPES[letter] * count).from_address(at)
     setattr(memory, "handle", handle)
-    return memoryview(memory).cast("B").cast("Q")
+    return memoryview(memory).cast("B").cast(letter)

@@ -12,6 +12,11 @@ _status = ctypes.c_int32
 # What each call answers, and what it takes.
 _CALLS = {
     "itree_below": (_status, [_address, _length, _address, _length, _address, _length, _address]),
+    "itree_chains_count": (_length, [_address]),
+    "itree_chains_free": (None, [_address]),
+    "itree_chains_offsets": (_address, [_address]),
+    "itree_chains_point_count": (_length, [_address]),
+    "itree_chains_points": (_address, [_address]),
     "itree_first_meeting": (_status, [_address, _length, _address, _address]),
     "itree_how_they_meet": (_status, [_address, _address, _address]),
     "itree_locate": (_status, [_address, _length, _address, _length, _address, _length, _address, _address]),
@@ -20,6 +25,7 @@ _CALLS = {
     "itree_pairs_count": (_length, [_address]),
     "itree_pairs_first": (_address, [_address]),
     "itree_pairs_free": (None, [_address]),
+    "itree_snap": (_status, [_address, _length, _address]),
 }
 
 

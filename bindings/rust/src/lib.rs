@@ -1,5 +1,5 @@
-//! Pairs of edges that meet, and the edge or the horizontal segment straight below a point, exactly, by a library that is
-//! proved in Rattle: slices in, a `Result` out.
+//! Pairs of edges that meet, edges broken where they meet, and the edge or the horizontal segment straight below a point,
+//! exactly, by a library that is proved in Rattle: slices in, a `Result` out.
 //!
 //! ```
 //! use itree::{below, locate, meetings, Edge, Point, Segment};
@@ -212,6 +212,77 @@ impl<'a> IntoIterator for &'a Pairs {
     }
 }
 
+/// Chains of points, one for each edge, where the library wrote them. They are given back where this is dropped.
+pub struct Chains {
+    handle: NonNull<calls::Handle>,
+    points: *const Point,
+    point_count: usize,
+    offsets: *const usize,
+    count: usize,
+}
+
+// SAFETY: the chains are this value's own, their memory is the process's, and they are only read.
+unsafe impl Send for Chains {}
+unsafe impl Sync for Chains {}
+
+impl Chains {
+    /// How many chains there are: as many as there were edges.
+    pub fn len(&self) -> usize {
+        self.count
+    }
+
+    /// Whether there is no chain.
+    pub fn is_empty(&self) -> bool {
+        self.count == 0
+    }
+
+    /// The chain of the edge at this place. Panics where there is none.
+    pub fn chain(&self, place: usize) -> &[Point] {
+        assert!(
+            place < self.count,
+            "there are {} chains, and none at {place}",
+            self.count
+        );
+        let offsets = self.offsets();
+        &self.points()[offsets[place]..offsets[place + 1]]
+    }
+
+    /// The chains, in the order of their edges.
+    pub fn iter(&self) -> impl ExactSizeIterator<Item = &[Point]> {
+        let points = self.points();
+        self.offsets().windows(2).map(move |it| &points[it[0]..it[1]])
+    }
+
+    /// The points of all chains, one chain behind the other.
+    pub fn points(&self) -> &[Point] {
+        if self.point_count == 0 {
+            return &[];
+        }
+        // SAFETY: so many points lie there, until the handle is given back, and nothing else leads there.
+        unsafe { slice::from_raw_parts(self.points, self.point_count) }
+    }
+
+    /// Where each chain begins among the points, and at last how many points there are: one number more than there are
+    /// chains.
+    pub fn offsets(&self) -> &[usize] {
+        // SAFETY: as in `points`; there is one offset more than there are chains.
+        unsafe { slice::from_raw_parts(self.offsets, self.count + 1) }
+    }
+}
+
+impl Drop for Chains {
+    fn drop(&mut self) {
+        // SAFETY: the handle is this value's own.
+        unsafe { calls::itree_chains_free(self.handle.as_ptr()) }
+    }
+}
+
+impl Debug for Chains {
+    fn fmt(&self, f: &mut Formatter<'_>) -> fmt::Result {
+        f.debug_list().entries(self.iter()).finish()
+    }
+}
+
 /// The calls of `itree.h`.
 mod calls {
     use super::{Edge, Pair, Point, Segment};
@@ -276,6 +347,18 @@ mod calls {
         pub fn itree_pairs_first(pairs: *mut Handle) -> *mut Pair;
 
         pub fn itree_pairs_free(pairs: *mut Handle);
+
+        pub fn itree_snap(edges: *const Edge, edge_count: usize, chains: *mut *mut Handle) -> i32;
+
+        pub fn itree_chains_count(chains: *const Handle) -> usize;
+
+        pub fn itree_chains_point_count(chains: *const Handle) -> usize;
+
+        pub fn itree_chains_points(chains: *mut Handle) -> *mut Point;
+
+        pub fn itree_chains_offsets(chains: *mut Handle) -> *mut usize;
+
+        pub fn itree_chains_free(chains: *mut Handle);
 
         pub fn itree_locate(
             edges: *const Edge,
@@ -405,11 +488,16 @@ pub fn how_they_meet(one: Edge, other: Edge) -> Meeting {
     }
 }
 
+/// The handle that a call wrote, where it answered.
+fn answered(status: i32, handle: *mut calls::Handle) -> Result<NonNull<calls::Handle>, Refused> {
+    NonNull::new(handle)
+        .filter(|_| status == calls::ANSWERED)
+        .ok_or(Refused)
+}
+
 /// The pairs of a handle that a call wrote, where it answered.
 fn pairs_of(status: i32, handle: *mut calls::Handle) -> Result<Pairs, Refused> {
-    let handle = NonNull::new(handle)
-        .filter(|_| status == calls::ANSWERED)
-        .ok_or(Refused)?;
+    let handle = answered(status, handle)?;
     // SAFETY: the handle was written by a call, and nothing else has it.
     let (first, count) = unsafe {
         (
@@ -429,6 +517,39 @@ pub fn meetings(edges: &[Edge]) -> Result<Vec<(usize, usize)>, Refused> {
     found.try_reserve_exact(pairs.len())?;
     found.extend(pairs.iter().map(|pair| (pair.first, pair.second)));
     Ok(found)
+}
+
+/// The chains that the edges become by snap rounding, one for each edge, in their order, where the library wrote them.
+///
+/// A point rounds to the whole point that is nearest on each axis, a half upwards. Hot points are all ends of the edges,
+/// and what the points round to in which two edges that aren't parallel meet. The chain of an edge is the hot points that
+/// some point of the edge rounds to, each once, in the order along it from its one end to its other. So it begins and ends
+/// as the edge does; that of an edge that is a point is this point alone. The pieces of the chains, from each point to the
+/// next, meet at common ends alone, or are the same. What rounds is told exactly.
+///
+/// ```
+/// use itree::{snap, Edge, Point};
+///
+/// let edges = [Edge { x0: 0, y0: 0, x1: 3, y1: 1 }, Edge { x0: 0, y0: 1, x1: 3, y1: 0 }];
+/// let chains = snap(&edges).unwrap();
+/// assert_eq!(chains.chain(0), [Point { x: 0, y: 0 }, Point { x: 2, y: 1 }, Point { x: 3, y: 1 }]);
+/// assert_eq!(chains.chain(1), [Point { x: 0, y: 1 }, Point { x: 2, y: 1 }, Point { x: 3, y: 0 }]);
+/// ```
+pub fn snap(edges: &[Edge]) -> Result<Chains, Refused> {
+    let mut handle = ptr::null_mut();
+    // SAFETY: as in `below`.
+    let status = unsafe { calls::itree_snap(edges.as_ptr(), edges.len(), &mut handle) };
+    let handle = answered(status, handle)?;
+    // SAFETY: the handle was written by the call, and nothing else has it.
+    unsafe {
+        Ok(Chains {
+            points: calls::itree_chains_points(handle.as_ptr()),
+            point_count: calls::itree_chains_point_count(handle.as_ptr()),
+            offsets: calls::itree_chains_offsets(handle.as_ptr()),
+            count: calls::itree_chains_count(handle.as_ptr()),
+            handle,
+        })
+    }
 }
 
 /// For each point, in order, the place of the edge straight below it, if there is one.

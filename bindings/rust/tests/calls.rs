@@ -3,8 +3,8 @@
 #![warn(unsafe_op_in_unsafe_fn)]
 
 use itree::{
-    below, first_meeting, how_they_meet, locate, meetings, meetings_all, meetings_between, Edge, Fault, LocateFault,
-    Meeting, Point, Refused, Segment,
+    below, first_meeting, how_they_meet, locate, meetings, meetings_all, meetings_between, snap, Edge, Fault,
+    LocateFault, Meeting, Point, Refused, Segment,
 };
 use std::cell::Cell;
 use std::collections::{BTreeSet, HashMap};
@@ -313,6 +313,63 @@ fn is_refused_pairs_where_memory_is() {
     let pairs = meetings_all(&edges).unwrap();
     let taken = std::thread::spawn(move || pairs.iter().filter(|pair| pair.first < pair.second).count());
     assert_eq!(taken.join().unwrap(), 780);
+}
+
+#[test]
+fn breaks_edges_where_they_meet() {
+    type Row = (i32, i32, i32, i32);
+    type Chain = &'static [(i32, i32)];
+    let cases: [(&[Row], &[Chain]); 4] = [
+        (
+            &[(0, 0, 10, 10), (0, 10, 10, 0)],
+            &[&[(0, 0), (5, 5), (10, 10)], &[(0, 10), (5, 5), (10, 0)]],
+        ),
+        (
+            &[(0, 0, 3, 1), (0, 1, 3, 0)],
+            &[&[(0, 0), (2, 1), (3, 1)], &[(0, 1), (2, 1), (3, 0)]],
+        ),
+        (&[(7, 8, 7, 8)], &[&[(7, 8)]]),
+        (&[], &[]),
+    ];
+    for (rows, wanted) in cases {
+        let edge = |&(x0, y0, x1, y1): &Row| Edge { x0, y0, x1, y1 };
+        let edges: Vec<Edge> = rows.iter().map(edge).collect();
+        let chains = snap(&edges).unwrap();
+        assert_eq!((chains.len(), chains.is_empty()), (wanted.len(), wanted.is_empty()));
+        assert_eq!(chains.offsets().len(), wanted.len() + 1);
+        assert_eq!(chains.points().len(), wanted.concat().len());
+        for (place, chain) in chains.iter().enumerate() {
+            let points: Vec<(i32, i32)> = chain.iter().map(|point| (point.x, point.y)).collect();
+            assert_eq!(points, wanted[place], "{rows:?}");
+            assert_eq!(chains.chain(place), chain);
+        }
+        let taken = std::thread::spawn(move || chains.iter().len());
+        assert_eq!(taken.join().unwrap(), wanted.len());
+    }
+}
+
+#[test]
+#[should_panic(expected = "there are 1 chains, and none at 1")]
+fn has_no_chain_behind_the_last() {
+    snap(&[point_of(7, 8)]).unwrap().chain(1);
+}
+
+#[test]
+fn is_refused_chains_where_memory_is() {
+    let edges: Vec<Edge> = (0..40)
+        .map(|y| Edge {
+            x0: 0,
+            y0: y,
+            x1: 40,
+            y1: 40 - y,
+        })
+        .collect();
+    let mut requests = 0;
+    while granted(requests, || snap(&edges)).is_err() {
+        requests += 1;
+    }
+    assert!(requests > 4, "{requests} requests");
+    assert_eq!(snap(&edges).unwrap().len(), 40);
 }
 
 fn rightwards(edge: &Edge) -> Edge {

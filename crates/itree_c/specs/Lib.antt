@@ -1,3 +1,4 @@
+pub mod Chains
 pub mod Handle
 pub mod Heights
 pub mod Kinds

@@ -1,4 +1,4 @@
-//! Calls from C, and so from each language that calls C: a static library over `itree_lib` and `plane`.
+//! Calls from C, and so from each language that calls C: a static library over `itree_lib`, `plane` and `overlay`.
 //!
 //! Each function takes slices, which are a pointer and a length in C, writes its answers into slices of its caller's,
 //! and answers a status. An answer whose size isn't known before goes out as a handle, which the caller gives back.
@@ -6,6 +6,7 @@
 //! returns.
 #![tactic(auto)]
 
+pub mod chains;
 pub mod handle;
 pub mod heights;
 pub mod kinds;
@@ -13,4 +14,5 @@ pub mod meetings;
 pub mod pairs;
 pub mod places;
 pub mod raw;
+pub mod snapped;
 pub mod status;

@@ -1,0 +1,73 @@
+-- the two fields are read, and what the handle owns stays
+use Rattle.itree_c.proofs.Steps.{◌≡◌, List, [], ◌∷◌, ◌++◌, length, refl, sym, ap, ◌∙◌, subst, Some, w64, T, ty_ptr, bare, Val, vint, vptr, has_ty, WT, SProp, ent, emp, id⊢, never, fst∗, full_share, ftrue, flft, fat, WpFn, sem, ‵, raw, ◌⊛◌, some, ◌$◌, ◌∵◌, !, qed, by, move, keep, split, join, fsplit, fsplit3, fjoin, fjoin3, pick, suffices, use0, use1, use2, rewrite, feq_i, feq_l, of_opd, stop, fld, load, store, returns, enter, assigns, well_typed, alloc_all, pass_all, free_all, look_at, get, sets, through, sub, whole, look_in, fact, fact_i, tables, yes, Is, shows, cell_at, part_at, lone, owns, types_at, plain, Ptr, RawPtr, block_ptr, null_ptr, ptr_val, rawptr_Lawful, in_a_block, nothing, only, owned, peeks, opens, closes, usize, uint_Makes, vec_ptr, layout, Stays, stay_dropped, stay_ref, walk_of, Goes-dropped, Goes-ref, part_out, part_in, proved_at, leaves, ghosts}
+use Rattle.itree_c.proofs.chains.Chains.TheLaws.{lowered, lowers}
+use Rattle.itree_c.specs.Chains.{owns_chains}
+use Rattle.itree_c.specs.contracts.chains.Chains.{the_row as held_row}
+use Rattle.itree_c.specs.contracts.snapped.itree_chains_points.{ended, clauses}
+use Rattle.itree_c.specs.contracts.snapped.itree_chains_points.Key.{name as #self}
+use Rattle.itree_c.proofs.snapped.itree_chains_points.Statement.{statement}
+use Rattle.itree_c.proofs.snapped.itree_chains_points.Code as code
+
+pub itree_chains_points_spec : {M : Type 1} → statement M
+itree_chains_points_spec 𝓤 𝓛 𝓜 𝓡 wired =
+    let H = 𝓛.H in let 𝓣 = tables 𝓤 H 𝓜 𝓡 𝓡.env in let c = clauses 𝓛 𝓜.mem 𝓡.returns in let fn = code.function in
+    let hs : Stays ended.signature.params ended.kept = (
+      stay_dropped (plain (λ _.
+          RawPtr)) yes,
+      (stay_ref (0 ∷ []) tt (plain (λ _. RawPtr)), tt),
+    ) in
+    proved_at 𝓛 ended hs c 𝓜 𝓡 (
+      Goes-dropped 𝓛 1 (plain (λ _. RawPtr)) yes (λ κs x f.
+          refl),
+      (Goes-ref 𝓛 1 0 tt (plain (λ _. RawPtr)), tt),
+    ) #self fn (code.unfolded 𝓤 H 𝓜 𝓡 wired) (λ z are.
+    let κ = z.0.0.0 in let q = z.0.1.0 in let p : Ptr = z.0.3.0 in let m = z.0.3.1.0 in let x = z.1 in
+    let mb = m.ref_ptr.0 in let mo = m.ref_ptr.1 in
+    let Post : Val → SProp 𝓤 = (walk_of 𝓛 ended hs c).post z in let Run : List Val → SProp 𝓤 = λ ws.
+    WpFn 𝓤 H 𝓣.C 𝓣.Λ fn ws Post in
+    qed 𝓛 (((‵ (flft κ q) ⊛ ‵ ftrue) ⊛ ‵ (owns (types_at ended.signature.params z.0.0) z.0.3 z.0.4)) ∷ raw ((c z.0.0
+    z.0.3).requires z.1) ∷ []) ∵ split ! $ move ! (1 ∷ []) $ fsplit ! $
+    feq_l ! (λ ep. fsplit ! $ move ! (3 ∷ []) $ use1 𝓛 (‵ (owns_chains p (Some x))) (id⊢ 𝓤 _) $
+    in_a_block ! p (λ at. owns_chains at (Some x)) (fst∗ 𝓤 (never 𝓤) (sem 𝓛 (ghosts.dealloc_token (record {
+      memory =
+          record { seal = tt };
+    }) (bare (lone held_row.mir)) null_ptr))) (λ b o e. fsplit ! $
+    -- [the chains in their memory; the right to free it; the reference; nothing; the token of κ]
+    use1 𝓛 (some (λ (v : Val). ‵ (fat full_share (layout held_row) b o v) ⊛ ‵ (held_row.own_val x (v ∷ []))))
+    (part_out 𝓛 held_row refl full_share x b o) $ pick ! (λ v. split ! $ move ! (1 ∷ []) $
+    peeks ! held_row (Is held_row) (shows 𝓛 held_row) x (v ∷ []) (λ is. let vx : Val = lowered x in
+    let ev : v ≡ vx = ap only (lowers.val_is x (v ∷ []) is) in
+    rewrite ! 1 (λ (u : Val). ‵ (fat full_share (layout held_row) b o u)) ev refl $ move ! (1 ∷ []) $
+    well_typed ! (λ good.
+    let us : List Val = vptr b o ∷ vptr mb mo ∷ [] in let vp : Val = ptr_val x.points in
+    let gp : T (has_ty ty_ptr vp) × WT vp = ((rawptr_Lawful 𝓛).typed x.points _ refl).0 in
+    suffices ! (Run us) (subst (λ (vs : List Val). ent 𝓤 (Run us) (Run vs)) (sym (λ i. (ep ∙ ap (λ (at : Ptr).
+    ptr_val at ∷ []) e) i ++ (are.1.0.0 i ++ []))) (id⊢ 𝓤 (Run us))) $
+    enter ! 𝓣.C 𝓣.Λ fn us Post $ alloc_all ! (λ l. pass_all ! refl ((tt, tt), ((tt, tt), tt)) $
+    sets ! (of_opd ! (get ! refl)) refl (tt, tt) $
+    move ! (3 ∷ []) $ fsplit3 ! $ move ! (7 ∷ []) $ split ! $ move ! (3 ∷ 4 ∷ 0 ∷ []) $
+    opens ! tt RawPtr mb mo (λ ms. move ! (1 ∷ []) $ feq_l ! (λ em. rewrite ! 0 (λ (ws : List Val).
+    ‵ (cell_at full_share RawPtr.mir ws mb mo)) em refl $
+    -- [what is written; the open reference, in three; nothing; its first part; the chains' machine value; what it
+    -- owns; the right to free it; nothing]
+    sets ! (of_opd ! (load ! (through ! refl (fld ! refl (stop !))) (look_in ! 6 (sub ! 0 refl (whole !))))) refl gp $
+    assigns ! (of_opd ! (get ! refl)) (through ! refl (stop !)) (store ! 0 refl gp) $
+    sets ! (of_opd ! (load ! (through ! refl (fld ! refl (stop !))) (look_in ! 6 (sub ! 1 refl (whole !))))) refl
+    (tt, good.1.1.0) $
+    feq_i ! (List Val) (vp ∷ []) (vp ∷ []) refl $ move ! (1 ∷ 0 ∷ []) $ closes ! tt RawPtr x.points (vp ∷ []) mb mo $
+    returns ! (look_at ! 0 refl) $ free_all ! refl $
+    rewrite ! 5 (λ (u : Val). ‵ (fat full_share (layout held_row) b o u)) (sym ev) refl $ move ! (5 ∷ 6 ∷ []) $
+    use2 𝓛 (‵ (part_at held_row full_share x b o)) (part_in 𝓛 held_row refl full_share x b o v) $
+    move ! (0 ∷ 6 ∷ []) $ fjoin ! $ use1 𝓛 (‵ (owns_chains (block_ptr b o) (Some x))) (id⊢ 𝓤 _) $
+    rewrite ! 0 (λ (at : Ptr). ‵ (owns_chains at (Some x))) (sym e) refl $
+    -- [what the handle owns; two parts of the reference; the token; nothing; its first part; nothing]
+    move ! (5 ∷ 1 ∷ 2 ∷ []) $ fjoin3 ! $ nothing ! $ move ! (1 ∷ 0 ∷ []) $ fjoin ! $ nothing ! $ fjoin ! $
+    move ! (2 ∷ 3 ∷ []) $ join ! $
+    owned ! usize (Is usize) (uint_Makes 𝓛 w64) x.point_count _ (refl, good.1.1.0.fits) $
+    let Told : Type 0 = (x.point_count ≡ length x.held_points.items) × (x.points ≡ vec_ptr x.held_points) in
+    use0 𝓛 (raw (fact 𝓤 Told)) (fact_i 𝓤 Told (emp 𝓤) (x.points_told.1 ∙ x.held_points.ok.0, x.points_told.0)) $ move ! (4 ∷ 0 ∷ []) $
+    join ! $
+    keep ! (2 ∷ 3 ∷ 1 ∷ 0 ∷ []) $ by ! (leaves 𝓛 ended hs c z (vint w64 x.point_count) x.point_count (tt, (x.points, tt)) (
+      tt,
+      (tt, tt),
+    )))))))))))
