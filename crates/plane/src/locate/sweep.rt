@@ -1,7 +1,9 @@
 //! The sweep among edges: what is done at each event.
 
-ghost use Rattle.std.specs.Prelude.{◌≡◌, ◌<ℤ◌, ◌∷◌, [], ℕ, All, Option, length, OnOk};
+ghost use Rattle.std.specs.Prelude.{◌≡◌, ◌≢◌, ◌≤◌, ◌<◌, ◌<ℤ◌, ◌∷◌, [], ℕ, All, Option, length, OnOk};
 ghost use Rattle.std.specs.List.{AllZip};
+ghost use Rattle.i_tree.specs.declared.Refusal.{Refusal};
+ghost use Rattle.i_tree.specs.declared.Refusal.TheVariants.{OutOfMemory};
 ghost use Rattle.i_tree.specs.Root.Along.{AreNeighbours, IsMonotoneAlong};
 ghost use Rattle.i_tree.specs.Root.Change.{Without};
 ghost use Rattle.plane.specs.Locate.Answers.{IsPlaceBelow};
@@ -42,6 +44,8 @@ where
     requires room { length answers.old ≡ length points.now }
     ensures ok { OnOk result (NoneCross edges.now × AllZip (IsPlaceBelow edges.now) points.now answers.new) }
     ensures crossing { (i j : ℕ) → result ≡ Err (LocateFault.Cross i j) → IsCrossing edges.now i j }
+    ensures refused { length edges.now ≤ C.room status.old → (cause : Refusal) →
+        result ≡ Err (LocateFault.Refused cause) → cause ≡ OutOfMemory }
 {
     let mut read_ahead = ReadAhead::new(alloc);
     for next in 0..events.len() {
@@ -70,7 +74,9 @@ fn end<C: StatusCollection<ActiveEdge, i64, ()>>(
         × NotCross found.0 found.1) }
     ensures crossing { (i j : ℕ) → result ≡ Err (LocateFault.Cross i j) →
         HaveCrossing (live_entries ending.edge.x1 (C.stored status.old)) i j }
+    ensures never_refused { (cause : Refusal) → result ≢ Err (LocateFault.Refused cause) }
     ensures kept { Without (IsExpiredAt ending.edge.x1) (C.stored status.old) (C.stored status.new) }
+    ensures room { C.room status.old ≤ C.room status.new }
 {
     let stands = |other: ActiveEdge| -> Ordering
         requires right { other.edge.x0 <ℤ other.edge.x1 }
@@ -98,6 +104,9 @@ fn begin<C: StatusCollection<ActiveEdge, i64, ()>>(
         × JoinsAt beginning.edge.x0 (beginning, tt) (C.stored status.old) (C.stored status.new)) }
     ensures crossing { (i j : ℕ) → result ≡ Err (LocateFault.Cross i j) →
         HaveCrossing ((beginning, tt) ∷ live_entries beginning.edge.x0 (C.stored status.old)) i j }
+    ensures with_room { length (C.stored status.old) < C.room status.old → (cause : Refusal) →
+        result ≢ Err (LocateFault.Refused cause) }
+    ensures room { C.room status.old ≤ C.room status.new }
 {
     let (below, above) = insert_beginning(status, beginning)?;
     let begun = Some((beginning, ()));
@@ -112,6 +121,7 @@ fn check_neighbours(
 ) -> Result<(), LocateFault>
     ensures ok { OnOk result (NotCross below above) }
     ensures crossing { (i j : ℕ) → result ≡ Err (LocateFault.Cross i j) → AreCrossing below above i j }
+    ensures never_refused { (cause : Refusal) → result ≢ Err (LocateFault.Refused cause) }
 {
     let (Some((below, _)), Some((above, _))) = (below, above) else {
         return Ok(());
@@ -132,6 +142,7 @@ fn place_below<C: StatusCollection<ActiveEdge, i64, ()>>(
     requires { IsSortedAt point.x (live_entries point.x (C.stored status.old)) }
     ensures value { IsPlaceUnder point (live_entries point.x (C.stored status.old)) result }
     ensures kept { Without (IsExpiredAt point.x) (C.stored status.old) (C.stored status.new) }
+    ensures room { C.room status.old ≤ C.room status.new }
 {
     let stands = |active: ActiveEdge| -> Ordering
         ensures { result ≡ cmp_to_point point active }
