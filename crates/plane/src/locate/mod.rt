@@ -85,9 +85,11 @@ where
 {
     let alloc = *out.allocator();
     let events = events_of(alloc, edges, points)?;
-    let mut answers = Vec::new(alloc);
-    answers.resize(points.len(), None)?;
-    serve_all(alloc, status, edges, points, &events, &mut answers)?;
-    out.extend_from_slice(&answers)?;
+    let first = out.len();
+    out.resize(first + points.len(), None)?;
+    if let Err(fault) = serve_all(alloc, status, edges, points, &events, &mut out[first..]) {
+        out.truncate(first);
+        return Err(fault);
+    }
     Ok(())
 }

@@ -1,7 +1,7 @@
 use Rattle.std.proofs.Common.{rules, subst, arith}
 use Rattle.std.proofs.lemmas.List.{take_all}
 use Rattle.std.proofs.lemmas.Result.{err_from_is_err_and}
-use Rattle.plane.proofs.LocateLemmas.Payloads.{ends_requires, ends_onwards, ends_live_onwards, ends_crossing, Swept-ends, begins_sorted, begins_last, begins_onwards, begins_crossing, Swept-begins, asks_requires, asks_inside, Swept-asks}
+use Rattle.plane.proofs.LocateLemmas.Payloads.{ends_requires, ends_onwards, ends_live_onwards, ends_order, ends_crossing, Swept-ends, begins_sorted, begins_last, begins_onwards, begins_crossing, Swept-begins, asks_requires, asks_inside, Swept-asks}
 use Rattle.plane.proofs.LocateLemmas.Room.{HoldsBegun-joins, HoldsBegun-nothing, HoldsBegun-without, room_at_begin}
 use Rattle.plane.proofs.LocateLemmas.Swept.{Swept, Swept-nothing, none_cross, all_answered}
 use Rattle.plane.specs.SweepLine.Active.{IsExpiredAt}
@@ -29,6 +29,11 @@ end-requires-clause-right g c =
 pub end-requires-clause-all_right : goal.end-requires-clause-all_right
 end-requires-clause-all_right g c =
     ends_live_onwards c.args.edges.now c.args.points.now c.args.events.now c.requires.queue c.loop-next.next c.loop-next-test.true (g.C.StatusCollection.stored c.loop-next.status) c.loop-next.answers
+    c.loop-next.invariant.0 c.in_ok-payload.payload c.in_ok-payload.ensures.value c.in-Ends.active c.in-Ends.is
+
+pub end-requires-clause-order : goal.end-requires-clause-order
+end-requires-clause-order g c =
+    ends_order c.args.edges.now c.args.points.now c.args.events.now c.requires.queue c.loop-next.next c.loop-next-test.true (g.C.StatusCollection.stored c.loop-next.status) c.loop-next.answers
     c.loop-next.invariant.0 c.in_ok-payload.payload c.in_ok-payload.ensures.value c.in-Ends.active c.in-Ends.is
 
 pub returns-in_err-end-in-Ends-clause-crossing : goal.returns-in_err-end-in-Ends-clause-crossing
