@@ -5,5 +5,6 @@ pub mod Begun
 pub mod Ending
 pub mod Events
 pub mod Payloads
+pub mod Room
 pub mod Serving
 pub mod Swept

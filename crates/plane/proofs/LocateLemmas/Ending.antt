@@ -1,9 +1,10 @@
 -- How the end of an edge is served.
 use Rattle.std.proofs.Common.{◌≡◌, ◌≢◌, ◌⊎◌, inl, inr, ℕ, ◌<◌, ◌+◌, ℤ, ◌≤ℤ◌, ◌<ℤ◌, List, [], ◌∷◌, ◌++◌, Option, None, length, get_or, take, refl, sym, ap, ◌∙◌, subst, ⊎_elim, arith}
-use Rattle.std.specs.List.{All, Contains}
+use Rattle.std.specs.List.{All, AllPairs, Contains}
 use Rattle.std.specs.declared.cmp.Ordering.TheVariants.{Less}
 use Rattle.std.proofs.lemmas.Int.{ints}
 use Rattle.std.proofs.lemmas.List.Elements.{All-append, All-contains, All-weaker, Contains-append_left, Contains-push, Contains-push_cases}
+use Rattle.std.proofs.lemmas.List.Kept.{AllPairs-filter}
 use Rattle.i_tree.proofs.RootLemmas.Withouts.{Without-middle}
 use Rattle.i_tree.specs.Root.Along.{AreNeighbours, IsMonotoneAlong}
 use Rattle.i_tree.specs.Root.Change.{Without}
@@ -19,7 +20,7 @@ use Rattle.plane.specs.SweepLine.Heights.{rightwards}
 use Rattle.event_queue.specs.Queue.{StandsAt, Precedes}
 use Rattle.plane.specs.Locate.Events.{CoversSome, ending_of, IsQueue}
 use Rattle.plane.specs.Locate.Serving.{HaveCrossing}
-use Rattle.plane.specs.SweepLine.Active.{Entry, cmp_active, cmp_to_ending, live_entries, IsExpiredAt, NotCross}
+use Rattle.plane.specs.SweepLine.Active.{Entry, cmp_active, cmp_to_ending, is_live_at, live_entries, IsExpiredAt, NotCross}
 use Rattle.plane.proofs.SweepLineLemmas.Adjacent.{All-left_out, AllPairs-before, AllPairs-after}
 use Rattle.plane.proofs.SweepLineLemmas.Advance.{advance}
 use Rattle.plane.proofs.LocateLemmas.Begun.{begin_of, end_of, IsOneOf, IsBegun, HasEnded, same_active, edge_at, is_one_of, end_is, IsBegun-more, IsBegun-before, begin_known, never_before_itself, IsCrossing-among}
@@ -179,6 +180,14 @@ module _ (edges : List Edge) (points : List Point) (events : List Event) (queue 
 
   pub end_live_onwards : All (λ entry. entry.0.edge.x0 <ℤ entry.0.edge.x1) (live_entries ending.edge.x1 stored)
   end_live_onwards = live_onwards edges points events queue k event inside is stored answers swept ending.edge.x1 here
+
+  -- and stands in order
+  pub end_order : AllPairs (λ one other. cmp_active one.0 other.0 ≡ Less) (live_entries ending.edge.x1 stored)
+  end_order =
+      let line = line_at edges points events queue k event inside is stored answers swept ending.edge.x1 here in
+      let Before : Entry → Entry → Type 0 = λ one other. cmp_active one.0 other.0 ≡ Less in
+      subst (AllPairs Before) (sym (live_at edges points events queue k event inside is stored answers swept ending.edge.x1 here))
+      (AllPairs-filter Before (is_live_at ending.edge.x1) swept.line line.order)
 
   -- the order to the edge is monotone along what is live
   pub end_requires : IsMonotoneAlong (cmp_to_ending ending) (live_entries ending.edge.x1 stored)

@@ -1,6 +1,7 @@
 -- What is read ahead are the payloads of the events of a queue, and how that of the next one is served.
 use Rattle.std.proofs.Common.{◌≡◌, inl, inr, ℕ, ◌<◌, ◌+◌, ℤ, pos, ◌<ℤ◌, List, [], ◌∷◌, ◌++◌, Option, Some, length, get_or, set, take, sym, ap, ◌∙◌, subst, arith}
-use Rattle.std.specs.List.{All}
+use Rattle.std.specs.List.{All, AllPairs}
+use Rattle.std.specs.declared.cmp.Ordering.TheVariants.{Less}
 use Rattle.std.proofs.lemmas.Bool.{cases_lt}
 use Rattle.std.proofs.lemmas.List.{get_or_append_left, get_or_default, get_or_push, length-append}
 use Rattle.i_tree.specs.Root.Along.{AreNeighbours, IsMonotoneAlong}
@@ -24,7 +25,7 @@ use Rattle.plane.specs.Locate.Serving.{HaveCrossing, IsPlaceUnder}
 use Rattle.plane.specs.SweepLine.Active.{Entry, cmp_active, cmp_to_ending, live_entries, IsExpiredAt, NotCross}
 use Rattle.plane.proofs.LocateLemmas.Answering.{point_requires, Swept-answered}
 use Rattle.plane.proofs.LocateLemmas.Beginning.{begin_sorted, begin_last, begin_onwards, begin_crossing, Swept-begun}
-use Rattle.plane.proofs.LocateLemmas.Ending.{end_requires, end_onwards, end_live_onwards, end_crossing, Swept-ended}
+use Rattle.plane.proofs.LocateLemmas.Ending.{end_requires, end_onwards, end_live_onwards, end_order, end_crossing, Swept-ended}
 use Rattle.plane.proofs.LocateLemmas.Swept.{Swept}
 
 -- what the lists are read by where they end
@@ -89,6 +90,11 @@ module _ (edges : List Edge) (points : List Point) (events : List Event) (queue 
     ends_live_onwards =
         let (ends, (edge, stands, same, place)) = this (Ends active) is in
         end_live_onwards edges points events queue k event inside here stored answers swept edge ends active (of_edge active edge stands same) place
+
+    pub ends_order : AllPairs (λ one other. cmp_active one.0 other.0 ≡ Less) (live_entries active.edge.x1 stored)
+    ends_order =
+        let (ends, (edge, stands, same, place)) = this (Ends active) is in
+        end_order edges points events queue k event inside here stored answers swept edge ends active (of_edge active edge stands same) place
 
     pub ends_crossing : (i j : ℕ) → HaveCrossing (live_entries active.edge.x1 stored) i j → IsCrossing edges i j
     ends_crossing =

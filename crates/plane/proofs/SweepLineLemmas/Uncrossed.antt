@@ -1,12 +1,15 @@
 -- Edges that don't cross, since the one is nowhere above the other.
-use Rattle.std.proofs.Common.{ℤ, ◌≤ℤ◌, ◌<ℤ◌, arith, subst}
+use Rattle.std.proofs.Common.{◌≢◌, ℤ, ◌≤ℤ◌, ◌<ℤ◌, arith, ap, sym, subst}
+use Rattle.std.specs.Cmp.{int_cmp_is}
+use Rattle.std.specs.Ordering.{int_cmp, nat_cmp}
+use Rattle.std.specs.declared.cmp.Ordering.TheVariants.{Greater}
 use Rattle.std.specs.Int.{int_min, int_max}
-use Rattle.std.proofs.lemmas.Int.{ints, clamps}
+use Rattle.std.proofs.lemmas.Int.{ints, clamps, by_lt_z}
 use Rattle.plane.specs.declared.edge.Edge.{Edge}
 use Rattle.plane.specs.declared.sweep_line.active.ActiveEdge.{ActiveEdge}
 use Rattle.plane.specs.SweepLine.Crossings.{Cross}
-use Rattle.plane.specs.SweepLine.Heights.{rightwards, height_by_runs, Spans, IsLowerAt}
-use Rattle.plane.specs.SweepLine.Active.{common_start}
+use Rattle.plane.specs.SweepLine.Heights.{rightwards, height_by_runs, rise_by_run, Spans, IsLowerAt}
+use Rattle.plane.specs.SweepLine.Active.{cmp_active, common_start, then_cmp}
 use Rattle.plane.proofs.SweepLineLemmas.Gaps.{upto_between}
 use Rattle.plane.specs.SweepLine.Heights.{IsUpto}
 use Rattle.plane.proofs.SweepLineLemmas.Order.{common_end}
@@ -51,3 +54,19 @@ upto_uncrossed one other last some some_too ends first upto cross =
     let here : IsUpto one.edge other.edge cross.above = upto_between one.edge other.edge (common_start one other) x last start (omega (arith, ints, within, ends)) first upto in
     let above = lower_of other.edge one.edge x some_too some cross.is_above.lower in
     omega (arith, ints, here, above)
+
+not_greater : (a b : ℤ) → int_cmp a b ≢ Greater → a ≤ℤ b
+not_greater a b says = by_lt_z b a (λ above. absurd (says (sym (int_cmp_is a b Greater above)))) (λ upto. upto)
+
+-- where the one doesn't stand behind the other, nor is above it at the last common x, they don't cross
+pub ahead_uncrossed : (one other : ActiveEdge) → one.edge.x0 <ℤ one.edge.x1 → other.edge.x0 <ℤ other.edge.x1 → cmp_active one other ≢ Greater
+    → int_cmp (height_by_runs one.edge other.edge (common_end one other)) (height_by_runs other.edge one.edge (common_end one other)) ≢ Greater → ¬ (Cross one.edge other.edge)
+ahead_uncrossed one other some some_too stands ends =
+    let start = common_start one other in
+    let end = common_end one other in
+    let heights = int_cmp (height_by_runs one.edge other.edge start) (height_by_runs other.edge one.edge start) in
+    let slopes = int_cmp (rise_by_run one.edge other.edge) (rise_by_run other.edge one.edge) in
+    let begins = then_cmp (int_cmp one.edge.x0 other.edge.x0) (nat_cmp one.place other.place) in
+    upto_uncrossed one other end some some_too (omega (arith, ints))
+    (not_greater (height_by_runs one.edge other.edge start) (height_by_runs other.edge one.edge start) (λ greater. stands (ap (λ r. then_cmp r (then_cmp slopes begins)) greater)))
+    (not_greater (height_by_runs one.edge other.edge end) (height_by_runs other.edge one.edge end) ends)

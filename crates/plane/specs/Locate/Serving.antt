@@ -1,11 +1,11 @@
 -- What the private calls of `locate` tell of the status: which entry answers for a point, and which entries cross.
-use Rattle.std.specs.Prelude.{◌≡◌, ◌≢◌, ◌≤◌, ◌⊎◌, ℕ, List, Contains, Option, Some, None}
+use Rattle.std.specs.Prelude.{◌≡◌, ◌≢◌, ◌≤◌, ◌<ℤ◌, ◌⊎◌, ⊤, ℕ, List, Contains, Option, Some, None}
 use Rattle.std.specs.declared.cmp.Ordering.TheVariants.{Greater}
 use Rattle.plane.specs.declared.point.Point.{Point}
 use Rattle.plane.specs.declared.sweep_line.active.ActiveEdge.{ActiveEdge}
 use Rattle.i_tree.specs.Root.Along.{IsLast}
 use Rattle.plane.specs.SweepLine.Crossings.{Cross}
-use Rattle.plane.specs.SweepLine.Active.{Entry, cmp_to_point}
+use Rattle.plane.specs.SweepLine.Active.{Entry, cmp_active, cmp_to_point}
 
 -- Two active edges cross, and these are their places, the lesser first.
 pub record ArePlacesOfCrossing (one other : ActiveEdge) (i j : ℕ) : Type 0 where
@@ -32,3 +32,8 @@ place_of None = None
 abbrev pub IsPlaceUnder : Point → List Entry → Option ℕ → Type 0
 IsPlaceUnder point entries place =
     (found : Option Entry) × IsLast (λ entry. cmp_to_point point entry.0 ≢ Greater) entries found × (place ≡ place_of found)
+
+-- two entries, where both are there, go to the right, and the first doesn't stand behind the second along the line
+abbrev pub AreInOrder : Option Entry → Option Entry → Type 0
+AreInOrder (Some one) (Some other) = (one.0.edge.x0 <ℤ one.0.edge.x1) × (other.0.edge.x0 <ℤ other.0.edge.x1) × (cmp_active one.0 other.0 ≢ Greater)
+AreInOrder _ _ = ⊤

@@ -1,7 +1,9 @@
 //! Which edge lies straight below each point, and which edges cross.
 
-ghost use Rattle.std.specs.Prelude.{◌≡◌, ◌++◌, [], ℕ, List, Option, OnOk, OnErr};
+ghost use Rattle.std.specs.Prelude.{◌≡◌, ◌≤◌, ◌++◌, [], ℕ, List, Option, length, OnOk, OnErr};
 ghost use Rattle.std.specs.List.{AllZip};
+ghost use Rattle.i_tree.specs.declared.Refusal.{Refusal};
+ghost use Rattle.i_tree.specs.declared.Refusal.TheVariants.{OutOfMemory};
 ghost use Rattle.plane.specs.Locate.Answers.{IsPlaceBelow};
 ghost use Rattle.plane.specs.SweepLine.Crossings.{IsCrossing, NoneCross};
 
@@ -29,8 +31,9 @@ mod sweep;
 ///
 /// Where two edges cross, as `cross` says, the answer is `Cross`, which tells the places of two that do, the lesser first.
 /// `Refused` comes where memory for the sweep was refused, or where the status refused an edge, whose cause it tells; it may
-/// come where edges cross, too. After any fault `out` is as it was. What the status holds is removed before and after the
-/// sweep, in every case. The memory is that of `out`.
+/// come where edges cross, too. A status that has room for as many as there are edges refuses none: then the cause is always
+/// `OutOfMemory`. After any fault `out` is as it was. What the status holds is removed before and after the sweep, in every
+/// case. The memory is that of `out`.
 ///
 /// For e edges and p points it compares O((e + p) log (e + p)) times beside the calls of the status, which are at most two for
 /// each edge and one for each point. The sweep is our own, and not of the Rust crate. It is the textbook's sweep line after
@@ -50,6 +53,8 @@ where
         × AllZip (IsPlaceBelow edges.now) points.now answers) }
     ensures crossing { (i j : ℕ) → result ≡ Err (LocateFault.Cross i j) → IsCrossing edges.now i j }
     ensures err { OnErr result (out.new.items ≡ out.old.items) }
+    ensures refused { length edges.now ≤ C.room status.old → (cause : Refusal) →
+        result ≡ Err (LocateFault.Refused cause) → cause ≡ OutOfMemory }
     ensures empty { C.stored status.new ≡ [] }
 {
     status.clear();
@@ -75,12 +80,16 @@ where
         × AllZip (IsPlaceBelow edges.now) points.now answers) }
     ensures crossing { (i j : ℕ) → result ≡ Err (LocateFault.Cross i j) → IsCrossing edges.now i j }
     ensures err { OnErr result (out.new.items ≡ out.old.items) }
+    ensures refused { length edges.now ≤ C.room status.old → (cause : Refusal) →
+        result ≡ Err (LocateFault.Refused cause) → cause ≡ OutOfMemory }
 {
     let alloc = *out.allocator();
     let events = events_of(alloc, edges, points)?;
-    let mut answers = Vec::new(alloc);
-    answers.resize(points.len(), None)?;
-    serve_all(alloc, status, edges, points, &events, &mut answers)?;
-    out.extend_from_slice(&answers)?;
+    let first = out.len();
+    out.resize(first + points.len(), None)?;
+    if let Err(fault) = serve_all(alloc, status, edges, points, &events, &mut out[first..]) {
+        out.truncate(first);
+        return Err(fault);
+    }
     Ok(())
 }

@@ -1,14 +1,17 @@
 //! The sweep among edges: what is done at each event.
 
-ghost use Rattle.std.specs.Prelude.{◌≡◌, ◌<ℤ◌, ◌∷◌, [], ℕ, All, Option, length, OnOk};
+ghost use Rattle.std.specs.Prelude.{◌≡◌, ◌≢◌, ◌≤◌, ◌<◌, ◌<ℤ◌, ◌∷◌, [], ℕ, All, AllPairs, Option, length, OnOk};
 ghost use Rattle.std.specs.List.{AllZip};
+ghost use Rattle.i_tree.specs.declared.Refusal.{Refusal};
+ghost use Rattle.i_tree.specs.declared.Refusal.TheVariants.{OutOfMemory};
 ghost use Rattle.i_tree.specs.Root.Along.{AreNeighbours, IsMonotoneAlong};
 ghost use Rattle.i_tree.specs.Root.Change.{Without};
+ghost use Rattle.std.specs.declared.cmp.Ordering.TheVariants.{Less};
 ghost use Rattle.plane.specs.Locate.Answers.{IsPlaceBelow};
 ghost use Rattle.plane.specs.SweepLine.Crossings.{IsCrossing, NoneCross};
 ghost use Rattle.plane.specs.Locate.Events.{IsQueue};
 ghost use Rattle.plane.specs.SweepLine.Line.{BeganBefore, IsSortedAt, JoinsAt};
-ghost use Rattle.plane.specs.Locate.Serving.{AreCrossing, HaveCrossing, IsPlaceUnder};
+ghost use Rattle.plane.specs.Locate.Serving.{AreCrossing, AreInOrder, HaveCrossing, IsPlaceUnder};
 ghost use Rattle.plane.specs.SweepLine.Active.{AllRight, Entry, live_entries, IsExpiredAt, NotCross};
 ghost use Rattle.plane.specs.SweepLine.Active.{cmp_active, cmp_to_ending, cmp_to_point};
 
@@ -18,7 +21,7 @@ use crate::edge::Edge;
 use crate::point::Point;
 use crate::sweep_line::active::{ActiveEdge, compare_to_ending};
 use crate::sweep_line::crossing::cross;
-use crate::sweep_line::heights::compare_to_point;
+use crate::sweep_line::heights::{compare_ends, compare_to_point};
 use crate::sweep_line::insertion::insert_beginning;
 use event_queue::Event;
 use i_tree::status::exp::StatusCollection;
@@ -42,6 +45,8 @@ where
     requires room { length answers.old ≡ length points.now }
     ensures ok { OnOk result (NoneCross edges.now × AllZip (IsPlaceBelow edges.now) points.now answers.new) }
     ensures crossing { (i j : ℕ) → result ≡ Err (LocateFault.Cross i j) → IsCrossing edges.now i j }
+    ensures refused { length edges.now ≤ C.room status.old → (cause : Refusal) →
+        result ≡ Err (LocateFault.Refused cause) → cause ≡ OutOfMemory }
 {
     let mut read_ahead = ReadAhead::new(alloc);
     for next in 0..events.len() {
@@ -64,13 +69,17 @@ fn end<C: StatusCollection<ActiveEdge, i64, ()>>(
         (live_entries ending.edge.x1 (C.stored status.old)) }
     requires right { ending.edge.x0 <ℤ ending.edge.x1 }
     requires all_right { AllRight (live_entries ending.edge.x1 (C.stored status.old)) }
+    requires order { AllPairs (λ one other. cmp_active one.0 other.0 ≡ Less)
+        (live_entries ending.edge.x1 (C.stored status.old)) }
     ensures ok { OnOk result (
         (found : Option Entry × Option Entry)
         × AreNeighbours (cmp_to_ending ending) (live_entries ending.edge.x1 (C.stored status.old)) found
         × NotCross found.0 found.1) }
     ensures crossing { (i j : ℕ) → result ≡ Err (LocateFault.Cross i j) →
         HaveCrossing (live_entries ending.edge.x1 (C.stored status.old)) i j }
+    ensures never_refused { (cause : Refusal) → result ≢ Err (LocateFault.Refused cause) }
     ensures kept { Without (IsExpiredAt ending.edge.x1) (C.stored status.old) (C.stored status.new) }
+    ensures room { C.room status.old ≤ C.room status.new }
 {
     let stands = |other: ActiveEdge| -> Ordering
         requires right { other.edge.x0 <ℤ other.edge.x1 }
@@ -98,6 +107,9 @@ fn begin<C: StatusCollection<ActiveEdge, i64, ()>>(
         × JoinsAt beginning.edge.x0 (beginning, tt) (C.stored status.old) (C.stored status.new)) }
     ensures crossing { (i j : ℕ) → result ≡ Err (LocateFault.Cross i j) →
         HaveCrossing ((beginning, tt) ∷ live_entries beginning.edge.x0 (C.stored status.old)) i j }
+    ensures with_room { length (C.stored status.old) < C.room status.old → (cause : Refusal) →
+        result ≢ Err (LocateFault.Refused cause) }
+    ensures room { C.room status.old ≤ C.room status.new }
 {
     let (below, above) = insert_beginning(status, beginning)?;
     let begun = Some((beginning, ()));
@@ -105,17 +117,23 @@ fn begin<C: StatusCollection<ActiveEdge, i64, ()>>(
     check_neighbours(begun, above)
 }
 
-/// Whether two neighbours, where both are there, don't cross.
+/// Whether two neighbours, where both are there, don't cross. They stand in order, so that the one isn't above the other where
+/// they begin to share an x.
 fn check_neighbours(
     below: Option<(ActiveEdge, ())>,
     above: Option<(ActiveEdge, ())>,
 ) -> Result<(), LocateFault>
+    requires order { AreInOrder below above }
     ensures ok { OnOk result (NotCross below above) }
     ensures crossing { (i j : ℕ) → result ≡ Err (LocateFault.Cross i j) → AreCrossing below above i j }
+    ensures never_refused { (cause : Refusal) → result ≢ Err (LocateFault.Refused cause) }
 {
     let (Some((below, _)), Some((above, _))) = (below, above) else {
         return Ok(());
     };
+    if compare_ends(below.edge, above.edge) != Ordering::Greater {
+        return Ok(());
+    }
     if cross(below.edge, above.edge) {
         let first = below.place.min(above.place);
         let second = below.place.max(above.place);
@@ -132,6 +150,7 @@ fn place_below<C: StatusCollection<ActiveEdge, i64, ()>>(
     requires { IsSortedAt point.x (live_entries point.x (C.stored status.old)) }
     ensures value { IsPlaceUnder point (live_entries point.x (C.stored status.old)) result }
     ensures kept { Without (IsExpiredAt point.x) (C.stored status.old) (C.stored status.new) }
+    ensures room { C.room status.old ≤ C.room status.new }
 {
     let stands = |active: ActiveEdge| -> Ordering
         ensures { result ≡ cmp_to_point point active }
