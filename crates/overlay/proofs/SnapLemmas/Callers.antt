@@ -27,6 +27,8 @@ pub use Rattle.overlay.proofs.SnapLemmas.Along.{Passes-in_box, Passes-ordered, U
 pub use Rattle.overlay.proofs.SnapLemmas.Sums.{IsClosed-permutation}
 -- Two edges that aren't parallel have one crossing, whichever is named first, and no edge crosses itself.
 pub use Rattle.overlay.proofs.SnapLemmas.Crossing.{CrossAt-unique, CrossAt-exchanged, CrossAt-itself}
+-- Where each chain stops among the points of all, and that it stands there from where the one before it stops on.
+pub use Rattle.overlay.proofs.ChainLemmas.Offsets.{offset-at, list-between}
 
 -- ---- hot points
 
