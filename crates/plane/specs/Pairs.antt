@@ -3,5 +3,6 @@ pub mod Bounds
 pub mod OfTwo
 pub mod Pairs
 pub mod Parts
+pub mod Roles
 pub mod Strips
 pub mod Sweep

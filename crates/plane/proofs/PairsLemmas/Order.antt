@@ -1,9 +1,8 @@
 -- All parts, once they are sorted.
-use Rattle.std.proofs.Common.{◌≡◌, ◌≢◌, inl, inr, ◌<◌, ◌<ℤ◌, ◌≤ℤ◌, false, List, length, get_or, Ordering, Less, Equal, Greater, refl, sym, arith}
+use Rattle.std.proofs.Common.{◌≡◌, ◌≢◌, ◌⊎◌, inl, inr, ◌<◌, ◌≤◌, ◌<ℤ◌, false, List, length, get_or, Ordering, Less, Equal, Greater, refl, sym, arith}
 use Rattle.std.specs.List.Sorted.{IsPermutation, IsSorted}
 use Rattle.std.specs.Ordering.{MatchOrdering, int_cmp, nat_cmp, ordering_then, is_lt}
 use Rattle.std.proofs.lemmas.Cmp.{ranked, int_ranked}
-use Rattle.std.proofs.lemmas.Int.{ints}
 use Rattle.std.proofs.lemmas.List.Elements.{All-weaker}
 use Rattle.std.proofs.lemmas.List.Sorted.{All-permutation, Contains-permutation, ranks_by, sorted_far}
 use Rattle.std.proofs.lemmas.Option.{slice_get_within}
@@ -15,16 +14,22 @@ use Rattle.plane.specs.declared.pairs.strips.Strips.{Strips}
 use Rattle.plane.proofs.PairsLemmas.Bags.{AllPairs-permutation}
 use Rattle.plane.specs.declared.pairs.items.Bounds.{Bounds}
 
--- what isn't less by the order of parts stands in no earlier strip, nor in the same one with a lesser x
+-- what isn't less by the order of parts stands in no earlier strip, nor in the same one with a lesser x, nor there with a
+-- lesser place
 not_behind : (first second : Part) → is_lt (part_order.cmp second first) ≡ false → NotBehind first second
 not_behind first second at_least =
     by_strip (nat_cmp second.strip first.strip) (ranked second.strip first.strip (nat_cmp second.strip first.strip) refl) at_least
   where
+    by_place : (o : Ordering) → MatchOrdering o (second.place < first.place) (second.place ≡ first.place) (first.place < second.place) → is_lt o ≡ false → first.place ≤ second.place
+    by_place Less below at_least = cc
+    by_place Equal same at_least = omega (arith, same)
+    by_place Greater above at_least = omega (arith, above)
+
     by_left : (o : Ordering) → MatchOrdering o (second.left <ℤ first.left) (second.left ≡ first.left) (first.left <ℤ second.left)
-        → is_lt (ordering_then o (nat_cmp second.place first.place)) ≡ false → first.left ≤ℤ second.left
+        → is_lt (ordering_then o (nat_cmp second.place first.place)) ≡ false → (first.left <ℤ second.left) ⊎ ((first.left ≡ second.left) × (first.place ≤ second.place))
     by_left Less below at_least = cc
-    by_left Equal same at_least = omega (arith, ints)
-    by_left Greater above at_least = omega (arith, ints)
+    by_left Equal same at_least = inr (sym same, by_place (nat_cmp second.place first.place) (ranked second.place first.place (nat_cmp second.place first.place) refl) at_least)
+    by_left Greater above at_least = inl above
 
     by_strip : (o : Ordering) → MatchOrdering o (second.strip < first.strip) (second.strip ≡ first.strip) (first.strip < second.strip)
         → is_lt (ordering_then o (ordering_then (int_cmp second.left first.left) (nat_cmp second.place first.place))) ≡ false → NotBehind first second

@@ -1,52 +1,81 @@
 -- An item is served: what comes of the calls that it takes.
-use Rattle.std.proofs.Common.{◌≡◌, ℕ, pos, ℤ, ◌≤ℤ◌, true, Option, Some, List, [], ◌∷◌, ◌++◌, sym, ap, ◌∙◌, subst}
+use Rattle.std.proofs.Common.{◌≡◌, inl, inr, ℕ, ◌<◌, pos, ℤ, ◌<ℤ◌, ◌≤ℤ◌, true, false, Option, Some, None, List, [], ◌∷◌, ◌++◌, Ordering, Less, Equal, Greater, refl, sym, ap, ◌∙◌, subst, arith}
 use Rattle.std.specs.List.Sorted.{IsPermutation}
-use Rattle.std.specs.Ordering.{int_cmp}
+use Rattle.std.specs.Ordering.{MatchOrdering, int_cmp, is_lt}
 use Rattle.std.proofs.lemmas.Bool.{cond-true}
-use Rattle.std.proofs.lemmas.List.Sorted.{IsPermutation-cons, IsPermutation-trans}
+use Rattle.std.proofs.lemmas.Cmp.{int_ranked}
+use Rattle.std.proofs.lemmas.Int.{ints}
 use Rattle.i_tree.proofs.RootLemmas.Numbers.{int_ge-upto}
 use Rattle.i_tree.specs.Root.Live.{is_live}
 use Rattle.i_tree.specs.Seg.Buckets.{Buckets, Filters}
-use Rattle.i_tree.specs.Seg.Members.{Member, Appends, Joins, answer, live_members, with_member}
+use Rattle.i_tree.specs.Seg.Members.{Member, Appends, Joins, NotBefore, answer, live_members}
 use Rattle.i_tree.specs.Seg.Ranges.{interval_over, segment_over}
 use Rattle.i_tree.specs.declared.seg.exp.SegRange.{SegRange}
 use Rattle.plane.specs.Pairs.Strips.{range_in}
-use Rattle.plane.specs.Pairs.Sweep.{GainsPairs, Serves, last_of, member_in}
+use Rattle.plane.specs.Pairs.Sweep.{Asks, GainsPairs, JoinsIn, last_of, member_in}
 use Rattle.plane.specs.declared.pairs.strips.Strips.{Strips}
 use Rattle.plane.specs.declared.pairs.sweep.Placed.{Placed}
 use Rattle.plane.specs.declared.pairs.items.Bounds.{Bounds}
-use Rattle.plane.specs.Pairs.Bounds.{MeetInBoxes}
+use Rattle.plane.specs.Pairs.Bounds.{IsBox}
+use Rattle.plane.specs.declared.pairs.roles.Roles.{Roles}
+use Rattle.plane.proofs.PairsLemmas.Pairs.{GainsPairs-none}
 
 -- an item is live at each x up to its greater one
 pub is_live-upto : {X : Type 0} (bounds : X → Bounds) (time : ℤ) (placed : Placed X) → time ≤ℤ (bounds placed.item).right → is_live (last_of bounds) int_cmp time placed ≡ true
 is_live-upto bounds time placed within = int_ge-upto (bounds placed.item).right time within
 
--- What the calls ensure: a query at the time over the range, from which `near` is appended to an empty list, and which
--- leaves `mid`; pairs with what it found; and an insertion, which leaves `new`.
-module _ {X : Type 0} {bounds : X → Bounds} {Meeting : X → X → Type 0} (boxed : MeetInBoxes bounds Meeting) (strips : Strips) (strip : ℕ) (placed : Placed X) (buckets : Buckets) (old mid new : List (Member (Placed X))) (before after : List (ℕ × ℕ)) (cleared near : List (Placed X))
-    (time : ℤ) (range : SegRange ℕ) (begins : time ≡ (bounds placed.item).left) (heights : range ≡ range_in strips strip (bounds placed.item)) where
-  pub Serves-called : cleared ≡ [] → Appends (answer (last_of bounds) int_cmp time (interval_over pos buckets range) old) cleared near
+-- What the calls ensure that a query takes: at the time over the range, from which `near` is appended to an empty list, and
+-- which leaves `mid`; and pairs with what it found.
+module _ {X : Type 0} {bounds : X → Bounds} {Meeting : X → X → Type 0} (roles : Roles) (strips : Strips) (strip : ℕ) (placed : Placed X) (buckets : Buckets) (old mid : List (Member (Placed X))) (before after : List (ℕ × ℕ)) where
+  pub Asks-called : (cleared near : List (Placed X)) (time : ℤ) (range : SegRange ℕ) → time ≡ (bounds placed.item).left → range ≡ range_in strips strip (bounds placed.item)
+      → cleared ≡ [] → Appends (answer (last_of bounds) int_cmp time (interval_over pos buckets range) old) cleared near
       → GainsPairs bounds Meeting strips strip placed near before after → IsPermutation (live_members (last_of bounds) int_cmp time old) mid → Filters buckets
-      → (latest : Option ℤ) → latest ≡ Some time → (own : Buckets) → own ≡ buckets → Joins (last_of bounds) int_cmp latest (segment_over pos own range placed) mid new
-      → Serves bounds Meeting strips strip placed buckets old new before after
-  Serves-called empty (found, same, appended) gains kept filters latest asked own are joined =
+      → Asks bounds Meeting roles strips strip placed buckets old mid before after
+  Asks-called cleared near time range begins heights empty (found, same, appended) gains kept filters =
       let alone : near ≡ found = appended ∙ ap (λ (front : List (Placed X)). front ++ found) empty in
       let begin = (bounds placed.item).left in
-      let member = member_in bounds strips strip buckets placed in
-      let live = live_members (last_of bounds) int_cmp begin old in
-      let kept' = subst (λ (t : ℤ). IsPermutation (live_members (last_of bounds) int_cmp t old) mid) begins kept in
-      let joined' : IsPermutation (with_member (last_of bounds) int_cmp (Some begin) member mid) new =
-      subst (λ (r : SegRange ℕ). IsPermutation (with_member (last_of bounds) int_cmp (Some begin) (segment_over pos buckets r placed) mid) new) heights
-      (subst (λ (t : Option ℤ). IsPermutation (with_member (last_of bounds) int_cmp t (segment_over pos buckets range placed) mid) new) (asked ∙ ap (λ (t : ℤ). Some t) begins)
-      (subst (λ (b : Buckets). IsPermutation (with_member (last_of bounds) int_cmp latest (segment_over pos b range placed) mid) new) are joined)) in
       record {
         others = near;
-        answers = subst (λ (r : SegRange ℕ). IsPermutation (answer (last_of bounds) int_cmp begin (interval_over pos buckets r) old) near) heights
-            (subst (λ (t : ℤ). IsPermutation (answer (last_of bounds) int_cmp t (interval_over pos buckets range) old) near) begins
-            (subst (λ (list : List (Placed X)). IsPermutation (answer (last_of bounds) int_cmp time (interval_over pos buckets range) old) list) (sym alone) same));
+        answers = inl (
+          subst (λ (r : SegRange ℕ). IsPermutation (answer (last_of bounds) int_cmp begin (interval_over pos buckets r) old) near) heights
+              (subst (λ (t : ℤ). IsPermutation (answer (last_of bounds) int_cmp t (interval_over pos buckets range) old) near) begins
+              (subst (λ (list : List (Placed X)). IsPermutation (answer (last_of bounds) int_cmp time (interval_over pos buckets range) old) list) (sym alone) same)),
+          filters,
+        );
         gains = gains;
-        joins = IsPermutation-trans (member ∷ live) (member ∷ mid) new (IsPermutation-cons member live mid kept')
-            (subst (λ (all : List (Member (Placed X))). IsPermutation all new)
-            (cond-true (is_live (last_of bounds) int_cmp begin placed) (member ∷ mid) mid (is_live-upto bounds begin placed (boxed.proper placed.item).wide)) joined');
-        filters = filters;
+        keeps = inl (subst (λ (t : ℤ). IsPermutation (live_members (last_of bounds) int_cmp t old) mid) begins kept);
       }
+
+  -- and where it isn't its role
+  pub Asks-silent : placed.place < roles.asking → mid ≡ old → after ≡ before → Asks bounds Meeting roles strips strip placed buckets old mid before after
+  Asks-silent silent same none = record {
+    others = [];
+    answers = inr (silent, refl);
+    gains = subst (GainsPairs bounds Meeting strips strip placed [] before) (sym none) (GainsPairs-none bounds Meeting strips strip placed [] before);
+    keeps = inr same;
+  }
+
+-- And what an insertion does, where no time came that is behind where the item begins.
+module _ {X : Type 0} (bounds : X → Bounds) (roles : Roles) (strips : Strips) (strip : ℕ) (placed : Placed X) (buckets : Buckets) (old new : List (Member (Placed X))) where
+  pub JoinsIn-called : (latest : Option ℤ) (range : SegRange ℕ) → IsBox (bounds placed.item) → ((time : ℤ) → latest ≡ Some time → time ≤ℤ (bounds placed.item).left) → range ≡ range_in strips strip (bounds placed.item)
+      → Joins (last_of bounds) int_cmp latest (segment_over pos buckets range placed) old new → JoinsIn bounds roles strips strip placed buckets old new
+  JoinsIn-called latest range proper in_time heights joined =
+      inl (joins latest in_time (subst (λ (r : SegRange ℕ). Joins (last_of bounds) int_cmp latest (segment_over pos buckets r placed) old new) heights joined))
+    where
+      joins : (latest : Option ℤ) → ((time : ℤ) → latest ≡ Some time → time ≤ℤ (bounds placed.item).left) → Joins (last_of bounds) int_cmp latest (member_in bounds strips strip buckets placed) old new
+          → IsPermutation (member_in bounds strips strip buckets placed ∷ old) new
+      joins None order joined = joined
+      joins (Some time) order joined =
+          let first = order time refl in
+          let wide = proper.wide in
+          subst (λ (all : List (Member (Placed X))). IsPermutation all new)
+          (cond-true (is_live (last_of bounds) int_cmp time placed) (member_in bounds strips strip buckets placed ∷ old) old (is_live-upto bounds time placed (omega (arith, ints, first, wide)))) joined
+
+-- a time that isn't before the latest one is at least that
+pub upto_time : (latest : Option ℤ) (x time : ℤ) → NotBefore int_cmp latest x → latest ≡ Some time → time ≤ℤ x
+upto_time latest x time order is = by_order (int_cmp x time) (int_ranked x time (int_cmp x time) refl) (subst (λ (l : Option ℤ). NotBefore int_cmp l x) is order)
+  where
+    by_order : (o : Ordering) → MatchOrdering o (x <ℤ time) (x ≡ time) (time <ℤ x) → is_lt o ≡ false → time ≤ℤ x
+    by_order Less below order = cc
+    by_order Equal same order = omega (arith, ints)
+    by_order Greater above order = omega (arith, ints)

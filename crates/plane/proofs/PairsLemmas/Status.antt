@@ -1,5 +1,5 @@
 -- What is stored for a strip once some parts are served, and how one more is.
-use Rattle.std.proofs.Common.{◌≡◌, ◌≢◌, ◌⊎◌, inl, inr, ℕ, ℤ, pos, ◌≤ℤ◌, true, Bool, Option, Some, None, List, [], ◌∷◌, ◌++◌, get_or, sym, ap, ◌∙◌, subst, arith}
+use Rattle.std.proofs.Common.{◌≡◌, ◌≢◌, ◌⊎◌, inl, inr, ℕ, ◌<◌, ◌≤◌, ℤ, pos, ◌<ℤ◌, ◌≤ℤ◌, true, Bool, Option, Some, None, List, [], ◌∷◌, ◌++◌, get_or, sym, ap, ◌∙◌, subst, arith}
 use Rattle.std.specs.List.{AllPairs, Contains, filter, slice_get}
 use Rattle.std.specs.Ordering.{int_cmp}
 use Rattle.std.proofs.lemmas.Int.{ints}
@@ -8,15 +8,17 @@ use Rattle.std.proofs.lemmas.List.Kept.{AllPairs-cons, AllPairs-filter}
 use Rattle.std.proofs.lemmas.List.Sorted.{Contains-permutation, IsPermutation-sym}
 use Rattle.std.proofs.lemmas.Option.{same_Some}
 use Rattle.i_tree.specs.Root.Live.{is_live}
-use Rattle.i_tree.specs.Seg.Buckets.{Buckets, overlap}
+use Rattle.i_tree.specs.Seg.Buckets.{Buckets, Filters, overlap}
 use Rattle.i_tree.specs.Seg.Members.{Member, answer, live_members}
 use Rattle.i_tree.specs.Seg.Ranges.{interval_over}
 use Rattle.i_tree.proofs.RootLemmas.Joined.{AllPairs-to_map}
 use Rattle.i_tree.proofs.RootLemmas.Lists.{Contains-here, Contains-there, Contains-filter}
 use Rattle.plane.specs.Pairs.Parts.{part_of}
+use Rattle.plane.specs.Pairs.Roles.{IsBefore}
 use Rattle.plane.specs.Pairs.Strips.{range_in}
 use Rattle.plane.specs.Pairs.Sweep.{Serves, last_of, member_in}
 use Rattle.plane.specs.declared.pairs.parts.Part.{Part}
+use Rattle.plane.specs.declared.pairs.roles.Roles.{Roles}
 use Rattle.plane.specs.declared.pairs.strips.Strips.{Strips}
 use Rattle.plane.specs.declared.pairs.sweep.Placed.{Placed}
 use Rattle.plane.proofs.PairsLemmas.Bags.{AllPairs-permutation, Contains-from_filter, Contains-map, Contains-from_map, here_or_there}
@@ -33,74 +35,110 @@ pub record IsServed {X : Type 0} (bounds : X → Bounds) (items : List X) (serve
   pub stands : slice_get items placed.place ≡ Some placed.item
   pub part : Contains served (part_of placed.place (bounds placed.item) strip)
 
--- Members are of parts that are served in the strip. Each of these is there that is live at the latest time, once. That
--- time is where one of them begins.
-pub record Holds {X : Type 0} (bounds : X → Bounds) (strips : Strips) (items : List X) (buckets : Buckets) (served : List Part) (strip : ℕ) (latest : Option ℤ) (members : List (Member (Placed X))) : Type 0 where
-  pub has : (placed : Placed X) → IsServed bounds items served strip placed → ((time : ℤ) → latest ≡ Some time → time ≤ℤ (bounds placed.item).right) → Contains members (member_in bounds strips strip buckets placed)
+-- Members are of parts that are served in the strip. Each of these is there whose item joins and ends not before one of
+-- them begins, once. The latest time is where one of them begins.
+pub record Holds {X : Type 0} (bounds : X → Bounds) (roles : Roles) (strips : Strips) (items : List X) (buckets : Buckets) (served : List Part) (strip : ℕ) (latest : Option ℤ) (members : List (Member (Placed X))) : Type 0 where
+  pub has : (placed : Placed X) → IsServed bounds items served strip placed → placed.place < roles.joining → ((other : Placed X) → IsServed bounds items served strip other → (bounds other.item).left ≤ℤ (bounds placed.item).right) → Contains members (member_in bounds strips strip buckets placed)
   pub of : (member : Member (Placed X)) → Contains members member → (placed : Placed X) × IsServed bounds items served strip placed × (member ≡ member_in bounds strips strip buckets placed)
   pub once : AllPairs (λ one later. one.value.place ≢ later.value.place) members
   pub time : (time : ℤ) → latest ≡ Some time → (placed : Placed X) × IsServed bounds items served strip placed × ((bounds placed.item).left ≡ time)
 
 -- nothing is stored where no part in the strip is served
-pub Holds-nothing : {X : Type 0} (bounds : X → Bounds) (strips : Strips) (items : List X) (buckets : Buckets) (served : List Part) (strip : ℕ) (latest : Option ℤ) (members : List (Member (Placed X)))
-    → ((placed : Placed X) → IsServed bounds items served strip placed → ⊥) → members ≡ [] → latest ≡ None → Holds bounds strips items buckets served strip latest members
-Holds-nothing {X} bounds strips items buckets served strip latest members none empty unasked = record {
-  has = λ placed is _. absurd (none placed is);
+pub Holds-nothing : {X : Type 0} (bounds : X → Bounds) (roles : Roles) (strips : Strips) (items : List X) (buckets : Buckets) (served : List Part) (strip : ℕ) (latest : Option ℤ) (members : List (Member (Placed X)))
+    → ((placed : Placed X) → IsServed bounds items served strip placed → ⊥) → members ≡ [] → latest ≡ None → Holds bounds roles strips items buckets served strip latest members
+Holds-nothing {X} bounds roles strips items buckets served strip latest members none empty unasked = record {
+  has = λ placed is _ _. absurd (none placed is);
   of = λ member within. absurd (let gone : Contains [] member = subst (λ (all : List (Member (Placed X))). Contains all member) empty within in omega (arith, gone.1));
   once = subst (AllPairs (λ (one later : Member (Placed X)). one.value.place ≢ later.value.place)) (sym empty) (λ i j d below within. absurd (omega (arith, within)));
   time = λ time is. absurd (let no : None ≡ Some time = sym unasked ∙ is in cc);
 }
 
--- An item is served, whose part wasn't. Parts served before it in its strip begin at most where it does.
-module _ {X : Type 0} {bounds : X → Bounds} {Meeting : X → X → Type 0} (boxed : MeetInBoxes bounds Meeting) (strips : Strips) (items : List X) (buckets : Buckets) (served : List Part) (strip : ℕ) (latest : Option ℤ) (old new : List (Member (Placed X))) (holds : Holds bounds strips items buckets served strip latest old)
+-- what is before in one of two ways begins at most there
+pub begins_upto : (x y : ℤ) (P : Type 0) → (x <ℤ y) ⊎ ((x ≡ y) × P) → x ≤ℤ y
+begins_upto x y P (inl below) = omega (arith, ints)
+begins_upto x y P (inr (same, _)) = omega (arith, ints)
+
+-- An item is served, whose part wasn't. Parts served before it in its strip stand before it in their order.
+module _ {X : Type 0} {bounds : X → Bounds} {Meeting : X → X → Type 0} (boxed : MeetInBoxes bounds Meeting) (roles : Roles) (strips : Strips) (items : List X) (buckets : Buckets) (served : List Part) (strip : ℕ) (latest : Option ℤ) (old new : List (Member (Placed X))) (holds : Holds bounds roles strips items buckets served strip latest old)
     (placed : Placed X) (stands : slice_get items placed.place ≡ Some placed.item) (unserved : Contains served (part_of placed.place (bounds placed.item) strip) → ⊥)
-    (behind : (other : Placed X) → IsServed bounds items served strip other → (bounds other.item).left ≤ℤ (bounds placed.item).left)
-    (before after : List (ℕ × ℕ)) (serves : Serves bounds Meeting strips strip placed buckets old new before after) where
+    (earlier : (other : Placed X) → IsServed bounds items served strip other → IsBefore bounds other placed)
+    (before after : List (ℕ × ℕ)) (serves : Serves bounds Meeting roles strips strip placed buckets old new before after) where
   abbrev live : List (Member (Placed X))
   live = live_members (last_of bounds) int_cmp (bounds placed.item).left old
 
-  -- the latest time isn't behind where it begins
-  in_order : (time : ℤ) → latest ≡ Some time → time ≤ℤ (bounds placed.item).left
-  in_order time is =
-      let (other, is_served, begins) = holds.time time is in
-      subst (λ (t : ℤ). t ≤ℤ (bounds placed.item).left) begins (behind other is_served)
+  abbrev alive : Member (Placed X) → Bool
+  alive member = is_live (last_of bounds) int_cmp (bounds placed.item).left member.value
 
-  -- what is served in the strip, and ends not before it begins, is live
-  is_live_member : (other : Placed X) → IsServed bounds items served strip other → (bounds placed.item).left ≤ℤ (bounds other.item).right → Contains live (member_in bounds strips strip buckets other)
-  is_live_member other is_served reaches =
-      Contains-filter (λ (member : Member (Placed X)). is_live (last_of bounds) int_cmp (bounds placed.item).left member.value) old (member_in bounds strips strip buckets other) (is_live-upto bounds (bounds placed.item).left other reaches)
-      (holds.has other is_served (λ time is. let order = in_order time is in omega (arith, ints, order, reaches)))
+  abbrev test : Member (Placed X) → Bool
+  test member = overlap member.interval (interval_over pos buckets (range_in strips strip (bounds placed.item)))
+
+  abbrev asked : List (Placed X)
+  asked = answer (last_of bounds) int_cmp (bounds placed.item).left (interval_over pos buckets (range_in strips strip (bounds placed.item))) old
+
+  abbrev Apart : Member (Placed X) → Member (Placed X) → Type 0
+  Apart one later = one.value.place ≢ later.value.place
+
+  -- what is served in the strip begins at most where it does
+  behind : (other : Placed X) → IsServed bounds items served strip other → (bounds other.item).left ≤ℤ (bounds placed.item).left
+  behind other is_served = begins_upto (bounds other.item).left (bounds placed.item).left (other.place < placed.place) (earlier other is_served)
+
+  -- what has joined in the strip, and ends not before it begins, is live
+  is_live_member : (other : Placed X) → IsServed bounds items served strip other → other.place < roles.joining → (bounds placed.item).left ≤ℤ (bounds other.item).right → Contains live (member_in bounds strips strip buckets other)
+  is_live_member other is_served joined reaches =
+      Contains-filter alive old (member_in bounds strips strip buckets other) (is_live-upto bounds (bounds placed.item).left other reaches)
+      (holds.has other is_served joined (λ one before. let order = behind one before in omega (arith, ints, order, reaches)))
 
   -- it is one of the others to be told
-  pub is_other : (other : Placed X) → IsServed bounds items served strip other → (bounds placed.item).left ≤ℤ (bounds other.item).right
-      → overlap (interval_over pos buckets (range_in strips strip (bounds other.item))) (interval_over pos buckets (range_in strips strip (bounds placed.item))) ≡ true → Contains serves.others other
-  is_other other is_served reaches overlaps =
-      let test : Member (Placed X) → Bool = λ member. overlap member.interval (interval_over pos buckets (range_in strips strip (bounds placed.item))) in
-      Contains-permutation (answer (last_of bounds) int_cmp (bounds placed.item).left (interval_over pos buckets (range_in strips strip (bounds placed.item))) old) serves.others other serves.answers
-      (Contains-map (λ (member : Member (Placed X)). member.value) (filter test live) (member_in bounds strips strip buckets other)
-      (Contains-filter test live (member_in bounds strips strip buckets other) overlaps (is_live_member other is_served reaches)))
+  pub is_other : (other : Placed X) → IsServed bounds items served strip other → roles.asking ≤ placed.place → other.place < roles.joining → (bounds placed.item).left ≤ℤ (bounds other.item).right
+      → (Filters buckets → overlap (interval_over pos buckets (range_in strips strip (bounds other.item))) (interval_over pos buckets (range_in strips strip (bounds placed.item))) ≡ true) → Contains serves.asks.others other
+  is_other other is_served asks joined reaches overlaps = elim serves.asks.answers [
+    | inl (same, filters) ↦
+        Contains-permutation asked serves.asks.others other same
+        (Contains-map (λ (member : Member (Placed X)). member.value) (filter test live) (member_in bounds strips strip buckets other)
+        (Contains-filter test live (member_in bounds strips strip buckets other) (overlaps filters) (is_live_member other is_served joined reaches)))
+    | inr (silent, _) ↦ absurd (omega (arith, silent, asks))
+  ]
 
   -- each of the others is served in the strip
-  pub of_others : (other : Placed X) → Contains serves.others other → IsServed bounds items served strip other
-  of_others other among =
-      let test : Member (Placed X) → Bool = λ member. overlap member.interval (interval_over pos buckets (range_in strips strip (bounds placed.item))) in
-      let alive : Member (Placed X) → Bool = λ member. is_live (last_of bounds) int_cmp (bounds placed.item).left member.value in
-      let asked = answer (last_of bounds) int_cmp (bounds placed.item).left (interval_over pos buckets (range_in strips strip (bounds placed.item))) old in
-      let (member, found, value) = Contains-from_map (λ (member : Member (Placed X)). member.value) (filter test live) other
-      (Contains-permutation serves.others asked other (IsPermutation-sym asked serves.others serves.answers) among) in
-      let (one, is_served, is) = holds.of member (Contains-from_filter alive old member (Contains-from_filter test live member found).0).0 in
-      subst (IsServed bounds items served strip) (ap (λ (one : Member (Placed X)). one.value) (sym is) ∙ value) is_served
+  pub of_others : (other : Placed X) → Contains serves.asks.others other → IsServed bounds items served strip other
+  of_others other among = elim serves.asks.answers [
+    | inl (same, _) ↦
+        let (member, found, value) = Contains-from_map (λ (member : Member (Placed X)). member.value) (filter test live) other
+        (Contains-permutation serves.asks.others asked other (IsPermutation-sym asked serves.asks.others same) among) in
+        let (one, is_served, is) = holds.of member (Contains-from_filter alive old member (Contains-from_filter test live member found).0).0 in
+        subst (IsServed bounds items served strip) (ap (λ (one : Member (Placed X)). one.value) (sym is) ∙ value) is_served
+    | inr (_, none) ↦ absurd (let gone : Contains [] other = subst (λ (all : List (Placed X)). Contains all other) none among in omega (arith, gone.1))
+  ]
 
   -- no two of the others are at one place
-  pub others_apart : AllPairs (λ one later. one.place ≢ later.place) serves.others
-  others_apart =
-      let test : Member (Placed X) → Bool = λ member. overlap member.interval (interval_over pos buckets (range_in strips strip (bounds placed.item))) in
-      let alive : Member (Placed X) → Bool = λ member. is_live (last_of bounds) int_cmp (bounds placed.item).left member.value in
-      let R : Member (Placed X) → Member (Placed X) → Type 0 = λ one later. one.value.place ≢ later.value.place in
-      AllPairs-permutation (λ (one later : Placed X). one.place ≢ later.place) (λ one later differ same. differ (sym same))
-      (answer (last_of bounds) int_cmp (bounds placed.item).left (interval_over pos buckets (range_in strips strip (bounds placed.item))) old) serves.others serves.answers
-      (AllPairs-to_map (λ (one later : Placed X). one.place ≢ later.place) (λ (member : Member (Placed X)). member.value) (filter test live)
-      (AllPairs-filter R test live (AllPairs-filter R alive old holds.once)))
+  pub others_apart : AllPairs (λ one later. one.place ≢ later.place) serves.asks.others
+  others_apart = elim serves.asks.answers [
+    | inl (same, _) ↦
+        AllPairs-permutation (λ (one later : Placed X). one.place ≢ later.place) (λ one later differ same. differ (sym same)) asked serves.asks.others same
+        (AllPairs-to_map (λ (one later : Placed X). one.place ≢ later.place) (λ (member : Member (Placed X)). member.value) (filter test live)
+        (AllPairs-filter Apart test live (AllPairs-filter Apart alive old holds.once)))
+    | inr (_, none) ↦ subst (AllPairs (λ (one later : Placed X). one.place ≢ later.place)) (sym none) (λ i j d below within. absurd (omega (arith, within)))
+  ]
+
+  -- ---- what is stored once it has asked
+
+  mid_has : (member : Member (Placed X)) → Contains live member → Contains serves.mid member
+  mid_has member within = elim serves.asks.keeps [
+    | inl same ↦ Contains-permutation live serves.mid member same within
+    | inr is ↦ subst (λ (all : List (Member (Placed X))). Contains all member) (sym is) (Contains-from_filter alive old member within).0
+  ]
+
+  mid_of : (member : Member (Placed X)) → Contains serves.mid member → Contains old member
+  mid_of member within = elim serves.asks.keeps [
+    | inl same ↦ (Contains-from_filter alive old member (Contains-permutation serves.mid live member (IsPermutation-sym live serves.mid same) within)).0
+    | inr is ↦ subst (λ (all : List (Member (Placed X))). Contains all member) is within
+  ]
+
+  mid_once : AllPairs Apart serves.mid
+  mid_once = elim serves.asks.keeps [
+    | inl same ↦ AllPairs-permutation Apart (λ one later differ same. differ (sym same)) live serves.mid same (AllPairs-filter Apart alive old holds.once)
+    | inr is ↦ subst (AllPairs Apart) (sym is) holds.once
+  ]
 
   -- what is served in the strip is at another place
   pub elsewhere : (other : Placed X) → IsServed bounds items served strip other → placed.place ≢ other.place
@@ -131,34 +169,58 @@ module _ {X : Type 0} {bounds : X → Bounds} {Meeting : X → X → Type 0} (bo
       made : (p q : ℕ) (one another : X) → p ≡ q → one ≡ another → placed_at p one ≡ placed_at q another
       made p q one another first second = cc
 
-  pub Holds-served : (latest' : Option ℤ) → latest' ≡ Some (bounds placed.item).left → Holds bounds strips items buckets (served ++ part_of placed.place (bounds placed.item) strip ∷ []) strip latest' new
+  -- ---- and once it has joined, where it does
+
+  abbrev member : Member (Placed X)
+  member = member_in bounds strips strip buckets placed
+
+  new_has : (other : Member (Placed X)) → Contains serves.mid other → Contains new other
+  new_has other within = elim serves.joins [
+    | inl same ↦ Contains-permutation (member ∷ serves.mid) new other same (Contains-there member serves.mid other within)
+    | inr (_, is) ↦ subst (λ (all : List (Member (Placed X))). Contains all other) (sym is) within
+  ]
+
+  new_own : placed.place < roles.joining → Contains new member
+  new_own joins = elim serves.joins [
+    | inl same ↦ Contains-permutation (member ∷ serves.mid) new member same (Contains-here member serves.mid)
+    | inr (silent, _) ↦ absurd (omega (arith, silent, joins))
+  ]
+
+  new_of : (one : Member (Placed X)) → Contains new one → (member ≡ one) ⊎ Contains serves.mid one
+  new_of one within = elim serves.joins [
+    | inl same ↦ here_or_there member serves.mid one (Contains-permutation new (member ∷ serves.mid) one (IsPermutation-sym (member ∷ serves.mid) new same) within)
+    | inr (_, is) ↦ inr (subst (λ (all : List (Member (Placed X))). Contains all one) is within)
+  ]
+
+  new_once : AllPairs Apart new
+  new_once = elim serves.joins [
+    | inl same ↦ AllPairs-permutation Apart (λ one later differ same. differ (sym same)) (member ∷ serves.mid) new same
+        (AllPairs-cons Apart member serves.mid
+        (λ k d within same.
+        let (other, is_served, is) = holds.of (get_or serves.mid k d) (mid_of (get_or serves.mid k d) (Contains-get_or serves.mid k d within)) in
+        elsewhere other is_served (same ∙ ap (λ (one : Member (Placed X)). one.value.place) is))
+        mid_once)
+    | inr (_, is) ↦ subst (AllPairs Apart) (sym is) mid_once
+  ]
+
+  pub Holds-served : (latest' : Option ℤ) → (latest' ≡ latest) ⊎ (latest' ≡ Some (bounds placed.item).left) → Holds bounds roles strips items buckets (served ++ part_of placed.place (bounds placed.item) strip ∷ []) strip latest' new
   Holds-served latest' asked = record {
-    has = λ other is_served within. elim (IsServed-cases other is_served) [
-      | inl earlier ↦ Contains-permutation (member ∷ live) new (member_in bounds strips strip buckets other) serves.joins
-          (Contains-there member live (member_in bounds strips strip buckets other) (is_live_member other earlier (within (bounds placed.item).left asked)))
-      | inr is ↦ Contains-permutation (member ∷ live) new (member_in bounds strips strip buckets other) serves.joins
-          (subst (λ (one : Placed X). Contains (member ∷ live) (member_in bounds strips strip buckets one)) is (Contains-here member live))
+    has = λ other is_served joined within. elim (IsServed-cases other is_served) [
+      | inl before ↦ new_has (member_in bounds strips strip buckets other) (mid_has (member_in bounds strips strip buckets other)
+          (is_live_member other before joined (within placed IsServed-now)))
+      | inr is ↦ subst (λ (one : Placed X). Contains new (member_in bounds strips strip buckets one)) is (new_own (subst (λ (one : Placed X). one.place < roles.joining) (sym is) joined))
     ];
-    of = λ one within. elim (here_or_there member live one (Contains-permutation new (member ∷ live) one (IsPermutation-sym (member ∷ live) new serves.joins) within)) [
+    of = λ one within. elim (new_of one within) [
       | inl is ↦ (placed, IsServed-now, sym is)
       | inr there ↦
-          let (other, is_served, is) = holds.of one (Contains-from_filter alive old one there).0 in
+          let (other, is_served, is) = holds.of one (mid_of one there) in
           (other, IsServed-still other is_served, is)
     ];
-    once = AllPairs-permutation R (λ one later differ same. differ (sym same)) (member ∷ live) new serves.joins
-        (AllPairs-cons R member live
-        (λ k d within same.
-        let (other, is_served, is) = holds.of (get_or live k d) (Contains-from_filter alive old (get_or live k d) (Contains-get_or live k d within)).0 in
-        elsewhere other is_served (same ∙ ap (λ (one : Member (Placed X)). one.value.place) is))
-        (AllPairs-filter R alive old holds.once));
-    time = λ time is. (placed, IsServed-now, same_Some (bounds placed.item).left time (sym asked ∙ is));
+    once = new_once;
+    time = λ time is. elim asked [
+      | inl same ↦
+          let (other, is_served, begins) = holds.time time (sym same ∙ is) in
+          (other, IsServed-still other is_served, begins)
+      | inr now ↦ (placed, IsServed-now, same_Some (bounds placed.item).left time (sym now ∙ is))
+    ];
   }
-    where
-      member : Member (Placed X)
-      member = member_in bounds strips strip buckets placed
-
-      alive : Member (Placed X) → Bool
-      alive one = is_live (last_of bounds) int_cmp (bounds placed.item).left one.value
-
-      R : Member (Placed X) → Member (Placed X) → Type 0
-      R one later = one.value.place ≢ later.value.place

@@ -1,11 +1,15 @@
 -- Boxes along the axes, when two of them meet, and items that meet only where their boxes do.
-use Rattle.std.specs.Prelude.{◌≤ℤ◌}
+use Rattle.std.specs.Prelude.{◌≡◌, ◌≤ℤ◌}
 use Rattle.plane.specs.declared.pairs.items.Bounds.{Bounds}
 
 -- The left side isn't beyond the right one, nor the lower one above the upper one.
 pub record IsBox (bounds : Bounds) : Type 0 where
   pub wide : bounds.left ≤ℤ bounds.right
   pub tall : bounds.low ≤ℤ bounds.high
+
+-- The box stands at a single x, as that of a point does.
+abbrev pub IsUpright : Bounds → Type 0
+IsUpright bounds = bounds.left ≡ bounds.right
 
 -- Two boxes, whose sides are of them, share a point.
 pub record BoundsMeet (one other : Bounds) : Type 0 where

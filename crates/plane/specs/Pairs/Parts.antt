@@ -1,5 +1,5 @@
 -- The parts of items in the strips that their boxes reach, in the order in which they are served. For private contracts.
-use Rattle.std.specs.Prelude.{◌≡◌, ◌≢◌, ◌⊎◌, ℕ, ◌<◌, ◌≤ℤ◌, List, Some, All, AllPairs, Contains, slice_get}
+use Rattle.std.specs.Prelude.{◌≡◌, ◌≢◌, ◌⊎◌, ℕ, ◌<◌, ◌≤◌, ◌<ℤ◌, List, Some, All, AllPairs, Contains, slice_get}
 use Rattle.plane.specs.Pairs.Strips.{Reaches}
 use Rattle.plane.specs.declared.pairs.items.Bounds.{Bounds}
 use Rattle.plane.specs.declared.pairs.parts.Part.{Part}
@@ -24,7 +24,8 @@ pub record Lists {X : Type 0} (bounds : X → Bounds) (strips : Strips) (items :
 
 -- the first part is served before the second, or in either order
 abbrev pub NotBehind : Part → Part → Type 0
-NotBehind first second = (first.strip < second.strip) ⊎ ((first.strip ≡ second.strip) × (first.left ≤ℤ second.left))
+NotBehind first second = (first.strip < second.strip) ⊎ ((first.strip ≡ second.strip)
+    × ((first.left <ℤ second.left) ⊎ ((first.left ≡ second.left) × (first.place ≤ second.place))))
 
 -- the parts are those of all items, each once, and in order
 pub record AreParts {X : Type 0} (bounds : X → Bounds) (strips : Strips) (items : List X) (parts : List Part) : Type 0 where

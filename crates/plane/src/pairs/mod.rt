@@ -4,6 +4,7 @@ ghost use Rattle.std.specs.Prelude.{◌≡◌, ◌++◌, ◌<◌, ℕ, List, All
 ghost use Rattle.i_tree.specs.declared.Refusal.TheVariants.{OutOfMemory};
 ghost use Rattle.plane.specs.Pairs.Bounds.{MeetInBoxes};
 ghost use Rattle.plane.specs.Pairs.Pairs.{PairAt, ArePairs, GainsAll};
+ghost use Rattle.plane.specs.Pairs.Roles.{FindAll};
 ghost use Rattle.plane.specs.Pairs.Sweep.{Extends};
 
 pub use between::pairs_between;
@@ -12,6 +13,7 @@ use i_tree::Refusal;
 use i_tree::seg::tree::SegExpTree;
 use items::Meets;
 use parts::parts;
+use roles::{Roles, all_do};
 use std::alloc::Allocator;
 use sweep::append_pairs;
 
@@ -19,6 +21,7 @@ mod between;
 mod cut;
 pub mod items;
 mod parts;
+mod roles;
 mod strips;
 mod sweep;
 mod two;
@@ -42,12 +45,7 @@ pub fn pairs_among<T: Meets<T>, A: Allocator + Copy>(
     ensures err { OnErr result (out.new.items ≡ out.old.items) }
     ensures refused { IfErr result (λ cause. cause ≡ OutOfMemory) }
 {
-    let start = out.len();
-    let outcome = sweep_over(items, false, out);
-    if outcome.is_err() {
-        out.truncate(start);
-    }
-    outcome
+    all_pairs(items, all_do(items.len()), out)
 }
 
 /// Some pair of places whose items meet, the lesser place first, or none exactly where no two items do. It is refused
@@ -65,18 +63,43 @@ pub fn first_pair<T: Meets<T>, A: Allocator + Copy>(
     ensures refused { IfErr result (λ cause. cause ≡ OutOfMemory) }
 {
     let mut found = Vec::new(alloc);
-    sweep_over(items, true, &mut found)?;
+    sweep_over(items, all_do(items.len()), true, &mut found)?;
     Ok(found.first().copied())
 }
 
-// As `pairs_among`, but where it is refused, it may have appended some pairs; and where one is enough, it stops once it
+// As `pairs_among`, where the roles of the items find all pairs.
+fn all_pairs<T: Meets<T>, A: Allocator + Copy>(
+    items: &[T],
+    roles: Roles,
+    out: &mut Vec<(usize, usize), A>,
+) -> Result<(), Refusal>
+    requires boxed { MeetInBoxes T.bounds T.Meeting }
+    requires roles { FindAll T.bounds T.Meeting roles items.now }
+    ensures ok { OnOk result ((pairs : List (ℕ × ℕ))
+        × (out.new.items ≡ out.old.items ++ pairs) × ArePairs T.Meeting items.now pairs) }
+    ensures within { OnOk result (All (λ pair. (pair.0 < pair.1) × (pair.1 < length items.now))
+        (drop (length out.old.items) out.new.items)) }
+    ensures err { OnErr result (out.new.items ≡ out.old.items) }
+    ensures refused { IfErr result (λ cause. cause ≡ OutOfMemory) }
+{
+    let start = out.len();
+    let outcome = sweep_over(items, roles, false, out);
+    if outcome.is_err() {
+        out.truncate(start);
+    }
+    outcome
+}
+
+// As `all_pairs`, but where it is refused, it may have appended some pairs; and where one is enough, it stops once it
 // has some.
 fn sweep_over<T: Meets<T>, A: Allocator + Copy>(
     items: &[T],
+    roles: Roles,
     enough: bool,
     out: &mut Vec<(usize, usize), A>,
 ) -> Result<(), Refusal>
-    requires { MeetInBoxes T.bounds T.Meeting }
+    requires boxed { MeetInBoxes T.bounds T.Meeting }
+    requires roles { FindAll T.bounds T.Meeting roles items.now }
     ensures ok { OnOk result (GainsAll T.Meeting items.now enough out.old.items out.new.items) }
     ensures err { OnErr result (Extends out.old.items out.new.items) }
     ensures refused { IfErr result (λ cause. cause ≡ OutOfMemory) }
@@ -87,5 +110,7 @@ fn sweep_over<T: Meets<T>, A: Allocator + Copy>(
     // A strip is wide enough for a layout.
     let mut tree = SegExpTree::new(alloc, strips.heights())?.unwrap();
     let mut near = Vec::new(alloc);
-    append_pairs(items, enough, strips, &parts, &mut tree, &mut near, out)
+    append_pairs(
+        items, roles, enough, strips, &parts, &mut tree, &mut near, out,
+    )
 }

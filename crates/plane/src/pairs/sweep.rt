@@ -1,21 +1,23 @@
 //! The sweep from left to right in each strip, over the items that are live at an x.
 
-ghost use Rattle.std.specs.Prelude.{◌≡◌, ◌≢◌, ◌≤ℤ◌, Bool, [], All, MatchBool, OnOk, OnErr, IfErr};
+ghost use Rattle.std.specs.Prelude.{◌≡◌, ◌≢◌, ◌⊎◌, ℤ, ◌≤ℤ◌, Bool, [], All, MatchBool, OnOk, OnErr, IfErr};
 ghost use Rattle.std.specs.Ordering.{int_cmp};
 ghost use Rattle.std.specs.declared.option.Option.TheVariants.{None, Some};
 ghost use Rattle.i_tree.specs.declared.Refusal.TheVariants.{OutOfMemory};
 ghost use Rattle.i_tree.specs.Seg.Changes.{Clears};
 ghost use Rattle.i_tree.specs.Seg.Members.{NotBefore};
-ghost use Rattle.plane.specs.Pairs.Bounds.{MeetInBoxes};
+ghost use Rattle.plane.specs.Pairs.Bounds.{IsBox, MeetInBoxes};
 ghost use Rattle.plane.specs.Pairs.Pairs.{GainsAll};
 ghost use Rattle.plane.specs.Pairs.Parts.{AreParts};
-ghost use Rattle.plane.specs.Pairs.Strips.{Reaches, IsOverStrip};
-ghost use Rattle.plane.specs.Pairs.Sweep.{Extends, IsTold, GainsPair, GainsPairs, Serves};
+ghost use Rattle.plane.specs.Pairs.Roles.{FindAll};
+ghost use Rattle.plane.specs.Pairs.Strips.{Reaches, IsOverStrip, range_in};
+ghost use Rattle.plane.specs.Pairs.Sweep.{Extends, IsTold, GainsPair, GainsPairs, Asks, JoinsIn, Serves};
 
 use super::items::{Boxed, Meets};
 use super::parts::Part;
+use super::roles::Roles;
 use super::strips::Strips;
-use i_tree::seg::exp::SegExpCollection;
+use i_tree::seg::exp::{SegExpCollection, SegRange};
 use i_tree::seg::tree::SegExpTree;
 use i_tree::{ExpiredVal, Refusal};
 use std::alloc::{AllocError, Allocator};
@@ -35,10 +37,11 @@ impl<T: Boxed> ExpiredVal<i32> for Placed<T> {
     }
 }
 
-/// Appends the pairs of places whose items meet. Where one is enough, it stops once it has some. The tree is new, over
-/// the heights of a strip.
+/// Appends the pairs of places whose items meet, where their roles find them all. Where one is enough, it stops once it
+/// has some. The tree is new, over the heights of a strip.
 pub fn append_pairs<T: Meets<T>, A: Allocator + Copy>(
     items: &[T],
+    roles: Roles,
     enough: bool,
     strips: Strips,
     parts: &[Part],
@@ -47,6 +50,7 @@ pub fn append_pairs<T: Meets<T>, A: Allocator + Copy>(
     out: &mut Vec<(usize, usize), A>,
 ) -> Result<(), Refusal>
     requires boxed { MeetInBoxes T.bounds T.Meeting }
+    requires roles { FindAll T.bounds T.Meeting roles items.now }
     requires base { All (λ item. strips.base ≤ℤ (T.bounds item).low) items.now }
     requires parts { AreParts T.bounds strips items.now parts.now }
     requires over { IsOverStrip strips tree.old.buckets }
@@ -63,7 +67,15 @@ pub fn append_pairs<T: Meets<T>, A: Allocator + Copy>(
         strip = part.strip;
         let place = part.place;
         let item = items[place];
-        serve(strips, strip, Placed { item, place }, tree, near, out)?;
+        serve(
+            roles,
+            strips,
+            strip,
+            Placed { item, place },
+            tree,
+            near,
+            out,
+        )?;
         if enough && out.len() > start {
             return Ok(());
         }
@@ -86,8 +98,9 @@ fn enter<T: Boxed, A: Allocator + Copy>(
     }
 }
 
-// Appends the pairs of the item with those before it in the strip, and puts it among them.
+// Appends the pairs of the item with those before it in the strip, and puts it among them, by its roles.
 fn serve<T: Meets<T>, A: Allocator + Copy>(
+    roles: Roles,
     strips: Strips,
     strip: u32,
     placed: Placed<T>,
@@ -100,18 +113,75 @@ fn serve<T: Meets<T>, A: Allocator + Copy>(
     requires reaches { Reaches strips (T.bounds placed.item) strip }
     requires over { IsOverStrip strips tree.old.buckets }
     requires in_time { NotBefore int_cmp tree.old.latest (T.bounds placed.item).left }
-    ensures ok { OnOk result (Serves T.bounds T.Meeting strips strip placed tree.old.buckets
+    ensures ok { OnOk result (Serves T.bounds T.Meeting roles strips strip placed tree.old.buckets
         tree.old.members tree.new.members out.old.items out.new.items) }
     ensures err { OnErr result (Extends out.old.items out.new.items) }
     ensures refused { IfErr result (λ cause. cause ≡ OutOfMemory) }
-    ensures latest { OnOk result (tree.new.latest ≡ Some (T.bounds placed.item).left) }
+    ensures latest { (tree.new.latest ≡ tree.old.latest) ⊎ (tree.new.latest ≡ Some (T.bounds placed.item).left) }
     ensures buckets { tree.new.buckets ≡ tree.old.buckets }
 {
-    let bounds = placed.item.bounds();
-    let range = strips.range_in(strip, bounds);
+    let range = strips.range_in(strip, placed.item.bounds());
+    ask(roles, strips, strip, placed, range, tree, near, out)?;
+    join(roles, strips, strip, placed, range, tree)
+}
+
+// Appends the pairs of the item with those before it in the strip, over its range there, if that is its role.
+fn ask<T: Meets<T>, A: Allocator + Copy>(
+    roles: Roles,
+    strips: Strips,
+    strip: u32,
+    placed: Placed<T>,
+    range: SegRange<u32>,
+    tree: &mut SegExpTree<u32, i32, Placed<T>, A>,
+    near: &mut Vec<Placed<T>, A>,
+    out: &mut Vec<(usize, usize), A>,
+) -> Result<(), Refusal>
+    requires boxed { MeetInBoxes T.bounds T.Meeting }
+    requires base { strips.base ≤ℤ (T.bounds placed.item).low }
+    requires reaches { Reaches strips (T.bounds placed.item) strip }
+    requires range { range ≡ range_in strips strip (T.bounds placed.item) }
+    requires over { IsOverStrip strips tree.old.buckets }
+    requires in_time { NotBefore int_cmp tree.old.latest (T.bounds placed.item).left }
+    ensures ok { OnOk result (Asks T.bounds T.Meeting roles strips strip placed tree.old.buckets
+        tree.old.members tree.new.members out.old.items out.new.items) }
+    ensures err { OnErr result (Extends out.old.items out.new.items) }
+    ensures refused { IfErr result (λ cause. cause ≡ OutOfMemory) }
+    ensures latest { (tree.new.latest ≡ tree.old.latest) ⊎ (tree.new.latest ≡ Some (T.bounds placed.item).left) }
+    ensures buckets { tree.new.buckets ≡ tree.old.buckets }
+{
+    if placed.place < roles.asking {
+        return Ok(());
+    }
     near.clear();
-    tree.collect_by_range(range, bounds.left, near)?;
+    tree.collect_by_range(range, placed.item.bounds().left, near)?;
     append_told(strips, strip, placed, near, out)?;
+    Ok(())
+}
+
+// Puts the item among those before it in the strip, over its range there, if that is its role.
+fn join<T: Boxed, A: Allocator + Copy>(
+    roles: Roles,
+    strips: Strips,
+    strip: u32,
+    placed: Placed<T>,
+    range: SegRange<u32>,
+    tree: &mut SegExpTree<u32, i32, Placed<T>, A>,
+) -> Result<(), Refusal>
+    requires proper { IsBox (T.bounds placed.item) }
+    requires base { strips.base ≤ℤ (T.bounds placed.item).low }
+    requires reaches { Reaches strips (T.bounds placed.item) strip }
+    requires range { range ≡ range_in strips strip (T.bounds placed.item) }
+    requires over { IsOverStrip strips tree.old.buckets }
+    requires in_time { (time : ℤ) → tree.old.latest ≡ Some time → time ≤ℤ (T.bounds placed.item).left }
+    ensures ok { OnOk result (JoinsIn T.bounds roles strips strip placed tree.old.buckets
+        tree.old.members tree.new.members) }
+    ensures refused { IfErr result (λ cause. cause ≡ OutOfMemory) }
+    ensures latest { tree.new.latest ≡ tree.old.latest }
+    ensures buckets { tree.new.buckets ≡ tree.old.buckets }
+{
+    if roles.joining <= placed.place {
+        return Ok(());
+    }
     tree.insert_by_range(range, placed)
 }
 

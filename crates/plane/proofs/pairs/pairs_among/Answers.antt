@@ -1,8 +1,10 @@
-use Rattle.std.proofs.Common.{false}
-use Rattle.std.proofs.lemmas.Result.{on_ok_weaker}
-use Rattle.plane.proofs.PairsLemmas.Within.{gained-within}
+use Rattle.std.proofs.Common.{sym, subst}
+use Rattle.plane.specs.Pairs.Roles.{FindAll}
+use Rattle.plane.specs.declared.pairs.roles.Roles.{Roles}
+use Rattle.plane.proofs.PairsLemmas.Roles.{FindAll-all}
 use Rattle.plane.proofs.pairs.pairs_among.Goals as goal
 
-pub returns-else-is_err-clause-within : goal.returns-else-is_err-clause-within
-returns-else-is_err-clause-within g c =
-    on_ok_weaker c.sweep_over-outcome.result (gained-within g.T.Meets.Meeting c.args.items.now false c.args.out.now.items c.sweep_over-outcome.new.out.items) c.sweep_over-outcome.ensures.ok
+pub all_pairs-requires-clause-roles : goal.all_pairs-requires-clause-roles
+all_pairs-requires-clause-roles g c =
+    subst (λ (roles : Roles). FindAll g.T.Boxed.bounds g.T.Meets.Meeting roles c.args.items.now) (sym c.all_do.ensures)
+    (FindAll-all g.T.Boxed.bounds g.T.Meets.Meeting c.args.items.now)

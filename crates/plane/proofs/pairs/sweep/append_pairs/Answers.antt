@@ -8,34 +8,34 @@ abbrev nothing : Part
 nothing = record { strip = 0; left = pos 0; place = 0 }
 
 pub loop-part-init : goal.loop-part-init
-loop-part-init g c = Served-none c.requires.boxed c.args.strips c.args.items.now c.args.parts.now c.args.tree.now c.args.out.now.items c.requires.over c.requires.empty c.requires.unasked
+loop-part-init g c = Served-none c.requires.boxed c.args.roles c.args.strips c.args.items.now c.args.parts.now c.args.tree.now c.args.out.now.items c.requires.over c.requires.empty c.requires.unasked
 
 pub bounds-items-place : goal.bounds-items-place
-bounds-items-place g c = its_place c.requires.boxed c.args.strips c.args.items.now c.args.parts.now c.requires.base c.requires.parts c.loop-part.part-index nothing c.loop-part-test.true
+bounds-items-place g c = its_place c.requires.boxed c.args.roles c.args.strips c.args.items.now c.args.parts.now c.requires.base c.requires.parts c.loop-part.part-index nothing c.loop-part-test.true
 
 pub serve-requires-clause-base : goal.serve-requires-clause-base
 serve-requires-clause-base g c =
-    its_base c.requires.boxed c.args.strips c.args.items.now c.args.parts.now c.requires.base c.requires.parts c.loop-part.part-index nothing c.loop-part-test.true c.index-items-place.result c.index-items-place.is
+    its_base c.requires.boxed c.args.roles c.args.strips c.args.items.now c.args.parts.now c.requires.base c.requires.parts c.loop-part.part-index nothing c.loop-part-test.true c.index-items-place.result c.index-items-place.is
 
 pub serve-requires-clause-reaches : goal.serve-requires-clause-reaches
 serve-requires-clause-reaches g c =
-    its_reach c.requires.boxed c.args.strips c.args.items.now c.args.parts.now c.requires.base c.requires.parts c.loop-part.part-index nothing c.loop-part-test.true c.index-items-place.result c.index-items-place.is
+    its_reach c.requires.boxed c.args.roles c.args.strips c.args.items.now c.args.parts.now c.requires.base c.requires.parts c.loop-part.part-index nothing c.loop-part-test.true c.index-items-place.result c.index-items-place.is
 
 pub serve-requires-clause-over : goal.serve-requires-clause-over
 serve-requires-clause-over g c =
-    over_entered c.requires.boxed c.args.strips c.args.items.now c.args.parts.now c.requires.base c.requires.parts c.loop-part.part-index nothing c.loop-part-test.true c.loop-part.strip c.loop-part.tree c.enter.new.tree c.args.out.now.items c.loop-part.out.items c.loop-part.invariant
+    over_entered c.requires.boxed c.args.roles c.args.strips c.args.items.now c.args.parts.now c.requires.base c.requires.parts c.loop-part.part-index nothing c.loop-part-test.true c.loop-part.strip c.loop-part.tree c.enter.new.tree c.args.out.now.items c.loop-part.out.items c.loop-part.invariant
     c.enter.ensures.stays c.enter.ensures.clears c.enter.ensures.buckets
 
 pub serve-requires-clause-in_time : goal.serve-requires-clause-in_time
 serve-requires-clause-in_time g c =
-    in_time c.requires.boxed c.args.strips c.args.items.now c.args.parts.now c.requires.base c.requires.parts c.loop-part.part-index nothing c.loop-part-test.true c.loop-part.strip c.loop-part.tree c.enter.new.tree c.args.out.now.items c.loop-part.out.items c.loop-part.invariant
+    in_time c.requires.boxed c.args.roles c.args.strips c.args.items.now c.args.parts.now c.requires.base c.requires.parts c.loop-part.part-index nothing c.loop-part-test.true c.loop-part.strip c.loop-part.tree c.enter.new.tree c.args.out.now.items c.loop-part.out.items c.loop-part.invariant
     c.enter.ensures.stays c.enter.ensures.clears c.enter.ensures.buckets c.index-items-place.result c.index-items-place.is
 
 pub loop-part-preserved : goal.loop-part-preserved
 loop-part-preserved g c =
-    Served-more c.requires.boxed c.args.strips c.args.items.now c.args.parts.now c.requires.base c.requires.parts c.loop-part.part-index nothing c.loop-part-test.true c.loop-part.strip c.loop-part.tree c.enter.new.tree c.args.out.now.items c.loop-part.out.items c.loop-part.invariant
+    Served-more c.requires.boxed c.args.roles c.args.strips c.args.items.now c.args.parts.now c.requires.base c.requires.parts c.loop-part.part-index nothing c.loop-part-test.true c.loop-part.strip c.loop-part.tree c.enter.new.tree c.args.out.now.items c.loop-part.out.items c.loop-part.invariant
     c.enter.ensures.stays c.enter.ensures.clears c.enter.ensures.buckets
-    c.serve.new.tree c.index-items-place.result c.serve.new.out.items c.index-items-place.is c.serve.ensures.buckets (c.in_ok-serve.ensures).latest (c.in_ok-serve.ensures).ok
+    c.requires.roles c.serve.new.tree c.index-items-place.result c.serve.new.out.items c.index-items-place.is c.serve.ensures.buckets c.serve.ensures.latest (c.in_ok-serve.ensures).ok
 
 pub returns-in_err-serve-clause-err : goal.returns-in_err-serve-clause-err
 returns-in_err-serve-clause-err g c =
@@ -47,11 +47,11 @@ returns-then-len-start-clause-ok g c =
     let start = c.len-start.ensures in
     let length_now = c.len.ensures in
     let longer = c.if-len-start.true in
-    Served-enough c.requires.boxed c.args.strips c.args.items.now c.args.parts.now (c.loop-part.part-index + 1) (get_or c.args.parts.now c.loop-part.part-index nothing).strip c.serve.new.tree c.args.enough c.args.out.now.items c.serve.new.out.items c.if-enough.true (omega (arith, start, length_now, longer))
-    (Served-more c.requires.boxed c.args.strips c.args.items.now c.args.parts.now c.requires.base c.requires.parts c.loop-part.part-index nothing c.loop-part-test.true c.loop-part.strip c.loop-part.tree c.enter.new.tree c.args.out.now.items c.loop-part.out.items c.loop-part.invariant
+    Served-enough c.requires.boxed c.args.roles c.args.strips c.args.items.now c.args.parts.now (c.loop-part.part-index + 1) (get_or c.args.parts.now c.loop-part.part-index nothing).strip c.serve.new.tree c.args.enough c.args.out.now.items c.serve.new.out.items c.if-enough.true (omega (arith, start, length_now, longer))
+    (Served-more c.requires.boxed c.args.roles c.args.strips c.args.items.now c.args.parts.now c.requires.base c.requires.parts c.loop-part.part-index nothing c.loop-part-test.true c.loop-part.strip c.loop-part.tree c.enter.new.tree c.args.out.now.items c.loop-part.out.items c.loop-part.invariant
     c.enter.ensures.stays c.enter.ensures.clears c.enter.ensures.buckets
-    c.serve.new.tree c.index-items-place.result c.serve.new.out.items c.index-items-place.is c.serve.ensures.buckets (c.in_ok-serve.ensures).latest (c.in_ok-serve.ensures).ok)
+    c.requires.roles c.serve.new.tree c.index-items-place.result c.serve.new.out.items c.index-items-place.is c.serve.ensures.buckets c.serve.ensures.latest (c.in_ok-serve.ensures).ok)
 
 pub returns-clause-ok : goal.returns-clause-ok
 returns-clause-ok g c =
-    Served-all c.requires.boxed c.args.strips c.args.items.now c.args.parts.now c.loop-part.part-index c.loop-part.strip c.loop-part.tree c.args.enough c.args.out.now.items c.loop-part.out.items c.loop-part-test.false c.requires.base c.requires.parts c.loop-part.invariant
+    Served-all c.requires.boxed c.args.roles c.args.strips c.args.items.now c.args.parts.now c.loop-part.part-index c.loop-part.strip c.loop-part.tree c.args.enough c.args.out.now.items c.loop-part.out.items c.loop-part-test.false c.requires.base c.requires.parts c.loop-part.invariant
