@@ -2,7 +2,7 @@
 -- box owns, which the handle leads to.
 --
 -- A handle of another kind takes:
---   a type as `Pairs`, and in `specs/Handle` what a handle of it owns, as `owns_pairs`, and what its call answers, as
+--   a type as `Pairs`, and in `specs` what a handle of it owns, as `owns_pairs`, and what its call answers, as
 --   `AnswersAll`;
 --   a private call that answers `(i32, Raw<Kind, Global>)`, as `all_meetings`: it is proved as ever;
 --   an export with the clause `made`, as `itree_meetings_all`, and its walk over the row of the kind: behind the private

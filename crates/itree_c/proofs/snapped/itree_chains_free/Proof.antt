@@ -24,23 +24,8 @@ R = parts.the_row held_row Z ghosts
 pub itree_chains_free_spec : {M : Type 1} → statement M
 itree_chains_free_spec 𝓤 𝓛 𝓜 𝓡 wired =
     let H = 𝓛.H in let 𝓣 = tables 𝓤 H 𝓜 𝓡 𝓡.env in let c = clauses 𝓛 𝓜.mem 𝓡.returns in let fn = code.function in
-    let hs : Stays ended.signature.params ended.kept = (
-      stay_dropped (plain (λ _. Z)) yes,
-      (
-        stay_dropped (plain (λ _.
-            RawPtr)) yes,
-        tt,
-      ),
-    ) in
-    proved_at 𝓛 ended hs c 𝓜 𝓡 (
-      Goes-dropped 𝓛 0 (plain (λ _. Z)) yes (λ κs x f.
-          refl),
-      (
-        Goes-dropped 𝓛 0 (plain (λ _. RawPtr)) yes (λ κs x f.
-            refl),
-        tt,
-      ),
-    ) #self fn (code.unfolded 𝓤 H 𝓜 𝓡 wired) (λ z are.
+    let hs : Stays ended.signature.params ended.kept = (stay_dropped (plain (λ _. Z)) yes, (stay_dropped (plain (λ _. RawPtr)) yes, tt)) in
+    proved_at 𝓛 ended hs c 𝓜 𝓡 (Goes-dropped 𝓛 0 (plain (λ _. Z)) yes (λ κs x f. refl), (Goes-dropped 𝓛 0 (plain (λ _. RawPtr)) yes (λ κs x f. refl), tt)) #self fn (code.unfolded 𝓤 H 𝓜 𝓡 wired) (λ z are.
     let a = z.0.3.0 in let p : Ptr = z.0.3.1.0 in let x = z.1 in
     let Post : Val → SProp 𝓤 = (walk_of 𝓛 ended hs c).post z in let Run : List Val → SProp 𝓤 = λ ws.
     WpFn 𝓤 H 𝓣.C 𝓣.Λ fn ws Post in
@@ -58,13 +43,7 @@ itree_chains_free_spec 𝓤 𝓛 𝓜 𝓡 wired =
     let y : K.Ghost = ((tt, tt, tt, (made, tt), (w ∷ [], tt)), tt) in let us : List Val = h ∷ vptr b o ∷ [] in
     nothing ! $ move ! (2 ∷ 0 ∷ []) $ fjoin ! $ feq_i ! (List Val) (vptr b o ∷ []) (vptr b o ∷ []) refl $ fjoin ! $
     feq_i ! (List Val) (w ∷ []) (w ∷ []) refl $ fjoin ! $
-    fpack ! (Valss (RawPtr ∷ Z ∷ [])) (within (shape (parts.the_type held_row Z ghosts)) (
-      block_ptr b o,
-      (
-        a,
-        tt,
-      ),
-    ) (w ∷ [])) (vptr b o ∷ [], (h ∷ [], tt)) $ fjoin ! $
+    fpack ! (Valss (RawPtr ∷ Z ∷ [])) (within (shape (parts.the_type held_row Z ghosts)) (block_ptr b o, (a, tt)) (w ∷ [])) (vptr b o ∷ [], (h ∷ [], tt)) $ fjoin ! $
     use1 𝓛 (‵ (R.own_val made (w ∷ []))) (id⊢ 𝓤 _) $ nothing ! $ move ! (1 ∷ 0 ∷ []) $ fjoin ! $ nothing ! $ join ! $
     use0 𝓛 (raw (fact 𝓤 (IsSome made.value))) (fact_i 𝓤 (IsSome made.value) (emp 𝓤) refl) $ move ! (1 ∷ 0 ∷ []) $
     join ! $ use1 𝓛 (raw (K.pre y)) (id⊢ 𝓤 _) $

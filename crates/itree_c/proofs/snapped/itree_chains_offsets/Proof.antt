@@ -11,16 +11,8 @@ use Rattle.itree_c.proofs.snapped.itree_chains_offsets.Code as code
 pub itree_chains_offsets_spec : {M : Type 1} → statement M
 itree_chains_offsets_spec 𝓤 𝓛 𝓜 𝓡 wired =
     let H = 𝓛.H in let 𝓣 = tables 𝓤 H 𝓜 𝓡 𝓡.env in let c = clauses 𝓛 𝓜.mem 𝓡.returns in let fn = code.function in
-    let hs : Stays ended.signature.params ended.kept = (
-      stay_dropped (plain (λ _.
-          RawPtr)) yes,
-      (stay_ref (0 ∷ []) tt (plain (λ _. RawPtr)), tt),
-    ) in
-    proved_at 𝓛 ended hs c 𝓜 𝓡 (
-      Goes-dropped 𝓛 1 (plain (λ _. RawPtr)) yes (λ κs x f.
-          refl),
-      (Goes-ref 𝓛 1 0 tt (plain (λ _. RawPtr)), tt),
-    ) #self fn (code.unfolded 𝓤 H 𝓜 𝓡 wired) (λ z are.
+    let hs : Stays ended.signature.params ended.kept = (stay_dropped (plain (λ _. RawPtr)) yes, (stay_ref (0 ∷ []) tt (plain (λ _. RawPtr)), tt)) in
+    proved_at 𝓛 ended hs c 𝓜 𝓡 (Goes-dropped 𝓛 1 (plain (λ _. RawPtr)) yes (λ κs x f. refl), (Goes-ref 𝓛 1 0 tt (plain (λ _. RawPtr)), tt)) #self fn (code.unfolded 𝓤 H 𝓜 𝓡 wired) (λ z are.
     let κ = z.0.0.0 in let q = z.0.1.0 in let p : Ptr = z.0.3.0 in let m = z.0.3.1.0 in let x = z.1 in
     let mb = m.ref_ptr.0 in let mo = m.ref_ptr.1 in
     let Post : Val → SProp 𝓤 = (walk_of 𝓛 ended hs c).post z in let Run : List Val → SProp 𝓤 = λ ws.
@@ -67,7 +59,4 @@ itree_chains_offsets_spec 𝓤 𝓛 𝓜 𝓡 wired =
     let Told : Type 0 = (x.offset_count ≡ length x.held_offsets.items) × (x.offsets ≡ vec_ptr x.held_offsets) in
     use0 𝓛 (raw (fact 𝓤 Told)) (fact_i 𝓤 Told (emp 𝓤) (x.offsets_told.1 ∙ x.held_offsets.ok.0, x.offsets_told.0)) $ move ! (4 ∷ 0 ∷ []) $
     join ! $
-    keep ! (2 ∷ 3 ∷ 1 ∷ 0 ∷ []) $ by ! (leaves 𝓛 ended hs c z (vint w64 x.offset_count) x.offset_count (tt, (x.offsets, tt)) (
-      tt,
-      (tt, tt),
-    )))))))))))
+    keep ! (2 ∷ 3 ∷ 1 ∷ 0 ∷ []) $ by ! (leaves 𝓛 ended hs c z (vint w64 x.offset_count) x.offset_count (tt, (x.offsets, tt)) (tt, (tt, tt))))))))))))

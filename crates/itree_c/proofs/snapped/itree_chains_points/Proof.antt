@@ -1,4 +1,4 @@
--- the two fields are read, and what the handle owns stays
+-- the first field and the second are read, and what the handle owns stays
 use Rattle.itree_c.proofs.Steps.{◌≡◌, List, [], ◌∷◌, ◌++◌, length, refl, sym, ap, ◌∙◌, subst, Some, w64, T, ty_ptr, bare, Val, vint, vptr, has_ty, WT, SProp, ent, emp, id⊢, never, fst∗, full_share, ftrue, flft, fat, WpFn, sem, ‵, raw, ◌⊛◌, some, ◌$◌, ◌∵◌, !, qed, by, move, keep, split, join, fsplit, fsplit3, fjoin, fjoin3, pick, suffices, use0, use1, use2, rewrite, feq_i, feq_l, of_opd, stop, fld, load, store, returns, enter, assigns, well_typed, alloc_all, pass_all, free_all, look_at, get, sets, through, sub, whole, look_in, fact, fact_i, tables, yes, Is, shows, cell_at, part_at, lone, owns, types_at, plain, Ptr, RawPtr, block_ptr, null_ptr, ptr_val, rawptr_Lawful, in_a_block, nothing, only, owned, peeks, opens, closes, usize, uint_Makes, vec_ptr, layout, Stays, stay_dropped, stay_ref, walk_of, Goes-dropped, Goes-ref, part_out, part_in, proved_at, leaves, ghosts}
 use Rattle.itree_c.proofs.chains.Chains.TheLaws.{lowered, lowers}
 use Rattle.itree_c.specs.Chains.{owns_chains}
@@ -11,16 +11,8 @@ use Rattle.itree_c.proofs.snapped.itree_chains_points.Code as code
 pub itree_chains_points_spec : {M : Type 1} → statement M
 itree_chains_points_spec 𝓤 𝓛 𝓜 𝓡 wired =
     let H = 𝓛.H in let 𝓣 = tables 𝓤 H 𝓜 𝓡 𝓡.env in let c = clauses 𝓛 𝓜.mem 𝓡.returns in let fn = code.function in
-    let hs : Stays ended.signature.params ended.kept = (
-      stay_dropped (plain (λ _.
-          RawPtr)) yes,
-      (stay_ref (0 ∷ []) tt (plain (λ _. RawPtr)), tt),
-    ) in
-    proved_at 𝓛 ended hs c 𝓜 𝓡 (
-      Goes-dropped 𝓛 1 (plain (λ _. RawPtr)) yes (λ κs x f.
-          refl),
-      (Goes-ref 𝓛 1 0 tt (plain (λ _. RawPtr)), tt),
-    ) #self fn (code.unfolded 𝓤 H 𝓜 𝓡 wired) (λ z are.
+    let hs : Stays ended.signature.params ended.kept = (stay_dropped (plain (λ _. RawPtr)) yes, (stay_ref (0 ∷ []) tt (plain (λ _. RawPtr)), tt)) in
+    proved_at 𝓛 ended hs c 𝓜 𝓡 (Goes-dropped 𝓛 1 (plain (λ _. RawPtr)) yes (λ κs x f. refl), (Goes-ref 𝓛 1 0 tt (plain (λ _. RawPtr)), tt)) #self fn (code.unfolded 𝓤 H 𝓜 𝓡 wired) (λ z are.
     let κ = z.0.0.0 in let q = z.0.1.0 in let p : Ptr = z.0.3.0 in let m = z.0.3.1.0 in let x = z.1 in
     let mb = m.ref_ptr.0 in let mo = m.ref_ptr.1 in
     let Post : Val → SProp 𝓤 = (walk_of 𝓛 ended hs c).post z in let Run : List Val → SProp 𝓤 = λ ws.
@@ -67,7 +59,4 @@ itree_chains_points_spec 𝓤 𝓛 𝓜 𝓡 wired =
     let Told : Type 0 = (x.point_count ≡ length x.held_points.items) × (x.points ≡ vec_ptr x.held_points) in
     use0 𝓛 (raw (fact 𝓤 Told)) (fact_i 𝓤 Told (emp 𝓤) (x.points_told.1 ∙ x.held_points.ok.0, x.points_told.0)) $ move ! (4 ∷ 0 ∷ []) $
     join ! $
-    keep ! (2 ∷ 3 ∷ 1 ∷ 0 ∷ []) $ by ! (leaves 𝓛 ended hs c z (vint w64 x.point_count) x.point_count (tt, (x.points, tt)) (
-      tt,
-      (tt, tt),
-    )))))))))))
+    keep ! (2 ∷ 3 ∷ 1 ∷ 0 ∷ []) $ by ! (leaves 𝓛 ended hs c z (vint w64 x.point_count) x.point_count (tt, (x.points, tt)) (tt, (tt, tt))))))))))))

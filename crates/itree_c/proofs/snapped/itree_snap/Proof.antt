@@ -15,23 +15,8 @@ pub itree_snap_spec : {M : Type 1} → statement M
 itree_snap_spec 𝓤 𝓛 𝓜 𝓡 wired =
     let H = 𝓛.H in let 𝓣 = tables 𝓤 H 𝓜 𝓡 𝓡.env in let c = clauses 𝓛 𝓜.mem 𝓡.returns in let fn = code.function in
     let slice_of = SliceRefOf (0 ∷ []) tt (plain (λ _. edge_row)) (λ _. tt) in
-    let hs : Stays ended.signature.params ended.kept = (
-      stay_dropped (plain (λ _.
-          Z)) yes,
-      (stay_dropped slice_of yes, (stay_ref (1 ∷ []) tt (plain (λ _. RawPtr)), tt)),
-    ) in
-    proved_at 𝓛 ended hs c 𝓜 𝓡 (
-      Goes-dropped 𝓛 2 (plain (λ _. Z)) yes (λ κs x f.
-          refl),
-      (
-        Goes-dropped 𝓛 2 slice_of yes (λ κs x f. refl),
-        (
-          Goes-ref 𝓛 2 1 tt (plain (λ _.
-              RawPtr)),
-          tt,
-        ),
-      ),
-    ) #self fn (code.unfolded 𝓤 H 𝓜 𝓡 wired) (λ z are.
+    let hs : Stays ended.signature.params ended.kept = (stay_dropped (plain (λ _. Z)) yes, (stay_dropped slice_of yes, (stay_ref (1 ∷ []) tt (plain (λ _. RawPtr)), tt))) in
+    proved_at 𝓛 ended hs c 𝓜 𝓡 (Goes-dropped 𝓛 2 (plain (λ _. Z)) yes (λ κs x f. refl), (Goes-dropped 𝓛 2 slice_of yes (λ κs x f. refl), (Goes-ref 𝓛 2 1 tt (plain (λ _. RawPtr)), tt))) #self fn (code.unfolded 𝓤 H 𝓜 𝓡 wired) (λ z are.
     let κ = z.0.0.0 in let ν = z.0.0.1.0 in let q = z.0.1.0 in let q' = z.0.1.1.0 in let a = z.0.3.0 in
     let s = z.0.3.1.0 in let m = z.0.3.1.1.0 in
     let mb = m.ref_ptr.0 in let mo = m.ref_ptr.1 in let n = length s.now in let sv : Val = slice_val s.ref_ptr n in
@@ -50,26 +35,11 @@ itree_snap_spec 𝓤 𝓛 𝓜 𝓡 wired =
     -- [what the call asks for; the token of ν; the reference; nothing]
     suffices ! (Run us) (subst (λ (vs : List Val). ent 𝓤 (Run us) (Run vs)) (sym (λ i.
     eh i ++ (are.1.0.0.0 i ++ (are.1.1.0.0 i ++ [])))) (id⊢ 𝓤 (Run us))) $
-    enter ! 𝓣.C 𝓣.Λ fn us Post $ alloc_all ! (λ l. pass_all ! refl (
-      fits,
-      (
-        (
-          tt,
-          (
-            tt,
-            (record { fits = are.1.0.0.1.0 }, tt),
-          ),
-        ),
-        ((tt, tt), tt),
-      ),
-    ) $
+    enter ! 𝓣.C 𝓣.Λ fn us Post $ alloc_all ! (λ l. pass_all ! refl (fits, ((tt, (tt, (record { fits = are.1.0.0.1.0 }, tt))), ((tt, tt), tt))) $
     calls_at ! (framed 𝓤 H 𝓜 𝓣) K (met 𝓤 𝓛 𝓜 𝓡 (code.calls-itree_c::snapped::all_chains 𝓡.env wired)) y (and_then !
     (get ! refl) (and_then ! (get ! refl) (no_more !))) (λ v.
     use1 𝓛 (later (some (λ (r : ℤ × (R held_row).Denot). ((‵ (flft κ q) ⊛ ‵ ftrue) ⊛ ‵ ((Two held_row).own_val r (v ∷ []))) ⊛ some (λ (ws :
-    Lasts callee.ended (κ, tt) y.0.3). ‵ (lasts callee.ended (
-      κ,
-      tt,
-    ) y.0.3 ws) ⊛ raw (fact 𝓤 (AnswersChains s.now r.0 r.1.value)))))) (id⊢ 𝓤 _) $
+    Lasts callee.ended (κ, tt) y.0.3). ‵ (lasts callee.ended (κ, tt) y.0.3 ws) ⊛ raw (fact 𝓤 (AnswersChains s.now r.0 r.1.value)))))) (id⊢ 𝓤 _) $
     await ! tt $ pick ! (λ r. split ! $ move ! (1 ∷ []) $ pick ! (λ ws. split ! $ drop ! $
     heard ! (AnswersChains s.now r.0 r.1.value) (λ told. split ! $ move ! (1 ∷ []) $
     -- [the pair; the token of κ; the token of ν; the reference; nothing]
@@ -93,13 +63,4 @@ itree_snap_spec 𝓤 𝓛 𝓜 𝓡 wired =
     move ! (5 ∷ []) $ split ! $ move ! (3 ∷ 1 ∷ []) $ join ! $ move ! (1 ∷ 0 ∷ []) $ join ! $
     -- [the tokens; the parameters; nothing; what the box owns; the status; nothing]
     move ! (3 ∷ []) $ made_in held_row ! (AnswersChains s.now r.0) p r.1.value told $
-    keep ! (1 ∷ 2 ∷ 4 ∷ 0 ∷ []) $ by ! (leaves 𝓛 ended hs c z u r.0 (tt, (tt, (p, tt))) (
-      tt,
-      (
-        tt,
-        (
-          tt,
-          tt,
-        ),
-      ),
-    ))))))))))))
+    keep ! (1 ∷ 2 ∷ 4 ∷ 0 ∷ []) $ by ! (leaves 𝓛 ended hs c z u r.0 (tt, (tt, (p, tt))) (tt, (tt, (tt, tt))))))))))))))
