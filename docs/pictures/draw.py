@@ -5,7 +5,8 @@ usage: draw.py            writes them all
        draw.py --check    compares each with what it would write, and ends with 'N passed, M failed'
 
 `sweep.svg` shows `sweep.lines`, with the answers that `sweep.replies` has: the process tests run the program over the one
-and compare what it prints with the other. So does `locate.svg` with `locate.lines` and `locate.replies`.
+and compare what it prints with the other. So does `locate.svg` with `locate.lines` and `locate.replies`, and `snap.svg` with
+`snap.lines` and `snap.replies`.
 """
 
 import os
@@ -308,7 +309,61 @@ def locate():
     return picture("Four sloped edges, and which of them lies straight below each of five points", 720, 355, parts)
 
 
-PICTURES = {"layers": layers, "slots": slots, "descent": descent, "buckets": buckets, "sweep": sweep, "locate": locate}
+# Edges and their chains, from lines that the program answers.
+
+
+def on_grid(x, y):
+    """Where a point of a run stands among squares."""
+    return 60 + 66 * x, 390 - 66 * y
+
+
+def grid():
+    """The whole points, and what stands beside them."""
+    (left, floor), (right, top) = on_grid(-0.5, -0.5), on_grid(9.2, 5.5)
+    parts = [line(left, floor, right, floor, INK, 1), line(left, floor, left, top, INK, 1)]
+    parts += [text(right + 12, floor + 4, "x", 13), text(left, top - 8, "y", 13)]
+    parts += [text(on_grid(x, 0)[0], floor + 18, str(x), 12, fill=SOFT) for x in range(0, 10)]
+    parts += [text(left - 10, on_grid(0, y)[1] + 4, str(y), 12, "end", SOFT) for y in range(0, 6)]
+    return parts + [dot(*on_grid(x, y), 2, SOFT) for x in range(0, 10) for y in range(0, 6)]
+
+
+def square(x, y):
+    """What rounds to a hot point: its left and its lower border are drawn, which are of it."""
+    (left, low), (right, high) = on_grid(x - 0.5, y - 0.5), on_grid(x + 0.5, y + 0.5)
+    ground = f'<rect x="{left}" y="{high}" width="{right - left}" height="{low - high}" fill="{PALE}"/>'
+    return [ground, line(left, low, right, low, SOFT, 1), line(left, low, left, high, SOFT, 1)]
+
+
+def chain_of(points):
+    places = " ".join(f"{x},{y}" for x, y in (on_grid(*point) for point in points))
+    return f'<polyline points="{places}" fill="none" stroke="{GREEN}" stroke-width="4" stroke-linejoin="round"/>'
+
+
+def pairs_of(words):
+    numbers = list(map(int, words[1:]))
+    return list(zip(numbers[::2], numbers[1::2]))
+
+
+def snap():
+    edges, chains = ([pairs_of(words) for words in words_of(f"snap.{kind}")] for kind in ("lines", "replies"))
+    hot = sorted({point for points in chains for point in points})
+    parts = [part for point in hot for part in square(*point)] + grid()
+    parts += [chain_of(points) for points in chains]
+    for number, (begin, end) in enumerate(edges, 1):
+        (from_x, from_y), (to_x, to_y) = on_grid(*begin), on_grid(*end)
+        parts.append(line(from_x, from_y, to_x, to_y, BLUE, 1.5))
+        parts.append(text(from_x - 14, from_y - 8, str(number), 13, fill=BLUE, weight="bold"))
+    parts += [dot(*on_grid(*point), 5, INK) for point in hot]
+    parts += [line(60, 474, 90, 474, BLUE, 1.5), text(98, 478, "an edge", 12, "start", SOFT)]
+    parts += [line(180, 474, 210, 474, GREEN, 4), text(218, 478, "its chain", 12, "start", SOFT)]
+    parts += [dot(320, 474, 5, INK), text(332, 478, "a hot point, and the square of what rounds to it", 12, "start", SOFT)]
+    return picture("Three edges, their hot points, and the chains that go over these", 720, 496, parts)
+
+
+PICTURES = {
+    **{"layers": layers, "slots": slots, "descent": descent, "buckets": buckets},
+    **{"sweep": sweep, "locate": locate, "snap": snap},
+}
 
 
 def kept(path):
