@@ -246,7 +246,8 @@ def anywhere(random):
 # how many sets a part has, and how many parts there are.
 KINDS = (
     ("up to 4", partial(near, bound=4), (20, 0), 2_000, 4),
-    ("up to 20", partial(near, bound=20), (60, 0), 2_000, 4),
+    ("up to 20", partial(near, bound=20), (60, 0), 1_875, 4),
+    ("up to 4, each alone", partial(near, bound=4), None, 500, 1),
     ("from end to end, flat", along, (0, 20), 1_500, 1),
     ("from end to end, steep", upwards, (20, 0), 1_500, 1),
     ("along a diagonal", partial(sloped, sign=1), None, 350, 1),
