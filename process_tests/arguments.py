@@ -57,6 +57,8 @@ FAULTY = (
     ("one too many after meetings", ["meetings", "meetings"]),
     ("one too many after locate", ["locate", "-h"]),
     ("locate twice", ["locate", "locate"]),
+    ("one too many after snap", ["snap", "extra"]),
+    ("snap twice", ["snap", "snap"]),
     ("seg alone", ["seg"]),
     ("seg and one number", ["seg", "0"]),
     ("seg and three numbers", ["seg", "0", "128", "256"]),

@@ -136,8 +136,8 @@ def help_and_document():
 
 
 def pictures():
-    """The cases that docs/pictures/sweep.svg and locate.svg show."""
-    for mode in "sweep", "locate":
+    """The cases that docs/pictures/sweep.svg, locate.svg and snap.svg show."""
+    for mode in "sweep", "locate", "snap":
         given, wanted = (text_of(f"docs/pictures/{mode}.{kind}").encode() for kind in ("lines", "replies"))
         yield Case(f"the run of {mode}'s picture", [mode], given, Outcome(0, wanted))
 

@@ -158,12 +158,16 @@ def of_collections(preloaded):
         yield answered("each request for memory refused in turn", mode, lines(*said), served, how)
 
 
-def of_others(preloaded):
+def of_others(preloaded, rows=OTHERS):
     """Cases of the other modes: the program stops."""
-    for mode, said, replies in OTHERS:
+    for mode, said, replies in rows:
         given, served = lines(*said), lines(*replies)
         how = preloaded.in_turn({STOPPED: "stopped", Outcome(0, served): "served"}, ["stopped"])
         yield answered("each request for memory refused in turn", mode, given, served, how)
+
+
+def of_help(preloaded):
+    """The case of the help: the program stops."""
     text = help_text()
     how = preloaded.in_turn({STOPPED: "stopped", Outcome(0, text): "served"}, ["stopped"])
     yield Case("help: each request for memory refused in turn", ["help"], b"", Outcome(0, text), how)
@@ -193,9 +197,9 @@ def of_trees_beside_lists(preloaded):
         yield refused("told where the tree would be refused memory", tree, lines(*faulty), 2, run)
 
 
-def of_streams(preloaded):
+def of_streams(preloaded, rows=MODES):
     """Cases of reads and writes that fail, or take a part."""
-    for mode, line, reply in MODES:
+    for mode, line, reply in rows:
         words, given = mode.split(), line + b"\n"
         for name, text, nth in (
             ("the first read fails", given, 1),
@@ -212,6 +216,10 @@ def of_streams(preloaded):
         yield refused("half of each read and write", mode, given + b"nonsense\n", 2, preloaded.under(HALVES=1))
         faulty = Outcome(2, b"", ARGUMENTS)
         yield Case(f"{mode} extra: no read", [*words, "extra"], given, faulty, preloaded.under(FAILED_READ=1))
+
+
+def of_texts(preloaded):
+    """Cases of the help and the version, which are written without a read."""
     help_told, version = help_text(), f"itree {text_of('VERSION')}".encode()
     asked = *((word, help_told) for word in ("help", "--help", "-h")), ("--version", version), ("-V", version)
     for word, text in asked:
@@ -229,8 +237,11 @@ def of_full_faults(preloaded):
             yield Case(name, mode.split(), lines(*said), taken, preloaded.under(ROOM_2=room))
 
 
-def all_cases():
-    """All cases, where there is a C compiler."""
+OF_ALL = of_collections, of_others, of_help, of_faults, of_trees_beside_lists, of_streams, of_texts, of_full_faults
+
+
+def all_cases(parts=OF_ALL):
+    """The cases of these parts, where there is a C compiler."""
     if not shutil.which(COMPILER[0]):
         print(f"LEFT OUT memory that is refused: there is no {COMPILER[0]} here (bindings/install)", flush=True)
         return
@@ -238,7 +249,7 @@ def all_cases():
         file = os.path.join(folder, "refuse.so")
         flags = ["-std=c11", "-Wall", "-Wextra", "-Wpedantic", "-Werror", "-O2", "-shared", "-fPIC"]
         subprocess.run([*COMPILER, *flags, SOURCE, "-o", file], check=True)
-        for part in of_collections, of_others, of_faults, of_trees_beside_lists, of_streams, of_full_faults:
+        for part in parts:
             yield from part(Preloaded(file))
 
 

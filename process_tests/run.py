@@ -1,10 +1,11 @@
 #!/usr/bin/env python3
 """Tests of the built program: in each case a process runs; its status and what it wrote to both streams are compared.
 
-usage: process_tests/run.py [PROGRAM ..]
+usage: process_tests/run.py [--only MODULE] [PROGRAM ..]
 
-With no program it is crates/itree/out/itree, which `rt run` and `rt ci` leave there. Each run that fails is printed,
-with what was wanted and what came. The last line is 'N passed, M failed'.
+With no program it is crates/itree/out/itree, which `rt run` and `rt ci` leave there. --only names a module of this folder, as
+`meetings`, whose cases are run alone. Each run that fails is printed, with what was wanted and what came. The last line is
+'N passed, M failed'.
 """
 
 import importlib
@@ -13,6 +14,9 @@ import sys
 from concurrent.futures import ProcessPoolExecutor, as_completed
 
 sys.dont_write_bytecode = True
+
+from documents import listed_in_help
+from processes import by_file
 
 HERE = os.path.dirname(os.path.abspath(__file__))
 BUILT = os.path.normpath(os.path.join(HERE, "..", "crates", "itree", "out", "itree"))
@@ -34,6 +38,9 @@ GROUPS = (
     "meetings",
     "locates",
 )
+
+# Modules whose cases run where the help of each program lists their mode.
+WHERE_LISTED = {"snaps": "snap"}
 
 # So many parts of modules run side by side at most.
 AT_ONCE = min(len(os.sched_getaffinity(0)), 4)
@@ -79,24 +86,37 @@ def part_failures(part):
     return failures(programs, importlib.import_module(group).PARTS[place]())
 
 
-def parts(programs):
-    """All parts of all modules, those of the last modules first: they take long."""
+def lists(text, mode):
+    """Whether a text of the help lists the mode."""
+    return f"itree {mode}" in listed_in_help(text.decode())
+
+
+def groups(programs):
+    """The modules that have cases for all of the programs."""
+    helps = [by_file([program, "help"], b"").output for program in programs]
+    listed = [group for group, mode in WHERE_LISTED.items() if all(lists(text, mode) for text in helps)]
+    return [*GROUPS, *listed]
+
+
+def parts(programs, only):
+    """All parts of all modules, or of one alone, those of the last modules first: they take long."""
     return [
         (programs, group, place)
-        for group in reversed(GROUPS)
+        for group in ([only] if only else reversed(groups(programs)))
         for place in range(len(importlib.import_module(group).PARTS))
     ]
 
 
-def main(programs):
-    programs = [os.path.abspath(program) for program in programs or [BUILT]]
+def main(words):
+    only, words = (words[1], words[2:]) if words[:1] == ["--only"] else (None, words)
+    programs = [os.path.abspath(program) for program in words or [BUILT]]
     runs = failed = 0
     for program in programs:
         if not (os.path.isfile(program) and os.access(program, os.X_OK)):
             print(f"FAILED no program at {program}: `rt run` in crates/itree builds it\n0 passed, 1 failed")
             return 1
     with ProcessPoolExecutor(AT_ONCE) as pool:
-        for done in as_completed([pool.submit(part_failures, part) for part in parts(programs)]):
+        for done in as_completed([pool.submit(part_failures, part) for part in parts(programs, only)]):
             more, said = done.result()
             print(*said, sep="\n", end="\n" * bool(said), flush=True)
             runs, failed = runs + more, failed + len(said)

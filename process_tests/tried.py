@@ -20,11 +20,13 @@ import documents
 import histories
 import locates
 import small
+import snaps
 import sweeps
 import text
 import worked
+from documents import help_text
 from processes import Beginning, Outcome, by_file
-from run import told
+from run import lists, told
 
 # The parts whose cases are tried, and those of which it is enough to try these modes, since others read lines by the same code.
 PARTS = (
@@ -32,6 +34,8 @@ PARTS = (
     *(partial(histories.all_modes, 40, [4]), *(partial(part, 300, 60) for part in small.PARTS)),
 )
 TEXTS = text.empty_texts, text.plain_lines, text.faulty_lines, text.numbers
+# Those of modes that the help in docs/COMMANDS.md may not list yet.
+WHERE_LISTED = {"snap": (snaps.worked,)}
 READ = "keytree", "setlist", "seg"
 
 CRATE = os.path.normpath(os.path.join(os.path.dirname(os.path.abspath(__file__)), "..", "crates", "itree"))
@@ -95,6 +99,7 @@ def outcomes(cases):
 
 def main():
     cases = [case for part in PARTS for case in part()]
+    cases += [case for mode, parts in WHERE_LISTED.items() if lists(help_text(), mode) for part in parts for case in part()]
     cases += [case for part in TEXTS for case in part() if case.words[0] in READ]
     cases = [case for case in cases if is_plain(case)]
     came, said = outcomes(cases)

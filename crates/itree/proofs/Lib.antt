@@ -1,5 +1,6 @@
 pub mod Answered
 pub mod Asked
+pub mod Chained
 pub mod CommandLines
 pub mod Counting
 pub mod Faults

@@ -9,7 +9,7 @@ use Rattle.itree.specs.MeetingsLines.{AreMetLines}
 use Rattle.itree.specs.KeyLines.{KeyLine}
 use Rattle.itree_lib.specs.Run.KeyMachine as keys
 use Rattle.itree.specs.LocateLines.{IsLineBelow, edges_of, points_of as points_among}
-use Rattle.itree.specs.Replies.{key_reply_words, seg_reply_words, set_reply_words, height_words, met_words, edge_words, reply_lines}
+use Rattle.itree.specs.Replies.{key_reply_words, seg_reply_words, set_reply_words, height_words, met_words, edge_words, chain_words, reply_lines}
 use Rattle.itree.specs.SegLines.{SegLine}
 use Rattle.itree_lib.specs.Run.SegMachine as segments
 use Rattle.itree_lib.specs.Run.SegMachine.{Reply as seg_reply}
@@ -21,6 +21,8 @@ use Rattle.itree.specs.declared.lines.locate.LocateLine.{LocateLine}
 use Rattle.itree.specs.declared.lines.sweep.SweepLine.{SweepLine}
 use Rattle.plane.specs.SweepLine.Crossings.{NoneCross}
 use Rattle.plane.specs.declared.edge.Edge.{Edge}
+use Rattle.plane.specs.declared.point.Point.{Point}
+use Rattle.overlay.specs.Snap.Chains.{AreChains}
 use Rattle.itree_lib.specs.declared.run.keys.KeyReply.{KeyReply}
 use Rattle.itree_lib.specs.declared.run.sets.SetReply.{SetReply}
 use Rattle.itree.specs.declared.set_key.SetKey.{SetKey}
@@ -98,3 +100,9 @@ pub record AnswersLocate (lines : List (List ℕ)) (said : List LocateLine) (out
   pub apart : NoneCross (edges_of said)
   pub below : AllZip (IsLineBelow lines said) (points_among said) replies
   pub written : output ≡ reply_lines edge_words replies
+
+-- the chains are those of the edges, each at its edge's place, and the output is their lines
+pub record AnswersSnap (edges : List Edge) (output : List ℕ) : Type 0 where
+  pub chains : List (List Point)
+  pub are : AreChains edges chains
+  pub written : output ≡ reply_lines chain_words chains

@@ -2,7 +2,7 @@
 use Rattle.std.specs.Prelude.{◌≡◌, ◌⊎◌, ⊤, ℕ, ℤ, List, [], ◌∷◌, map, codes}
 use Rattle.std.specs.Borrow.{Bor}
 use Rattle.i_tree.specs.Seg.Buckets.{HasLayout}
-use Rattle.itree.specs.Answers.{AnswersKeys, AnswersSet, AnswersRange, AnswersSweep, AnswersMeetings, AnswersLocate}
+use Rattle.itree.specs.Answers.{AnswersKeys, AnswersSet, AnswersRange, AnswersSweep, AnswersMeetings, AnswersLocate, AnswersSnap}
 use Rattle.itree.specs.MeetingsLines.{SaysEdge}
 use Rattle.itree.specs.Grammar.{ReadsAll, Says}
 use Rattle.itree.specs.KeyLines.{KeyLine, SaysKeyCommand}
@@ -14,7 +14,7 @@ use Rattle.itree.specs.declared.lines.locate.LocateLine.{LocateLine}
 use Rattle.itree.specs.declared.lines.sweep.SweepLine.{SweepLine}
 use Rattle.plane.specs.declared.edge.Edge.{Edge}
 use Rattle.itree.specs.declared.mode.Mode.{Mode}
-use Rattle.itree.specs.declared.mode.Mode.TheVariants.{KeyTree, KeyList, SetTree, SetList, Segments, Sweep, Meetings, Locate}
+use Rattle.itree.specs.declared.mode.Mode.TheVariants.{KeyTree, KeyList, SetTree, SetList, Segments, Sweep, Meetings, Locate, Snap}
 
 -- A mode: the word that names it and the numbers behind the word, which are to fit; which words of a line say which command;
 -- which output answers lines and the commands that they say; and which line of a text, and which two, tell a fault beside a
@@ -107,6 +107,19 @@ locate_row = record {
   AreCrossing = AreCrossingLines;
 }
 
+-- edges of the plane, each over its chain
+abbrev pub snap_row : Row
+snap_row = record {
+  word = codes "snap";
+  numbers = [];
+  Fits = ⊤;
+  Command = Edge;
+  SaysCommand = SaysEdge;
+  AnswersAll = λ lines. AnswersSnap;
+  IsOverlap = λ lines number. ⊥;
+  AreCrossing = λ lines first second. ⊥;
+}
+
 -- the row of each mode
 abbrev pub row_of : Mode → Row
 row_of KeyTree = keys_row (codes "keytree")
@@ -117,6 +130,7 @@ row_of (Segments min max) = segments_row min max
 row_of Sweep = sweep_row
 row_of Meetings = meetings_row
 row_of Locate = locate_row
+row_of Snap = snap_row
 
 -- the numbers of the mode fit: those of segments are the ends of a range that has a layout
 abbrev pub FitsItsNumbers : Mode → Type 0

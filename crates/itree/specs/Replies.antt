@@ -9,6 +9,7 @@ use Rattle.itree_lib.specs.declared.run.sets.SetReply.{SetReply}
 use Rattle.itree_lib.specs.declared.run.sets.SetReply.TheVariants as set_reply
 use Rattle.itree.specs.declared.set_key.SetKey.{SetKey}
 use Rattle.itree.specs.declared.timed_val.TimedVal.{TimedVal}
+use Rattle.plane.specs.declared.point.Point.{Point}
 
 -- the words of a reply to a command of keys that expire
 abbrev pub key_reply_words : KeyReply ℤ → List ℕ
@@ -55,6 +56,11 @@ met_words numbers = codes "meets" ++ flat_map (λ number. codes " " ++ decimal n
 abbrev pub edge_words : Option ℕ → List ℕ
 edge_words (Some number) = codes "edge " ++ decimal number
 edge_words None = codes "none"
+
+-- the words of the reply to an edge that is snapped: the points of its chain, each by its x and its y
+abbrev pub chain_words : List Point → List ℕ
+chain_words chain =
+    codes "chain" ++ flat_map (λ point. codes " " ++ (signed_decimal point.x ++ (codes " " ++ signed_decimal point.y))) chain
 
 -- the lines of the replies, each of which ends with a line feed
 abbrev pub reply_lines : {Reply : Type 0} → (Reply → List ℕ) → List Reply → List ℕ

@@ -27,12 +27,14 @@ use i_tree::status::tree::StatusTree;
 use itree_lib::run::{SegReply, run_keys, run_segments, run_sets};
 use locate::answer_locate;
 use meetings::answer_meetings;
+use snap::answer_snap;
 use std::alloc::Allocator;
 use std::cmp::Ordering;
 use sweep::answer_sweep;
 
 mod locate;
 mod meetings;
+mod snap;
 mod sweep;
 
 /// The text of the replies to the commands of a text, from an empty collection of the mode on.
@@ -95,6 +97,10 @@ pub fn answer_text<A: Allocator + Copy>(
             let said = parse_commands(alloc, text)?;
             let mut status = StatusTree::new(alloc, 0)?;
             answer_locate(alloc, &mut status, text, &said)
+        }
+        Mode::Snap => {
+            let edges = parse_commands(alloc, text)?;
+            answer_snap(alloc, &edges)
         }
     }
 }

@@ -45,6 +45,10 @@ edge covers the X from its lesser end up to its greater, which it doesn't cover.
   edge X0 Y0 X1 Y1
   point X Y                            edge LINE | none
 
+itree snap: for each edge between two points of the plane the points of the grid over which it goes
+where edges are broken where they meet, from its beginning to its end. No two then cross.
+  edge X0 Y0 X1 Y1                     chain X Y ..
+
 itree help, itree --help, itree -h: this text
 itree --version, itree -V: the version, as itree NUMBER.NUMBER.NUMBER
 

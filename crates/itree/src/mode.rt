@@ -26,6 +26,8 @@ pub enum Mode {
     Meetings,
     /// Points among edges of the plane, and which edge lies straight below each.
     Locate,
+    /// Edges of the plane, and over which points of the grid each goes where they are broken.
+    Snap,
 }
 
 impl Mode {
@@ -44,6 +46,7 @@ impl Mode {
             ["sweep"] => Some(Mode::Sweep),
             ["meetings"] => Some(Mode::Meetings),
             ["locate"] => Some(Mode::Locate),
+            ["snap"] => Some(Mode::Snap),
             _ => None,
         }
     }

@@ -19,7 +19,7 @@ use std::io::{Read, Write};
 /// nothing, and writes `HELP`; where they ask for the version, `VERSION`.
 ///
 /// `words` are the arguments without the program's name, which are to be the one word of a mode: `keytree`, `keylist`,
-/// `settree`, `setlist`, `sweep`, `meetings` or `locate`; or `seg`, `MIN` and `MAX`, the ends of a range that has a layout; or
+/// `settree`, `setlist`, `sweep`, `meetings`, `locate` or `snap`; or `seg`, `MIN` and `MAX`, the ends of a range that has a layout; or
 /// one word that asks for help, `help`, `--help` or `-h`, or for the version, `--version` or `-V`. `faults` stands for standard
 /// error, and the answer is the process's status:
 ///

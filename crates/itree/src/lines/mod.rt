@@ -18,6 +18,7 @@ mod locate;
 mod meetings;
 mod segments;
 mod sets;
+mod snap;
 mod sweep;
 
 pub use keys::KeyLine;
@@ -25,6 +26,7 @@ pub use locate::LocateLine;
 pub use meetings::MetLines;
 pub use segments::SegLine;
 pub use sets::SetLine;
+pub use snap::chain_text;
 pub use sweep::{SweepLine, segment_line};
 
 /// A command that the words of a line may say.

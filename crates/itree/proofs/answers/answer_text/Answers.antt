@@ -5,7 +5,7 @@ use Rattle.i_tree.specs.Rb.Shape.{Shape, entries}
 use Rattle.i_tree.specs.Seg.Buckets.{IsLayout}
 use Rattle.i_tree.specs.Set.Pairs.{values}
 use Rattle.i_tree.specs.Set.SetList.{numbered}
-use Rattle.itree.specs.Answers.{AnswersKeys, AnswersSet, AnswersSegments, AnswersSweep, AnswersMeetings, AnswersLocate}
+use Rattle.itree.specs.Answers.{AnswersKeys, AnswersSet, AnswersSegments, AnswersSweep, AnswersMeetings, AnswersLocate, AnswersSnap}
 use Rattle.itree.specs.Grammar.{lines_of}
 use Rattle.itree.specs.KeyLines.{KeyLine}
 use Rattle.itree.specs.SegLines.{SegLine}
@@ -13,7 +13,7 @@ use Rattle.itree.specs.Texts.{HasOverlapLine, HasCrossingLines}
 use Rattle.itree.specs.declared.lines.locate.LocateLine.{LocateLine}
 use Rattle.itree.specs.declared.lines.sweep.SweepLine.{SweepLine}
 use Rattle.itree.specs.declared.mode.Mode.{Mode}
-use Rattle.itree.specs.declared.mode.Mode.TheVariants.{KeyTree, KeyList, SetTree, SetList, Segments, Sweep, Meetings, Locate}
+use Rattle.itree.specs.declared.mode.Mode.TheVariants.{KeyTree, KeyList, SetTree, SetList, Segments, Sweep, Meetings, Locate, Snap}
 use Rattle.plane.specs.declared.edge.Edge.{Edge}
 use Rattle.itree.specs.declared.set_key.SetKey.{SetKey}
 use Rattle.itree.specs.declared.timed_key.TimedKey.{TimedKey}
@@ -82,3 +82,9 @@ returns-in_ok-status-in-Locate-clause-answered g c =
 pub returns-in_ok-status-in-Locate-clause-crossing : goal.returns-in_ok-status-in-Locate-clause-crossing
 returns-in_ok-status-in-Locate-clause-crossing g c = λ first second is.
     subst (λ (mode : Mode). HasCrossingLines mode c.args.text.now first second) (sym c.in-Locate.is) (c.answer_locate.ensures.crossing first second is)
+
+pub returns-in_ok-edges-in-Snap-clause-answered : goal.returns-in_ok-edges-in-Snap-clause-answered
+returns-in_ok-edges-in-Snap-clause-answered g c =
+    let parsed = c.in_ok-edges-in-Snap in
+    answered c.answer_snap.result (λ output. string_bytes output) Snap c.args.mode c.in-Snap.is c.args.text.now parsed.edges.items parsed.ensures.said
+    (subst (λ (edges : List Edge). IfOk c.answer_snap.result (λ output. AnswersSnap edges (string_bytes output))) c.deref-in-Snap.ensures.value c.answer_snap.ensures.answered)
