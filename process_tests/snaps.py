@@ -206,7 +206,7 @@ FAULTY = (
     *("edge 0 0 1 2147483648", "edge -2147483649 0 1 1", "segment 0 5 1", "point 0 0", "clear", "insert 0 1 2 3"),
 )
 
-# A run of more edges than few are, for refused memory.
+# A run for memory that is refused.
 RUN = (
     "snap",
     ("edge 0 0 9 9", "edge 0 9 9 0", "edge 0 5 9 5", "edge 5 0 5 9", "edge 20 0 20 5"),
@@ -317,7 +317,7 @@ def some_edges(random, point):
 
 
 def moved(item, step, times):
-    """The edge or the chain, so often so far away."""
+    """The edge or the point, so often so far away."""
     return tuple(number + step[at % 2] * times for at, number in enumerate(item))
 
 
@@ -379,8 +379,8 @@ def in_cells(count):
     return lines(*said), lines(*served)
 
 
-def many(count=MANY):
-    """The case of a million edges."""
+def many(count=MANY // 4):
+    """The case of many edges."""
     yield answered(f"{count} edges in cells", "snap", *in_cells(count))
 
 
