@@ -17,7 +17,7 @@ use std::alloc::Allocator;
 ///
 /// It is refused for want of memory alone, and leaves `out` as it was then. The memory is that of `out`'s allocator.
 /// It is one sweep over both lists together, as `pairs_among` does it. Where each item of the second list stands at a
-/// single x, as points do, it takes about half the time.
+/// single x, as points do, the tree holds items of the first list alone.
 pub fn pairs_between<X: Meets<Y>, Y: Boxed, A: Allocator + Copy>(
     items: &[X],
     others: &[Y],
