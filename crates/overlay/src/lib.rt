@@ -3,4 +3,5 @@
 //! All is told in whole numbers, and what is rounded is rounded exactly.
 #![tactic(auto)]
 
+pub mod fill;
 pub mod snap;

@@ -1,0 +1,5 @@
+-- Definitions of the fill: which points are inside, and the edges that bound them.
+pub mod Counts
+pub mod Filled
+pub mod Pieces
+pub mod Rules

@@ -1,0 +1,40 @@
+-- What a fill is: closed edges that wind once around the points inside, and around no others.
+use Rattle.std.specs.Prelude.{◌≡◌, ◌≢◌, ◌⊎◌, ◌++◌, List, All, AllPairs, Contains, ℤ, ◌<ℤ◌}
+use Rattle.std.specs.Int.{int_min, int_max}
+use Rattle.plane.specs.declared.edge.Edge.{Edge}
+use Rattle.plane.specs.Meet.Edges.{RationalPoint, IsOf}
+use Rattle.overlay.specs.declared.fill.rules.FillRule.{FillRule}
+use Rattle.overlay.specs.declared.fill.rules.Operation.{Operation}
+use Rattle.overlay.specs.Fill.Rules.{is_result}
+use Rattle.overlay.specs.Snap.Chains.{IsEnd}
+use Rattle.overlay.specs.Snap.Meeting.{HaveSameEnds, MeetAtEnds}
+use Rattle.overlay.specs.Snap.Windings.{count, reversed, winding, IsClosed}
+
+-- Each point of two of the edges is an end of both, or the two have the same ends.
+abbrev pub AreNoded : List Edge → Type 0
+AreNoded edges = (one other : Edge) (point : RationalPoint) → Contains edges one → Contains edges other → IsOf one point → IsOf other point → MeetAtEnds one other point
+
+-- No two of the edges have the same ends.
+abbrev pub AreDistinct : List Edge → Type 0
+AreDistinct edges = AllPairs (λ one other. ¬ (HaveSameEnds one other)) edges
+
+-- One of the edges that isn't vertical begins or ends at (x, y).
+abbrev pub IsEndOfSloped : List Edge → ℤ → ℤ → Type 0
+IsEndOfSloped edges x y = (edge : Edge) × Contains edges edge × (edge.x1 ≢ edge.x0) × IsEnd edge x y
+
+-- A vertical edge goes from an end of such edges to the next one in its column, up or down.
+pub record IsNextInColumn (edges : List Edge) (edge : Edge) : Type 0 where
+  pub vertical : edge.x1 ≡ edge.x0
+  pub apart : edge.y1 ≢ edge.y0
+  pub from : IsEndOfSloped edges edge.x0 edge.y0
+  pub to : IsEndOfSloped edges edge.x0 edge.y1
+  pub next : (y : ℤ) → IsEndOfSloped edges edge.x0 y → int_min edge.y0 edge.y1 <ℤ y → ¬ (y <ℤ int_max edge.y0 edge.y1)
+
+-- The edges that bound what the operation, by the rule, makes of the subject's inside and the clip's.
+pub record IsFilled (rule : FillRule) (operation : Operation) (subject clip edges : List Edge) : Type 0 where
+  pub winds : (point : RationalPoint) → winding edges point ≡ count (is_result rule operation (winding subject point) (winding clip point))
+  pub closed : IsClosed edges
+  pub noded : AreNoded edges
+  pub distinct : AreDistinct edges
+  pub sloped : All (λ edge. edge.x1 ≢ edge.x0 → Contains (subject ++ clip) edge ⊎ Contains (subject ++ clip) (reversed edge)) edges
+  pub vertical : All (λ edge. edge.x1 ≡ edge.x0 → IsNextInColumn edges edge) edges

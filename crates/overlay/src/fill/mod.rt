@@ -1,0 +1,4 @@
+//! Which edges bound what is inside.
+
+pub mod pieces;
+pub mod rules;
