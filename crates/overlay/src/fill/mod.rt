@@ -2,4 +2,4 @@
 
 pub mod pieces;
 pub mod rules;
-pub mod verticals;
+mod verticals;

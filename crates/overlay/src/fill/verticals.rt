@@ -10,8 +10,8 @@ ghost use Rattle.overlay.specs.Snap.Windings.{edge_between};
 use plane::edge::Edge;
 use std::alloc::{AllocError, Allocator};
 
-/// An end of an edge, and how many edges more end there by it than start: 1 where the edge ends, -1 where it starts. They are
-/// in order by x, and then by y.
+/// An end of an edge, and what it adds to how many edges end, less how many start: 1 where the edge ends there, -1 where it
+/// starts. Ends are in order by x, and then by y.
 #[derive(Clone, Copy, Debug, PartialEq, Eq, PartialOrd, Ord)]
 pub struct End {
     pub x: i32,
@@ -44,7 +44,7 @@ pub fn append_verticals<A: Allocator + Copy>(
 fn ends_of<A: Allocator>(alloc: A, edges: &[Edge]) -> Result<Vec<End, A>, AllocError>
     ensures { IfOk result (λ ends. ends.items ≡ flat_map both_ends edges.now) }
 {
-    let mut ends = Vec::new(alloc);
+    let mut ends = Vec::with_capacity(alloc, 2 * edges.len())?;
     for edge in edges {
         ends.push(starting(*edge))?;
         ends.push(ending(*edge))?;
@@ -74,7 +74,8 @@ fn ending(edge: Edge) -> End
     }
 }
 
-// Appends the vertical edges between next ends. Before the first end the sum is 0, so that none goes to it.
+// Appends the vertical edges between next ends. Before the first end and after the last one of each column the sum is 0, so that
+// no edge goes there.
 fn push_verticals<A: Allocator>(ends: &[End], edges: &mut Vec<Edge, A>) -> Result<(), AllocError>
     requires { All (λ end. (negsuc 0 ≤ℤ end.change) × (end.change ≤ℤ pos 1)) ends.now }
     ensures ok { OnOk result (edges.new.items ≡ edges.old.items ++ verticals_between (pos 0) before_all ends.now) }
