@@ -1,0 +1,40 @@
+-- Of closed edges as many end in a set of points as start there.
+use Rattle.std.proofs.Common.{◌≡◌, ℕ, ◌+◌, ℤ, pos, ◌+ℤ◌, ◌-ℤ◌, Bool, true, false, cond, List, [], ◌∷◌, refl, ap, arith, ◌∙◌}
+use Rattle.std.specs.List.{count_by}
+use Rattle.std.proofs.lemmas.Int.{ints}
+use Rattle.std.proofs.lemmas.List.Sums.{sum_by-cons}
+use Rattle.plane.specs.declared.edge.Edge.{Edge}
+use Rattle.plane.specs.declared.point.Point.{Point}
+use Rattle.overlay.specs.Fill.Pieces.{total}
+use Rattle.overlay.specs.Snap.Windings.{count, start_of, end_of, IsClosed}
+use Rattle.overlay.proofs.FillLemmas.Totals.{total-difference}
+
+-- What an edge carries into a set of points: 1 where it ends there, less 1 where it starts there.
+abbrev pub carried : (Point → Bool) → Edge → ℤ
+carried test edge = count (test (end_of edge)) -ℤ count (test (start_of edge))
+
+-- Edges that carry nothing into any set.
+abbrev pub AreBalanced : List Edge → Type 0
+AreBalanced edges = (test : Point → Bool) → total (carried test) edges ≡ pos 0
+
+-- how many pass a test, as a sum
+count_more : (test : Bool) (n : ℕ) (sum : ℤ) → pos n ≡ sum → pos (cond test 1 0 + n) ≡ (count test +ℤ sum)
+count_more true n sum is = omega (arith, ints, is)
+count_more false n sum is = omega (arith, ints, is)
+
+count-total : {X : Type 0} (test : X → Bool) (xs : List X) → pos (count_by test xs) ≡ total (λ x. count (test x)) xs
+count-total test [] = refl
+count-total test (x ∷ xs) =
+    ap pos (sum_by-cons (λ y. cond (test y) 1 0) x xs)
+    ∙ count_more (test x) (count_by test xs) (total (λ x. count (test x)) xs) (count-total test xs)
+
+pub balanced : (edges : List Edge) → IsClosed edges → AreBalanced edges
+balanced edges closed test =
+    let ends : Edge → Bool = λ edge. test (end_of edge) in
+    let starts : Edge → Bool = λ edge. test (start_of edge) in
+    total-difference (λ edge. count (ends edge)) (λ edge. count (starts edge)) edges
+    ∙ none (total (λ edge. count (ends edge)) edges) (total (λ edge. count (starts edge)) edges) (count_by ends edges) (count_by starts edges)
+    (count-total ends edges) (count-total starts edges) (closed test)
+  where
+    none : (a b : ℤ) (m n : ℕ) → pos m ≡ a → pos n ≡ b → n ≡ m → (a -ℤ b) ≡ pos 0
+    none a b m n first second same = omega (arith, ints, first, second, same)
