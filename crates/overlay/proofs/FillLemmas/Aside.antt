@@ -9,7 +9,7 @@ use Rattle.plane.specs.SweepLine.Crossings.{Cross}
 use Rattle.plane.specs.SweepLine.Heights.{run, height_by_run}
 use Rattle.plane.proofs.MeetLemmas.Identities.{number, plus, minus, times, at_most, at_most_of, same_of, identity}
 use Rattle.overlay.specs.Snap.Windings.{height_at, reversed}
-use Rattle.overlay.proofs.FillLemmas.Level.{MeetOnly, Within, of_at, end_at, whole_x, height_whole}
+use Rattle.overlay.proofs.FillLemmas.Level.{MeetOnly, of_at, end_at, whole_x, height_whole}
 use Rattle.overlay.proofs.FillLemmas.Tests.{lt_true, lt_false}
 use Rattle.overlay.proofs.FillLemmas.Uncrossed.{MeetOnly-reversed, uncrossed}
 use Rattle.overlay.proofs.SnapLemmas.Numbers.{n_of, natural}

@@ -3,7 +3,7 @@ use Rattle.std.proofs.Common.{◌≡◌, ℕ, ◌*◌, ◌<◌, ◌≤◌, ℤ, 
 use Rattle.std.proofs.lemmas.Int.{ints}
 use Rattle.std.proofs.Math.Nat.{mul-le-mul_left, mul-pos}
 use Rattle.plane.specs.declared.edge.Edge.{Edge}
-use Rattle.plane.specs.SweepLine.Heights.{run, height_by_run, height_by_runs}
+use Rattle.plane.specs.SweepLine.Heights.{run, height_by_runs}
 use Rattle.plane.specs.Meet.Edges.{RationalPoint, IsOf}
 use Rattle.plane.specs.Meet.Kinds.{IsEnd}
 use Rattle.plane.proofs.MeetLemmas.Identities.{number, plus, minus, times, at_most_of, same_of, identity, unscaled}

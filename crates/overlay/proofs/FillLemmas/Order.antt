@@ -5,7 +5,6 @@ use Rattle.std.proofs.lemmas.Int.{ints, by_lt_z}
 use Rattle.plane.specs.declared.edge.Edge.{Edge}
 use Rattle.plane.specs.declared.sweep_line.active.ActiveEdge.{ActiveEdge}
 use Rattle.plane.specs.SweepLine.Active.{cmp_active, common_start}
-use Rattle.plane.specs.SweepLine.Crossings.{Cross}
 use Rattle.plane.specs.SweepLine.Heights.{IsUpto, run, height_by_run, height_by_runs, rise_by_run}
 use Rattle.plane.proofs.MeetLemmas.Identities.{number, plus, minus, times, identity}
 use Rattle.plane.proofs.SweepLineLemmas.Order.{common_end, level_upto, never_above, in_order}

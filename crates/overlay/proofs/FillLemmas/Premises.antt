@@ -1,6 +1,6 @@
 -- What the pieces of noded edges have: they go rightwards, and they and the edges meet only at common ends.
-use Rattle.std.proofs.Common.{◌≡◌, ◌≢◌, ◌++◌, ◌<ℤ◌, List, inl, inr, subst}
-use Rattle.std.specs.List.{All, AllPairs, Contains}
+use Rattle.std.proofs.Common.{◌≡◌, ◌++◌, ◌<ℤ◌, List, subst}
+use Rattle.std.specs.List.{All, Contains}
 use Rattle.std.proofs.lemmas.List.Elements.{All-contains, All-contains_itself, All-weaker, Contains-append_left, Contains-append_right}
 use Rattle.plane.specs.declared.edge.Edge.{Edge}
 use Rattle.plane.specs.SweepLine.Heights.{rightwards}

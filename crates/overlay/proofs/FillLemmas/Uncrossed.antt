@@ -11,7 +11,7 @@ use Rattle.plane.proofs.MeetLemmas.Identities.{Term, number, plus, minus, times,
 use Rattle.plane.proofs.SweepLineLemmas.Rightwards.{rightwards-left, rightwards-right}
 use Rattle.overlay.specs.Snap.Windings.{height_at, reversed}
 use Rattle.overlay.proofs.FillLemmas.Level.{MeetOnly, level-same}
-use Rattle.overlay.proofs.SnapLemmas.Hobby.Ends.{reverse_meet_one, reverse_meet_other, exchange_meet}
+use Rattle.overlay.proofs.SnapLemmas.Hobby.Ends.{reverse_meet_one, exchange_meet}
 use Rattle.overlay.proofs.SnapLemmas.Numbers.{n_of, below, below_of, natural}
 use Rattle.overlay.proofs.SnapLemmas.Reversed.{IsOf-reversed}
 
