@@ -4,6 +4,7 @@ pub mod Aside
 pub mod Balance
 pub mod Callers
 pub mod Columns
+pub mod Filled
 pub mod Level
 pub mod Next
 pub mod Order
@@ -12,4 +13,6 @@ pub mod Ranked
 pub mod Tests
 pub mod Totals
 pub mod Uncrossed
+pub mod Under
 pub mod Weights
+pub mod Wound
