@@ -5,6 +5,8 @@ pub mod Balance
 pub mod Callers
 pub mod Columns
 pub mod Filled
+pub mod High
+pub mod Kept
 pub mod Level
 pub mod Next
 pub mod Order

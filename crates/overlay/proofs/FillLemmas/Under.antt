@@ -41,7 +41,7 @@ between s t n x z =
 
 -- ---- the tests
 
-le_true : (a b : ℤ) → a ≤ℤ b → int_le a b ≡ true
+pub le_true : (a b : ℤ) → a ≤ℤ b → int_le a b ≡ true
 le_true a b upto = by (int_le a b) refl
   where
     by : (t : Bool) → int_le a b ≡ t → t ≡ true
@@ -55,10 +55,10 @@ less_true a b less = by (int_lt a b) refl
     by true e = refl
     by false e = absurd (omega (arith, ints, e, less))
 
-le_is : (a b : ℤ) → int_le a b ≡ true → a ≤ℤ b
+pub le_is : (a b : ℤ) → int_le a b ≡ true → a ≤ℤ b
 le_is a b e = omega (arith, ints, e)
 
-less_is : (a b : ℤ) → int_lt a b ≡ true → a <ℤ b
+pub less_is : (a b : ℤ) → int_lt a b ≡ true → a <ℤ b
 less_is a b e = omega (arith, ints, e)
 
 -- the point's x is one of the edge's, but for the end's, and the edge isn't above the point there
