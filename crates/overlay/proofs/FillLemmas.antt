@@ -12,6 +12,7 @@ pub mod Next
 pub mod Order
 pub mod Premises
 pub mod Ranked
+pub mod Small
 pub mod Tests
 pub mod Totals
 pub mod Uncrossed

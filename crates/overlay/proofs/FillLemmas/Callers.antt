@@ -1,22 +1,36 @@
 -- What a caller of the fill wants of its pieces, in a caller's words.
-use Rattle.std.proofs.Common.{◌≡◌, ◌≢◌, ◌⊎◌, ◌++◌, true, false, List, ℤ, pos, ◌≤ℤ◌, ◌<ℤ◌, sym, subst}
+use Rattle.std.proofs.Common.{◌≡◌, ◌≢◌, ◌⊎◌, ◌++◌, Bool, true, false, List, length, ℤ, pos, ◌*ℤ◌, ◌≤ℤ◌, ◌<ℤ◌, ap, ap₂, arith, sym, subst, ◌∙◌}
+use Rattle.std.specs.Int.{int_max}
 use Rattle.std.specs.List.{Contains}
+use Rattle.std.proofs.lemmas.Int.{ints, clamps}
 use Rattle.std.specs.declared.cmp.Ordering.TheVariants.{Less}
 use Rattle.plane.specs.declared.edge.Edge.{Edge}
 use Rattle.plane.specs.declared.sweep_line.active.ActiveEdge.{ActiveEdge}
+use Rattle.plane.specs.Meet.Edges.{RationalPoint}
 use Rattle.plane.specs.SweepLine.Active.{cmp_active}
 use Rattle.plane.specs.SweepLine.Crossings.{Cross}
 use Rattle.plane.specs.SweepLine.Heights.{rise_by_run}
 use Rattle.overlay.specs.declared.fill.pieces.Piece.{Piece}
-use Rattle.overlay.specs.Fill.Counts.{is_over, is_lower_on, counts_below, counts_above}
-use Rattle.overlay.specs.Fill.Filled.{AreNoded}
+use Rattle.overlay.specs.declared.fill.rules.FillRule.{FillRule}
+use Rattle.overlay.specs.declared.fill.rules.Operation.{Operation}
+use Rattle.overlay.specs.Fill.Counts.{Counts, is_over, is_lower_on, counts_below, counts_above, kept_edges}
+use Rattle.overlay.specs.Fill.Filled.{AreNoded, AreDistinct}
 use Rattle.overlay.specs.Fill.Pieces.{ArePieces}
-use Rattle.overlay.specs.Snap.Windings.{IsClosed}
+use Rattle.overlay.specs.Fill.Rules.{is_result}
+use Rattle.overlay.specs.Snap.Windings.{count, reversed, winding, IsClosed}
+use Rattle.overlay.proofs.FillLemmas.Filled.{filled, is_result-none}
+use Rattle.overlay.proofs.FillLemmas.High.{top, upto-higher, upto-top, high-none}
+use Rattle.overlay.proofs.FillLemmas.Kept as kept
 use Rattle.overlay.proofs.FillLemmas.Level.{MeetOnly}
 use Rattle.overlay.proofs.FillLemmas.Next as next
 use Rattle.overlay.proofs.FillLemmas.Order as order
 use Rattle.overlay.proofs.FillLemmas.Premises.{onwards, meet-pieces}
+use Rattle.overlay.proofs.FillLemmas.Small as small
 use Rattle.overlay.proofs.FillLemmas.Uncrossed.{uncrossed}
+use Rattle.overlay.proofs.SnapLemmas.Numbers.{Bounds}
+
+max_upto : (a b : ℤ) → (a ≤ℤ int_max a b) × (b ≤ℤ int_max a b)
+max_upto a b = (omega (arith, ints, clamps), omega (arith, ints, clamps))
 
 -- ---- the order on a stretch
 
@@ -72,3 +86,48 @@ module _ (subject clip : List Edge) (closed : IsClosed subject) (clip_closed : I
   pub counts-first : (g : Piece) → ((q : Piece) → Contains pieces q → is_over g.edge.x0 q.edge ≡ true → is_lower_on g.edge.x0 q.edge g.edge ≡ false)
       → counts_below subject clip g ≡ record { subject = pos 0; clip = pos 0 }
   counts-first g lowest = next.counts-first subject clip closed clip_closed noded pieces are g lowest
+
+  -- Counts below and above a piece are no further from 0 than there are edges.
+  pub counts-small : (g : Piece) → Contains pieces g
+      → Bounds (length subject) (counts_below subject clip g).subject × Bounds (length subject) (counts_above subject clip g).subject
+      × Bounds (length clip) (counts_below subject clip g).clip × Bounds (length clip) (counts_above subject clip g).clip
+  counts-small g among = small.counts-small subject clip pieces are g among
+
+  -- ---- the edges kept
+
+  module _ (inside : Counts → Bool) where
+    -- Two kept edges meet only at common ends, and no two have the same ends.
+    pub kept-noded : AreNoded (kept_edges inside subject clip pieces)
+    kept-noded = kept.kept-noded subject clip noded pieces are inside
+
+    pub kept-distinct : AreDistinct (kept_edges inside subject clip pieces)
+    kept-distinct = kept.kept-distinct subject clip noded pieces are inside
+
+    -- None is vertical or a point.
+    pub kept-onwards : (edge : Edge) → Contains (kept_edges inside subject clip pieces) edge → edge.x1 ≢ edge.x0
+    kept-onwards edge among = kept.kept-onwards subject clip noded pieces are inside edge among
+
+    -- Each is one of the edges, or one of them the other way.
+    pub kept-of : (edge : Edge) → Contains (kept_edges inside subject clip pieces) edge → Contains (subject ++ clip) edge ⊎ Contains (subject ++ clip) (reversed edge)
+    kept-of edge among = kept.kept-of subject clip noded pieces are inside edge among
+
+  module _ (rule : FillRule) (operation : Operation) where
+    abbrev pub inside_by : Counts → Bool
+    inside_by counts = is_result rule operation counts.subject counts.clip
+
+    -- They wind once around each rational point of the result, and around no other.
+    pub kept-winds : (point : RationalPoint) → winding (kept_edges inside_by subject clip pieces) point ≡ count (is_result rule operation (winding subject point) (winding clip point))
+    kept-winds point = filled subject clip closed clip_closed noded pieces are point inside_by (is_result-none rule operation)
+
+    -- From some height on they wind around nothing.
+    pub kept-high : (bound : ℤ) × ((point : RationalPoint) → (pos point.n *ℤ bound) ≤ℤ point.y → winding (kept_edges inside_by subject clip pieces) point ≡ pos 0)
+    kept-high = (
+      int_max (top subject) (top clip),
+      λ point high.
+          let upto = max_upto (top subject) (top clip) in
+          kept-winds point
+          ∙ ap₂ (λ a b. count (is_result rule operation a b))
+          (high-none (int_max (top subject) (top clip)) point high subject closed (upto-higher (top subject) (int_max (top subject) (top clip)) subject upto.0 (upto-top subject)))
+          (high-none (int_max (top subject) (top clip)) point high clip clip_closed (upto-higher (top clip) (int_max (top subject) (top clip)) clip upto.1 (upto-top clip)))
+          ∙ ap count (is_result-none rule operation),
+    )

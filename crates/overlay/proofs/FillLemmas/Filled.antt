@@ -1,5 +1,5 @@
 -- The kept edges wind once around each point that is inside, and around no other.
-use Rattle.std.proofs.Common.{◌≡◌, ◌≢◌, ◌++◌, ℤ, pos, ◌+ℤ◌, ◌-ℤ◌, Bool, true, false, cond, ◌&&◌, List, get_or, refl, ap, ap₂, arith, sym, ◌∙◌}
+use Rattle.std.proofs.Common.{◌≡◌, ◌≢◌, ◌++◌, ℤ, pos, ◌-ℤ◌, Bool, true, false, cond, ◌&&◌, List, get_or, refl, ap, ap₂, arith, sym, ◌∙◌}
 use Rattle.std.specs.Int.{int_div_euclid}
 use Rattle.std.specs.List.{All, AllPairs, Contains, filter}
 use Rattle.std.proofs.lemmas.Int.{ints}

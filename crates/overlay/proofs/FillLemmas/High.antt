@@ -1,5 +1,5 @@
 -- Closed edges wind around nothing that lies above all of them.
-use Rattle.std.proofs.Common.{◌≡◌, ℤ, pos, ◌+ℤ◌, ◌-ℤ◌, ◌*ℤ◌, ◌<ℤ◌, ◌≤ℤ◌, Bool, true, false, not, ◌&&◌, List, [], ◌∷◌, refl, ap, ap₂, arith, sym, ◌∙◌}
+use Rattle.std.proofs.Common.{◌≡◌, ℤ, pos, ◌+ℤ◌, ◌-ℤ◌, ◌*ℤ◌, ◌<ℤ◌, ◌≤ℤ◌, Bool, true, false, not, ◌&&◌, List, [], ◌∷◌, refl, ap, ap₂, arith, ◌∙◌}
 use Rattle.std.specs.Int.{int_max}
 use Rattle.std.specs.List.{All}
 use Rattle.std.specs.Prelude.{int_le, int_lt}
@@ -12,7 +12,7 @@ use Rattle.plane.specs.SweepLine.Heights.{run}
 use Rattle.plane.proofs.MeetLemmas.Identities.{number, plus, minus, times, identity}
 use Rattle.plane.proofs.SweepLineLemmas.Gaps.{product_above}
 use Rattle.overlay.specs.Fill.Pieces.{total}
-use Rattle.overlay.specs.Snap.Windings.{count, covers, height_at, is_low, is_under, reversed, under, winding, IsClosed}
+use Rattle.overlay.specs.Snap.Windings.{count, height_at, is_low, is_under, reversed, under, winding, IsClosed}
 use Rattle.overlay.proofs.FillLemmas.Balance.{carried, balanced}
 use Rattle.overlay.proofs.FillLemmas.Under.{le_true, le_is, less_is}
 

@@ -1,5 +1,5 @@
 -- The edges kept: each is a piece or the reversed one, so they are as noded as the pieces are, and no two have the same ends.
-use Rattle.std.proofs.Common.{◌≡◌, ◌≢◌, ◌⊎◌, ◌++◌, inl, inr, ℤ, ◌<ℤ◌, Bool, true, false, List, get_or, [], ◌∷◌, ap, arith, refl, sym, subst, zero, suc, ◌∙◌}
+use Rattle.std.proofs.Common.{◌≡◌, ◌≢◌, ◌⊎◌, ◌++◌, inl, inr, ◌<ℤ◌, Bool, true, false, List, get_or, [], ◌∷◌, ap, arith, refl, sym, subst, zero, suc, ◌∙◌}
 use Rattle.std.specs.Int.Signed.{lt_z}
 use Rattle.std.specs.List.{All, AllPairs, Contains}
 use Rattle.std.proofs.lemmas.Int.{ints}

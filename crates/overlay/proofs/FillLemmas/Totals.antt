@@ -45,3 +45,11 @@ total-filter test f (x ∷ xs) = by (total-filter test f xs) (test x)
         → (cond t (f x) (pos 0) +ℤ total (λ x. cond (test x) (f x) (pos 0)) xs) ≡ total f (cond t (x ∷ filter test xs) (filter test xs))
     by rest true = ap (λ z. f x +ℤ z) rest
     by rest false = nothing (total (λ x. cond (test x) (f x) (pos 0)) xs) (total f (filter test xs)) rest
+
+-- a sum of sums
+together : (a b c d e : ℤ) → c ≡ (d +ℤ e) → ((a +ℤ b) +ℤ c) ≡ ((a +ℤ d) +ℤ (b +ℤ e))
+together a b c d e is = omega (arith, ints, is)
+
+pub total-sum : {X : Type 0} (f g : X → ℤ) (xs : List X) → total (λ x. f x +ℤ g x) xs ≡ (total f xs +ℤ total g xs)
+total-sum f g [] = refl
+total-sum f g (x ∷ xs) = together (f x) (g x) (total (λ x. f x +ℤ g x) xs) (total f xs) (total g xs) (total-sum f g xs)
