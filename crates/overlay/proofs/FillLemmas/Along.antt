@@ -12,9 +12,10 @@ use Rattle.overlay.specs.Fill.Pieces.{total, weight}
 use Rattle.overlay.specs.Snap.Windings.{start_of, end_of}
 use Rattle.overlay.proofs.FillLemmas.Aside.{is_beneath, IsOff, IsAside}
 use Rattle.overlay.proofs.FillLemmas.Balance.{AreBalanced}
-use Rattle.overlay.proofs.FillLemmas.Columns.{uncrossed_from, moves, moves-weighed}
+use Rattle.overlay.proofs.FillLemmas.Columns.{moves, moves-weighed}
 use Rattle.overlay.proofs.FillLemmas.Tests.{lt_true, lt_false}
 use Rattle.overlay.proofs.FillLemmas.Totals.{total-difference, total-moved}
+use Rattle.overlay.proofs.FillLemmas.Uncrossed.{uncrossed_from}
 use Rattle.overlay.proofs.FillLemmas.Weights.{ending, starting, in_column, weight-none, column-weights}
 use Rattle.overlay.proofs.SnapLemmas.Numbers.{up_is}
 
@@ -25,10 +26,11 @@ record Right (g r : Edge) : Type 0 where
   to : IsOff g r.x1 r.y1
 
 -- what ends in the column x + 1 below g, and what begins there
-abbrev pub column_below : Edge → ℤ → Edge → ℤ
+abbrev column_below : Edge → ℤ → Edge → ℤ
 column_below g x edge =
     ending (in_column (x +ℤ pos 1) (is_beneath g (x +ℤ pos 1))) edge -ℤ starting (in_column (x +ℤ pos 1) (is_beneath g (x +ℤ pos 1))) edge
 
+-- what has no weight moves none
 no_weight : (a b e s : Bool) → (cond a (pos 0) (pos 0) -ℤ cond b (pos 0) (pos 0)) ≡ (cond e (pos 0) (pos 0) -ℤ cond s (pos 0) (pos 0))
 no_weight a b e s = rw (none a, none b, none e, none s) refl
   where
@@ -37,6 +39,7 @@ no_weight a b e s = rw (none a, none b, none e, none s) refl
     none false = refl
 
 module _ (g : Edge) (x : ℤ) (from : g.x0 ≤ℤ x) (upto : (x +ℤ pos 1) <ℤ g.x1) where
+  -- from one stretch to the next, an edge that is turned rightwards moves what ends and what starts below g in between
   right_moved : (edge : Edge) → IsAside g edge → Right g (rightwards edge) → (below_on x g edge -ℤ below_on (x +ℤ pos 1) g edge) ≡ column_below g x edge
   right_moved edge noded right =
       let r = rightwards edge in
@@ -44,6 +47,7 @@ module _ (g : Edge) (x : ℤ) (from : g.x0 ≤ℤ x) (upto : (x +ℤ pos 1) <ℤ
       moves-weighed (is_over x r && is_lower_on x r g) (is_over (x +ℤ pos 1) r && is_lower_on (x +ℤ pos 1) r g) (column (end_of r)) (column (start_of r)) (weight edge)
       (moves r g x right.onwards from upto (uncrossed_from edge g (omega (arith, ints)) noded.uncrossed) right.from right.to)
 
+  -- and so does each edge: a vertical one weighs nothing
   moved : (edge : Edge) → IsAside g edge → (below_on x g edge -ℤ below_on (x +ℤ pos 1) g edge) ≡ column_below g x edge
   moved edge noded =
       by_lt_z edge.x0 edge.x1
@@ -65,6 +69,7 @@ module _ (g : Edge) (x : ℤ) (from : g.x0 ≤ℤ x) (upto : (x +ℤ pos 1) <ℤ
       (sym (weight-none edge (omega (arith, ints))))
       (no_weight (is_over x r && is_lower_on x r g) (is_over (x +ℤ pos 1) r && is_lower_on (x +ℤ pos 1) r g) (column (end_of r)) (column (start_of r)))))
 
+  -- a vertical edge in the column has both ends below g, or none
   level : (edge : Edge) → IsAside g edge → edge.x0 ≡ (x +ℤ pos 1) → edge.x1 ≡ (x +ℤ pos 1) → is_beneath g (x +ℤ pos 1) edge.y0 ≡ is_beneath g (x +ℤ pos 1) edge.y1
   level edge noded first second =
       subst (λ (z : ℤ). is_beneath g z edge.y0 ≡ is_beneath g z edge.y1) first (noded.upright (first ∙ sym second) (omega (arith, ints, first)) (omega (arith, ints, first)))
@@ -73,7 +78,7 @@ module _ (g : Edge) (x : ℤ) (from : g.x0 ≤ℤ x) (upto : (x +ℤ pos 1) <ℤ
   none a b same = omega (arith, ints, same)
 
   -- from one stretch to the next
-  pub constancy : (edges : List Edge) → AreBalanced edges → All (IsAside g) edges → total (below_on x g) edges ≡ total (below_on (x +ℤ pos 1) g) edges
+  constancy : (edges : List Edge) → AreBalanced edges → All (IsAside g) edges → total (below_on x g) edges ≡ total (below_on (x +ℤ pos 1) g) edges
   constancy edges closed noded =
       let column = in_column (x +ℤ pos 1) (is_beneath g (x +ℤ pos 1)) in
       let same = column-weights (x +ℤ pos 1) (is_beneath g (x +ℤ pos 1)) edges closed (All-weaker (IsAside g) (λ edge. edge.x0 ≡ (x +ℤ pos 1) → edge.x1 ≡ (x +ℤ pos 1) → is_beneath g (x +ℤ pos 1) edge.y0 ≡ is_beneath g (x +ℤ pos 1) edge.y1) level edges noded) in

@@ -33,6 +33,7 @@ pub record IsAside (g edge : Edge) : Type 0 where
 -- ---- the point of g at a whole x strictly inside it isn't of an edge that has an end at this x
 
 module _ (g edge : Edge) (meet : MeetOnly edge g) (x : ℤ) (behind : g.x0 <ℤ x) (before : x <ℤ g.x1) (at : (edge.x0 ≡ x) ⊎ (edge.x1 ≡ x)) (r k : ℕ) (is_run : run g ≡ pos r) (some : 0 < k) where
+  -- the point of g at x, over k times its run
   abbrev point_of : RationalPoint
   point_of = record {
     n = k * (r * 1);
@@ -41,12 +42,15 @@ module _ (g edge : Edge) (meet : MeetOnly edge g) (x : ℤ) (behind : g.x0 <ℤ 
     positive = mul-pos some (omega (arith, ints, is_run, behind, before));
   }
 
+  -- it is of g
   of_g : IsOf g point_of
   of_g = of_at g (whole_x x) r k point_of is_run (record { from = omega (arith, ints, behind); upto = omega (arith, ints, before) }) refl refl refl
 
+  -- it is at x
   upright_of : (pos 1 *ℤ point_of.x) ≡ (pos point_of.n *ℤ x)
   upright_of = identity (times (n_of 1) (times (n_of k) (times (n_of r) (number x)))) (times (n_of (k * (r * 1))) (number x)) (omega arith)
 
+  -- so it isn't of the edge: it would be an end of g, or the edge would be g
   not_of : ¬ (IsOf edge point_of)
   not_of of = elim (meet point_of of of_g) [
     | inl ends ↦ elim (end_at g (whole_x x) point_of upright_of ends.1) [
@@ -69,12 +73,14 @@ module _ (g edge : Edge) (meet : MeetOnly edge g) (x : ℤ) (behind : g.x0 <ℤ 
 start_x : (r : ℕ) (x w : ℤ) → (pos 1 *ℤ (pos r *ℤ x)) ≡ ((pos (1 * (r * 1)) *ℤ x) +ℤ (pos 0 *ℤ w))
 start_x r x w = identity (times (n_of 1) (times (n_of r) (number x))) (plus (times (n_of (1 * (r * 1))) (number x)) (times (n_of 0) (number w))) (omega arith)
 
+-- the same along y
 start_y : (r : ℕ) (h y w : ℤ) → (y *ℤ pos r) ≡ h → (pos 1 *ℤ h) ≡ ((pos (1 * (r * 1)) *ℤ y) +ℤ (pos 0 *ℤ w))
 start_y r h y w is =
     ap (λ z. pos 1 *ℤ z) (sym is)
     ∙ identity (times (n_of 1) (times (number y) (n_of r))) (plus (times (n_of (1 * (r * 1))) (number y)) (times (n_of 0) (number w))) (omega arith)
 
-pub off-from : (g edge : Edge) → MeetOnly edge g → IsOff g edge.x0 edge.y0
+-- no end of the edge is inside g
+off-from : (g edge : Edge) → MeetOnly edge g → IsOff g edge.x0 edge.y0
 off-from g edge meet = record { off = λ behind before level. off behind before level }
   where
     off : g.x0 <ℤ edge.x0 → edge.x0 <ℤ g.x1 → (edge.y0 *ℤ run g) ≡ height_by_run g edge.x0 → ⊥
@@ -90,11 +96,12 @@ off-from g edge meet = record { off = λ behind before level. off behind before 
           },
         )
 
-pub off-to : (g edge : Edge) → MeetOnly edge g → IsOff g edge.x1 edge.y1
+off-to : (g edge : Edge) → MeetOnly edge g → IsOff g edge.x1 edge.y1
 off-to g edge meet = off-from g (reversed edge) (MeetOnly-reversed edge g meet)
 
 -- ---- vertical edges
 
+-- what is below h, where the other isn't, is the lower one
 lower_first : (a b h : ℤ) (r : ℕ) → (a *ℤ pos r) <ℤ h → h ≤ℤ (b *ℤ pos r) → a <ℤ b
 lower_first a b h r first second =
     by_lt_z a b (λ less. less)
@@ -103,6 +110,7 @@ lower_first a b h r first second =
     let upto = at_most (times (number b) (n_of r)) (times (number a) (n_of r)) (omega (arith, more)) in
     absurd (omega (arith, ints, upto, first, second)))
 
+-- a share of a vertical edge, along x, along y, and that it is one
 climb_x : (r k a : ℕ) (x w : ℤ) → w ≡ pos 0 → (pos k *ℤ (pos r *ℤ x)) ≡ ((pos (k * (r * 1)) *ℤ x) +ℤ (pos a *ℤ w))
 climb_x r k a x w none =
     identity (times (n_of k) (times (n_of r) (number x))) (plus (times (n_of (k * (r * 1))) (number x)) (times (n_of a) (n_of 0))) (omega arith)
@@ -144,7 +152,7 @@ rises_not g edge meet same behind before low high =
     )
 
 -- so both ends of a vertical edge are below g, or none is
-pub upright-aside : (g edge : Edge) → MeetOnly edge g → edge.x0 ≡ edge.x1 → g.x0 <ℤ edge.x0 → edge.x0 <ℤ g.x1 → is_beneath g edge.x0 edge.y0 ≡ is_beneath g edge.x0 edge.y1
+upright-aside : (g edge : Edge) → MeetOnly edge g → edge.x0 ≡ edge.x1 → g.x0 <ℤ edge.x0 → edge.x0 <ℤ g.x1 → is_beneath g edge.x0 edge.y0 ≡ is_beneath g edge.x0 edge.y1
 upright-aside g edge meet same behind before =
     let h = height_by_run g edge.x0 in
     by_lt_z (edge.y0 *ℤ run g) h
@@ -156,6 +164,7 @@ upright-aside g edge meet same behind before =
     (subst (λ (x : ℤ). (edge.y1 *ℤ run g) <ℤ height_by_run g x) same low) (subst (λ (x : ℤ). height_by_run g x ≤ℤ (edge.y0 *ℤ run g)) same high)))
     (λ also. lt_false (edge.y0 *ℤ run g) h high ∙ sym (lt_false (edge.y1 *ℤ run g) h also)))
 
+-- what keeps off g in each of these ways
 pub aside : (g edge : Edge) → MeetOnly edge g → IsAside g edge
 aside g edge meet = record {
   uncrossed = uncrossed edge g meet;

@@ -28,6 +28,7 @@ count-total test (x ∷ xs) =
     ap pos (sum_by-cons (λ y. cond (test y) 1 0) x xs)
     ∙ count_more (test x) (count_by test xs) (total (λ x. count (test x)) xs) (count-total test xs)
 
+-- closed edges carry nothing into any set
 pub balanced : (edges : List Edge) → IsClosed edges → AreBalanced edges
 balanced edges closed test =
     let ends : Edge → Bool = λ edge. test (end_of edge) in

@@ -29,8 +29,13 @@ use Rattle.overlay.proofs.FillLemmas.Small as small
 use Rattle.overlay.proofs.FillLemmas.Uncrossed.{uncrossed}
 use Rattle.overlay.proofs.SnapLemmas.Numbers.{Bounds}
 
+-- the greater of two numbers is at least each of them
 max_upto : (a b : ℤ) → (a ≤ℤ int_max a b) × (b ≤ℤ int_max a b)
 max_upto a b = (omega (arith, ints, clamps), omega (arith, ints, clamps))
+
+-- Points with these winding numbers are of the result.
+abbrev pub inside_by : FillRule → Operation → Counts → Bool
+inside_by rule operation counts = is_result rule operation counts.subject counts.clip
 
 -- ---- the order on a stretch
 
@@ -112,15 +117,12 @@ module _ (subject clip : List Edge) (closed : IsClosed subject) (clip_closed : I
     kept-of edge among = kept.kept-of subject clip noded pieces are inside edge among
 
   module _ (rule : FillRule) (operation : Operation) where
-    abbrev pub inside_by : Counts → Bool
-    inside_by counts = is_result rule operation counts.subject counts.clip
-
     -- They wind once around each rational point of the result, and around no other.
-    pub kept-winds : (point : RationalPoint) → winding (kept_edges inside_by subject clip pieces) point ≡ count (is_result rule operation (winding subject point) (winding clip point))
-    kept-winds point = filled subject clip closed clip_closed noded pieces are point inside_by (is_result-none rule operation)
+    pub kept-winds : (point : RationalPoint) → winding (kept_edges (inside_by rule operation) subject clip pieces) point ≡ count (is_result rule operation (winding subject point) (winding clip point))
+    kept-winds point = filled subject clip closed clip_closed noded pieces are point (inside_by rule operation) (is_result-none rule operation)
 
     -- From some height on they wind around nothing.
-    pub kept-high : (bound : ℤ) × ((point : RationalPoint) → (pos point.n *ℤ bound) ≤ℤ point.y → winding (kept_edges inside_by subject clip pieces) point ≡ pos 0)
+    pub kept-high : (bound : ℤ) × ((point : RationalPoint) → (pos point.n *ℤ bound) ≤ℤ point.y → winding (kept_edges (inside_by rule operation) subject clip pieces) point ≡ pos 0)
     kept-high = (
       int_max (top subject) (top clip),
       λ point high.

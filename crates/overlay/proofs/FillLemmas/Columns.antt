@@ -5,20 +5,20 @@ use Rattle.std.proofs.lemmas.Bool.{and_left}
 use Rattle.std.proofs.lemmas.Int.{ints, by_lt_z}
 use Rattle.plane.specs.declared.edge.Edge.{Edge}
 use Rattle.plane.specs.declared.point.Point.{Point}
-use Rattle.plane.specs.SweepLine.Crossings.{Cross}
-use Rattle.plane.specs.SweepLine.Heights.{rightwards, run, height_by_run, height_by_runs, Spans}
+use Rattle.plane.specs.SweepLine.Heights.{run, height_by_run, height_by_runs}
 use Rattle.plane.proofs.MeetLemmas.Identities.{number, plus, minus, times, identity}
 use Rattle.plane.proofs.SweepLineLemmas.Gaps.{gap, slope, start, gap-linear, product_above}
-use Rattle.plane.proofs.SweepLineLemmas.Rightwards.{rightwards-same}
 use Rattle.overlay.specs.Fill.Counts.{is_over, is_lower_on}
 use Rattle.overlay.specs.Snap.Windings.{start_of, end_of}
 use Rattle.overlay.proofs.FillLemmas.Aside.{is_beneath, IsOff}
 use Rattle.overlay.proofs.FillLemmas.Tests.{lt_same, int_eq-true, int_eq-false, over_true, over_early, over_late}
+use Rattle.overlay.proofs.FillLemmas.Uncrossed.{Uncrossed}
 use Rattle.overlay.proofs.FillLemmas.Weights.{in_column}
 use Rattle.overlay.proofs.SnapLemmas.Numbers.{product_positive}
 
 -- ---- gaps: how far g is above r
 
+-- a positive multiple of a number below 0
 product_less : (k z : ℤ) → pos 0 <ℤ k → z <ℤ pos 0 → (k *ℤ z) <ℤ pos 0
 product_less k z some below =
     let rest = product_above k ((pos 0 -ℤ z) -ℤ pos 1) (omega (arith, ints)) (omega (arith, ints)) in
@@ -33,18 +33,21 @@ gap-end r g =
     (times (minus (number r.x1) (number r.x0)) (minus (number (height_by_run g r.x1)) (times (number r.y1) (number (run g)))))
     (omega arith)
 
+-- and at its start
 gap-start : (r g : Edge) → gap r g r.x0 ≡ (run r *ℤ (height_by_run g r.x0 -ℤ (r.y0 *ℤ run g)))
 gap-start r g =
     identity (minus (times (number (height_by_run g r.x0)) (minus (number r.x1) (number r.x0))) (times (plus (times (number r.y0) (minus (number r.x1) (number r.x0))) (times (number r.y1) (minus (number r.x0) (number r.x0)))) (number (run g))))
     (times (minus (number r.x1) (number r.x0)) (minus (number (height_by_run g r.x0)) (times (number r.y0) (number (run g)))))
     (omega arith)
 
+-- a linear function at three x's in a row
 evenly : (p q x : ℤ) → (((p *ℤ x) +ℤ q) +ℤ ((p *ℤ ((x +ℤ pos 1) +ℤ pos 1)) +ℤ q)) ≡ (((p *ℤ (x +ℤ pos 1)) +ℤ q) +ℤ ((p *ℤ (x +ℤ pos 1)) +ℤ q))
 evenly p q x =
     identity (plus (plus (times (number p) (number x)) (number q)) (plus (times (number p) (plus (plus (number x) (number (pos 1))) (number (pos 1)))) (number q)))
     (plus (plus (times (number p) (plus (number x) (number (pos 1)))) (number q)) (plus (times (number p) (plus (number x) (number (pos 1)))) (number q)))
     (omega arith)
 
+-- so the gap at the middle one is the mean of the other two
 gap-evenly : (r g : Edge) (x : ℤ) → (gap r g x +ℤ gap r g ((x +ℤ pos 1) +ℤ pos 1)) ≡ (gap r g (x +ℤ pos 1) +ℤ gap r g (x +ℤ pos 1))
 gap-evenly r g x =
     ap (λ a. a +ℤ gap r g ((x +ℤ pos 1) +ℤ pos 1)) (gap-linear r g x)
@@ -52,52 +55,17 @@ gap-evenly r g x =
     ∙ evenly (slope r g) (start r g) x
     ∙ sym (ap (λ c. c +ℤ c) (gap-linear r g (x +ℤ pos 1)))
 
--- ---- edges that don't cross
-
--- at no x that both span g is below r, if it is above it at another
-abbrev pub Uncrossed : Edge → Edge → Type 0
-Uncrossed r g =
-    (a b : ℤ) → r.x0 ≤ℤ a → a ≤ℤ r.x1 → g.x0 ≤ℤ a → a ≤ℤ g.x1 → r.x0 ≤ℤ b → b ≤ℤ r.x1 → g.x0 ≤ℤ b → b ≤ℤ g.x1
-    → gap r g a <ℤ pos 0 → gap r g b ≤ℤ pos 0
-
-pub uncrossed_from : (edge g : Edge) → g.x0 <ℤ g.x1 → ¬ (Cross edge g) → Uncrossed (rightwards edge) g
-uncrossed_from edge g onwards none a b a_from a_upto a_in a_to b_from b_upto b_in b_to less =
-    by_lt_z (pos 0) (gap (rightwards edge) g b) (λ above. absurd (none (cross above))) (λ upto. upto)
-  where
-    same : rightwards g ≡ g
-    same = rightwards-same g onwards
-
-    spans : (x : ℤ) → g.x0 ≤ℤ x → x ≤ℤ g.x1 → Spans g x
-    spans x after before = record {
-      from = subst (λ (t : Edge). t.x0 ≤ℤ x) (sym same) after;
-      upto = subst (λ (t : Edge). x ≤ℤ t.x1) (sym same) before;
-    }
-
-    cross : pos 0 <ℤ gap (rightwards edge) g b → Cross edge g
-    cross above = record {
-      below = b;
-      above = a;
-      is_below = record {
-        spanned = record { from = b_from; upto = b_upto };
-        other_spanned = spans b b_in b_to;
-        lower = subst (λ (t : Edge). height_by_runs (rightwards edge) t b <ℤ height_by_runs t (rightwards edge) b) (sym same) (omega (arith, ints, above));
-      };
-      is_above = record {
-        spanned = spans a a_in a_to;
-        other_spanned = record { from = a_from; upto = a_upto };
-        lower = subst (λ (t : Edge). height_by_runs t (rightwards edge) a <ℤ height_by_runs (rightwards edge) t a) (sym same) (omega (arith, ints, less));
-      };
-    }
-
 -- ---- one edge at the column x + 1
 
 -- What is counted behind and what before change places with what ends and what begins.
-abbrev pub Moves : Bool → Bool → Bool → Bool → Type 0
+abbrev Moves : Bool → Bool → Bool → Bool → Type 0
 Moves a b e s = (a ≡ e) × (b ≡ s) ⊎ (a ≡ b) × (e ≡ s)
 
+-- a difference of what is the same is that of what is the same elsewhere
 moved_apart : (z u v : ℤ) → u ≡ v → (z -ℤ z) ≡ (u -ℤ v)
 moved_apart z u v same = omega (arith, ints, same)
 
+-- so a weight that is counted behind and not before is one that ends and doesn't start
 pub moves-weighed : (a b e s : Bool) (w : ℤ) → Moves a b e s → (cond a w (pos 0) -ℤ cond b w (pos 0)) ≡ (cond e w (pos 0) -ℤ cond s w (pos 0))
 moves-weighed a b e s w (inl (first, second)) = ap (λ t. cond t w (pos 0) -ℤ cond b w (pos 0)) first ∙ ap (λ t. cond e w (pos 0) -ℤ cond t w (pos 0)) second
 moves-weighed a b e s w (inr (first, second)) =
@@ -115,24 +83,28 @@ through_there p q s even pq qp ps sp qs sq some =
     (λ above. omega (arith, ints, even, high, above, some)))
 
 module _ (r g : Edge) (x : ℤ) (onwards : r.x0 <ℤ r.x1) (g_from : g.x0 ≤ℤ x) (g_upto : (x +ℤ pos 1) <ℤ g.x1) (uncrossed : Uncrossed r g) (off_from : IsOff g r.x0 r.y0) (off_to : IsOff g r.x1 r.y1) where
+  -- the column is that of the next x: its points below g
   abbrev pub next : ℤ
   next = x +ℤ pos 1
 
   abbrev pub column : Point → Bool
   column = in_column next (is_beneath g next)
 
+  -- whether r is below g on the stretch that ends there, and on the one that starts there
   abbrev pub behind : Bool
   behind = is_over x r && is_lower_on x r g
 
   abbrev pub before : Bool
   before = is_over next r && is_lower_on next r g
 
+  -- whether an end of r is in the column
   not_in : (p : Point) → (p.x ≡ next → ⊥) → column p ≡ false
   not_in p differ = and_left (int_eq p.x next) (is_beneath g next p.y) (int_eq-false p.x next differ)
 
   in_it : (p : Point) → p.x ≡ next → column p ≡ is_beneath g next p.y
   in_it p is = ap (λ t. t && is_beneath g next p.y) (int_eq-true p.x next is)
 
+  -- whether r counts on a stretch
   out : (z : ℤ) → is_over z r ≡ false → (is_over z r && is_lower_on z r g) ≡ false
   out z not_over = and_left (is_over z r) (is_lower_on z r g) not_over
 
@@ -230,6 +202,7 @@ module _ (r g : Edge) (x : ℤ) (onwards : r.x0 <ℤ r.x1) (g_from : g.x0 ≤ℤ
       sq : s <ℤ pos 0 → q ≤ℤ pos 0
       sq = at last next (omega (arith, ints)) (omega (arith, ints)) (omega (arith, ints)) (omega (arith, ints))
 
+  -- r moves as it ends and starts there: before it, from it on, through it, upto it, and behind it
   pub moves : Moves behind before (column (end_of r)) (column (start_of r))
   moves =
       by_lt_z r.x1 next

@@ -33,6 +33,7 @@ use Rattle.overlay.proofs.SnapLemmas.Rounding.{Floor, floor_is}
 
 -- ---- no operation is inside where both are not
 
+-- a point that nothing winds around is inside by no rule
 is_inside-none : (rule : FillRule) → is_inside rule (pos 0) ≡ false
 is_inside-none EvenOdd = refl
 is_inside-none NonZero = refl
@@ -60,18 +61,21 @@ same_tests false true lower w first second = let h = first refl in cc
 same_tests false false lower w first second = refl
 
 module _ (subject clip : List Edge) (closed : IsClosed subject) (clip_closed : IsClosed clip) (noded : AreNoded (subject ++ clip)) (pieces : List Piece) (are : ArePieces subject clip pieces) (point : RationalPoint) where
+  -- the whole x at which the stretch starts
   abbrev x_of : ℤ
   x_of = int_div_euclid point.x (pos point.n)
 
   floor : Floor point.n point.x x_of
   floor = floor_is point.n point.x point.positive
 
+  -- which pieces are under the point, and how two of them stand on the stretch
   abbrev under : Piece → Bool
   under piece = is_under piece.edge point
 
   abbrev lower : Piece → Piece → Bool
   lower one other = is_lower_on x_of one.edge other.edge
 
+  -- those under the point
   abbrev here : List Piece
   here = filter under pieces
 
@@ -111,6 +115,7 @@ module _ (subject clip : List Edge) (closed : IsClosed subject) (clip_closed : I
   wound edges weigh joined = winding-total edges point ∙ joined (λ edge. is_under edge point) ∙ total-filter under weigh pieces
 
   module _ (inside : Counts → Bool) (outside : inside (record { subject = pos 0; clip = pos 0 }) ≡ false) where
+    -- whether counts are inside, as a number
     abbrev F : ℤ → ℤ → ℤ
     F a b = count (inside (record { subject = a; clip = b }))
 

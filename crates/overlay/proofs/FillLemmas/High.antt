@@ -26,16 +26,19 @@ abbrev pub top : List Edge → ℤ
 top [] = pos 0
 top (edge ∷ edges) = int_max (int_max edge.y0 edge.y1) (top edges)
 
+-- a greatest number is at least each
 top_from : (y0 y1 rest : ℤ) → (y0 ≤ℤ int_max (int_max y0 y1) rest) × (y1 ≤ℤ int_max (int_max y0 y1) rest) × (rest ≤ℤ int_max (int_max y0 y1) rest)
 top_from y0 y1 rest = (omega (arith, ints, clamps), omega (arith, ints, clamps), omega (arith, ints, clamps))
 
 above_too : (a b c : ℤ) → a ≤ℤ b → b ≤ℤ c → a ≤ℤ c
 above_too a b c first second = omega (arith, ints, first, second)
 
+-- what isn't above a height isn't above a higher one
 pub upto-higher : (height higher : ℤ) (edges : List Edge) → height ≤ℤ higher → All (IsUptoHeight height) edges → All (IsUptoHeight higher) edges
 upto-higher height higher edges more all =
     All-weaker (IsUptoHeight height) (IsUptoHeight higher) (λ edge is. record { from = above_too edge.y0 height higher is.from more; to = above_too edge.y1 height higher is.to more }) edges all
 
+-- no end is above the top
 pub upto-top : (edges : List Edge) → All (IsUptoHeight (top edges)) edges
 upto-top [] = All-nil (IsUptoHeight (pos 0))
 upto-top (edge ∷ edges) =
@@ -55,6 +58,7 @@ below_by y0 y1 b y n p x0 x1 =
     (minus (times (number y) wide) (plus (times (number y0) left) (times (number y1) right)))
     (omega arith)
 
+-- only an edge that doesn't go leftwards covers a point
 onwards_by : (n x0 x1 p : ℤ) → pos 0 ≤ℤ n → (n *ℤ x0) ≤ℤ p → p <ℤ (n *ℤ x1) → x0 ≤ℤ x1
 onwards_by n x0 x1 p some from before =
     by_lt_z x1 x0
@@ -81,6 +85,7 @@ module _ (height : ℤ) (point : RationalPoint) (high : (pos point.n *ℤ height
   abbrev pub passed : Point → Bool
   passed whole = int_le (pos point.n *ℤ whole.x) point.x
 
+  -- the test of less is the opposite of at most
   not_less : (a b : ℤ) → int_lt a b ≡ not (int_le b a)
   not_less a b = by (int_lt a b) (int_le b a) refl refl
     where
@@ -90,6 +95,7 @@ module _ (height : ℤ) (point : RationalPoint) (high : (pos point.n *ℤ height
       by true true e f = absurd (omega (arith, ints, e, f))
       by false false e f = absurd (omega (arith, ints, e, f))
 
+  -- so whether an edge is under the point is whether it covers its x
   under_covers : (edge : Edge) → IsUptoHeight height edge → is_under edge point ≡ (int_le (pos point.n *ℤ edge.x0) point.x && not (int_le (pos point.n *ℤ edge.x1) point.x))
   under_covers edge is = by (int_le (pos point.n *ℤ edge.x0) point.x) (int_lt point.x (pos point.n *ℤ edge.x1)) refl refl ∙ ap (λ t. int_le (pos point.n *ℤ edge.x0) point.x && t) (not_less point.x (pos point.n *ℤ edge.x1))
     where
@@ -111,9 +117,11 @@ module _ (height : ℤ) (point : RationalPoint) (high : (pos point.n *ℤ height
       ap₂ (λ s t. count s -ℤ count t) (under_covers edge is) (under_covers (reversed edge) (record { from = is.to; to = is.from }))
       ∙ apart (int_le (pos point.n *ℤ edge.x0) point.x) (int_le (pos point.n *ℤ edge.x1) point.x)
 
+  -- a sum of what is less each
   less_sum : (a b c d : ℤ) → a ≡ (pos 0 -ℤ c) → b ≡ (pos 0 -ℤ d) → (a +ℤ b) ≡ (pos 0 -ℤ (c +ℤ d))
   less_sum a b c d first second = omega (arith, ints, first, second)
 
+  -- and all edges together count what they carry to the right
   sum : (edges : List Edge) → All (IsUptoHeight height) edges → winding edges point ≡ (pos 0 -ℤ total (carried passed) edges)
   sum [] all = refl
   sum (edge ∷ edges) all =

@@ -22,6 +22,7 @@ use Rattle.overlay.proofs.FillLemmas.Uncrossed.{MeetOnly-reversed, MeetOnly-exch
 
 -- ---- edges with the same ends
 
+-- whichever is named first, and one after another
 same-exchanged : (one other : Edge) → HaveSameEnds one other → HaveSameEnds other one
 same-exchanged one other (inl same) = inl (sym same)
 same-exchanged one other (inr back) = inr (ap reversed (sym back))
@@ -32,6 +33,7 @@ same-trans one second third (inl same) (inr next) = inr (same ∙ next)
 same-trans one second third (inr back) (inl next) = inr (back ∙ ap reversed next)
 same-trans one second third (inr back) (inr next) = inl (back ∙ ap reversed next)
 
+-- an edge turned rightwards has the ends of the edge
 same-rightwards : (edge : Edge) → HaveSameEnds (rightwards edge) edge
 same-rightwards edge = by (lt_z edge.x1 edge.x0) refl
   where
@@ -57,6 +59,7 @@ first_or_others : (first : Edge) (others : List Edge) (start edge : Edge) → Ha
 first_or_others first others start edge same (zero, inside, is) = inl (subst (λ (e : Edge). HaveSameEnds e first) is same)
 first_or_others first others start edge same (suc k, inside, is) = inr (k, omega (arith, inside), is)
 
+-- of a piece its edge is kept, or the reversed one, or none
 kept_edge-cases : (below above : Bool) (first : Edge) (others : List Edge) (edge : Edge) → Contains (kept_edge below above first others) edge → HaveSameEnds edge first ⊎ Contains others edge
 kept_edge-cases true true first others edge among = inr among
 kept_edge-cases false false first others edge among = inr among
@@ -64,6 +67,7 @@ kept_edge-cases false true first others edge among = first_or_others first other
 kept_edge-cases true false first others edge among = first_or_others first others (reversed first) edge (inr refl) among
 
 module _ (inside : Counts → Bool) (subject clip : List Edge) where
+  -- each kept edge is of a piece
   kept-piece : (pieces : List Piece) (edge : Edge) → Contains (kept_edges inside subject clip pieces) edge → IsKeptOf pieces edge
   kept-piece [] edge (k, within, is) = absurd (omega (arith, within))
   kept-piece (piece ∷ pieces) edge among =
@@ -87,6 +91,7 @@ module _ (inside : Counts → Bool) (subject clip : List Edge) where
       AllPairs-cons (λ one other. ¬ (HaveSameEnds one other)) (reversed first) others
       (λ k d within same. apart k d within (same-trans first (reversed first) (get_or others k d) (inr refl) same)) distinct
 
+  -- so no two of all have
   all_distinct : (pieces : List Piece) → All (λ piece. piece.edge.x0 <ℤ piece.edge.x1) pieces → AllPairs (λ one other. one.edge ≢ other.edge) pieces → AreDistinct (kept_edges inside subject clip pieces)
   all_distinct [] all distinct = AllPairs-nil (λ one other. ¬ (HaveSameEnds one other))
   all_distinct (piece ∷ pieces) all distinct =
@@ -102,6 +107,7 @@ module _ (inside : Counts → Bool) (subject clip : List Edge) where
 -- ---- the kept edges of pieces
 
 module _ (subject clip : List Edge) (noded : AreNoded (subject ++ clip)) (pieces : List Piece) (are : ArePieces subject clip pieces) (inside : Counts → Bool) where
+  -- they meet only at common ends
   pub kept-noded : AreNoded (kept_edges inside subject clip pieces)
   kept-noded one other point first second of_one of_other =
       let p = kept-piece inside subject clip pieces one first in
@@ -109,6 +115,7 @@ module _ (subject clip : List Edge) (noded : AreNoded (subject ++ clip)) (pieces
       let meet = MeetOnly-same one p.piece.edge q.piece.edge p.same (meet-pieces subject clip noded pieces are p.piece q.piece p.among q.among) in
       MeetOnly-exchanged other one (MeetOnly-same other q.piece.edge one q.same (MeetOnly-exchanged one q.piece.edge meet)) point of_one of_other
 
+  -- no two have the same ends
   pub kept-distinct : AreDistinct (kept_edges inside subject clip pieces)
   kept-distinct = all_distinct inside subject clip pieces are.onwards are.distinct
 
@@ -123,6 +130,7 @@ module _ (subject clip : List Edge) (noded : AreNoded (subject ++ clip)) (pieces
       let to = ap (λ (e : Edge). e.x1) back in
       omega (arith, ints, some, upright, from, to)
 
+  -- none is vertical or a point
   pub kept-onwards : (edge : Edge) → Contains (kept_edges inside subject clip pieces) edge → edge.x1 ≢ edge.x0
   kept-onwards edge among =
       let p = kept-piece inside subject clip pieces edge among in
@@ -133,6 +141,7 @@ module _ (subject clip : List Edge) (noded : AreNoded (subject ++ clip)) (pieces
   either edge other (inl same) among = inl (subst (Contains (subject ++ clip)) (sym same) among)
   either edge other (inr back) among = inr (subst (Contains (subject ++ clip)) (ap reversed (sym back)) among)
 
+  -- each is an edge of the subject or of the clip, one way or the other
   pub kept-of : (edge : Edge) → Contains (kept_edges inside subject clip pieces) edge → Contains (subject ++ clip) edge ⊎ Contains (subject ++ clip) (reversed edge)
   kept-of edge among =
       let p = kept-piece inside subject clip pieces edge among in

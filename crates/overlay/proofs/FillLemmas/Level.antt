@@ -18,17 +18,20 @@ MeetOnly one other = (point : RationalPoint) → IsOf one point → IsOf other p
 
 -- ---- numbers
 
-pub cancel : (m : ℕ) (a b : ℤ) → 0 < m → (pos m *ℤ a) ≡ (pos m *ℤ b) → a ≡ b
+-- two numbers with the same positive multiple
+cancel : (m : ℕ) (a b : ℤ) → 0 < m → (pos m *ℤ a) ≡ (pos m *ℤ b) → a ≡ b
 cancel m a b some same =
     let upto = unscaled m a b some (omega (arith, ints, same)) in
     let from = unscaled m b a some (omega (arith, ints, same)) in
     omega (arith, ints, upto, from)
 
+-- k times a number at a share is at k times the share
 scaled_share : (k n a : ℕ) (p s w : ℤ) → p ≡ ((pos n *ℤ s) +ℤ (pos a *ℤ w)) → (pos k *ℤ p) ≡ ((pos (k * n) *ℤ s) +ℤ (pos (k * a) *ℤ w))
 scaled_share k n a p s w is =
     ap (λ z. pos k *ℤ z) is
     ∙ identity (times (n_of k) (plus (times (n_of n) (number s)) (times (n_of a) (number w)))) (plus (times (n_of (k * n)) (number s)) (times (n_of (k * a)) (number w))) (omega arith)
 
+-- how far an x of an edge is from its start is a share
 share_within : (n r a : ℕ) (p x0 x1 : ℤ) → (x1 -ℤ x0) ≡ pos r → (p -ℤ (pos n *ℤ x0)) ≡ pos a → p ≤ℤ (pos n *ℤ x1) → a ≤ r * n
 share_within n r a p x0 x1 is_run is_share upto =
     let one = ap (λ k. n * k) (same_of (minus (number x1) (number x0)) (n_of r) is_run) in
@@ -43,6 +46,7 @@ pub record Within (edge : Edge) (at : RationalPoint) : Type 0 where
   pub from : (pos at.n *ℤ edge.x0) ≤ℤ at.x
   pub upto : at.x ≤ℤ (pos at.n *ℤ edge.x1)
 
+-- the edge's point there, over k times its run
 pub of_at : (edge : Edge) (at : RationalPoint) (r k : ℕ) (point : RationalPoint) → run edge ≡ pos r → Within edge at → point.n ≡ k * (r * at.n) → point.x ≡ (pos k *ℤ (pos r *ℤ at.x)) → point.y ≡ (pos k *ℤ height_at edge at) → IsOf edge point
 of_at edge at r k point is_run within is_n is_x is_y =
     let from = within.from in
@@ -68,6 +72,7 @@ record Shared (one other : Edge) (at : RationalPoint) : Type 0 where
   pub of_other : IsOf other point
   pub upright : (pos at.n *ℤ point.x) ≡ (pos point.n *ℤ at.x)
 
+-- heights that are the same by cross-multiplying, over both runs
 level_out : (r s : ℕ) (h k v w : ℤ) → v ≡ pos r → w ≡ pos s → (h *ℤ w) ≡ (k *ℤ v) → (pos s *ℤ h) ≡ (pos r *ℤ k)
 level_out r s h k v w is_run is_other level =
     identity (times (n_of s) (number h)) (times (number h) (n_of s)) (omega arith)
@@ -102,7 +107,7 @@ shared one other at some some_too within within_too level =
     }
 
 -- a point above x / n that is whole there
-pub whole_at : (n m : ℕ) (x px q : ℤ) → 0 < m → px ≡ (pos m *ℤ x) → (pos n *ℤ px) ≡ (pos m *ℤ q) → (pos n *ℤ x) ≡ q
+whole_at : (n m : ℕ) (x px q : ℤ) → 0 < m → px ≡ (pos m *ℤ x) → (pos n *ℤ px) ≡ (pos m *ℤ q) → (pos n *ℤ x) ≡ q
 whole_at n m x px q some whole upright =
     cancel m (pos n *ℤ x) q some
     (identity (times (n_of m) (times (n_of n) (number x))) (times (n_of n) (times (n_of m) (number x))) (omega arith)
@@ -137,6 +142,7 @@ level-same one other at meet some some_too within behind before level =
 
 -- ---- at a whole x, and in the middle of a stretch
 
+-- a whole x as a rational one
 abbrev pub whole_x : ℤ → RationalPoint
 whole_x x = record {
   n = 1;
@@ -145,17 +151,13 @@ whole_x x = record {
   positive = omega arith;
 }
 
+-- the height there is the height at the whole x
 pub height_whole : (x x0 x1 y0 y1 : ℤ) → ((y0 *ℤ ((pos 1 *ℤ x1) -ℤ x)) +ℤ (y1 *ℤ (x -ℤ (pos 1 *ℤ x0)))) ≡ ((y0 *ℤ (x1 -ℤ x)) +ℤ (y1 *ℤ (x -ℤ x0)))
 height_whole x x0 x1 y0 y1 =
     identity (plus (times (number y0) (minus (times (n_of 1) (number x1)) (number x))) (times (number y1) (minus (number x) (times (n_of 1) (number x0)))))
     (plus (times (number y0) (minus (number x1) (number x))) (times (number y1) (minus (number x) (number x0)))) (omega arith)
 
-pub level-same_whole : (one other : Edge) (x : ℤ) → MeetOnly one other → one.x0 <ℤ one.x1 → other.x0 <ℤ other.x1 → one.x0 ≤ℤ x → x ≤ℤ one.x1 → other.x0 <ℤ x → x <ℤ other.x1
-    → height_by_runs one other x ≡ height_by_runs other one x → one ≡ other
-level-same_whole one other x meet some some_too from upto behind before level =
-    level-same one other (whole_x x) meet some some_too (record { from = omega (arith, ints, from); upto = omega (arith, ints, upto) }) (omega (arith, ints, behind)) (omega (arith, ints, before))
-    (ap (λ h. h *ℤ run other) (height_whole x one.x0 one.x1 one.y0 one.y1) ∙ level ∙ ap (λ h. h *ℤ run one) (sym (height_whole x other.x0 other.x1 other.y0 other.y1)))
-
+-- the middle between x and x + 1
 abbrev middle_x : ℤ → RationalPoint
 middle_x x = record {
   n = 2;
@@ -164,6 +166,7 @@ middle_x x = record {
   positive = omega arith;
 }
 
+-- twice the height there is the sum of the heights at both ends
 height_middle : (x x0 x1 y0 y1 w : ℤ) → (((y0 *ℤ ((pos 2 *ℤ x1) -ℤ ((x +ℤ x) +ℤ pos 1))) +ℤ (y1 *ℤ (((x +ℤ x) +ℤ pos 1) -ℤ (pos 2 *ℤ x0)))) *ℤ w)
     ≡ ((((y0 *ℤ (x1 -ℤ x)) +ℤ (y1 *ℤ (x -ℤ x0))) *ℤ w) +ℤ (((y0 *ℤ (x1 -ℤ (x +ℤ pos 1))) +ℤ (y1 *ℤ ((x +ℤ pos 1) -ℤ x0))) *ℤ w))
 height_middle x x0 x1 y0 y1 w =
@@ -173,6 +176,7 @@ height_middle x x0 x1 y0 y1 w =
     (plus (times (plus (times (number y0) (minus (number x1) (number x))) (times (number y1) (minus (number x) (number x0)))) (number w)) (times (plus (times (number y0) (minus (number x1) next)) (times (number y1) (minus next (number x0)))) (number w)))
     (omega arith)
 
+-- so two edges that are as high in the middle of a stretch are one
 pub level-same_middle : (one other : Edge) (x : ℤ) → MeetOnly one other → one.x0 ≤ℤ x → x <ℤ one.x1 → other.x0 ≤ℤ x → x <ℤ other.x1
     → (height_by_runs one other x +ℤ height_by_runs one other (x +ℤ pos 1)) ≡ (height_by_runs other one x +ℤ height_by_runs other one (x +ℤ pos 1)) → one ≡ other
 level-same_middle one other x meet from before from_too before_too level =

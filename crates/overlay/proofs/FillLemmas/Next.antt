@@ -29,6 +29,7 @@ differ_there a b c d w first second = omega (arith, ints, first, second)
 
 -- two sums are one where they have the same term at each element that isn't p, and differ by w where they have p once
 module _ (f g : Piece → ℤ) (p : Piece) (w : ℤ) (at : f p ≡ (g p +ℤ w)) where
+  -- the sums differ by w
   pub total-but : (pieces : List Piece) → AllPairs (λ one other. one.edge ≢ other.edge) pieces → Contains pieces p → All (λ q. q.edge ≢ p.edge → f q ≡ g q) pieces → total f pieces ≡ (total g pieces +ℤ w)
   total-but [] distinct (k, inside, is) all = absurd (omega (arith, inside))
   total-but (q ∷ pieces) distinct (zero, inside, is) all =
@@ -46,6 +47,7 @@ module _ (f g : Piece → ℤ) (p : Piece) (w : ℤ) (at : f p ≡ (g p +ℤ w))
 
 -- ---- what of the pieces is below one
 
+-- the counts of the subject and of the clip
 abbrev counts : ℤ → ℤ → Counts
 counts a b = record {
   subject = a;
@@ -56,6 +58,7 @@ counts a b = record {
 abbrev counted : ℤ → (Piece → ℤ) → Piece → Piece → ℤ
 counted x weigh g q = cond (is_over x q.edge && is_lower_on x q.edge g.edge) (weigh q) (pos 0)
 
+-- two pieces of which the same are lower count the same
 same_counted : (over one other : Bool) (w : ℤ) → (over ≡ true → one ≡ true → other ≡ true) → (other ≡ true → one ≡ true) → cond (over && one) w (pos 0) ≡ cond (over && other) w (pos 0)
 same_counted false one other w there back = refl
 same_counted true true true w there back = refl
@@ -63,6 +66,7 @@ same_counted true true false w there back = let h = there refl refl in cc
 same_counted true false true w there back = let h = back refl in cc
 same_counted true false false w there back = refl
 
+-- and one that is lower than the one alone is what the one counts more
 here_counted : (over one other : Bool) (w : ℤ) → over ≡ true → one ≡ true → other ≡ false → cond (over && one) w (pos 0) ≡ (cond (over && other) w (pos 0) +ℤ w)
 here_counted true true false w first second third = alone w
   where
@@ -72,6 +76,7 @@ here_counted true true true w first second third = cc
 here_counted true false other w first second third = cc
 here_counted false one other w first second third = cc
 
+-- what isn't lower counts nothing
 nothing_counted : (over lower : Bool) (w : ℤ) → (over ≡ true → lower ≡ false) → cond (over && lower) w (pos 0) ≡ pos 0
 nothing_counted false lower w none = refl
 nothing_counted true false w none = refl
@@ -81,18 +86,21 @@ module _ (subject clip : List Edge) (closed : IsClosed subject) (clip_closed : I
   -- where p is the highest of the pieces that are lower than g
   module _ (x : ℤ) (p g : Piece) (first : Contains pieces p) (second : Contains pieces g) (from : p.edge.x0 ≤ℤ x) (before : x <ℤ p.edge.x1) (lower : is_lower_on x p.edge g.edge ≡ true)
       (highest : (q : Piece) → Contains pieces q → is_over x q.edge ≡ true → is_lower_on x q.edge g.edge ≡ true → (q ≡ p) ⊎ (is_lower_on x q.edge p.edge ≡ true)) where
+    -- each other piece that is lower than g is lower than p, and back
     same_at : (weigh : Piece → ℤ) (q : Piece) → Contains pieces q → q.edge ≢ p.edge → counted x weigh g q ≡ counted x weigh p q
     same_at weigh q among differ =
         same_counted (is_over x q.edge) (is_lower_on x q.edge g.edge) (is_lower_on x q.edge p.edge) (weigh q)
         (λ over below. elim (highest q among over below) [ inl same ↦ absurd (differ (ap (λ (r : Piece). r.edge) same)) | inr less ↦ less ])
         (λ less. lower-trans x q.edge p.edge g.edge (onwards subject clip noded pieces are q among) (onwards subject clip noded pieces are p first) (onwards subject clip noded pieces are g second) less lower)
 
+    -- so what is counted below g is what is counted below p, and p
     counted-next : (weigh : Piece → ℤ) → total (counted x weigh g) pieces ≡ (total (counted x weigh p) pieces +ℤ weigh p)
     counted-next weigh =
         total-but (counted x weigh g) (counted x weigh p) p (weigh p)
         (here_counted (is_over x p.edge) (is_lower_on x p.edge g.edge) (is_lower_on x p.edge p.edge) (weigh p) (over_true x p.edge from before) lower (lower-irrefl x p.edge))
         pieces are.distinct first (All-among (λ q. q.edge ≢ p.edge → counted x weigh g q ≡ counted x weigh p q) pieces (same_at weigh))
 
+    -- and the edges below g weigh what those below p weigh, and p
     below-next : (edges : List Edge) (weigh : Piece → ℤ) → AreBalanced edges → AreJoined edges weigh pieces → All (IsAside p.edge) edges
         → total (below_on x g.edge) edges ≡ (total (below_on p.edge.x0 p.edge) edges +ℤ weigh p)
     below-next edges weigh balanced joined beside =

@@ -8,13 +8,11 @@ use Rattle.plane.specs.SweepLine.Active.{cmp_active, common_start}
 use Rattle.plane.specs.SweepLine.Heights.{IsUpto, run, height_by_run, height_by_runs, rise_by_run}
 use Rattle.plane.proofs.MeetLemmas.Identities.{number, plus, minus, times, identity}
 use Rattle.plane.proofs.SweepLineLemmas.Order.{common_end, level_upto, never_above, in_order}
-use Rattle.plane.proofs.SweepLineLemmas.Rightwards.{rightwards-same}
 use Rattle.plane.proofs.SweepLineLemmas.Uncrossed.{max_before, min_behind}
 use Rattle.overlay.specs.Fill.Counts.{is_over, is_lower_on}
-use Rattle.overlay.proofs.FillLemmas.Columns.{Uncrossed, uncrossed_from}
 use Rattle.overlay.proofs.FillLemmas.Level.{MeetOnly, level-same_middle}
 use Rattle.overlay.proofs.FillLemmas.Tests.{lt_true, lt_false, lt_is, over_is, over_true}
-use Rattle.overlay.proofs.FillLemmas.Uncrossed.{uncrossed}
+use Rattle.overlay.proofs.FillLemmas.Uncrossed.{Uncrossed, uncrossed, uncrossed_onwards}
 use Rattle.overlay.proofs.SnapLemmas.Numbers.{product_positive}
 
 -- the heights at both ends of the stretch, added, by which the test compares
@@ -41,6 +39,7 @@ rising a b c m n k some_m some_n some_k first second =
     let there = in_order c a b k m n some_k some_m some_n back (omega (arith, ints, first)) in
     absurd (omega (arith, ints, there, second)))
 
+-- a sum of products by one number
 twofold : (h k m : ℤ) → ((h *ℤ m) +ℤ (k *ℤ m)) ≡ ((h +ℤ k) *ℤ m)
 twofold h k m = identity (plus (times (number h) (number m)) (times (number k) (number m))) (times (plus (number h) (number k)) (number m)) (omega arith)
 
@@ -48,6 +47,7 @@ twofold h k m = identity (plus (times (number h) (number m)) (times (number k) (
 abbrev middle : ℤ → Edge → ℤ
 middle x edge = height_by_run edge x +ℤ height_by_run edge (x +ℤ pos 1)
 
+-- the test compares the middles by cross-multiplying
 lower_out : (x : ℤ) (one other : Edge) → is_lower_on x one other ≡ true → (middle x one *ℤ run other) <ℤ (middle x other *ℤ run one)
 lower_out x one other e =
     let less = lt_is (low x one other) (low x other one) e in
@@ -116,6 +116,7 @@ stands-lower one other x meet differ over over_too before =
 
 -- ---- edges that start at one x
 
+-- the height of an edge at its start
 start_height : (x0 x1 y0 y1 w : ℤ) → (((y0 *ℤ (x1 -ℤ x0)) +ℤ (y1 *ℤ (x0 -ℤ x0))) *ℤ w) ≡ (y0 *ℤ ((x1 -ℤ x0) *ℤ w))
 start_height x0 x1 y0 y1 w =
     identity (times (plus (times (number y0) (minus (number x1) (number x0))) (times (number y1) (minus (number x0) (number x0)))) (number w))
@@ -125,31 +126,37 @@ start_height x0 x1 y0 y1 w =
 height-start : (edge other : Edge) → height_by_runs edge other edge.x0 ≡ (edge.y0 *ℤ (run edge *ℤ run other))
 height-start edge other = start_height edge.x0 edge.x1 edge.y0 edge.y1 (run other)
 
+-- and of another that starts at the same x
 height-start_other : (edge other : Edge) → edge.x0 ≡ other.x0 → height_by_runs other edge edge.x0 ≡ (other.y0 *ℤ (run edge *ℤ run other))
 height-start_other edge other level =
     subst (λ (x : ℤ). height_by_runs other edge x ≡ (other.y0 *ℤ (run other *ℤ run edge))) (sym level) (height-start other edge)
     ∙ ap (λ k. other.y0 *ℤ k) (identity (times (number (run other)) (number (run edge))) (times (number (run edge)) (number (run other))) (omega arith))
 
+-- a multiple of a difference
 apart_by : (k a b : ℤ) → (k *ℤ (b -ℤ a)) ≡ ((b *ℤ k) -ℤ (a *ℤ k))
 apart_by k a b = identity (times (number k) (minus (number b) (number a))) (minus (times (number b) (number k)) (times (number a) (number k))) (omega arith)
 
 -- the one that starts lower, or as high and goes on no steeper
 module _ (one other : Edge) (meet : MeetOnly one other) (differ : one ≢ other) (some : one.x0 <ℤ one.x1) (some_too : other.x0 <ℤ other.x1) (level : one.x0 ≡ other.x0) where
+  -- how high both start
   here : height_by_runs one other one.x0 ≡ (one.y0 *ℤ (run one *ℤ run other))
   here = height-start one other
 
   there : height_by_runs other one one.x0 ≡ (other.y0 *ℤ (run one *ℤ run other))
   there = height-start_other one other level
 
+  -- both are over the stretch
   over : is_over one.x0 one ≡ true
   over = over_true one.x0 one (omega (arith, ints)) some
 
   over_too : is_over one.x0 other ≡ true
   over_too = over_true one.x0 other (omega (arith, ints, level)) (omega (arith, ints, level, some_too))
 
+  -- they don't cross
   never : Uncrossed one other
-  never = subst (λ (r : Edge). Uncrossed r other) (rightwards-same one some) (uncrossed_from one other some_too (uncrossed one other meet))
+  never = uncrossed_onwards one other some some_too (uncrossed one other meet)
 
+  -- the one that starts lower is lower there
   starts_lower : one.y0 <ℤ other.y0 → height_by_runs one other one.x0 <ℤ height_by_runs other one one.x0
   starts_lower less =
       let k = run one *ℤ run other in
@@ -157,6 +164,7 @@ module _ (one other : Edge) (meet : MeetOnly one other) (differ : one ≢ other)
       let is = apart_by k one.y0 other.y0 in
       omega (arith, ints, here, there, apart, is)
 
+  -- and isn't above the other at the next x
   next_upto : height_by_runs one other one.x0 <ℤ height_by_runs other one one.x0 → IsUpto one other (one.x0 +ℤ pos 1)
   next_upto lower =
       by_lt_z (height_by_runs other one (one.x0 +ℤ pos 1)) (height_by_runs one other (one.x0 +ℤ pos 1))
@@ -165,6 +173,7 @@ module _ (one other : Edge) (meet : MeetOnly one other) (differ : one ≢ other)
       absurd (omega (arith, ints, also, lower)))
       (λ upto. upto)
 
+  -- so it is lower on the stretch; and so is one that starts as high and goes on no steeper
   pub start-lower : (one.y0 <ℤ other.y0) ⊎ ((one.y0 ≡ other.y0) × (rise_by_run one other ≤ℤ rise_by_run other one)) → is_lower_on one.x0 one other ≡ true
   start-lower (inl less) =
       let lower = starts_lower less in

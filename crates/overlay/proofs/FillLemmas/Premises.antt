@@ -16,6 +16,7 @@ pub All-among : {X : Type 0} (P : X → Type 0) (xs : List X) → ((x : X) → C
 All-among P xs each = All-weaker (Contains xs) P each xs (All-contains_itself xs)
 
 module _ (subject clip : List Edge) (noded : AreNoded (subject ++ clip)) (pieces : List Piece) (are : ArePieces subject clip pieces) where
+  -- each piece goes rightwards
   pub onwards : (p : Piece) → Contains pieces p → p.edge.x0 <ℤ p.edge.x1
   onwards p among = All-contains (λ (q : Piece). q.edge.x0 <ℤ q.edge.x1) pieces p are.onwards among
 

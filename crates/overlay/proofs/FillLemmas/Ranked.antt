@@ -12,7 +12,7 @@ use Rattle.overlay.specs.Fill.Pieces.{total}
 use Rattle.overlay.proofs.FillLemmas.Totals.{total-none}
 
 -- two facts of all
-pub All-both : {X : Type 0} (P Q : X → Type 0) (xs : List X) → All P xs → All Q xs → All (λ x. P x × Q x) xs
+All-both : {X : Type 0} (P Q : X → Type 0) (xs : List X) → All P xs → All Q xs → All (λ x. P x × Q x) xs
 All-both P Q xs first second k d inside = (first k d inside, second k d inside)
 
 module _ {X : Type 0} (lower : X → X → Bool) where
@@ -24,6 +24,7 @@ module _ {X : Type 0} (lower : X → X → Bool) where
   abbrev pub Rises : List X → Type 0
   Rises xs = AllPairs (λ x y. lower x y ≡ true) xs
 
+  -- sorted by insertion
   abbrev insert : X → List X → List X
   insert x [] = x ∷ []
   insert x (y ∷ ys) = cond (lower x y) (x ∷ y ∷ ys) (y ∷ insert x ys)
@@ -32,6 +33,7 @@ module _ {X : Type 0} (lower : X → X → Bool) where
   sort [] = []
   sort (x ∷ xs) = insert x (sort xs)
 
+  -- two terms exchanged
   exchanged : (a b c : ℤ) → (b +ℤ (a +ℤ c)) ≡ (a +ℤ (b +ℤ c))
   exchanged a b c = omega (arith, ints)
 
@@ -61,6 +63,7 @@ module _ {X : Type 0} (lower : X → X → Bool) where
   All-sorted P (x ∷ xs) all = All-inserted P x (sort xs) (All-head P x xs all) (All-sorted P xs (All-tail P x xs all))
 
   module _ (P : X → Type 0) (trans : (x y z : X) → P x → P y → P z → lower x y ≡ true → lower y z ≡ true → lower x z ≡ true) where
+    -- what is inserted into a list in order leaves it in order
     Rises-inserted : (x : X) (ys : List X) → P x → All P ys → All (Differ x) ys → Rises ys → Rises (insert x ys)
     Rises-inserted x [] first all differ rises = AllPairs-cons (λ x y. lower x y ≡ true) x [] (All-nil (λ y. lower x y ≡ true)) rises
     Rises-inserted x (y ∷ ys) first all differ rises =
@@ -81,6 +84,7 @@ module _ {X : Type 0} (lower : X → X → Bool) where
             (All-inserted (λ z. lower y z ≡ true) x ys (elim (All-head (Differ x) y ys differ) [ inl less ↦ cc | inr more ↦ more ]) above)
             rest
 
+    -- so a sorted list is in order
     Rises-sorted : (xs : List X) → All P xs → AllPairs Differ xs → Rises (sort xs)
     Rises-sorted [] all distinct = AllPairs-nil (λ x y. lower x y ≡ true)
     Rises-sorted (x ∷ xs) all distinct =
@@ -101,6 +105,7 @@ module _ {X : Type 0} (lower : X → X → Bool) where
         (All-cons (λ y. cond (lower y x) (w y) (pos 0) ≡ pos 0) x xs (ap (λ t. cond t (w x) (pos 0)) (irrefl x))
         (All-weaker (λ y. lower x y ≡ true) (λ y. cond (lower y x) (w y) (pos 0) ≡ pos 0) (λ y less. ap (λ t. cond t (w y) (pos 0)) (asym x y less)) xs above))
 
+    -- sums in other orders
     assoc : (a b c : ℤ) → (a +ℤ (b +ℤ c)) ≡ ((a +ℤ b) +ℤ c)
     assoc a b c = omega (arith, ints)
 
@@ -111,10 +116,12 @@ module _ {X : Type 0} (lower : X → X → Bool) where
     abbrev Starts : (X → ℤ) → ℤ → (X → ℤ) → List X → Type 0
     Starts w a below xs = All (λ y. below y ≡ (a +ℤ sum_below w xs y)) xs
 
+    -- so below the first is a
     starts-first : (w : X → ℤ) (a : ℤ) (below : X → ℤ) (x : X) (xs : List X) → All (λ y. lower x y ≡ true) xs → Starts w a below (x ∷ xs) → below x ≡ a
     starts-first w a below x xs above starts =
         All-head (λ y. below y ≡ (a +ℤ sum_below w (x ∷ xs) y)) x xs starts ∙ ap (λ z. a +ℤ z) (below_first w x xs above) ∙ add_none a
 
+    -- and below each of the others a and the first's weight, and what of the others is lower
     starts-next : (w : X → ℤ) (a : ℤ) (below : X → ℤ) (x : X) (xs : List X) → All (λ y. lower x y ≡ true) xs → Starts w a below (x ∷ xs) → Starts w (a +ℤ w x) below xs
     starts-next w a below x xs above starts =
         All-weaker (λ y. (lower x y ≡ true) × (below y ≡ (a +ℤ sum_below w (x ∷ xs) y))) (λ y. below y ≡ ((a +ℤ w x) +ℤ sum_below w xs y))
@@ -123,18 +130,22 @@ module _ {X : Type 0} (lower : X → X → Bool) where
 
     -- two weights at a time
     module _ (F : ℤ → ℤ → ℤ) (v w : X → ℤ) (v_below w_below : X → ℤ) where
+      -- what F gains at y
       abbrev pub gain : X → ℤ
       gain y = F (v_below y +ℤ v y) (w_below y +ℤ w y) -ℤ F (v_below y) (w_below y)
 
+      -- two gains, one after the other
       joined : (first rest middle last start : ℤ) → first ≡ (middle -ℤ start) → rest ≡ (last -ℤ middle) → (first +ℤ rest) ≡ (last -ℤ start)
       joined first rest middle last start one other = omega (arith, ints, one, other)
 
+      -- no weights gain nothing
       nothing : (a b : ℤ) → pos 0 ≡ (F (a +ℤ pos 0) (b +ℤ pos 0) -ℤ F a b)
       nothing a b = sym (ap₂ (λ c d. F c d -ℤ F a b) (add_none a) (add_none b) ∙ none (F a b))
         where
           none : (z : ℤ) → (z -ℤ z) ≡ pos 0
           none z = omega (arith, ints)
 
+      -- along a list in order the gains add up
       in_order : (a b : ℤ) (xs : List X) → Rises xs → Starts v a v_below xs → Starts w b w_below xs
           → total gain xs ≡ (F (a +ℤ total v xs) (b +ℤ total w xs) -ℤ F a b)
       in_order a b [] rises first second = nothing a b
@@ -145,6 +156,7 @@ module _ {X : Type 0} (lower : X → X → Bool) where
           (in_order (a +ℤ v x) (b +ℤ w x) xs (AllPairs-tail (λ x y. lower x y ≡ true) x xs rises) (starts-next v a v_below x xs above first) (starts-next w b w_below x xs above second)
           ∙ ap₂ (λ c d. F c d -ℤ F (a +ℤ v x) (b +ℤ w x)) (sym (assoc a (v x) (total v xs))) (sym (assoc b (w x) (total w xs))))
 
+      -- from none
       start : (a b : ℤ) → a ≡ b → a ≡ (pos 0 +ℤ b)
       start a b is = omega (arith, ints, is)
 

@@ -21,6 +21,7 @@ use Rattle.overlay.proofs.SnapLemmas.Numbers.{Bounds}
 
 -- ---- sums of terms between -1 and 1
 
+-- one term more
 more_bounds : (n : ℕ) (a b : ℤ) → Bounds 1 a → Bounds n b → Bounds (suc n) (a +ℤ b)
 more_bounds n a b first second =
     let from = first.from in
@@ -31,10 +32,12 @@ more_bounds n a b first second =
       upto = omega (arith, ints, upto, upto_too);
     }
 
+-- so a sum lies between minus the number of terms and this number
 total-bounds : {X : Type 0} (f : X → ℤ) (xs : List X) → ((x : X) → Bounds 1 (f x)) → Bounds (length xs) (total f xs)
 total-bounds f [] each = record { from = omega (arith, ints); upto = omega (arith, ints) }
 total-bounds f (x ∷ xs) each = more_bounds (length xs) (f x) (total f xs) (each x) (total-bounds f xs each)
 
+-- weights, and parts of them, lie between -1 and 1
 unit_zero : Bounds 1 (pos 0)
 unit_zero = record { from = omega (arith, ints); upto = omega (arith, ints) }
 
@@ -50,6 +53,7 @@ unit_part : (t : Bool) (w : ℤ) → Bounds 1 w → Bounds 1 (cond t w (pos 0))
 unit_part true w is = is
 unit_part false w is = unit_zero
 
+-- nothing more
 no_more : (w : ℤ) → (w +ℤ pos 0) ≡ w
 no_more w = omega (arith, ints)
 
@@ -65,9 +69,11 @@ unit_parts false false w is never = unit_zero
 
 -- ---- whether two edges are one
 
+-- by all coordinates
 abbrev same_edge : Edge → Edge → Bool
 same_edge one other = int_eq one.x0 other.x0 && (int_eq one.y0 other.y0 && (int_eq one.x1 other.x1 && int_eq one.y1 other.y1))
 
+-- the test tells edges that are one
 same_is : (one other : Edge) → same_edge one other ≡ true → one ≡ other
 same_is one other e =
     let first = and_parts (int_eq one.x0 other.x0) (int_eq one.y0 other.y0 && (int_eq one.x1 other.x1 && int_eq one.y1 other.y1)) e in
@@ -81,6 +87,7 @@ same_itself edge = rw (int_eq-true edge.x0 edge.x0 refl, int_eq-true edge.y0 edg
 -- ---- the counts
 
 module _ (subject clip : List Edge) (pieces : List Piece) (are : ArePieces subject clip pieces) (g : Piece) where
+  -- what is below g where it starts
   abbrev below : Edge → ℤ
   below = below_on g.edge.x0 g.edge
 
@@ -88,6 +95,7 @@ module _ (subject clip : List Edge) (pieces : List Piece) (are : ArePieces subje
   abbrev of_g : Edge → ℤ
   of_g edge = cond (same_edge (rightwards edge) g.edge) (weight edge) (pos 0)
 
+  -- what is below it is small
   small-below : (edges : List Edge) → Bounds (length edges) (total below edges)
   small-below edges = total-bounds below edges (λ edge. unit_part (is_over g.edge.x0 (rightwards edge) && is_lower_on g.edge.x0 (rightwards edge) g.edge) (weight edge) (unit_weight edge))
 
@@ -116,6 +124,7 @@ module _ (subject clip : List Edge) (pieces : List Piece) (are : ArePieces subje
       never true none some = cc
       never false none some = cc
 
+  -- and so is what is above it
   small-above : (edges : List Edge) (weigh : Piece → ℤ) → AreJoined edges weigh pieces → Contains pieces g → Bounds (length edges) (total below edges +ℤ weigh g)
   small-above edges weigh joined among =
       subst (Bounds (length edges)) (total-sum below of_g edges ∙ ap (λ z. total below edges +ℤ z) (weight-of edges weigh joined among))

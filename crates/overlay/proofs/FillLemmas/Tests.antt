@@ -18,7 +18,7 @@ lt_false a b h = grind (arith, ints)
 pub lt_is : (a b : ℤ) → lt_z a b ≡ true → a <ℤ b
 lt_is a b e = omega (arith, ints)
 
-pub lt_not : (a b : ℤ) → lt_z a b ≡ false → b ≤ℤ a
+lt_not : (a b : ℤ) → lt_z a b ≡ false → b ≤ℤ a
 lt_not a b e = omega (arith, ints)
 
 -- two such tests that imply each other
@@ -41,6 +41,7 @@ int_eq-false a b differ = by (int_eq a b) refl
 
 -- ---- over the stretch from x to x + 1
 
+-- an edge is over the stretches from its start's x up to its end's
 pub over_true : (x : ℤ) (edge : Edge) → edge.x0 ≤ℤ x → x <ℤ edge.x1 → is_over x edge ≡ true
 over_true x edge from before = rw (lt_false x edge.x0 from, lt_true x edge.x1 before) refl
 
@@ -51,6 +52,7 @@ over_early x edge early = rw (lt_true x edge.x0 early) refl
 pub over_late : (x : ℤ) (edge : Edge) → edge.x1 ≤ℤ x → is_over x edge ≡ false
 over_late x edge late = and_right (not (lt_z x edge.x0)) (lt_z x edge.x1) (lt_false x edge.x1 late)
 
+-- and over no others
 pub over_is : (x : ℤ) (edge : Edge) → is_over x edge ≡ true → (edge.x0 ≤ℤ x) × (x <ℤ edge.x1)
 over_is x edge e = let both = and_parts (not (lt_z x edge.x0)) (lt_z x edge.x1) e in (lt_not x edge.x0 (not_true (lt_z x edge.x0) both.0), lt_is x edge.x1 both.1)
   where

@@ -25,6 +25,7 @@ pub total-difference : {X : Type 0} (f g : X → ℤ) (xs : List X) → total (�
 total-difference f g [] = omega (arith, ints)
 total-difference f g (x ∷ xs) = apart (f x) (g x) (total (λ x. f x -ℤ g x) xs) (total f xs) (total g xs) (total-difference f g xs)
 
+-- numbers without a difference
 no_difference : (a b : ℤ) → (a -ℤ b) ≡ pos 0 → a ≡ b
 no_difference a b is = omega (arith, ints, is)
 

@@ -6,9 +6,10 @@ use Rattle.std.proofs.Math.Nat.{mul-le-mul_left}
 use Rattle.plane.specs.declared.edge.Edge.{Edge}
 use Rattle.plane.specs.Meet.Edges.{RationalPoint}
 use Rattle.plane.specs.SweepLine.Crossings.{Cross}
-use Rattle.plane.specs.SweepLine.Heights.{rightwards, run, height_by_run, height_by_runs}
+use Rattle.plane.specs.SweepLine.Heights.{rightwards, run, height_by_run, height_by_runs, Spans}
 use Rattle.plane.proofs.MeetLemmas.Identities.{Term, number, plus, minus, times, same_of, at_most_of, identity}
-use Rattle.plane.proofs.SweepLineLemmas.Rightwards.{rightwards-left, rightwards-right}
+use Rattle.plane.proofs.SweepLineLemmas.Gaps.{gap}
+use Rattle.plane.proofs.SweepLineLemmas.Rightwards.{rightwards-left, rightwards-right, rightwards-same}
 use Rattle.overlay.specs.Snap.Windings.{height_at, reversed}
 use Rattle.overlay.proofs.FillLemmas.Level.{MeetOnly, level-same}
 use Rattle.overlay.proofs.SnapLemmas.Hobby.Ends.{reverse_meet_one, exchange_meet}
@@ -17,9 +18,11 @@ use Rattle.overlay.proofs.SnapLemmas.Reversed.{IsOf-reversed}
 
 -- ---- from either end
 
+-- the reversed edge meets another one as the edge does
 pub MeetOnly-reversed : (one other : Edge) → MeetOnly one other → MeetOnly (reversed one) other
 MeetOnly-reversed one other meet point of of_other = reverse_meet_one (reversed one) other point (meet point (IsOf-reversed (reversed one) point of) of_other)
 
+-- two edges meet whichever is named first
 pub MeetOnly-exchanged : (one other : Edge) → MeetOnly one other → MeetOnly other one
 MeetOnly-exchanged one other meet point of of_other = exchange_meet other one point (meet point of_other of)
 
@@ -31,11 +34,13 @@ by_direction P edge same back = by (lt_z edge.x1 edge.x0) refl
     by true e = subst P (sym (rightwards-left edge e)) back
     by false e = subst P (sym (rightwards-right edge e)) same
 
+-- so an edge turned rightwards meets another one as the edge does
 pub MeetOnly-rightwards : (one other : Edge) → MeetOnly one other → MeetOnly (rightwards one) other
 MeetOnly-rightwards one other meet = by_direction (λ edge. MeetOnly edge other) one meet (MeetOnly-reversed one other meet)
 
 -- ---- a mean of two x's
 
+-- h parts of l and g parts of r
 abbrev between : (g h : ℕ) → 0 < g → ℤ → ℤ → RationalPoint
 between g h some l r = record {
   n = g + h;
@@ -44,6 +49,7 @@ between g h some l r = record {
   positive = omega (arith, some);
 }
 
+-- the height there is the same mean of the heights
 height_between : (g h : ℕ) (l r x0 x1 y0 y1 w : ℤ) → (((y0 *ℤ ((pos (g + h) *ℤ x1) -ℤ ((pos h *ℤ l) +ℤ (pos g *ℤ r)))) +ℤ (y1 *ℤ (((pos h *ℤ l) +ℤ (pos g *ℤ r)) -ℤ (pos (g + h) *ℤ x0)))) *ℤ w)
     ≡ ((pos h *ℤ (((y0 *ℤ (x1 -ℤ l)) +ℤ (y1 *ℤ (l -ℤ x0))) *ℤ w)) +ℤ (pos g *ℤ (((y0 *ℤ (x1 -ℤ r)) +ℤ (y1 *ℤ (r -ℤ x0))) *ℤ w)))
 height_between g h l r x0 x1 y0 y1 w =
@@ -53,6 +59,7 @@ height_between g h l r x0 x1 y0 y1 w =
     (plus (times (n_of h) (height (number l))) (times (n_of g) (height (number r))))
     (omega arith)
 
+-- by these parts what is below by g and what is above by h make up for each other
 balance : (g h : ℕ) (al ar bl br : ℤ) → (bl -ℤ al) ≡ pos g → (ar -ℤ br) ≡ pos h → ((pos h *ℤ al) +ℤ (pos g *ℤ ar)) ≡ ((pos h *ℤ bl) +ℤ (pos g *ℤ br))
 balance g h al ar bl br below above =
     let one = ap (λ k. h * k) (same_of (minus (number bl) (number al)) (n_of g) below) in
@@ -72,6 +79,7 @@ behind g h l r x some some_too first second differ =
     let less : r <ℤ l = by_lt_z r l (λ is. is) (λ back. absurd (differ (omega (arith, ints, down, back)))) in
     let strict = mul-le-mul_left h (below_of (number x) (number l) (omega (arith, ints, second, less))) in below all mean (omega (arith, weak_too, strict, some_too)))
 
+-- and before what both are before
 before : (g h : ℕ) (l r x : ℤ) → 0 < g → 0 < h → l ≤ℤ x → r ≤ℤ x → ¬ (l ≡ r) → ((pos h *ℤ l) +ℤ (pos g *ℤ r)) <ℤ (pos (g + h) *ℤ x)
 before g h l r x some some_too first second differ =
     let weak = mul-le-mul_left h (at_most_of (number l) (number x) first) in
@@ -88,6 +96,7 @@ before g h l r x some some_too first second differ =
 
 -- both of two x's are the edge's
 record Both (edge : Edge) (l r : ℤ) : Type 0 where
+  -- only an edge that goes rightwards is below or above another
   pub onwards : edge.x0 <ℤ edge.x1
   pub from : edge.x0 ≤ℤ l
   pub from_too : edge.x0 ≤ℤ r
@@ -130,12 +139,14 @@ flat x0 x1 y0 y1 x from upto back =
     ∙ ap (λ z. (y0 *ℤ pos 0) +ℤ (y1 *ℤ z)) left
     ∙ identity (plus (times (number y0) (n_of 0)) (times (number y1) (n_of 0))) (n_of 0) (omega arith)
 
+-- products by 0
 zero_times : (z w : ℤ) → z ≡ pos 0 → (z *ℤ w) ≡ pos 0
 zero_times z w is = ap (λ k. k *ℤ w) is ∙ identity (times (n_of 0) (number w)) (n_of 0) (omega arith)
 
 times_zero : (z w : ℤ) → w ≡ pos 0 → (z *ℤ w) ≡ pos 0
 times_zero z w is = ap (λ k. z *ℤ k) is ∙ identity (times (number z) (n_of 0)) (n_of 0) (omega arith)
 
+-- so it is as high as any edge, by cross-multiplying
 level-flat : (one other : Edge) (x : ℤ) → one.x0 ≤ℤ x → x ≤ℤ one.x1 → one.x1 ≤ℤ one.x0 → height_by_runs one other x ≡ height_by_runs other one x
 level-flat one other x from upto back =
     let none : run one ≡ pos 0 = omega (arith, ints, from, upto, back) in
@@ -175,3 +186,45 @@ uncrossed one other meet cross =
       upto_too = above.spanned.upto;
     })
     lower higher
+
+-- ---- what not to cross means for heights
+
+-- at no x that both span g is below r, if it is above it at another
+abbrev pub Uncrossed : Edge → Edge → Type 0
+Uncrossed r g =
+    (a b : ℤ) → r.x0 ≤ℤ a → a ≤ℤ r.x1 → g.x0 ≤ℤ a → a ≤ℤ g.x1 → r.x0 ≤ℤ b → b ≤ℤ r.x1 → g.x0 ≤ℤ b → b ≤ℤ g.x1
+    → gap r g a <ℤ pos 0 → gap r g b ≤ℤ pos 0
+
+-- an edge that doesn't cross one that goes rightwards, itself turned rightwards
+pub uncrossed_from : (edge g : Edge) → g.x0 <ℤ g.x1 → ¬ (Cross edge g) → Uncrossed (rightwards edge) g
+uncrossed_from edge g onwards none a b a_from a_upto a_in a_to b_from b_upto b_in b_to less =
+    by_lt_z (pos 0) (gap (rightwards edge) g b) (λ above. absurd (none (cross above))) (λ upto. upto)
+  where
+    same : rightwards g ≡ g
+    same = rightwards-same g onwards
+
+    spans : (x : ℤ) → g.x0 ≤ℤ x → x ≤ℤ g.x1 → Spans g x
+    spans x after before = record {
+      from = subst (λ (t : Edge). t.x0 ≤ℤ x) (sym same) after;
+      upto = subst (λ (t : Edge). x ≤ℤ t.x1) (sym same) before;
+    }
+
+    cross : pos 0 <ℤ gap (rightwards edge) g b → Cross edge g
+    cross above = record {
+      below = b;
+      above = a;
+      is_below = record {
+        spanned = record { from = b_from; upto = b_upto };
+        other_spanned = spans b b_in b_to;
+        lower = subst (λ (t : Edge). height_by_runs (rightwards edge) t b <ℤ height_by_runs t (rightwards edge) b) (sym same) (omega (arith, ints, above));
+      };
+      is_above = record {
+        spanned = spans a a_in a_to;
+        other_spanned = record { from = a_from; upto = a_upto };
+        lower = subst (λ (t : Edge). height_by_runs t (rightwards edge) a <ℤ height_by_runs (rightwards edge) t a) (sym same) (omega (arith, ints, less));
+      };
+    }
+
+-- the same of two edges that go rightwards
+pub uncrossed_onwards : (one other : Edge) → one.x0 <ℤ one.x1 → other.x0 <ℤ other.x1 → ¬ (Cross one other) → Uncrossed one other
+uncrossed_onwards one other some some_too none = subst (λ (r : Edge). Uncrossed r other) (rightwards-same one some) (uncrossed_from one other some_too none)

@@ -1,5 +1,5 @@
 -- Which edges are under a rational point, by the stretch that the point is over.
-use Rattle.std.proofs.Common.{◌≡◌, ℤ, pos, ◌+ℤ◌, ◌-ℤ◌, ◌*ℤ◌, ◌<ℤ◌, ◌≤ℤ◌, Bool, true, false, refl, ap₂, arith, sym, subst, ◌∙◌}
+use Rattle.std.proofs.Common.{◌≡◌, ℤ, pos, ◌+ℤ◌, ◌-ℤ◌, ◌*ℤ◌, ◌<ℤ◌, ◌≤ℤ◌, Bool, true, false, refl, ap₂, arith, sym, ◌∙◌}
 use Rattle.std.specs.Prelude.{int_le, int_lt}
 use Rattle.std.proofs.lemmas.Bool.{and_parts}
 use Rattle.std.proofs.lemmas.Int.{ints, by_lt_z}
@@ -10,15 +10,15 @@ use Rattle.plane.specs.SweepLine.Heights.{run, rise, height_by_runs}
 use Rattle.plane.proofs.MeetLemmas.Identities.{number, plus, minus, times, identity, scaled}
 use Rattle.plane.proofs.SweepLineLemmas.Gaps.{gap, base, slope, start, gap-linear, product_above}
 use Rattle.plane.proofs.SweepLineLemmas.Order.{in_order}
-use Rattle.plane.proofs.SweepLineLemmas.Rightwards.{rightwards-same}
 use Rattle.overlay.specs.Fill.Counts.{is_over, is_lower_on}
 use Rattle.overlay.specs.Snap.Windings.{covers, height_at, is_low, is_under}
-use Rattle.overlay.proofs.FillLemmas.Columns.{Uncrossed, uncrossed_from}
 use Rattle.overlay.proofs.FillLemmas.Tests.{lt_is, over_is, over_true}
+use Rattle.overlay.proofs.FillLemmas.Uncrossed.{uncrossed_onwards}
 use Rattle.overlay.proofs.SnapLemmas.Rounding.{Floor}
 
 -- ---- heights at the point's x
 
+-- an edge's height is linear in the point's x
 height_at-linear : (edge : Edge) (point : RationalPoint) → height_at edge point ≡ ((rise edge *ℤ point.x) +ℤ (pos point.n *ℤ base edge))
 height_at-linear edge point =
     let n = number (pos point.n) in
@@ -26,12 +26,14 @@ height_at-linear edge point =
     (plus (times (minus (number edge.y1) (number edge.y0)) (number point.x)) (times n (minus (times (number edge.y0) (number edge.x1)) (times (number edge.y1) (number edge.x0)))))
     (omega arith)
 
+-- and so is how far two edges are apart
 apart_at : (a b m c d k n x : ℤ) → ((((c *ℤ x) +ℤ (n *ℤ d)) *ℤ m) -ℤ (((a *ℤ x) +ℤ (n *ℤ b)) *ℤ k)) ≡ ((((c *ℤ m) -ℤ (a *ℤ k)) *ℤ x) +ℤ (n *ℤ ((d *ℤ m) -ℤ (b *ℤ k))))
 apart_at a b m c d k n x =
     identity (minus (times (plus (times (number c) (number x)) (times (number n) (number d))) (number m)) (times (plus (times (number a) (number x)) (times (number n) (number b))) (number k)))
     (plus (times (minus (times (number c) (number m)) (times (number a) (number k))) (number x)) (times (number n) (minus (times (number d) (number m)) (times (number b) (number k)))))
     (omega arith)
 
+-- a linear function between two x's is a mean of what it is there
 between : (s t n x z : ℤ) → ((s *ℤ x) +ℤ (n *ℤ t)) ≡ ((((n *ℤ (z +ℤ pos 1)) -ℤ x) *ℤ ((s *ℤ z) +ℤ t)) +ℤ ((x -ℤ (n *ℤ z)) *ℤ ((s *ℤ (z +ℤ pos 1)) +ℤ t)))
 between s t n x z =
     let next = plus (number z) (number (pos 1)) in
@@ -41,6 +43,7 @@ between s t n x z =
 
 -- ---- the tests
 
+-- what the tests say
 pub le_true : (a b : ℤ) → a ≤ℤ b → int_le a b ≡ true
 le_true a b upto = by (int_le a b) refl
   where
@@ -67,7 +70,8 @@ pub record Under (edge : Edge) (point : RationalPoint) : Type 0 where
   pub before : point.x <ℤ (pos point.n *ℤ edge.x1)
   pub upto : height_at edge point ≤ℤ (point.y *ℤ run edge)
 
-pub under_is : (edge : Edge) (point : RationalPoint) → is_under edge point ≡ true → Under edge point
+-- the test tells this, and no other
+under_is : (edge : Edge) (point : RationalPoint) → is_under edge point ≡ true → Under edge point
 under_is edge point e =
     let one = and_parts (covers edge point) (is_low edge point) e in
     let two = and_parts (int_le (pos point.n *ℤ edge.x0) point.x) (int_lt point.x (pos point.n *ℤ edge.x1)) one.0 in record {
@@ -76,7 +80,7 @@ under_is edge point e =
       upto = le_is (height_at edge point) (point.y *ℤ run edge) one.1;
     }
 
-pub is_under-from : (edge : Edge) (point : RationalPoint) → Under edge point → is_under edge point ≡ true
+is_under-from : (edge : Edge) (point : RationalPoint) → Under edge point → is_under edge point ≡ true
 is_under-from edge point under =
     rw (le_true (pos point.n *ℤ edge.x0) point.x under.from, less_true point.x (pos point.n *ℤ edge.x1) under.before, le_true (height_at edge point) (point.y *ℤ run edge) under.upto) refl
 
@@ -114,7 +118,7 @@ module _ (point : RationalPoint) (x : ℤ) (floor : Floor point.n point.x x) whe
       let one_before = span.1 in
       let other_from = span_too.0 in
       let other_before = span_too.1 in
-      let uncrossed : Uncrossed one other = subst (λ (r : Edge). Uncrossed r other) (rightwards-same one some) (uncrossed_from one other some_too none) in
+      let uncrossed = uncrossed_onwards one other some some_too none in
       let here : pos 0 ≤ℤ gap one other x = by_lt_z (gap one other x) (pos 0)
       (λ low. let also = uncrossed x (x +ℤ pos 1) one_from (omega (arith, ints)) other_from (omega (arith, ints)) (omega (arith, ints)) (omega (arith, ints)) (omega (arith, ints)) (omega (arith, ints)) low in absurd (omega (arith, ints, low, also, less)))
       (λ h. h) in

@@ -28,6 +28,7 @@ in_column x test point = int_eq point.x x && test point.y
 
 -- ---- weights
 
+-- the weight of an edge by the way that it goes
 pub weight-right : (edge : Edge) → edge.x0 <ℤ edge.x1 → weight edge ≡ pos 1
 weight-right edge onwards = rw (lt_true edge.x0 edge.x1 onwards) refl
 
@@ -37,6 +38,7 @@ weight-left edge back = rw (lt_false edge.x0 edge.x1 (omega (arith, ints)), lt_t
 pub weight-none : (edge : Edge) → edge.x0 ≡ edge.x1 → weight edge ≡ pos 0
 weight-none edge level = rw (lt_false edge.x0 edge.x1 (omega (arith, ints)), lt_false edge.x1 edge.x0 (omega (arith, ints))) refl
 
+-- a weight of -1 at its right and left end, and none
 left_counts : (a b : Bool) → (cond a (negsuc 0) (pos 0) -ℤ cond b (negsuc 0) (pos 0)) ≡ (count b -ℤ count a)
 left_counts true true = refl
 left_counts true false = refl
@@ -55,7 +57,8 @@ none_counts false false same = refl
 abbrev weighed : (Point → Bool) → Edge → ℤ → ℤ
 weighed test edge w = cond (test (end_of edge)) w (pos 0) -ℤ cond (test (start_of edge)) w (pos 0)
 
-pub ending-carried : (test : Point → Bool) (edge : Edge) → (edge.x0 ≡ edge.x1 → test (start_of edge) ≡ test (end_of edge))
+-- so an edge's weight at its right end less that at its left end is what it carries
+ending-carried : (test : Point → Bool) (edge : Edge) → (edge.x0 ≡ edge.x1 → test (start_of edge) ≡ test (end_of edge))
     → (ending test edge -ℤ starting test edge) ≡ carried test edge
 ending-carried test edge level =
     by_lt_z edge.x0 edge.x1
@@ -83,6 +86,7 @@ weights test edges closed levels =
 
 -- ---- in a column
 
+-- a vertical edge has both ends in the column's part or none, where that is so of their y's
 column_level : (x : ℤ) (test : ℤ → Bool) (edge : Edge) → (edge.x0 ≡ x → edge.x1 ≡ x → test edge.y0 ≡ test edge.y1)
     → edge.x0 ≡ edge.x1 → in_column x test (start_of edge) ≡ in_column x test (end_of edge)
 column_level x test edge both level = by (int_eq edge.x0 x) refl
@@ -95,6 +99,7 @@ column_level x test edge both level = by (int_eq edge.x0 x) refl
         let other : int_eq edge.x1 x ≡ false = ap (λ z. int_eq z x) (sym level) ∙ e in
         ap (λ t. t && test edge.y0) e ∙ sym (ap (λ t. t && test edge.y1) other)
 
+-- So what ends in a column's part weighs as much as what starts there.
 pub column-weights : (x : ℤ) (test : ℤ → Bool) (edges : List Edge) → AreBalanced edges
     → All (λ edge. edge.x0 ≡ x → edge.x1 ≡ x → test edge.y0 ≡ test edge.y1) edges
     → total (ending (in_column x test)) edges ≡ total (starting (in_column x test)) edges

@@ -21,10 +21,10 @@ less_count : (z : ℤ) (t : Bool) → z ≡ (pos 0 -ℤ count t) → z ≡ cond 
 less_count z true is = is
 less_count z false is = is
 
-pub right-counts : (edge : Edge) (point : RationalPoint) → edge.x0 <ℤ edge.x1 → under edge point ≡ cond (is_under edge point) (pos 1) (pos 0)
+right-counts : (edge : Edge) (point : RationalPoint) → edge.x0 <ℤ edge.x1 → under edge point ≡ cond (is_under edge point) (pos 1) (pos 0)
 right-counts edge point onwards = under-right edge point (omega (arith, ints, onwards))
 
-pub left-counts : (edge : Edge) (point : RationalPoint) → edge.x0 <ℤ edge.x1 → under (reversed edge) point ≡ cond (is_under edge point) (negsuc 0) (pos 0)
+left-counts : (edge : Edge) (point : RationalPoint) → edge.x0 <ℤ edge.x1 → under (reversed edge) point ≡ cond (is_under edge point) (negsuc 0) (pos 0)
 left-counts edge point onwards = less_count (under (reversed edge) point) (is_under edge point) (under-left (reversed edge) point (omega (arith, ints, onwards)))
 
 -- ---- edges
@@ -33,10 +33,12 @@ left-counts edge point onwards = less_count (under (reversed edge) point) (is_un
 abbrev part : RationalPoint → Edge → ℤ
 part point edge = cond (is_under (rightwards edge) point) (weight edge) (pos 0)
 
+-- what counts nothing is no part
 no_part : (z : ℤ) (t : Bool) → z ≡ pos 0 → z ≡ cond t (pos 0) (pos 0)
 no_part z true none = none
 no_part z false none = none
 
+-- each edge does
 under-part : (edge : Edge) (point : RationalPoint) → under edge point ≡ part point edge
 under-part edge point =
     by_lt_z edge.x0 edge.x1
@@ -51,6 +53,7 @@ under-part edge point =
     no_part (under edge point) (is_under (rightwards edge) point) (under-right edge point from ∙ back edge point upto)
     ∙ sym (ap (λ w. cond (is_under (rightwards edge) point) w (pos 0)) (weight-none edge (omega (arith, ints, upto, from))))))
 
+-- so winding numbers are sums of weights
 pub winding-total : (edges : List Edge) (point : RationalPoint) → winding edges point ≡ total (λ edge. cond (is_under (rightwards edge) point) (weight edge) (pos 0)) edges
 winding-total [] point = refl
 winding-total (edge ∷ edges) point =
@@ -62,10 +65,12 @@ winding-total (edge ∷ edges) point =
 abbrev pub kept : (Counts → Bool) → List Edge → List Edge → Piece → ℤ
 kept inside subject clip piece = count (inside (counts_above subject clip piece)) -ℤ count (inside (counts_below subject clip piece))
 
+-- nothing is kept of a piece
 nothing : (u : Bool) (rest sum : ℤ) → rest ≡ sum → rest ≡ (cond u (pos 0) (pos 0) +ℤ sum)
 nothing true rest sum is = omega (arith, ints, is)
 nothing false rest sum is = omega (arith, ints, is)
 
+-- a piece counts as it is kept
 one_kept : (point : RationalPoint) (edge : Edge) (rest : List Edge) (sum : ℤ) → edge.x0 <ℤ edge.x1 → winding rest point ≡ sum → (below above : Bool)
     → winding (kept_edge below above edge rest) point ≡ (cond (is_under edge point) (count above -ℤ count below) (pos 0) +ℤ sum)
 one_kept point edge rest sum onwards is true true = nothing (is_under edge point) (winding rest point) sum is
@@ -73,6 +78,7 @@ one_kept point edge rest sum onwards is false true = ap₂ (λ c d. c +ℤ d) (r
 one_kept point edge rest sum onwards is true false = ap₂ (λ c d. c +ℤ d) (left-counts edge point onwards) is
 one_kept point edge rest sum onwards is false false = nothing (is_under edge point) (winding rest point) sum is
 
+-- so the kept edges wind around a point as the pieces under it say
 pub winding-kept : (inside : Counts → Bool) (subject clip : List Edge) (point : RationalPoint) (pieces : List Piece) → All (λ piece. piece.edge.x0 <ℤ piece.edge.x1) pieces
     → winding (kept_edges inside subject clip pieces) point ≡ total (λ piece. cond (is_under piece.edge point) (kept inside subject clip piece) (pos 0)) pieces
 winding-kept inside subject clip point [] all = refl
