@@ -12,7 +12,9 @@ pub mod Next
 pub mod Order
 pub mod Premises
 pub mod Ranked
+pub mod Sides
 pub mod Small
+pub mod Steps
 pub mod Tests
 pub mod Totals
 pub mod Uncrossed

@@ -1,5 +1,5 @@
 -- Of closed edges as many end in a set of points as start there.
-use Rattle.std.proofs.Common.{◌≡◌, ℕ, ◌+◌, ℤ, pos, ◌+ℤ◌, ◌-ℤ◌, Bool, true, false, cond, List, [], ◌∷◌, refl, ap, arith, ◌∙◌}
+use Rattle.std.proofs.Common.{◌≡◌, ℕ, ◌+◌, ℤ, pos, ◌+ℤ◌, ◌-ℤ◌, Bool, true, false, cond, List, [], ◌∷◌, refl, ap, ap₂, arith, sym, ◌∙◌}
 use Rattle.std.specs.List.{count_by}
 use Rattle.std.proofs.lemmas.Int.{ints}
 use Rattle.std.proofs.lemmas.List.Sums.{sum_by-cons}
@@ -28,14 +28,22 @@ count-total test (x ∷ xs) =
     ap pos (sum_by-cons (λ y. cond (test y) 1 0) x xs)
     ∙ count_more (test x) (count_by test xs) (total (λ x. count (test x)) xs) (count-total test xs)
 
+-- what edges carry into a set is how many end there less how many start there
+pub carried-counts : (test : Point → Bool) (edges : List Edge) → total (carried test) edges ≡ (pos (count_by (λ edge. test (end_of edge)) edges) -ℤ pos (count_by (λ edge. test (start_of edge)) edges))
+carried-counts test edges =
+    total-difference (λ edge. count (test (end_of edge))) (λ edge. count (test (start_of edge))) edges
+    ∙ sym (ap₂ (λ a b. a -ℤ b) (count-total (λ (edge : Edge). test (end_of edge)) edges) (count-total (λ (edge : Edge). test (start_of edge)) edges))
+
 -- closed edges carry nothing into any set
 pub balanced : (edges : List Edge) → IsClosed edges → AreBalanced edges
-balanced edges closed test =
-    let ends : Edge → Bool = λ edge. test (end_of edge) in
-    let starts : Edge → Bool = λ edge. test (start_of edge) in
-    total-difference (λ edge. count (ends edge)) (λ edge. count (starts edge)) edges
-    ∙ none (total (λ edge. count (ends edge)) edges) (total (λ edge. count (starts edge)) edges) (count_by ends edges) (count_by starts edges)
-    (count-total ends edges) (count-total starts edges) (closed test)
+balanced edges closed test = carried-counts test edges ∙ none (count_by (λ (edge : Edge). test (end_of edge)) edges) (count_by (λ (edge : Edge). test (start_of edge)) edges) (closed test)
   where
-    none : (a b : ℤ) (m n : ℕ) → pos m ≡ a → pos n ≡ b → n ≡ m → (a -ℤ b) ≡ pos 0
-    none a b m n first second same = omega (arith, ints, first, second, same)
+    none : (m n : ℕ) → n ≡ m → (pos m -ℤ pos n) ≡ pos 0
+    none m n same = omega (arith, ints, same)
+
+-- and edges that don't are closed
+pub closed-balanced : (edges : List Edge) → AreBalanced edges → IsClosed edges
+closed-balanced edges are test = same (count_by (λ (edge : Edge). test (start_of edge)) edges) (count_by (λ (edge : Edge). test (end_of edge)) edges) (sym (carried-counts test edges) ∙ are test)
+  where
+    same : (m n : ℕ) → (pos n -ℤ pos m) ≡ pos 0 → m ≡ n
+    same m n none = omega (arith, ints, none)

@@ -1,7 +1,7 @@
 -- What a caller of the fill wants of its pieces, in a caller's words.
-use Rattle.std.proofs.Common.{◌≡◌, ◌≢◌, ◌⊎◌, ◌++◌, Bool, true, false, List, length, ℤ, pos, ◌*ℤ◌, ◌≤ℤ◌, ◌<ℤ◌, ap, ap₂, arith, sym, subst, ◌∙◌}
+use Rattle.std.proofs.Common.{◌≡◌, ◌≢◌, ◌⊎◌, ◌++◌, Bool, true, false, List, length, ℤ, pos, ◌-ℤ◌, ◌*ℤ◌, ◌≤ℤ◌, ◌<ℤ◌, ap, ap₂, arith, sym, subst, ◌∙◌}
 use Rattle.std.specs.Int.{int_max}
-use Rattle.std.specs.List.{Contains}
+use Rattle.std.specs.List.{All, Contains}
 use Rattle.std.proofs.lemmas.Int.{ints, clamps}
 use Rattle.std.specs.declared.cmp.Ordering.TheVariants.{Less}
 use Rattle.plane.specs.declared.edge.Edge.{Edge}
@@ -15,17 +15,20 @@ use Rattle.overlay.specs.declared.fill.rules.FillRule.{FillRule}
 use Rattle.overlay.specs.declared.fill.rules.Operation.{Operation}
 use Rattle.overlay.specs.Fill.Counts.{Counts, is_over, is_lower_on, counts_below, counts_above, kept_edges}
 use Rattle.overlay.specs.Fill.Filled.{AreNoded, AreDistinct}
-use Rattle.overlay.specs.Fill.Pieces.{ArePieces}
+use Rattle.overlay.specs.Fill.Pieces.{total, ArePieces}
 use Rattle.overlay.specs.Fill.Rules.{is_result}
 use Rattle.overlay.specs.Snap.Windings.{count, reversed, winding, IsClosed}
+use Rattle.overlay.proofs.FillLemmas.Balance.{carried}
 use Rattle.overlay.proofs.FillLemmas.Filled.{filled, is_result-none}
 use Rattle.overlay.proofs.FillLemmas.High.{top, upto-higher, upto-top, high-none}
 use Rattle.overlay.proofs.FillLemmas.Kept as kept
 use Rattle.overlay.proofs.FillLemmas.Level.{MeetOnly}
 use Rattle.overlay.proofs.FillLemmas.Next as next
 use Rattle.overlay.proofs.FillLemmas.Order as order
-use Rattle.overlay.proofs.FillLemmas.Premises.{onwards, meet-pieces}
+use Rattle.overlay.proofs.FillLemmas.Premises.{All-among, onwards, meet-pieces}
+use Rattle.overlay.proofs.FillLemmas.Sides.{in_column_upto}
 use Rattle.overlay.proofs.FillLemmas.Small as small
+use Rattle.overlay.proofs.FillLemmas.Steps.{in_column, column-step, column-closed}
 use Rattle.overlay.proofs.FillLemmas.Uncrossed.{uncrossed}
 use Rattle.overlay.proofs.SnapLemmas.Numbers.{Bounds}
 
@@ -133,3 +136,18 @@ module _ (subject clip : List Edge) (closed : IsClosed subject) (clip_closed : I
           (high-none (int_max (top subject) (top clip)) point high clip clip_closed (upto-higher (top clip) (int_max (top subject) (top clip)) clip upto.1 (upto-top clip)))
           ∙ ap count (is_result-none rule operation),
     )
+
+    slanted : All (λ edge. edge.x1 ≢ edge.x0) (kept_edges (inside_by rule operation) subject clip pieces)
+    slanted = All-among (λ edge. edge.x1 ≢ edge.x0) (kept_edges (inside_by rule operation) subject clip pieces) (kept-onwards (inside_by rule operation))
+
+    -- In each column, at or below each height, they end as often as they start, once more, or once less; and in the whole
+    -- column as often.
+    pub kept-step : (x y : ℤ) → (one : Bool) × (other : Bool) × (total (carried (in_column_upto x y)) (kept_edges (inside_by rule operation) subject clip pieces) ≡ (count one -ℤ count other))
+    kept-step x y =
+        column-step (kept_edges (inside_by rule operation) subject clip pieces) slanted
+        (λ point. is_result rule operation (winding subject point) (winding clip point)) kept-winds x y
+
+    pub kept-column : (x : ℤ) → total (carried (in_column x)) (kept_edges (inside_by rule operation) subject clip pieces) ≡ pos 0
+    kept-column x =
+        column-closed (kept_edges (inside_by rule operation) subject clip pieces) slanted
+        (λ point. is_result rule operation (winding subject point) (winding clip point)) kept-winds kept-high.0 kept-high.1 x
