@@ -14,6 +14,7 @@ pub mod Premises
 pub mod Ranked
 pub mod Sides
 pub mod Small
+pub mod Stacked
 pub mod Steps
 pub mod Tests
 pub mod Totals
