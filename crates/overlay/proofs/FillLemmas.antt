@@ -17,6 +17,7 @@ pub mod Small
 pub mod Stacked
 pub mod Steps
 pub mod Tests
+pub mod Through
 pub mod Totals
 pub mod Uncrossed
 pub mod Under

@@ -9,7 +9,7 @@ use Rattle.plane.specs.declared.sweep_line.active.ActiveEdge.{ActiveEdge}
 use Rattle.plane.specs.Meet.Edges.{RationalPoint}
 use Rattle.plane.specs.SweepLine.Active.{cmp_active}
 use Rattle.plane.specs.SweepLine.Crossings.{Cross}
-use Rattle.plane.specs.SweepLine.Heights.{rise_by_run}
+use Rattle.plane.specs.SweepLine.Heights.{rightwards, rise_by_run}
 use Rattle.overlay.specs.declared.fill.pieces.Piece.{Piece}
 use Rattle.overlay.specs.declared.fill.rules.FillRule.{FillRule}
 use Rattle.overlay.specs.declared.fill.rules.Operation.{Operation}
@@ -18,6 +18,7 @@ use Rattle.overlay.specs.Fill.Filled.{AreNoded, AreDistinct}
 use Rattle.overlay.specs.Fill.Pieces.{total, ArePieces}
 use Rattle.overlay.specs.Fill.Rules.{is_result}
 use Rattle.overlay.specs.Snap.Windings.{count, reversed, winding, IsClosed}
+use Rattle.overlay.proofs.FillLemmas.Aside.{is_beneath, IsAside, aside}
 use Rattle.overlay.proofs.FillLemmas.Balance.{carried}
 use Rattle.overlay.proofs.FillLemmas.Filled.{filled, is_result-none}
 use Rattle.overlay.proofs.FillLemmas.High.{top, upto-higher, upto-top, high-none}
@@ -28,8 +29,10 @@ use Rattle.overlay.proofs.FillLemmas.Order as order
 use Rattle.overlay.proofs.FillLemmas.Premises.{All-among, onwards, meet-pieces}
 use Rattle.overlay.proofs.FillLemmas.Sides.{in_column_upto}
 use Rattle.overlay.proofs.FillLemmas.Small as small
-use Rattle.overlay.proofs.FillLemmas.Steps.{in_column, column-step, column-closed}
+use Rattle.overlay.proofs.FillLemmas.Steps.{of_column, column-step, column-closed}
+use Rattle.overlay.proofs.FillLemmas.Through.{kept-beneath}
 use Rattle.overlay.proofs.FillLemmas.Uncrossed.{uncrossed}
+use Rattle.overlay.proofs.FillLemmas.Weights.{in_column}
 use Rattle.overlay.proofs.SnapLemmas.Numbers.{Bounds}
 
 -- the greater of two numbers is at least each of them
@@ -119,6 +122,12 @@ module _ (subject clip : List Edge) (closed : IsClosed subject) (clip_closed : I
     pub kept-of : (edge : Edge) → Contains (kept_edges inside subject clip pieces) edge → Contains (subject ++ clip) edge ⊎ Contains (subject ++ clip) (reversed edge)
     kept-of edge among = kept.kept-of subject clip noded pieces are inside edge among
 
+    -- Each, turned rightwards, is aside of each other one: they don't cross, and no end of the other is inside it.
+    pub kept-aside : (edge other : Edge) → Contains (kept_edges inside subject clip pieces) edge → Contains (kept_edges inside subject clip pieces) other → IsAside (rightwards edge) other
+    kept-aside edge other first second =
+        let of = kept.kept-rightwards subject clip noded pieces are inside edge first in
+        subst (λ (e : Edge). IsAside e other) (sym of.2) (aside of.0.edge other (kept.kept-meets subject clip noded pieces are inside other of.0 second of.1))
+
   module _ (rule : FillRule) (operation : Operation) where
     -- They wind once around each rational point of the result, and around no other.
     pub kept-winds : (point : RationalPoint) → winding (kept_edges (inside_by rule operation) subject clip pieces) point ≡ count (is_result rule operation (winding subject point) (winding clip point))
@@ -147,7 +156,16 @@ module _ (subject clip : List Edge) (closed : IsClosed subject) (clip_closed : I
         column-step (kept_edges (inside_by rule operation) subject clip pieces) slanted
         (λ point. is_result rule operation (winding subject point) (winding clip point)) kept-winds x y
 
-    pub kept-column : (x : ℤ) → total (carried (in_column x)) (kept_edges (inside_by rule operation) subject clip pieces) ≡ pos 0
+    pub kept-column : (x : ℤ) → total (carried (of_column x)) (kept_edges (inside_by rule operation) subject clip pieces) ≡ pos 0
     kept-column x =
         column-closed (kept_edges (inside_by rule operation) subject clip pieces) slanted
         (λ point. is_result rule operation (winding subject point) (winding clip point)) kept-winds kept-high.0 kept-high.1 x
+
+    -- And so they do below each of them that goes on through the column.
+    pub kept-through : (edge : Edge) → Contains (kept_edges (inside_by rule operation) subject clip pieces) edge → (x : ℤ) → (rightwards edge).x0 <ℤ x → x <ℤ (rightwards edge).x1
+        → total (carried (in_column x (is_beneath (rightwards edge) x))) (kept_edges (inside_by rule operation) subject clip pieces) ≡ pos 0
+    kept-through edge among x behind before =
+        let of = kept.kept-rightwards subject clip noded pieces are (inside_by rule operation) edge among in
+        subst (λ (e : Edge). total (carried (in_column x (is_beneath e x))) (kept_edges (inside_by rule operation) subject clip pieces) ≡ pos 0) (sym of.2)
+        (kept-beneath subject clip closed clip_closed noded pieces are (inside_by rule operation) (is_result-none rule operation) of.0 of.1 x
+        (subst (λ (e : Edge). e.x0 <ℤ x) of.2 behind) (subst (λ (e : Edge). x <ℤ e.x1) of.2 before))

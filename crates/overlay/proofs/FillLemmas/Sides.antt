@@ -18,6 +18,7 @@ use Rattle.overlay.specs.Snap.Windings.{count, height_at, is_low, reversed, star
 use Rattle.overlay.proofs.FillLemmas.Balance.{carried}
 use Rattle.overlay.proofs.FillLemmas.Level.{height_whole}
 use Rattle.overlay.proofs.FillLemmas.Tests.{int_eq-true, int_eq-false}
+use Rattle.overlay.proofs.FillLemmas.Weights.{in_column}
 use Rattle.overlay.proofs.SnapLemmas.Exact.{test_level}
 use Rattle.overlay.proofs.SnapLemmas.Numbers.{Bounds, natural, same_test}
 use Rattle.overlay.proofs.SnapLemmas.Windings.{counted, before, after, within, under-right, under-left}
@@ -93,7 +94,7 @@ itself x y = record {
 
 -- The whole points of its column up to it.
 abbrev pub in_column_upto : ℤ → ℤ → Point → Bool
-in_column_upto x y point = int_eq point.x x && int_le point.y y
+in_column_upto x y = in_column x (λ z. int_le z y)
 
 -- heights at the ends of an edge
 height_start : (x0 x1 y0 y1 : ℤ) → ((y0 *ℤ (x1 -ℤ x0)) +ℤ (y1 *ℤ (x0 -ℤ x0))) ≡ ((x1 -ℤ x0) *ℤ y0)

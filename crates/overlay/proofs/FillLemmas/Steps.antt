@@ -20,18 +20,18 @@ use Rattle.overlay.proofs.FillLemmas.Totals.{total-same}
 use Rattle.overlay.proofs.FillLemmas.Under.{le_true}
 
 -- The whole points of a column.
-abbrev pub in_column : ℤ → Point → Bool
-in_column x point = int_eq point.x x
+abbrev pub of_column : ℤ → Point → Bool
+of_column x point = int_eq point.x x
 
 and_true : (s t : Bool) → t ≡ true → s ≡ (s && t)
 and_true true t is = sym is
 and_true false t is = refl
 
 -- where no end is above the height, the column up to it has the ends of the whole column
-column-upto : (x height : ℤ) (edges : List Edge) → All (IsUptoHeight height) edges → total (carried (in_column x)) edges ≡ total (carried (in_column_upto x height)) edges
+column-upto : (x height : ℤ) (edges : List Edge) → All (IsUptoHeight height) edges → total (carried (of_column x)) edges ≡ total (carried (in_column_upto x height)) edges
 column-upto x height edges all =
-    total-same (carried (in_column x)) (carried (in_column_upto x height)) edges
-    (All-weaker (IsUptoHeight height) (λ edge. carried (in_column x) edge ≡ carried (in_column_upto x height) edge)
+    total-same (carried (of_column x)) (carried (in_column_upto x height)) edges
+    (All-weaker (IsUptoHeight height) (λ edge. carried (of_column x) edge ≡ carried (in_column_upto x height) edge)
     (λ edge is. ap₂ (λ s t. count s -ℤ count t)
     (and_true (int_eq edge.x1 x) (int_le edge.y1 height) (le_true edge.y1 height is.to))
     (and_true (int_eq edge.x0 x) (int_le edge.y0 height) (le_true edge.y0 height is.from)))
@@ -53,7 +53,7 @@ module _ (edges : List Edge) (slanted : All (λ edge. edge.x1 ≢ edge.x0) edges
       )
 
   -- in a whole column they end as often as they start, where they wind around nothing from some height on
-  pub column-closed : (bound : ℤ) → ((point : RationalPoint) → (pos point.n *ℤ bound) ≤ℤ point.y → winding edges point ≡ pos 0) → (x : ℤ) → total (carried (in_column x)) edges ≡ pos 0
+  pub column-closed : (bound : ℤ) → ((point : RationalPoint) → (pos point.n *ℤ bound) ≤ℤ point.y → winding edges point ≡ pos 0) → (x : ℤ) → total (carried (of_column x)) edges ≡ pos 0
   column-closed bound high x =
       let y = int_max bound (top edges) in
       let upto = greater bound (top edges) in

@@ -6,7 +6,7 @@ use Rattle.std.proofs.lemmas.List.Elements.{All-head, All-tail}
 use Rattle.plane.specs.declared.edge.Edge.{Edge}
 use Rattle.plane.specs.Meet.Edges.{RationalPoint}
 use Rattle.plane.specs.SweepLine.Heights.{rightwards}
-use Rattle.plane.proofs.SweepLineLemmas.Rightwards.{rightwards-left, rightwards-right}
+use Rattle.plane.proofs.SweepLineLemmas.Rightwards.{rightwards-left, rightwards-right, rightwards-same}
 use Rattle.overlay.specs.declared.fill.pieces.Piece.{Piece}
 use Rattle.overlay.specs.Fill.Counts.{Counts, counts_below, counts_above, kept_edge, kept_edges}
 use Rattle.overlay.specs.Fill.Pieces.{total, weight}
@@ -70,19 +70,34 @@ nothing : (u : Bool) (rest sum : ℤ) → rest ≡ sum → rest ≡ (cond u (pos
 nothing true rest sum is = omega (arith, ints, is)
 nothing false rest sum is = omega (arith, ints, is)
 
--- a piece counts as it is kept
-one_kept : (point : RationalPoint) (edge : Edge) (rest : List Edge) (sum : ℤ) → edge.x0 <ℤ edge.x1 → winding rest point ≡ sum → (below above : Bool)
-    → winding (kept_edge below above edge rest) point ≡ (cond (is_under edge point) (count above -ℤ count below) (pos 0) +ℤ sum)
-one_kept point edge rest sum onwards is true true = nothing (is_under edge point) (winding rest point) sum is
-one_kept point edge rest sum onwards is false true = ap₂ (λ c d. c +ℤ d) (right-counts edge point onwards) is
-one_kept point edge rest sum onwards is true false = ap₂ (λ c d. c +ℤ d) (left-counts edge point onwards) is
-one_kept point edge rest sum onwards is false false = nothing (is_under edge point) (winding rest point) sum is
+-- whichever edges are asked for, kept edges weigh what the pieces of them count
+module _ (test : Edge → Bool) where
+  abbrev asked : Edge → ℤ
+  asked edge = cond (test (rightwards edge)) (weight edge) (pos 0)
 
--- so the kept edges wind around a point as the pieces under it say
+  asked-right : (edge : Edge) → edge.x0 <ℤ edge.x1 → asked edge ≡ cond (test edge) (pos 1) (pos 0)
+  asked-right edge onwards = ap₂ (λ (r : Edge) w. cond (test r) w (pos 0)) (rightwards-same edge onwards) (weight-right edge onwards)
+
+  asked-left : (edge : Edge) → edge.x0 <ℤ edge.x1 → asked (reversed edge) ≡ cond (test edge) (negsuc 0) (pos 0)
+  asked-left edge onwards = ap₂ (λ (r : Edge) w. cond (test r) w (pos 0)) (rightwards-left (reversed edge) (lt_true edge.x0 edge.x1 onwards)) (weight-left (reversed edge) onwards)
+
+  one_kept : (edge : Edge) (rest : List Edge) (sum : ℤ) → edge.x0 <ℤ edge.x1 → total asked rest ≡ sum → (below above : Bool)
+      → total asked (kept_edge below above edge rest) ≡ (cond (test edge) (count above -ℤ count below) (pos 0) +ℤ sum)
+  one_kept edge rest sum onwards is true true = nothing (test edge) (total asked rest) sum is
+  one_kept edge rest sum onwards is false true = ap₂ (λ c d. c +ℤ d) (asked-right edge onwards) is
+  one_kept edge rest sum onwards is true false = ap₂ (λ c d. c +ℤ d) (asked-left edge onwards) is
+  one_kept edge rest sum onwards is false false = nothing (test edge) (total asked rest) sum is
+
+  pub total-kept : (inside : Counts → Bool) (subject clip : List Edge) (pieces : List Piece) → All (λ piece. piece.edge.x0 <ℤ piece.edge.x1) pieces
+      → total (λ edge. cond (test (rightwards edge)) (weight edge) (pos 0)) (kept_edges inside subject clip pieces) ≡ total (λ piece. cond (test piece.edge) (kept inside subject clip piece) (pos 0)) pieces
+  total-kept inside subject clip [] all = refl
+  total-kept inside subject clip (piece ∷ pieces) all =
+      one_kept piece.edge (kept_edges inside subject clip pieces) (total (λ (p : Piece). cond (test p.edge) (kept inside subject clip p) (pos 0)) pieces)
+      (All-head (λ (p : Piece). p.edge.x0 <ℤ p.edge.x1) piece pieces all) (total-kept inside subject clip pieces (All-tail (λ (p : Piece). p.edge.x0 <ℤ p.edge.x1) piece pieces all))
+      (inside (counts_below subject clip piece)) (inside (counts_above subject clip piece))
+
+-- so they wind around a point as the pieces under it count
 pub winding-kept : (inside : Counts → Bool) (subject clip : List Edge) (point : RationalPoint) (pieces : List Piece) → All (λ piece. piece.edge.x0 <ℤ piece.edge.x1) pieces
     → winding (kept_edges inside subject clip pieces) point ≡ total (λ piece. cond (is_under piece.edge point) (kept inside subject clip piece) (pos 0)) pieces
-winding-kept inside subject clip point [] all = refl
-winding-kept inside subject clip point (piece ∷ pieces) all =
-    one_kept point piece.edge (kept_edges inside subject clip pieces) (total (λ (p : Piece). cond (is_under p.edge point) (kept inside subject clip p) (pos 0)) pieces)
-    (All-head (λ (p : Piece). p.edge.x0 <ℤ p.edge.x1) piece pieces all) (winding-kept inside subject clip point pieces (All-tail (λ (p : Piece). p.edge.x0 <ℤ p.edge.x1) piece pieces all))
-    (inside (counts_below subject clip piece)) (inside (counts_above subject clip piece))
+winding-kept inside subject clip point pieces all =
+    winding-total (kept_edges inside subject clip pieces) point ∙ total-kept (λ edge. is_under edge point) inside subject clip pieces all
