@@ -12,12 +12,9 @@ pub mod Next
 pub mod Order
 pub mod Premises
 pub mod Ranked
-pub mod Sides
 pub mod Small
 pub mod Stacked
-pub mod Steps
 pub mod Tests
-pub mod Through
 pub mod Totals
 pub mod Uncrossed
 pub mod Under

@@ -26,7 +26,7 @@ record Right (g r : Edge) : Type 0 where
   to : IsOff g r.x1 r.y1
 
 -- what ends in the column x + 1 below g, and what begins there
-abbrev pub column_below : Edge → ℤ → Edge → ℤ
+abbrev column_below : Edge → ℤ → Edge → ℤ
 column_below g x edge =
     ending (in_column (x +ℤ pos 1) (is_beneath g (x +ℤ pos 1))) edge -ℤ starting (in_column (x +ℤ pos 1) (is_beneath g (x +ℤ pos 1))) edge
 
@@ -48,7 +48,7 @@ module _ (g : Edge) (x : ℤ) (from : g.x0 ≤ℤ x) (upto : (x +ℤ pos 1) <ℤ
       (moves r g x right.onwards from upto (uncrossed_from edge g (omega (arith, ints)) noded.uncrossed) right.from right.to)
 
   -- and so does each edge: a vertical one weighs nothing
-  pub moved : (edge : Edge) → IsAside g edge → (below_on x g edge -ℤ below_on (x +ℤ pos 1) g edge) ≡ column_below g x edge
+  moved : (edge : Edge) → IsAside g edge → (below_on x g edge -ℤ below_on (x +ℤ pos 1) g edge) ≡ column_below g x edge
   moved edge noded =
       by_lt_z edge.x0 edge.x1
       (λ onwards. right_moved edge noded (subst (Right g) (sym (rightwards-right edge (lt_false edge.x1 edge.x0 (omega (arith, ints))))) (record {

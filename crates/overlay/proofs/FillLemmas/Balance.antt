@@ -29,7 +29,7 @@ count-total test (x ∷ xs) =
     ∙ count_more (test x) (count_by test xs) (total (λ x. count (test x)) xs) (count-total test xs)
 
 -- what edges carry into a set is how many end there less how many start there
-pub carried-counts : (test : Point → Bool) (edges : List Edge) → total (carried test) edges ≡ (pos (count_by (λ edge. test (end_of edge)) edges) -ℤ pos (count_by (λ edge. test (start_of edge)) edges))
+carried-counts : (test : Point → Bool) (edges : List Edge) → total (carried test) edges ≡ (pos (count_by (λ edge. test (end_of edge)) edges) -ℤ pos (count_by (λ edge. test (start_of edge)) edges))
 carried-counts test edges =
     total-difference (λ edge. count (test (end_of edge))) (λ edge. count (test (start_of edge))) edges
     ∙ sym (ap₂ (λ a b. a -ℤ b) (count-total (λ (edge : Edge). test (end_of edge)) edges) (count-total (λ (edge : Edge). test (start_of edge)) edges))
@@ -40,10 +40,3 @@ balanced edges closed test = carried-counts test edges ∙ none (count_by (λ (e
   where
     none : (m n : ℕ) → n ≡ m → (pos m -ℤ pos n) ≡ pos 0
     none m n same = omega (arith, ints, same)
-
--- and edges that don't are closed
-pub closed-balanced : (edges : List Edge) → AreBalanced edges → IsClosed edges
-closed-balanced edges are test = same (count_by (λ (edge : Edge). test (start_of edge)) edges) (count_by (λ (edge : Edge). test (end_of edge)) edges) (sym (carried-counts test edges) ∙ are test)
-  where
-    same : (m n : ℕ) → (pos n -ℤ pos m) ≡ pos 0 → m ≡ n
-    same m n none = omega (arith, ints, none)

@@ -1,7 +1,7 @@
 -- What a caller of the fill wants of its pieces, in a caller's words.
-use Rattle.std.proofs.Common.{◌≡◌, ◌≢◌, ◌⊎◌, ◌++◌, Bool, true, false, List, length, ℤ, pos, ◌-ℤ◌, ◌*ℤ◌, ◌≤ℤ◌, ◌<ℤ◌, ap, ap₂, arith, sym, subst, ◌∙◌}
+use Rattle.std.proofs.Common.{◌≡◌, ◌≢◌, ◌⊎◌, ◌++◌, Bool, true, false, List, length, ℤ, pos, ◌*ℤ◌, ◌≤ℤ◌, ◌<ℤ◌, ap, ap₂, arith, sym, subst, ◌∙◌}
 use Rattle.std.specs.Int.{int_max}
-use Rattle.std.specs.List.{All, Contains}
+use Rattle.std.specs.List.{Contains}
 use Rattle.std.proofs.lemmas.Int.{ints, clamps}
 use Rattle.std.specs.declared.cmp.Ordering.TheVariants.{Less}
 use Rattle.plane.specs.declared.edge.Edge.{Edge}
@@ -9,30 +9,24 @@ use Rattle.plane.specs.declared.sweep_line.active.ActiveEdge.{ActiveEdge}
 use Rattle.plane.specs.Meet.Edges.{RationalPoint}
 use Rattle.plane.specs.SweepLine.Active.{cmp_active}
 use Rattle.plane.specs.SweepLine.Crossings.{Cross}
-use Rattle.plane.specs.SweepLine.Heights.{rightwards, rise_by_run}
+use Rattle.plane.specs.SweepLine.Heights.{rise_by_run}
 use Rattle.overlay.specs.declared.fill.pieces.Piece.{Piece}
 use Rattle.overlay.specs.declared.fill.rules.FillRule.{FillRule}
 use Rattle.overlay.specs.declared.fill.rules.Operation.{Operation}
 use Rattle.overlay.specs.Fill.Counts.{Counts, is_over, is_lower_on, counts_below, counts_above, kept_edges}
 use Rattle.overlay.specs.Fill.Filled.{AreNoded, AreDistinct}
-use Rattle.overlay.specs.Fill.Pieces.{total, ArePieces}
+use Rattle.overlay.specs.Fill.Pieces.{ArePieces}
 use Rattle.overlay.specs.Fill.Rules.{is_result}
 use Rattle.overlay.specs.Snap.Windings.{count, reversed, winding, IsClosed}
-use Rattle.overlay.proofs.FillLemmas.Aside.{is_beneath, IsAside, aside}
-use Rattle.overlay.proofs.FillLemmas.Balance.{carried}
 use Rattle.overlay.proofs.FillLemmas.Filled.{filled, is_result-none}
 use Rattle.overlay.proofs.FillLemmas.High.{top, upto-higher, upto-top, high-none}
 use Rattle.overlay.proofs.FillLemmas.Kept as kept
 use Rattle.overlay.proofs.FillLemmas.Level.{MeetOnly}
 use Rattle.overlay.proofs.FillLemmas.Next as next
 use Rattle.overlay.proofs.FillLemmas.Order as order
-use Rattle.overlay.proofs.FillLemmas.Premises.{All-among, onwards, meet-pieces}
-use Rattle.overlay.proofs.FillLemmas.Sides.{in_column_upto}
+use Rattle.overlay.proofs.FillLemmas.Premises.{onwards, meet-pieces}
 use Rattle.overlay.proofs.FillLemmas.Small as small
-use Rattle.overlay.proofs.FillLemmas.Steps.{of_column, column-step, column-closed}
-use Rattle.overlay.proofs.FillLemmas.Through.{kept-beneath}
 use Rattle.overlay.proofs.FillLemmas.Uncrossed.{uncrossed}
-use Rattle.overlay.proofs.FillLemmas.Weights.{in_column}
 use Rattle.overlay.proofs.SnapLemmas.Numbers.{Bounds}
 
 -- the greater of two numbers is at least each of them
@@ -122,12 +116,6 @@ module _ (subject clip : List Edge) (closed : IsClosed subject) (clip_closed : I
     pub kept-of : (edge : Edge) → Contains (kept_edges inside subject clip pieces) edge → Contains (subject ++ clip) edge ⊎ Contains (subject ++ clip) (reversed edge)
     kept-of edge among = kept.kept-of subject clip noded pieces are inside edge among
 
-    -- Each, turned rightwards, is aside of each other one: they don't cross, and no end of the other is inside it.
-    pub kept-aside : (edge other : Edge) → Contains (kept_edges inside subject clip pieces) edge → Contains (kept_edges inside subject clip pieces) other → IsAside (rightwards edge) other
-    kept-aside edge other first second =
-        let of = kept.kept-rightwards subject clip noded pieces are inside edge first in
-        subst (λ (e : Edge). IsAside e other) (sym of.2) (aside of.0.edge other (kept.kept-meets subject clip noded pieces are inside other of.0 second of.1))
-
   module _ (rule : FillRule) (operation : Operation) where
     -- They wind once around each rational point of the result, and around no other.
     pub kept-winds : (point : RationalPoint) → winding (kept_edges (inside_by rule operation) subject clip pieces) point ≡ count (is_result rule operation (winding subject point) (winding clip point))
@@ -145,27 +133,3 @@ module _ (subject clip : List Edge) (closed : IsClosed subject) (clip_closed : I
           (high-none (int_max (top subject) (top clip)) point high clip clip_closed (upto-higher (top clip) (int_max (top subject) (top clip)) clip upto.1 (upto-top clip)))
           ∙ ap count (is_result-none rule operation),
     )
-
-    slanted : All (λ edge. edge.x1 ≢ edge.x0) (kept_edges (inside_by rule operation) subject clip pieces)
-    slanted = All-among (λ edge. edge.x1 ≢ edge.x0) (kept_edges (inside_by rule operation) subject clip pieces) (kept-onwards (inside_by rule operation))
-
-    -- In each column, at or below each height, they end as often as they start, once more, or once less; and in the whole
-    -- column as often.
-    pub kept-step : (x y : ℤ) → (one : Bool) × (other : Bool) × (total (carried (in_column_upto x y)) (kept_edges (inside_by rule operation) subject clip pieces) ≡ (count one -ℤ count other))
-    kept-step x y =
-        column-step (kept_edges (inside_by rule operation) subject clip pieces) slanted
-        (λ point. is_result rule operation (winding subject point) (winding clip point)) kept-winds x y
-
-    pub kept-column : (x : ℤ) → total (carried (of_column x)) (kept_edges (inside_by rule operation) subject clip pieces) ≡ pos 0
-    kept-column x =
-        column-closed (kept_edges (inside_by rule operation) subject clip pieces) slanted
-        (λ point. is_result rule operation (winding subject point) (winding clip point)) kept-winds kept-high.0 kept-high.1 x
-
-    -- And so they do below each of them that goes on through the column.
-    pub kept-through : (edge : Edge) → Contains (kept_edges (inside_by rule operation) subject clip pieces) edge → (x : ℤ) → (rightwards edge).x0 <ℤ x → x <ℤ (rightwards edge).x1
-        → total (carried (in_column x (is_beneath (rightwards edge) x))) (kept_edges (inside_by rule operation) subject clip pieces) ≡ pos 0
-    kept-through edge among x behind before =
-        let of = kept.kept-rightwards subject clip noded pieces are (inside_by rule operation) edge among in
-        subst (λ (e : Edge). total (carried (in_column x (is_beneath e x))) (kept_edges (inside_by rule operation) subject clip pieces) ≡ pos 0) (sym of.2)
-        (kept-beneath subject clip closed clip_closed noded pieces are (inside_by rule operation) (is_result-none rule operation) of.0 of.1 x
-        (subst (λ (e : Edge). e.x0 <ℤ x) of.2 behind) (subst (λ (e : Edge). x <ℤ e.x1) of.2 before))

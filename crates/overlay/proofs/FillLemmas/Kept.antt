@@ -9,7 +9,7 @@ use Rattle.i_tree.proofs.RootLemmas.Joined.{AllPairs-nil}
 use Rattle.i_tree.proofs.RootLemmas.Lists.{AllPairs-head, AllPairs-tail}
 use Rattle.plane.specs.declared.edge.Edge.{Edge}
 use Rattle.plane.specs.SweepLine.Heights.{rightwards}
-use Rattle.plane.proofs.SweepLineLemmas.Rightwards.{rightwards-left, rightwards-right, rightwards-same}
+use Rattle.plane.proofs.SweepLineLemmas.Rightwards.{rightwards-left, rightwards-right}
 use Rattle.overlay.specs.declared.fill.pieces.Piece.{Piece}
 use Rattle.overlay.specs.Fill.Counts.{Counts, counts_below, counts_above, kept_edge, kept_edges}
 use Rattle.overlay.specs.Fill.Filled.{AreNoded, AreDistinct}
@@ -18,7 +18,6 @@ use Rattle.overlay.specs.Snap.Meeting.{HaveSameEnds}
 use Rattle.overlay.specs.Snap.Windings.{reversed}
 use Rattle.overlay.proofs.FillLemmas.Level.{MeetOnly, same-onwards}
 use Rattle.overlay.proofs.FillLemmas.Premises.{All-among, onwards, meet-pieces}
-use Rattle.overlay.proofs.FillLemmas.Tests.{lt_true}
 use Rattle.overlay.proofs.FillLemmas.Uncrossed.{MeetOnly-reversed, MeetOnly-exchanged}
 
 -- ---- edges with the same ends
@@ -41,11 +40,6 @@ same-rightwards edge = by (lt_z edge.x1 edge.x0) refl
     by : (t : Bool) → lt_z edge.x1 edge.x0 ≡ t → HaveSameEnds (rightwards edge) edge
     by true e = inr (rightwards-left edge e)
     by false e = inl (rightwards-right edge e)
-
--- turned rightwards, it is the one that goes rightwards
-turned_same : (edge other : Edge) → other.x0 <ℤ other.x1 → HaveSameEnds edge other → rightwards edge ≡ other
-turned_same edge other onwards (inl same) = ap rightwards same ∙ rightwards-same other onwards
-turned_same edge other onwards (inr back) = ap rightwards back ∙ rightwards-left (reversed other) (lt_true other.x0 other.x1 onwards)
 
 -- they meet others alike
 MeetOnly-same : (one second other : Edge) → HaveSameEnds one second → MeetOnly second other → MeetOnly one other
@@ -113,22 +107,13 @@ module _ (inside : Counts → Bool) (subject clip : List Edge) where
 -- ---- the kept edges of pieces
 
 module _ (subject clip : List Edge) (noded : AreNoded (subject ++ clip)) (pieces : List Piece) (are : ArePieces subject clip pieces) (inside : Counts → Bool) where
-  -- each meets a piece only at common ends, and is one of the pieces, turned rightwards
-  pub kept-meets : (edge : Edge) (g : Piece) → Contains (kept_edges inside subject clip pieces) edge → Contains pieces g → MeetOnly edge g.edge
-  kept-meets edge g among second =
-      let p = kept-piece inside subject clip pieces edge among in
-      MeetOnly-same edge p.piece.edge g.edge p.same (meet-pieces subject clip noded pieces are p.piece g p.among second)
-
-  pub kept-rightwards : (edge : Edge) → Contains (kept_edges inside subject clip pieces) edge → (piece : Piece) × Contains pieces piece × (rightwards edge ≡ piece.edge)
-  kept-rightwards edge among =
-      let p = kept-piece inside subject clip pieces edge among in
-      (p.piece, p.among, turned_same edge p.piece.edge (onwards subject clip noded pieces are p.piece p.among) p.same)
-
   -- they meet only at common ends
   pub kept-noded : AreNoded (kept_edges inside subject clip pieces)
   kept-noded one other point first second of_one of_other =
+      let p = kept-piece inside subject clip pieces one first in
       let q = kept-piece inside subject clip pieces other second in
-      MeetOnly-exchanged other one (MeetOnly-same other q.piece.edge one q.same (MeetOnly-exchanged one q.piece.edge (kept-meets one q.piece first q.among))) point of_one of_other
+      let meet = MeetOnly-same one p.piece.edge q.piece.edge p.same (meet-pieces subject clip noded pieces are p.piece q.piece p.among q.among) in
+      MeetOnly-exchanged other one (MeetOnly-same other q.piece.edge one q.same (MeetOnly-exchanged one q.piece.edge meet)) point of_one of_other
 
   -- no two have the same ends
   pub kept-distinct : AreDistinct (kept_edges inside subject clip pieces)

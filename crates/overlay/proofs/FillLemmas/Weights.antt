@@ -58,7 +58,7 @@ abbrev weighed : (Point → Bool) → Edge → ℤ → ℤ
 weighed test edge w = cond (test (end_of edge)) w (pos 0) -ℤ cond (test (start_of edge)) w (pos 0)
 
 -- so an edge's weight at its right end less that at its left end is what it carries
-pub ending-carried : (test : Point → Bool) (edge : Edge) → (edge.x0 ≡ edge.x1 → test (start_of edge) ≡ test (end_of edge))
+ending-carried : (test : Point → Bool) (edge : Edge) → (edge.x0 ≡ edge.x1 → test (start_of edge) ≡ test (end_of edge))
     → (ending test edge -ℤ starting test edge) ≡ carried test edge
 ending-carried test edge level =
     by_lt_z edge.x0 edge.x1

@@ -39,7 +39,7 @@ height_level n p x0 x1 y0 y1 h first second =
     ∙ identity (plus (times (number h) (minus (times (n_of n) (number x1)) (number p))) (times (number h) (minus (number p) (times (n_of n) (number x0))))) (times (minus (number x1) (number x0)) (times (n_of n) (number h))) (omega arith)
 
 -- divided by a positive number
-pub test_level : (k : ℕ) (w h p : ℤ) → 0 < k → w ≡ pos k → int_le (w *ℤ h) (p *ℤ w) ≡ int_le h p
+test_level : (k : ℕ) (w h p : ℤ) → 0 < k → w ≡ pos k → int_le (w *ℤ h) (p *ℤ w) ≡ int_le h p
 test_level k w h p some is =
     ap (λ z. int_le (z *ℤ h) (p *ℤ z)) is
     ∙ same_test (pos k *ℤ h) (p *ℤ pos k) h p
