@@ -3,3 +3,4 @@ pub mod Counts
 pub mod Filled
 pub mod Pieces
 pub mod Rules
+pub mod Verticals

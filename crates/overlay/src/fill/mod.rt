@@ -2,3 +2,4 @@
 
 pub mod pieces;
 pub mod rules;
+mod verticals;

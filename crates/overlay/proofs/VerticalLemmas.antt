@@ -1,0 +1,8 @@
+-- Lemmas on the vertical edges that close a bound region.
+pub mod Between
+pub mod Closing
+pub mod Columns
+pub mod Crossed
+pub mod Linked
+pub mod Order
+pub mod Region

@@ -1,0 +1,135 @@
+//! The vertical edges that close the edges that bound a region, by what ends and starts along each column.
+
+ghost use Rattle.std.specs.Prelude.{◌≡◌, ◌≤◌, ◌≤ℤ◌, ◌+ℤ◌, ◌-ℤ◌, ◌^◌, ◌++◌, ℤ, pos, negsuc, List, All, IfOk, OnOk, OnErr, drop, length};
+ghost use Rattle.std.specs.List.{flat_map};
+ghost use Rattle.plane.specs.declared.edge.Edge.{Edge};
+ghost use Rattle.overlay.specs.Fill.Verticals.{AreVerticalsOf, BoundRegion, before_all, both_ends, ending, point_of_end, starting, vertical_between, verticals_between};
+ghost use Rattle.overlay.specs.Snap.Offsets.{Extends};
+ghost use Rattle.overlay.specs.Snap.Windings.{edge_between};
+
+use plane::edge::Edge;
+use std::alloc::{AllocError, Allocator};
+
+/// An end of an edge, and what it adds to how many edges end, less how many start: 1 where the edge ends there, -1 where it
+/// starts. Ends are in order by x, and then by y.
+#[derive(Clone, Copy, Debug, PartialEq, Eq, PartialOrd, Ord)]
+pub struct End {
+    pub x: i32,
+    pub y: i32,
+    pub change: i64,
+}
+
+/// Appends the vertical edges that close those from the place `first` on, which aren't vertical and bound a region.
+///
+/// Along each column of ends, from below to above, the ends less the starts so far are 1, 0 or -1 after each point. Where they
+/// are 1 a vertical edge goes up from the point to the next one of the column, where they are -1 one goes down from that to it.
+/// It is refused for want of memory alone, and has appended some of them then. The memory is that of the edges' allocator.
+pub fn append_verticals<A: Allocator + Copy>(
+    edges: &mut Vec<Edge, A>,
+    first: usize,
+) -> Result<(), AllocError>
+    requires within { first ≤ length edges.old.items }
+    requires bound { BoundRegion (drop first edges.old.items) }
+    ensures ok { OnOk result ((verticals : List Edge) × (edges.new.items ≡ edges.old.items ++ verticals)
+        × AreVerticalsOf (drop first edges.old.items) verticals) }
+    ensures err { OnErr result (Extends edges.old.items edges.new.items) }
+{
+    let alloc = *edges.allocator();
+    let mut ends = ends_of(alloc, &edges[first..])?;
+    ends.sort_unstable();
+    push_verticals(&ends, edges)
+}
+
+// Both ends of each edge.
+fn ends_of<A: Allocator>(alloc: A, edges: &[Edge]) -> Result<Vec<End, A>, AllocError>
+    ensures { IfOk result (λ ends. ends.items ≡ flat_map both_ends edges.now) }
+{
+    let mut ends = Vec::with_capacity(alloc, 2 * edges.len())?;
+    for edge in edges {
+        ends.push(starting(*edge))?;
+        ends.push(ending(*edge))?;
+    }
+    Ok(ends)
+}
+
+// The end at which the edge starts.
+fn starting(edge: Edge) -> End
+    ensures { result ≡ starting edge }
+{
+    End {
+        x: edge.x0,
+        y: edge.y0,
+        change: -1,
+    }
+}
+
+// The end at which it ends.
+fn ending(edge: Edge) -> End
+    ensures { result ≡ ending edge }
+{
+    End {
+        x: edge.x1,
+        y: edge.y1,
+        change: 1,
+    }
+}
+
+// Appends the vertical edges between next ends. Before the first end and after the last one of each column the sum is 0, so that
+// no edge goes there.
+fn push_verticals<A: Allocator>(ends: &[End], edges: &mut Vec<Edge, A>) -> Result<(), AllocError>
+    requires { All (λ end. (negsuc 0 ≤ℤ end.change) × (end.change ≤ℤ pos 1)) ends.now }
+    ensures ok { OnOk result (edges.new.items ≡ edges.old.items ++ verticals_between (pos 0) before_all ends.now) }
+    ensures err { OnErr result (Extends edges.old.items edges.new.items) }
+{
+    let mut sum = 0;
+    let mut last = End {
+        x: 0,
+        y: 0,
+        change: 0,
+    };
+    for end in ends {
+        if let Some(edge) = vertical_between(sum, last, *end) {
+            edges.push(edge)?;
+        }
+        sum = sum_with(sum, *end);
+        last = *end;
+    }
+    Ok(())
+}
+
+// The sum and the end's change.
+fn sum_with(sum: i64, end: End) -> i64
+    requires from { (pos 1 -ℤ pos (2 ^ 63)) ≤ℤ sum }
+    requires upto { sum ≤ℤ (pos (2 ^ 63) -ℤ pos 2) }
+    requires change { (negsuc 0 ≤ℤ end.change) × (end.change ≤ℤ pos 1) }
+    ensures { result ≡ sum +ℤ end.change }
+{
+    sum + end.change
+}
+
+// The vertical edge between two ends that are next to each other, by the ends less the starts upto the first of them.
+fn vertical_between(sum: i64, low: End, high: End) -> Option<Edge>
+    ensures { result ≡ vertical_between sum low high }
+{
+    if low.x == high.x && low.y == high.y {
+        None
+    } else if 0 < sum {
+        Some(edge_between(low, high))
+    } else if sum < 0 {
+        Some(edge_between(high, low))
+    } else {
+        None
+    }
+}
+
+// The edge from the one end to the other.
+fn edge_between(from: End, to: End) -> Edge
+    ensures { result ≡ edge_between (point_of_end from) (point_of_end to) }
+{
+    Edge {
+        x0: from.x,
+        y0: from.y,
+        x1: to.x,
+        y1: to.y,
+    }
+}
