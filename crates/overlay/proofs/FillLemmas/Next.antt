@@ -6,7 +6,8 @@ use Rattle.std.proofs.lemmas.List.Elements.{All-contains, All-head, All-tail}
 use Rattle.i_tree.proofs.RootLemmas.Lists.{AllPairs-head, AllPairs-tail}
 use Rattle.plane.specs.declared.edge.Edge.{Edge}
 use Rattle.overlay.specs.declared.fill.pieces.Piece.{Piece}
-use Rattle.overlay.specs.Fill.Counts.{Counts, is_over, is_lower_on, below_on, counts_below, counts_above}
+use Rattle.overlay.specs.declared.fill.counts.Counts.{Counts}
+use Rattle.overlay.specs.Fill.Counts.{is_over, is_lower_on, below_on, counts_below, counts_above}
 use Rattle.overlay.specs.Fill.Filled.{AreNoded}
 use Rattle.overlay.specs.Fill.Pieces.{total, AreJoined, ArePieces}
 use Rattle.overlay.specs.Snap.Windings.{IsClosed}
