@@ -1,1 +1,2 @@
+pub mod Contours
 pub mod Snap

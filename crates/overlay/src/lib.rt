@@ -1,6 +1,8 @@
-//! Overlay of polygons on the grid of whole points: edges are broken where they meet, and their pieces have whole ends again.
+//! Overlay of polygons on the grid of whole points: edges are broken where they meet, and their pieces have whole ends again;
+//! and closed edges become rings.
 //!
 //! All is told in whole numbers, and what is rounded is rounded exactly.
 #![tactic(auto)]
 
+pub mod contours;
 pub mod snap;
