@@ -2,4 +2,6 @@
 #![tactic(auto)]
 
 #[cfg(test)]
+mod contoured;
+#[cfg(test)]
 mod snapped;

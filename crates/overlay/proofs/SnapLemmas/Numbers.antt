@@ -66,7 +66,7 @@ same_test a b c d first second = by (int_le a b) (int_le c d) refl refl
 -- ---- signs of z where n z is k d
 
 -- a product of positive numbers
-product_positive : (k d : ℤ) → pos 0 <ℤ k → pos 0 <ℤ d → pos 0 <ℤ (k *ℤ d)
+pub product_positive : (k d : ℤ) → pos 0 <ℤ k → pos 0 <ℤ d → pos 0 <ℤ (k *ℤ d)
 product_positive (pos k) (pos d) first second =
     let some = mul-pos {m = k} {n = d} (omega (arith, ints, first)) (omega (arith, ints, second)) in omega (arith, ints, some)
 product_positive (negsuc k) d first second = absurd (omega (arith, ints, first))

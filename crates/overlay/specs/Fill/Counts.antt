@@ -3,14 +3,10 @@ use Rattle.std.specs.Prelude.{Bool, cond, not, ◌&&◌, List, [], ◌∷◌, �
 use Rattle.std.specs.Int.Signed.{lt_z}
 use Rattle.plane.specs.declared.edge.Edge.{Edge}
 use Rattle.plane.specs.SweepLine.Heights.{rightwards, height_by_runs}
+pub use Rattle.overlay.specs.declared.fill.counts.Counts.{Counts}
 use Rattle.overlay.specs.declared.fill.pieces.Piece.{Piece}
 use Rattle.overlay.specs.Fill.Pieces.{total, weight}
 use Rattle.overlay.specs.Snap.Windings.{reversed}
-
--- The winding numbers of the subject and of the clip.
-pub record Counts : Type 0 where
-  pub subject : ℤ
-  pub clip : ℤ
 
 -- The edge covers the stretch from x to x + 1.
 abbrev pub is_over : ℤ → Edge → Bool

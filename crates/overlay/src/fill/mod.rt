@@ -1,5 +1,100 @@
-//! Which edges bound what is inside.
+//! Which edges bound what is inside: the fill of closed edges that meet only at common ends.
 
-pub mod pieces;
+ghost use Rattle.std.specs.Prelude.{◌≡◌, ◌++◌, ◌+◌, ◌≤◌, [], List, length, IfErr, OnOk, OnErr};
+ghost use Rattle.i_tree.specs.declared.Refusal.TheVariants.{OutOfMemory};
+ghost use Rattle.plane.specs.declared.edge.Edge.{Edge};
+ghost use Rattle.overlay.specs.Fill.Filled.{AreNoded, IsFilled};
+ghost use Rattle.overlay.specs.Snap.Offsets.{Extends};
+ghost use Rattle.overlay.specs.Snap.Windings.{IsClosed};
+
+use i_tree::Refusal;
+use i_tree::status::exp::StatusCollection;
+use kept::append_kept;
+use pieces::pieces_in_order;
+use plane::edge::Edge;
+use plane::sweep_line::ActiveEdge;
+pub use rules::{FillRule, Operation};
+use std::alloc::Allocator;
+use verticals::append_verticals;
+
+mod counts;
+mod kept;
+mod pieces;
 pub mod rules;
 mod verticals;
+
+/// Appends to `out` the edges that bound what the operation makes of the inside of the subject and that of the clip.
+///
+/// The winding number of edges around a point is the number of those under it that go rightwards, less those that go leftwards;
+/// the rule says which points are inside by it. The edges have to be closed, as those of rings are, and noded: each point of two
+/// of them is an end of both, or the two have the same ends. The pieces that `snap` makes of closed edges are both.
+///
+/// The edges appended are closed and noded too, and no two have the same ends. They wind once around each point of the result,
+/// and not at all around any other: the result is on the left of each. One that isn't vertical is an edge of the subject or of
+/// the clip, or such an edge from its end to its start. A vertical one goes from an end of these to the next one in its column.
+///
+/// It is refused where memory or the status has no room, and leaves `out` as it was then. A status that has room for as many as
+/// there are edges refuses none: then it is for want of memory alone. What the status holds is removed before and after, in
+/// every case. The memory is that of `out`.
+///
+/// For n edges it compares O(n log n) times, and the status is asked once for each two ends between which edges go. The counts
+/// along a sweep line are those of Weiler and Atherton, and of Vatti; the sweep is our own.
+pub fn fill<C, A>(
+    subject: &[Edge],
+    clip: &[Edge],
+    rule: FillRule,
+    operation: Operation,
+    status: &mut C,
+    out: &mut Vec<Edge, A>,
+) -> Result<(), Refusal>
+where
+    C: StatusCollection<ActiveEdge, i64, ()>,
+    A: Allocator + Copy,
+    requires closed { IsClosed subject.now }
+    requires clip_closed { IsClosed clip.now }
+    requires noded { AreNoded (subject.now ++ clip.now) }
+    ensures ok { OnOk result ((edges : List Edge) × (out.new.items ≡ out.old.items ++ edges)
+        × IsFilled rule operation subject.now clip.now edges) }
+    ensures err { OnErr result (out.new.items ≡ out.old.items) }
+    ensures refused { length subject.now + length clip.now ≤ C.room status.old
+        → IfErr result (λ cause. cause ≡ OutOfMemory) }
+    ensures empty { C.stored status.new ≡ [] }
+{
+    status.clear();
+    let before = out.len();
+    let outcome = append_filled(subject, clip, rule, operation, status, out);
+    if outcome.is_err() {
+        out.truncate(before);
+    }
+    status.clear();
+    outcome
+}
+
+// As `fill`, from an empty status on. Where it is refused, it may have appended something.
+fn append_filled<C, A>(
+    subject: &[Edge],
+    clip: &[Edge],
+    rule: FillRule,
+    operation: Operation,
+    status: &mut C,
+    out: &mut Vec<Edge, A>,
+) -> Result<(), Refusal>
+where
+    C: StatusCollection<ActiveEdge, i64, ()>,
+    A: Allocator + Copy,
+    requires empty { C.stored status.old ≡ [] }
+    requires closed { IsClosed subject.now }
+    requires clip_closed { IsClosed clip.now }
+    requires noded { AreNoded (subject.now ++ clip.now) }
+    ensures ok { OnOk result ((edges : List Edge) × (out.new.items ≡ out.old.items ++ edges)
+        × IsFilled rule operation subject.now clip.now edges) }
+    ensures err { OnErr result (Extends out.old.items out.new.items) }
+    ensures refused { length subject.now + length clip.now ≤ C.room status.old
+        → IfErr result (λ cause. cause ≡ OutOfMemory) }
+{
+    let first = out.len();
+    let pieces = pieces_in_order(*out.allocator(), subject, clip)?;
+    append_kept(status, &pieces, rule, operation, out)?;
+    append_verticals(out, first)?;
+    Ok(())
+}

@@ -1,8 +1,17 @@
 //! The pieces of a fill: edges that aren't vertical, turned rightwards, those with the same ends joined.
 
-ghost use Rattle.std.specs.Prelude.{◌≡◌};
+ghost use Rattle.std.specs.Prelude.{◌≡◌, ◌≢◌, ◌++◌, ◌+◌, ◌≤◌, ◌<◌, ◌^◌, ◌+ℤ◌, ◌-ℤ◌, ◌≤ℤ◌, ◌<ℤ◌, pos, All, length, IfOk, MatchBool, OnOk};
+ghost use Rattle.plane.specs.SweepLine.Heights.{rise};
+ghost use Rattle.overlay.specs.Fill.Begins.{cmp_begins, steps, BeginInOrder};
+ghost use Rattle.overlay.specs.Fill.Filled.{AreNoded};
+ghost use Rattle.overlay.specs.Fill.Pieces.{ArePieces, weight};
+ghost use Rattle.overlay.specs.Fill.Turned.{Adds, AreJoinOf, AreTurned, BeginApart, EndIn, Fit, IsSmall, piece_of, sum_of, turned};
 
 use plane::edge::Edge;
+use plane::sweep_line::heights::turn_rightwards;
+use plane::ways::product;
+use std::alloc::{AllocError, Allocator};
+use std::cmp::Ordering;
 
 /// An edge that goes rightwards, and how often it stands in the subject and in the clip: rightward ones less leftward ones.
 #[derive(Clone, Copy, Debug)]
@@ -10,4 +19,207 @@ pub struct Piece {
     pub edge: Edge,
     pub subject: i64,
     pub clip: i64,
+}
+
+/// Which of the two an edge is of.
+#[derive(Clone, Copy, Debug, PartialEq, Eq)]
+pub enum Role {
+    Subject,
+    Clip,
+}
+
+/// The pieces of the subject and of the clip, in the order in which they begin.
+pub fn pieces_in_order<A: Allocator + Copy>(
+    alloc: A,
+    subject: &[Edge],
+    clip: &[Edge],
+) -> Result<Vec<Piece, A>, AllocError>
+    requires { AreNoded (subject.now ++ clip.now) }
+    ensures pieces { IfOk result (λ pieces. ArePieces subject.now clip.now pieces.items) }
+    ensures order { IfOk result (λ pieces. BeginInOrder pieces.items) }
+    ensures few { IfOk result (λ pieces. length pieces.items ≤ length subject.now + length clip.now) }
+    ensures countable { IfOk result (λ _. length subject.now + length clip.now < 2 ^ 63) }
+{
+    let turned = turned_pieces(alloc, subject, clip)?;
+    let pieces = join(alloc, &turned)?;
+    Ok(pieces)
+}
+
+// The edges of both that aren't vertical, turned rightwards, in the order in which they begin.
+fn turned_pieces<A: Allocator>(
+    alloc: A,
+    subject: &[Edge],
+    clip: &[Edge],
+) -> Result<Vec<Piece, A>, AllocError>
+    ensures turned { IfOk result (λ pieces. AreTurned subject.now clip.now pieces.items × BeginInOrder pieces.items) }
+    ensures countable { IfOk result (λ _. length subject.now + length clip.now < 2 ^ 63) }
+{
+    let mut pieces = Vec::with_capacity(alloc, room_for(subject, clip)?)?;
+    append_turned(&mut pieces, subject, Role::Subject)?;
+    append_turned(&mut pieces, clip, Role::Clip)?;
+    pieces.sort_unstable_by(|one: &Piece, other: &Piece| -> Ordering {
+        compare_begins(one.edge, other.edge)
+    });
+    Ok(pieces)
+}
+
+// How many edges there are. More than `i64` counts have no room in any memory.
+fn room_for(subject: &[Edge], clip: &[Edge]) -> Result<usize, AllocError>
+    ensures { IfOk result (λ all. (all ≡ length subject.now + length clip.now) × (all < 2 ^ 63)) }
+{
+    let all = subject.len().saturating_add(clip.len());
+    if all > i64::MAX as usize {
+        return Err(AllocError);
+    }
+    Ok(all)
+}
+
+// Appends the piece of each edge that isn't vertical.
+fn append_turned<A: Allocator>(
+    pieces: &mut Vec<Piece, A>,
+    edges: &[Edge],
+    role: Role,
+) -> Result<(), AllocError>
+    ensures { OnOk result (pieces.new.items ≡ pieces.old.items ++ turned role edges.now) }
+{
+    for edge in edges {
+        if is_sloped(*edge) {
+            pieces.push(piece_of(*edge, role))?;
+        }
+    }
+    Ok(())
+}
+
+// Whether the edge isn't vertical.
+fn is_sloped(edge: Edge) -> bool
+    ensures { MatchBool result (edge.x0 ≢ edge.x1) (edge.x0 ≡ edge.x1) }
+{
+    edge.x0 != edge.x1
+}
+
+// The edge alone as a piece.
+fn piece_of(edge: Edge, role: Role) -> Piece
+    ensures { result ≡ piece_of role edge }
+{
+    let right = turn_rightwards(edge);
+    match role {
+        Role::Subject => Piece {
+            edge: right,
+            subject: weight(edge),
+            clip: 0,
+        },
+        Role::Clip => Piece {
+            edge: right,
+            subject: 0,
+            clip: weight(edge),
+        },
+    }
+}
+
+// 1 for an edge that goes rightwards, -1 for one that goes leftwards, 0 for a vertical one.
+fn weight(edge: Edge) -> i64
+    ensures { result ≡ weight edge }
+{
+    if edge.x0 < edge.x1 {
+        return 1;
+    }
+    if edge.x1 < edge.x0 {
+        return -1;
+    }
+    0
+}
+
+/// In which order two edges begin that go rightwards: by x, by y, and of those that begin at one point the flatter one first.
+fn compare_begins(one: Edge, other: Edge) -> Ordering
+    ensures { result ≡ cmp_begins one other }
+{
+    let across = one.x0.cmp(&other.x0);
+    if across != Ordering::Equal {
+        return across;
+    }
+    let up = one.y0.cmp(&other.y0);
+    if up != Ordering::Equal {
+        return up;
+    }
+    product(rise(one), steps(other)).cmp(&product(rise(other), steps(one)))
+}
+
+// How far the edge goes up.
+fn rise(edge: Edge) -> i64
+    ensures { result ≡ rise edge }
+{
+    edge.y1 as i64 - edge.y0 as i64
+}
+
+// How far the edge goes along x, and 1 where it goes nowhere, so that all are in one order.
+fn steps(edge: Edge) -> i64
+    ensures { result ≡ steps edge }
+{
+    (edge.x1 as i64 - edge.x0 as i64).max(1)
+}
+
+// Pieces of one edge joined to one. They stand one after another.
+fn join<A: Allocator>(alloc: A, pieces: &[Piece]) -> Result<Vec<Piece, A>, AllocError>
+    requires order { BeginInOrder pieces.now }
+    requires apart { BeginApart pieces.now }
+    requires units { All (IsSmall 1) pieces.now }
+    requires few { length pieces.now < 2 ^ 63 }
+    ensures { IfOk result (λ joined. AreJoinOf pieces.now joined.items) }
+{
+    let mut joined = Vec::with_capacity(alloc, pieces.len())?;
+    for piece in pieces {
+        add(&mut joined, *piece)?;
+    }
+    Ok(joined)
+}
+
+// Adds the piece to the last one, where that is of the same edge, or else behind it.
+fn add<A: Allocator>(joined: &mut Vec<Piece, A>, piece: Piece) -> Result<(), AllocError>
+    requires { All (λ last. Fit last piece) joined.old.items }
+    ensures { OnOk result (Adds piece joined.old.items joined.new.items) }
+{
+    if !end_in(joined, piece.edge) {
+        joined.push(piece)?;
+        return Ok(());
+    }
+    let last = joined.len() - 1;
+    joined[last] = sum_of(joined[last], piece);
+    Ok(())
+}
+
+// Whether the last of the pieces is of this edge.
+fn end_in(pieces: &[Piece], edge: Edge) -> bool
+    ensures { MatchBool result (EndIn pieces.now edge) (¬ (EndIn pieces.now edge)) }
+{
+    match pieces.last() {
+        Some(last) => is_same(last.edge, edge),
+        None => false,
+    }
+}
+
+fn is_same(one: Edge, other: Edge) -> bool
+    ensures { MatchBool result (one ≡ other) (one ≢ other) }
+{
+    one == other
+}
+
+// Two pieces of one edge as one.
+fn sum_of(one: Piece, other: Piece) -> Piece
+    requires { Fit one other }
+    ensures { result ≡ sum_of one other }
+{
+    Piece {
+        edge: one.edge,
+        subject: sum(one.subject, other.subject),
+        clip: sum(one.clip, other.clip),
+    }
+}
+
+/// The sum, where it is a number of 64 bits.
+pub fn sum(one: i64, other: i64) -> i64
+    requires from { (pos 0 -ℤ pos (2 ^ 63)) ≤ℤ (one +ℤ other) }
+    requires below { (one +ℤ other) <ℤ pos (2 ^ 63) }
+    ensures { result ≡ one +ℤ other }
+{
+    one + other
 }

@@ -112,7 +112,7 @@ reach n a b p start end other_end first second =
     identity (times (n_of a) (number end)) (plus (times (n_of a) (number start)) (times (n_of b) (minus (number other_end) (number start)))) (omega (arith, fact))
 
 -- edges with the same coordinates are one
-edges-same : (one other : Edge) → one.x0 ≡ other.x0 → one.y0 ≡ other.y0 → one.x1 ≡ other.x1 → one.y1 ≡ other.y1 → one ≡ other
+pub edges-same : (one other : Edge) → one.x0 ≡ other.x0 → one.y0 ≡ other.y0 → one.x1 ≡ other.x1 → one.y1 ≡ other.y1 → one ≡ other
 edges-same one other x0 y0 x1 y1 =
     let edge : ℤ → ℤ → ℤ → ℤ → Edge = λ a b c d. record {
       x0 = a;

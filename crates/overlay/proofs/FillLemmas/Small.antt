@@ -1,0 +1,142 @@
+-- Counts are no further from 0 than there are edges.
+use Rattle.std.proofs.Common.{◌≡◌, ◌≢◌, ℕ, suc, ℤ, pos, negsuc, ◌+ℤ◌, Bool, true, false, cond, ◌&&◌, List, [], ◌∷◌, length, refl, ap, arith, sym, subst, ◌∙◌}
+use Rattle.std.specs.Int.Signed.{lt_z}
+use Rattle.std.specs.List.{Contains}
+use Rattle.std.specs.Ordering.{int_eq}
+use Rattle.std.proofs.lemmas.Bool.{and_parts}
+use Rattle.std.proofs.lemmas.Bool.Decides.{Decides-int_eq}
+use Rattle.std.proofs.lemmas.Int.{ints}
+use Rattle.plane.specs.declared.edge.Edge.{Edge}
+use Rattle.plane.specs.SweepLine.Heights.{rightwards}
+use Rattle.overlay.specs.declared.fill.pieces.Piece.{Piece}
+use Rattle.overlay.specs.Fill.Counts.{is_over, is_lower_on, below_on, counts_below, counts_above}
+use Rattle.overlay.specs.Fill.Pieces.{total, weight, AreJoined, ArePieces}
+use Rattle.overlay.proofs.FillLemmas.Next.{total-but}
+use Rattle.overlay.proofs.FillLemmas.Order.{lower-irrefl}
+use Rattle.overlay.proofs.FillLemmas.Premises.{All-among}
+use Rattle.overlay.proofs.FillLemmas.Tests.{int_eq-true}
+use Rattle.overlay.proofs.FillLemmas.Totals.{total-sum, total-none}
+use Rattle.overlay.proofs.SnapLemmas.Hobby.Ends.{edges-same}
+use Rattle.overlay.proofs.SnapLemmas.Numbers.{Bounds}
+
+-- ---- sums of terms between -1 and 1
+
+-- one term more
+more_bounds : (n : ℕ) (a b : ℤ) → Bounds 1 a → Bounds n b → Bounds (suc n) (a +ℤ b)
+more_bounds n a b first second =
+    let from = first.from in
+    let upto = first.upto in
+    let from_too = second.from in
+    let upto_too = second.upto in record {
+      from = omega (arith, ints, from, from_too);
+      upto = omega (arith, ints, upto, upto_too);
+    }
+
+-- so a sum lies between minus the number of terms and this number
+total-bounds : {X : Type 0} (f : X → ℤ) (xs : List X) → ((x : X) → Bounds 1 (f x)) → Bounds (length xs) (total f xs)
+total-bounds f [] each = record { from = omega (arith, ints); upto = omega (arith, ints) }
+total-bounds f (x ∷ xs) each = more_bounds (length xs) (f x) (total f xs) (each x) (total-bounds f xs each)
+
+-- weights, and parts of them, lie between -1 and 1
+unit_zero : Bounds 1 (pos 0)
+unit_zero = record { from = omega (arith, ints); upto = omega (arith, ints) }
+
+unit_weight : (edge : Edge) → Bounds 1 (weight edge)
+unit_weight edge = by (lt_z edge.x0 edge.x1) (lt_z edge.x1 edge.x0)
+  where
+    by : (s t : Bool) → Bounds 1 (cond s (pos 1) (cond t (negsuc 0) (pos 0)))
+    by true t = record { from = omega (arith, ints); upto = omega (arith, ints) }
+    by false true = record { from = omega (arith, ints); upto = omega (arith, ints) }
+    by false false = unit_zero
+
+unit_part : (t : Bool) (w : ℤ) → Bounds 1 w → Bounds 1 (cond t w (pos 0))
+unit_part true w is = is
+unit_part false w is = unit_zero
+
+-- nothing more
+no_more : (w : ℤ) → (w +ℤ pos 0) ≡ w
+no_more w = omega (arith, ints)
+
+no_less : (w : ℤ) → (pos 0 +ℤ w) ≡ w
+no_less w = omega (arith, ints)
+
+-- one of two parts, where both are never taken
+unit_parts : (s t : Bool) (w : ℤ) → Bounds 1 w → (s ≡ true → t ≡ true → ⊥) → Bounds 1 (cond s w (pos 0) +ℤ cond t w (pos 0))
+unit_parts true true w is never = absurd (never refl refl)
+unit_parts true false w is never = subst (Bounds 1) (sym (no_more w)) is
+unit_parts false true w is never = subst (Bounds 1) (sym (no_less w)) is
+unit_parts false false w is never = unit_zero
+
+-- ---- whether two edges are one
+
+-- by all coordinates
+abbrev same_edge : Edge → Edge → Bool
+same_edge one other = int_eq one.x0 other.x0 && (int_eq one.y0 other.y0 && (int_eq one.x1 other.x1 && int_eq one.y1 other.y1))
+
+-- the test tells edges that are one
+same_is : (one other : Edge) → same_edge one other ≡ true → one ≡ other
+same_is one other e =
+    let first = and_parts (int_eq one.x0 other.x0) (int_eq one.y0 other.y0 && (int_eq one.x1 other.x1 && int_eq one.y1 other.y1)) e in
+    let second = and_parts (int_eq one.y0 other.y0) (int_eq one.x1 other.x1 && int_eq one.y1 other.y1) first.1 in
+    let third = and_parts (int_eq one.x1 other.x1) (int_eq one.y1 other.y1) second.1 in
+    edges-same one other ((Decides-int_eq one.x0 other.x0).0 first.0) ((Decides-int_eq one.y0 other.y0).0 second.0) ((Decides-int_eq one.x1 other.x1).0 third.0) ((Decides-int_eq one.y1 other.y1).0 third.1)
+
+same_itself : (edge : Edge) → same_edge edge edge ≡ true
+same_itself edge = rw (int_eq-true edge.x0 edge.x0 refl, int_eq-true edge.y0 edge.y0 refl, int_eq-true edge.x1 edge.x1 refl, int_eq-true edge.y1 edge.y1 refl) refl
+
+-- ---- the counts
+
+module _ (subject clip : List Edge) (pieces : List Piece) (are : ArePieces subject clip pieces) (g : Piece) where
+  -- what is below g where it starts
+  abbrev below : Edge → ℤ
+  below = below_on g.edge.x0 g.edge
+
+  -- what has g's edge
+  abbrev of_g : Edge → ℤ
+  of_g edge = cond (same_edge (rightwards edge) g.edge) (weight edge) (pos 0)
+
+  -- what is below it is small
+  small-below : (edges : List Edge) → Bounds (length edges) (total below edges)
+  small-below edges = total-bounds below edges (λ edge. unit_part (is_over g.edge.x0 (rightwards edge) && is_lower_on g.edge.x0 (rightwards edge) g.edge) (weight edge) (unit_weight edge))
+
+  -- g weighs what the edges with its edge do
+  weight-of : (edges : List Edge) (weigh : Piece → ℤ) → AreJoined edges weigh pieces → Contains pieces g → total of_g edges ≡ weigh g
+  weight-of edges weigh joined among =
+      let here : Piece → ℤ = λ piece. cond (same_edge piece.edge g.edge) (weigh piece) (pos 0) in
+      let none : Piece → ℤ = λ piece. pos 0 in
+      joined (λ edge. same_edge edge g.edge)
+      ∙ total-but here none g (weigh g) (ap (λ t. cond t (weigh g) (pos 0)) (same_itself g.edge) ∙ sym (no_less (weigh g))) pieces are.distinct among
+      (All-among (λ q. q.edge ≢ g.edge → here q ≡ none q) pieces (λ q inside differ. other (same_edge q.edge g.edge) (weigh q) (λ e. differ (same_is q.edge g.edge e))))
+      ∙ ap (λ z. z +ℤ weigh g) (total-none none pieces (λ k d inside. refl))
+      ∙ no_less (weigh g)
+    where
+      other : (t : Bool) (w : ℤ) → (t ≡ true → ⊥) → cond t w (pos 0) ≡ pos 0
+      other true w never = absurd (never refl)
+      other false w never = refl
+
+  -- no edge is below g and has its edge
+  apart : (edge : Edge) → (is_over g.edge.x0 (rightwards edge) && is_lower_on g.edge.x0 (rightwards edge) g.edge) ≡ true → same_edge (rightwards edge) g.edge ≡ true → ⊥
+  apart edge lower same =
+      let both = and_parts (is_over g.edge.x0 (rightwards edge)) (is_lower_on g.edge.x0 (rightwards edge) g.edge) lower in
+      never (is_lower_on g.edge.x0 g.edge g.edge) (lower-irrefl g.edge.x0 g.edge) (subst (λ (e : Edge). is_lower_on g.edge.x0 e g.edge ≡ true) (same_is (rightwards edge) g.edge same) both.1)
+    where
+      never : (t : Bool) → t ≡ false → t ≡ true → ⊥
+      never true none some = cc
+      never false none some = cc
+
+  -- and so is what is above it
+  small-above : (edges : List Edge) (weigh : Piece → ℤ) → AreJoined edges weigh pieces → Contains pieces g → Bounds (length edges) (total below edges +ℤ weigh g)
+  small-above edges weigh joined among =
+      subst (Bounds (length edges)) (total-sum below of_g edges ∙ ap (λ z. total below edges +ℤ z) (weight-of edges weigh joined among))
+      (total-bounds (λ edge. below edge +ℤ of_g edge) edges
+      (λ edge. unit_parts (is_over g.edge.x0 (rightwards edge) && is_lower_on g.edge.x0 (rightwards edge) g.edge) (same_edge (rightwards edge) g.edge) (weight edge) (unit_weight edge) (apart edge)))
+
+  pub counts-small : Contains pieces g
+      → Bounds (length subject) (counts_below subject clip g).subject × Bounds (length subject) (counts_above subject clip g).subject
+      × Bounds (length clip) (counts_below subject clip g).clip × Bounds (length clip) (counts_above subject clip g).clip
+  counts-small among = (
+    small-below subject,
+    small-above subject (λ piece. piece.subject) are.joined among,
+    small-below clip,
+    small-above clip (λ piece. piece.clip) are.clip_joined among,
+  )

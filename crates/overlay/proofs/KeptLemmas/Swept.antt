@@ -1,0 +1,112 @@
+-- How far the sweep of a fill has come, and one piece more.
+use Rattle.std.proofs.Common.{◌≡◌, ◌<◌, ◌+◌, ◌++◌, [], ◌∷◌, Bool, true, false, ℕ, ℤ, ◌≤ℤ◌, List, Option, length, take, get_or, refl, ap, sym, subst, ◌∙◌, inl, inr, arith, append-nil, append_assoc}
+use Rattle.std.proofs.lemmas.Bool.{cases_lt}
+use Rattle.std.proofs.lemmas.Int.{ints}
+use Rattle.std.proofs.lemmas.List.{get_or_append_left, get_or-append-add, length-append, take_more}
+use Rattle.i_tree.specs.Root.Along.{IsLast}
+use Rattle.plane.specs.declared.edge.Edge.{Edge}
+use Rattle.plane.specs.SweepLine.Active.{Entry, live_entries}
+use Rattle.plane.specs.SweepLine.Line.{IsSortedAt, JoinsAt, NoneCrossAmong}
+use Rattle.overlay.specs.declared.fill.pieces.Piece.{Piece}
+use Rattle.overlay.specs.Fill.Counts.{Counts, kept_edge}
+use Rattle.overlay.specs.Fill.Sweep.{AreFillPieces, Fits, above_or, below_of, kept_of, nothing, plus}
+use Rattle.overlay.proofs.FillLemmas.Callers.{counts-small}
+use Rattle.overlay.proofs.KeptLemmas.Begun.{HasBegun, HasBegun-more, HasBegun-none, entry_at, held, no_piece, piece_at, x_order}
+use Rattle.overlay.proofs.KeptLemmas.Below.{NotAbove, above-edges, found-below}
+
+-- The first k pieces have begun: what is above each is noted, and those that bound the result are kept.
+pub record HasSwept (inside : Counts → Bool) (pieces : List Piece) (k : ℕ) (stored : List Entry) (above : List Counts) (before out : List Edge) : Type 0 where
+  pub x : ℤ
+  pub begun : HasBegun pieces k x stored
+  pub upto : k < length pieces → x ≤ℤ (piece_at pieces k).edge.x0
+  pub size : length above ≡ k
+  pub told : (i : ℕ) → i < k → get_or above i nothing ≡ plus (below_of pieces (piece_at pieces i)) (piece_at pieces i)
+  pub kept : out ≡ before ++ kept_of inside pieces (take k pieces)
+
+pub HasSwept-none : (inside : Counts → Bool) (pieces : List Piece) (before : List Edge) → HasSwept inside pieces 0 [] [] before before
+HasSwept-none inside pieces before = record {
+  x = (piece_at pieces 0).edge.x0;
+  begun = HasBegun-none pieces (piece_at pieces 0).edge.x0;
+  upto = λ some. omega (arith, ints);
+  size = refl;
+  told = λ i below. absurd (omega (arith, below));
+  kept = sym (append-nil before);
+}
+
+-- ---- one edge more
+
+by_kept : (below above : Bool) (edge : Edge) (front rest : List Edge) → kept_edge below above edge (front ++ rest) ≡ kept_edge below above edge front ++ rest
+by_kept true true edge front rest = refl
+by_kept true false edge front rest = refl
+by_kept false true edge front rest = refl
+by_kept false false edge front rest = refl
+
+kept_of-more : (inside : Counts → Bool) (all done : List Piece) (piece : Piece)
+    → kept_of inside all (done ++ piece ∷ []) ≡ kept_of inside all done ++ kept_edge (inside (below_of all piece)) (inside (plus (below_of all piece) piece)) piece.edge []
+kept_of-more inside all [] piece = refl
+kept_of-more inside all (first ∷ done) piece =
+    ap (kept_edge (inside (below_of all first)) (inside (plus (below_of all first) first)) first.edge) (kept_of-more inside all done piece)
+    ∙ by_kept (inside (below_of all first)) (inside (plus (below_of all first) first)) first.edge (kept_of inside all done) (kept_edge (inside (below_of all piece)) (inside (plus (below_of all piece) piece)) piece.edge [])
+
+module _ (inside : Counts → Bool) (pieces : List Piece) (fill : AreFillPieces pieces) (k : ℕ) (within : k < length pieces) (stored : List Entry) (above : List Counts) (before out : List Edge)
+    (swept : HasSwept inside pieces k stored above before out) where
+  abbrev piece : Piece
+  piece = piece_at pieces k
+
+  -- the counts above a piece are numbers of 64 bits
+  pub sums-fit : (counts : Counts) → counts ≡ below_of pieces piece → Fits counts piece
+  sums-fit counts is = subst (λ (c : Counts). Fits c piece) (sym is) fit
+    where
+      fit : Fits (below_of pieces piece) piece
+      fit =
+          let small = counts-small fill.subject fill.clip fill.closed fill.clip_closed fill.noded pieces fill.are piece (held pieces fill k within) in
+          let subject = ap (λ (c : Counts). c.subject) (above-edges pieces fill piece) in
+          let clip = ap (λ (c : Counts). c.clip) (above-edges pieces fill piece) in
+          let countable = fill.countable in
+          let a = small.1.from in
+          let b = small.1.upto in
+          let c = small.3.from in
+          let d = small.3.upto in
+          record { from = omega (arith, ints, subject, countable, a); below = omega (arith, ints, subject, countable, b); clip_from = omega (arith, ints, clip, countable, c); clip_below = omega (arith, ints, clip, countable, d) }
+
+  module _ (after : List Entry) (joins : JoinsAt piece.edge.x0 (entry_at pieces k) stored after)
+      (sorted : (later : ℤ) → piece.edge.x0 ≤ℤ later → NoneCrossAmong (live_entries piece.edge.x0 after) → IsSortedAt later (live_entries later after))
+      (found : Option Entry) (last : IsLast (NotAbove (entry_at pieces k).0) (live_entries piece.edge.x0 stored) found)
+      (counts : Counts) (is : counts ≡ above_or above found) where
+    begun_more : HasBegun pieces (k + 1) piece.edge.x0 after
+    begun_more = HasBegun-more pieces fill k within swept.x (swept.upto within) stored swept.begun after joins sorted
+
+    pub counts-below : counts ≡ below_of pieces piece
+    counts-below = is ∙ found-below pieces fill k within swept.x (swept.upto within) stored swept.begun after joins begun_more above swept.told found last
+
+    pub HasSwept-more : (all : List Counts) (outcome : List Edge) → all ≡ above ++ plus counts piece ∷ [] → outcome ≡ out ++ kept_edge (inside counts) (inside (plus counts piece)) piece.edge []
+        → HasSwept inside pieces (k + 1) after all before outcome
+    HasSwept-more all outcome noted kept = record {
+      x = piece.edge.x0;
+      begun = begun_more;
+      upto = λ more. x_order pieces fill k (k + 1) (omega arith) more;
+      size = (let size = swept.size in let sum = length-append above (plus counts piece ∷ []) in let n = ap (λ (list : List Counts). length list) noted in omega (arith, size, sum, n));
+      told = told;
+      kept = all_kept;
+    }
+      where
+        told : (i : ℕ) → i < k + 1 → get_or all i nothing ≡ plus (below_of pieces (piece_at pieces i)) (piece_at pieces i)
+        told i below = ap (λ (list : List Counts). get_or list i nothing) noted ∙ elim (cases_lt i k) [
+          | inl less ↦ get_or_append_left above (plus counts piece ∷ []) nothing i (let size = swept.size in omega (arith, size, less)) ∙ swept.told i less
+          | inr most ↦
+              let level : k ≡ i = omega (arith, below, most) in
+              let size = swept.size in
+              let at : i ≡ length above + 0 = omega (arith, size, level) in
+              ap (λ (n : ℕ). get_or (above ++ plus counts piece ∷ []) n nothing) at ∙ get_or-append-add above (plus counts piece ∷ []) 0 nothing
+              ∙ ap (λ (c : Counts). plus c piece) counts-below
+              ∙ ap (λ (n : ℕ). plus (below_of pieces (piece_at pieces n)) (piece_at pieces n)) level
+        ]
+
+        all_kept : outcome ≡ before ++ kept_of inside pieces (take (k + 1) pieces)
+        all_kept =
+            kept
+            ∙ ap (λ (c : Counts). out ++ kept_edge (inside c) (inside (plus c piece)) piece.edge []) counts-below
+            ∙ ap (λ (list : List Edge). list ++ kept_edge (inside (below_of pieces piece)) (inside (plus (below_of pieces piece) piece)) piece.edge []) swept.kept
+            ∙ append_assoc before (kept_of inside pieces (take k pieces)) (kept_edge (inside (below_of pieces piece)) (inside (plus (below_of pieces piece) piece)) piece.edge [])
+            ∙ ap (λ (list : List Edge). before ++ list) (sym (kept_of-more inside pieces (take k pieces) piece))
+            ∙ ap (λ (done : List Piece). before ++ kept_of inside pieces done) (sym (take_more pieces k no_piece within))

@@ -1,0 +1,5 @@
+-- Lemmas on the pieces of a fill: how they are made, and in which order they stand.
+pub mod Begins
+pub mod Edges
+pub mod Joined
+pub mod Made

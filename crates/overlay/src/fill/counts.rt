@@ -1,0 +1,20 @@
+//! The winding numbers that a fill counts along its status.
+
+ghost use Rattle.std.specs.Prelude.{◌≡◌};
+ghost use Rattle.overlay.specs.Fill.Rules.{is_result};
+
+use super::rules::{FillRule, Operation};
+
+/// The winding numbers of the subject and of the clip, just below or just above a piece.
+#[derive(Clone, Copy, Debug)]
+pub struct Counts {
+    pub subject: i64,
+    pub clip: i64,
+}
+
+/// Whether points with these winding numbers are of the result.
+pub fn is_result(rule: FillRule, operation: Operation, counts: Counts) -> bool
+    ensures { result ≡ is_result rule operation counts.subject counts.clip }
+{
+    operation.operate(rule.is_inside(counts.subject), rule.is_inside(counts.clip))
+}
