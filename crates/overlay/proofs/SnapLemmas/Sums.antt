@@ -37,6 +37,15 @@ chains-clear edges chains point are far = total edges point (λ edge. ¬ (IsNear
 pub chains-exact : (edges : List Edge) (chains : List (List Point)) (point : RationalPoint) → AreChains edges chains → All IsAlongAxis edges → winding (flat_map pieces chains) point ≡ winding edges point
 chains-exact edges chains point are axial = total edges point IsAlongAxis (λ edge chain is axis. chain-exact edge chain point is axis) edges chains (λ edge among. among) are axial
 
+-- the same of some of the edges, and of their chains among all
+pub some-clear : (all some : List Edge) (chains : List (List Point)) (point : RationalPoint) → ((edge : Edge) → Contains some edge → Contains all edge) → AllZip (IsChain all) some chains
+    → All (λ edge. ¬ (IsNear edge point)) some → winding (flat_map pieces chains) point ≡ winding some point
+some-clear all some chains point among are far = total all point (λ edge. ¬ (IsNear edge point)) (λ edge chain is far. chain-clear edge chain point is far) some chains among are far
+
+pub some-exact : (all some : List Edge) (chains : List (List Point)) (point : RationalPoint) → ((edge : Edge) → Contains some edge → Contains all edge) → AllZip (IsChain all) some chains
+    → All IsAlongAxis some → winding (flat_map pieces chains) point ≡ winding some point
+some-exact all some chains point among are axial = total all point IsAlongAxis (λ edge chain is axis. chain-exact edge chain point is axis) some chains among are axial
+
 -- ---- starts and ends
 
 module _ (test : Point → Bool) where
@@ -107,3 +116,10 @@ pub IsClosed-permutation : (edges : List Edge) → IsPermutation (map start_of e
 IsClosed-permutation edges is test =
     let unit : Point → ℕ = λ point. cond (test point) 1 0 in
     sym (sum_by-map unit start_of edges) ∙ sym (sum_by-IsPermutation unit (map start_of edges) (map end_of edges) is) ∙ sum_by-map unit end_of edges
+
+-- so the pieces of some closed edges are closed
+pub some-closed : (all some : List Edge) (chains : List (List Point)) → ((edge : Edge) → Contains some edge → Contains all edge) → AllZip (IsChain all) some chains → IsClosed some → IsClosed (flat_map pieces chains)
+some-closed all some chains among are closed test =
+    let sum = balance test all some chains among are in
+    let same = closed test in
+    omega (arith, sum, same)
