@@ -253,9 +253,6 @@ abbrev pub Balances : (k : ℕ) → Edge → ℤ → (n : ℕ) → ℤ → 0 < n
 Balances k edge x n y some =
     carried (is_upto x n y) edge ≡ ((counted edge (left_of k x n y some) -ℤ counted edge (right_of x n y some)) -ℤ counted edge (left_of k x 1 (pos k) one_some))
 
-sum_up : (s t a b c : ℤ) (p q : ℤ) → p ≡ s → q ≡ t → (s -ℤ t) ≡ ((a -ℤ b) -ℤ c) → (p -ℤ q) ≡ ((a -ℤ b) -ℤ c)
-sum_up s t a b c p q first second is = omega (arith, ints, first, second, is)
-
 module _ (k : ℕ) (edge : Edge) (x : ℤ) (n : ℕ) (y : ℤ) (some : 0 < n) (small : size edge ≤ k) (onwards : edge.x0 <ℤ edge.x1) where
   behind_all : x <ℤ edge.x0 → Balances k edge x n y some
   behind_all early =

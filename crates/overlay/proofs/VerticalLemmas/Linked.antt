@@ -36,9 +36,6 @@ between sum low high = go (int_eq low.x high.x) (int_eq low.y high.y) refl refl
         start : vertical_between sum low high ≡ cond (lt_z (pos 0) sum) (Some (edge_between (point_of_end low) (point_of_end high))) (cond (lt_z sum (pos 0)) (Some (edge_between (point_of_end high) (point_of_end low))) None)
         start = ap (λ (t : Bool). cond t None (cond (lt_z (pos 0) sum) (Some (edge_between (point_of_end low) (point_of_end high))) (cond (lt_z sum (pos 0)) (Some (edge_between (point_of_end high) (point_of_end low))) None))) apart
 
-        chosen : (s t : Bool) → Option Edge
-        chosen s t = cond s (Some (edge_between (point_of_end low) (point_of_end high))) (cond t (Some (edge_between (point_of_end high) (point_of_end low))) None)
-
         by : (s t : Bool) → lt_z (pos 0) sum ≡ s → lt_z sum (pos 0) ≡ t → Between sum low high
         by true t e f = up (omega (arith, ints, e)) differ (start ∙ ap (λ (s : Bool). cond s (Some (edge_between (point_of_end low) (point_of_end high))) (cond (lt_z sum (pos 0)) (Some (edge_between (point_of_end high) (point_of_end low))) None)) e)
         by false true e f = down (omega (arith, ints, f)) differ (start ∙ ap₂ (λ (s t : Bool). cond s (Some (edge_between (point_of_end low) (point_of_end high))) (cond t (Some (edge_between (point_of_end high) (point_of_end low))) None)) e f)
