@@ -1,6 +1,6 @@
 -- From the pieces of closed edges to the edges that bound the result, and to rings.
-use Rattle.std.proofs.Common.{◌≡◌, ◌⊎◌, ◌++◌, [], ◌∷◌, inl, inr, Bool, true, false, ℤ, pos, ◌+ℤ◌, List, length, drop, take, ap, ap₂, sym, subst, ◌∙◌, arith, refl}
-use Rattle.std.specs.List.{All, AllZip, Contains, flat_map}
+use Rattle.std.proofs.Common.{◌≡◌, ◌⊎◌, ◌++◌, [], ◌∷◌, inl, inr, Bool, true, false, ℤ, pos, ◌+ℤ◌, List, ap, ap₂, sym, subst, ◌∙◌, refl}
+use Rattle.std.specs.List.{All, Contains, flat_map}
 use Rattle.std.specs.List.Sorted.{IsPermutation}
 use Rattle.std.proofs.lemmas.Grind.{flat_map-append}
 use Rattle.std.proofs.lemmas.List.Elements.{Contains-append_left, Contains-append_right}
@@ -8,14 +8,13 @@ use Rattle.std.proofs.lemmas.List.Sorted.{Contains-permutation}
 use Rattle.i_tree.proofs.RootLemmas.Joined.{All-front, All-behind}
 use Rattle.plane.specs.declared.edge.Edge.{Edge}
 use Rattle.plane.specs.declared.point.Point.{Point}
-use Rattle.plane.specs.Meet.Edges.{RationalPoint, IsOf}
+use Rattle.plane.specs.Meet.Edges.{RationalPoint}
 use Rattle.overlay.specs.declared.fill.rules.FillRule.{FillRule}
 use Rattle.overlay.specs.declared.fill.rules.Operation.{Operation}
-use Rattle.overlay.specs.Boundary.{AreBroken, Bounds, IsBoundary, result_at}
+use Rattle.overlay.specs.Boundary.{AreBroken, Bounds, IsBoundary}
 use Rattle.overlay.specs.Contours.Rings.{AreContours, ring_edges}
 use Rattle.overlay.specs.Fill.Filled.{AreNoded, IsFilled}
 use Rattle.overlay.specs.Fill.Rules.{is_result}
-use Rattle.overlay.specs.Snap.Chains.{AreChains, IsChain}
 use Rattle.overlay.specs.Snap.Near.{IsNear}
 use Rattle.overlay.specs.Snap.Windings.{count, pieces, winding, IsAlongAxis, IsClosed}
 use Rattle.overlay.proofs.BoundaryLemmas.Broken.{all-chains}

@@ -7,8 +7,8 @@ ghost use Rattle.overlay.specs.Boundary.{AllSome, AreBroken, StopSome};
 ghost use Rattle.overlay.specs.Snap.Offsets.{offsets};
 ghost use Rattle.overlay.specs.Snap.Windings.{pieces};
 
-use crate::snap::snap;
 use crate::snap::pieces::pieces_of;
+use crate::snap::snap;
 use i_tree::Refusal;
 use plane::edge::Edge;
 use std::alloc::{AllocError, Allocator};

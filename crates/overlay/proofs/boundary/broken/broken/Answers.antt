@@ -1,10 +1,9 @@
-use Rattle.std.proofs.Common.{◌≡◌, ◌≤◌, ◌++◌, ℕ, List, length, take, ap, sym, subst, ◌∙◌, arith}
+use Rattle.std.proofs.Common.{◌≡◌, ◌++◌, List, length, ap, subst, ◌∙◌}
 use Rattle.plane.specs.declared.edge.Edge.{Edge}
 use Rattle.plane.specs.declared.point.Point.{Point}
 use Rattle.std.specs.List.{flat_map}
 use Rattle.overlay.specs.Snap.Chains.{AreChains}
 use Rattle.overlay.specs.Snap.Offsets.{offsets}
-use Rattle.overlay.specs.Snap.Windings.{pieces}
 use Rattle.overlay.proofs.BoundaryLemmas.Broken.{chains-count, chains-some, cut-broken}
 use Rattle.overlay.proofs.boundary.broken.broken.Goals as goal
 
