@@ -23,8 +23,8 @@ pub use Rattle.overlay.proofs.SnapLemmas.Rounding.{RoundsTo-unique}
 -- What an edge passes lies in its box; of two points that it passes one isn't behind the other, and where neither is they are
 -- one.
 pub use Rattle.overlay.proofs.SnapLemmas.Along.{Passes-in_box, Passes-ordered, Upto-same}
--- Windings add up.
-pub use Rattle.overlay.proofs.SnapLemmas.Windings.{winding-append}
+-- Windings add up, and stay in whatever order the edges stand.
+pub use Rattle.overlay.proofs.SnapLemmas.Windings.{winding-append, winding-permutation}
 -- Edges are closed where their ends are their starts in some order, as those of rings are.
 pub use Rattle.overlay.proofs.SnapLemmas.Sums.{IsClosed-permutation}
 -- Two edges that aren't parallel have one crossing, whichever is named first, and no edge crosses itself.

@@ -1,25 +1,27 @@
 -- What edges count for a point.
-use Rattle.std.proofs.Common.{Bool, List, [], ap, arith, cond, false, pos, refl, true, ℤ, ◌&&◌, ◌*ℤ◌, ◌++◌, ◌+◌, ◌+ℤ◌, ◌-ℤ◌, ◌<ℤ◌, ◌∷◌, ◌≡◌, ◌≤ℤ◌}
+use Rattle.std.proofs.Common.{Bool, List, [], IsPermutation, ap, ap₂, arith, cond, false, pos, refl, true, ℤ, ◌&&◌, ◌*ℤ◌, ◌++◌, ◌+◌, ◌+ℤ◌, ◌-ℤ◌, ◌<ℤ◌, ◌∷◌, ◌≡◌, ◌≤ℤ◌}
 use Rattle.std.proofs.lemmas.Int.{ints}
 use Rattle.std.proofs.lemmas.List.Sums.{sum_by-append, sum_by-cons}
+use Rattle.std.proofs.lemmas.List.Sorted.{sum_by-IsPermutation}
 use Rattle.std.specs.List.{count_by}
 use Rattle.std.specs.Prelude.{int_le, int_lt}
 use Rattle.plane.specs.declared.edge.Edge.{Edge}
 use Rattle.plane.specs.Meet.Edges.{RationalPoint}
+use Rattle.overlay.specs.Fill.Rules.{count}
 use Rattle.overlay.specs.Snap.Windings.{is_under, reversed, winding}
 use Rattle.overlay.proofs.SnapLemmas.Heights.{Covering, is_low, is_low-left}
 use Rattle.plane.proofs.MeetLemmas.Identities.{scaled}
 
--- 1 where the test is true
-abbrev pub count : Bool → ℤ
-count test = pos (cond test 1 0)
-
--- what an edge counts where it goes rightwards
-abbrev covers : Edge → RationalPoint → Bool
+-- whether an edge is under the point, by its height there
+abbrev pub covers : Edge → RationalPoint → Bool
 covers edge point = int_le (pos point.n *ℤ edge.x0) point.x && int_lt point.x (pos point.n *ℤ edge.x1)
 
+abbrev pub is_counted : Edge → RationalPoint → Bool
+is_counted edge point = covers edge point && is_low edge point
+
+-- what it counts where it goes rightwards
 abbrev pub counted : Edge → RationalPoint → ℤ
-counted edge point = count (covers edge point && is_low edge point)
+counted edge point = count (is_counted edge point)
 
 -- 1, -1 or 0: what it counts, wherever it goes
 abbrev pub under : Edge → RationalPoint → ℤ
@@ -31,6 +33,10 @@ added [] point = pos 0
 added (edge ∷ edges) point = under edge point +ℤ added edges point
 
 -- their winding number is that
+pub count-pos : (test : Bool) → count test ≡ pos (cond test 1 0)
+count-pos true = refl
+count-pos false = refl
+
 counted-is : (edge : Edge) (point : RationalPoint) → count (is_under edge point) ≡ counted edge point
 counted-is edge point = ap (λ low. count (covers edge point && low)) (is_low-left edge point)
 
@@ -42,8 +48,10 @@ winding-added (edge ∷ edges) point =
     sum_by-cons (λ (e : Edge). cond (is_under (reversed e) point) 1 0) edge edges in
     let right = counted-is edge point in
     let left = counted-is (reversed edge) point in
+    let one = count-pos (is_under edge point) in
+    let other = count-pos (is_under (reversed edge) point) in
     let rest = winding-added edges point in
-    omega (arith, ints, first, second, right, left, rest)
+    omega (arith, ints, first, second, right, left, one, other, rest)
 
 -- windings add up
 pub winding-append : (xs ys : List Edge) (point : RationalPoint) → winding (xs ++ ys) point ≡ (winding xs point +ℤ winding ys point)
@@ -52,6 +60,14 @@ winding-append xs ys point =
     let second : count_by (λ e. is_under (reversed e) point) (xs ++ ys) ≡ count_by (λ e. is_under (reversed e) point) xs + count_by (λ e. is_under (reversed e) point) ys =
     sum_by-append (λ (e : Edge). cond (is_under (reversed e) point) 1 0) xs ys in
     omega (arith, ints, first, second)
+
+-- and stay, in whatever order
+pub winding-permutation : (xs ys : List Edge) (point : RationalPoint) → IsPermutation xs ys → winding ys point ≡ winding xs point
+winding-permutation xs ys point moved =
+    let first : count_by (λ e. is_under e point) ys ≡ count_by (λ e. is_under e point) xs = sum_by-IsPermutation (λ (e : Edge). cond (is_under e point) 1 0) xs ys moved in
+    let second : count_by (λ e. is_under (reversed e) point) ys ≡ count_by (λ e. is_under (reversed e) point) xs =
+    sum_by-IsPermutation (λ (e : Edge). cond (is_under (reversed e) point) 1 0) xs ys moved in
+    ap₂ (λ m n. pos m -ℤ pos n) first second
 
 -- where the two tests can't both be true, nothing is counted
 nothing : (a b c d : ℤ) (t : Bool) → (a ≤ℤ b → c <ℤ d → ⊥) → count ((int_le a b && int_lt c d) && t) ≡ pos 0

@@ -1,5 +1,5 @@
 -- The vertical edges between next ends close the edges that bound a region.
-use Rattle.std.proofs.Common.{Bool, List, [], ◌∷◌, ◌++◌, true, false, cond, inl, inr, ℕ, ℤ, pos, suc, ◌+◌, ◌-◌, ◌<◌, ◌≤◌, ◌+ℤ◌, ◌-ℤ◌, ◌*ℤ◌, ◌<ℤ◌, ◌≤ℤ◌, ◌≡◌, ◌≢◌, ◌⊎◌, refl, sym, ap, ap₂, ◌∙◌, subst, arith}
+use Rattle.std.proofs.Common.{Bool, List, [], ◌∷◌, ◌++◌, true, cond, inl, inr, ℕ, ℤ, pos, suc, ◌+◌, ◌-◌, ◌<◌, ◌≤◌, ◌+ℤ◌, ◌-ℤ◌, ◌*ℤ◌, ◌<ℤ◌, ◌≤ℤ◌, ◌≡◌, ◌≢◌, ◌⊎◌, refl, sym, ap, ap₂, ◌∙◌, subst, arith}
 use Rattle.std.specs.List.{All, AllPairs, Contains, count_by, flat_map}
 use Rattle.std.specs.List.Sorted.{IsPermutation, IsSorted}
 use Rattle.std.proofs.lemmas.Int.{by_lt_z, clamps, ints}
@@ -13,15 +13,15 @@ use Rattle.plane.specs.Meet.Edges.{IsOf, RationalPoint}
 use Rattle.plane.specs.Meet.Kinds.{IsEnd}
 use Rattle.plane.specs.SweepLine.Heights.{run, height_by_run}
 use Rattle.plane.proofs.MeetLemmas.Identities.{identity, minus, number, plus, scaled, times, unscaled}
-use Rattle.overlay.specs.Fill.Filled.{AreDistinct, AreNoded, IsEndOfSloped, IsNextInColumn}
+use Rattle.overlay.specs.Fill.Filled.{AreDistinct, AreNoded, IsEndOfSloped, IsNextInColumn, HaveSameEnds}
 use Rattle.overlay.specs.Fill.Verticals.{AreVerticalsOf, BoundRegion, before_all, both_ends, ending, point_of_end, starting, verticals_between}
-use Rattle.overlay.specs.Snap.Meeting.{HaveSameEnds, MeetAtEnds}
-use Rattle.overlay.specs.Snap.Windings.{IsClosed, count, edge_between, end_of, reversed, start_of, winding}
+use Rattle.overlay.specs.Snap.Meeting.{MeetAtEnds}
+use Rattle.overlay.specs.Snap.Windings.{IsClosed, edge_between, end_of, reversed, start_of, winding}
 use Rattle.overlay.specs.contracts.fill.verticals.EndOrd.TheImpl.{ghosts as end_order}
 use Rattle.overlay.specs.declared.fill.verticals.End.{End}
 use Rattle.overlay.proofs.SnapLemmas.Numbers.{n_of, natural}
 use Rattle.overlay.proofs.SnapLemmas.Reversed.{IsOf-reversed}
-use Rattle.overlay.proofs.SnapLemmas.Windings.{back, winding-append}
+use Rattle.overlay.proofs.SnapLemmas.Windings.{back, winding-append, added, count-pos, winding-added}
 use Rattle.overlay.proofs.VerticalLemmas.Columns.{flow, is_upto}
 use Rattle.overlay.proofs.VerticalLemmas.Crossed.{IsEnd-x, IsOf-column, SameEnds-sym, at_column, crossed}
 use Rattle.overlay.proofs.VerticalLemmas.Linked.{AreLinks, IsLink, all-links}
@@ -44,13 +44,9 @@ flow-counts test (edge ∷ edges) =
     let rest = flow-counts test edges in
     let ends = sum_by-cons (λ (e : Edge). cond (test (end_of e)) 1 0) edge edges in
     let starts = sum_by-cons (λ (e : Edge). cond (test (start_of e)) 1 0) edge edges in
-    let one = counts (test (end_of edge)) in
-    let other = counts (test (start_of edge)) in
+    let one = count-pos (test (end_of edge)) in
+    let other = count-pos (test (start_of edge)) in
     omega (arith, ints, rest, ends, starts, one, other)
-  where
-    counts : (t : Bool) → count t ≡ pos (cond t 1 0)
-    counts true = refl
-    counts false = refl
 
 AllPairs-append : (R : Edge → Edge → Type 0) (xs ys : List Edge) → AllPairs R xs → AllPairs R ys → All (λ x. All (R x) ys) xs → AllPairs R (xs ++ ys)
 AllPairs-append R [] ys first second across = second
@@ -533,15 +529,15 @@ module _ (sloped : List Edge) (region : BoundRegion sloped) where
     -- they wind around nothing
     all-wind : (point : RationalPoint) → winding both point ≡ winding sloped point
     all-wind point =
-        let none = upright-winding point edges upright-all in
+        let none = winding-added edges point ∙ upright-added point edges upright-all in
         let sum = winding-append sloped edges point in
         omega (arith, ints, none, sum)
       where
-        upright-winding : (point : RationalPoint) (verticals : List Edge) → All (λ edge. edge.x1 ≡ edge.x0) verticals → winding verticals point ≡ pos 0
-        upright-winding point [] all = refl
-        upright-winding point (edge ∷ verticals) all =
+        upright-added : (point : RationalPoint) (verticals : List Edge) → All (λ edge. edge.x1 ≡ edge.x0) verticals → added verticals point ≡ pos 0
+        upright-added point [] all = refl
+        upright-added point (edge ∷ verticals) all =
             let upright = All-head (λ (e : Edge). e.x1 ≡ e.x0) edge verticals all in
-            let rest = upright-winding point verticals (All-tail (λ (e : Edge). e.x1 ≡ e.x0) edge verticals all) in
+            let rest = upright-added point verticals (All-tail (λ (e : Edge). e.x1 ≡ e.x0) edge verticals all) in
             let first = back edge point (omega (arith, ints, upright)) in
             let second = back (reversed edge) point (omega (arith, ints, upright)) in
             omega (arith, ints, rest, first, second)

@@ -11,9 +11,11 @@ use Rattle.plane.specs.declared.point.Point.{Point}
 use Rattle.plane.specs.Meet.Edges.{RationalPoint}
 use Rattle.plane.specs.SweepLine.Heights.{run, rise, height_by_run}
 use Rattle.plane.proofs.MeetLemmas.Identities.{identity, minus, number, plus, scaled, times, unscaled}
-use Rattle.overlay.specs.Snap.Windings.{count, end_of, height_at, is_low, reversed, start_of, under, winding}
+use Rattle.overlay.specs.Snap.Windings.{end_of, reversed, start_of, winding}
+use Rattle.overlay.specs.Fill.Rules.{count}
 use Rattle.overlay.proofs.SnapLemmas.Numbers.{n_of, natural, same_test}
-use Rattle.overlay.proofs.SnapLemmas.Windings.{after, before, counted, under-left, under-right, within}
+use Rattle.overlay.proofs.SnapLemmas.Windings.{after, before, counted, under-left, under-right, within, under, added, winding-added}
+use Rattle.overlay.proofs.SnapLemmas.Heights.{height_at, is_low}
 
 -- ---- ends upto a height y / n of a column x: those of columns before it, and those of it that aren't higher
 
@@ -381,12 +383,20 @@ edge-flow k edge x n y some small slanted =
     let high = under-left edge (left_of k x 1 (pos k) one_some) upto in
     omega (arith, ints, is, left, right, high))
 
-pub flow-windings : (k : ℕ) (edges : List Edge) (x : ℤ) (n : ℕ) (y : ℤ) (some : 0 < n) → sizes edges ≤ k → Every (λ edge. edge.x1 ≢ edge.x0) edges → Flows k (winding edges) x n y some (flow (is_upto x n y) edges)
-flow-windings k [] x n y some small slanted = omega (arith, ints)
-flow-windings k (edge ∷ edges) x n y some small (slant, slanted) =
+flow-added : (k : ℕ) (edges : List Edge) (x : ℤ) (n : ℕ) (y : ℤ) (some : 0 < n) → sizes edges ≤ k → Every (λ edge. edge.x1 ≢ edge.x0) edges → Flows k (added edges) x n y some (flow (is_upto x n y) edges)
+flow-added k [] x n y some small slanted = omega (arith, ints)
+flow-added k (edge ∷ edges) x n y some small (slant, slanted) =
     let first = edge-flow k edge x n y some (omega (arith, small)) slant in
-    let rest = flow-windings k edges x n y some (omega (arith, small)) slanted in
+    let rest = flow-added k edges x n y some (omega (arith, small)) slanted in
     omega (arith, ints, first, rest)
+
+pub flow-windings : (k : ℕ) (edges : List Edge) (x : ℤ) (n : ℕ) (y : ℤ) (some : 0 < n) → sizes edges ≤ k → Every (λ edge. edge.x1 ≢ edge.x0) edges → Flows k (winding edges) x n y some (flow (is_upto x n y) edges)
+flow-windings k edges x n y some small slanted =
+    let sum = flow-added k edges x n y some small slanted in
+    let left = winding-added edges (left_of k x n y some) in
+    let right = winding-added edges (right_of x n y some) in
+    let high = winding-added edges (left_of k x 1 (pos k) one_some) in
+    omega (arith, ints, sum, left, right, high)
 
 -- tests that agree at all ends carry the same
 pub flow-agree : (test other : Point → Bool) (edges : List Edge) → Every (λ edge. (test (start_of edge) ≡ other (start_of edge)) × (test (end_of edge) ≡ other (end_of edge))) edges → flow test edges ≡ flow other edges
