@@ -13,7 +13,7 @@ use Rattle.overlay.proofs.FillLemmas.Level.{MeetOnly, of_at, end_at, whole_x, he
 use Rattle.overlay.proofs.FillLemmas.Tests.{lt_true, lt_false}
 use Rattle.overlay.proofs.FillLemmas.Uncrossed.{MeetOnly-reversed, uncrossed}
 use Rattle.overlay.proofs.SnapLemmas.Numbers.{n_of, natural}
-use Rattle.overlay.proofs.SnapLemmas.Heights.{height_at}
+use Rattle.overlay.proofs.SnapLemmas.Counted.{height_at}
 
 -- The height y is below g's at x.
 abbrev pub is_beneath : Edge → ℤ → ℤ → Bool

@@ -20,7 +20,7 @@ use Rattle.overlay.proofs.FillLemmas.Uncrossed.{uncrossed}
 use Rattle.overlay.proofs.FillLemmas.Under.{under_over, lower_under}
 use Rattle.overlay.proofs.FillLemmas.Wound.{winding-total, winding-kept}
 use Rattle.overlay.proofs.SnapLemmas.Rounding.{Floor, floor_is}
-use Rattle.overlay.proofs.SnapLemmas.Windings.{is_counted}
+use Rattle.overlay.proofs.SnapLemmas.Counted.{is_counted}
 
 -- ---- no operation is inside where both are not
 

@@ -16,8 +16,8 @@ use Rattle.overlay.specs.Snap.Windings.{reversed, winding, IsClosed}
 use Rattle.overlay.specs.Fill.Rules.{count}
 use Rattle.overlay.proofs.FillLemmas.Balance.{carried, balanced}
 use Rattle.overlay.proofs.FillLemmas.Under.{le_true, le_is, less_is}
-use Rattle.overlay.proofs.SnapLemmas.Heights.{height_at, is_low}
-use Rattle.overlay.proofs.SnapLemmas.Windings.{is_counted, under, added, winding-added}
+use Rattle.overlay.proofs.SnapLemmas.Counted.{added, height_at, is_counted, is_low, under}
+use Rattle.overlay.proofs.SnapLemmas.Windings.{winding-added}
 
 -- Neither end is above the height.
 pub record IsUptoHeight (height : ℤ) (edge : Edge) : Type 0 where

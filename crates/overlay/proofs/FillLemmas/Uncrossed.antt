@@ -15,7 +15,7 @@ use Rattle.overlay.proofs.FillLemmas.Level.{MeetOnly, level-same}
 use Rattle.overlay.proofs.SnapLemmas.Hobby.Ends.{reverse_meet_one, exchange_meet}
 use Rattle.overlay.proofs.SnapLemmas.Numbers.{n_of, below, below_of, natural}
 use Rattle.overlay.proofs.SnapLemmas.Reversed.{IsOf-reversed}
-use Rattle.overlay.proofs.SnapLemmas.Heights.{height_at}
+use Rattle.overlay.proofs.SnapLemmas.Counted.{height_at}
 
 -- ---- from either end
 

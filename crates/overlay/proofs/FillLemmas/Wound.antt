@@ -15,7 +15,8 @@ use Rattle.overlay.specs.Fill.Rules.{count}
 use Rattle.overlay.proofs.FillLemmas.Tests.{lt_true, lt_false}
 use Rattle.overlay.proofs.FillLemmas.Weights.{weight-right, weight-left, weight-none}
 use Rattle.overlay.proofs.SnapLemmas.Numbers.{both}
-use Rattle.overlay.proofs.SnapLemmas.Windings.{back, under-right, under-left, is_counted, under, added, winding-added}
+use Rattle.overlay.proofs.SnapLemmas.Counted.{added, is_counted, under}
+use Rattle.overlay.proofs.SnapLemmas.Windings.{back, under-right, under-left, winding-added}
 
 -- what an edge counts that goes rightwards, and what the reversed one does
 less_count : (z : ℤ) (t : Bool) → z ≡ (pos 0 -ℤ count t) → z ≡ cond t (negsuc 0) (pos 0)

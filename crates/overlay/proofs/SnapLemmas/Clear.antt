@@ -8,11 +8,12 @@ use Rattle.overlay.specs.Snap.Chains.{Passes}
 use Rattle.overlay.specs.Snap.Near.{IsNear}
 use Rattle.overlay.specs.Snap.Windings.{edge_between, pieces, reversed, winding}
 use Rattle.overlay.specs.Fill.Rules.{count}
-use Rattle.overlay.proofs.SnapLemmas.Heights.{Covering, is_low, same_side}
+use Rattle.overlay.proofs.SnapLemmas.Counted.{added, is_low, under}
+use Rattle.overlay.proofs.SnapLemmas.Heights.{Covering, same_side}
 use Rattle.overlay.proofs.SnapLemmas.Numbers.{both_zero}
 use Rattle.overlay.proofs.SnapLemmas.Paths.{GoesOn, IsPath}
 use Rattle.overlay.proofs.SnapLemmas.Reversed.{IsNear-reversed, Passes-reversed}
-use Rattle.overlay.proofs.SnapLemmas.Windings.{added, after, before, under, under-left, under-right, winding-added, within}
+use Rattle.overlay.proofs.SnapLemmas.Windings.{after, before, under-left, under-right, winding-added, within}
 use Rattle.plane.proofs.MeetLemmas.Identities.{scaled}
 
 -- Where both cover the point's x, a piece whose ends the edge passes is on the edge's side of the point.

@@ -10,7 +10,8 @@ use Rattle.overlay.specs.Snap.Chains.{Passes}
 use Rattle.overlay.specs.Snap.Rounding.{RoundsOn}
 use Rattle.overlay.specs.Snap.Windings.{IsAlongAxis, pieces, reversed, winding}
 use Rattle.overlay.proofs.SnapLemmas.Clear.{Agrees, chain-agrees}
-use Rattle.overlay.proofs.SnapLemmas.Heights.{Covering, is_low, onwards}
+use Rattle.overlay.proofs.SnapLemmas.Counted.{is_low}
+use Rattle.overlay.proofs.SnapLemmas.Heights.{Covering, onwards}
 use Rattle.overlay.proofs.SnapLemmas.Numbers.{n_of, natural, same_test}
 use Rattle.overlay.proofs.SnapLemmas.Paths.{IsPath}
 use Rattle.overlay.proofs.SnapLemmas.Rounding.{RoundsOn-unique, RoundsOn-whole}

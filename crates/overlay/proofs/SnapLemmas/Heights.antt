@@ -1,38 +1,16 @@
 -- A piece and its edge are on the same side of a point that isn't near the edge.
-use Rattle.std.proofs.Common.{Bool, ap, arith, pos, sym, ℕ, ℤ, ◌*ℤ◌, ◌*◌, ◌+ℤ◌, ◌-ℤ◌, ◌<ℤ◌, ◌<◌, ◌∙◌, ◌≡◌, ◌≤ℤ◌, ◌≤◌}
+use Rattle.std.proofs.Common.{ap, arith, pos, sym, ℕ, ℤ, ◌*ℤ◌, ◌*◌, ◌+ℤ◌, ◌-ℤ◌, ◌<ℤ◌, ◌<◌, ◌∙◌, ◌≡◌, ◌≤ℤ◌, ◌≤◌}
 use Rattle.std.proofs.Math.Nat.{mul-le-mul_left, mul-pos}
 use Rattle.std.proofs.lemmas.Int.{by_lt_z, ints}
-use Rattle.std.specs.Prelude.{int_le}
 use Rattle.plane.specs.declared.edge.Edge.{Edge}
-use Rattle.plane.specs.Meet.Crosses.{cross}
 use Rattle.plane.specs.Meet.Edges.{IsOf, RationalPoint}
 use Rattle.plane.specs.SweepLine.Heights.{run}
 use Rattle.overlay.specs.Snap.Chains.{Passes}
 use Rattle.overlay.specs.Snap.Near.{IsNear}
 use Rattle.overlay.proofs.SnapLemmas.Near.{IsNear-piece, IsNear-itself, IsNear-upright}
 use Rattle.overlay.proofs.SnapLemmas.Numbers.{below, below_of, n_of, natural, same_test}
+use Rattle.overlay.proofs.SnapLemmas.Counted.{height_at, is_low}
 use Rattle.plane.proofs.MeetLemmas.Identities.{at_most, at_most_of, identity, minus, number, plus, same_of, times}
-
--- the edge's height at the point's x, times its run and the point's n: its ends' heights, each by how far it is from the other end
-abbrev pub height_at : Edge → RationalPoint → ℤ
-height_at edge point = (edge.y0 *ℤ ((pos point.n *ℤ edge.x1) -ℤ point.x)) +ℤ (edge.y1 *ℤ (point.x -ℤ (pos point.n *ℤ edge.x0)))
-
--- at the point's x it isn't above the point
-abbrev pub is_low : Edge → RationalPoint → Bool
-is_low edge point = int_le (height_at edge point) (point.y *ℤ run edge)
-
--- where the point isn't to the right of an edge that goes rightwards
-pub is_low-left : (edge : Edge) (point : RationalPoint) → int_le (pos 0) (cross (edge.x1 -ℤ edge.x0) (edge.y1 -ℤ edge.y0) (point.x -ℤ (pos point.n *ℤ edge.x0)) (point.y -ℤ (pos point.n *ℤ edge.y0))) ≡ is_low edge point
-is_low-left edge point =
-    let width = minus (number edge.x1) (number edge.x0) in
-    let height = minus (number edge.y1) (number edge.y0) in
-    let right = minus (number point.x) (times (n_of point.n) (number edge.x0)) in
-    let up = minus (number point.y) (times (n_of point.n) (number edge.y0)) in
-    let left = minus (times (n_of point.n) (number edge.x1)) (number point.x) in
-    let same = identity (minus (times width up) (times height right)) (minus (times (number point.y) width) (plus (times (number edge.y0) left) (times (number edge.y1) right))) (omega arith) in
-    same_test (pos 0) (cross (edge.x1 -ℤ edge.x0) (edge.y1 -ℤ edge.y0) (point.x -ℤ (pos point.n *ℤ edge.x0)) (point.y -ℤ (pos point.n *ℤ edge.y0))) (height_at edge point) (point.y *ℤ run edge)
-    (λ upto above. omega (arith, ints, same, upto, above))
-    (λ upto above. omega (arith, ints, same, upto, above))
 
 -- it goes rightwards and covers the point's x
 pub record Covering (edge : Edge) (point : RationalPoint) : Type 0 where

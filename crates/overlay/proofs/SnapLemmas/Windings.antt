@@ -9,37 +9,20 @@ use Rattle.plane.specs.declared.edge.Edge.{Edge}
 use Rattle.plane.specs.Meet.Edges.{RationalPoint}
 use Rattle.overlay.specs.Fill.Rules.{count}
 use Rattle.overlay.specs.Snap.Windings.{is_under, reversed, winding}
-use Rattle.overlay.proofs.SnapLemmas.Heights.{Covering, is_low, is_low-left}
+use Rattle.overlay.proofs.SnapLemmas.Counted.{added, counted, covers, is_low, is_low-left, under}
+use Rattle.overlay.proofs.SnapLemmas.Heights.{Covering}
 use Rattle.plane.proofs.MeetLemmas.Identities.{scaled}
 
--- whether an edge is under the point, by its height there
-abbrev pub covers : Edge → RationalPoint → Bool
-covers edge point = int_le (pos point.n *ℤ edge.x0) point.x && int_lt point.x (pos point.n *ℤ edge.x1)
-
-abbrev pub is_counted : Edge → RationalPoint → Bool
-is_counted edge point = covers edge point && is_low edge point
-
--- what it counts where it goes rightwards
-abbrev pub counted : Edge → RationalPoint → ℤ
-counted edge point = count (is_counted edge point)
-
--- 1, -1 or 0: what it counts, wherever it goes
-abbrev pub under : Edge → RationalPoint → ℤ
-under edge point = counted edge point -ℤ counted (reversed edge) point
-
--- what edges count, one after another
-abbrev pub added : List Edge → RationalPoint → ℤ
-added [] point = pos 0
-added (edge ∷ edges) point = under edge point +ℤ added edges point
-
--- their winding number is that
+-- 1 or 0, as a natural number
 pub count-pos : (test : Bool) → count test ≡ pos (cond test 1 0)
 count-pos true = refl
 count-pos false = refl
 
+-- what goes rightwards and is under the point is counted, by its height there
 counted-is : (edge : Edge) (point : RationalPoint) → count (is_under edge point) ≡ counted edge point
 counted-is edge point = ap (λ low. count (covers edge point && low)) (is_low-left edge point)
 
+-- a winding number is what the edges count, one after another
 pub winding-added : (edges : List Edge) (point : RationalPoint) → winding edges point ≡ added edges point
 winding-added [] point = refl
 winding-added (edge ∷ edges) point =

@@ -21,7 +21,8 @@ use Rattle.overlay.specs.contracts.fill.verticals.EndOrd.TheImpl.{ghosts as end_
 use Rattle.overlay.specs.declared.fill.verticals.End.{End}
 use Rattle.overlay.proofs.SnapLemmas.Numbers.{n_of, natural}
 use Rattle.overlay.proofs.SnapLemmas.Reversed.{IsOf-reversed}
-use Rattle.overlay.proofs.SnapLemmas.Windings.{back, winding-append, added, count-pos, winding-added}
+use Rattle.overlay.proofs.SnapLemmas.Counted.{added}
+use Rattle.overlay.proofs.SnapLemmas.Windings.{back, winding-append, count-pos, winding-added}
 use Rattle.overlay.proofs.VerticalLemmas.Columns.{flow, is_upto}
 use Rattle.overlay.proofs.VerticalLemmas.Crossed.{IsEnd-x, IsOf-column, SameEnds-sym, at_column, crossed}
 use Rattle.overlay.proofs.VerticalLemmas.Linked.{AreLinks, IsLink, all-links}

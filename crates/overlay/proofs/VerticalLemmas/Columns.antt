@@ -14,8 +14,8 @@ use Rattle.plane.proofs.MeetLemmas.Identities.{identity, minus, number, plus, sc
 use Rattle.overlay.specs.Snap.Windings.{end_of, reversed, start_of, winding}
 use Rattle.overlay.specs.Fill.Rules.{count}
 use Rattle.overlay.proofs.SnapLemmas.Numbers.{n_of, natural, same_test}
-use Rattle.overlay.proofs.SnapLemmas.Windings.{after, before, counted, under-left, under-right, within, under, added, winding-added}
-use Rattle.overlay.proofs.SnapLemmas.Heights.{height_at, is_low}
+use Rattle.overlay.proofs.SnapLemmas.Counted.{added, counted, height_at, is_low, under}
+use Rattle.overlay.proofs.SnapLemmas.Windings.{after, before, under-left, under-right, within, winding-added}
 
 -- ---- ends upto a height y / n of a column x: those of columns before it, and those of it that aren't higher
 

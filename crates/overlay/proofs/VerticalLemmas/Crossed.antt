@@ -17,7 +17,8 @@ use Rattle.overlay.specs.Fill.Filled.{HaveSameEnds}
 use Rattle.overlay.specs.Fill.Rules.{count}
 use Rattle.overlay.proofs.SnapLemmas.Numbers.{n_of, natural, same_test}
 use Rattle.overlay.proofs.SnapLemmas.Reversed.{IsOf-reversed}
-use Rattle.overlay.proofs.SnapLemmas.Windings.{counted, under-left, under-right, under, added, winding-added}
+use Rattle.overlay.proofs.SnapLemmas.Counted.{added, counted, under}
+use Rattle.overlay.proofs.SnapLemmas.Windings.{under-left, under-right, winding-added}
 use Rattle.overlay.proofs.VerticalLemmas.Columns.{flow, is_lower, is_upto, left_of, next_times, right-none, right-over, right-within, right_of, size, size-reversed, sizes, upto_size}
 use Rattle.overlay.proofs.VerticalLemmas.Region.{IsEndAt, bits, column-agree, flow-is, k, size-among}
 
