@@ -2,6 +2,7 @@
 pub mod Along
 pub mod Callers
 pub mod Clear
+pub mod Counted
 pub mod Crossing
 pub mod Exact
 pub mod Falling

@@ -8,11 +8,11 @@ use Rattle.overlay.specs.declared.fill.rules.FillRule.{FillRule}
 use Rattle.overlay.specs.declared.fill.rules.Operation.{Operation}
 use Rattle.overlay.specs.Contours.Rings.{IsRing, ring_edges}
 use Rattle.overlay.specs.Fill.Filled.{AreNoded}
-use Rattle.overlay.specs.Fill.Rules.{is_result}
+use Rattle.overlay.specs.Fill.Rules.{count, is_result}
 use Rattle.overlay.specs.Snap.Chains.{IsChain}
 use Rattle.overlay.specs.Snap.Near.{IsNear}
 use Rattle.overlay.specs.Snap.Offsets.{offsets}
-use Rattle.overlay.specs.Snap.Windings.{count, pieces, winding, IsAlongAxis}
+use Rattle.overlay.specs.Snap.Windings.{pieces, winding, IsAlongAxis}
 
 -- 1 around a point of the result, else 0, by the winding numbers of the subject and of the clip there.
 abbrev pub result_at : FillRule → Operation → List Edge → List Edge → RationalPoint → ℤ

@@ -14,22 +14,13 @@ use Rattle.overlay.specs.declared.fill.rules.Operation.{Operation}
 use Rattle.overlay.specs.Boundary.{AreBroken, Bounds, IsBoundary}
 use Rattle.overlay.specs.Contours.Rings.{AreContours, ring_edges}
 use Rattle.overlay.specs.Fill.Filled.{AreNoded, IsFilled}
-use Rattle.overlay.specs.Fill.Rules.{is_result}
+use Rattle.overlay.specs.Fill.Rules.{count, is_result}
 use Rattle.overlay.specs.Snap.Near.{IsNear}
-use Rattle.overlay.specs.Snap.Windings.{count, pieces, winding, IsAlongAxis, IsClosed}
+use Rattle.overlay.specs.Snap.Windings.{pieces, winding, IsAlongAxis, IsClosed}
 use Rattle.overlay.proofs.BoundaryLemmas.Broken.{all-chains}
 use Rattle.overlay.proofs.SnapLemmas.Callers.{noded}
 use Rattle.overlay.proofs.SnapLemmas.Sums.{some-clear, some-closed, some-exact}
-use Rattle.overlay.proofs.PieceLemmas.Made.{total-permutation}
-use Rattle.overlay.specs.Fill.Pieces.{total}
-use Rattle.overlay.specs.Snap.Windings.{under}
-
-wound-total : (edges : List Edge) (point : RationalPoint) → winding edges point ≡ total (λ edge. under edge point) edges
-wound-total [] point = refl
-wound-total (edge ∷ edges) point = ap (λ z. under edge point +ℤ z) (wound-total edges point)
-
-winding-permutation : (xs ys : List Edge) (point : RationalPoint) → IsPermutation xs ys → winding ys point ≡ winding xs point
-winding-permutation xs ys point moved = wound-total ys point ∙ total-permutation (λ edge. under edge point) xs ys moved ∙ sym (wound-total xs point)
+use Rattle.overlay.proofs.SnapLemmas.Windings.{winding-permutation}
 
 module _ (subject clip broken broken_clip : List Edge) (are : AreBroken subject clip broken broken_clip) where
   abbrev all : List Edge

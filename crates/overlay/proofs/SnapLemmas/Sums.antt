@@ -9,7 +9,7 @@ use Rattle.plane.specs.declared.point.Point.{Point}
 use Rattle.plane.specs.Meet.Edges.{RationalPoint}
 use Rattle.overlay.specs.Snap.Chains.{AreChains, IsChain}
 use Rattle.overlay.specs.Snap.Near.{IsNear}
-use Rattle.overlay.specs.Snap.Windings.{IsAlongAxis, IsClosed, edge_between, end_of, pieces, pieces_from, start_of, under, winding}
+use Rattle.overlay.specs.Snap.Windings.{IsAlongAxis, IsClosed, edge_between, end_of, pieces, start_of, winding}
 use Rattle.overlay.proofs.SnapLemmas.Clear.{chain-clear}
 use Rattle.overlay.proofs.SnapLemmas.Exact.{chain-exact}
 use Rattle.overlay.proofs.SnapLemmas.Numbers.{both}
@@ -17,7 +17,7 @@ use Rattle.overlay.proofs.SnapLemmas.Paths.{GoesOn, IsPath, IsPath-chain}
 use Rattle.overlay.proofs.SnapLemmas.Along.{point_at}
 use Rattle.overlay.proofs.SnapLemmas.Windings.{winding-append}
 
-module _ (all : List Edge) (point : RationalPoint) (P : Edge → Type 0) (each : (edge : Edge) (chain : List Point) → IsPath edge chain → P edge → winding (pieces chain) point ≡ under edge point) where
+module _ (all : List Edge) (point : RationalPoint) (P : Edge → Type 0) (each : (edge : Edge) (chain : List Point) → IsPath edge chain → P edge → winding (pieces chain) point ≡ winding (edge ∷ []) point) where
   -- what holds of each chain and its edge holds of their sums
   total : (edges : List Edge) (chains : List (List Point)) → ((edge : Edge) → Contains edges edge → Contains all edge) → AllZip (IsChain all) edges chains → All P edges → winding (flat_map pieces chains) point ≡ winding edges point
   total [] [] among are every = refl
@@ -25,9 +25,10 @@ module _ (all : List Edge) (point : RationalPoint) (P : Edge → Type 0) (each :
   total (edge ∷ edges) [] among are every = absurd are
   total (edge ∷ edges) (chain ∷ chains) among (is, are) every =
       winding-append (pieces chain) (flat_map pieces chains) point
-      ∙ both (winding (pieces chain) point) (under edge point) (winding (flat_map pieces chains) point) (winding edges point)
+      ∙ both (winding (pieces chain) point) (winding (edge ∷ []) point) (winding (flat_map pieces chains) point) (winding edges point)
       (each edge chain (IsPath-chain all edge chain (among edge (0, omega arith, refl)) is) (All-head P edge edges every))
       (total edges chains (λ other (k, inside, is_at). among other (suc k, omega (arith, inside), is_at)) are (All-tail P edge edges every))
+      ∙ sym (winding-append (edge ∷ []) edges point)
 
 -- at a point that is near none of the edges
 pub chains-clear : (edges : List Edge) (chains : List (List Point)) (point : RationalPoint) → AreChains edges chains → All (λ edge. ¬ (IsNear edge point)) edges → winding (flat_map pieces chains) point ≡ winding edges point
@@ -72,13 +73,13 @@ module _ (test : Point → Bool) where
   ends-append xs ys = sum_by-append (λ (e : Edge). unit (end_of e)) xs ys
 
   -- what a chain's pieces add beside its edge's start and end, they add on both sides
-  along : (edge : Edge) (from : Point) (others : List Point) → GoesOn edge from others → starts (pieces_from from others) + unit (end_of edge) ≡ unit from + ends (pieces_from from others)
+  along : (edge : Edge) (from : Point) (others : List Point) → GoesOn edge from others → starts (pieces (from ∷ others)) + unit (end_of edge) ≡ unit from + ends (pieces (from ∷ others))
   along edge from [] (x, y) =
       let same : unit from ≡ unit (end_of edge) = ap (λ a. unit (point_at a from.y)) x ∙ ap (λ b. unit (point_at edge.x1 b)) y in
       omega (arith, same)
   along edge from (to ∷ others) (order, passes, rest) =
-      let first = starts-cons (edge_between from to) (pieces_from to others) in
-      let second = ends-cons (edge_between from to) (pieces_from to others) in
+      let first = starts-cons (edge_between from to) (pieces (to ∷ others)) in
+      let second = ends-cons (edge_between from to) (pieces (to ∷ others)) in
       let later = along edge to others rest in
       omega (arith, first, second, later)
 

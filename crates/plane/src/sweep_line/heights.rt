@@ -3,7 +3,7 @@
 ghost use Rattle.std.specs.Prelude.{◌≡◌, ◌-ℤ◌, ◌*ℤ◌, ◌<ℤ◌};
 ghost use Rattle.std.specs.Int.{int_max, int_min};
 ghost use Rattle.std.specs.Ordering.{int_cmp};
-ghost use Rattle.plane.specs.SweepLine.Active.{end_of};
+ghost use Rattle.plane.specs.Ends.{start_of, end_of};
 ghost use Rattle.plane.specs.SweepLine.Heights.{rightwards, run, height_by_runs, rise_by_run};
 ghost use Rattle.plane.specs.SweepLine.Heights.{height_by_run as height_of};
 
@@ -67,8 +67,7 @@ pub fn compare_ends(one: Edge, other: Edge) -> Ordering
 
 /// The point at which the edge begins.
 fn start_of(edge: Edge) -> Point
-    ensures x { result.x ≡ edge.x0 }
-    ensures y { result.y ≡ edge.y0 }
+    ensures { result ≡ start_of edge }
 {
     Point {
         x: edge.x0,
