@@ -17,5 +17,6 @@ pub mod Pieces
 pub mod Reversed
 pub mod Rising
 pub mod Rounding
+pub mod Standing
 pub mod Sums
 pub mod Windings
