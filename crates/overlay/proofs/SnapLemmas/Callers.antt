@@ -29,8 +29,10 @@ pub use Rattle.overlay.proofs.SnapLemmas.Windings.{winding-append, winding-permu
 pub use Rattle.overlay.proofs.SnapLemmas.Sums.{IsClosed-permutation}
 -- Two edges that aren't parallel have one crossing, whichever is named first, and no edge crosses itself.
 pub use Rattle.overlay.proofs.SnapLemmas.Crossing.{CrossAt-unique, CrossAt-exchanged, CrossAt-itself}
--- Where each chain stops among the points of all, and that it stands there from where the one before it stops on.
-pub use Rattle.overlay.proofs.ChainLemmas.Offsets.{offset-at, list-between}
+-- Where each chain stops among the points of all, and that it stands there from where the one before it stops on; and both for
+-- a loop over the ends.
+pub use Rattle.overlay.proofs.ChainLemmas.Offsets.{joined, offset-at, list-between}
+pub use Rattle.overlay.proofs.SnapLemmas.Standing.{length-offsets, IsNext, IsNext-at}
 
 -- ---- hot points
 

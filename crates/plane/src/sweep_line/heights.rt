@@ -1,6 +1,6 @@
 //! Heights of edges at an x, compared in whole numbers.
 
-ghost use Rattle.std.specs.Prelude.{◌≡◌, ◌-ℤ◌, ◌*ℤ◌, ◌<ℤ◌};
+ghost use Rattle.std.specs.Prelude.{◌≡◌, ◌*ℤ◌, ◌<ℤ◌};
 ghost use Rattle.std.specs.Int.{int_max, int_min};
 ghost use Rattle.std.specs.Ordering.{int_cmp};
 ghost use Rattle.plane.specs.Ends.{start_of, end_of};
@@ -9,7 +9,7 @@ ghost use Rattle.plane.specs.SweepLine.Heights.{height_by_run as height_of};
 
 use crate::edge::Edge;
 use crate::point::Point;
-use crate::ways::product;
+use crate::ways::{product, way_on_axis};
 use std::cmp::Ordering;
 
 /// The edge from its lesser end along x to its greater. A vertical edge, or a point, stays as it is.
@@ -32,8 +32,8 @@ pub fn turn_rightwards(edge: Edge) -> Edge
 pub fn compare_to_point(edge: Edge, point: Point) -> Ordering
     ensures { result ≡ int_cmp (height_of edge point.x) (point.y *ℤ run edge) }
 {
-    let climb = product(way(edge.y0, edge.y1), way(edge.x0, point.x));
-    let point_climb = product(way(edge.y0, point.y), way(edge.x0, edge.x1));
+    let climb = product(way_on_axis(edge.y0, edge.y1), way_on_axis(edge.x0, point.x));
+    let point_climb = product(way_on_axis(edge.y0, point.y), way_on_axis(edge.x0, edge.x1));
     climb.cmp(&point_climb)
 }
 
@@ -89,14 +89,7 @@ pub fn end_of(edge: Edge) -> Point
 pub fn compare_slopes(one: Edge, other: Edge) -> Ordering
     ensures { result ≡ int_cmp (rise_by_run one other) (rise_by_run other one) }
 {
-    let steepness = product(way(one.y0, one.y1), way(other.x0, other.x1));
-    let other_steepness = product(way(other.y0, other.y1), way(one.x0, one.x1));
+    let steepness = product(way_on_axis(one.y0, one.y1), way_on_axis(other.x0, other.x1));
+    let other_steepness = product(way_on_axis(other.y0, other.y1), way_on_axis(one.x0, one.x1));
     steepness.cmp(&other_steepness)
-}
-
-/// The way from the one to the other, which takes 33 bits.
-fn way(start: i32, end: i32) -> i64
-    ensures { result ≡ end -ℤ start }
-{
-    end as i64 - start as i64
 }
