@@ -119,6 +119,7 @@ fn begin<C: StatusCollection<ActiveEdge, i64, ()>>(
 
 /// Whether two neighbours, where both are there, don't cross. They stand in order, so that the one isn't above the other where
 /// they begin to share an x.
+#[inline]
 fn check_neighbours(
     below: Option<(ActiveEdge, ())>,
     above: Option<(ActiveEdge, ())>,
