@@ -1,6 +1,6 @@
 //! Heights of edges at an x, compared in whole numbers.
 
-ghost use Rattle.std.specs.Prelude.{◌≡◌, ◌*ℤ◌, ◌<ℤ◌};
+ghost use Rattle.std.specs.Prelude.{◌≡◌, ◌-ℤ◌, ◌*ℤ◌, ◌<ℤ◌, true, false};
 ghost use Rattle.std.specs.Int.{int_max, int_min};
 ghost use Rattle.std.specs.Ordering.{int_cmp};
 ghost use Rattle.plane.specs.Ends.{start_of, end_of};
@@ -16,15 +16,37 @@ use std::cmp::Ordering;
 pub fn turn_rightwards(edge: Edge) -> Edge
     ensures { result ≡ rightwards edge }
 {
-    if edge.x1 < edge.x0 {
-        return Edge {
-            x0: edge.x1,
-            y0: edge.y1,
-            x1: edge.x0,
-            y1: edge.y0,
-        };
+    let leftwards = edge.x1 < edge.x0;
+    let turned = Edge {
+        x0: edge.x1,
+        y0: edge.y1,
+        x1: edge.x0,
+        y1: edge.y0,
+    };
+    select(leftwards, turned, edge)
+}
+
+/// The first edge where the test is true, else the other one. Each number is chosen by itself, which is no branch in the
+/// machine's code: one over whole edges would be guessed wrongly half of the time.
+fn select(takes_first: bool, first: Edge, other: Edge) -> Edge
+    ensures first { takes_first ≡ true → result ≡ first }
+    ensures other { takes_first ≡ false → result ≡ other }
+{
+    Edge {
+        x0: select_number(takes_first, first.x0, other.x0),
+        y0: select_number(takes_first, first.y0, other.y0),
+        x1: select_number(takes_first, first.x1, other.x1),
+        y1: select_number(takes_first, first.y1, other.y1),
     }
-    edge
+}
+
+/// The first number where the test is true, else the other one.
+#[inline]
+fn select_number(takes_first: bool, first: i32, other: i32) -> i32
+    ensures first { takes_first ≡ true → result ≡ first }
+    ensures other { takes_first ≡ false → result ≡ other }
+{
+    if takes_first { first } else { other }
 }
 
 /// How the edge's height at the point's x stands to the point's, where the edge goes to the right: by how far both are
@@ -59,10 +81,14 @@ pub fn compare_ends(one: Edge, other: Edge) -> Ordering
     ensures { let end = int_min one.x1 other.x1 in
         result ≡ int_cmp (height_by_runs one other end) (height_by_runs other one end) }
 {
-    if other.x1 < one.x1 {
-        return compare_to_point(one, end_of(other));
+    let outlasts = other.x1 < one.x1;
+    let longer = select(outlasts, one, other);
+    let shorter = select(outlasts, other, one);
+    let heights = compare_to_point(longer, end_of(shorter));
+    if outlasts {
+        return heights;
     }
-    compare_to_point(other, end_of(one)).reverse()
+    heights.reverse()
 }
 
 /// The point at which the edge begins.
