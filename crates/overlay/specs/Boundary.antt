@@ -20,7 +20,7 @@ result_at rule operation subject clip point = count (is_result rule operation (w
 
 -- Edges that bound the result, as far as it isn't near the edges given: they meet only at common ends, and wind once around each
 -- point of it, and around no others.
-pub record Bounds (rule : FillRule) (operation : Operation) (subject clip edges : List Edge) : Type 0 where
+pub record BoundsResult (rule : FillRule) (operation : Operation) (subject clip edges : List Edge) : Type 0 where
   pub noded : AreNoded edges
   pub once : (point : RationalPoint) → (winding edges point ≡ pos 0) ⊎ (winding edges point ≡ pos 1)
   pub clear : (point : RationalPoint) → All (λ edge. ¬ (IsNear edge point)) (subject ++ clip) → winding edges point ≡ result_at rule operation subject clip point
@@ -29,7 +29,7 @@ pub record Bounds (rule : FillRule) (operation : Operation) (subject clip edges 
 -- Rings whose edges do.
 pub record IsBoundary (rule : FillRule) (operation : Operation) (subject clip : List Edge) (rings : List (List Point)) : Type 0 where
   pub each : All IsRing rings
-  pub bounds : Bounds rule operation subject clip (flat_map ring_edges rings)
+  pub bounds : BoundsResult rule operation subject clip (flat_map ring_edges rings)
 
 -- The pieces of the subject's edges and of the clip's, which are broken together.
 pub record AreBroken (subject clip broken broken_clip : List Edge) : Type 0 where

@@ -54,7 +54,7 @@ pub fn cross_product(one: Way, other: Way) -> i128
 
 /// The product of two ways. Of factors that have 64 bits each, one multiplication makes it. The bounds say that the
 /// difference of two products fits too.
-pub(crate) fn product(one: i64, other: i64) -> i128
+pub fn product(one: i64, other: i64) -> i128
     ensures value { result ≡ one *ℤ other }
     ensures above { neg_ℤ (pos (2 ^ 126)) <ℤ result }
     ensures upto { result ≤ℤ pos (2 ^ 126) }

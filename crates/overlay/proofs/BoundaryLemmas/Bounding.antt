@@ -11,7 +11,7 @@ use Rattle.plane.specs.declared.point.Point.{Point}
 use Rattle.plane.specs.Meet.Edges.{RationalPoint}
 use Rattle.overlay.specs.declared.fill.rules.FillRule.{FillRule}
 use Rattle.overlay.specs.declared.fill.rules.Operation.{Operation}
-use Rattle.overlay.specs.Boundary.{AreBroken, Bounds, IsBoundary}
+use Rattle.overlay.specs.Boundary.{AreBroken, BoundsResult, IsBoundary}
 use Rattle.overlay.specs.Contours.Rings.{AreContours, ring_edges}
 use Rattle.overlay.specs.Fill.Filled.{AreNoded, IsFilled}
 use Rattle.overlay.specs.Fill.Rules.{count, is_result}
@@ -20,7 +20,7 @@ use Rattle.overlay.specs.Snap.Windings.{pieces, winding, IsAlongAxis, IsClosed}
 use Rattle.overlay.proofs.BoundaryLemmas.Broken.{all-chains}
 use Rattle.overlay.proofs.SnapLemmas.Callers.{noded}
 use Rattle.overlay.proofs.SnapLemmas.Sums.{some-clear, some-closed, some-exact}
-use Rattle.overlay.proofs.SnapLemmas.Windings.{winding-permutation}
+use Rattle.overlay.proofs.ContourLemmas.Callers.{winding-contours}
 
 module _ (subject clip broken broken_clip : List Edge) (are : AreBroken subject clip broken broken_clip) where
   abbrev all : List Edge
@@ -66,7 +66,7 @@ module _ (subject clip broken broken_clip : List Edge) (are : AreBroken subject 
   none_or_one false = inl refl
 
   -- so what is filled of them bounds the result
-  pub filled-bounds : (rule : FillRule) (operation : Operation) (edges : List Edge) → IsFilled rule operation broken broken_clip edges → Bounds rule operation subject clip edges
+  pub filled-bounds : (rule : FillRule) (operation : Operation) (edges : List Edge) → IsFilled rule operation broken broken_clip edges → BoundsResult rule operation subject clip edges
   filled-bounds rule operation edges filled = record {
     noded = filled.noded;
     once = λ point. subst (λ (z : ℤ). (z ≡ pos 0) ⊎ (z ≡ pos 1)) (sym (filled.winds point)) (none_or_one (is_result rule operation (winding broken point) (winding broken_clip point)));
@@ -75,7 +75,7 @@ module _ (subject clip broken broken_clip : List Edge) (are : AreBroken subject 
   }
 
 -- the rings of edges that bound it do
-pub rings-bound : (rule : FillRule) (operation : Operation) (subject clip edges : List Edge) (rings : List (List Point)) → Bounds rule operation subject clip edges → AreContours edges rings → IsBoundary rule operation subject clip rings
+pub rings-bound : (rule : FillRule) (operation : Operation) (subject clip edges : List Edge) (rings : List (List Point)) → BoundsResult rule operation subject clip edges → AreContours edges rings → IsBoundary rule operation subject clip rings
 rings-bound rule operation subject clip edges rings bounds are = record {
   each = are.each;
   bounds = record {
@@ -90,4 +90,4 @@ rings-bound rule operation subject clip edges rings bounds are = record {
     inside edge held = Contains-permutation (flat_map ring_edges rings) edges edge are.all held
 
     same : (point : RationalPoint) → winding edges point ≡ winding (flat_map ring_edges rings) point
-    same point = winding-permutation (flat_map ring_edges rings) edges point are.all
+    same point = sym (winding-contours edges rings point are)

@@ -27,7 +27,7 @@ use Rattle.overlay.proofs.FillLemmas.Order as order
 use Rattle.overlay.proofs.FillLemmas.Premises.{onwards, meet-pieces}
 use Rattle.overlay.proofs.FillLemmas.Small as small
 use Rattle.overlay.proofs.FillLemmas.Uncrossed.{uncrossed}
-use Rattle.overlay.proofs.SnapLemmas.Numbers.{Bounds}
+use Rattle.plane.specs.Meet.Crosses.{IsWithin}
 
 -- the greater of two numbers is at least each of them
 max_upto : (a b : ℤ) → (a ≤ℤ int_max a b) × (b ≤ℤ int_max a b)
@@ -94,8 +94,8 @@ module _ (subject clip : List Edge) (closed : IsClosed subject) (clip_closed : I
 
   -- Counts below and above a piece are no further from 0 than there are edges.
   pub counts-small : (g : Piece) → Contains pieces g
-      → Bounds (length subject) (counts_below subject clip g).subject × Bounds (length subject) (counts_above subject clip g).subject
-      × Bounds (length clip) (counts_below subject clip g).clip × Bounds (length clip) (counts_above subject clip g).clip
+      → IsWithin (length subject) (counts_below subject clip g).subject × IsWithin (length subject) (counts_above subject clip g).subject
+      × IsWithin (length clip) (counts_below subject clip g).clip × IsWithin (length clip) (counts_above subject clip g).clip
   counts-small g among = small.counts-small subject clip pieces are g among
 
   -- ---- the edges kept

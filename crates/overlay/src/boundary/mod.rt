@@ -3,7 +3,7 @@
 ghost use Rattle.std.specs.Prelude.{◌≡◌, ◌++◌, [], List, IfOk, OnOk, OnErr, length};
 ghost use Rattle.std.specs.List.{flat_map};
 ghost use Rattle.plane.specs.declared.point.Point.{Point};
-ghost use Rattle.overlay.specs.Boundary.{Bounds, IsBoundary};
+ghost use Rattle.overlay.specs.Boundary.{BoundsResult, IsBoundary};
 ghost use Rattle.overlay.specs.Snap.Offsets.{offsets};
 ghost use Rattle.overlay.specs.Snap.Windings.{IsClosed};
 
@@ -77,7 +77,7 @@ where
     requires closed { IsClosed subject.now }
     requires clip_closed { IsClosed clip.now }
     ensures closed { IfOk result (λ edges. IsClosed edges.items) }
-    ensures bounds { IfOk result (λ edges. Bounds rule operation subject.now clip.now edges.items) }
+    ensures bounds { IfOk result (λ edges. BoundsResult rule operation subject.now clip.now edges.items) }
     ensures empty { C.stored status.new ≡ [] }
 {
     let (pieces, count) = broken(alloc, subject, clip)?;

@@ -1,7 +1,7 @@
 use Rattle.std.proofs.Common.{◌≡◌, ◌++◌, ◌-◌, ℕ, List, length, take, drop, ap, ap₂, sym, subst, ◌∙◌, arith}
 use Rattle.std.proofs.lemmas.List.{length-drop, take_all}
 use Rattle.plane.specs.declared.edge.Edge.{Edge}
-use Rattle.overlay.specs.Boundary.{Bounds}
+use Rattle.overlay.specs.Boundary.{BoundsResult}
 use Rattle.overlay.specs.Fill.Filled.{AreNoded, IsFilled}
 use Rattle.overlay.specs.Snap.Windings.{IsClosed}
 use Rattle.overlay.proofs.BoundaryLemmas.Bounding.{broken-closed, broken-noded, clip-closed, filled-bounds}
@@ -44,7 +44,7 @@ returns-clause-bounds g c =
     let (edges, is, filled) = c.in_ok-fill.ensures.ok in
     let first : take count c.deref.result.now ≡ take count items = ap (λ (list : List Edge). take count list) c.deref.ensures.value in
     let second = rest-is items c.deref-2.result.now count c.deref-2.ensures.value in
-    subst (Bounds c.args.rule c.args.operation c.args.subject.now c.args.clip.now) (sym (is ∙ ap (λ (before : List Edge). before ++ edges) c.new-edges.ensures.items))
+    subst (BoundsResult c.args.rule c.args.operation c.args.subject.now c.args.clip.now) (sym (is ∙ ap (λ (before : List Edge). before ++ edges) c.new-edges.ensures.items))
     (filled-bounds c.args.subject.now c.args.clip.now (take count items) (drop count items) c.in_ok-pieces.ensures.1 c.args.rule c.args.operation edges
     (subst (λ (list : List Edge). IsFilled c.args.rule c.args.operation (take count items) list edges) second
     (subst (λ (list : List Edge). IsFilled c.args.rule c.args.operation list (take (length c.deref-2.result.now - count) (drop count c.deref-2.result.now)) edges) first filled)))
