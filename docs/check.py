@@ -51,6 +51,7 @@ SOURCES = {
     "`plane`": [f"plane/src/{room}.rt" for room in ("*", "meet/*", "pairs/*", "locate/*", "sweep_line/*")],
     "`plane::sweep_line`": ["plane/src/sweep_line/*.rt"],
     "`overlay::snap`": ["overlay/src/snap/*.rt"],
+    "`overlay::fill`": ["overlay/src/fill/*.rt"],
     "`itree_c`": ["itree_c/src/*.rt"],
     "`itree`": ["itree/src/program.rt"],
 }
