@@ -78,7 +78,7 @@ def layers():
         *titled(479, 22, 206, 46, "itree_c", "calls from other languages"),
         text(360, 87, "each of these three uses crates below, and i_tree", 12, fill=SOFT),
         *titled(20, 108, 332, 112, "itree_lib", "runs of commands; a sweep over segments"),
-        *titled(368, 108, 332, 50, "overlay", "edges broken where they meet"),
+        *titled(368, 108, 332, 50, "overlay", "edges broken where they meet; what rings bound"),
         *titled(368, 170, 332, 50, "plane", "edges that meet; the edge below a point"),
         *titled(20, 232, 680, 50, "event_queue", "what a sweep meets, in order; it uses std alone"),
         box(20, 294, 680, 208, PAPER),
