@@ -78,7 +78,7 @@ def layers():
         *titled(479, 22, 206, 46, "itree_c", "calls from other languages"),
         text(360, 87, "each of these three uses crates below, and i_tree", 12, fill=SOFT),
         *titled(20, 108, 332, 112, "itree_lib", "runs of commands; a sweep over segments"),
-        *titled(368, 108, 332, 50, "overlay", "edges broken where they meet"),
+        *titled(368, 108, 332, 50, "overlay", "edges broken where they meet; what rings bound"),
         *titled(368, 170, 332, 50, "plane", "edges that meet; the edge below a point"),
         *titled(20, 232, 680, 50, "event_queue", "what a sweep meets, in order; it uses std alone"),
         box(20, 294, 680, 208, PAPER),
@@ -360,9 +360,53 @@ def snap():
     return picture("Three edges, their hot points, and the chains that go over these", 720, 496, parts)
 
 
+# Two rings, and the edges that a fill keeps for their union.
+
+# Edges that aren't vertical, the winding numbers below them and above them, by subject and clip, and whether they are kept.
+COUNTED = [
+    ((1, 1), (6, 1), "0, 0", "1, 0", True),
+    ((4, 2), (6, 2), "1, 0", "1, 1", False),
+    ((6, 2), (9, 2), "0, 0", "0, 1", True),
+    ((4, 4), (1, 4), "1, 0", "0, 0", True),
+    ((6, 4), (4, 4), "1, 1", "0, 1", False),
+    ((9, 5), (4, 5), "0, 1", "0, 0", True),
+]
+
+# The vertical edges of both, and those that close the kept ones.
+UPRIGHT = [((6, 2), (6, 4)), ((4, 4), (4, 2))]
+CLOSING = [((6, 1), (6, 2)), ((9, 2), (9, 5)), ((4, 5), (4, 4)), ((1, 4), (1, 1))]
+
+
+def kept_way(start, end):
+    """A kept edge, with a head in its middle that tells its way."""
+    (x0, y0), (x1, y1) = on_grid(*start), on_grid(*end)
+    x, y = (x0 + x1) / 2, (y0 + y1) / 2
+    along, up = (x1 > x0) - (x1 < x0), (y1 > y0) - (y1 < y0)
+    tip = f"{x + 10 * along},{y + 10 * up}"
+    sides = [f"{x - 6 * along + 8 * side * up},{y - 6 * up + 8 * side * along}" for side in (1, -1)]
+    return [line(x0, y0, x1, y1, GREEN, 4), f'<polygon points="{" ".join([tip, *sides])}" fill="{GREEN}"/>']
+
+
+def fill():
+    parts = grid()
+    for start, end, below, above, is_kept in COUNTED:
+        (x0, y), (x1, _) = on_grid(*start), on_grid(*end)
+        parts += kept_way(start, end) if is_kept else [line(x0, y, x1, y, BLUE, 1.5)]
+        left = min(x0, x1) + 28
+        parts += [text(left, y - 8, above, 12), text(left, y + 18, below, 12)]
+    parts += [line(*on_grid(*start), *on_grid(*end), BLUE, 1.5) for start, end in UPRIGHT]
+    parts += [part for way in CLOSING for part in kept_way(*way)]
+    parts += [dot(*on_grid(*end), 4, INK) for ends in [(one, other) for one, other, *_ in COUNTED] for end in ends]
+    parts += [text(*on_grid(2.4, 2.4), "subject", 13, fill=SOFT), text(*on_grid(7.5, 3.4), "clip", 13, fill=SOFT)]
+    parts += [line(60, 474, 90, 474, BLUE, 1.5), text(98, 478, "left out", 12, "start", SOFT)]
+    parts += [line(180, 474, 210, 474, GREEN, 4), text(218, 478, "kept", 12, "start", SOFT)]
+    parts.append(text(300, 478, "1, 0: the winding numbers of the subject and of the clip", 12, "start", SOFT))
+    return picture("Two rings, the winding numbers on both sides of each edge, and the edges kept for their union", 720, 496, parts)
+
+
 PICTURES = {
     **{"layers": layers, "slots": slots, "descent": descent, "buckets": buckets},
-    **{"sweep": sweep, "locate": locate, "snap": snap},
+    **{"sweep": sweep, "locate": locate, "snap": snap, "fill": fill},
 }
 
 

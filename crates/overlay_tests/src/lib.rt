@@ -4,4 +4,8 @@
 #[cfg(test)]
 mod contoured;
 #[cfg(test)]
+mod filled;
+#[cfg(test)]
 mod snapped;
+#[cfg(test)]
+mod walks;

@@ -1,0 +1,194 @@
+//! What a fill asks of its edges: closed ones by their walks, and a test whether edges are noded.
+
+ghost use Rattle.std.specs.Prelude.{◌≡◌, ◌++◌, ◌∷◌, [], true, All, IfOk, OnOk};
+ghost use Rattle.plane.specs.declared.point.Point.{Point};
+ghost use Rattle.overlay.specs.Fill.Filled.{AreNoded};
+ghost use Rattle.overlay.specs.Snap.Windings.{IsClosed, edge_between, reversed};
+ghost use Rattle.overlay_tests.specs.Walks.{IsEndAt, MeetAtEndsAlone};
+
+use i_tree::Refusal;
+use i_tree::status::exp::StatusCollection;
+use overlay::fill::{FillRule, Operation, fill};
+use plane::edge::Edge;
+use plane::meet::{Meeting, how_they_meet};
+use plane::point::Point;
+use plane::sweep_line::ActiveEdge;
+use std::alloc::{AllocError, Allocator, Global};
+
+/// Walks of the subject and of the clip, each by the points that it goes over, and by what they are filled.
+#[derive(Clone, Copy)]
+pub struct Regions {
+    pub subject: &'static [&'static [[i32; 2]]],
+    pub clip: &'static [&'static [[i32; 2]]],
+    pub rule: FillRule,
+    pub operation: Operation,
+}
+
+/// What a fill of the walks' edges answers, or none where these aren't noded.
+pub fn fill_walks<C, A>(
+    alloc: Global,
+    regions: Regions,
+    status: &mut C,
+    out: &mut Vec<Edge, A>,
+) -> Result<Option<Result<(), Refusal>>, AllocError>
+where
+    C: StatusCollection<ActiveEdge, i64, ()>,
+    A: Allocator + Copy,
+{
+    let subject = edges_of(alloc, regions.subject)?;
+    let clip = edges_of(alloc, regions.clip)?;
+    let both = joined(alloc, &subject, &clip)?;
+    if !are_noded(&both) {
+        return Ok(None);
+    }
+    let outcome = fill(
+        &subject,
+        &clip,
+        regions.rule,
+        regions.operation,
+        status,
+        out,
+    );
+    Ok(Some(outcome))
+}
+
+fn joined(alloc: Global, edges: &[Edge], others: &[Edge]) -> Result<Vec<Edge>, AllocError>
+    ensures { IfOk result (λ both. both.items ≡ edges.now ++ others.now) }
+{
+    let mut both = Vec::new(alloc);
+    both.extend_from_slice(edges)?;
+    both.extend_from_slice(others)?;
+    Ok(both)
+}
+
+// The edges of each walk, from each of its points to the next and from the last back to the first.
+fn edges_of(alloc: Global, walks: &[&[[i32; 2]]]) -> Result<Vec<Edge>, AllocError>
+    ensures { IfOk result (λ edges. IsClosed edges.items) }
+{
+    let mut edges = Vec::new(alloc);
+    for walk in walks {
+        push_walk(&mut edges, walk)?;
+    }
+    Ok(edges)
+}
+
+// Appends the edges of a walk.
+fn push_walk(edges: &mut Vec<Edge>, walk: &[[i32; 2]]) -> Result<(), AllocError>
+    requires { IsClosed edges.old.items }
+    ensures { OnOk result (IsClosed edges.new.items) }
+{
+    let Some((start, others)) = walk.split_first() else {
+        return Ok(())
+    };
+    let first = point(*start);
+    let mut last = first;
+    for other in others {
+        let next = point(*other);
+        push_edge(edges, last, next)?;
+        last = next;
+    }
+    push_edge(edges, last, first)
+}
+
+fn point(at: [i32; 2]) -> Point {
+    let [x, y] = at;
+    Point { x, y }
+}
+
+// Appends the edge from the one point to the other.
+fn push_edge(edges: &mut Vec<Edge>, from: Point, to: Point) -> Result<(), AllocError>
+    ensures { OnOk result (edges.new.items ≡ edges.old.items ++ edge_between from to ∷ []) }
+{
+    edges.push(Edge {
+        x0: from.x,
+        y0: from.y,
+        x1: to.x,
+        y1: to.y,
+    })?;
+    Ok(())
+}
+
+// Whether each point of two of the edges is an end of both, or the two have the same ends.
+fn are_noded(edges: &[Edge]) -> bool
+    ensures { result ≡ true → AreNoded edges.now }
+{
+    for edge in edges {
+        if !meets_each(*edge, edges) {
+            return false;
+        }
+    }
+    true
+}
+
+// Whether it is so of this edge and each of the others.
+fn meets_each(edge: Edge, others: &[Edge]) -> bool
+    ensures { result ≡ true → All (MeetAtEndsAlone edge) others.now }
+{
+    for other in others {
+        if !meet_at_ends(edge, *other) {
+            return false;
+        }
+    }
+    true
+}
+
+// Whether it is so of the two.
+fn meet_at_ends(one: Edge, other: Edge) -> bool
+    ensures { result ≡ true → MeetAtEndsAlone one other }
+{
+    if is_same(one, other) {
+        return true;
+    }
+    if is_same(one, reverse(other)) {
+        return true;
+    }
+    match how_they_meet(one, other) {
+        Meeting::Apart => true,
+        Meeting::Touch => have_common_end(one, other),
+        _ => false,
+    }
+}
+
+fn is_same(one: Edge, other: Edge) -> bool
+    ensures { result ≡ true → one ≡ other }
+{
+    one == other
+}
+
+fn reverse(edge: Edge) -> Edge
+    ensures { result ≡ reversed edge }
+{
+    Edge {
+        x0: edge.x1,
+        y0: edge.y1,
+        x1: edge.x0,
+        y1: edge.y0,
+    }
+}
+
+// Whether an end of the one is an end of the other.
+fn have_common_end(one: Edge, other: Edge) -> bool
+    ensures { result ≡ true → (common : Point) × IsEndAt one common × IsEndAt other common }
+{
+    let start = Point {
+        x: one.x0,
+        y: one.y0,
+    };
+    if is_end(other, start) {
+        return true;
+    }
+    let end = Point {
+        x: one.x1,
+        y: one.y1,
+    };
+    is_end(other, end)
+}
+
+fn is_end(edge: Edge, at: Point) -> bool
+    ensures { result ≡ true → IsEndAt edge at }
+{
+    if at.x == edge.x0 && at.y == edge.y0 {
+        return true;
+    }
+    at.x == edge.x1 && at.y == edge.y1
+}
