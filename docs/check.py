@@ -53,6 +53,7 @@ SOURCES = {
     "`overlay::snap`": ["overlay/src/snap/*.rt"],
     "`overlay::contours`": ["overlay/src/contours/*.rt"],
     "`overlay::fill`": ["overlay/src/fill/*.rt"],
+    "`overlay::boundary`": ["overlay/src/boundary/*.rt"],
     "`itree_c`": ["itree_c/src/*.rt"],
     "`itree`": ["itree/src/program.rt"],
 }

@@ -8,6 +8,7 @@ ghost use Rattle.overlay_tests.specs.Walks.{IsEndAt, MeetAtEndsAlone};
 
 use i_tree::Refusal;
 use i_tree::status::exp::StatusCollection;
+use overlay::boundary::boundary;
 use overlay::fill::{FillRule, Operation, fill};
 use plane::edge::Edge;
 use plane::meet::{Meeting, how_they_meet};
@@ -50,6 +51,31 @@ where
         out,
     );
     Ok(Some(outcome))
+}
+
+/// Appends the rings that bound what is made of the walks' edges.
+pub fn bound_walks<C, A>(
+    alloc: Global,
+    regions: Regions,
+    status: &mut C,
+    points: &mut Vec<Point, A>,
+    ends: &mut Vec<usize, A>,
+) -> Result<Result<(), Refusal>, AllocError>
+where
+    C: StatusCollection<ActiveEdge, i64, ()>,
+    A: Allocator + Copy,
+{
+    let subject = edges_of(alloc, regions.subject)?;
+    let clip = edges_of(alloc, regions.clip)?;
+    Ok(boundary(
+        &subject,
+        &clip,
+        regions.rule,
+        regions.operation,
+        status,
+        points,
+        ends,
+    ))
 }
 
 fn joined(alloc: Global, edges: &[Edge], others: &[Edge]) -> Result<Vec<Edge>, AllocError>
