@@ -52,6 +52,7 @@ SOURCES = {
     "`plane::sweep_line`": ["plane/src/sweep_line/*.rt"],
     "`overlay::snap`": ["overlay/src/snap/*.rt"],
     "`overlay::fill`": ["overlay/src/fill/*.rt"],
+    "`overlay::contours`": ["overlay/src/contours/*.rt"],
     "`itree_c`": ["itree_c/src/*.rt"],
     "`itree`": ["itree/src/program.rt"],
 }

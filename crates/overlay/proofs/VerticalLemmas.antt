@@ -3,6 +3,8 @@ pub mod Between
 pub mod Closing
 pub mod Columns
 pub mod Crossed
+pub mod Flows
 pub mod Linked
 pub mod Order
 pub mod Region
+pub mod Upright

@@ -1,2 +1,3 @@
+pub mod Contours
 pub mod Fill
 pub mod Snap

@@ -2,6 +2,8 @@
 #![tactic(auto)]
 
 #[cfg(test)]
+mod contoured;
+#[cfg(test)]
 mod filled;
 #[cfg(test)]
 mod snapped;

@@ -11,15 +11,18 @@ use Rattle.std.proofs.lemmas.Option.{same_Some, slice_get-get_or, slice_get_with
 use Rattle.std.specs.Cmp.{IsEquivalence}
 use Rattle.std.specs.List.{dedup}
 use Rattle.std.specs.Ordering.{eq_by_cmp}
+use Rattle.plane.specs.Meet.Edges.{IsOf}
 use Rattle.plane.specs.Meet.Meetings.{AreMeetings}
 use Rattle.plane.specs.declared.edge.Edge.{Edge}
 use Rattle.overlay.specs.Snap.Chains.{IsEnd, CrossAt, IsHot}
-use Rattle.overlay.specs.Snap.Hot.{hot_at, AreHotPoints, GainsPoints, IsEndAmong, IsCrossingAmong}
+use Rattle.overlay.specs.Snap.Hot.{hot_at, AreHotPoints, GainsPoints, IsAt, IsEndAmong, IsCrossingAmong, ShareEnd}
 use Rattle.overlay.specs.contracts.snap.hot.HotPointOrd.TheImpl.{ghosts as hot_order}
 use Rattle.overlay.specs.contracts.snap.hot.HotPointOrd.TheImpl.Laws.{total-law as hot_total}
 use Rattle.overlay.specs.declared.snap.hot.HotPoint.{HotPoint}
 use Rattle.overlay.proofs.ChainLemmas.Order.{hot-differ, hot-same}
-use Rattle.overlay.proofs.SnapLemmas.Crossing.{CrossAt-exchanged, CrossAt-itself}
+use Rattle.overlay.proofs.SnapLemmas.Along.{from_at, to_at}
+use Rattle.overlay.proofs.SnapLemmas.Crossing.{CrossAt-exchanged, CrossAt-itself, CrossAt-unique}
+use Rattle.overlay.proofs.SnapLemmas.Rounding.{RoundsTo-itself, whole}
 
 -- nothing is gained
 pub GainsPoints-none : (before : List HotPoint) (Is : ℤ → ℤ → Type 0) → ((x y : ℤ) → ¬ (Is x y)) → GainsPoints Is before before
@@ -30,28 +33,44 @@ pub GainsPoints-same : (before after : List HotPoint) (Is Now : ℤ → ℤ → 
 GainsPoints-same before after Is Now to from gains x y =
     (λ held. ⊎_elim inl (λ is. inr (to x y is)) ((gains x y).0 held), ⊎_elim (λ held. (gains x y).1 (inl held)) (λ is. (gains x y).1 (inr (from x y is))))
 
+-- some are gained, and then others
+pub GainsPoints-join : (before now after : List HotPoint) (Is Now : ℤ → ℤ → Type 0) → GainsPoints Is before now → GainsPoints Now now after → GainsPoints (λ x y. Is x y ⊎ Now x y) before after
+GainsPoints-join before now after Is Now gains more x y = (to, from)
+  where
+    to : Contains after (hot_at x y) → Contains before (hot_at x y) ⊎ (Is x y ⊎ Now x y)
+    to held = ⊎_elim (λ earlier. ⊎_elim inl (λ is. inr (inl is)) ((gains x y).0 earlier)) (λ is. inr (inr is)) ((more x y).0 held)
+
+    from : Contains before (hot_at x y) ⊎ (Is x y ⊎ Now x y) → Contains after (hot_at x y)
+    from (inl held) = (more x y).1 (inl ((gains x y).1 (inl held)))
+    from (inr (inl is)) = (more x y).1 (inl ((gains x y).1 (inr is)))
+    from (inr (inr is)) = (more x y).1 (inr is)
+
 -- one more
+pub GainsPoints-one : (now : List HotPoint) (point : HotPoint) → GainsPoints (IsAt point) now (now ++ point ∷ [])
+GainsPoints-one now point x y = (to, from)
+  where
+    to : Contains (now ++ point ∷ []) (hot_at x y) → Contains now (hot_at x y) ⊎ IsAt point x y
+    to held = ⊎_elim inl (λ same. inr (sym (ap (λ (p : HotPoint). p.x) same), sym (ap (λ (p : HotPoint). p.y) same))) (Contains-push_cases now point (hot_at x y) held)
+
+    from : Contains now (hot_at x y) ⊎ IsAt point x y → Contains (now ++ point ∷ []) (hot_at x y)
+    from (inl held) = Contains-append_left now (point ∷ []) (hot_at x y) held
+    from (inr (same_x, same_y)) =
+        subst (λ (a : ℤ). Contains (now ++ point ∷ []) (hot_at a y)) (sym same_x)
+        (subst (λ (b : ℤ). Contains (now ++ point ∷ []) (hot_at point.x b)) (sym same_y) (Contains-push now point))
+
+-- one that is there
+pub GainsPoints-there : (now : List HotPoint) (point : HotPoint) → Contains now point → GainsPoints (IsAt point) now now
+GainsPoints-there now point held x y = (inl, from)
+  where
+    from : Contains now (hot_at x y) ⊎ IsAt point x y → Contains now (hot_at x y)
+    from (inl there) = there
+    from (inr (same_x, same_y)) =
+        subst (λ (a : ℤ). Contains now (hot_at a y)) (sym same_x)
+        (subst (λ (b : ℤ). Contains now (hot_at point.x b)) (sym same_y) held)
+
 pub GainsPoints-push : (before now : List HotPoint) (Is : ℤ → ℤ → Type 0) (px py : ℤ) → GainsPoints Is before now
     → GainsPoints (λ x y. Is x y ⊎ ((x ≡ px) × (y ≡ py))) before (now ++ hot_at px py ∷ [])
-GainsPoints-push before now Is px py gains x y = (to, from)
-  where
-    this : hot_at px py ≡ hot_at x y → (x ≡ px) × (y ≡ py)
-    this is = (sym (ap (λ (point : HotPoint). point.x) is), sym (ap (λ (point : HotPoint). point.y) is))
-
-    to : Contains (now ++ hot_at px py ∷ []) (hot_at x y) → Contains before (hot_at x y) ⊎ (Is x y ⊎ ((x ≡ px) × (y ≡ py)))
-    to held =
-        ⊎_elim (λ earlier. ⊎_elim inl (λ is. inr (inl is)) ((gains x y).0 earlier)) (λ is. inr (inr (this is)))
-        (Contains-push_cases now (hot_at px py) (hot_at x y) held)
-
-    earlier : Contains now (hot_at x y) → Contains (now ++ hot_at px py ∷ []) (hot_at x y)
-    earlier = Contains-append_left now (hot_at px py ∷ []) (hot_at x y)
-
-    from : Contains before (hot_at x y) ⊎ (Is x y ⊎ ((x ≡ px) × (y ≡ py))) → Contains (now ++ hot_at px py ∷ []) (hot_at x y)
-    from (inl held) = earlier ((gains x y).1 (inl held))
-    from (inr (inl is)) = earlier ((gains x y).1 (inr is))
-    from (inr (inr (same_x, same_y))) =
-        subst (λ (a : ℤ). Contains (now ++ hot_at px py ∷ []) (hot_at a y)) (sym same_x)
-        (subst (λ (b : ℤ). Contains (now ++ hot_at px py ∷ []) (hot_at px b)) (sym same_y) (Contains-push now (hot_at px py)))
+GainsPoints-push before now Is px py gains = GainsPoints-join before now (now ++ hot_at px py ∷ []) Is (IsAt (hot_at px py)) gains (GainsPoints-one now (hot_at px py))
 
 -- no list of edges has an end
 pub no_end : (x y : ℤ) → ¬ (IsEndAmong [] x y)
@@ -71,11 +90,11 @@ module _ (edges : List Edge) (last : Edge) (x y : ℤ) where
       (Contains-push_cases edges last edge held)
 
 -- the ends of one edge more
-pub ends-more : (edges : List Edge) (before now : List HotPoint) (last : Edge) → GainsPoints (IsEndAmong edges) before now
-    → GainsPoints (IsEndAmong (edges ++ last ∷ [])) before ((now ++ hot_at last.x0 last.y0 ∷ []) ++ hot_at last.x1 last.y1 ∷ [])
-ends-more edges before now last gains =
-    GainsPoints-same before _ _ (IsEndAmong (edges ++ last ∷ [])) (end-more edges last) (end-less edges last)
-    (GainsPoints-push before (now ++ hot_at last.x0 last.y0 ∷ []) _ last.x1 last.y1 (GainsPoints-push before now (IsEndAmong edges) last.x0 last.y0 gains))
+pub ends-more : (edges : List Edge) (before now started ended : List HotPoint) (last : Edge) → GainsPoints (IsEndAmong edges) before now
+    → GainsPoints (IsAt (hot_at last.x0 last.y0)) now started → GainsPoints (IsAt (hot_at last.x1 last.y1)) started ended → GainsPoints (IsEndAmong (edges ++ last ∷ [])) before ended
+ends-more edges before now started ended last gains start end =
+    GainsPoints-same before ended _ (IsEndAmong (edges ++ last ∷ [])) (end-more edges last) (end-less edges last)
+    (GainsPoints-join before started ended _ (IsAt (hot_at last.x1 last.y1)) (GainsPoints-join before now started (IsEndAmong edges) (IsAt (hot_at last.x0 last.y0)) gains start) end)
 
 -- no pair has a crossing
 pub no_crossing : (edges : List Edge) (x y : ℤ) → ¬ (IsCrossingAmong edges [] x y)
@@ -129,13 +148,39 @@ module _ (edges : List Edge) (pairs : List (ℕ × ℕ)) (i j : ℕ) (x y : ℤ)
         inr (subst (λ (e : Edge). CrossAt e other x y) (sym one_is) (subst (λ (e : Edge). CrossAt is.one e x y) (sym other_is) is.cross)))
         (Contains-push_cases pairs (i, j) (is.i, is.j) is.listed)
 
+-- one pair more, whose crossing is there
+pub crossings-held : (edges : List Edge) (pairs : List (ℕ × ℕ)) (before now : List HotPoint) (i j : ℕ) (one other : Edge) → slice_get edges i ≡ Some one → slice_get edges j ≡ Some other
+    → ((x y : ℤ) → CrossAt one other x y → Contains before (hot_at x y)) → GainsPoints (IsCrossingAmong edges pairs) before now → GainsPoints (IsCrossingAmong edges (pairs ++ (i, j) ∷ [])) before now
+crossings-held edges pairs before now i j one other first second held gains x y = (to, from)
+  where
+    to : Contains now (hot_at x y) → Contains before (hot_at x y) ⊎ IsCrossingAmong edges (pairs ++ (i, j) ∷ []) x y
+    to there = ⊎_elim inl (λ is. inr (crossing-kept edges pairs i j x y is)) ((gains x y).0 there)
+
+    from : Contains before (hot_at x y) ⊎ IsCrossingAmong edges (pairs ++ (i, j) ∷ []) x y → Contains now (hot_at x y)
+    from (inl there) = (gains x y).1 (inl there)
+    from (inr is) =
+        ⊎_elim (λ before. (gains x y).1 (inr before)) (λ cross. (gains x y).1 (inl (held x y cross)))
+        (crossing-cases edges pairs i j x y one other first second is)
+
 -- one pair more, whose edges don't cross
 pub crossings-none : (edges : List Edge) (pairs : List (ℕ × ℕ)) (before now : List HotPoint) (i j : ℕ) (one other : Edge) → slice_get edges i ≡ Some one → slice_get edges j ≡ Some other → ((x y : ℤ) → ¬ (CrossAt one other x y))
     → GainsPoints (IsCrossingAmong edges pairs) before now → GainsPoints (IsCrossingAmong edges (pairs ++ (i, j) ∷ [])) before now
 crossings-none edges pairs before now i j one other first second none =
-    GainsPoints-same before now (IsCrossingAmong edges pairs) (IsCrossingAmong edges (pairs ++ (i, j) ∷ []))
-    (crossing-kept edges pairs i j)
-    (λ x y is. ⊎_elim (λ held. held) (λ cross. absurd (none x y cross)) (crossing-cases edges pairs i j x y one other first second is))
+    crossings-held edges pairs before now i j one other first second (λ x y cross. absurd (none x y cross))
+
+-- an end of an edge is a point of it
+end-of_edge : (edge : Edge) (x y : ℤ) → IsEnd edge x y → IsOf edge (whole x y)
+end-of_edge edge x y (inl (same_x, same_y)) =
+    subst (λ (a : ℤ). IsOf edge (whole a y)) (sym same_x) (subst (λ (b : ℤ). IsOf edge (whole edge.x0 b)) (sym same_y) (0, from_at edge))
+end-of_edge edge x y (inr (same_x, same_y)) =
+    subst (λ (a : ℤ). IsOf edge (whole a y)) (sym same_x) (subst (λ (b : ℤ). IsOf edge (whole edge.x1 b)) (sym same_y) (1, to_at edge))
+
+-- edges that share an end cross there, if they do
+pub CrossAt-end : (one other : Edge) (x y : ℤ) → ShareEnd one other → CrossAt one other x y → IsEnd one x y
+CrossAt-end one other x y (end_x, end_y, of_one, of_other) cross =
+    let there : CrossAt one other end_x end_y = (cross.0, (whole end_x end_y, end-of_edge one end_x end_y of_one, end-of_edge other end_x end_y of_other, RoundsTo-itself end_x end_y)) in
+    let (same_x, same_y) = CrossAt-unique one other end_x end_y x y there cross in
+    subst (λ (a : ℤ). IsEnd one a y) same_x (subst (λ (b : ℤ). IsEnd one end_x b) same_y of_one)
 
 -- one pair more, whose edges cross at a point that rounds to this one alone
 pub crossings-more : (edges : List Edge) (pairs : List (ℕ × ℕ)) (before now : List HotPoint) (i j : ℕ) (one other : Edge) → slice_get edges i ≡ Some one → slice_get edges j ≡ Some other → (px py : ℤ) → CrossAt one other px py
@@ -152,7 +197,7 @@ crossings-more edges pairs before now i j one other first second px py cross alo
 -- ---- the edges' hot points
 
 -- what stands at a place of a list is of it
-held-at : {X : Type 0} (items : List X) (i : ℕ) (x : X) → slice_get items i ≡ Some x → Contains items x
+pub held-at : {X : Type 0} (items : List X) (i : ℕ) (x : X) → slice_get items i ≡ Some x → Contains items x
 held-at items i x is = let within = slice_get_within items i x is in (i, within, same_Some _ _ (sym (slice_get-get_or items i x within) ∙ is))
 
 module _ (edges : List Edge) (pairs : List (ℕ × ℕ)) (met : AreMeetings edges pairs) where

@@ -6,10 +6,14 @@ use Rattle.std.proofs.lemmas.List.{get_or-drop, get_or-map, get_or-take, length-
 use Rattle.std.proofs.lemmas.Option.{same_Some}
 use Rattle.plane.specs.declared.edge.Edge.{Edge}
 use Rattle.plane.specs.declared.point.Point.{Point}
-use Rattle.overlay.specs.Snap.Chains.{IsChain, IsHot, Passes, Upto}
+use Rattle.overlay.specs.Snap.Chains.{IsChain, IsHot, Upto}
+use Rattle.overlay.specs.Snap.Hot.{PassesInside}
 use Rattle.overlay.specs.Snap.Offsets.{between, offsets, Extends}
-use Rattle.overlay.specs.Snap.Stops.{AreAt, AreStops, IsBefore, IsStop, point_of, stop_of}
+use Rattle.overlay.specs.Snap.Stops.{AreAt, AreStops, GoesToEnd, IsBefore, IsStop, point_of, stop_of}
+use Rattle.overlay.specs.Snap.Windings.{start_of}
 use Rattle.overlay.specs.declared.snap.stops.Stop.{Stop}
+use Rattle.overlay.proofs.ChainLemmas.Ends.{IsChain-ends}
+use Rattle.overlay.proofs.ChainLemmas.Hot.{held-at}
 use Rattle.overlay.proofs.ChainLemmas.Stops.{differ-before, point-of_stop, upto-before}
 
 -- ---- lists
@@ -89,32 +93,32 @@ module _ (edges : List Edge) (stops : List Stop) (are : AreStops edges stops) (p
   }
 
   module _ (edge : Edge) (stands : slice_get edges place ≡ Some edge) where
-    abbrev chain : List Point
-    chain = map (point_of edge) (between start end stops)
+    abbrev inner : List Point
+    inner = map (point_of edge) (between start end stops)
 
-    long : length chain ≡ end - start
+    long : length inner ≡ end - start
     long = length-map (between start end stops) (point_of edge) ∙ length-between start end stops run.rising run.inside
 
-    -- what stands in the chain at a place
-    chain-at : (k : ℕ) (d : Point) (e : Stop) → start + k < end → get_or chain k d ≡ point_of edge (get_or stops (start + k) e)
-    chain-at k d e within =
+    -- what stands among these points at a place
+    inner-at : (k : ℕ) (d : Point) (e : Stop) → start + k < end → get_or inner k d ≡ point_of edge (get_or stops (start + k) e)
+    inner-at k d e within =
         let inside : k < length (between start end stops) = omega (arith, within, length-between start end stops run.rising run.inside) in
         get_or-map (point_of edge) (between start end stops) k e d inside ∙ ap (point_of edge) (between-at start end k stops e within run.inside)
 
     -- a stop among these is one of the edge
-    is_stop : (k : ℕ) (e : Stop) → start ≤ k → k < end → (IsHot edges (point_of edge (get_or stops k e)).x (point_of edge (get_or stops k e)).y) × (Passes edge (point_of edge (get_or stops k e)).x (point_of edge (get_or stops k e)).y)
+    is_stop : (k : ℕ) (e : Stop) → start ≤ k → k < end → (IsHot edges (point_of edge (get_or stops k e)).x (point_of edge (get_or stops k e)).y) × (PassesInside edge (point_of edge (get_or stops k e)).x (point_of edge (get_or stops k e)).y)
     is_stop k e from within =
         let stop = get_or stops k e in
         let inside = run.inside in
         let is : IsStop edges stop = are.of k e (omega (arith, inside, within)) in
         let same : is.edge ≡ edge = same_Some _ _ (sym is.stands ∙ ap (slice_get edges) (run.at k e from within) ∙ stands) in
-        subst (λ (it : Edge). (IsHot edges (point_of it stop).x (point_of it stop).y) × (Passes it (point_of it stop).x (point_of it stop).y)) same (is.hot, is.passes)
+        subst (λ (it : Edge). (IsHot edges (point_of it stop).x (point_of it stop).y) × (PassesInside it (point_of it stop).x (point_of it stop).y)) same (is.hot, is.passes)
 
     abbrev some_stop : Stop
     some_stop = stop_of place edge (edge.x0) (edge.y0)
 
-    in_order : AllPairs (λ c d. Upto edge c.x c.y d.x d.y) chain
-    in_order i j d below within =
+    inner_in_order : AllPairs (λ c d. Upto edge c.x c.y d.x d.y) inner
+    inner_in_order i j d below within =
         let e = some_stop in
         let upto_end : start + j < end = omega (arith, within, long) in
         let upto_i : start + i < end = omega (arith, upto_end, below) in
@@ -124,11 +128,11 @@ module _ (edges : List Edge) (stops : List Stop) (are : AreStops edges stops) (p
         let place_one = run.at (start + i) e (omega arith) upto_i in
         let place_other = run.at (start + j) e (omega arith) upto_end in
         let before = are.in_order (start + i) (start + j) e (omega (arith, below)) (omega (arith, upto_end, inside)) in
-        subst₂ (λ (c d : Point). Upto edge c.x c.y d.x d.y) (sym (chain-at i d e upto_i)) (sym (chain-at j d e upto_end))
-        (upto-before edge one other (place_one ∙ sym place_other) before (is_stop (start + i) e (omega arith) upto_i).1 (is_stop (start + j) e (omega arith) upto_end).1)
+        subst₂ (λ (c d : Point). Upto edge c.x c.y d.x d.y) (sym (inner-at i d e upto_i)) (sym (inner-at j d e upto_end))
+        (upto-before edge one other (place_one ∙ sym place_other) before (is_stop (start + i) e (omega arith) upto_i).1.0 (is_stop (start + j) e (omega arith) upto_end).1.0)
 
-    once : AllPairs (λ c d. c ≢ d) chain
-    once i j d below within =
+    inner_once : AllPairs (λ c d. c ≢ d) inner
+    inner_once i j d below within =
         let e = some_stop in
         let upto_end : start + j < end = omega (arith, within, long) in
         let upto_i : start + i < end = omega (arith, upto_end, below) in
@@ -138,18 +142,18 @@ module _ (edges : List Edge) (stops : List Stop) (are : AreStops edges stops) (p
         let place_one = run.at (start + i) e (omega arith) upto_i in
         let place_other = run.at (start + j) e (omega arith) upto_end in
         let before = are.in_order (start + i) (start + j) e (omega (arith, below)) (omega (arith, upto_end, inside)) in
-        subst₂ (λ (c d : Point). c ≢ d) (sym (chain-at i d e upto_i)) (sym (chain-at j d e upto_end)) (differ-before edge one other (place_one ∙ sym place_other) before)
+        subst₂ (λ (c d : Point). c ≢ d) (sym (inner-at i d e upto_i)) (sym (inner-at j d e upto_end)) (differ-before edge one other (place_one ∙ sym place_other) before)
 
-    -- a point of the chain is hot, and the edge passes it
-    of_chain : (c : Point) → Contains chain c → IsHot edges c.x c.y × Passes edge c.x c.y
-    of_chain c (k, within, at) =
+    -- each of these points is hot, and the edge passes it between its ends
+    of_inner : (c : Point) → Contains inner c → IsHot edges c.x c.y × PassesInside edge c.x c.y
+    of_inner c (k, within, at) =
         let e = some_stop in
         let upto_end : start + k < end = omega (arith, within, long) in
-        subst (λ (p : Point). IsHot edges p.x p.y × Passes edge p.x p.y) (sym (chain-at k c e upto_end) ∙ at) (is_stop (start + k) e (omega arith) upto_end)
+        subst (λ (p : Point). IsHot edges p.x p.y × PassesInside edge p.x p.y) (sym (inner-at k c e upto_end) ∙ at) (is_stop (start + k) e (omega arith) upto_end)
 
-    -- and each such point is of it
-    in_chain : (c : Point) → IsHot edges c.x c.y × Passes edge c.x c.y → Contains chain c
-    in_chain c (is_hot, passed) =
+    -- and each such point is of them
+    in_inner : (c : Point) → IsHot edges c.x c.y × PassesInside edge c.x c.y → Contains inner c
+    in_inner c (is_hot, passed) =
         let stop = stop_of place edge c.x c.y in
         let (k, within, at) = are.each place edge c.x c.y stands is_hot passed in
         let here : (get_or stops k stop).place ≡ place = ap (λ (s : Stop). s.place) at in
@@ -162,12 +166,8 @@ module _ (edges : List Edge) (stops : List Stop) (are : AreStops edges stops) (p
           | inr later ↦ let above = behind k stop later within in absurd (omega (arith, above, here))
         ] in
         let whole : start + (k - start) ≡ k = omega (arith, from) in
-        (k - start, omega (arith, long, from, upto_end), chain-at (k - start) c stop (omega (arith, whole, upto_end)) ∙ ap (λ (n : ℕ). point_of edge (get_or stops n stop)) whole ∙ ap (point_of edge) at ∙ point-of_stop place edge c.x c.y)
+        (k - start, omega (arith, long, from, upto_end), inner-at (k - start) c stop (omega (arith, whole, upto_end)) ∙ ap (λ (n : ℕ). point_of edge (get_or stops n stop)) whole ∙ ap (point_of edge) at ∙ point-of_stop place edge c.x c.y)
 
-    -- the points of the edge's stops are its chain
-    pub IsChain-run : IsChain edges edge (map (point_of edge) (between start end stops))
-    IsChain-run = record {
-      in_order = in_order;
-      once = once;
-      exact = λ c. (of_chain c, in_chain c);
-    }
+    -- the edge's ends, and these points between them, are its chain
+    pub IsChain-run : (chain : List Point) → GoesToEnd edge (start_of edge ∷ map (point_of edge) (between start end stops)) chain → IsChain edges edge chain
+    IsChain-run = IsChain-ends edges edge (held-at edges place edge stands) inner inner_in_order inner_once of_inner in_inner

@@ -12,7 +12,7 @@ use Rattle.plane.specs.declared.edge.Edge.{Edge}
 use Rattle.plane.specs.declared.point.Point.{Point}
 use Rattle.plane.specs.Pairs.Pairs.{ArePairsBetween}
 use Rattle.overlay.specs.Snap.Chains.{IsHot, Passes, Upto, UptoOn}
-use Rattle.overlay.specs.Snap.Hot.{hot_at, AreHotPoints}
+use Rattle.overlay.specs.Snap.Hot.{hot_at, AreHotPoints, PassesInside}
 use Rattle.overlay.specs.Snap.Stops.{AreStops, IsBefore, IsStop, IsStopAt, point_of, stop_of, turned}
 use Rattle.overlay.specs.contracts.snap.stops.StopOrd.TheImpl.{ghosts as stop_order}
 use Rattle.overlay.specs.declared.snap.hot.HotPoint.{HotPoint}
@@ -94,12 +94,12 @@ differ-before edge one other same before is = go before
 -- ---- all stops
 
 module _ (edges : List Edge) (hot : List HotPoint) (passes : List (ℕ × ℕ)) (stops : List Stop)
-    (are_hot : AreHotPoints edges hot) (pairs : ArePairsBetween (λ (edge : Edge) (point : HotPoint). Passes edge point.x point.y) edges hot passes) (zip : AllZip (IsStopAt edges hot) passes stops) where
+    (are_hot : AreHotPoints edges hot) (pairs : ArePairsBetween (λ (edge : Edge) (point : HotPoint). PassesInside edge point.x point.y) edges hot passes) (zip : AllZip (IsStopAt edges hot) passes stops) where
   size : length stops ≡ length passes
   size = AllZip-length (IsStopAt edges hot) passes stops zip
 
   -- each hot point that an edge passes has its stop
-  listed : (place : ℕ) (edge : Edge) (x y : ℤ) → slice_get edges place ≡ Some edge → IsHot edges x y → Passes edge x y → Contains stops (stop_of place edge x y)
+  listed : (place : ℕ) (edge : Edge) (x y : ℤ) → slice_get edges place ≡ Some edge → IsHot edges x y → PassesInside edge x y → Contains stops (stop_of place edge x y)
   listed place edge x y stands is_hot passed =
       let (j, within, at) = (are_hot.exact x y).1 is_hot in
       let second : slice_get hot j ≡ Some (hot_at x y) = slice_get-get_or hot j (hot_at x y) within ∙ ap Some at in
@@ -122,8 +122,8 @@ module _ (edges : List Edge) (hot : List HotPoint) (passes : List (ℕ × ℕ)) 
       let between = (pairs.exact pair.0 pair.1).0 (Contains-get_or passes k (0, 0) inside) in
       let edge_is : between.one ≡ is.edge = same_Some _ _ (sym between.first ∙ is.first) in
       let point_is : between.other ≡ is.point = same_Some _ _ (sym between.second ∙ is.second) in
-      let passed : Passes is.edge is.point.x is.point.y =
-      subst (λ (e : Edge). Passes e is.point.x is.point.y) edge_is (subst (λ (p : HotPoint). Passes between.one p.x p.y) point_is between.meet) in
+      let passed : PassesInside is.edge is.point.x is.point.y =
+      subst (λ (e : Edge). PassesInside e is.point.x is.point.y) edge_is (subst (λ (p : HotPoint). PassesInside between.one p.x p.y) point_is between.meet) in
       let within_hot = slice_get_within hot pair.1 is.point is.second in
       let is_hot : IsHot edges is.point.x is.point.y = (are_hot.exact is.point.x is.point.y).0 (pair.1, within_hot, same_Some _ _ (sym (slice_get-get_or hot pair.1 is.point within_hot) ∙ is.second)) in
       let place_is : stop.place ≡ pair.0 = ap (λ (s : Stop). s.place) is.is in
@@ -132,7 +132,7 @@ module _ (edges : List Edge) (hot : List HotPoint) (passes : List (ℕ × ℕ)) 
         edge = is.edge;
         stands = ap (slice_get edges) place_is ∙ is.first;
         hot = subst (λ (p : Point). IsHot edges p.x p.y) (sym point) is_hot;
-        passes = subst (λ (p : Point). Passes is.edge p.x p.y) (sym point) passed;
+        passes = subst (λ (p : Point). PassesInside is.edge p.x p.y) (sym point) passed;
       }
 
   -- one hot point stands at one place

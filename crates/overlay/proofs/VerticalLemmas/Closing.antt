@@ -1,12 +1,11 @@
 -- The vertical edges between next ends close the edges that bound a region.
-use Rattle.std.proofs.Common.{Bool, List, [], ◌∷◌, ◌++◌, true, false, cond, inl, inr, ℕ, ℤ, pos, suc, ◌+◌, ◌-◌, ◌<◌, ◌≤◌, ◌+ℤ◌, ◌-ℤ◌, ◌*ℤ◌, ◌<ℤ◌, ◌≤ℤ◌, ◌≡◌, ◌≢◌, ◌⊎◌, refl, sym, ap, ap₂, ◌∙◌, subst, arith}
-use Rattle.std.specs.List.{All, AllPairs, Contains, count_by, flat_map}
+use Rattle.std.proofs.Common.{Bool, List, [], ◌∷◌, ◌++◌, true, inl, inr, ℕ, ℤ, pos, suc, ◌<◌, ◌≤◌, ◌+ℤ◌, ◌-ℤ◌, ◌*ℤ◌, ◌<ℤ◌, ◌≤ℤ◌, ◌≡◌, ◌≢◌, ◌⊎◌, refl, sym, ap, ap₂, ◌∙◌, subst, arith}
+use Rattle.std.specs.List.{All, AllPairs, Contains, flat_map}
 use Rattle.std.specs.List.Sorted.{IsPermutation, IsSorted}
 use Rattle.std.proofs.lemmas.Int.{by_lt_z, clamps, ints}
 use Rattle.std.proofs.lemmas.List.Elements.{All-append, All-cons, All-contains, All-head, All-tail, All-weaker, Contains-append_cases, Contains-append_left}
 use Rattle.std.proofs.lemmas.List.Kept.{AllPairs-cons}
 use Rattle.std.proofs.lemmas.List.Sorted.{All-permutation, Contains-permutation}
-use Rattle.std.proofs.lemmas.List.Sums.{sum_by-cons}
 use Rattle.plane.specs.declared.edge.Edge.{Edge}
 use Rattle.plane.specs.declared.point.Point.{Point}
 use Rattle.plane.specs.Meet.Edges.{IsOf, RationalPoint}
@@ -16,41 +15,21 @@ use Rattle.plane.proofs.MeetLemmas.Identities.{identity, minus, number, plus, sc
 use Rattle.overlay.specs.Fill.Filled.{AreDistinct, AreNoded, IsEndOfSloped, IsNextInColumn}
 use Rattle.overlay.specs.Fill.Verticals.{AreVerticalsOf, BoundRegion, before_all, both_ends, ending, point_of_end, starting, verticals_between}
 use Rattle.overlay.specs.Snap.Meeting.{HaveSameEnds, MeetAtEnds}
-use Rattle.overlay.specs.Snap.Windings.{IsClosed, count, edge_between, end_of, reversed, start_of, winding}
+use Rattle.overlay.specs.Snap.Windings.{IsClosed, edge_between, end_of, reversed, start_of, winding}
 use Rattle.overlay.specs.contracts.fill.verticals.EndOrd.TheImpl.{ghosts as end_order}
 use Rattle.overlay.specs.declared.fill.verticals.End.{End}
 use Rattle.overlay.proofs.SnapLemmas.Numbers.{n_of, natural}
 use Rattle.overlay.proofs.SnapLemmas.Reversed.{IsOf-reversed}
 use Rattle.overlay.proofs.SnapLemmas.Windings.{back, winding-append}
-use Rattle.overlay.proofs.VerticalLemmas.Columns.{flow, is_upto}
-use Rattle.overlay.proofs.VerticalLemmas.Crossed.{IsEnd-x, IsOf-column, SameEnds-sym, at_column, crossed}
+use Rattle.overlay.proofs.VerticalLemmas.Flows.{flow, flow-append, flow-counts, is_upto}
+use Rattle.overlay.proofs.VerticalLemmas.Crossed.{IsEnd-x, IsOf-column, IsOf-turned, SameEnds-sym, at_column, crossed, inside-no_end}
 use Rattle.overlay.proofs.VerticalLemmas.Linked.{AreLinks, IsLink, all-links}
 use Rattle.overlay.proofs.VerticalLemmas.Order.{Before, Contains-both, Has, Has-from, Rises-sorted, Upto, changed, changed-edges, changed-permutation, every-all, upto_point}
+use Rattle.overlay.proofs.VerticalLemmas.Upright.{Upright, Along, mean_from, mean_upto, along, low-end, high-end, upright-same}
+use Rattle.overlay.proofs.SnapLemmas.Along.{point_at}
 use Rattle.overlay.proofs.VerticalLemmas.Region.{IsEndAt, flow-from, flow-top, flow-upto}
 
-abbrev pub point_at : ℤ → ℤ → Point
-point_at x y = record { x = x; y = y }
-
 -- ---- lists
-
-flow-append : (test : Point → Bool) (xs ys : List Edge) → flow test (xs ++ ys) ≡ (flow test xs +ℤ flow test ys)
-flow-append test [] ys = omega (arith, ints)
-flow-append test (x ∷ xs) ys = let rest = flow-append test xs ys in omega (arith, ints, rest)
-
--- as many end as start where they carry nothing
-flow-counts : (test : Point → Bool) (edges : List Edge) → flow test edges ≡ (pos (count_by (λ edge. test (end_of edge)) edges) -ℤ pos (count_by (λ edge. test (start_of edge)) edges))
-flow-counts test [] = refl
-flow-counts test (edge ∷ edges) =
-    let rest = flow-counts test edges in
-    let ends = sum_by-cons (λ (e : Edge). cond (test (end_of e)) 1 0) edge edges in
-    let starts = sum_by-cons (λ (e : Edge). cond (test (start_of e)) 1 0) edge edges in
-    let one = counts (test (end_of edge)) in
-    let other = counts (test (start_of edge)) in
-    omega (arith, ints, rest, ends, starts, one, other)
-  where
-    counts : (t : Bool) → count t ≡ pos (cond t 1 0)
-    counts true = refl
-    counts false = refl
 
 AllPairs-append : (R : Edge → Edge → Type 0) (xs ys : List Edge) → AllPairs R xs → AllPairs R ys → All (λ x. All (R x) ys) xs → AllPairs R (xs ++ ys)
 AllPairs-append R [] ys first second across = second
@@ -58,79 +37,6 @@ AllPairs-append R (x ∷ xs) ys first second across =
     AllPairs-cons R x (xs ++ ys)
     (All-append (R x) xs ys (λ i d within. first 0 (suc i) d (omega arith) (omega (arith, within))) (All-head (λ a. All (R a) ys) x xs across))
     (AllPairs-append R xs ys (λ i j d below within. first (suc i) (suc j) d (omega (arith, below)) (omega (arith, within))) second (All-tail (λ a. All (R a) ys) x xs across))
-
--- ---- an edge along a column
-
--- It goes up or down between two heights of the column x.
-record Upright (x low high : ℤ) (edge : Edge) : Type 0 where
-  way : (edge ≡ edge_between (point_at x low) (point_at x high)) ⊎ (edge ≡ edge_between (point_at x high) (point_at x low))
-
--- where the point of it is
-record Along (x low high : ℤ) (point : RationalPoint) : Type 0 where
-  at : point.x ≡ (pos point.n *ℤ x)
-  from : (pos point.n *ℤ low) ≤ℤ point.y
-  upto : point.y ≤ℤ (pos point.n *ℤ high)
-
-mean_from : (n a : ℕ) (low high : ℤ) → low ≤ℤ high → (pos n *ℤ low) ≤ℤ ((pos n *ℤ low) +ℤ (pos a *ℤ (high -ℤ low)))
-mean_from n a low high is = let more = scaled a (pos 0) (high -ℤ low) (omega (arith, ints, is)) in let none : (pos a *ℤ pos 0) ≡ pos 0 = identity (times (n_of a) (n_of 0)) (n_of 0) (omega arith) in omega (arith, ints, more, none)
-
-mean_upto : (n a : ℕ) (low high : ℤ) → a ≤ n → low ≤ℤ high → ((pos n *ℤ low) +ℤ (pos a *ℤ (high -ℤ low))) ≤ℤ (pos n *ℤ high)
-mean_upto n a low high share is =
-    let more = scaled (n - a) (pos 0) (high -ℤ low) (omega (arith, ints, is)) in
-    let none : (pos (n - a) *ℤ pos 0) ≡ pos 0 = identity (times (n_of (n - a)) (n_of 0)) (n_of 0) (omega arith) in
-    let whole : (n - a) + a ≡ n = omega (arith, share) in
-    let all : (pos n *ℤ high) ≡ (((pos n *ℤ low) +ℤ (pos a *ℤ (high -ℤ low))) +ℤ (pos (n - a) *ℤ (high -ℤ low))) =
-    subst (λ (m : ℕ). (pos m *ℤ high) ≡ (((pos m *ℤ low) +ℤ (pos a *ℤ (high -ℤ low))) +ℤ (pos (n - a) *ℤ (high -ℤ low)))) whole
-    (identity (times (n_of ((n - a) + a)) (number high)) (plus (plus (times (n_of ((n - a) + a)) (number low)) (times (n_of a) (minus (number high) (number low)))) (times (n_of (n - a)) (minus (number high) (number low)))) (omega arith)) in
-    omega (arith, ints, more, none, all)
-
-level_x : (n a : ℕ) (x : ℤ) → ((pos n *ℤ x) +ℤ (pos a *ℤ (x -ℤ x))) ≡ (pos n *ℤ x)
-level_x n a x = identity (plus (times (n_of n) (number x)) (times (n_of a) (minus (number x) (number x)))) (times (n_of n) (number x)) (omega arith)
-
-along-up : (x low high : ℤ) (point : RationalPoint) → low ≤ℤ high → IsOf (edge_between (point_at x low) (point_at x high)) point → Along x low high point
-along-up x low high point rising (a, at) =
-    let from = mean_from point.n a low high rising in
-    let upto = mean_upto point.n a low high at.share rising in
-    let y = at.y in record {
-      at = at.x ∙ level_x point.n a x;
-      from = omega (arith, ints, from, y);
-      upto = omega (arith, ints, upto, y);
-    }
-
-along : (x low high : ℤ) (edge : Edge) (point : RationalPoint) → low ≤ℤ high → Upright x low high edge → IsOf edge point → Along x low high point
-along x low high edge point rising is of = go is.way
-  where
-    go : (edge ≡ edge_between (point_at x low) (point_at x high)) ⊎ (edge ≡ edge_between (point_at x high) (point_at x low)) → Along x low high point
-    go (inl same) = along-up x low high point rising (subst (λ (e : Edge). IsOf e point) same of)
-    go (inr same) = along-up x low high point rising (IsOf-reversed (edge_between (point_at x high) (point_at x low)) point (subst (λ (e : Edge). IsOf e point) same of))
-
--- its ends
-low-end : (x low high : ℤ) (edge : Edge) (point : RationalPoint) → Upright x low high edge → point.x ≡ (pos point.n *ℤ x) → point.y ≡ (pos point.n *ℤ low) → IsEnd edge point
-low-end x low high edge point is at_x at_y = go is.way
-  where
-    go : (edge ≡ edge_between (point_at x low) (point_at x high)) ⊎ (edge ≡ edge_between (point_at x high) (point_at x low)) → IsEnd edge point
-    go (inl same) = subst (λ (e : Edge). IsEnd e point) (sym same) (inl (record { x_is = at_x; y_is = at_y }))
-    go (inr same) = subst (λ (e : Edge). IsEnd e point) (sym same) (inr (record { x_is = at_x; y_is = at_y }))
-
-high-end : (x low high : ℤ) (edge : Edge) (point : RationalPoint) → Upright x low high edge → point.x ≡ (pos point.n *ℤ x) → point.y ≡ (pos point.n *ℤ high) → IsEnd edge point
-high-end x low high edge point is at_x at_y = go is.way
-  where
-    go : (edge ≡ edge_between (point_at x low) (point_at x high)) ⊎ (edge ≡ edge_between (point_at x high) (point_at x low)) → IsEnd edge point
-    go (inl same) = subst (λ (e : Edge). IsEnd e point) (sym same) (inr (record { x_is = at_x; y_is = at_y }))
-    go (inr same) = subst (λ (e : Edge). IsEnd e point) (sym same) (inl (record { x_is = at_x; y_is = at_y }))
-
-upright-same : (x low high z other_low other_high : ℤ) (edge other : Edge) → Upright x low high edge → Upright z other_low other_high other → x ≡ z → low ≡ other_low → high ≡ other_high → HaveSameEnds edge other
-upright-same x low high z other_low other_high edge other is other_is at first second = go is.way other_is.way
-  where
-    up_same : edge_between (point_at x low) (point_at x high) ≡ edge_between (point_at z other_low) (point_at z other_high)
-    up_same = ap₂ (λ p q. edge_between p q) (ap₂ point_at at first) (ap₂ point_at at second)
-
-    go : (edge ≡ edge_between (point_at x low) (point_at x high)) ⊎ (edge ≡ edge_between (point_at x high) (point_at x low))
-        → (other ≡ edge_between (point_at z other_low) (point_at z other_high)) ⊎ (other ≡ edge_between (point_at z other_high) (point_at z other_low)) → HaveSameEnds edge other
-    go (inl a) (inl b) = inl (a ∙ up_same ∙ sym b)
-    go (inl a) (inr b) = inr (a ∙ up_same ∙ sym (ap reversed b))
-    go (inr a) (inl b) = inr (a ∙ ap reversed up_same ∙ sym (ap reversed b))
-    go (inr a) (inr b) = inl (a ∙ ap reversed up_same ∙ sym b)
 
 -- ---- the links of a bound region
 
@@ -208,10 +114,6 @@ module _ (sloped : List Edge) (region : BoundRegion sloped) where
               → (edge ≡ edge_between (point_at is.low.x is.low.y) (point_at is.low.x is.high.y)) ⊎ (edge ≡ edge_between (point_at is.low.x is.high.y) (point_at is.low.x is.low.y))
           turn high_is (inl (one, way)) = inl (way ∙ ap (λ (p : Point). edge_between is.low p) high_is)
           turn high_is (inr (one, way)) = inr (way ∙ ap (λ (p : Point). edge_between p is.low) high_is)
-
-  -- a whole height between two, by a multiple
-  same_height : (n : ℕ) (a b : ℤ) → 0 < n → (pos n *ℤ a) ≤ℤ (pos n *ℤ b) → a ≤ℤ b
-  same_height n a b some is = unscaled n a b some is
 
   -- two links meet only at common ends, or are the same
   links-noded : (one other : Edge) (point : RationalPoint) → Stands one → Stands other → IsOf one point → IsOf other point → MeetAtEnds one other point
@@ -361,13 +263,7 @@ module _ (sloped : List Edge) (region : BoundRegion sloped) where
 
     module _ (behind : r.x0 <ℤ s.x) (before : s.x <ℤ r.x1) (w : ℕ) (width : run r ≡ pos w) where
       off : (s.x ≡ g.x0) ⊎ (s.x ≡ g.x1) → ⊥
-      off is = go turned is
-        where
-          go : HaveSameEnds r g → (s.x ≡ g.x0) ⊎ (s.x ≡ g.x1) → ⊥
-          go (inl same) (inl is) = let at = ap (λ (e : Edge). e.x0) same in omega (arith, ints, is, at, behind)
-          go (inl same) (inr is) = let at = ap (λ (e : Edge). e.x1) same in omega (arith, ints, is, at, before)
-          go (inr same) (inl is) = let at = ap (λ (e : Edge). e.x1) same in omega (arith, ints, is, at, before)
-          go (inr same) (inr is) = let at = ap (λ (e : Edge). e.x0) same in omega (arith, ints, is, at, behind)
+      off = inside-no_end r g s.x turned behind before
 
       -- r passes no end of the column
       off_ends : (y : ℤ) → IsEndHere (point_at s.x y) → (y *ℤ run r) ≢ height_by_run r s.x
@@ -379,12 +275,8 @@ module _ (sloped : List Edge) (region : BoundRegion sloped) where
           let once : (pos 1 *ℤ height_by_run r s.x) ≡ height_by_run r s.x = identity (times (n_of 1) (number (height_by_run r s.x))) (number (height_by_run r s.x)) (omega arith) in
           let turn : (y *ℤ run r) ≡ (pos w *ℤ y) = ap (λ z. y *ℤ z) width ∙ identity (times (number y) (n_of w)) (times (n_of w) (number y)) (omega arith) in
           let of_r : IsOf r q = IsOf-column r s.x (pos w *ℤ y) 1 w way.k w some width way.is (omega (arith, ints, way_is, width, before)) (omega arith) (omega (arith, ints, way_is, width, before)) (omega (arith, ints, once, turn, passes)) in
-          go some (region.noded f g q f_among among (of_f f_end some) (of_g turned some of_r))
+          go some (region.noded f g q f_among among (of_f f_end some) (IsOf-turned r g q turned of_r))
         where
-          of_g : HaveSameEnds r g → (some : 0 < w) → IsOf r (at_column w s.x (pos w *ℤ y) some) → IsOf g (at_column w s.x (pos w *ℤ y) some)
-          of_g (inl same) some of = subst (λ (e : Edge). IsOf e (at_column w s.x (pos w *ℤ y) some)) same of
-          of_g (inr same) some of = subst (λ (e : Edge). IsOf e (at_column w s.x (pos w *ℤ y) some)) (ap reversed same) (IsOf-reversed r (at_column w s.x (pos w *ℤ y) some) of)
-
           first_share : (c z0 z1 : ℤ) → c ≡ z0 → (pos w *ℤ c) ≡ ((pos w *ℤ z0) +ℤ (pos 0 *ℤ (z1 -ℤ z0)))
           first_share c z0 z1 is = ap (λ z. pos w *ℤ z) is ∙ identity (times (n_of w) (number z0)) (plus (times (n_of w) (number z0)) (times (n_of 0) (minus (number z1) (number z0)))) (omega arith)
 

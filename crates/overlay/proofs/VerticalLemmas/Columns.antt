@@ -1,55 +1,17 @@
 -- What ends upto a point of a column, less what starts, by the winding numbers left and right of it.
-use Rattle.std.proofs.Common.{Bool, List, [], ◌∷◌, true, false, cond, ℕ, ℤ, pos, negsuc, ◌+◌, ◌*◌, ◌<◌, ◌≤◌, ◌+ℤ◌, ◌-ℤ◌, ◌*ℤ◌, ◌<ℤ◌, ◌≤ℤ◌, ◌≡◌, ◌≢◌, refl, sym, ap, ap₂, ◌∙◌, arith}
+use Rattle.std.proofs.Common.{Bool, List, [], ◌∷◌, true, false, ℕ, ℤ, pos, negsuc, ◌+◌, ◌*◌, ◌<◌, ◌≤◌, ◌+ℤ◌, ◌-ℤ◌, ◌*ℤ◌, ◌<ℤ◌, ◌≤ℤ◌, ◌≡◌, ◌≢◌, refl, sym, ap, ap₂, ◌∙◌, arith}
 use Rattle.std.proofs.Math.Nat.{mul-pos}
 use Rattle.std.proofs.lemmas.Int.{by_lt_z, ints}
-use Rattle.std.specs.Bool.{⊤}
-use Rattle.std.specs.Int.Signed.{lt_z}
 use Rattle.std.specs.Prelude.{int_le}
 use borrow.Author.Differences.{down, up}
 use Rattle.plane.specs.declared.edge.Edge.{Edge}
-use Rattle.plane.specs.declared.point.Point.{Point}
 use Rattle.plane.specs.Meet.Edges.{RationalPoint}
 use Rattle.plane.specs.SweepLine.Heights.{run, rise, height_by_run}
 use Rattle.plane.proofs.MeetLemmas.Identities.{identity, minus, number, plus, scaled, times, unscaled}
 use Rattle.overlay.specs.Snap.Windings.{count, end_of, height_at, is_low, reversed, start_of, under, winding}
 use Rattle.overlay.proofs.SnapLemmas.Numbers.{n_of, natural, same_test}
+use Rattle.overlay.proofs.VerticalLemmas.Flows.{Every, carried, flow, is_upto, upto-at, upto-before, upto-behind}
 use Rattle.overlay.proofs.SnapLemmas.Windings.{after, before, counted, under-left, under-right, within}
-
--- ---- ends upto a height y / n of a column x: those of columns before it, and those of it that aren't higher
-
-abbrev pub is_upto : ℤ → ℕ → ℤ → Point → Bool
-is_upto x n y point = cond (lt_z point.x x) true (cond (lt_z x point.x) false (int_le (pos n *ℤ point.y) y))
-
-pub upto-before : (x : ℤ) (n : ℕ) (y : ℤ) (point : Point) → point.x <ℤ x → is_upto x n y point ≡ true
-upto-before x n y point is = go (lt_z point.x x) refl
-  where
-    go : (t : Bool) → lt_z point.x x ≡ t → cond t true (cond (lt_z x point.x) false (int_le (pos n *ℤ point.y) y)) ≡ true
-    go true e = refl
-    go false e = absurd (omega (arith, ints, e, is))
-
-pub upto-behind : (x : ℤ) (n : ℕ) (y : ℤ) (point : Point) → x <ℤ point.x → is_upto x n y point ≡ false
-upto-behind x n y point is = go (lt_z point.x x) (lt_z x point.x) refl refl
-  where
-    go : (t s : Bool) → lt_z point.x x ≡ t → lt_z x point.x ≡ s → cond t true (cond s false (int_le (pos n *ℤ point.y) y)) ≡ false
-    go true s e f = absurd (omega (arith, ints, e, is))
-    go false true e f = refl
-    go false false e f = absurd (omega (arith, ints, f, is))
-
-pub upto-at : (x : ℤ) (n : ℕ) (y : ℤ) (point : Point) → point.x ≡ x → is_upto x n y point ≡ int_le (pos n *ℤ point.y) y
-upto-at x n y point is = go (lt_z point.x x) (lt_z x point.x) refl refl
-  where
-    go : (t s : Bool) → lt_z point.x x ≡ t → lt_z x point.x ≡ s → cond t true (cond s false (int_le (pos n *ℤ point.y) y)) ≡ int_le (pos n *ℤ point.y) y
-    go true s e f = absurd (omega (arith, ints, e, is))
-    go false true e f = absurd (omega (arith, ints, f, is))
-    go false false e f = refl
-
--- what an edge carries into a set of points: 1 where it ends there, less 1 where it starts there
-abbrev pub carried : (Point → Bool) → Edge → ℤ
-carried test edge = count (test (end_of edge)) -ℤ count (test (start_of edge))
-
-abbrev pub flow : (Point → Bool) → List Edge → ℤ
-flow test [] = pos 0
-flow test (edge ∷ edges) = carried test edge +ℤ flow test edges
 
 -- ---- how large edges are
 
@@ -291,9 +253,6 @@ abbrev pub Balances : (k : ℕ) → Edge → ℤ → (n : ℕ) → ℤ → 0 < n
 Balances k edge x n y some =
     carried (is_upto x n y) edge ≡ ((counted edge (left_of k x n y some) -ℤ counted edge (right_of x n y some)) -ℤ counted edge (left_of k x 1 (pos k) one_some))
 
-sum_up : (s t a b c : ℤ) (p q : ℤ) → p ≡ s → q ≡ t → (s -ℤ t) ≡ ((a -ℤ b) -ℤ c) → (p -ℤ q) ≡ ((a -ℤ b) -ℤ c)
-sum_up s t a b c p q first second is = omega (arith, ints, first, second, is)
-
 module _ (k : ℕ) (edge : Edge) (x : ℤ) (n : ℕ) (y : ℤ) (some : 0 < n) (small : size edge ≤ k) (onwards : edge.x0 <ℤ edge.x1) where
   behind_all : x <ℤ edge.x0 → Balances k edge x n y some
   behind_all early =
@@ -353,11 +312,6 @@ module _ (k : ℕ) (edge : Edge) (x : ℤ) (n : ℕ) (y : ℤ) (some : 0 < n) (s
 
 -- ---- edges that aren't vertical
 
--- the same edges, told from one to the next
-abbrev pub Every : (Edge → Type 0) → List Edge → Type 0
-Every P [] = ⊤
-Every P (edge ∷ edges) = P edge × Every P edges
-
 -- the points right and left of the column, and far up on the left
 abbrev pub Flows : (k : ℕ) → (RationalPoint → ℤ) → ℤ → (n : ℕ) → ℤ → 0 < n → ℤ → Type 0
 Flows k wind x n y some sum = sum ≡ ((wind (left_of k x n y some) -ℤ wind (right_of x n y some)) -ℤ wind (left_of k x 1 (pos k) one_some))
@@ -387,9 +341,3 @@ flow-windings k (edge ∷ edges) x n y some small (slant, slanted) =
     let first = edge-flow k edge x n y some (omega (arith, small)) slant in
     let rest = flow-windings k edges x n y some (omega (arith, small)) slanted in
     omega (arith, ints, first, rest)
-
--- tests that agree at all ends carry the same
-pub flow-agree : (test other : Point → Bool) (edges : List Edge) → Every (λ edge. (test (start_of edge) ≡ other (start_of edge)) × (test (end_of edge) ≡ other (end_of edge))) edges → flow test edges ≡ flow other edges
-flow-agree test other [] agree = refl
-flow-agree test other (edge ∷ edges) ((starts, ends), agree) =
-    ap₂ (λ (a b : ℤ). a +ℤ b) (ap₂ (λ (s t : Bool). count s -ℤ count t) ends starts) (flow-agree test other edges agree)

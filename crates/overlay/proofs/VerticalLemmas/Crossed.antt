@@ -17,12 +17,25 @@ use Rattle.overlay.specs.Snap.Windings.{count, reversed, under, winding}
 use Rattle.overlay.proofs.SnapLemmas.Numbers.{n_of, natural, same_test}
 use Rattle.overlay.proofs.SnapLemmas.Reversed.{IsOf-reversed}
 use Rattle.overlay.proofs.SnapLemmas.Windings.{counted, under-left, under-right}
-use Rattle.overlay.proofs.VerticalLemmas.Columns.{flow, is_lower, is_upto, left_of, next_times, right-none, right-over, right-within, right_of, size, size-reversed, sizes, upto_size}
-use Rattle.overlay.proofs.VerticalLemmas.Region.{IsEndAt, bits, column-agree, flow-is, k, size-among}
+use Rattle.overlay.proofs.VerticalLemmas.Columns.{is_lower, left_of, next_times, right-none, right-over, right-within, right_of, size, size-reversed, sizes, upto_size}
+use Rattle.overlay.proofs.VerticalLemmas.Flows.{flow, is_upto}
+use Rattle.overlay.proofs.VerticalLemmas.Region.{IsEndAt, bits, column-agree, extent, flow-is, size-among}
 
 pub SameEnds-sym : (one other : Edge) → HaveSameEnds one other → HaveSameEnds other one
 SameEnds-sym one other (inl is) = inl (sym is)
 SameEnds-sym one other (inr is) = inr (sym (ap reversed is))
+
+-- edges with the same ends have the same points
+pub IsOf-turned : (one other : Edge) (point : RationalPoint) → HaveSameEnds one other → IsOf one point → IsOf other point
+IsOf-turned one other point (inl same) of = subst (λ (e : Edge). IsOf e point) same of
+IsOf-turned one other point (inr same) of = subst (λ (e : Edge). IsOf e point) (ap reversed same) (IsOf-reversed one point of)
+
+-- an x strictly inside an edge that goes rightwards is that of no end of it, whichever way it is turned
+pub inside-no_end : (r g : Edge) (x : ℤ) → HaveSameEnds r g → r.x0 <ℤ x → x <ℤ r.x1 → (x ≡ g.x0) ⊎ (x ≡ g.x1) → ⊥
+inside-no_end r g x (inl same) from upto (inl is) = let at = ap (λ (e : Edge). e.x0) same in omega (arith, ints, is, at, from)
+inside-no_end r g x (inl same) from upto (inr is) = let at = ap (λ (e : Edge). e.x1) same in omega (arith, ints, is, at, upto)
+inside-no_end r g x (inr same) from upto (inl is) = let at = ap (λ (e : Edge). e.x1) same in omega (arith, ints, is, at, upto)
+inside-no_end r g x (inr same) from upto (inr is) = let at = ap (λ (e : Edge). e.x0) same in omega (arith, ints, is, at, from)
 
 -- ---- the point of an edge at a whole x of it
 
@@ -113,28 +126,6 @@ module _ (sloped : List Edge) (region : BoundRegion sloped) (x : ℤ) (g r : Edg
   abbrev low : ℤ
   low = high -ℤ pos 1
 
-  -- the column isn't that of an end
-  off_start : x ≢ g.x0
-  off_start is = go turned
-    where
-      go : ¬ (HaveSameEnds r g)
-      go (inl same) = let at = ap (λ (e : Edge). e.x0) same in omega (arith, ints, from, at, is)
-      go (inr same) = let at = ap (λ (e : Edge). e.x1) same in omega (arith, ints, upto, at, is)
-
-  off_end : x ≢ g.x1
-  off_end is = go turned
-    where
-      go : ¬ (HaveSameEnds r g)
-      go (inl same) = let at = ap (λ (e : Edge). e.x1) same in omega (arith, ints, upto, at, is)
-      go (inr same) = let at = ap (λ (e : Edge). e.x0) same in omega (arith, ints, from, at, is)
-
-  of_g : (point : RationalPoint) → IsOf r point → IsOf g point
-  of_g point of = go turned
-    where
-      go : HaveSameEnds r g → IsOf g point
-      go (inl same) = subst (λ (e : Edge). IsOf e point) same of
-      go (inr same) = subst (λ (e : Edge). IsOf e point) (ap reversed same) (IsOf-reversed r point of)
-
   -- an edge that is as high there is the same
   level-same : (edge e : Edge) (v : ℕ) → Contains sloped edge → HaveSameEnds e edge → run e ≡ pos v → e.x0 ≤ℤ x → x <ℤ e.x1 → (pos w *ℤ height_by_run e x) ≡ (pos v *ℤ h) → HaveSameEnds edge g
   level-same edge e v other_among other_turned other_width e_from e_upto level =
@@ -150,18 +141,11 @@ module _ (sloped : List Edge) (region : BoundRegion sloped) (x : ℤ) (g r : Edg
       let other_share = mul-le_left w other_inside in
       let of : IsOf r point = IsOf-column r x (pos v *ℤ h) v w behind.k (v * w) some width behind_is inside refl share refl in
       let other_of : IsOf e point = IsOf-column e x (pos v *ℤ h) w v other_behind.k (v * w) some other_width other_is other_inside (omega arith) (omega (arith, other_share)) (sym level) in
-      elim (region.noded edge g point other_among among (of_edge other_turned point other_of) (of_g point of)) [
-        | inl ends ↦ elim (IsEnd-x g (v * w) x (pos v *ℤ h) some ends.1) [
-          | inl is ↦ absurd (off_start is)
-          | inr is ↦ absurd (off_end is)
-        ]
+      elim (region.noded edge g point other_among among (IsOf-turned e edge point other_turned other_of) (IsOf-turned r g point turned of)) [
+        | inl ends ↦ absurd (inside-no_end r g x turned from upto (IsEnd-x g (v * w) x (pos v *ℤ h) some ends.1))
         | inr same ↦ same
       ]
     where
-      of_edge : HaveSameEnds e edge → (point : RationalPoint) → IsOf e point → IsOf edge point
-      of_edge (inl same) point of = subst (λ (a : Edge). IsOf a point) same of
-      of_edge (inr same) point of = subst (λ (a : Edge). IsOf a point) (ap reversed same) (IsOf-reversed e point of)
-
       mul-le_left : (a : ℕ) {b c : ℕ} → b ≤ c → a * b ≤ a * c
       mul-le_left a is = mul-le-mul_left a is
 
@@ -290,8 +274,8 @@ module _ (sloped : List Edge) (region : BoundRegion sloped) (x : ℤ) (g r : Edg
       let same_low = column-agree sloped region x 1 n y low (λ point end at. agree_low point.y (apart point end at)) in
       let sum_high = flow-is sloped region x n high many in
       let sum_low = flow-is sloped region x n low many in
-      let l = left_of (k sloped region) x n high many in
-      let l_low = left_of (k sloped region) x n low many in
+      let l = left_of (extent sloped region) x n high many in
+      let l_low = left_of (extent sloped region) x n low many in
       let a = bits (winding sloped l) (region.winds l) in
       let b = bits (winding sloped l_low) (region.winds l_low) in
       let c = bits (winding sloped above) (region.winds above) in

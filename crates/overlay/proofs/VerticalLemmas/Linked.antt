@@ -14,7 +14,8 @@ use Rattle.overlay.specs.Fill.Verticals.{before_all, point_of_end, vertical_betw
 use Rattle.overlay.specs.declared.fill.verticals.End.{End}
 use Rattle.overlay.specs.Snap.Meeting.{HaveSameEnds}
 use Rattle.overlay.specs.Snap.Windings.{count, edge_between}
-use Rattle.overlay.proofs.VerticalLemmas.Columns.{carried, flow}
+use Rattle.overlay.proofs.SnapLemmas.Along.{point_at}
+use Rattle.overlay.proofs.VerticalLemmas.Flows.{carried, flow}
 use Rattle.overlay.proofs.VerticalLemmas.Order.{Before, Before-of, Before-upto, EveryEnd, Has, Rises, Upto, Upto-itself, Upto-trans, changed, changed-none, upto_point, upto_point-yes}
 
 -- ---- what stands between two ends
@@ -26,9 +27,6 @@ data Between (sum : ℤ) (low high : End) : Type 0 where
   up : pos 0 <ℤ sum → point_of_end low ≢ point_of_end high → vertical_between sum low high ≡ Some (edge_between (point_of_end low) (point_of_end high)) → Between sum low high
   down : sum <ℤ pos 0 → point_of_end low ≢ point_of_end high → vertical_between sum low high ≡ Some (edge_between (point_of_end high) (point_of_end low)) → Between sum low high
 
-abbrev point_at : ℤ → ℤ → Point
-point_at x y = record { x = x; y = y }
-
 between : (sum : ℤ) (low high : End) → Between sum low high
 between sum low high = go (int_eq low.x high.x) (int_eq low.y high.y) refl refl
   where
@@ -37,9 +35,6 @@ between sum low high = go (int_eq low.x high.x) (int_eq low.y high.y) refl refl
       where
         start : vertical_between sum low high ≡ cond (lt_z (pos 0) sum) (Some (edge_between (point_of_end low) (point_of_end high))) (cond (lt_z sum (pos 0)) (Some (edge_between (point_of_end high) (point_of_end low))) None)
         start = ap (λ (t : Bool). cond t None (cond (lt_z (pos 0) sum) (Some (edge_between (point_of_end low) (point_of_end high))) (cond (lt_z sum (pos 0)) (Some (edge_between (point_of_end high) (point_of_end low))) None))) apart
-
-        chosen : (s t : Bool) → Option Edge
-        chosen s t = cond s (Some (edge_between (point_of_end low) (point_of_end high))) (cond t (Some (edge_between (point_of_end high) (point_of_end low))) None)
 
         by : (s t : Bool) → lt_z (pos 0) sum ≡ s → lt_z sum (pos 0) ≡ t → Between sum low high
         by true t e f = up (omega (arith, ints, e)) differ (start ∙ ap (λ (s : Bool). cond s (Some (edge_between (point_of_end low) (point_of_end high))) (cond (lt_z sum (pos 0)) (Some (edge_between (point_of_end high) (point_of_end low))) None)) e)

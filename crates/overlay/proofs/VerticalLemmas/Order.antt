@@ -20,8 +20,9 @@ use Rattle.overlay.specs.contracts.fill.verticals.EndOrd.TheImpl.{ghosts as end_
 use Rattle.overlay.specs.contracts.fill.verticals.EndOrd.TheImpl.Laws.{total-law as end_total}
 use Rattle.overlay.specs.declared.fill.verticals.End.{End}
 use Rattle.overlay.specs.Snap.Windings.{count, end_of, start_of}
+use Rattle.overlay.proofs.SnapLemmas.Along.{point_at}
 use Rattle.overlay.proofs.SnapLemmas.Numbers.{n_of}
-use Rattle.overlay.proofs.VerticalLemmas.Columns.{flow, is_upto, upto-at, upto-before, upto-behind}
+use Rattle.overlay.proofs.VerticalLemmas.Flows.{flow, is_upto, upto-at, upto-before, upto-behind}
 
 -- ---- points by x, and then by y
 
@@ -51,9 +52,6 @@ Before-of p q (inl a) differ = inl a
 Before-of p q (inr (a, b)) differ =
     by_lt_z p.y q.y (λ less. inr (a, less)) (λ back. let same : p.y ≡ q.y = omega (arith, ints, b, back) in absurd (differ (point_same p q a same)))
   where
-    point_at : ℤ → ℤ → Point
-    point_at x y = record { x = x; y = y }
-
     point_same : (p q : Point) → p.x ≡ q.x → p.y ≡ q.y → p ≡ q
     point_same p q x y = ap₂ point_at x y
 
@@ -139,9 +137,6 @@ changed-none p (end ∷ ends) (here, behind) =
 abbrev pub Rises : List End → Type 0
 Rises [] = ⊤
 Rises (end ∷ ends) = EveryEnd (λ later. Upto (point_of_end end) (point_of_end later)) ends × Rises ends
-
-abbrev point_at : ℤ → ℤ → Point
-point_at x y = record { x = x; y = y }
 
 ranked_y : (x x' y y' : ℤ) (o p : Ordering) → x ≡ x' → MatchOrdering o (y <ℤ y') (y ≡ y') (y' <ℤ y) → is_lt (ordering_then o p) ≡ false → Upto (point_at x' y') (point_at x y)
 ranked_y x x' y y' Less p same said other = cc

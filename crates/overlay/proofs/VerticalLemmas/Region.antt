@@ -10,7 +10,8 @@ use Rattle.plane.proofs.MeetLemmas.Identities.{identity, number, scaled, times}
 use Rattle.overlay.specs.Fill.Verticals.{BoundRegion}
 use Rattle.overlay.specs.Snap.Windings.{end_of, start_of, winding}
 use Rattle.overlay.proofs.SnapLemmas.Numbers.{n_of}
-use Rattle.overlay.proofs.VerticalLemmas.Columns.{Every, flow, flow-agree, flow-windings, is_upto, left_of, one_some, parts, right_of, size, size_of, sizes, upto-at, upto-before, upto-behind, upto_size}
+use Rattle.overlay.proofs.VerticalLemmas.Columns.{flow-windings, left_of, one_some, parts, right_of, size, size_of, sizes, upto_size}
+use Rattle.overlay.proofs.VerticalLemmas.Flows.{Every, flow, flow-agree, is_upto, upto-at, upto-before, upto-behind}
 
 -- what holds of each edge that is of the list
 pub Every-from : (P : Edge → Type 0) (edges : List Edge) → ((edge : Edge) → Contains edges edge → P edge) → Every P edges
@@ -33,33 +34,34 @@ bits z (inl is) = (omega (arith, ints, is), omega (arith, ints, is))
 bits z (inr is) = (omega (arith, ints, is), omega (arith, ints, is))
 
 module _ (sloped : List Edge) (region : BoundRegion sloped) where
-  abbrev pub k : ℕ
-  k = sizes sloped + size_of region.bound
+  -- at least the size of each edge, and the height from which on nothing is of the region
+  abbrev pub extent : ℕ
+  extent = sizes sloped + size_of region.bound
 
   -- far up on the left nothing is of the region
-  high-none : (x : ℤ) → winding sloped (left_of k x 1 (pos k) one_some) ≡ pos 0
+  high-none : (x : ℤ) → winding sloped (left_of extent x 1 (pos extent) one_some) ≡ pos 0
   high-none x =
       let low = upto_size region.bound in
-      let more = scaled (1 * parts k) region.bound (pos k) (omega (arith, ints, low)) in
-      let same : (pos (1 * parts k) *ℤ pos k) ≡ (pos (parts k) *ℤ pos k) = identity (times (n_of (1 * parts k)) (n_of k)) (times (n_of (parts k)) (n_of k)) (omega arith) in
-      region.outside (left_of k x 1 (pos k) one_some) (omega (arith, ints, more, same))
+      let more = scaled (1 * parts extent) region.bound (pos extent) (omega (arith, ints, low)) in
+      let same : (pos (1 * parts extent) *ℤ pos extent) ≡ (pos (parts extent) *ℤ pos extent) = identity (times (n_of (1 * parts extent)) (n_of extent)) (times (n_of (parts extent)) (n_of extent)) (omega arith) in
+      region.outside (left_of extent x 1 (pos extent) one_some) (omega (arith, ints, more, same))
 
-  right-high-none : (x : ℤ) → winding sloped (right_of x 1 (pos k) one_some) ≡ pos 0
+  right-high-none : (x : ℤ) → winding sloped (right_of x 1 (pos extent) one_some) ≡ pos 0
   right-high-none x =
       let low = upto_size region.bound in
-      region.outside (right_of x 1 (pos k) one_some) (omega (arith, ints, low))
+      region.outside (right_of x 1 (pos extent) one_some) (omega (arith, ints, low))
 
   -- what ends upto a height, less what starts, is the winding number left of it less that right of it
-  pub flow-is : (x : ℤ) (n : ℕ) (y : ℤ) (some : 0 < n) → flow (is_upto x n y) sloped ≡ (winding sloped (left_of k x n y some) -ℤ winding sloped (right_of x n y some))
+  pub flow-is : (x : ℤ) (n : ℕ) (y : ℤ) (some : 0 < n) → flow (is_upto x n y) sloped ≡ (winding sloped (left_of extent x n y some) -ℤ winding sloped (right_of x n y some))
   flow-is x n y some =
-      let sum = flow-windings k sloped x n y some (omega arith) (Every-all (λ edge. edge.x1 ≢ edge.x0) sloped region.slanted) in
+      let sum = flow-windings extent sloped x n y some (omega arith) (Every-all (λ edge. edge.x1 ≢ edge.x0) sloped region.slanted) in
       let none = high-none x in
       omega (arith, ints, sum, none)
 
   pub flow-upto : (x : ℤ) (n : ℕ) (y : ℤ) → 0 < n → flow (is_upto x n y) sloped ≤ℤ pos 1
   flow-upto x n y some =
       let is = flow-is x n y some in
-      let left = bits (winding sloped (left_of k x n y some)) (region.winds (left_of k x n y some)) in
+      let left = bits (winding sloped (left_of extent x n y some)) (region.winds (left_of extent x n y some)) in
       let right = bits (winding sloped (right_of x n y some)) (region.winds (right_of x n y some)) in
       let l = left.1 in
       let r = right.0 in
@@ -68,7 +70,7 @@ module _ (sloped : List Edge) (region : BoundRegion sloped) where
   pub flow-from : (x : ℤ) (n : ℕ) (y : ℤ) → 0 < n → (pos 0 -ℤ pos 1) ≤ℤ flow (is_upto x n y) sloped
   flow-from x n y some =
       let is = flow-is x n y some in
-      let left = bits (winding sloped (left_of k x n y some)) (region.winds (left_of k x n y some)) in
+      let left = bits (winding sloped (left_of extent x n y some)) (region.winds (left_of extent x n y some)) in
       let right = bits (winding sloped (right_of x n y some)) (region.winds (right_of x n y some)) in
       let l = left.0 in
       let r = right.1 in
@@ -95,7 +97,7 @@ module _ (sloped : List Edge) (region : BoundRegion sloped) where
           let at : point.x ≡ x = omega (arith, ints, from, upto) in
           upto-at x n y point at ∙ agree point end at ∙ sym (upto-at x m z point at)))
 
-  end_low : (point : Point) → IsEndAt point → point.y ≤ℤ pos k
+  end_low : (point : Point) → IsEndAt point → point.y ≤ℤ pos extent
   end_low point (edge, among, inl is) =
       let small = size-among sloped edge among in
       let low = upto_size edge.y0 in
@@ -117,13 +119,13 @@ module _ (sloped : List Edge) (region : BoundRegion sloped) where
   -- above the last end of a column it is 0
   pub flow-top : (x y : ℤ) → ((point : Point) → IsEndAt point → point.x ≡ x → point.y ≤ℤ y) → flow (is_upto x 1 y) sloped ≡ pos 0
   flow-top x y low =
-      let high = flow-is x 1 (pos k) one_some in
+      let high = flow-is x 1 (pos extent) one_some in
       let left = high-none x in
       let right = right-high-none x in
-      column-agree x 1 1 y (pos k)
+      column-agree x 1 1 y (pos extent)
       (λ point end at.
       let here = low point end at in
       let there = end_low point end in
       let once : (pos 1 *ℤ point.y) ≡ point.y = identity (times (n_of 1) (number point.y)) (number point.y) (omega arith) in
-      yes (pos 1 *ℤ point.y) y (omega (arith, ints, here, once)) ∙ sym (yes (pos 1 *ℤ point.y) (pos k) (omega (arith, ints, there, once))))
+      yes (pos 1 *ℤ point.y) y (omega (arith, ints, here, once)) ∙ sym (yes (pos 1 *ℤ point.y) (pos extent) (omega (arith, ints, there, once))))
       ∙ omega (arith, ints, high, left, right)

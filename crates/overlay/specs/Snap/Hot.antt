@@ -1,11 +1,23 @@
 -- The hot points of edges as a list. For private contracts.
 use Rattle.std.specs.Prelude.{◌≡◌, ◌≢◌, ◌⊎◌, ◌↔◌, ℕ, ℤ, List, AllPairs, Contains, Some, slice_get}
 use Rattle.plane.specs.declared.edge.Edge.{Edge}
-use Rattle.overlay.specs.Snap.Chains.{IsEnd, CrossAt, IsHot}
+use Rattle.overlay.specs.Snap.Chains.{IsEnd, CrossAt, IsHot, Passes}
 use Rattle.overlay.specs.declared.snap.hot.HotPoint.{HotPoint}
 
 abbrev pub hot_at : ℤ → ℤ → HotPoint
 hot_at x y = record { x = x; y = y }
+
+-- (x, y) is the point.
+abbrev pub IsAt : HotPoint → ℤ → ℤ → Type 0
+IsAt point x y = (x ≡ point.x) × (y ≡ point.y)
+
+-- The edge passes the whole point (x, y) between its ends.
+abbrev pub PassesInside : Edge → ℤ → ℤ → Type 0
+PassesInside edge x y = Passes edge x y × (¬ (IsEnd edge x y))
+
+-- Some point is an end of both edges.
+abbrev pub ShareEnd : Edge → Edge → Type 0
+ShareEnd one other = (x : ℤ) × (y : ℤ) × IsEnd one x y × IsEnd other x y
 
 -- The list has the edges' hot points, once each.
 pub record AreHotPoints (edges : List Edge) (hot : List HotPoint) : Type 0 where

@@ -1,9 +1,11 @@
 -- The stops of edges at hot points. For private contracts.
-use Rattle.std.specs.Prelude.{◌≡◌, ◌≢◌, ◌⊎◌, ℕ, ◌<◌, ◌≤◌, ℤ, pos, ◌-ℤ◌, ◌<ℤ◌, cond, List, All, AllPairs, Contains, Some, get_or, length, slice_get}
+use Rattle.std.specs.Prelude.{◌≡◌, ◌≢◌, ◌⊎◌, ℕ, ◌<◌, ◌≤◌, ℤ, pos, ◌-ℤ◌, ◌<ℤ◌, cond, List, [], ◌∷◌, ◌++◌, All, AllPairs, Contains, Some, get_or, length, slice_get}
 use Rattle.std.specs.Int.Signed.{lt_z}
 use Rattle.plane.specs.declared.edge.Edge.{Edge}
 use Rattle.plane.specs.declared.point.Point.{Point}
-use Rattle.overlay.specs.Snap.Chains.{IsHot, Passes}
+use Rattle.overlay.specs.Snap.Chains.{IsHot}
+use Rattle.overlay.specs.Snap.Hot.{PassesInside}
+use Rattle.overlay.specs.Snap.Windings.{start_of, end_of}
 use Rattle.overlay.specs.declared.snap.hot.HotPoint.{HotPoint}
 use Rattle.overlay.specs.declared.snap.stops.Stop.{Stop}
 
@@ -40,16 +42,16 @@ IsBefore one other =
     (one.place < other.place)
     ⊎ ((one.place ≡ other.place) × ((one.along_x <ℤ other.along_x) ⊎ ((one.along_x ≡ other.along_x) × (one.along_y <ℤ other.along_y))))
 
--- A stop of one of the edges, at a hot point that the edge passes.
+-- A stop of one of the edges, at a hot point that the edge passes between its ends.
 pub record IsStop (edges : List Edge) (stop : Stop) : Type 0 where
   pub edge : Edge
   pub stands : slice_get edges stop.place ≡ Some edge
   pub hot : IsHot edges (point_of edge stop).x (point_of edge stop).y
-  pub passes : Passes edge (point_of edge stop).x (point_of edge stop).y
+  pub passes : PassesInside edge (point_of edge stop).x (point_of edge stop).y
 
 -- All stops of the edges, in order.
 pub record AreStops (edges : List Edge) (stops : List Stop) : Type 0 where
-  pub each : (place : ℕ) (edge : Edge) (x y : ℤ) → slice_get edges place ≡ Some edge → IsHot edges x y → Passes edge x y → Contains stops (stop_of place edge x y)
+  pub each : (place : ℕ) (edge : Edge) (x y : ℤ) → slice_get edges place ≡ Some edge → IsHot edges x y → PassesInside edge x y → Contains stops (stop_of place edge x y)
   pub of : All (IsStop edges) stops
   pub in_order : AllPairs IsBefore stops
 
@@ -60,3 +62,8 @@ pub record AreAt (place : ℕ) (start end : ℕ) (stops : List Stop) : Type 0 wh
   pub inside : end ≤ length stops
   pub at : (k : ℕ) (default : Stop) → start ≤ k → k < end → (get_or stops k default).place ≡ place
   pub last : (default : Stop) → end < length stops → (get_or stops end default).place ≢ place
+
+-- The list goes on to the edge's end, unless that is its start.
+abbrev pub GoesToEnd : Edge → List Point → List Point → Type 0
+GoesToEnd edge before after =
+    (start_of edge ≡ end_of edge) × (after ≡ before) ⊎ (start_of edge ≢ end_of edge) × (after ≡ before ++ end_of edge ∷ [])

@@ -1,11 +1,12 @@
 //! From the stops of edges to their chains.
 
-ghost use Rattle.std.specs.Prelude.{◌≡◌, ◌++◌, ◌≤◌, List, IfOk, OnOk, OnErr, length, map};
+ghost use Rattle.std.specs.Prelude.{◌≡◌, ◌∷◌, ◌++◌, ◌≤◌, List, IfOk, OnOk, OnErr, length, map};
 ghost use Rattle.std.specs.List.{flat_map};
 ghost use Rattle.plane.specs.declared.point.Point.{Point};
 ghost use Rattle.overlay.specs.Snap.Chains.{AreChains};
 ghost use Rattle.overlay.specs.Snap.Offsets.{offsets, between, Extends};
-ghost use Rattle.overlay.specs.Snap.Stops.{AreAt, AreStops, point_of};
+ghost use Rattle.overlay.specs.Snap.Stops.{AreAt, AreStops, GoesToEnd, point_of};
+ghost use Rattle.overlay.specs.Snap.Windings.{end_of, start_of};
 
 use super::stops::{Stop, point_of};
 use plane::edge::Edge;
@@ -33,8 +34,29 @@ pub fn append_chains<A: Allocator>(
     Ok(())
 }
 
-// Appends the points of the stops at the edge at this place, from the first one of them on, and answers where they stop.
+// Appends the chain of the edge at this place: its start, the points of its stops from the first one of them on, and its
+// end, if that is another point. It answers where the stops end.
 fn append_chain<A: Allocator>(
+    edge: Edge,
+    place: usize,
+    stops: &[Stop],
+    first: usize,
+    points: &mut Vec<Point, A>,
+) -> Result<usize, AllocError>
+    requires { first ≤ length stops.now }
+    ensures ok { IfOk result (λ end. AreAt place first end stops.now × ((chain : List Point)
+        × GoesToEnd edge (start_of edge ∷ map (point_of edge) (between first end stops.now)) chain
+        × (points.new.items ≡ points.old.items ++ chain))) }
+    ensures err { OnErr result (Extends points.old.items points.new.items) }
+{
+    points.push(start_of(edge))?;
+    let end = append_stops(edge, place, stops, first, points)?;
+    append_end(edge, points)?;
+    Ok(end)
+}
+
+// Appends the points of the stops at the edge at this place, from the first one of them on, and answers where they end.
+fn append_stops<A: Allocator>(
     edge: Edge,
     place: usize,
     stops: &[Stop],
@@ -52,4 +74,36 @@ fn append_chain<A: Allocator>(
         next += 1;
     }
     Ok(next)
+}
+
+// Appends the edge's end, if that isn't its start.
+fn append_end<A: Allocator>(edge: Edge, points: &mut Vec<Point, A>) -> Result<(), AllocError>
+    ensures ok { OnOk result (GoesToEnd edge points.old.items points.new.items) }
+    ensures err { OnErr result (points.new.items ≡ points.old.items) }
+{
+    if edge.x0 == edge.x1 && edge.y0 == edge.y1 {
+        return Ok(());
+    }
+    points.push(end_of(edge))?;
+    Ok(())
+}
+
+// The point at which the edge begins.
+fn start_of(edge: Edge) -> Point
+    ensures { result ≡ start_of edge }
+{
+    Point {
+        x: edge.x0,
+        y: edge.y0,
+    }
+}
+
+// The point at which the edge ends.
+fn end_of(edge: Edge) -> Point
+    ensures { result ≡ end_of edge }
+{
+    Point {
+        x: edge.x1,
+        y: edge.y1,
+    }
 }

@@ -1,9 +1,10 @@
 //! The hot points of edges: all their ends, and what the points in which two of them cross round to.
 
-ghost use Rattle.std.specs.Prelude.{◌≡◌, ◌<◌, All, length, IfErr, IfOk, OnOk};
+ghost use Rattle.std.specs.Bool.{OnTrue};
+ghost use Rattle.std.specs.Prelude.{◌≡◌, ◌<◌, ℤ, All, Contains, length, MatchBool, IfErr, IfOk, OnOk};
 ghost use Rattle.i_tree.specs.declared.Refusal.TheVariants.{OutOfMemory};
-ghost use Rattle.overlay.specs.Snap.Chains.{Passes};
-ghost use Rattle.overlay.specs.Snap.Hot.{hot_at, AreHotPoints, GainsPoints, IsEndAmong, IsCrossingAmong};
+ghost use Rattle.overlay.specs.Snap.Chains.{IsEnd};
+ghost use Rattle.overlay.specs.Snap.Hot.{hot_at, IsAt, AreHotPoints, GainsPoints, IsEndAmong, IsCrossingAmong, PassesInside, ShareEnd};
 
 use super::crossing::crossing;
 use super::passing::passes;
@@ -35,10 +36,10 @@ impl Boxed for HotPoint {
 }
 
 impl Meets<HotPoint> for Edge {
-    ghost Meeting = { λ edge it. Passes edge it.x it.y };
+    ghost Meeting = { λ edge it. PassesInside edge it.x it.y };
 
     fn meets(self, other: HotPoint) -> bool {
-        passes(self, other.x, other.y)
+        !is_end(self, other.x, other.y) && passes(self, other.x, other.y)
     }
 }
 
@@ -60,14 +61,36 @@ pub fn hot_points<A: Allocator + Copy>(
     Ok(hot)
 }
 
+// Whether the whole point (x, y) is an end of the edge.
+fn is_end(edge: Edge, x: i32, y: i32) -> bool
+    ensures { MatchBool result (IsEnd edge x y) (¬ (IsEnd edge x y)) }
+{
+    (edge.x0 == x && edge.y0 == y) || (edge.x1 == x && edge.y1 == y)
+}
+
 // Appends both ends of each edge.
 fn push_ends<A: Allocator>(edges: &[Edge], hot: &mut Vec<HotPoint, A>) -> Result<(), AllocError>
     ensures { OnOk result (GainsPoints (IsEndAmong edges.now) hot.old.items hot.new.items) }
 {
     for edge in edges {
-        hot.push(start_of(*edge))?;
-        hot.push(end_of(*edge))?;
+        push_unless_last(hot, start_of(*edge))?;
+        push_unless_last(hot, end_of(*edge))?;
     }
+    Ok(())
+}
+
+// Appends the point, unless it is the last one. So an edge that begins where the one before it ends appends one point.
+fn push_unless_last<A: Allocator>(
+    hot: &mut Vec<HotPoint, A>,
+    point: HotPoint,
+) -> Result<(), AllocError>
+    ensures { OnOk result (GainsPoints (IsAt point) hot.old.items hot.new.items) }
+{
+    let count = hot.len();
+    if 0 < count && hot[count - 1] == point {
+        return Ok(());
+    }
+    hot.push(point)?;
     Ok(())
 }
 
@@ -101,19 +124,32 @@ fn hot_point(point: Point) -> HotPoint
     }
 }
 
-// Appends what the crossings of these pairs of edges round to.
+// Appends what the crossings of these pairs of edges round to. All ends of the edges are there.
 fn push_crossings<A: Allocator>(
     edges: &[Edge],
     pairs: &[(usize, usize)],
     hot: &mut Vec<HotPoint, A>,
 ) -> Result<(), AllocError>
-    requires { All (λ pair. (pair.0 < length edges.now) × (pair.1 < length edges.now)) pairs.now }
+    requires within { All (λ pair. (pair.0 < length edges.now) × (pair.1 < length edges.now)) pairs.now }
+    requires ends { (x y : ℤ) → IsEndAmong edges.now x y → Contains hot.old.items (hot_at x y) }
     ensures { OnOk result (GainsPoints (IsCrossingAmong edges.now pairs.now) hot.old.items hot.new.items) }
 {
     for pair in pairs {
-        if let Some(point) = crossing(edges[pair.0], edges[pair.1]) {
-            hot.push(hot_point(point))?;
+        let one = edges[pair.0];
+        let other = edges[pair.1];
+        // Such edges cross there, if they do.
+        if !share_end(one, other) {
+            if let Some(point) = crossing(one, other) {
+                hot.push(hot_point(point))?;
+            }
         }
     }
     Ok(())
+}
+
+// Whether some point is an end of both edges.
+fn share_end(one: Edge, other: Edge) -> bool
+    ensures { OnTrue result (ShareEnd one other) }
+{
+    is_end(one, other.x0, other.y0) || is_end(one, other.x1, other.y1)
 }

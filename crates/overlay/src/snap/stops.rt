@@ -1,4 +1,4 @@
-//! The stops of edges: which hot points each passes, in the order along it.
+//! The stops of edges: which hot points each passes between its ends, in the order along it.
 
 ghost use Rattle.std.specs.Prelude.{◌≡◌, ◌<◌, All, length, IfErr, IfOk};
 ghost use Rattle.std.specs.List.{AllZip};
@@ -13,7 +13,7 @@ use plane::pairs::pairs_between;
 use plane::point::Point;
 use std::alloc::{AllocError, Allocator};
 
-/// A hot point that an edge passes: the edge's place among all, and how far the point is along it on each axis.
+/// A hot point that an edge passes, and none of its ends: the edge's place among all, and how far the point is along it on each axis.
 #[derive(Clone, Copy, Debug, PartialEq, Eq, PartialOrd, Ord)]
 pub struct Stop {
     pub place: usize,
@@ -21,7 +21,7 @@ pub struct Stop {
     pub along_y: i32,
 }
 
-/// The stops of all edges, in order: edge by edge, and those of each in the order along it.
+/// The stops of all edges between their ends, in order: edge by edge, and those of each in the order along it.
 pub fn stops_in_order<A: Allocator + Copy>(
     alloc: A,
     edges: &[Edge],

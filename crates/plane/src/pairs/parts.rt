@@ -1,6 +1,7 @@
 //! The parts of items in the strips that they reach, in the order in which they are served.
 
 ghost use Rattle.std.specs.Prelude.{◌≡◌, ◌<◌, ◌≤◌, ◌+◌, ◌*◌, ◌≤ℤ◌, All, IfOk, OnOk, length, take, []};
+ghost use Rattle.std.specs.Ordering.{int_cmp, nat_cmp, ordering_then};
 ghost use Rattle.plane.specs.Pairs.Bounds.{IsBox};
 ghost use Rattle.plane.specs.Pairs.Parts.{AreParts, Lists};
 ghost use Rattle.plane.specs.Pairs.Strips.{ReachFew, reached};
@@ -8,6 +9,7 @@ ghost use Rattle.plane.specs.Pairs.Strips.{ReachFew, reached};
 use super::items::Boxed;
 use super::strips::Strips;
 use std::alloc::{AllocError, Allocator};
+use std::cmp::Ordering;
 
 /// The part of an item in a strip: where its box begins along x, and its place among all items. Parts are served
 /// strip by strip, and in each by where they begin.
@@ -32,7 +34,7 @@ pub fn parts<T: Boxed, A: Allocator>(
 {
     let mut parts = Vec::with_capacity(alloc, items.len())?;
     push_all(&mut parts, items, strips)?;
-    parts.sort_unstable();
+    parts.sort_unstable_by(|one, other| compare(*one, *other));
     Ok(parts)
 }
 
@@ -77,4 +79,16 @@ fn push_parts<T: Boxed, A: Allocator>(
         parts.push(Part { strip, left, place })?;
     }
     Ok(())
+}
+
+// How two parts stand by the order of their fields. All three comparisons are made, since a branch between them would be
+// guessed wrongly often.
+fn compare(one: Part, other: Part) -> Ordering
+    ensures { result ≡ ordering_then (nat_cmp one.strip other.strip)
+        (ordering_then (int_cmp one.left other.left) (nat_cmp one.place other.place)) }
+{
+    let by_strip = one.strip.cmp(&other.strip);
+    let by_left = one.left.cmp(&other.left);
+    let by_place = one.place.cmp(&other.place);
+    by_strip.then(by_left.then(by_place))
 }

@@ -15,6 +15,7 @@ ghost use Rattle.plane.specs.Pairs.Sweep.{Extends, IsTold, GainsPair, GainsPairs
 
 use super::items::{Boxed, Meets};
 use super::parts::Part;
+use super::read_ahead::ReadAhead;
 use super::roles::Roles;
 use super::strips::Strips;
 use i_tree::seg::exp::{SegExpCollection, SegRange};
@@ -62,11 +63,12 @@ pub fn append_pairs<T: Meets<T>, A: Allocator + Copy>(
 {
     let start = out.len();
     let mut strip = 0;
-    for part in parts {
+    let mut ahead = ReadAhead::new(*out.allocator());
+    for (next, part) in parts.iter().enumerate() {
         enter(tree, strip, part.strip);
         strip = part.strip;
         let place = part.place;
-        let item = items[place];
+        let item = ahead.at(items, parts, next)?;
         serve(
             roles,
             strips,

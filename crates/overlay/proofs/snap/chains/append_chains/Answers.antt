@@ -1,4 +1,4 @@
-use Rattle.std.proofs.Common.{◌≡◌, ◌+◌, ◌++◌, ◌∷◌, [], ℕ, List, pos, get_or, length, map, take, sym, ap, ap₂, ◌∙◌, subst, append-nil, append_assoc, arith}
+use Rattle.std.proofs.Common.{◌≡◌, ◌+◌, ◌++◌, ◌∷◌, [], ℕ, List, pos, get_or, length, take, sym, ap, ap₂, ◌∙◌, subst, append-nil, append_assoc, arith}
 use Rattle.std.specs.List.{AllZip, flat_map}
 use Rattle.std.proofs.lemmas.List.{flat_map_more, length-append, take_all, take_more}
 use Rattle.std.proofs.lemmas.Option.{slice_get-get_or}
@@ -6,8 +6,7 @@ use Rattle.plane.specs.declared.edge.Edge.{Edge}
 use Rattle.plane.specs.declared.point.Point.{Point}
 use Rattle.plane.proofs.PairsLemmas.Extends.{OnErr-always}
 use Rattle.overlay.specs.Snap.Chains.{IsChain}
-use Rattle.overlay.specs.Snap.Offsets.{between, offsets}
-use Rattle.overlay.specs.Snap.Stops.{point_of}
+use Rattle.overlay.specs.Snap.Offsets.{offsets}
 use Rattle.overlay.proofs.ChainLemmas.Runs.{offsets-more, Extends-trans, IsChain-run, Split-next, Split-none}
 use Rattle.overlay.proofs.ChainLemmas.Zips.{AllZip-more}
 use Rattle.overlay.proofs.snap.chains.append_chains.Goals as goal
@@ -26,16 +25,16 @@ returns-in_err-next-clause-err g c =
 pub returns-in_err-push-clause-err : goal.returns-in_err-push-clause-err
 returns-in_err-push-clause-err g c =
     let (split, (chains, are, points, ends)) = c.loop-place.invariant in
-    let (run, gained) = c.in_ok-next.ensures.ok in
+    let (run, (chain, goes, gained)) = c.in_ok-next.ensures.ok in
     OnErr-always c.from_residual-in_err-push.result _ (
-      Extends-trans c.args.points.now.items c.loop-place.points.items c.append_chain.new.points.items (flat_map (λ chain. chain) chains, points) (_, gained),
+      Extends-trans c.args.points.now.items c.loop-place.points.items c.append_chain.new.points.items (flat_map (λ chain. chain) chains, points) (chain, gained),
       (offsets (length c.args.points.now.items) chains, c.in_err-push.ensures.items ∙ ends),
     )
 
 pub loop-place-preserved : goal.loop-place-preserved
 loop-place-preserved g c =
     let (split, (chains, are, points, ends)) = c.loop-place.invariant in
-    let (run, gained) = c.in_ok-next.ensures.ok in
+    let (run, (chain, goes, gained)) = c.in_ok-next.ensures.ok in
     let edges = c.args.edges.now in
     let stops = c.args.stops.now in
     let place = c.loop-place.place in
@@ -44,9 +43,8 @@ loop-place-preserved g c =
     let before = c.args.points.now.items in
     let none : Edge = record { x0 = pos 0; y0 = pos 0; x1 = pos 0; y1 = pos 0 } in
     let edge = get_or edges place none in
-    let chain : List Point = map (point_of edge) (between next end stops) in
     let stands = slice_get-get_or edges place none c.loop-place-test.true in
-    let is_chain = IsChain-run edges stops c.requires place next end split run edge stands in
+    let is_chain = IsChain-run edges stops c.requires place next end split run edge stands chain goes in
     let joined : c.append_chain.new.points.items ≡ (before ++ flat_map (λ chain. chain) chains) ++ chain = gained ∙ ap (λ (list : List Point). list ++ chain) points in
     let told = c.len.ensures in
     let size : c.len.result ≡ length c.append_chain.new.points.items = omega (arith, told) in

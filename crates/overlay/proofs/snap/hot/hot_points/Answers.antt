@@ -1,10 +1,13 @@
-use Rattle.std.proofs.Common.{◌≡◌, ◌++◌, ℕ, List, sym, ap, ◌∙◌, subst}
+use Rattle.std.proofs.Common.{◌≡◌, ◌++◌, inr, ℕ, List, sym, ap, ◌∙◌, subst}
 use Rattle.std.proofs.lemmas.List.Filters.{dedup_is}
 use Rattle.overlay.specs.Snap.Hot.{AreHotPoints, GainsPoints, IsCrossingAmong, IsEndAmong}
 use Rattle.overlay.specs.contracts.snap.hot.HotPointOrd.TheImpl.Laws.{matches_eq-law}
 use Rattle.overlay.specs.declared.snap.hot.HotPoint.{HotPoint}
 use Rattle.overlay.proofs.ChainLemmas.Hot.{AreHotPoints-sorted}
 use Rattle.overlay.proofs.snap.hot.hot_points.Goals as goal
+
+pub push_crossings-requires-clause-ends : goal.push_crossings-requires-clause-ends
+push_crossings-requires-clause-ends g c = λ x y is. (c.in_ok-push_ends.ensures x y).1 (inr is)
 
 pub returns-clause-ok : goal.returns-clause-ok
 returns-clause-ok g c =

@@ -10,7 +10,7 @@ pub pairs_between-requires : goal.pairs_between-requires
 pairs_between-requires g c = record {
   proper = λ edge. record { wide = omega (arith, ints, clamps); tall = omega (arith, ints, clamps) };
   other_proper = λ point. record { wide = omega (arith, ints); tall = omega (arith, ints) };
-  near = λ edge point passed. Passes-in_box edge point.x point.y passed;
+  near = λ edge point passed. Passes-in_box edge point.x point.y passed.0;
 }
 
 pub returns-clause-ok : goal.returns-clause-ok

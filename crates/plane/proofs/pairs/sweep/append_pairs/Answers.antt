@@ -1,4 +1,4 @@
-use Rattle.std.proofs.Common.{◌+◌, get_or, pos, arith}
+use Rattle.std.proofs.Common.{◌+◌, List, ap, get_or, length, pos, arith}
 use Rattle.plane.specs.declared.pairs.parts.Part.{Part}
 use Rattle.plane.proofs.PairsLemmas.Extends.{OnErr-always, Extends-trans}
 use Rattle.plane.proofs.PairsLemmas.Served.{Served-none, Served-more, Served-all, Served-enough, its_base, its_place, its_reach, over_entered, in_time}
@@ -7,51 +7,59 @@ use Rattle.plane.proofs.pairs.sweep.append_pairs.Goals as goal
 abbrev nothing : Part
 nothing = record { strip = 0; left = pos 0; place = 0 }
 
-pub loop-part-init : goal.loop-part-init
-loop-part-init g c = Served-none c.requires.boxed c.args.roles c.args.strips c.args.items.now c.args.parts.now c.args.tree.now c.args.out.now.items c.requires.over c.requires.empty c.requires.unasked
+pub loop-next-init : goal.loop-next-init
+loop-next-init g c = (Served-none c.requires.boxed c.args.roles c.args.strips c.args.items.now c.args.parts.now c.args.tree.now c.args.out.now.items c.requires.over c.requires.empty c.requires.unasked, λ i d within. absurd (omega (arith, within, ap (λ (read : List _). length read) c.new-ahead.ensures)))
 
-pub bounds-items-place : goal.bounds-items-place
-bounds-items-place g c = its_place c.requires.boxed c.args.roles c.args.strips c.args.items.now c.args.parts.now c.requires.base c.requires.parts c.loop-part.part-index nothing c.loop-part-test.true
+pub at-requires-clause-within : goal.at-requires-clause-within
+at-requires-clause-within g c = λ k d inside. its_place c.requires.boxed c.args.roles c.args.strips c.args.items.now c.args.parts.now c.requires.base c.requires.parts k d inside
+
+pub at-requires-clause-ahead : goal.at-requires-clause-ahead
+at-requires-clause-ahead g c = c.loop-next.invariant.1
+
+pub returns-in_err-item-clause-err : goal.returns-in_err-item-clause-err
+returns-in_err-item-clause-err g c = let served = c.loop-next.invariant.0 in OnErr-always c.from_residual.result _ (served.pairs, served.gained)
 
 pub serve-requires-clause-base : goal.serve-requires-clause-base
 serve-requires-clause-base g c =
-    its_base c.requires.boxed c.args.roles c.args.strips c.args.items.now c.args.parts.now c.requires.base c.requires.parts c.loop-part.part-index nothing c.loop-part-test.true c.index-items-place.result c.index-items-place.is
+    its_base c.requires.boxed c.args.roles c.args.strips c.args.items.now c.args.parts.now c.requires.base c.requires.parts c.loop-next.next nothing c.loop-next-test.true c.in_ok-item.item (c.in_ok-item.ensures.value nothing)
 
 pub serve-requires-clause-reaches : goal.serve-requires-clause-reaches
 serve-requires-clause-reaches g c =
-    its_reach c.requires.boxed c.args.roles c.args.strips c.args.items.now c.args.parts.now c.requires.base c.requires.parts c.loop-part.part-index nothing c.loop-part-test.true c.index-items-place.result c.index-items-place.is
+    its_reach c.requires.boxed c.args.roles c.args.strips c.args.items.now c.args.parts.now c.requires.base c.requires.parts c.loop-next.next nothing c.loop-next-test.true c.in_ok-item.item (c.in_ok-item.ensures.value nothing)
 
 pub serve-requires-clause-over : goal.serve-requires-clause-over
 serve-requires-clause-over g c =
-    over_entered c.requires.boxed c.args.roles c.args.strips c.args.items.now c.args.parts.now c.requires.base c.requires.parts c.loop-part.part-index nothing c.loop-part-test.true c.loop-part.strip c.loop-part.tree c.enter.new.tree c.args.out.now.items c.loop-part.out.items c.loop-part.invariant
+    over_entered c.requires.boxed c.args.roles c.args.strips c.args.items.now c.args.parts.now c.requires.base c.requires.parts c.loop-next.next nothing c.loop-next-test.true c.loop-next.strip c.loop-next.tree c.enter.new.tree c.args.out.now.items c.loop-next.out.items c.loop-next.invariant.0
     c.enter.ensures.stays c.enter.ensures.clears c.enter.ensures.buckets
 
 pub serve-requires-clause-in_time : goal.serve-requires-clause-in_time
 serve-requires-clause-in_time g c =
-    in_time c.requires.boxed c.args.roles c.args.strips c.args.items.now c.args.parts.now c.requires.base c.requires.parts c.loop-part.part-index nothing c.loop-part-test.true c.loop-part.strip c.loop-part.tree c.enter.new.tree c.args.out.now.items c.loop-part.out.items c.loop-part.invariant
-    c.enter.ensures.stays c.enter.ensures.clears c.enter.ensures.buckets c.index-items-place.result c.index-items-place.is
+    in_time c.requires.boxed c.args.roles c.args.strips c.args.items.now c.args.parts.now c.requires.base c.requires.parts c.loop-next.next nothing c.loop-next-test.true c.loop-next.strip c.loop-next.tree c.enter.new.tree c.args.out.now.items c.loop-next.out.items c.loop-next.invariant.0
+    c.enter.ensures.stays c.enter.ensures.clears c.enter.ensures.buckets c.in_ok-item.item (c.in_ok-item.ensures.value nothing)
 
-pub loop-part-preserved : goal.loop-part-preserved
-loop-part-preserved g c =
-    Served-more c.requires.boxed c.args.roles c.args.strips c.args.items.now c.args.parts.now c.requires.base c.requires.parts c.loop-part.part-index nothing c.loop-part-test.true c.loop-part.strip c.loop-part.tree c.enter.new.tree c.args.out.now.items c.loop-part.out.items c.loop-part.invariant
-    c.enter.ensures.stays c.enter.ensures.clears c.enter.ensures.buckets
-    c.requires.roles c.serve.new.tree c.index-items-place.result c.serve.new.out.items c.index-items-place.is c.serve.ensures.buckets c.serve.ensures.latest (c.in_ok-serve.ensures).ok
+pub loop-next-preserved : goal.loop-next-preserved
+loop-next-preserved g c = (
+  Served-more c.requires.boxed c.args.roles c.args.strips c.args.items.now c.args.parts.now c.requires.base c.requires.parts c.loop-next.next nothing c.loop-next-test.true c.loop-next.strip c.loop-next.tree c.enter.new.tree c.args.out.now.items c.loop-next.out.items c.loop-next.invariant.0
+      c.enter.ensures.stays c.enter.ensures.clears c.enter.ensures.buckets
+      c.requires.roles c.serve.new.tree c.in_ok-item.item c.serve.new.out.items (c.in_ok-item.ensures.value nothing) c.serve.ensures.buckets c.serve.ensures.latest (c.in_ok-serve.ensures).ok,
+  c.in_ok-item.ensures.ahead,
+)
 
 pub returns-in_err-serve-clause-err : goal.returns-in_err-serve-clause-err
 returns-in_err-serve-clause-err g c =
-    let served = c.loop-part.invariant in
-    OnErr-always c.from_residual.result _ (Extends-trans c.args.out.now.items c.loop-part.out.items c.serve.new.out.items (served.pairs, served.gained) (c.in_err-serve.ensures).err)
+    let served = c.loop-next.invariant.0 in
+    OnErr-always c.from_residual-in_err-serve.result _ (Extends-trans c.args.out.now.items c.loop-next.out.items c.serve.new.out.items (served.pairs, served.gained) (c.in_err-serve.ensures).err)
 
 pub returns-then-len-start-clause-ok : goal.returns-then-len-start-clause-ok
 returns-then-len-start-clause-ok g c =
     let start = c.len-start.ensures in
     let length_now = c.len.ensures in
     let longer = c.if-len-start.true in
-    Served-enough c.requires.boxed c.args.roles c.args.strips c.args.items.now c.args.parts.now (c.loop-part.part-index + 1) (get_or c.args.parts.now c.loop-part.part-index nothing).strip c.serve.new.tree c.args.enough c.args.out.now.items c.serve.new.out.items c.if-enough.true (omega (arith, start, length_now, longer))
-    (Served-more c.requires.boxed c.args.roles c.args.strips c.args.items.now c.args.parts.now c.requires.base c.requires.parts c.loop-part.part-index nothing c.loop-part-test.true c.loop-part.strip c.loop-part.tree c.enter.new.tree c.args.out.now.items c.loop-part.out.items c.loop-part.invariant
+    Served-enough c.requires.boxed c.args.roles c.args.strips c.args.items.now c.args.parts.now (c.loop-next.next + 1) (get_or c.args.parts.now c.loop-next.next nothing).strip c.serve.new.tree c.args.enough c.args.out.now.items c.serve.new.out.items c.if-enough.true (omega (arith, start, length_now, longer))
+    (Served-more c.requires.boxed c.args.roles c.args.strips c.args.items.now c.args.parts.now c.requires.base c.requires.parts c.loop-next.next nothing c.loop-next-test.true c.loop-next.strip c.loop-next.tree c.enter.new.tree c.args.out.now.items c.loop-next.out.items c.loop-next.invariant.0
     c.enter.ensures.stays c.enter.ensures.clears c.enter.ensures.buckets
-    c.requires.roles c.serve.new.tree c.index-items-place.result c.serve.new.out.items c.index-items-place.is c.serve.ensures.buckets c.serve.ensures.latest (c.in_ok-serve.ensures).ok)
+    c.requires.roles c.serve.new.tree c.in_ok-item.item c.serve.new.out.items (c.in_ok-item.ensures.value nothing) c.serve.ensures.buckets c.serve.ensures.latest (c.in_ok-serve.ensures).ok)
 
 pub returns-clause-ok : goal.returns-clause-ok
 returns-clause-ok g c =
-    Served-all c.requires.boxed c.args.roles c.args.strips c.args.items.now c.args.parts.now c.loop-part.part-index c.loop-part.strip c.loop-part.tree c.args.enough c.args.out.now.items c.loop-part.out.items c.loop-part-test.false c.requires.base c.requires.parts c.loop-part.invariant
+    Served-all c.requires.boxed c.args.roles c.args.strips c.args.items.now c.args.parts.now c.loop-next.next c.loop-next.strip c.loop-next.tree c.args.enough c.args.out.now.items c.loop-next.out.items c.loop-next-test.false c.requires.base c.requires.parts c.loop-next.invariant.0

@@ -5,7 +5,7 @@ use Rattle.plane.specs.declared.point.Point.{Point}
 use Rattle.overlay.specs.Snap.Stops.{point_of}
 use Rattle.overlay.specs.declared.snap.stops.Stop.{Stop}
 use Rattle.overlay.proofs.ChainLemmas.Runs.{made-more}
-use Rattle.overlay.proofs.snap.chains.append_chain.Goals as goal
+use Rattle.overlay.proofs.snap.chains.append_stops.Goals as goal
 
 pub loop-next-preserved : goal.loop-next-preserved
 loop-next-preserved g c =

@@ -2,7 +2,7 @@ use Rattle.std.proofs.Common.{◌≡◌, ◌++◌, ◌≤◌, ◌<◌, ◌-◌, 
 use Rattle.overlay.specs.Snap.Offsets.{between}
 use Rattle.overlay.specs.Snap.Stops.{point_of}
 use Rattle.overlay.specs.declared.snap.stops.Stop.{Stop}
-use Rattle.overlay.proofs.snap.chains.append_chain.Given as goal
+use Rattle.overlay.proofs.snap.chains.append_stops.Given as goal
 
 -- the stops so far are the edge's, and their points are appended
 abbrev pub invariant-loop-next : goal.invariant-loop-next

@@ -1,0 +1,146 @@
+-- A chain is its edge's start, the hot points that the edge passes between its ends, and its end.
+use Rattle.std.proofs.Common.{◌≡◌, ◌≢◌, ◌⊎◌, inl, inr, zero, suc, ℤ, Bool, true, false, not, List, [], ◌∷◌, ◌++◌, get_or, refl, sym, ap, ap₂, ◌∙◌, subst, ⊎_elim, append_assoc, arith}
+use Rattle.std.specs.Bool.{MatchBool}
+use Rattle.std.specs.List.{AllPairs, Contains}
+use Rattle.std.proofs.lemmas.Int.{by_lt_z, ints}
+use Rattle.std.proofs.lemmas.List.Elements.{Contains-append_left, Contains-get_or, Contains-push, Contains-push_cases}
+use Rattle.std.proofs.lemmas.List.Kept.{AllPairs-cons}
+use Rattle.std.proofs.lemmas.List.Quantifiers.{all_pairs_push}
+use Rattle.i_tree.proofs.RootLemmas.Lists.{Contains-here, Contains-there}
+use Rattle.plane.specs.declared.edge.Edge.{Edge}
+use Rattle.plane.specs.declared.point.Point.{Point}
+use Rattle.overlay.specs.Snap.Chains.{IsChain, IsEnd, IsHot, Passes, Upto}
+use Rattle.overlay.specs.Snap.Hot.{PassesInside}
+use Rattle.overlay.specs.Snap.Stops.{GoesToEnd}
+use Rattle.overlay.specs.Snap.Windings.{end_of, start_of}
+use Rattle.overlay.proofs.SnapLemmas.Along.{Passes-end, Passes-start, Upto-from_start, Upto-to_end, point_at}
+
+-- what stands in front stays in front
+pub GoesToEnd-append : (edge : Edge) (before list after : List Point) → GoesToEnd edge (before ++ list) after → (chain : List Point) × GoesToEnd edge list chain × (after ≡ before ++ chain)
+GoesToEnd-append edge before list after (inl (point, is)) = (list, inl (point, refl), is)
+GoesToEnd-append edge before list after (inr (apart, is)) = (list ++ end_of edge ∷ [], inr (apart, refl), is ∙ append_assoc before list (end_of edge ∷ []))
+
+-- what an edge passes is inside it where it is none of its ends
+pub inside_by : (edge : Edge) (x y : ℤ) (end passed : Bool) → MatchBool end (IsEnd edge x y) (¬ (IsEnd edge x y)) → end ≡ false → MatchBool passed (Passes edge x y) (¬ (Passes edge x y)) → MatchBool passed (PassesInside edge x y) (¬ (PassesInside edge x y))
+inside_by edge x y false true none same is = (is, none)
+inside_by edge x y false false none same is = λ both. is both.0
+inside_by edge x y true passed none same is = absurd (cc)
+
+pub outside_by : (edge : Edge) (x y : ℤ) (end : Bool) → MatchBool end (IsEnd edge x y) (¬ (IsEnd edge x y)) → end ≡ true → MatchBool (not end) (PassesInside edge x y) (¬ (PassesInside edge x y))
+outside_by edge x y true is same = λ both. both.1 is
+outside_by edge x y false is same = absurd (cc)
+
+-- two whole numbers are the same or not
+same_or : (a b : ℤ) → (a ≡ b) ⊎ (a ≢ b)
+same_or a b =
+    by_lt_z a b
+    (λ less. inr (λ same. omega (arith, ints, less, same)))
+    (λ upto. by_lt_z b a (λ less. inr (λ same. omega (arith, ints, less, same))) (λ back. inl (omega (arith, ints, upto, back))))
+
+-- a point is the edge's start, or its end, or neither
+data EndOr (edge : Edge) (c : Point) : Type 0 where
+  is_start : c ≡ start_of edge → EndOr edge c
+  is_end : c ≡ end_of edge → EndOr edge c
+  neither : ¬ (IsEnd edge c.x c.y) → EndOr edge c
+
+ends_of : (edge : Edge) (c : Point) → EndOr edge c
+ends_of edge c = go (same_or c.x edge.x0) (same_or c.y edge.y0) (same_or c.x edge.x1) (same_or c.y edge.y1)
+  where
+    last : (c.x ≡ edge.x1) ⊎ (c.x ≢ edge.x1) → (c.y ≡ edge.y1) ⊎ (c.y ≢ edge.y1) → ¬ ((c.x ≡ edge.x0) × (c.y ≡ edge.y0)) → EndOr edge c
+    last (inl x) (inl y) none = is_end (ap₂ point_at x y)
+    last (inr x) y none = neither (λ end. ⊎_elim none (λ is. x is.0) end)
+    last (inl x) (inr y) none = neither (λ end. ⊎_elim none (λ is. y is.1) end)
+
+    go : (c.x ≡ edge.x0) ⊎ (c.x ≢ edge.x0) → (c.y ≡ edge.y0) ⊎ (c.y ≢ edge.y0) → (c.x ≡ edge.x1) ⊎ (c.x ≢ edge.x1) → (c.y ≡ edge.y1) ⊎ (c.y ≢ edge.y1) → EndOr edge c
+    go (inl x) (inl y) x1 y1 = is_start (ap₂ point_at x y)
+    go (inr x) y x1 y1 = last x1 y1 (λ is. x is.0)
+    go (inl x) (inr y) x1 y1 = last x1 y1 (λ is. y is.1)
+
+-- a point in front of a list is first, or of the list
+cons_cases : {X : Type 0} (first : X) (list : List X) (c : X) → Contains (first ∷ list) c → (first ≡ c) ⊎ Contains list c
+cons_cases first list c (zero, within, at) = inl at
+cons_cases first list c (suc k, within, at) = inr (k, omega (arith, within), at)
+
+module _ (edges : List Edge) (edge : Edge) (held : Contains edges edge) (inner : List Point)
+    (inner_in_order : AllPairs (λ c d. Upto edge c.x c.y d.x d.y) inner) (inner_once : AllPairs (λ c d. c ≢ d) inner)
+    (of_inner : (c : Point) → Contains inner c → IsHot edges c.x c.y × PassesInside edge c.x c.y)
+    (in_inner : (c : Point) → IsHot edges c.x c.y × PassesInside edge c.x c.y → Contains inner c) where
+  abbrev front : List Point
+  front = start_of edge ∷ inner
+
+  front_in_order : AllPairs (λ c d. Upto edge c.x c.y d.x d.y) front
+  front_in_order =
+      AllPairs-cons (λ c d. Upto edge c.x c.y d.x d.y) (start_of edge) inner
+      (λ k d within. let c = get_or inner k d in Upto-from_start edge c.x c.y (of_inner c (Contains-get_or inner k d within)).1.0)
+      inner_in_order
+
+  front_once : AllPairs (λ c d. c ≢ d) front
+  front_once =
+      AllPairs-cons (λ c d. c ≢ d) (start_of edge) inner
+      (λ k d within same.
+      let c = get_or inner k d in
+      (of_inner c (Contains-get_or inner k d within)).1.1 (inl (sym (ap (λ (p : Point). p.x) same), sym (ap (λ (p : Point). p.y) same))))
+      inner_once
+
+  start_is : IsHot edges edge.x0 edge.y0 × Passes edge edge.x0 edge.y0
+  start_is = (inl (edge, held, inl (refl, refl)), Passes-start edge)
+
+  end_is : IsHot edges edge.x1 edge.y1 × Passes edge edge.x1 edge.y1
+  end_is = (inl (edge, held, inr (refl, refl)), Passes-end edge)
+
+  of_front : (c : Point) → Contains front c → IsHot edges c.x c.y × Passes edge c.x c.y
+  of_front c held =
+      ⊎_elim
+      (λ same. subst (λ (p : Point). IsHot edges p.x p.y × Passes edge p.x p.y) same start_is)
+      (λ among. let is = of_inner c among in (is.0, is.1.0))
+      (cons_cases (start_of edge) inner c held)
+
+  in_front : (c : Point) → IsHot edges c.x c.y × Passes edge c.x c.y → Contains front c ⊎ (c ≡ end_of edge)
+  in_front c (hot, passed) = go (ends_of edge c)
+    where
+      go : EndOr edge c → Contains front c ⊎ (c ≡ end_of edge)
+      go (is_start same) = inl (subst (λ (p : Point). Contains front p) (sym same) (Contains-here (start_of edge) inner))
+      go (is_end same) = inr same
+      go (neither none) = inl (Contains-there (start_of edge) inner c (in_inner c (hot, (passed, none))))
+
+  -- an edge that is a point has one end
+  whole_point : start_of edge ≡ end_of edge → IsChain edges edge front
+  whole_point same = record {
+    in_order = front_in_order;
+    once = front_once;
+    exact = λ c. (of_front c, λ is. ⊎_elim (λ among. among) (λ end. subst (λ (p : Point). Contains front p) (same ∙ sym end) (Contains-here (start_of edge) inner)) (in_front c is));
+  }
+
+  abbrev all : List Point
+  all = front ++ end_of edge ∷ []
+
+  in_order : AllPairs (λ c d. Upto edge c.x c.y d.x d.y) all
+  in_order =
+      all_pairs_push (λ c d. Upto edge c.x c.y d.x d.y) front (end_of edge) front_in_order
+      (λ k d within. let c = get_or front k d in Upto-to_end edge c.x c.y (of_front c (Contains-get_or front k d within)).1)
+
+  once : start_of edge ≢ end_of edge → AllPairs (λ c d. c ≢ d) all
+  once apart =
+      all_pairs_push (λ c d. c ≢ d) front (end_of edge) front_once
+      (λ k d within same. go (get_or front k d) same (cons_cases (start_of edge) inner (get_or front k d) (Contains-get_or front k d within)))
+    where
+      go : (c : Point) → c ≡ end_of edge → ¬ ((start_of edge ≡ c) ⊎ Contains inner c)
+      go c same (inl start) = apart (start ∙ same)
+      go c same (inr among) = (of_inner c among).1.1 (inr (ap (λ (p : Point). p.x) same, ap (λ (p : Point). p.y) same))
+
+  of_all : (c : Point) → Contains all c → IsHot edges c.x c.y × Passes edge c.x c.y
+  of_all c held =
+      ⊎_elim (of_front c) (λ same. subst (λ (p : Point). IsHot edges p.x p.y × Passes edge p.x p.y) same end_is) (Contains-push_cases front (end_of edge) c held)
+
+  in_all : (c : Point) → IsHot edges c.x c.y × Passes edge c.x c.y → Contains all c
+  in_all c is =
+      ⊎_elim (Contains-append_left front (end_of edge ∷ []) c) (λ same. subst (λ (p : Point). Contains all p) (sym same) (Contains-push front (end_of edge))) (in_front c is)
+
+  pub IsChain-ends : (chain : List Point) → GoesToEnd edge (start_of edge ∷ inner) chain → IsChain edges edge chain
+  IsChain-ends chain (inl (point, is)) = subst (IsChain edges edge) (sym is) (whole_point point)
+  IsChain-ends chain (inr (apart, is)) =
+      subst (IsChain edges edge) (sym is) (record {
+        in_order = in_order;
+        once = once apart;
+        exact = λ c. (of_all c, in_all c);
+      })

@@ -1,0 +1,111 @@
+-- Edges in the order of their starts.
+use Rattle.std.proofs.Common.{◌≡◌, ◌≢◌, inl, inr, ℕ, ◌<◌, ◌≤◌, ℤ, ◌≤ℤ◌, ◌<ℤ◌, false, List, length, Ordering, Less, Equal, Greater, refl, sym, ap, ap₂, ◌∙◌, subst, arith}
+use denote.Param.Members.{Mut}
+use denote.Ref.{Bor}
+use Rattle.std.specs.Fn.{Called, ComputesKey}
+use Rattle.std.specs.List.Sorted.{IsSortedBy, IsSortedByKey}
+use Rattle.std.specs.Ordering.{MatchOrdering, int_cmp, ordering_then, is_lt}
+use Rattle.std.proofs.lemmas.Bool.{cases_lt}
+use Rattle.std.proofs.lemmas.Cmp.{int_ranked}
+use Rattle.std.proofs.lemmas.Fn.{always_returns_same}
+use Rattle.std.proofs.lemmas.Int.{ints}
+use Rattle.std.proofs.lemmas.List.Sorted.{ranks_by, sorted_far}
+use Rattle.plane.specs.declared.edge.Edge.{Edge}
+use Rattle.plane.specs.declared.point.Point.{Point}
+use Rattle.overlay.specs.Contours.Order.{AreInOrder, IsBehind, IsCorner, IsFirstFrom, corner_of, edge_at, point_at}
+use Rattle.overlay.specs.declared.contours.order.Corner.{Corner}
+use Rattle.overlay.specs.contracts.contours.order.CornerOrd.TheImpl.{ghosts as corner_order}
+use Rattle.overlay.specs.contracts.contours.order.CornerOrd.TheImpl.Laws.{total-law as corner_total}
+
+-- ---- points
+
+abbrev pub point : ℤ → ℤ → Point
+point x y = record { x = x; y = y }
+
+pub IsBehind-same : (p q : Point) → p ≡ q → IsBehind p q
+IsBehind-same p q same = let x = ap (λ (r : Point). r.x) same in let y = ap (λ (r : Point). r.y) same in inr (x, omega (arith, ints, y))
+
+pub IsBehind-both : (p q : Point) → IsBehind p q → IsBehind q p → p ≡ q
+IsBehind-both p q (inl one) (inl other) = absurd (omega (arith, ints, one, other))
+IsBehind-both p q (inl one) (inr (other, y)) = absurd (omega (arith, ints, one, other))
+IsBehind-both p q (inr (x, one)) (inl other) = absurd (omega (arith, ints, x, other))
+IsBehind-both p q (inr (x, one)) (inr (other, y)) = let same : p.y ≡ q.y = omega (arith, ints, one, y) in ap₂ point x same
+
+-- a point that isn't behind another has that one behind it
+pub IsBehind-other : (p q : Point) → ¬ (IsBehind p q) → IsBehind q p
+IsBehind-other p q none =
+    by_x (int_cmp q.x p.x) (int_ranked q.x p.x (int_cmp q.x p.x) refl)
+  where
+    by_y : (o : Ordering) → q.x ≡ p.x → MatchOrdering o (q.y <ℤ p.y) (q.y ≡ p.y) (p.y <ℤ q.y) → IsBehind q p
+    by_y Less x said = inr (x, omega (arith, ints, said))
+    by_y Equal x said = inr (x, omega (arith, ints, said))
+    by_y Greater x said = absurd (none (inr (sym x, omega (arith, ints, said))))
+
+    by_x : (o : Ordering) → MatchOrdering o (q.x <ℤ p.x) (q.x ≡ p.x) (p.x <ℤ q.x) → IsBehind q p
+    by_x Less said = inl said
+    by_x Equal said = by_y (int_cmp q.y p.y) said (int_ranked q.y p.y (int_cmp q.y p.y) refl)
+    by_x Greater said = absurd (none (inl said))
+
+pub IsBehind-trans : (p q r : Point) → IsBehind p q → IsBehind q r → IsBehind p r
+IsBehind-trans p q r (inl one) (inl other) = inl (omega (arith, ints, one, other))
+IsBehind-trans p q r (inl one) (inr (other, y)) = inl (omega (arith, ints, one, other))
+IsBehind-trans p q r (inr (x, one)) (inl other) = inl (omega (arith, ints, x, other))
+IsBehind-trans p q r (inr (x, one)) (inr (other, y)) = inr (x ∙ other, omega (arith, ints, one, y))
+
+-- ---- the sort by corners
+
+not_less-y : (y y' : ℤ) (o : Ordering) → MatchOrdering o (y' <ℤ y) (y' ≡ y) (y <ℤ y') → is_lt o ≡ false → y ≤ℤ y'
+not_less-y y y' Less said is = absurd cc
+not_less-y y y' Equal said is = omega (arith, ints, said)
+not_less-y y y' Greater said is = omega (arith, ints, said)
+
+not_less : (x y x' y' : ℤ) (o : Ordering) → MatchOrdering o (x' <ℤ x) (x' ≡ x) (x <ℤ x') → is_lt (ordering_then o (int_cmp y' y)) ≡ false → IsBehind (point x y) (point x' y')
+not_less x y x' y' Less said is = absurd cc
+not_less x y x' y' Equal said is = inr (sym said, not_less-y y y' (int_cmp y' y) (int_ranked y' y (int_cmp y' y) refl) is)
+not_less x y x' y' Greater said is = inl said
+
+pub AreInOrder-sorted : (sorted : List Edge) → IsSortedBy (λ one other. is_lt (corner_order.cmp (corner_of one) (corner_of other))) sorted → AreInOrder sorted
+AreInOrder-sorted sorted rising i j upto within =
+    let one = edge_at sorted i in
+    let other = edge_at sorted j in
+    let far = sorted_far (λ a b. is_lt (corner_order.cmp (corner_of a) (corner_of b))) (ranks_by corner_total corner_of) sorted rising i j _ upto within in
+    not_less one.x0 one.y0 other.x0 other.y0 (int_cmp other.x0 one.x0) (int_ranked other.x0 one.x0 (int_cmp other.x0 one.x0) refl) far
+
+-- what the sort ensures
+pub AreInOrder-from_sort : {F : Type 0} {g : Mut F (Bor Edge × Unit {0}) Corner} {f : F} (sorted : List Edge)
+    → ((key : Edge → Corner) → ComputesKey g key f → IsSortedByKey key corner_order.cmp sorted)
+    → ((a : Bor Edge × Unit {0}) (r : Corner) (f' : F) → Called g f a r f' → (r ≡ corner_of a.0.now) × (f' ≡ f)) → AreInOrder sorted
+AreInOrder-from_sort {g = g} {f = f} sorted rising answers = AreInOrder-sorted sorted (rising corner_of (always_returns_same g (λ a r. r ≡ corner_of a.0.now) f answers))
+
+-- ---- where the edges stand that start at a point
+
+module _ (sorted : List Edge) (order : AreInOrder sorted) (at : Point) (first : ℕ) (from : IsFirstFrom sorted at first) where
+  -- none before
+  pub from-first : (k : ℕ) → point_at sorted k ≡ at → first ≤ k
+  from-first k is = elim (cases_lt k first) [
+    | inl before ↦ absurd (from.before k before (IsBehind-same at (point_at sorted k) (sym is)))
+    | inr upto ↦ upto
+  ]
+
+  -- and none behind one that starts elsewhere
+  pub upto-other : (end k : ℕ) → first ≤ end → end < length sorted → point_at sorted end ≢ at → k < length sorted → point_at sorted k ≡ at → k < end
+  upto-other end k upto inside other within is = elim (cases_lt k end) [
+    | inl before ↦ before
+    | inr later ↦
+        let behind = subst (λ (p : Point). IsBehind (point_at sorted end) p) is (order end k later within) in
+        absurd (other (IsBehind-both (point_at sorted end) at behind (from.behind end upto inside)))
+  ]
+
+  -- if there is one, the first of them stands for the point
+  pub corner-from : (k : ℕ) → k < length sorted → point_at sorted k ≡ at → (point_at sorted first ≡ at) × IsCorner sorted first
+  corner-from k within is =
+      let upto = from-first k is in
+      let inside : first < length sorted = omega (arith, upto, within) in
+      let behind = subst (λ (p : Point). IsBehind (point_at sorted first) p) is (order first k upto within) in
+      let same : point_at sorted first ≡ at = IsBehind-both (point_at sorted first) at behind (from.behind first (omega arith) inside) in (
+        same,
+        record {
+          inside = inside;
+          first = λ i before equal. from.before i before (IsBehind-same at (point_at sorted i) (sym (equal ∙ same)));
+        },
+      )

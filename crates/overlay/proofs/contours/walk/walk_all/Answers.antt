@@ -1,0 +1,94 @@
+use Rattle.std.proofs.Common.{◌≡◌, ◌++◌, [], ℕ, true, false, inl, inr, IsPermutation, List, get_or, length, sym, ◌∙◌, subst, append-nil, arith}
+use Rattle.std.specs.List.{flat_map}
+use Rattle.std.proofs.lemmas.Bool.{cases_eq}
+use Rattle.std.proofs.lemmas.List.{get_or_default}
+use Rattle.std.proofs.lemmas.List.Sorted.{IsPermutation-refl}
+use Rattle.plane.specs.declared.edge.Edge.{Edge}
+use Rattle.plane.proofs.PairsLemmas.Extends.{OnErr-always}
+use Rattle.overlay.specs.Contours.Rings.{ring_edges}
+use Rattle.overlay.specs.Contours.Walks.{unwalked}
+use Rattle.overlay.specs.Snap.Offsets.{offsets}
+use Rattle.overlay.proofs.ChainLemmas.Runs.{Extends-trans}
+use Rattle.overlay.proofs.ContourLemmas.Counts.{IsClosed-rest}
+use Rattle.overlay.proofs.ContourLemmas.Rings.{AreAppended-more, AreAppended-none, rings-more}
+use Rattle.overlay.proofs.ContourLemmas.Walks.{unwalked-none}
+use Rattle.overlay.proofs.contours.walk.walk_all.Goals as goal
+
+pub loop-first-init : goal.loop-first-init
+loop-first-init g c =
+    let sorted = c.args.sorted.now in (
+      (
+        [],
+        AreAppended-none c.args.points.now.items c.args.ring_ends.now.items,
+        subst (λ (edges : List Edge). IsPermutation edges sorted) (sym c.requires.all) (IsPermutation-refl sorted),
+      ),
+      (λ k below. absurd (omega (arith, below))),
+      c.requires.used_size,
+      c.requires.marks_size,
+      c.requires.begins,
+    )
+
+pub walk-requires-clause-rest : goal.walk-requires-clause-rest
+walk-requires-clause-rest g c =
+    let ((rings, appended, moved), walked, used_size, marks_size, none) = c.loop-first.invariant in
+    let sorted = c.args.sorted.now in
+    IsClosed-rest rings (unwalked sorted c.loop-first.used) sorted moved c.requires.closed
+
+pub returns-in_err-walk-clause-err : goal.returns-in_err-walk-clause-err
+returns-in_err-walk-clause-err g c =
+    let ((rings, appended, moved), walked, used_size, marks_size, none) = c.loop-first.invariant in
+    let (points, ends) = c.in_err-walk.ensures.err in
+    OnErr-always c.from_residual.result _ (
+      Extends-trans c.args.points.now.items c.loop-first.points.items c.walk.new.points.items (flat_map (λ ring. ring) rings, appended.points_are) points,
+      Extends-trans c.args.ring_ends.now.items c.loop-first.ring_ends.items c.walk.new.ring_ends.items (offsets (length c.args.points.now.items) rings, appended.ends_are) ends,
+    )
+
+pub loop-first-preserved-then-used-first : goal.loop-first-preserved-then-used-first
+loop-first-preserved-then-used-first g c =
+    let (so_far, walked, used_size, marks_size, none) = c.loop-first.invariant in
+    let used = c.loop-first.used in
+    let first = c.loop-first.first in
+    let inside = c.loop-first-test.true in (
+      so_far,
+      (λ k below. elim (cases_eq k first) [
+        | inl same ↦ subst (λ (n : ℕ). get_or used n true ≡ true) (sym same) (get_or_default used first true false (omega (arith, inside, used_size)) ∙ c.if-used-first.true)
+        | inr differs ↦ walked k (omega (arith, below, differs))
+      ]),
+      used_size,
+      marks_size,
+      none,
+    )
+
+pub loop-first-preserved : goal.loop-first-preserved
+loop-first-preserved g c =
+    let ((rings, appended, moved), walked, used_size, marks_size, none) = c.loop-first.invariant in
+    let (others, now_appended, now_moved, now_none) = c.in_ok-walk.ensures.ok in
+    let sorted = c.args.sorted.now in
+    let used = c.loop-first.used in
+    let first = c.loop-first.first in
+    let used_same = c.in_ok-walk.ensures.used_size in
+    let marks_same = c.in_ok-walk.ensures.marks_size in (
+      (
+        rings ++ others,
+        AreAppended-more rings others c.args.points.now.items c.loop-first.points.items c.walk.new.points.items c.args.ring_ends.now.items c.loop-first.ring_ends.items c.walk.new.ring_ends.items appended now_appended,
+        rings-more rings others (unwalked sorted c.walk.new.used) (unwalked sorted used) sorted now_moved moved,
+      ),
+      (λ k below. elim (cases_eq k first) [
+        | inl same ↦ subst (λ (n : ℕ). get_or c.walk.new.used n true ≡ true) (sym same) c.in_ok-walk.ensures.walked
+        | inr differs ↦ c.in_ok-walk.ensures.keeps k (walked k (omega (arith, below, differs)))
+      ]),
+      used_same ∙ used_size,
+      marks_same ∙ marks_size,
+      now_none,
+    )
+
+pub returns-clause-ok : goal.returns-clause-ok
+returns-clause-ok g c =
+    let ((rings, appended, moved), walked, used_size, marks_size, none) = c.loop-first.invariant in
+    let past = c.loop-first-test.false in
+    let sorted = c.args.sorted.now in
+    let left : unwalked sorted c.loop-first.used ≡ [] = unwalked-none sorted c.loop-first.used (λ k within. walked k (omega (arith, within, past))) in (
+      rings,
+      appended,
+      subst (λ (edges : List Edge). IsPermutation edges sorted) (append-nil (flat_map ring_edges rings)) (subst (λ (edges : List Edge). IsPermutation (flat_map ring_edges rings ++ edges) sorted) left moved),
+    )

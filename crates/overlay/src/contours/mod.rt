@@ -1,0 +1,72 @@
+//! Contours: closed edges become rings that visit no point twice.
+
+ghost use Rattle.std.specs.Prelude.{◌≡◌, ◌++◌, List, OnOk, OnErr, IfErr, length};
+ghost use Rattle.std.specs.List.{flat_map};
+ghost use Rattle.i_tree.specs.declared.Refusal.TheVariants.{OutOfMemory};
+ghost use Rattle.plane.specs.declared.point.Point.{Point};
+ghost use Rattle.overlay.specs.Contours.Rings.{AreContours};
+ghost use Rattle.overlay.specs.Snap.Offsets.{offsets, Extends};
+ghost use Rattle.overlay.specs.Snap.Windings.{IsClosed};
+
+use i_tree::Refusal;
+use order::edges_in_order;
+use plane::edge::Edge;
+use plane::point::Point;
+use std::alloc::{AllocError, Allocator};
+use walk::append_rings;
+
+mod cutting;
+mod order;
+mod turns;
+mod walk;
+
+/// Appends rings of closed edges to `points`, one after another, and to `ring_ends` where each stops among these.
+///
+/// Edges are closed where as many of them start at each point as end there, as those of rings are, and the pieces of closed
+/// edges. The edges of a ring go from each of its points to the next one, and from the last one to the first; that of a ring
+/// of one point goes from it to itself. Each edge is that of one ring, and no ring visits a point twice.
+///
+/// Where several edges start at a point, a ring goes on along the one that turns furthest left. So rings that have their
+/// inside on the left touch, and don't cross.
+///
+/// It is refused for want of memory alone, and leaves `points` and `ring_ends` as they were then. The memory is that of their
+/// allocator.
+pub fn contours<A: Allocator + Copy>(
+    edges: &[Edge],
+    points: &mut Vec<Point, A>,
+    ring_ends: &mut Vec<usize, A>,
+) -> Result<(), Refusal>
+    requires { IsClosed edges.now }
+    ensures ok { OnOk result ((rings : List (List Point)) × AreContours edges.now rings
+        × (points.new.items ≡ points.old.items ++ flat_map (λ ring. ring) rings)
+        × (ring_ends.new.items ≡ ring_ends.old.items ++ offsets (length points.old.items) rings)) }
+    ensures err { OnErr result ((points.new.items ≡ points.old.items) × (ring_ends.new.items ≡ ring_ends.old.items)) }
+    ensures refused { IfErr result (λ cause. cause ≡ OutOfMemory) }
+{
+    let points_before = points.len();
+    let ends_before = ring_ends.len();
+    let outcome = append_all(edges, points, ring_ends);
+    if outcome.is_err() {
+        points.truncate(points_before);
+        ring_ends.truncate(ends_before);
+        return Err(Refusal::OutOfMemory);
+    }
+    Ok(())
+}
+
+// As `contours`, but where it is refused, it may have appended something.
+fn append_all<A: Allocator + Copy>(
+    edges: &[Edge],
+    points: &mut Vec<Point, A>,
+    ring_ends: &mut Vec<usize, A>,
+) -> Result<(), AllocError>
+    requires { IsClosed edges.now }
+    ensures ok { OnOk result ((rings : List (List Point)) × AreContours edges.now rings
+        × (points.new.items ≡ points.old.items ++ flat_map (λ ring. ring) rings)
+        × (ring_ends.new.items ≡ ring_ends.old.items ++ offsets (length points.old.items) rings)) }
+    ensures err { OnErr result (Extends points.old.items points.new.items × Extends ring_ends.old.items ring_ends.new.items) }
+{
+    let alloc = *points.allocator();
+    let sorted = edges_in_order(alloc, edges)?;
+    append_rings(alloc, &sorted, points, ring_ends)
+}

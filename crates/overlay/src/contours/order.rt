@@ -1,0 +1,81 @@
+//! Edges in the order of their starts, and where those that start at a point stand.
+
+ghost use Rattle.std.specs.Prelude.{◌≡◌, IfOk, IsPermutation, MatchBool};
+ghost use Rattle.overlay.specs.Contours.Order.{AreInOrder, IsBehind, IsFirstFrom, corner_of};
+ghost use Rattle.overlay.specs.Snap.Windings.{start_of, end_of};
+
+use plane::edge::Edge;
+use plane::point::Point;
+use std::alloc::{AllocError, Allocator};
+
+/// A point at which edges start. They are in order by x, and then by y.
+#[derive(Clone, Copy, Debug, PartialEq, Eq, PartialOrd, Ord)]
+pub struct Corner {
+    pub x: i32,
+    pub y: i32,
+}
+
+/// The edges in the order of their starts.
+pub fn edges_in_order<A: Allocator>(alloc: A, edges: &[Edge]) -> Result<Vec<Edge, A>, AllocError>
+    ensures { IfOk result (λ sorted. IsPermutation edges.now sorted.items × AreInOrder sorted.items) }
+{
+    let mut sorted = Vec::with_capacity(alloc, edges.len())?;
+    sorted.extend_from_slice(edges)?;
+    sorted.sort_unstable_by_key(|edge| corner_of(*edge));
+    Ok(sorted)
+}
+
+/// The corner at which the edge starts.
+fn corner_of(edge: Edge) -> Corner
+    ensures { result ≡ corner_of edge }
+{
+    Corner {
+        x: edge.x0,
+        y: edge.y0,
+    }
+}
+
+/// The point at which the edge starts.
+pub fn start_of(edge: Edge) -> Point
+    ensures { result ≡ start_of edge }
+{
+    Point {
+        x: edge.x0,
+        y: edge.y0,
+    }
+}
+
+/// The point at which the edge ends.
+pub fn end_of(edge: Edge) -> Point
+    ensures { result ≡ end_of edge }
+{
+    Point {
+        x: edge.x1,
+        y: edge.y1,
+    }
+}
+
+/// How many of the edges in order start before the point.
+pub fn first_from(sorted: &[Edge], point: Point) -> usize
+    requires { AreInOrder sorted.now }
+    ensures { IsFirstFrom sorted.now point result }
+{
+    let mut low = 0;
+    let mut high = sorted.len();
+    while low < high {
+        let middle = low + (high - low) / 2;
+        if is_behind(sorted[middle], point) {
+            high = middle;
+        } else {
+            low = middle + 1;
+        }
+    }
+    low
+}
+
+/// Whether the edge starts at the point or behind it.
+fn is_behind(edge: Edge, point: Point) -> bool
+    ensures { MatchBool result (IsBehind point (start_of edge)) (¬ (IsBehind point (start_of edge))) }
+{
+    point.x < edge.x0 || (point.x == edge.x0 && point.y <= edge.y0)
+}
