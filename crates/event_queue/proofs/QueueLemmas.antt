@@ -1,6 +1,8 @@
 -- Lemmas on the events of a sweep: how their list grows and is sorted, what of them is done, and which answers stand.
 pub mod Answers
 pub mod Begins
+pub mod Dealing
+pub mod Digits
 pub mod Done
 pub mod Listing
 pub mod Places

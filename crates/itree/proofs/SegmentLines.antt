@@ -4,7 +4,7 @@ use Rattle.std.proofs.lemmas.List.Elements.{filter_map-append}
 use Rattle.std.specs.List.{cons_option}
 use Rattle.std.specs.Option.{option_to_list}
 use Rattle.itree.specs.Grammar.{LineSays, LinesSay}
-use Rattle.itree.specs.SweepLines.{SaysSweepLine, segment_in, segments_of, says_segment, IsSegmentLine}
+use Rattle.itree.specs.SweepLines.{SaysSweepLine, segment_in, segments_of, says_segment}
 use Rattle.itree.specs.declared.lines.sweep.SweepLine.{SweepLine}
 use Rattle.itree.specs.declared.lines.sweep.SweepLine.TheVariants as sweep_line
 use Rattle.itree_lib.specs.declared.sweep.Segment.{Segment}

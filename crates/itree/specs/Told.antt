@@ -1,11 +1,9 @@
 -- How pairs of edges that meet, edges below points, and the chains of edges are told to the replies.
 use Rattle.std.specs.Prelude.{◌≡◌, ◌==◌, ◌<◌, ◌≤◌, ℕ, if◌then◌else◌, List, Option, Some, None, AllPairs, length, map, slice_get}
-use Rattle.std.specs.List.{filter_map, flat_map}
+use Rattle.std.specs.List.{filter_map}
 use Rattle.itree.specs.declared.lines.meetings.MetLines.{MetLines}
 use Rattle.plane.specs.Meet.Meetings.{AreMeetings}
 use Rattle.plane.specs.declared.edge.Edge.{Edge}
-use Rattle.plane.specs.declared.point.Point.{Point}
-use Rattle.overlay.specs.Snap.Offsets.{offsets}
 
 -- the number at the pair's earlier place, where its later place is this one
 abbrev pub number_told : List ℕ → ℕ → ℕ × ℕ → Option ℕ
@@ -33,7 +31,3 @@ pub record AreOrderedMeetings (edges : List Edge) (pairs : List (ℕ × ℕ)) : 
 abbrev pub number_at : List ℕ → Option ℕ → Option ℕ
 number_at numbers (Some place) = slice_get numbers place
 number_at numbers None = None
-
--- the points are those of the chains, one chain after the other, and the numbers tell where each stops
-abbrev pub AreJoined : List (List Point) → List Point → List ℕ → Type 0
-AreJoined chains points ends = (points ≡ flat_map (λ chain. chain) chains) × (ends ≡ offsets 0 chains)

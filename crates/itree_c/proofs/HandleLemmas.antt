@@ -8,25 +8,33 @@
 --   an export with the clause `made`, as `itree_meetings_all`, and its walk over the row of the kind: behind the private
 --   call `parts_out` takes the answer apart, and at the end `made_in` makes the clause of what is owned. Only what is
 --   done with the parameters is its own: `itree_meetings_between` has one slice more;
---   walks as those of `itree_pairs_first` and `itree_pairs_free` for what reads it and what frees it.
+--   walks as those of `itree_pairs_first` and `itree_pairs_free` for what reads it and what frees it: `held_out` opens
+--   what the handle owns, and `held_in` closes it.
 -- The walks take the names of the toolchain's logic from `Steps`.
-use Rattle.std.proofs.Common.{◌≡◌, ℤ, List, [], ◌∷◌, ◌++◌, refl, ap, ◌∙◌, Bool, true, false, ◌&&◌, w32, Option}
+use Rattle.std.proofs.Common.{◌≡◌, ℕ, ℤ, List, [], ◌∷◌, ◌++◌, refl, sym, ap, ◌∙◌, Bool, true, false, ◌&&◌, w32, Option, Some}
 use lib.Dec.{T}
 use seplogic.Ra.Ura.{Ura}
+use mir.Raw.{raw as bare}
 use mir.Syntax.{impl, tnil, dnil, ty_ptr}
-use mir.Val.{Val, vint, vstruct, vcons, vnil, of_list, of_z, has_ty, WT}
-use base.Fml.{Fml}
-use base.Logic.{emp, sep, ex, ex_i}
+use mir.Val.{Val, vint, vptr, vstruct, vcons, vnil, of_list, of_z, has_ty, WT}
+use base.Fml.{Fml, fat}
+use base.Fraction.{full_share}
+use base.Logic.{emp, sep, ex, ex_i, never, fst∗, id⊢}
+use borrow.Table.OneValue.{One, part_in, part_out}
 use types.Logic.{Logic, sem}
-use types.Kit.{Goal, Item, Seq, Step, step, ‵, raw, ◌$◌, drop, move, fsplit, fsplit3, fpick, feq_l, join, use0, use1, rewrite}
+use types.Kit.{Goal, Item, Seq, Step, step, ‵, raw, some, ◌⊛◌, ◌$◌, drop, move, pick, split, feq_i, fjoin, fpack, fsplit, fsplit3, fpick, feq_l, join, use0, use1, use2, rewrite}
+use types.Run.{well_typed}
 use contract.Monad.{fact, fact_i}
 use denote.Builtin.{i32}
 use denote.Laws.{Is, shows}
+use denote.Memory.{lone, part_at}
 use denote.Param.{layout}
-use denote.RattleType.{RattleType}
-use denote.RawPtr.{Ptr, ptr_val, rawptr_Lawful}
+use denote.RattleType.{RattleType, Valss}
+use denote.RawPtr.{Ptr, RawPtr, block_ptr, null_ptr, in_a_block, ptr_val, rawptr_Lawful}
 use denote.Signed.{sint_Lawful}
-use denote.Steps.{only, peeks}
+use denote.Steps.{nothing, only, peeks}
+use denote.Struct.Owning.{shape}
+use denote.Struct.Struct.{within}
 use denote.Struct.Tuple.{Tuple}
 use Rattle.std.proofs.ResultValues.{and_tt}
 use Rattle.std.proofs.alloc.Calls.{Al, handle_tells}
@@ -42,6 +50,10 @@ Z = heap.the_row
 
 abbrev pub al : Al
 al = record { row = Z; laws = heap_laws.the_row_laws; g = ghosts; d = impl [] tnil dnil; drops = impl [] tnil dnil }
+
+-- the parts of a box in a block, by what the machine has of the allocator
+abbrev pub parts_word : Val → ℕ → ℕ → Val
+parts_word h b o = vstruct (vcons (vptr b o) (vcons h vnil))
 
 both_tt : (x y : Bool) → T x → T y → T (x && (y && true))
 both_tt true true s t = tt
@@ -60,6 +72,9 @@ module _ (held : RattleType) where
   -- what lies at the pointer, with the right to free it, or that it is null
   abbrev pub owns : Ptr → Option held.Denot → Fml
   owns = owns_at (ghosts.dealloc_token (record { memory = record { seal = tt } })) held
+
+  abbrev pub right_to_free : Ptr → Fml
+  right_to_free = ghosts.dealloc_token (record { memory = record { seal = tt } }) (bare (lone held.mir))
 
   -- the answer as the machine has it, by what it has of the allocator
   abbrev pub status_word : ℤ → Val
@@ -96,6 +111,38 @@ module _ (held : RattleType) {M : Type 1} {𝓤 : Ura M} {𝓛 : Logic 𝓤} {K 
       -- [the handle; nothing; what it owns; the status; nothing]
       drop t $ drop t $ move t (2 ∷ []) $ drop t $
       k (record { h = h; is = is_word; good = both; status = status; at = at }))))))))
+
+  -- What a handle owns is [the memory with the value in it; what the value owns; the right to free it]. The value's machine
+  -- value is told by the row's laws (`lowered`, and `val_is` of `lowers`).
+  pub held_out : K → One held → (word_of : held.Denot → Val) → ((x : held.Denot) (vs : List Val) → Is held x vs → vs ≡ word_of x ∷ []) → (p : Ptr) (x : held.Denot)
+      → ((b o : ℕ) → p ≡ block_ptr b o → T (has_ty (layout held) (word_of x)) × WT (word_of x) → Seq K 𝓛 (‵ (fat full_share (layout held) b o (word_of x)) ∷ ‵ (held.own_val x (word_of x ∷ [])) ∷ ‵ (right_to_free held (block_ptr b o)) ∷ Γ) G)
+      → Seq K 𝓛 (‵ (owns held p (Some x)) ∷ Γ) G
+  held_out t one word_of is_word p x k =
+      in_a_block t p (λ at. owns held at (Some x)) (fst∗ 𝓤 (never 𝓤) (sem 𝓛 (right_to_free held null_ptr))) (λ b o e. fsplit t $
+      use1 𝓛 (some (λ (v : Val). ‵ (fat full_share (layout held) b o v) ⊛ ‵ (held.own_val x (v ∷ [])))) (part_out 𝓛 held one full_share x b o) $ pick t (λ v. split t $ move t (1 ∷ []) $
+      peeks t held (Is held) (shows 𝓛 held) x (v ∷ []) (λ is.
+      let ev : v ≡ word_of x = ap only (is_word x (v ∷ []) is) in
+      rewrite t 0 (λ (u : Val). ‵ (held.own_val x (u ∷ []))) ev refl $
+      rewrite t 1 (λ (u : Val). ‵ (fat full_share (layout held) b o u)) ev refl $ move t (1 ∷ []) $
+      well_typed t (λ good. k b o e good))))
+
+  -- And back.
+  pub held_in : K → One held → (p : Ptr) (x : held.Denot) (v : Val) (b o : ℕ) → p ≡ block_ptr b o
+      → Step K 𝓛 (‵ (owns held p (Some x)) ∷ Γ) G (‵ (fat full_share (layout held) b o v) ∷ ‵ (held.own_val x (v ∷ [])) ∷ ‵ (right_to_free held (block_ptr b o)) ∷ Γ) G
+  held_in t one p x v b o e = step (λ s.
+      use2 𝓛 (‵ (part_at held full_share x b o)) (part_in 𝓛 held one full_share x b o v) $ fjoin t $
+      use1 𝓛 (‵ (owns held (block_ptr b o) (Some x))) (id⊢ 𝓤 _) $ rewrite t 0 (λ (at : Ptr). ‵ (owns held at (Some x))) (sym e) refl $ s)
+
+  -- What it owns in a block and the allocator are the parts of a box again.
+  pub parts_in : K → (a : Z.Denot) (h : Val) (b o : ℕ) (x : held.Denot)
+      → Step K 𝓛 (‵ ((R held).own_val (record { at = block_ptr b o; alloc = a; value = Some x }) (parts_word h b o ∷ [])) ∷ Γ) G
+      (‵ (Z.own_val a (h ∷ [])) ∷ ‵ (owns held (block_ptr b o) (Some x)) ∷ Γ) G
+  parts_in t a h b o x = step (λ s.
+      let w : Val = parts_word h b o in
+      nothing t $ move t (1 ∷ 0 ∷ []) $ fjoin t $ feq_i t (List Val) (vptr b o ∷ []) (vptr b o ∷ []) refl $ fjoin t $
+      feq_i t (List Val) (w ∷ []) (w ∷ []) refl $ fjoin t $
+      fpack t (Valss (RawPtr ∷ Z ∷ [])) (within (shape (parts.the_type held Z ghosts)) (block_ptr b o, (a, tt)) (w ∷ [])) (vptr b o ∷ [], (h ∷ [], tt)) $ fjoin t $
+      use1 𝓛 (‵ ((R held).own_val (record { at = block_ptr b o; alloc = a; value = Some x }) (w ∷ []))) (id⊢ 𝓤 _) $ s)
 
   -- What is owned at the end of a call is what its clause says.
   pub made_in : K → (Answers : Option held.Denot → Type 0) (at : Ptr) (value : Option held.Denot) → Answers value

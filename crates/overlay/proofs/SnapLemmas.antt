@@ -2,6 +2,7 @@
 pub mod Along
 pub mod Callers
 pub mod Clear
+pub mod Counted
 pub mod Crossing
 pub mod Exact
 pub mod Falling
@@ -17,5 +18,6 @@ pub mod Pieces
 pub mod Reversed
 pub mod Rising
 pub mod Rounding
+pub mod Standing
 pub mod Sums
 pub mod Windings

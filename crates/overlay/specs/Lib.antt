@@ -1,3 +1,4 @@
+pub mod Boundary
 pub mod Contours
 pub mod Fill
 pub mod Snap

@@ -4,6 +4,7 @@
 //! All is told in whole numbers, and what is rounded is rounded exactly.
 #![tactic(auto)]
 
+pub mod boundary;
 pub mod contours;
 pub mod fill;
 pub mod snap;

@@ -2,8 +2,11 @@
 //!
 //! Which ring comes first, and at which of its points it begins, may change with the code.
 
+ghost use Rattle.std.specs.Prelude.{◌≡◌, IfOk, OnOk};
+ghost use Rattle.overlay.specs.Snap.Windings.{IsClosed, edge_between};
+
 use i_tree::Refusal;
-use overlay::contours::contours;
+use overlay::contours::{contours, outlines};
 use plane::edge::Edge;
 use plane::point::Point;
 use std::alloc::Global;
@@ -178,26 +181,43 @@ static ROWS: [Row; 13] = [
     },
 ];
 
-// Appends the edges of the walk, and the one back to its first point.
-fn push_walk(edges: &mut Vec<Edge>, walk: &[[i32; 2]]) -> Result<(), Fail> {
-    let Some(last) = walk.last() else {
+fn point(at: [i32; 2]) -> Point {
+    let [x, y] = at;
+    Point { x, y }
+}
+
+fn edge_between(from: Point, to: Point) -> Edge
+    ensures { result ≡ edge_between from to }
+{
+    Edge {
+        x0: from.x,
+        y0: from.y,
+        x1: to.x,
+        y1: to.y,
+    }
+}
+
+// Appends the edges of the walk, the one back to its first point too.
+fn push_walk(edges: &mut Vec<Edge>, walk: &[[i32; 2]]) -> Result<(), Fail>
+    ensures { OnOk result (IsClosed edges.old.items → IsClosed edges.new.items) }
+{
+    let Some((first, others)) = walk.split_first() else {
         return Ok(())
     };
-    let [mut x0, mut y0] = *last;
-    for [x, y] in walk {
-        edges.push(Edge {
-            x0,
-            y0,
-            x1: *x,
-            y1: *y,
-        })?;
-        x0 = *x;
-        y0 = *y;
+    let start = point(*first);
+    let mut from = start;
+    for corner in others {
+        let to = point(*corner);
+        edges.push(edge_between(from, to))?;
+        from = to;
     }
+    edges.push(edge_between(from, start))?;
     Ok(())
 }
 
-fn edges_of(alloc: Global, row: &Row) -> Result<Vec<Edge>, Fail> {
+fn edges_of(alloc: Global, row: &Row) -> Result<Vec<Edge>, Fail>
+    ensures { IfOk result (λ edges. IsClosed edges.items) }
+{
     let mut edges = Vec::new(alloc);
     for walk in row.walks {
         push_walk(&mut edges, walk)?;
@@ -231,6 +251,66 @@ fn edges_have_the_rings_worked_by_hand(rt: HostRuntime) -> Result<(), Fail> {
     Ok(())
 }
 
+static STRAIGHT: [Row; 4] = [
+    Row {
+        name: "no edge",
+        walks: &[],
+        points: &[],
+        ends: &[],
+    },
+    // The ring begins in the middle of a side.
+    Row {
+        name: "a square with points along its sides",
+        walks: &[&[
+            [0, 1],
+            [0, 0],
+            [1, 0],
+            [2, 0],
+            [3, 0],
+            [3, 3],
+            [1, 3],
+            [0, 3],
+            [0, 2],
+        ]],
+        points: &[[0, 0], [3, 0], [3, 3], [0, 3]],
+        ends: &[4],
+    },
+    Row {
+        name: "a square beside a square with a point along its side",
+        walks: &[
+            &[[0, 0], [1, 0], [1, 1], [0, 1]],
+            &[[1, 1], [2, 1], [3, 1], [2, 2]],
+        ],
+        points: &[[0, 0], [1, 0], [1, 1], [0, 1], [1, 1], [3, 1], [2, 2]],
+        ends: &[4, 7],
+    },
+    // It turns back at both points, and goes straight on at none.
+    Row {
+        name: "a ring of two points, and one of one",
+        walks: &[&[[0, 0], [3, 1]], &[[5, 5]]],
+        points: &[[0, 0], [3, 1], [5, 5]],
+        ends: &[2, 3],
+    },
+];
+
+// Whether the edges have these rings without the points at which they go straight on.
+fn has_outlines(alloc: Global, row: &Row) -> Result<bool, Fail> {
+    let edges = edges_of(alloc, row)?;
+    let mut points = Vec::new(alloc);
+    let mut ends = Vec::new(alloc);
+    let outcome = outlines(&edges, &mut points, &mut ends);
+    let same_points = points == points_of(alloc, row)?;
+    Ok(outcome == Ok(()) && same_points && ends.as_slice() == row.ends)
+}
+
+#[test]
+fn edges_have_the_outlines_worked_by_hand(rt: HostRuntime) -> Result<(), Fail> {
+    for row in &STRAIGHT {
+        assert!(rt; has_outlines(rt.alloc(), row)?, "{}", row.name);
+    }
+    Ok(())
+}
+
 // The rings behind what was there.
 #[derive(Drop)]
 struct Contoured<'a> {
@@ -243,6 +323,7 @@ struct Contoured<'a> {
 struct Contouring<'a> {
     memory: &'a Refusing<Global>,
     edges: Vec<Edge>,
+    ghost closed: { IsClosed edges.items },
 }
 
 impl<'a> Trial for Contouring<'a> {
@@ -282,16 +363,24 @@ impl<'a> Trial for Contouring<'a> {
     }
 }
 
-#[test]
-fn keeps_points_and_ring_ends_at_each_refusal(rt: HostRuntime) -> Result<(), Fail> {
-    let memory = Refusing::new(rt.alloc());
-    let mut edges = Vec::new(rt.alloc());
+// The edges of twelve squares, each of which touches the next one at a corner.
+fn squares(alloc: Global) -> Result<Vec<Edge>, Fail>
+    ensures { IfOk result (λ edges. IsClosed edges.items) }
+{
+    let mut edges = Vec::new(alloc);
     for k in 0..12 {
         push_walk(
             &mut edges,
             &[[k, k], [k + 1, k], [k + 1, k + 1], [k, k + 1]],
         )?;
     }
+    Ok(edges)
+}
+
+#[test]
+fn keeps_points_and_ring_ends_at_each_refusal(rt: HostRuntime) -> Result<(), Fail> {
+    let memory = Refusing::new(rt.alloc());
+    let edges = squares(rt.alloc())?;
     let contouring = Contouring {
         memory: &memory,
         edges,

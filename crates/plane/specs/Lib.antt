@@ -1,3 +1,4 @@
+pub mod Ends
 pub mod Locate
 pub mod Meet
 pub mod Pairs

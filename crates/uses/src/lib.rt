@@ -1,8 +1,10 @@
 //! Complete small programs over `i_tree`, as its users write them: each is proved; tests stand in `uses_tests`. A loop in
 //! `tickets` and one in `own_descent` have an invariant in a proof file, `kept_booking` and `sessions` have one for what
-//! they promise, and `points_in_rectangles` has two, for its test and for the condition of a call; the others need none.
+//! they promise, `broken_roads` has both, and `points_in_rectangles` has two, for its test and for the condition of a call;
+//! the others need none.
 #![tactic(auto)]
 
+pub mod broken_roads;
 pub mod crossing_candidates;
 pub mod inside_polygon;
 pub mod kept_booking;

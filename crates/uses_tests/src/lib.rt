@@ -2,6 +2,8 @@
 #![tactic(auto)]
 
 #[cfg(test)]
+mod broken_roads;
+#[cfg(test)]
 mod crossing_candidates;
 #[cfg(test)]
 mod inside_polygon;

@@ -3,7 +3,7 @@
 ghost use Rattle.std.specs.Prelude.{◌≡◌, ◌≤◌, ◌++◌, List, IfOk, OnOk, length, string_bytes};
 ghost use Rattle.std.specs.List.{between};
 ghost use Rattle.itree.specs.Replies.{chain_words, reply_lines};
-ghost use Rattle.itree.specs.Told.{AreJoined};
+ghost use Rattle.overlay.specs.Snap.Offsets.{AreJoined};
 ghost use Rattle.plane.specs.declared.point.Point.{Point};
 
 use plane::point::Point;

@@ -11,7 +11,7 @@ use Rattle.std.proofs.Common.{Ordering, Less, Equal, Greater, ap₂}
 use Rattle.std.proofs.lemmas.Cmp.{int_ranked}
 use Rattle.plane.specs.declared.edge.Edge.{Edge}
 use Rattle.plane.specs.declared.point.Point.{Point}
-use Rattle.overlay.specs.Snap.Windings.{IsClosed, edge_between, end_of, pieces_from, start_of}
+use Rattle.overlay.specs.Snap.Windings.{IsClosed, edge_between, end_of, pieces, start_of}
 use Rattle.overlay.specs.Contours.Rings.{ring_edges}
 
 -- ---- whether points are the same
@@ -102,14 +102,14 @@ module _ (test : Point → Bool) where
   ends-permutation xs ys moved = sum_by-IsPermutation (λ (e : Edge). unit (end_of e)) xs ys moved
 
   -- from a point over others to a last one, starts and ends are the same but for these two
-  pub along : (from : Point) (others : List Point) (to : Point) → starts (pieces_from from (others ++ to ∷ [])) + unit to ≡ unit from + ends (pieces_from from (others ++ to ∷ []))
+  pub along : (from : Point) (others : List Point) (to : Point) → starts (pieces (from ∷ others ++ to ∷ [])) + unit to ≡ unit from + ends (pieces (from ∷ others ++ to ∷ []))
   along from [] to =
       let first = sum_by-cons (λ (e : Edge). unit (start_of e)) (edge_between from to) [] in
       let second = sum_by-cons (λ (e : Edge). unit (end_of e)) (edge_between from to) [] in
       omega (arith, first, second)
   along from (next ∷ others) to =
-      let first = sum_by-cons (λ (e : Edge). unit (start_of e)) (edge_between from next) (pieces_from next (others ++ to ∷ [])) in
-      let second = sum_by-cons (λ (e : Edge). unit (end_of e)) (edge_between from next) (pieces_from next (others ++ to ∷ [])) in
+      let first = sum_by-cons (λ (e : Edge). unit (start_of e)) (edge_between from next) (pieces (next ∷ others ++ to ∷ [])) in
+      let second = sum_by-cons (λ (e : Edge). unit (end_of e)) (edge_between from next) (pieces (next ∷ others ++ to ∷ [])) in
       let later = along next others to in
       omega (arith, first, second, later)
 

@@ -12,17 +12,17 @@ use Rattle.overlay.specs.Contours.Rings.{IsRing, ring_edges}
 use Rattle.overlay.specs.Contours.Order.{IsCorner, point_at}
 use Rattle.overlay.specs.Contours.Walks.{AreAppended, IsMarked, IsOff, path}
 use Rattle.overlay.specs.Snap.Offsets.{offsets}
-use Rattle.overlay.specs.Snap.Windings.{edge_between, pieces, pieces_from}
+use Rattle.overlay.specs.Snap.Windings.{edge_between, pieces}
 
 -- ---- pieces of lists one behind the other
 
-pieces_from-append : (from : Point) (points : List Point) (to : Point) (others : List Point) → pieces_from from (points ++ to ∷ others) ≡ pieces_from from (points ++ to ∷ []) ++ pieces_from to others
-pieces_from-append from [] to others = refl
-pieces_from-append from (next ∷ points) to others = ap (λ (rest : List Edge). edge_between from next ∷ rest) (pieces_from-append next points to others)
+pieces-from_append : (from : Point) (points : List Point) (to : Point) (others : List Point) → pieces (from ∷ points ++ to ∷ others) ≡ pieces (from ∷ points ++ to ∷ []) ++ pieces (to ∷ others)
+pieces-from_append from [] to others = refl
+pieces-from_append from (next ∷ points) to others = ap (λ (rest : List Edge). edge_between from next ∷ rest) (pieces-from_append next points to others)
 
-pieces-append : (points : List Point) (to : Point) (others : List Point) → pieces (points ++ to ∷ others) ≡ pieces (points ++ to ∷ []) ++ pieces_from to others
+pieces-append : (points : List Point) (to : Point) (others : List Point) → pieces (points ++ to ∷ others) ≡ pieces (points ++ to ∷ []) ++ pieces (to ∷ others)
 pieces-append [] to others = refl
-pieces-append (first ∷ points) to others = pieces_from-append first points to others
+pieces-append (first ∷ points) to others = pieces-from_append first points to others
 
 module _ (sorted : List Edge) where
   -- a walk that goes on to one more corner

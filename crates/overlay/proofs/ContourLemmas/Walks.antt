@@ -13,7 +13,7 @@ use Rattle.overlay.specs.Contours.Rings.{ring_edges}
 use Rattle.overlay.specs.Contours.Turns.{IsLeftmost, Leaves, NoneLeaves}
 use Rattle.overlay.specs.Contours.Order.{AreInOrder, IsCorner, IsFirstFrom, edge_at, point_at}
 use Rattle.overlay.specs.Contours.Walks.{IsMarked, IsOff, Keeps, path, unwalked}
-use Rattle.overlay.specs.Snap.Windings.{IsClosed, edge_between, end_of, pieces_from, start_of}
+use Rattle.overlay.specs.Snap.Windings.{IsClosed, edge_between, end_of, pieces, start_of}
 use Rattle.overlay.proofs.ContourLemmas.Counts.{along, closed-starts, ends, ends-append, ends-permutation, is_at, is_at-itself, is_at-other, rings-closed, starts, starts-append, starts-permutation, unit}
 use Rattle.overlay.proofs.ContourLemmas.Order.{corner-from}
 use Rattle.overlay.proofs.ContourLemmas.Rings.{corners-differ, path-more, rings-more}
@@ -204,7 +204,7 @@ walk-ends sorted used marks (first ∷ others) corner rings all marked is off no
     let starts_walk = starts-append test P U in
     let ends_walk = ends-append test P U in
     let f = point_at sorted in
-    let whole : P ≡ pieces_from (f first) (map f others ++ at ∷ []) = ap (pieces_from (f first)) (map-append f others (corner ∷ [])) in
+    let whole : P ≡ pieces (f first ∷ (map f others ++ at ∷ [])) = ap (λ (points : List Point). pieces (f first ∷ points)) (map-append f others (corner ∷ [])) in
     let sum = along test (f first) (map f others) at in
     let starts_are = ap (λ (edges : List Edge). starts test edges) whole in
     let ends_are = ap (λ (edges : List Edge). ends test edges) whole in

@@ -16,8 +16,8 @@ use Rattle.overlay.specs.declared.fill.rules.Operation.{Operation}
 use Rattle.overlay.specs.Fill.Counts.{Counts, is_over, is_lower_on, counts_below, counts_above, kept_edges}
 use Rattle.overlay.specs.Fill.Filled.{AreNoded, AreDistinct}
 use Rattle.overlay.specs.Fill.Pieces.{ArePieces}
-use Rattle.overlay.specs.Fill.Rules.{is_result}
-use Rattle.overlay.specs.Snap.Windings.{count, reversed, winding, IsClosed}
+use Rattle.overlay.specs.Fill.Rules.{is_result, count}
+use Rattle.overlay.specs.Snap.Windings.{reversed, winding, IsClosed}
 use Rattle.overlay.proofs.FillLemmas.Filled.{filled, is_result-none}
 use Rattle.overlay.proofs.FillLemmas.High.{top, upto-higher, upto-top, high-none}
 use Rattle.overlay.proofs.FillLemmas.Kept as kept
@@ -27,7 +27,7 @@ use Rattle.overlay.proofs.FillLemmas.Order as order
 use Rattle.overlay.proofs.FillLemmas.Premises.{onwards, meet-pieces}
 use Rattle.overlay.proofs.FillLemmas.Small as small
 use Rattle.overlay.proofs.FillLemmas.Uncrossed.{uncrossed}
-use Rattle.overlay.proofs.SnapLemmas.Numbers.{Bounds}
+use Rattle.plane.specs.Meet.Crosses.{IsWithin}
 
 -- the greater of two numbers is at least each of them
 max_upto : (a b : ℤ) → (a ≤ℤ int_max a b) × (b ≤ℤ int_max a b)
@@ -94,8 +94,8 @@ module _ (subject clip : List Edge) (closed : IsClosed subject) (clip_closed : I
 
   -- Counts below and above a piece are no further from 0 than there are edges.
   pub counts-small : (g : Piece) → Contains pieces g
-      → Bounds (length subject) (counts_below subject clip g).subject × Bounds (length subject) (counts_above subject clip g).subject
-      × Bounds (length clip) (counts_below subject clip g).clip × Bounds (length clip) (counts_above subject clip g).clip
+      → IsWithin (length subject) (counts_below subject clip g).subject × IsWithin (length subject) (counts_above subject clip g).subject
+      × IsWithin (length clip) (counts_below subject clip g).clip × IsWithin (length clip) (counts_above subject clip g).clip
   counts-small g among = small.counts-small subject clip pieces are g among
 
   -- ---- the edges kept

@@ -12,14 +12,15 @@ use Rattle.overlay.specs.declared.fill.rules.Operation.TheVariants.{Union, Inter
 use Rattle.overlay.specs.Fill.Counts.{Counts, is_over, is_lower_on, kept_edges}
 use Rattle.overlay.specs.Fill.Filled.{AreNoded}
 use Rattle.overlay.specs.Fill.Pieces.{total, AreJoined, ArePieces}
-use Rattle.overlay.specs.Fill.Rules.{is_inside, operate, is_result}
-use Rattle.overlay.specs.Snap.Windings.{count, is_under, winding, IsClosed}
+use Rattle.overlay.specs.Fill.Rules.{is_inside, operate, is_result, count}
+use Rattle.overlay.specs.Snap.Windings.{winding, IsClosed}
 use Rattle.overlay.proofs.FillLemmas.Premises.{onwards, meet-pieces}
 use Rattle.overlay.proofs.FillLemmas.Stacked.{stacked}
 use Rattle.overlay.proofs.FillLemmas.Uncrossed.{uncrossed}
 use Rattle.overlay.proofs.FillLemmas.Under.{under_over, lower_under}
 use Rattle.overlay.proofs.FillLemmas.Wound.{winding-total, winding-kept}
 use Rattle.overlay.proofs.SnapLemmas.Rounding.{Floor, floor_is}
+use Rattle.overlay.proofs.SnapLemmas.Counted.{is_counted}
 
 -- ---- no operation is inside where both are not
 
@@ -50,7 +51,7 @@ module _ (subject clip : List Edge) (closed : IsClosed subject) (clip_closed : I
   floor = floor_is point.n point.x point.positive
 
   abbrev under : Piece → Bool
-  under piece = is_under piece.edge point
+  under piece = is_counted piece.edge point
 
   over : (p : Piece) → Contains pieces p → under p ≡ true → is_over x_of p.edge ≡ true
   over p among is_here = under_over point x_of floor p.edge is_here
@@ -62,7 +63,7 @@ module _ (subject clip : List Edge) (closed : IsClosed subject) (clip_closed : I
 
   -- edges wind around the point as their pieces under the point weigh
   wound : (edges : List Edge) (weigh : Piece → ℤ) → AreJoined edges weigh pieces → winding edges point ≡ total (λ piece. cond (under piece) (weigh piece) (pos 0)) pieces
-  wound edges weigh joined = winding-total edges point ∙ joined (λ edge. is_under edge point)
+  wound edges weigh joined = winding-total edges point ∙ joined (λ edge. is_counted edge point)
 
   -- The kept edges wind around the point once if it is inside, else not at all.
   pub filled : (inside : Counts → Bool) → inside (record { subject = pos 0; clip = pos 0 }) ≡ false

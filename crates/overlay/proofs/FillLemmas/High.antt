@@ -12,9 +12,12 @@ use Rattle.plane.specs.SweepLine.Heights.{run}
 use Rattle.plane.proofs.MeetLemmas.Identities.{number, plus, minus, times, identity}
 use Rattle.plane.proofs.SweepLineLemmas.Gaps.{product_above}
 use Rattle.overlay.specs.Fill.Pieces.{total}
-use Rattle.overlay.specs.Snap.Windings.{count, height_at, is_low, is_under, reversed, under, winding, IsClosed}
+use Rattle.overlay.specs.Snap.Windings.{reversed, winding, IsClosed}
+use Rattle.overlay.specs.Fill.Rules.{count}
 use Rattle.overlay.proofs.FillLemmas.Balance.{carried, balanced}
 use Rattle.overlay.proofs.FillLemmas.Under.{le_true, le_is, less_is}
+use Rattle.overlay.proofs.SnapLemmas.Counted.{added, height_at, is_counted, is_low, under}
+use Rattle.overlay.proofs.SnapLemmas.Windings.{winding-added}
 
 -- Neither end is above the height.
 pub record IsUptoHeight (height : ℤ) (edge : Edge) : Type 0 where
@@ -96,7 +99,7 @@ module _ (height : ℤ) (point : RationalPoint) (high : (pos point.n *ℤ height
       by false false e f = absurd (omega (arith, ints, e, f))
 
   -- so whether an edge is under the point is whether it covers its x
-  under_covers : (edge : Edge) → IsUptoHeight height edge → is_under edge point ≡ (int_le (pos point.n *ℤ edge.x0) point.x && not (int_le (pos point.n *ℤ edge.x1) point.x))
+  under_covers : (edge : Edge) → IsUptoHeight height edge → is_counted edge point ≡ (int_le (pos point.n *ℤ edge.x0) point.x && not (int_le (pos point.n *ℤ edge.x1) point.x))
   under_covers edge is = by (int_le (pos point.n *ℤ edge.x0) point.x) (int_lt point.x (pos point.n *ℤ edge.x1)) refl refl ∙ ap (λ t. int_le (pos point.n *ℤ edge.x0) point.x && t) (not_less point.x (pos point.n *ℤ edge.x1))
     where
       by : (s t : Bool) → int_le (pos point.n *ℤ edge.x0) point.x ≡ s → int_lt point.x (pos point.n *ℤ edge.x1) ≡ t → ((s && t) && is_low edge point) ≡ (s && t)
@@ -122,12 +125,12 @@ module _ (height : ℤ) (point : RationalPoint) (high : (pos point.n *ℤ height
   less_sum a b c d first second = omega (arith, ints, first, second)
 
   -- and all edges together count what they carry to the right
-  sum : (edges : List Edge) → All (IsUptoHeight height) edges → winding edges point ≡ (pos 0 -ℤ total (carried passed) edges)
+  sum : (edges : List Edge) → All (IsUptoHeight height) edges → added edges point ≡ (pos 0 -ℤ total (carried passed) edges)
   sum [] all = refl
   sum (edge ∷ edges) all =
-      less_sum (under edge point) (winding edges point) (carried passed edge) (total (carried passed) edges)
+      less_sum (under edge point) (added edges point) (carried passed edge) (total (carried passed) edges)
       (high-under edge (All-head (IsUptoHeight height) edge edges all)) (sum edges (All-tail (IsUptoHeight height) edge edges all))
 
   -- and closed edges carry nothing
   pub high-none : (edges : List Edge) → IsClosed edges → All (IsUptoHeight height) edges → winding edges point ≡ pos 0
-  high-none edges closed all = sum edges all ∙ ap (λ z. pos 0 -ℤ z) (balanced edges closed passed)
+  high-none edges closed all = winding-added edges point ∙ sum edges all ∙ ap (λ z. pos 0 -ℤ z) (balanced edges closed passed)

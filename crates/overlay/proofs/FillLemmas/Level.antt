@@ -7,8 +7,9 @@ use Rattle.plane.specs.SweepLine.Heights.{run, height_by_runs}
 use Rattle.plane.specs.Meet.Edges.{RationalPoint, IsOf}
 use Rattle.plane.specs.Meet.Kinds.{IsEnd}
 use Rattle.plane.proofs.MeetLemmas.Identities.{number, plus, minus, times, at_most_of, same_of, identity, unscaled}
-use Rattle.overlay.specs.Snap.Meeting.{HaveSameEnds, MeetAtEnds}
-use Rattle.overlay.specs.Snap.Windings.{height_at}
+use Rattle.overlay.specs.Snap.Meeting.{MeetAtEnds}
+use Rattle.overlay.specs.Fill.Filled.{HaveSameEnds}
+use Rattle.overlay.proofs.SnapLemmas.Counted.{height_at}
 use Rattle.overlay.proofs.SnapLemmas.Heights.{share_x, share_y}
 use Rattle.overlay.proofs.SnapLemmas.Numbers.{n_of, natural}
 

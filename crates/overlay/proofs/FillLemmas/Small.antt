@@ -17,12 +17,12 @@ use Rattle.overlay.proofs.FillLemmas.Premises.{All-among}
 use Rattle.overlay.proofs.FillLemmas.Tests.{int_eq-true}
 use Rattle.overlay.proofs.FillLemmas.Totals.{total-sum, total-none}
 use Rattle.overlay.proofs.SnapLemmas.Hobby.Ends.{edges-same}
-use Rattle.overlay.proofs.SnapLemmas.Numbers.{Bounds}
+use Rattle.plane.specs.Meet.Crosses.{IsWithin}
 
 -- ---- sums of terms between -1 and 1
 
 -- one term more
-more_bounds : (n : ℕ) (a b : ℤ) → Bounds 1 a → Bounds n b → Bounds (suc n) (a +ℤ b)
+more_bounds : (n : ℕ) (a b : ℤ) → IsWithin 1 a → IsWithin n b → IsWithin (suc n) (a +ℤ b)
 more_bounds n a b first second =
     let from = first.from in
     let upto = first.upto in
@@ -33,23 +33,23 @@ more_bounds n a b first second =
     }
 
 -- so a sum lies between minus the number of terms and this number
-total-bounds : {X : Type 0} (f : X → ℤ) (xs : List X) → ((x : X) → Bounds 1 (f x)) → Bounds (length xs) (total f xs)
+total-bounds : {X : Type 0} (f : X → ℤ) (xs : List X) → ((x : X) → IsWithin 1 (f x)) → IsWithin (length xs) (total f xs)
 total-bounds f [] each = record { from = omega (arith, ints); upto = omega (arith, ints) }
 total-bounds f (x ∷ xs) each = more_bounds (length xs) (f x) (total f xs) (each x) (total-bounds f xs each)
 
 -- weights, and parts of them, lie between -1 and 1
-unit_zero : Bounds 1 (pos 0)
+unit_zero : IsWithin 1 (pos 0)
 unit_zero = record { from = omega (arith, ints); upto = omega (arith, ints) }
 
-unit_weight : (edge : Edge) → Bounds 1 (weight edge)
+unit_weight : (edge : Edge) → IsWithin 1 (weight edge)
 unit_weight edge = by (lt_z edge.x0 edge.x1) (lt_z edge.x1 edge.x0)
   where
-    by : (s t : Bool) → Bounds 1 (cond s (pos 1) (cond t (negsuc 0) (pos 0)))
+    by : (s t : Bool) → IsWithin 1 (cond s (pos 1) (cond t (negsuc 0) (pos 0)))
     by true t = record { from = omega (arith, ints); upto = omega (arith, ints) }
     by false true = record { from = omega (arith, ints); upto = omega (arith, ints) }
     by false false = unit_zero
 
-unit_part : (t : Bool) (w : ℤ) → Bounds 1 w → Bounds 1 (cond t w (pos 0))
+unit_part : (t : Bool) (w : ℤ) → IsWithin 1 w → IsWithin 1 (cond t w (pos 0))
 unit_part true w is = is
 unit_part false w is = unit_zero
 
@@ -61,10 +61,10 @@ no_less : (w : ℤ) → (pos 0 +ℤ w) ≡ w
 no_less w = omega (arith, ints)
 
 -- one of two parts, where both are never taken
-unit_parts : (s t : Bool) (w : ℤ) → Bounds 1 w → (s ≡ true → t ≡ true → ⊥) → Bounds 1 (cond s w (pos 0) +ℤ cond t w (pos 0))
+unit_parts : (s t : Bool) (w : ℤ) → IsWithin 1 w → (s ≡ true → t ≡ true → ⊥) → IsWithin 1 (cond s w (pos 0) +ℤ cond t w (pos 0))
 unit_parts true true w is never = absurd (never refl refl)
-unit_parts true false w is never = subst (Bounds 1) (sym (no_more w)) is
-unit_parts false true w is never = subst (Bounds 1) (sym (no_less w)) is
+unit_parts true false w is never = subst (IsWithin 1) (sym (no_more w)) is
+unit_parts false true w is never = subst (IsWithin 1) (sym (no_less w)) is
 unit_parts false false w is never = unit_zero
 
 -- ---- whether two edges are one
@@ -96,7 +96,7 @@ module _ (subject clip : List Edge) (pieces : List Piece) (are : ArePieces subje
   of_g edge = cond (same_edge (rightwards edge) g.edge) (weight edge) (pos 0)
 
   -- what is below it is small
-  small-below : (edges : List Edge) → Bounds (length edges) (total below edges)
+  small-below : (edges : List Edge) → IsWithin (length edges) (total below edges)
   small-below edges = total-bounds below edges (λ edge. unit_part (is_over g.edge.x0 (rightwards edge) && is_lower_on g.edge.x0 (rightwards edge) g.edge) (weight edge) (unit_weight edge))
 
   -- g weighs what the edges with its edge do
@@ -125,15 +125,15 @@ module _ (subject clip : List Edge) (pieces : List Piece) (are : ArePieces subje
       never false none some = cc
 
   -- and so is what is above it
-  small-above : (edges : List Edge) (weigh : Piece → ℤ) → AreJoined edges weigh pieces → Contains pieces g → Bounds (length edges) (total below edges +ℤ weigh g)
+  small-above : (edges : List Edge) (weigh : Piece → ℤ) → AreJoined edges weigh pieces → Contains pieces g → IsWithin (length edges) (total below edges +ℤ weigh g)
   small-above edges weigh joined among =
-      subst (Bounds (length edges)) (total-sum below of_g edges ∙ ap (λ z. total below edges +ℤ z) (weight-of edges weigh joined among))
+      subst (IsWithin (length edges)) (total-sum below of_g edges ∙ ap (λ z. total below edges +ℤ z) (weight-of edges weigh joined among))
       (total-bounds (λ edge. below edge +ℤ of_g edge) edges
       (λ edge. unit_parts (is_over g.edge.x0 (rightwards edge) && is_lower_on g.edge.x0 (rightwards edge) g.edge) (same_edge (rightwards edge) g.edge) (weight edge) (unit_weight edge) (apart edge)))
 
   pub counts-small : Contains pieces g
-      → Bounds (length subject) (counts_below subject clip g).subject × Bounds (length subject) (counts_above subject clip g).subject
-      × Bounds (length clip) (counts_below subject clip g).clip × Bounds (length clip) (counts_above subject clip g).clip
+      → IsWithin (length subject) (counts_below subject clip g).subject × IsWithin (length subject) (counts_above subject clip g).subject
+      × IsWithin (length clip) (counts_below subject clip g).clip × IsWithin (length clip) (counts_above subject clip g).clip
   counts-small among = (
     small-below subject,
     small-above subject (λ piece. piece.subject) are.joined among,

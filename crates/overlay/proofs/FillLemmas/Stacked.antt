@@ -10,7 +10,8 @@ use Rattle.overlay.specs.declared.fill.pieces.Piece.{Piece}
 use Rattle.overlay.specs.Fill.Counts.{Counts, is_over, is_lower_on, below_on}
 use Rattle.overlay.specs.Fill.Filled.{AreNoded}
 use Rattle.overlay.specs.Fill.Pieces.{total, AreJoined, ArePieces}
-use Rattle.overlay.specs.Snap.Windings.{count, IsClosed}
+use Rattle.overlay.specs.Snap.Windings.{IsClosed}
+use Rattle.overlay.specs.Fill.Rules.{count}
 use Rattle.overlay.proofs.FillLemmas.Along.{count-along}
 use Rattle.overlay.proofs.FillLemmas.Aside.{IsAside}
 use Rattle.overlay.proofs.FillLemmas.Balance.{AreBalanced, balanced}

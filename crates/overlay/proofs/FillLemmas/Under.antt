@@ -11,10 +11,10 @@ use Rattle.plane.proofs.MeetLemmas.Identities.{number, plus, minus, times, ident
 use Rattle.plane.proofs.SweepLineLemmas.Gaps.{gap, base, slope, start, gap-linear, product_above}
 use Rattle.plane.proofs.SweepLineLemmas.Order.{in_order}
 use Rattle.overlay.specs.Fill.Counts.{is_over, is_lower_on}
-use Rattle.overlay.specs.Snap.Windings.{covers, height_at, is_low, is_under}
 use Rattle.overlay.proofs.FillLemmas.Tests.{lt_is, over_is, over_true}
 use Rattle.overlay.proofs.FillLemmas.Uncrossed.{uncrossed_onwards}
 use Rattle.overlay.proofs.SnapLemmas.Rounding.{Floor}
+use Rattle.overlay.proofs.SnapLemmas.Counted.{covers, height_at, is_counted, is_low}
 
 -- ---- heights at the point's x
 
@@ -71,7 +71,7 @@ pub record Under (edge : Edge) (point : RationalPoint) : Type 0 where
   pub upto : height_at edge point ≤ℤ (point.y *ℤ run edge)
 
 -- the test tells this, and no other
-under_is : (edge : Edge) (point : RationalPoint) → is_under edge point ≡ true → Under edge point
+under_is : (edge : Edge) (point : RationalPoint) → is_counted edge point ≡ true → Under edge point
 under_is edge point e =
     let one = and_parts (covers edge point) (is_low edge point) e in
     let two = and_parts (int_le (pos point.n *ℤ edge.x0) point.x) (int_lt point.x (pos point.n *ℤ edge.x1)) one.0 in record {
@@ -80,8 +80,8 @@ under_is edge point e =
       upto = le_is (height_at edge point) (point.y *ℤ run edge) one.1;
     }
 
-is_under-from : (edge : Edge) (point : RationalPoint) → Under edge point → is_under edge point ≡ true
-is_under-from edge point under =
+is_counted-from : (edge : Edge) (point : RationalPoint) → Under edge point → is_counted edge point ≡ true
+is_counted-from edge point under =
     rw (le_true (pos point.n *ℤ edge.x0) point.x under.from, less_true point.x (pos point.n *ℤ edge.x1) under.before, le_true (height_at edge point) (point.y *ℤ run edge) under.upto) refl
 
 -- ---- on the stretch from x to x + 1 that the point is over
@@ -100,7 +100,7 @@ module _ (point : RationalPoint) (x : ℤ) (floor : Floor point.n point.x x) whe
       omega (arith, ints, left, right, is)
 
   -- what is under the point is over its stretch
-  pub under_over : (edge : Edge) → is_under edge point ≡ true → is_over x edge ≡ true
+  pub under_over : (edge : Edge) → is_counted edge point ≡ true → is_over x edge ≡ true
   under_over edge e =
       let under = under_is edge point e in
       over_true x edge
@@ -108,7 +108,7 @@ module _ (point : RationalPoint) (x : ℤ) (floor : Floor point.n point.x x) whe
       (by_lt_z x edge.x1 (λ h. h) (λ late. let far = scaled point.n edge.x1 x late in let a = under.before in let b = floor.from in absurd (omega (arith, ints, far, a, b))))
 
   -- what is over the stretch, and lower there than an edge under the point, is under the point
-  pub lower_under : (one other : Edge) → one.x0 <ℤ one.x1 → other.x0 <ℤ other.x1 → ¬ (Cross one other) → is_over x one ≡ true → is_under other point ≡ true → is_lower_on x one other ≡ true → is_under one point ≡ true
+  pub lower_under : (one other : Edge) → one.x0 <ℤ one.x1 → other.x0 <ℤ other.x1 → ¬ (Cross one other) → is_over x one ≡ true → is_counted other point ≡ true → is_lower_on x one other ≡ true → is_counted one point ≡ true
   lower_under one other some some_too none over under_too lower =
       let span = over_is x one over in
       let span_too = over_is x other (under_over other under_too) in
@@ -132,7 +132,7 @@ module _ (point : RationalPoint) (x : ℤ) (floor : Floor point.n point.x x) whe
       let upto = scaled point.n (x +ℤ pos 1) one.x1 (omega (arith, ints)) in
       let low = floor.from in
       let high = floor.below in
-      is_under-from one point (record {
+      is_counted-from one point (record {
         from = omega (arith, ints, from, low);
         before = omega (arith, ints, upto, high);
         upto = omega (arith, ints, whole);

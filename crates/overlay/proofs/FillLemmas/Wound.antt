@@ -10,28 +10,30 @@ use Rattle.plane.proofs.SweepLineLemmas.Rightwards.{rightwards-left, rightwards-
 use Rattle.overlay.specs.declared.fill.pieces.Piece.{Piece}
 use Rattle.overlay.specs.Fill.Counts.{Counts, counts_below, counts_above, kept_edge, kept_edges}
 use Rattle.overlay.specs.Fill.Pieces.{total, weight}
-use Rattle.overlay.specs.Snap.Windings.{count, is_under, reversed, under, winding}
+use Rattle.overlay.specs.Snap.Windings.{reversed, winding}
+use Rattle.overlay.specs.Fill.Rules.{count}
 use Rattle.overlay.proofs.FillLemmas.Tests.{lt_true, lt_false}
 use Rattle.overlay.proofs.FillLemmas.Weights.{weight-right, weight-left, weight-none}
 use Rattle.overlay.proofs.SnapLemmas.Numbers.{both}
-use Rattle.overlay.proofs.SnapLemmas.Windings.{back, under-right, under-left}
+use Rattle.overlay.proofs.SnapLemmas.Counted.{added, is_counted, under}
+use Rattle.overlay.proofs.SnapLemmas.Windings.{back, under-right, under-left, winding-added}
 
 -- what an edge counts that goes rightwards, and what the reversed one does
 less_count : (z : ℤ) (t : Bool) → z ≡ (pos 0 -ℤ count t) → z ≡ cond t (negsuc 0) (pos 0)
 less_count z true is = is
 less_count z false is = is
 
-right-counts : (edge : Edge) (point : RationalPoint) → edge.x0 <ℤ edge.x1 → under edge point ≡ cond (is_under edge point) (pos 1) (pos 0)
+right-counts : (edge : Edge) (point : RationalPoint) → edge.x0 <ℤ edge.x1 → under edge point ≡ cond (is_counted edge point) (pos 1) (pos 0)
 right-counts edge point onwards = under-right edge point (omega (arith, ints, onwards))
 
-left-counts : (edge : Edge) (point : RationalPoint) → edge.x0 <ℤ edge.x1 → under (reversed edge) point ≡ cond (is_under edge point) (negsuc 0) (pos 0)
-left-counts edge point onwards = less_count (under (reversed edge) point) (is_under edge point) (under-left (reversed edge) point (omega (arith, ints, onwards)))
+left-counts : (edge : Edge) (point : RationalPoint) → edge.x0 <ℤ edge.x1 → under (reversed edge) point ≡ cond (is_counted edge point) (negsuc 0) (pos 0)
+left-counts edge point onwards = less_count (under (reversed edge) point) (is_counted edge point) (under-left (reversed edge) point (omega (arith, ints, onwards)))
 
 -- ---- edges
 
 -- an edge counts its weight where it is under the point, turned rightwards
 abbrev part : RationalPoint → Edge → ℤ
-part point edge = cond (is_under (rightwards edge) point) (weight edge) (pos 0)
+part point edge = cond (is_counted (rightwards edge) point) (weight edge) (pos 0)
 
 -- what counts nothing is no part
 no_part : (z : ℤ) (t : Bool) → z ≡ pos 0 → z ≡ cond t (pos 0) (pos 0)
@@ -44,20 +46,23 @@ under-part edge point =
     by_lt_z edge.x0 edge.x1
     (λ onwards.
     right-counts edge point onwards
-    ∙ sym (ap₂ (λ (r : Edge) w. cond (is_under r point) w (pos 0)) (rightwards-right edge (lt_false edge.x1 edge.x0 (omega (arith, ints, onwards)))) (weight-right edge onwards)))
+    ∙ sym (ap₂ (λ (r : Edge) w. cond (is_counted r point) w (pos 0)) (rightwards-right edge (lt_false edge.x1 edge.x0 (omega (arith, ints, onwards)))) (weight-right edge onwards)))
     (λ upto. by_lt_z edge.x1 edge.x0
     (λ leftwards.
     left-counts (reversed edge) point leftwards
-    ∙ sym (ap₂ (λ (r : Edge) w. cond (is_under r point) w (pos 0)) (rightwards-left edge (lt_true edge.x1 edge.x0 leftwards)) (weight-left edge leftwards)))
+    ∙ sym (ap₂ (λ (r : Edge) w. cond (is_counted r point) w (pos 0)) (rightwards-left edge (lt_true edge.x1 edge.x0 leftwards)) (weight-left edge leftwards)))
     (λ from.
-    no_part (under edge point) (is_under (rightwards edge) point) (under-right edge point from ∙ back edge point upto)
-    ∙ sym (ap (λ w. cond (is_under (rightwards edge) point) w (pos 0)) (weight-none edge (omega (arith, ints, upto, from))))))
+    no_part (under edge point) (is_counted (rightwards edge) point) (under-right edge point from ∙ back edge point upto)
+    ∙ sym (ap (λ w. cond (is_counted (rightwards edge) point) w (pos 0)) (weight-none edge (omega (arith, ints, upto, from))))))
 
 -- so winding numbers are sums of weights
-pub winding-total : (edges : List Edge) (point : RationalPoint) → winding edges point ≡ total (λ edge. cond (is_under (rightwards edge) point) (weight edge) (pos 0)) edges
-winding-total [] point = refl
-winding-total (edge ∷ edges) point =
-    both (under edge point) (part point edge) (winding edges point) (total (part point) edges) (under-part edge point) (winding-total edges point)
+added-total : (edges : List Edge) (point : RationalPoint) → added edges point ≡ total (part point) edges
+added-total [] point = refl
+added-total (edge ∷ edges) point =
+    both (under edge point) (part point edge) (added edges point) (total (part point) edges) (under-part edge point) (added-total edges point)
+
+pub winding-total : (edges : List Edge) (point : RationalPoint) → winding edges point ≡ total (λ edge. cond (is_counted (rightwards edge) point) (weight edge) (pos 0)) edges
+winding-total edges point = winding-added edges point ∙ added-total edges point
 
 -- ---- kept edges
 
@@ -98,6 +103,6 @@ module _ (test : Edge → Bool) where
 
 -- so they wind around a point as the pieces under it count
 pub winding-kept : (inside : Counts → Bool) (subject clip : List Edge) (point : RationalPoint) (pieces : List Piece) → All (λ piece. piece.edge.x0 <ℤ piece.edge.x1) pieces
-    → winding (kept_edges inside subject clip pieces) point ≡ total (λ piece. cond (is_under piece.edge point) (kept inside subject clip piece) (pos 0)) pieces
+    → winding (kept_edges inside subject clip pieces) point ≡ total (λ piece. cond (is_counted piece.edge point) (kept inside subject clip piece) (pos 0)) pieces
 winding-kept inside subject clip point pieces all =
-    winding-total (kept_edges inside subject clip pieces) point ∙ total-kept (λ edge. is_under edge point) inside subject clip pieces all
+    winding-total (kept_edges inside subject clip pieces) point ∙ total-kept (λ edge. is_counted edge point) inside subject clip pieces all

@@ -10,8 +10,8 @@ use Rattle.plane.specs.Pairs.Bounds.{BoundsMeet}
 use Rattle.overlay.specs.Snap.Chains.{Passes, IsEnd, CrossAt, IsHot, Upto, IsChain, AreChains}
 use Rattle.overlay.specs.Snap.Meeting.{MeetAtEnds}
 use Rattle.overlay.specs.Snap.Near.{IsNear}
-use Rattle.overlay.specs.Snap.Windings.{start_of, end_of, under, winding, pieces, IsAlongAxis, IsClosed}
-use Rattle.overlay.proofs.SnapLemmas.Along.{at_point, Passes-in_box, Passes-start, Passes-end}
+use Rattle.overlay.specs.Snap.Windings.{start_of, end_of, winding, pieces, IsAlongAxis, IsClosed}
+use Rattle.overlay.proofs.SnapLemmas.Along.{Passes-in_box, Passes-start, Passes-end}
 use Rattle.overlay.proofs.SnapLemmas.Clear.{chain-clear}
 use Rattle.overlay.proofs.SnapLemmas.Exact.{chain-exact}
 use Rattle.overlay.proofs.SnapLemmas.Near.{IsNear-piece}
@@ -23,12 +23,16 @@ pub use Rattle.overlay.proofs.SnapLemmas.Rounding.{RoundsTo-unique}
 -- What an edge passes lies in its box; of two points that it passes one isn't behind the other, and where neither is they are
 -- one.
 pub use Rattle.overlay.proofs.SnapLemmas.Along.{Passes-in_box, Passes-ordered, Upto-same}
+-- Windings add up, and stay in whatever order the edges stand.
+pub use Rattle.overlay.proofs.SnapLemmas.Windings.{winding-append, winding-permutation}
 -- Edges are closed where their ends are their starts in some order, as those of rings are.
 pub use Rattle.overlay.proofs.SnapLemmas.Sums.{IsClosed-permutation}
 -- Two edges that aren't parallel have one crossing, whichever is named first, and no edge crosses itself.
 pub use Rattle.overlay.proofs.SnapLemmas.Crossing.{CrossAt-unique, CrossAt-exchanged, CrossAt-itself}
--- Where each chain stops among the points of all, and that it stands there from where the one before it stops on.
-pub use Rattle.overlay.proofs.ChainLemmas.Offsets.{offset-at, list-between}
+-- Where each chain stops among the points of all, and that it stands there from where the one before it stops on; and both for
+-- a loop over the ends.
+pub use Rattle.overlay.proofs.ChainLemmas.Offsets.{joined, offset-at, list-between}
+pub use Rattle.overlay.proofs.SnapLemmas.Standing.{length-offsets, IsNext, IsNext-at}
 
 -- ---- hot points
 
@@ -91,7 +95,7 @@ module _ (edges : List Edge) (edge : Edge) (chain : List Point) (among : Contain
   piece-onwards piece inside = (piece-upto edges edge chain is piece inside, piece-proper edges edge chain is piece inside)
 
   -- Its points lie in their edge's box.
-  pub in_box : (c : Point) → Contains chain c → BoundsMeet (bounds_of edge) (at_point c.x c.y)
+  pub in_box : (c : Point) → Contains chain c → BoundsMeet (bounds_of edge) (record { left = c.x; right = c.x; low = c.y; high = c.y })
   in_box c inside = Passes-in_box edge c.x c.y ((is.exact c).0 inside).1
 
   -- Each point of its pieces is near the edge.
@@ -101,8 +105,8 @@ module _ (edges : List Edge) (edge : Edge) (chain : List Point) (among : Contain
       IsNear-piece edge piece point found.from_passes found.to_passes of
 
   -- Its pieces count what the edge counts, at a point that isn't near the edge; and at each point where it runs along an axis.
-  pub clear-edge : (point : RationalPoint) → ¬ (IsNear edge point) → winding (pieces chain) point ≡ under edge point
+  pub clear-edge : (point : RationalPoint) → ¬ (IsNear edge point) → winding (pieces chain) point ≡ winding (edge ∷ []) point
   clear-edge point far = chain-clear edge chain point (IsPath-chain edges edge chain among is) far
 
-  pub exact-edge : (point : RationalPoint) → IsAlongAxis edge → winding (pieces chain) point ≡ under edge point
+  pub exact-edge : (point : RationalPoint) → IsAlongAxis edge → winding (pieces chain) point ≡ winding (edge ∷ []) point
   exact-edge point axial = chain-exact edge chain point (IsPath-chain edges edge chain among is) axial

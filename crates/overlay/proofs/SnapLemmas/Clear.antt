@@ -6,12 +6,14 @@ use Rattle.plane.specs.declared.point.Point.{Point}
 use Rattle.plane.specs.Meet.Edges.{RationalPoint}
 use Rattle.overlay.specs.Snap.Chains.{Passes}
 use Rattle.overlay.specs.Snap.Near.{IsNear}
-use Rattle.overlay.specs.Snap.Windings.{count, edge_between, is_low, pieces, pieces_from, reversed, under, winding}
+use Rattle.overlay.specs.Snap.Windings.{edge_between, pieces, reversed, winding}
+use Rattle.overlay.specs.Fill.Rules.{count}
+use Rattle.overlay.proofs.SnapLemmas.Counted.{added, is_low, under}
 use Rattle.overlay.proofs.SnapLemmas.Heights.{Covering, same_side}
 use Rattle.overlay.proofs.SnapLemmas.Numbers.{both_zero}
 use Rattle.overlay.proofs.SnapLemmas.Paths.{GoesOn, IsPath}
 use Rattle.overlay.proofs.SnapLemmas.Reversed.{IsNear-reversed, Passes-reversed}
-use Rattle.overlay.proofs.SnapLemmas.Windings.{after, before, under-left, under-right, within}
+use Rattle.overlay.proofs.SnapLemmas.Windings.{after, before, under-left, under-right, winding-added, within}
 use Rattle.plane.proofs.MeetLemmas.Identities.{scaled}
 
 -- Where both cover the point's x, a piece whose ends the edge passes is on the edge's side of the point.
@@ -32,27 +34,27 @@ module _ (edge : Edge) (onwards : edge.x0 ≤ℤ edge.x1) where
 
   module _ (point : RationalPoint) where
     -- a point before the rest of a chain has none of it under it
-    sum_before : (from : Point) (others : List Point) → GoesOn edge from others → point.x <ℤ (pos point.n *ℤ from.x) → winding (pieces_from from others) point ≡ pos 0
+    sum_before : (from : Point) (others : List Point) → GoesOn edge from others → point.x <ℤ (pos point.n *ℤ from.x) → added (pieces (from ∷ others)) point ≡ pos 0
     sum_before from [] goes is = refl
     sum_before from (to ∷ others) (order, passes, rest) is =
         let next = order.along_x.rising onwards in
         let further = scaled point.n from.x to.x next in
-        both_zero (under (edge_between from to) point) (winding (pieces_from to others) point)
+        both_zero (under (edge_between from to) point) (added (pieces (to ∷ others)) point)
         (under-right (edge_between from to) point next ∙ before (edge_between from to) point is)
         (sum_before to others rest (omega (arith, ints, is, further)))
 
     -- nor has one behind the edge
-    sum_after : (from : Point) (others : List Point) → GoesOn edge from others → (pos point.n *ℤ edge.x1) ≤ℤ point.x → winding (pieces_from from others) point ≡ pos 0
+    sum_after : (from : Point) (others : List Point) → GoesOn edge from others → (pos point.n *ℤ edge.x1) ≤ℤ point.x → added (pieces (from ∷ others)) point ≡ pos 0
     sum_after from [] goes is = refl
     sum_after from (to ∷ others) (order, passes, rest) is =
         let next = order.along_x.rising onwards in
         let further = scaled point.n to.x edge.x1 (rises to others rest) in
-        both_zero (under (edge_between from to) point) (winding (pieces_from to others) point)
+        both_zero (under (edge_between from to) point) (added (pieces (to ∷ others)) point)
         (under-right (edge_between from to) point next ∙ after (edge_between from to) point (omega (arith, ints, is, further)))
         (sum_after to others rest is)
 
     -- one within has the piece that covers it
-    sum_within : Agrees edge point → Covering edge point → (from : Point) (others : List Point) → Passes edge from.x from.y → GoesOn edge from others → (pos point.n *ℤ from.x) ≤ℤ point.x → winding (pieces_from from others) point ≡ count (is_low edge point)
+    sum_within : Agrees edge point → Covering edge point → (from : Point) (others : List Point) → Passes edge from.x from.y → GoesOn edge from others → (pos point.n *ℤ from.x) ≤ℤ point.x → added (pieces (from ∷ others)) point ≡ count (is_low edge point)
     sum_within agrees c from [] passed (x, y) is =
         let upto = c.before in
         let over : point.x <ℤ (pos point.n *ℤ from.x) = rw x upto in
@@ -80,29 +82,29 @@ module _ (edge : Edge) (backwards : edge.x1 ≤ℤ edge.x0) where
       omega (arith, ints, next, upto)
 
   module _ (point : RationalPoint) where
-    sum_right : (from : Point) (others : List Point) → GoesOn edge from others → (pos point.n *ℤ from.x) ≤ℤ point.x → winding (pieces_from from others) point ≡ pos 0
+    sum_right : (from : Point) (others : List Point) → GoesOn edge from others → (pos point.n *ℤ from.x) ≤ℤ point.x → added (pieces (from ∷ others)) point ≡ pos 0
     sum_right from [] goes is = refl
     sum_right from (to ∷ others) (order, passes, rest) is =
         let next = order.along_x.falling backwards in
         let further = scaled point.n to.x from.x next in
         let here = under-left (edge_between from to) point next in
         let none = after (reversed (edge_between from to)) point is in
-        both_zero (under (edge_between from to) point) (winding (pieces_from to others) point)
+        both_zero (under (edge_between from to) point) (added (pieces (to ∷ others)) point)
         (omega (arith, ints, here, none))
         (sum_right to others rest (omega (arith, ints, is, further)))
 
-    sum_left : (from : Point) (others : List Point) → GoesOn edge from others → point.x <ℤ (pos point.n *ℤ edge.x1) → winding (pieces_from from others) point ≡ pos 0
+    sum_left : (from : Point) (others : List Point) → GoesOn edge from others → point.x <ℤ (pos point.n *ℤ edge.x1) → added (pieces (from ∷ others)) point ≡ pos 0
     sum_left from [] goes is = refl
     sum_left from (to ∷ others) (order, passes, rest) is =
         let next = order.along_x.falling backwards in
         let further = scaled point.n edge.x1 to.x (falls to others rest) in
         let here = under-left (edge_between from to) point next in
         let none = before (reversed (edge_between from to)) point (omega (arith, ints, is, further)) in
-        both_zero (under (edge_between from to) point) (winding (pieces_from to others) point)
+        both_zero (under (edge_between from to) point) (added (pieces (to ∷ others)) point)
         (omega (arith, ints, here, none))
         (sum_left to others rest is)
 
-    sum_across : Agrees (reversed edge) point → Covering (reversed edge) point → (from : Point) (others : List Point) → Passes edge from.x from.y → GoesOn edge from others → point.x <ℤ (pos point.n *ℤ from.x) → winding (pieces_from from others) point ≡ (pos 0 -ℤ count (is_low (reversed edge) point))
+    sum_across : Agrees (reversed edge) point → Covering (reversed edge) point → (from : Point) (others : List Point) → Passes edge from.x from.y → GoesOn edge from others → point.x <ℤ (pos point.n *ℤ from.x) → added (pieces (from ∷ others)) point ≡ (pos 0 -ℤ count (is_low (reversed edge) point))
     sum_across agrees c from [] passed (x, y) is =
         let upto = c.from in
         let over : point.x <ℤ (pos point.n *ℤ edge.x1) = rw (sym x) is in
@@ -124,8 +126,8 @@ module _ (edge : Edge) (backwards : edge.x1 ≤ℤ edge.x0) where
 -- ---- each edge
 
 -- a chain that doesn't go leftwards, wherever the point is
-winding-right : (edge : Edge) (point : RationalPoint) (from : Point) (others : List Point) → edge.x0 ≤ℤ edge.x1 → Agrees edge point → from.x ≡ edge.x0 → Passes edge from.x from.y → GoesOn edge from others → winding (pieces_from from others) point ≡ under edge point
-winding-right edge point from others onwards agrees is passed goes =
+added-right : (edge : Edge) (point : RationalPoint) (from : Point) (others : List Point) → edge.x0 ≤ℤ edge.x1 → Agrees edge point → from.x ≡ edge.x0 → Passes edge from.x from.y → GoesOn edge from others → added (pieces (from ∷ others)) point ≡ under edge point
+added-right edge point from others onwards agrees is passed goes =
     let total = under-right edge point onwards in
     by_lt_z point.x (pos point.n *ℤ edge.x0)
     (λ early. sum_before edge onwards point from others goes (rw is early) ∙ sym (total ∙ before edge point early))
@@ -136,8 +138,8 @@ winding-right edge point from others onwards agrees is passed goes =
     (λ past. sum_after edge onwards point from others goes past ∙ sym (total ∙ after edge point past)))
 
 -- one that doesn't go rightwards
-winding-left : (edge : Edge) (point : RationalPoint) (from : Point) (others : List Point) → edge.x1 ≤ℤ edge.x0 → Agrees (reversed edge) point → from.x ≡ edge.x0 → Passes edge from.x from.y → GoesOn edge from others → winding (pieces_from from others) point ≡ under edge point
-winding-left edge point from others backwards agrees is passed goes =
+added-left : (edge : Edge) (point : RationalPoint) (from : Point) (others : List Point) → edge.x1 ≤ℤ edge.x0 → Agrees (reversed edge) point → from.x ≡ edge.x0 → Passes edge from.x from.y → GoesOn edge from others → added (pieces (from ∷ others)) point ≡ under edge point
+added-left edge point from others backwards agrees is passed goes =
     let total = under-left edge point backwards in
     by_lt_z point.x (pos point.n *ℤ edge.x0)
     (λ upto. by_lt_z point.x (pos point.n *ℤ edge.x1)
@@ -156,15 +158,19 @@ winding-left edge point from others backwards agrees is passed goes =
     omega (arith, ints, total, none, sum))
 
 -- both ways
-pub chain-agrees : (edge : Edge) (chain : List Point) (point : RationalPoint) → IsPath edge chain → Agrees edge point → Agrees (reversed edge) point → winding (pieces chain) point ≡ under edge point
+pub chain-agrees : (edge : Edge) (chain : List Point) (point : RationalPoint) → IsPath edge chain → Agrees edge point → Agrees (reversed edge) point → winding (pieces chain) point ≡ winding (edge ∷ []) point
 chain-agrees edge [] point none agrees back = absurd none
 chain-agrees edge (from ∷ others) point (x, y, passed, goes) agrees back =
+    let sum : added (pieces (from ∷ others)) point ≡ under edge point =
     by_lt_z edge.x0 edge.x1
-    (λ right. winding-right edge point from others (omega (arith, ints, right)) agrees x passed goes)
-    (λ left. winding-left edge point from others left back x passed goes)
+    (λ right. added-right edge point from others (omega (arith, ints, right)) agrees x passed goes)
+    (λ left. added-left edge point from others left back x passed goes) in
+    let chain = winding-added (pieces (from ∷ others)) point in
+    let one = winding-added (edge ∷ []) point in
+    omega (arith, ints, chain, sum, one)
 
 -- the pieces of a chain count what the edge counts, at a point that isn't near the edge
-pub chain-clear : (edge : Edge) (chain : List Point) (point : RationalPoint) → IsPath edge chain → ¬ (IsNear edge point) → winding (pieces chain) point ≡ under edge point
+pub chain-clear : (edge : Edge) (chain : List Point) (point : RationalPoint) → IsPath edge chain → ¬ (IsNear edge point) → winding (pieces chain) point ≡ winding (edge ∷ []) point
 chain-clear edge chain point is far =
     chain-agrees edge chain point is
     (λ piece. same_side edge piece point far)

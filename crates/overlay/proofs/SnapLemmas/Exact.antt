@@ -1,5 +1,5 @@
 -- A chain of an edge along an axis counts what the edge counts, at each point.
-use Rattle.std.proofs.Common.{List, ap, arith, inl, inr, pos, refl, subst, sym, ℕ, ℤ, ◌*ℤ◌, ◌+ℤ◌, ◌-ℤ◌, ◌<◌, ◌∙◌, ◌≡◌, ◌≤ℤ◌}
+use Rattle.std.proofs.Common.{List, [], ap, arith, inl, inr, pos, refl, subst, sym, ℕ, ℤ, ◌*ℤ◌, ◌+ℤ◌, ◌-ℤ◌, ◌<◌, ◌∙◌, ◌∷◌, ◌≡◌, ◌≤ℤ◌}
 use Rattle.std.proofs.lemmas.Int.{ints}
 use Rattle.std.specs.Prelude.{int_le}
 use Rattle.plane.specs.declared.edge.Edge.{Edge}
@@ -8,8 +8,9 @@ use Rattle.plane.specs.Meet.Edges.{RationalPoint}
 use Rattle.plane.specs.SweepLine.Heights.{run}
 use Rattle.overlay.specs.Snap.Chains.{Passes}
 use Rattle.overlay.specs.Snap.Rounding.{RoundsOn}
-use Rattle.overlay.specs.Snap.Windings.{IsAlongAxis, is_low, pieces, reversed, under, winding}
+use Rattle.overlay.specs.Snap.Windings.{IsAlongAxis, pieces, reversed, winding}
 use Rattle.overlay.proofs.SnapLemmas.Clear.{Agrees, chain-agrees}
+use Rattle.overlay.proofs.SnapLemmas.Counted.{is_low}
 use Rattle.overlay.proofs.SnapLemmas.Heights.{Covering, onwards}
 use Rattle.overlay.proofs.SnapLemmas.Numbers.{n_of, natural, same_test}
 use Rattle.overlay.proofs.SnapLemmas.Paths.{IsPath}
@@ -76,6 +77,6 @@ agrees-upright edge point upright piece from_passes to_passes c d =
     absurd (omega (arith, ints, some, upright))
 
 -- along either axis
-pub chain-exact : (edge : Edge) (chain : List Point) (point : RationalPoint) → IsPath edge chain → IsAlongAxis edge → winding (pieces chain) point ≡ under edge point
+pub chain-exact : (edge : Edge) (chain : List Point) (point : RationalPoint) → IsPath edge chain → IsAlongAxis edge → winding (pieces chain) point ≡ winding (edge ∷ []) point
 chain-exact edge chain point is (inl upright) = chain-agrees edge chain point is (agrees-upright edge point upright) (agrees-upright (reversed edge) point (sym upright))
 chain-exact edge chain point is (inr level) = chain-agrees edge chain point is (agrees-level edge point level) (agrees-level (reversed edge) point (sym level))

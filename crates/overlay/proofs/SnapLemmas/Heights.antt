@@ -7,9 +7,9 @@ use Rattle.plane.specs.Meet.Edges.{IsOf, RationalPoint}
 use Rattle.plane.specs.SweepLine.Heights.{run}
 use Rattle.overlay.specs.Snap.Chains.{Passes}
 use Rattle.overlay.specs.Snap.Near.{IsNear}
-use Rattle.overlay.specs.Snap.Windings.{height_at, is_low}
 use Rattle.overlay.proofs.SnapLemmas.Near.{IsNear-piece, IsNear-itself, IsNear-upright}
 use Rattle.overlay.proofs.SnapLemmas.Numbers.{below, below_of, n_of, natural, same_test}
+use Rattle.overlay.proofs.SnapLemmas.Counted.{height_at, is_low}
 use Rattle.plane.proofs.MeetLemmas.Identities.{at_most, at_most_of, identity, minus, number, plus, same_of, times}
 
 -- it goes rightwards and covers the point's x

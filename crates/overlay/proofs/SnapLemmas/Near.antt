@@ -39,12 +39,12 @@ within-mean b a n1 n2 m1 m2 p1 p2 q1 q2 first second =
 
 -- what is near an edge is convex
 pub IsNear-mean : (edge : Edge) (b a : ℕ) (some : 0 < b + a) (one other : RationalPoint) → IsNear edge one → IsNear edge other → IsNear edge (between b a some one other)
-IsNear-mean edge b a some one other first second = record {
-  other = between b a some first.other second.other;
-  of = IsOf-mean edge b a some first.other second.other first.of second.of;
-  along_x = within-mean b a one.n other.n first.other.n second.other.n one.x other.x first.other.x second.other.x first.along_x second.along_x;
-  along_y = within-mean b a one.n other.n first.other.n second.other.n one.y other.y first.other.y second.other.y first.along_y second.along_y;
-}
+IsNear-mean edge b a some one other (p, p_of, p_x, p_y) (q, q_of, q_x, q_y) = (
+  between b a some p q,
+  IsOf-mean edge b a some p q p_of q_of,
+  within-mean b a one.n other.n p.n q.n one.x other.x p.x q.x p_x q_x,
+  within-mean b a one.n other.n p.n q.n one.y other.y p.y q.y p_y q_y,
+)
 
 -- a point of a piece, and the same mean of points that round to the piece's ends
 within-piece : (b a n1 n2 : ℕ) (p1 p2 c1 c2 : ℤ) → RoundsOn n1 p1 c1 → RoundsOn n2 p2 c2 → WithinHalf (b + a) ((pos (b + a) *ℤ c1) +ℤ (pos a *ℤ (c2 -ℤ c1))) ((b + a) * (n1 * n2)) (mean_on b a n1 n2 p1 p2)
@@ -77,12 +77,12 @@ IsNear-piece edge piece point (one, one_of, one_rounds) (other, other_of, other_
     let b = point.n - a in
     let whole : (point.n - a) + a ≡ point.n = omega arith in
     let n_some = point.positive in
-    let some : 0 < (point.n - a) + a = omega arith in record {
-      other = between b a some one other;
-      of = IsOf-mean edge b a some one other one_of other_of;
-      along_x = within-at b a point.n one.n other.n one.x other.x piece.x0 piece.x1 point.x whole at.x one_rounds.along_x other_rounds.along_x;
-      along_y = within-at b a point.n one.n other.n one.y other.y piece.y0 piece.y1 point.y whole at.y one_rounds.along_y other_rounds.along_y;
-    }
+    let some : 0 < (point.n - a) + a = omega arith in (
+      between b a some one other,
+      IsOf-mean edge b a some one other one_of other_of,
+      within-at b a point.n one.n other.n one.x other.x piece.x0 piece.x1 point.x whole at.x one_rounds.along_x other_rounds.along_x,
+      within-at b a point.n one.n other.n one.y other.y piece.y0 piece.y1 point.y whole at.y one_rounds.along_y other_rounds.along_y,
+    )
 
 -- ---- the same point over another denominator
 
@@ -99,12 +99,12 @@ within-same n1 n m p1 p q some same h =
 
 -- nearness is of the point, not of its denominator
 pub IsNear-same : (edge : Edge) (other point : RationalPoint) → (pos point.n *ℤ other.x) ≡ (pos other.n *ℤ point.x) → (pos point.n *ℤ other.y) ≡ (pos other.n *ℤ point.y) → IsNear edge other → IsNear edge point
-IsNear-same edge other point same_x same_y near = record {
-  other = near.other;
-  of = near.of;
-  along_x = within-same other.n point.n near.other.n other.x point.x near.other.x other.positive same_x near.along_x;
-  along_y = within-same other.n point.n near.other.n other.y point.y near.other.y other.positive same_y near.along_y;
-}
+IsNear-same edge other point same_x same_y (near, of, along_x, along_y) = (
+  near,
+  of,
+  within-same other.n point.n near.n other.x point.x near.x other.positive same_x along_x,
+  within-same other.n point.n near.n other.y point.y near.y other.positive same_y along_y,
+)
 
 -- what is of the edge is near it
 within-self : (n : ℕ) (p : ℤ) → WithinHalf n p n p
@@ -115,12 +115,7 @@ within-self n p = record {
 
 -- a point of the edge is near it
 pub IsNear-itself : (edge : Edge) (point : RationalPoint) → IsOf edge point → IsNear edge point
-IsNear-itself edge point of = record {
-  other = point;
-  of = of;
-  along_x = within-self point.n point.x;
-  along_y = within-self point.n point.y;
-}
+IsNear-itself edge point of = (point, of, within-self point.n point.x, within-self point.n point.y)
 
 -- ---- straight between two points that are near
 

@@ -9,7 +9,7 @@ use Rattle.plane.specs.declared.point.Point.{Point}
 use Rattle.plane.specs.Meet.Edges.{IsOf, RationalPoint}
 use Rattle.overlay.specs.Snap.Chains.{AreChains, IsChain, IsHot, Passes, Upto, UptoOn}
 use Rattle.overlay.specs.Snap.Meeting.{MeetAtEnds}
-use Rattle.overlay.specs.Snap.Windings.{edge_between, end_of, pieces, pieces_from, start_of}
+use Rattle.overlay.specs.Snap.Windings.{edge_between, end_of, pieces, start_of}
 use Rattle.overlay.proofs.SnapLemmas.Along.{Upto-itself}
 use Rattle.overlay.proofs.SnapLemmas.Hobby.Ends.{pieces-meet}
 use Rattle.overlay.proofs.SnapLemmas.Along.{point_at}
@@ -67,7 +67,7 @@ record IsPieceAt (chain : List Point) (piece : Edge) : Type 0 where
   pub is : (d : Point) → edge_between (get_or chain k d) (get_or chain (suc k) d) ≡ piece
 
 -- each piece of a chain has one
-place_from : (from : Point) (others : List Point) (piece : Edge) → Contains (pieces_from from others) piece → IsPieceAt (from ∷ others) piece
+place_from : (from : Point) (others : List Point) (piece : Edge) → Contains (pieces (from ∷ others)) piece → IsPieceAt (from ∷ others) piece
 place_from from [] piece (k, inside, is) = absurd (omega (arith, inside))
 place_from from (to ∷ others) piece (zero, inside, is) = record {
   k = 0;

@@ -1,16 +1,19 @@
 -- Lemmas on whole numbers alone: orders as polynomials, tests that agree, signs and bounds of products.
-use Rattle.std.proofs.Common.{Bool, ap, arith, false, negsuc, pos, refl, suc, sym, true, zero, ℕ, ℤ, ◌*ℤ◌, ◌*◌, ◌+ℤ◌, ◌+◌, ◌-ℤ◌, ◌<ℤ◌, ◌<◌, ◌∙◌, ◌≡◌, ◌≢◌, ◌≤ℤ◌, ◌≤◌}
+use Rattle.std.proofs.Common.{Bool, FitsSigned, ap, arith, false, negsuc, pos, refl, suc, sym, true, zero, ℕ, ℤ, ◌*ℤ◌, ◌*◌, ◌^◌, ◌+ℤ◌, ◌+◌, ◌-ℤ◌, ◌<ℤ◌, ◌<◌, ◌∙◌, ◌≡◌, ◌≢◌, ◌≤ℤ◌}
 use Rattle.std.proofs.Math.Nat.{eq_of_mul-eq-mul_left, mul-pos}
 use Rattle.std.proofs.lemmas.Int.{by_lt_z, ints}
-use Rattle.std.proofs.lemmas.Nat.{mul-le}
+use Rattle.std.specs.Int.{w128}
 use Rattle.std.specs.Prelude.{int_le}
 use borrow.Author.Differences.{down, up}
-use Rattle.plane.specs.Meet.Crosses.{cross}
+use Rattle.plane.specs.Meet.Crosses.{IsWithin, cross}
 use Rattle.plane.proofs.MeetLemmas.Identities.{Term, at_most, at_most_of, identity, less, minus, more, number, plus, same_of, scaled, times, value}
 
 -- a natural number, as an expression
 abbrev pub n_of : ℕ → Term
 n_of n = number (pos n)
+
+abbrev pub minus_of : ℕ → Term
+minus_of n = minus (n_of 0) (n_of n)
 
 -- strict orders, as polynomials
 pub below_of : (s t : Term) → value s <ℤ value t → more s + less t < more t + less s
@@ -163,43 +166,20 @@ way_to n a b p c0 c1 d0 d1 first second =
     let fact = same_of (at a c0 c1) (at b d0 d1) (sym first ∙ second) in
     identity (times (n_of n) (minus (number d1) (number c0))) (plus (times (n_of a) (minus (number c1) (number c0))) (times (minus (n_of n) (n_of b)) (minus (number d1) (number d0)))) (omega (arith, fact))
 
--- ---- bounds of products
+-- ---- bounds of sums
 
--- z lies between -m and m
-pub record Bounds (m : ℕ) (z : ℤ) : Type 0 where
-  pub from : (pos 0 -ℤ pos m) ≤ℤ z
-  pub upto : z ≤ℤ pos m
+pub IsWithin-sum : (a b : ℤ) → IsWithin (2 ^ 98) a → IsWithin (2 ^ 98) b → IsWithin (2 ^ 99) (a +ℤ b)
+IsWithin-sum a b first second =
+    let a_from = first.from in
+    let a_upto = first.upto in
+    let b_from = second.from in
+    let b_upto = second.upto in record {
+      from = omega (arith, ints, a_from, b_from);
+      upto = omega (arith, ints, a_upto, b_upto);
+    }
 
-abbrev pub minus_of : ℕ → Term
-minus_of n = minus (n_of 0) (n_of n)
-
-both_bounds : (a b : ℤ) (m n : ℕ) → down a * up b + up a * down b ≤ m * n + (up a * up b + down a * down b) → up a * up b + down a * down b ≤ m * n + (down a * up b + up a * down b) → Bounds (m * n) (a *ℤ b)
-both_bounds a b m n first second = record {
-  from = at_most (minus_of (m * n)) (times (number a) (number b)) (omega (arith, first));
-  upto = at_most (times (number a) (number b)) (n_of (m * n)) (omega (arith, second));
-}
-
--- a product lies between the products of the bounds
-pub bounds-product : (a b : ℤ) (m n : ℕ) → Bounds m a → Bounds n b → Bounds (m * n) (a *ℤ b)
-bounds-product (pos a) (pos b) m n first second =
-    let upto = mul-le a b m n (omega (arith, ints, first.upto)) (omega (arith, ints, second.upto)) in
-    both_bounds (pos a) (pos b) m n (omega arith) (omega (arith, upto))
-bounds-product (pos a) (negsuc b) m n first second =
-    let upto = mul-le a (suc b) m n (omega (arith, ints, first.upto)) (omega (arith, ints, second.from)) in
-    both_bounds (pos a) (negsuc b) m n (omega (arith, upto)) (omega arith)
-bounds-product (negsuc a) (pos b) m n first second =
-    let upto = mul-le (suc a) b m n (omega (arith, ints, first.from)) (omega (arith, ints, second.upto)) in
-    both_bounds (negsuc a) (pos b) m n (omega (arith, upto)) (omega arith)
-bounds-product (negsuc a) (negsuc b) m n first second =
-    let upto = mul-le (suc a) (suc b) m n (omega (arith, ints, first.from)) (omega (arith, ints, second.from)) in
-    both_bounds (negsuc a) (negsuc b) m n (omega arith) (omega (arith, upto))
-
--- ---- sums of what is equal
-
--- a difference of what is equal, and a mean
-pub sub_same : (a b p q : ℤ) → a ≡ p → b ≡ q → (a -ℤ b) ≡ (p -ℤ q)
-sub_same a b p q first second = ap (λ z. z -ℤ b) first ∙ ap (λ z. p -ℤ z) second
-
-pub mean_is : (p1 p2 w all first from to : ℤ) → p1 ≡ (all *ℤ from) → p2 ≡ (first *ℤ w) → w ≡ (to -ℤ from) → (p1 +ℤ p2) ≡ ((all *ℤ from) +ℤ (first *ℤ (to -ℤ from)))
-mean_is p1 p2 w all first from to one other way =
-    ap (λ z. z +ℤ p2) one ∙ ap (λ z. (all *ℤ from) +ℤ z) other ∙ ap (λ z. (all *ℤ from) +ℤ (first *ℤ z)) way
+pub fits-within : (z : ℤ) → IsWithin (2 ^ 99) z → FitsSigned w128 z
+fits-within z within =
+    let from = within.from in
+    let upto = within.upto in
+    omega (arith, ints, from, upto)

@@ -6,7 +6,7 @@ use Rattle.std.specs.Prelude.{List, [], ◌∷◌, ◌≡◌}
 use Rattle.plane.specs.declared.edge.Edge.{Edge}
 use Rattle.plane.specs.declared.point.Point.{Point}
 use Rattle.overlay.specs.Snap.Chains.{IsChain, IsHot, Passes, Upto}
-use Rattle.overlay.specs.Snap.Windings.{end_of, pieces, pieces_from, start_of}
+use Rattle.overlay.specs.Snap.Windings.{end_of, pieces, start_of}
 use Rattle.overlay.proofs.SnapLemmas.Along.{Upto-to_end, point_at, Passes-start, Passes-end, Upto-from_start, Upto-same}
 
 -- From the first point on the others go along the edge, each one passed by it, to the edge's end.
@@ -92,11 +92,11 @@ IsPath-chain edges edge chain among is =
 
 -- ---- a chain's pieces have its edge's start and end, and else begin where they end
 
-begin_from : (edge : Edge) (from : Point) (others : List Point) → GoesOn edge from others → (map start_of (pieces_from from others) ++ (end_of edge ∷ [])) ≡ from ∷ others
+begin_from : (edge : Edge) (from : Point) (others : List Point) → GoesOn edge from others → (map start_of (pieces (from ∷ others)) ++ (end_of edge ∷ [])) ≡ from ∷ others
 begin_from edge from [] (x, y) = ap (λ a. point_at a edge.y1 ∷ []) (sym x) ∙ ap (λ b. point_at from.x b ∷ []) (sym y)
 begin_from edge from (to ∷ others) (order, passes, rest) = ap (λ c. from ∷ c) (begin_from edge to others rest)
 
-end_from : (from : Point) (others : List Point) → (from ∷ map end_of (pieces_from from others)) ≡ from ∷ others
+end_from : (from : Point) (others : List Point) → (from ∷ map end_of (pieces (from ∷ others))) ≡ from ∷ others
 end_from from [] = refl
 end_from from (to ∷ others) = ap (λ c. from ∷ c) (end_from to others)
 
@@ -109,6 +109,6 @@ path-begins edge (from ∷ others) (x, y, passed, goes) = begin_from edge from o
 pub path-ends : (edge : Edge) (chain : List Point) → IsPath edge chain → (start_of edge ∷ map end_of (pieces chain)) ≡ chain
 path-ends edge [] none = absurd none
 path-ends edge (from ∷ others) (x, y, passed, goes) =
-    ap (λ a. point_at a edge.y0 ∷ map end_of (pieces_from from others)) (sym x)
-    ∙ ap (λ b. point_at from.x b ∷ map end_of (pieces_from from others)) (sym y)
+    ap (λ a. point_at a edge.y0 ∷ map end_of (pieces (from ∷ others))) (sym x)
+    ∙ ap (λ b. point_at from.x b ∷ map end_of (pieces (from ∷ others))) (sym y)
     ∙ end_from from others

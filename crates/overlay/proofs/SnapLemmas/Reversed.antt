@@ -30,12 +30,7 @@ IsOf-reversed edge point (a, at) =
     )
 
 pub IsNear-reversed : (edge : Edge) (point : RationalPoint) → IsNear (reversed edge) point → IsNear edge point
-IsNear-reversed edge point near = record {
-  other = near.other;
-  of = IsOf-reversed (reversed edge) near.other near.of;
-  along_x = near.along_x;
-  along_y = near.along_y;
-}
+IsNear-reversed edge point (near, of, along_x, along_y) = (near, IsOf-reversed (reversed edge) near of, along_x, along_y)
 
 -- so it passes the same, and the same is near it
 pub Passes-reversed : (edge : Edge) (x y : ℤ) → Passes edge x y → Passes (reversed edge) x y

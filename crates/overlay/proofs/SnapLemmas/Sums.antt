@@ -9,7 +9,7 @@ use Rattle.plane.specs.declared.point.Point.{Point}
 use Rattle.plane.specs.Meet.Edges.{RationalPoint}
 use Rattle.overlay.specs.Snap.Chains.{AreChains, IsChain}
 use Rattle.overlay.specs.Snap.Near.{IsNear}
-use Rattle.overlay.specs.Snap.Windings.{IsAlongAxis, IsClosed, edge_between, end_of, pieces, pieces_from, start_of, under, winding}
+use Rattle.overlay.specs.Snap.Windings.{IsAlongAxis, IsClosed, edge_between, end_of, pieces, start_of, winding}
 use Rattle.overlay.proofs.SnapLemmas.Clear.{chain-clear}
 use Rattle.overlay.proofs.SnapLemmas.Exact.{chain-exact}
 use Rattle.overlay.proofs.SnapLemmas.Numbers.{both}
@@ -17,7 +17,7 @@ use Rattle.overlay.proofs.SnapLemmas.Paths.{GoesOn, IsPath, IsPath-chain}
 use Rattle.overlay.proofs.SnapLemmas.Along.{point_at}
 use Rattle.overlay.proofs.SnapLemmas.Windings.{winding-append}
 
-module _ (all : List Edge) (point : RationalPoint) (P : Edge → Type 0) (each : (edge : Edge) (chain : List Point) → IsPath edge chain → P edge → winding (pieces chain) point ≡ under edge point) where
+module _ (all : List Edge) (point : RationalPoint) (P : Edge → Type 0) (each : (edge : Edge) (chain : List Point) → IsPath edge chain → P edge → winding (pieces chain) point ≡ winding (edge ∷ []) point) where
   -- what holds of each chain and its edge holds of their sums
   total : (edges : List Edge) (chains : List (List Point)) → ((edge : Edge) → Contains edges edge → Contains all edge) → AllZip (IsChain all) edges chains → All P edges → winding (flat_map pieces chains) point ≡ winding edges point
   total [] [] among are every = refl
@@ -25,9 +25,10 @@ module _ (all : List Edge) (point : RationalPoint) (P : Edge → Type 0) (each :
   total (edge ∷ edges) [] among are every = absurd are
   total (edge ∷ edges) (chain ∷ chains) among (is, are) every =
       winding-append (pieces chain) (flat_map pieces chains) point
-      ∙ both (winding (pieces chain) point) (under edge point) (winding (flat_map pieces chains) point) (winding edges point)
+      ∙ both (winding (pieces chain) point) (winding (edge ∷ []) point) (winding (flat_map pieces chains) point) (winding edges point)
       (each edge chain (IsPath-chain all edge chain (among edge (0, omega arith, refl)) is) (All-head P edge edges every))
       (total edges chains (λ other (k, inside, is_at). among other (suc k, omega (arith, inside), is_at)) are (All-tail P edge edges every))
+      ∙ sym (winding-append (edge ∷ []) edges point)
 
 -- at a point that is near none of the edges
 pub chains-clear : (edges : List Edge) (chains : List (List Point)) (point : RationalPoint) → AreChains edges chains → All (λ edge. ¬ (IsNear edge point)) edges → winding (flat_map pieces chains) point ≡ winding edges point
@@ -36,6 +37,15 @@ chains-clear edges chains point are far = total edges point (λ edge. ¬ (IsNear
 -- at each point, where all edges run along the axes
 pub chains-exact : (edges : List Edge) (chains : List (List Point)) (point : RationalPoint) → AreChains edges chains → All IsAlongAxis edges → winding (flat_map pieces chains) point ≡ winding edges point
 chains-exact edges chains point are axial = total edges point IsAlongAxis (λ edge chain is axis. chain-exact edge chain point is axis) edges chains (λ edge among. among) are axial
+
+-- the same of some of the edges, and of their chains among all
+pub some-clear : (all some : List Edge) (chains : List (List Point)) (point : RationalPoint) → ((edge : Edge) → Contains some edge → Contains all edge) → AllZip (IsChain all) some chains
+    → All (λ edge. ¬ (IsNear edge point)) some → winding (flat_map pieces chains) point ≡ winding some point
+some-clear all some chains point among are far = total all point (λ edge. ¬ (IsNear edge point)) (λ edge chain is far. chain-clear edge chain point is far) some chains among are far
+
+pub some-exact : (all some : List Edge) (chains : List (List Point)) (point : RationalPoint) → ((edge : Edge) → Contains some edge → Contains all edge) → AllZip (IsChain all) some chains
+    → All IsAlongAxis some → winding (flat_map pieces chains) point ≡ winding some point
+some-exact all some chains point among are axial = total all point IsAlongAxis (λ edge chain is axis. chain-exact edge chain point is axis) some chains among are axial
 
 -- ---- starts and ends
 
@@ -63,13 +73,13 @@ module _ (test : Point → Bool) where
   ends-append xs ys = sum_by-append (λ (e : Edge). unit (end_of e)) xs ys
 
   -- what a chain's pieces add beside its edge's start and end, they add on both sides
-  along : (edge : Edge) (from : Point) (others : List Point) → GoesOn edge from others → starts (pieces_from from others) + unit (end_of edge) ≡ unit from + ends (pieces_from from others)
+  along : (edge : Edge) (from : Point) (others : List Point) → GoesOn edge from others → starts (pieces (from ∷ others)) + unit (end_of edge) ≡ unit from + ends (pieces (from ∷ others))
   along edge from [] (x, y) =
       let same : unit from ≡ unit (end_of edge) = ap (λ a. unit (point_at a from.y)) x ∙ ap (λ b. unit (point_at edge.x1 b)) y in
       omega (arith, same)
   along edge from (to ∷ others) (order, passes, rest) =
-      let first = starts-cons (edge_between from to) (pieces_from to others) in
-      let second = ends-cons (edge_between from to) (pieces_from to others) in
+      let first = starts-cons (edge_between from to) (pieces (to ∷ others)) in
+      let second = ends-cons (edge_between from to) (pieces (to ∷ others)) in
       let later = along edge to others rest in
       omega (arith, first, second, later)
 
@@ -107,3 +117,10 @@ pub IsClosed-permutation : (edges : List Edge) → IsPermutation (map start_of e
 IsClosed-permutation edges is test =
     let unit : Point → ℕ = λ point. cond (test point) 1 0 in
     sym (sum_by-map unit start_of edges) ∙ sym (sum_by-IsPermutation unit (map start_of edges) (map end_of edges) is) ∙ sum_by-map unit end_of edges
+
+-- so the pieces of some closed edges are closed
+pub some-closed : (all some : List Edge) (chains : List (List Point)) → ((edge : Edge) → Contains some edge → Contains all edge) → AllZip (IsChain all) some chains → IsClosed some → IsClosed (flat_map pieces chains)
+some-closed all some chains among are closed test =
+    let sum = balance test all some chains among are in
+    let same = closed test in
+    omega (arith, sum, same)

@@ -1,16 +1,56 @@
 -- What edges count for a point.
-use Rattle.std.proofs.Common.{Bool, List, [], arith, false, pos, refl, true, ℤ, ◌&&◌, ◌*ℤ◌, ◌++◌, ◌+ℤ◌, ◌-ℤ◌, ◌<ℤ◌, ◌∷◌, ◌≡◌, ◌≤ℤ◌}
+use Rattle.std.proofs.Common.{Bool, List, [], IsPermutation, ap, ap₂, arith, cond, false, pos, refl, true, ℤ, ◌&&◌, ◌*ℤ◌, ◌++◌, ◌+◌, ◌+ℤ◌, ◌-ℤ◌, ◌<ℤ◌, ◌∷◌, ◌≡◌, ◌≤ℤ◌}
 use Rattle.std.proofs.lemmas.Int.{ints}
+use Rattle.std.proofs.lemmas.List.Sums.{sum_by-append, sum_by-cons}
+use Rattle.std.proofs.lemmas.List.Sorted.{sum_by-IsPermutation}
+use Rattle.std.specs.List.{count_by}
 use Rattle.std.specs.Prelude.{int_le, int_lt}
 use Rattle.plane.specs.declared.edge.Edge.{Edge}
 use Rattle.plane.specs.Meet.Edges.{RationalPoint}
-use Rattle.overlay.specs.Snap.Windings.{count, covers, is_low, reversed, under, winding}
+use Rattle.overlay.specs.Fill.Rules.{count}
+use Rattle.overlay.specs.Snap.Windings.{is_under, reversed, winding}
+use Rattle.overlay.proofs.SnapLemmas.Counted.{added, counted, covers, is_low, is_low-left, under}
 use Rattle.overlay.proofs.SnapLemmas.Heights.{Covering}
 use Rattle.plane.proofs.MeetLemmas.Identities.{scaled}
 
--- what it counts where it goes rightwards
-abbrev pub counted : Edge → RationalPoint → ℤ
-counted edge point = count (covers edge point && is_low edge point)
+-- 1 or 0, as a natural number
+pub count-pos : (test : Bool) → count test ≡ pos (cond test 1 0)
+count-pos true = refl
+count-pos false = refl
+
+-- what goes rightwards and is under the point is counted, by its height there
+counted-is : (edge : Edge) (point : RationalPoint) → count (is_under edge point) ≡ counted edge point
+counted-is edge point = ap (λ low. count (covers edge point && low)) (is_low-left edge point)
+
+-- a winding number is what the edges count, one after another
+pub winding-added : (edges : List Edge) (point : RationalPoint) → winding edges point ≡ added edges point
+winding-added [] point = refl
+winding-added (edge ∷ edges) point =
+    let first : count_by (λ e. is_under e point) (edge ∷ edges) ≡ cond (is_under edge point) 1 0 + count_by (λ e. is_under e point) edges = sum_by-cons (λ (e : Edge). cond (is_under e point) 1 0) edge edges in
+    let second : count_by (λ e. is_under (reversed e) point) (edge ∷ edges) ≡ cond (is_under (reversed edge) point) 1 0 + count_by (λ e. is_under (reversed e) point) edges =
+    sum_by-cons (λ (e : Edge). cond (is_under (reversed e) point) 1 0) edge edges in
+    let right = counted-is edge point in
+    let left = counted-is (reversed edge) point in
+    let one = count-pos (is_under edge point) in
+    let other = count-pos (is_under (reversed edge) point) in
+    let rest = winding-added edges point in
+    omega (arith, ints, first, second, right, left, one, other, rest)
+
+-- windings add up
+pub winding-append : (xs ys : List Edge) (point : RationalPoint) → winding (xs ++ ys) point ≡ (winding xs point +ℤ winding ys point)
+winding-append xs ys point =
+    let first : count_by (λ e. is_under e point) (xs ++ ys) ≡ count_by (λ e. is_under e point) xs + count_by (λ e. is_under e point) ys = sum_by-append (λ (e : Edge). cond (is_under e point) 1 0) xs ys in
+    let second : count_by (λ e. is_under (reversed e) point) (xs ++ ys) ≡ count_by (λ e. is_under (reversed e) point) xs + count_by (λ e. is_under (reversed e) point) ys =
+    sum_by-append (λ (e : Edge). cond (is_under (reversed e) point) 1 0) xs ys in
+    omega (arith, ints, first, second)
+
+-- and stay, in whatever order
+pub winding-permutation : (xs ys : List Edge) (point : RationalPoint) → IsPermutation xs ys → winding ys point ≡ winding xs point
+winding-permutation xs ys point moved =
+    let first : count_by (λ e. is_under e point) ys ≡ count_by (λ e. is_under e point) xs = sum_by-IsPermutation (λ (e : Edge). cond (is_under e point) 1 0) xs ys moved in
+    let second : count_by (λ e. is_under (reversed e) point) ys ≡ count_by (λ e. is_under (reversed e) point) xs =
+    sum_by-IsPermutation (λ (e : Edge). cond (is_under (reversed e) point) 1 0) xs ys moved in
+    ap₂ (λ m n. pos m -ℤ pos n) first second
 
 -- where the two tests can't both be true, nothing is counted
 nothing : (a b c d : ℤ) (t : Bool) → (a ≤ℤ b → c <ℤ d → ⊥) → count ((int_le a b && int_lt c d) && t) ≡ pos 0
@@ -52,8 +92,3 @@ under-right edge point onwards = let none = back (reversed edge) point onwards i
 
 pub under-left : (edge : Edge) (point : RationalPoint) → edge.x1 ≤ℤ edge.x0 → under edge point ≡ (pos 0 -ℤ counted (reversed edge) point)
 under-left edge point onwards = let none = back edge point onwards in omega (arith, ints, none)
-
--- windings add up
-pub winding-append : (xs ys : List Edge) (point : RationalPoint) → winding (xs ++ ys) point ≡ (winding xs point +ℤ winding ys point)
-winding-append [] ys point = omega (arith, ints)
-winding-append (x ∷ xs) ys point = let rest = winding-append xs ys point in omega (arith, ints, rest)

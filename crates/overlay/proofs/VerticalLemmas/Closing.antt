@@ -12,15 +12,16 @@ use Rattle.plane.specs.Meet.Edges.{IsOf, RationalPoint}
 use Rattle.plane.specs.Meet.Kinds.{IsEnd}
 use Rattle.plane.specs.SweepLine.Heights.{run, height_by_run}
 use Rattle.plane.proofs.MeetLemmas.Identities.{identity, minus, number, plus, scaled, times, unscaled}
-use Rattle.overlay.specs.Fill.Filled.{AreDistinct, AreNoded, IsEndOfSloped, IsNextInColumn}
+use Rattle.overlay.specs.Fill.Filled.{AreDistinct, AreNoded, IsEndOfSloped, IsNextInColumn, HaveSameEnds}
 use Rattle.overlay.specs.Fill.Verticals.{AreVerticalsOf, BoundRegion, before_all, both_ends, ending, point_of_end, starting, verticals_between}
-use Rattle.overlay.specs.Snap.Meeting.{HaveSameEnds, MeetAtEnds}
+use Rattle.overlay.specs.Snap.Meeting.{MeetAtEnds}
 use Rattle.overlay.specs.Snap.Windings.{IsClosed, edge_between, end_of, reversed, start_of, winding}
 use Rattle.overlay.specs.contracts.fill.verticals.EndOrd.TheImpl.{ghosts as end_order}
 use Rattle.overlay.specs.declared.fill.verticals.End.{End}
 use Rattle.overlay.proofs.SnapLemmas.Numbers.{n_of, natural}
 use Rattle.overlay.proofs.SnapLemmas.Reversed.{IsOf-reversed}
-use Rattle.overlay.proofs.SnapLemmas.Windings.{back, winding-append}
+use Rattle.overlay.proofs.SnapLemmas.Counted.{added}
+use Rattle.overlay.proofs.SnapLemmas.Windings.{back, winding-append, winding-added}
 use Rattle.overlay.proofs.VerticalLemmas.Flows.{flow, flow-append, flow-counts, is_upto}
 use Rattle.overlay.proofs.VerticalLemmas.Crossed.{IsEnd-x, IsOf-column, IsOf-turned, SameEnds-sym, at_column, crossed, inside-no_end}
 use Rattle.overlay.proofs.VerticalLemmas.Linked.{AreLinks, IsLink, all-links}
@@ -425,15 +426,15 @@ module _ (sloped : List Edge) (region : BoundRegion sloped) where
     -- they wind around nothing
     all-wind : (point : RationalPoint) → winding both point ≡ winding sloped point
     all-wind point =
-        let none = upright-winding point edges upright-all in
+        let none = winding-added edges point ∙ upright-added point edges upright-all in
         let sum = winding-append sloped edges point in
         omega (arith, ints, none, sum)
       where
-        upright-winding : (point : RationalPoint) (verticals : List Edge) → All (λ edge. edge.x1 ≡ edge.x0) verticals → winding verticals point ≡ pos 0
-        upright-winding point [] all = refl
-        upright-winding point (edge ∷ verticals) all =
+        upright-added : (point : RationalPoint) (verticals : List Edge) → All (λ edge. edge.x1 ≡ edge.x0) verticals → added verticals point ≡ pos 0
+        upright-added point [] all = refl
+        upright-added point (edge ∷ verticals) all =
             let upright = All-head (λ (e : Edge). e.x1 ≡ e.x0) edge verticals all in
-            let rest = upright-winding point verticals (All-tail (λ (e : Edge). e.x1 ≡ e.x0) edge verticals all) in
+            let rest = upright-added point verticals (All-tail (λ (e : Edge). e.x1 ≡ e.x0) edge verticals all) in
             let first = back edge point (omega (arith, ints, upright)) in
             let second = back (reversed edge) point (omega (arith, ints, upright)) in
             omega (arith, ints, rest, first, second)

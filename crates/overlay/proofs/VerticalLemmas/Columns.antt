@@ -8,10 +8,12 @@ use Rattle.plane.specs.declared.edge.Edge.{Edge}
 use Rattle.plane.specs.Meet.Edges.{RationalPoint}
 use Rattle.plane.specs.SweepLine.Heights.{run, rise, height_by_run}
 use Rattle.plane.proofs.MeetLemmas.Identities.{identity, minus, number, plus, scaled, times, unscaled}
-use Rattle.overlay.specs.Snap.Windings.{count, end_of, height_at, is_low, reversed, start_of, under, winding}
+use Rattle.overlay.specs.Snap.Windings.{end_of, reversed, start_of, winding}
+use Rattle.overlay.specs.Fill.Rules.{count}
 use Rattle.overlay.proofs.SnapLemmas.Numbers.{n_of, natural, same_test}
 use Rattle.overlay.proofs.VerticalLemmas.Flows.{Every, carried, flow, is_upto, upto-at, upto-before, upto-behind}
-use Rattle.overlay.proofs.SnapLemmas.Windings.{after, before, counted, under-left, under-right, within}
+use Rattle.overlay.proofs.SnapLemmas.Counted.{added, counted, height_at, is_low, under}
+use Rattle.overlay.proofs.SnapLemmas.Windings.{after, before, under-left, under-right, within, winding-added}
 
 -- ---- how large edges are
 
@@ -335,9 +337,17 @@ edge-flow k edge x n y some small slanted =
     let high = under-left edge (left_of k x 1 (pos k) one_some) upto in
     omega (arith, ints, is, left, right, high))
 
-pub flow-windings : (k : ℕ) (edges : List Edge) (x : ℤ) (n : ℕ) (y : ℤ) (some : 0 < n) → sizes edges ≤ k → Every (λ edge. edge.x1 ≢ edge.x0) edges → Flows k (winding edges) x n y some (flow (is_upto x n y) edges)
-flow-windings k [] x n y some small slanted = omega (arith, ints)
-flow-windings k (edge ∷ edges) x n y some small (slant, slanted) =
+flow-added : (k : ℕ) (edges : List Edge) (x : ℤ) (n : ℕ) (y : ℤ) (some : 0 < n) → sizes edges ≤ k → Every (λ edge. edge.x1 ≢ edge.x0) edges → Flows k (added edges) x n y some (flow (is_upto x n y) edges)
+flow-added k [] x n y some small slanted = omega (arith, ints)
+flow-added k (edge ∷ edges) x n y some small (slant, slanted) =
     let first = edge-flow k edge x n y some (omega (arith, small)) slant in
-    let rest = flow-windings k edges x n y some (omega (arith, small)) slanted in
+    let rest = flow-added k edges x n y some (omega (arith, small)) slanted in
     omega (arith, ints, first, rest)
+
+pub flow-windings : (k : ℕ) (edges : List Edge) (x : ℤ) (n : ℕ) (y : ℤ) (some : 0 < n) → sizes edges ≤ k → Every (λ edge. edge.x1 ≢ edge.x0) edges → Flows k (winding edges) x n y some (flow (is_upto x n y) edges)
+flow-windings k edges x n y some small slanted =
+    let sum = flow-added k edges x n y some small slanted in
+    let left = winding-added edges (left_of k x n y some) in
+    let right = winding-added edges (right_of x n y some) in
+    let high = winding-added edges (left_of k x 1 (pos k) one_some) in
+    omega (arith, ints, sum, left, right, high)

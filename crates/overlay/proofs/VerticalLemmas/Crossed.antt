@@ -12,11 +12,13 @@ use Rattle.plane.specs.Meet.Kinds.{IsEnd}
 use Rattle.plane.specs.SweepLine.Heights.{run, height_by_run}
 use Rattle.plane.proofs.MeetLemmas.Identities.{identity, minus, number, plus, scaled, times, unscaled}
 use Rattle.overlay.specs.Fill.Verticals.{BoundRegion}
-use Rattle.overlay.specs.Snap.Meeting.{HaveSameEnds}
-use Rattle.overlay.specs.Snap.Windings.{count, reversed, under, winding}
+use Rattle.overlay.specs.Snap.Windings.{reversed, winding}
+use Rattle.overlay.specs.Fill.Filled.{HaveSameEnds}
+use Rattle.overlay.specs.Fill.Rules.{count}
 use Rattle.overlay.proofs.SnapLemmas.Numbers.{n_of, natural, same_test}
 use Rattle.overlay.proofs.SnapLemmas.Reversed.{IsOf-reversed}
-use Rattle.overlay.proofs.SnapLemmas.Windings.{counted, under-left, under-right}
+use Rattle.overlay.proofs.SnapLemmas.Counted.{added, counted, under}
+use Rattle.overlay.proofs.SnapLemmas.Windings.{under-left, under-right, winding-added}
 use Rattle.overlay.proofs.VerticalLemmas.Columns.{is_lower, left_of, next_times, right-none, right-over, right-within, right_of, size, size-reversed, sizes, upto_size}
 use Rattle.overlay.proofs.VerticalLemmas.Flows.{flow, is_upto}
 use Rattle.overlay.proofs.VerticalLemmas.Region.{IsEndAt, bits, column-agree, extent, flow-is, size-among}
@@ -79,24 +81,24 @@ IsEnd-x edge n x y some (inr at) = inr (same_x n x edge.x1 some at.x_is)
 
 -- ---- sums over lists
 
-winding-same : (one other : RationalPoint) (edges : List Edge) → ((edge : Edge) → Contains edges edge → under edge one ≡ under edge other) → winding edges one ≡ winding edges other
-winding-same one other [] each = refl
-winding-same one other (edge ∷ edges) each =
-    ap₂ (λ a b. a +ℤ b) (each edge (0, omega arith, refl)) (winding-same one other edges (λ e (i, within, is). each e (suc i, omega (arith, within), is)))
+added-same : (one other : RationalPoint) (edges : List Edge) → ((edge : Edge) → Contains edges edge → under edge one ≡ under edge other) → added edges one ≡ added edges other
+added-same one other [] each = refl
+added-same one other (edge ∷ edges) each =
+    ap₂ (λ a b. a +ℤ b) (each edge (0, omega arith, refl)) (added-same one other edges (λ e (i, within, is). each e (suc i, omega (arith, within), is)))
 
 -- where all edges but one count the same for two points
-winding-one : (one other : RationalPoint) (g : Edge) (edges : List Edge) → Contains edges g → AllPairs (λ a b. ¬ (HaveSameEnds a b)) edges → ((edge : Edge) → Contains edges edge → ¬ (HaveSameEnds edge g) → under edge one ≡ under edge other)
-    → (winding edges one -ℤ winding edges other) ≡ (under g one -ℤ under g other)
-winding-one one other g [] (i, within, is) distinct each = absurd (omega (arith, within))
-winding-one one other g (edge ∷ edges) (zero, within, is) distinct each =
-    let rest = winding-same one other edges
+added-one : (one other : RationalPoint) (g : Edge) (edges : List Edge) → Contains edges g → AllPairs (λ a b. ¬ (HaveSameEnds a b)) edges → ((edge : Edge) → Contains edges edge → ¬ (HaveSameEnds edge g) → under edge one ≡ under edge other)
+    → (added edges one -ℤ added edges other) ≡ (under g one -ℤ under g other)
+added-one one other g [] (i, within, is) distinct each = absurd (omega (arith, within))
+added-one one other g (edge ∷ edges) (zero, within, is) distinct each =
+    let rest = added-same one other edges
     (λ e (i, inside, at). each e (suc i, omega (arith, inside), at)
     (λ same. distinct 0 (suc i) e (omega arith) (omega (arith, inside)) (SameEnds-sym (get_or edges i e) edge (subst (λ (a : Edge). HaveSameEnds a edge) (sym at) (subst (λ (b : Edge). HaveSameEnds e b) (sym is) same))))) in
     let first = ap (λ (a : Edge). under a one) is in
     let second = ap (λ (a : Edge). under a other) is in
     omega (arith, ints, rest, first, second)
-winding-one one other g (edge ∷ edges) (suc i, within, is) distinct each =
-    let rest = winding-one one other g edges (i, omega (arith, within), is)
+added-one one other g (edge ∷ edges) (suc i, within, is) distinct each =
+    let rest = added-one one other g edges (i, omega (arith, within), is)
     (λ a b d below inside. distinct (suc a) (suc b) d (omega (arith, below)) (omega (arith, inside)))
     (λ e (j, inside, at). each e (suc j, omega (arith, inside), at)) in
     let here = each edge (0, omega arith, refl) (λ same. distinct 0 (suc i) g (omega arith) within (subst (λ (b : Edge). HaveSameEnds edge b) (sym is) same)) in
@@ -264,7 +266,8 @@ module _ (sloped : List Edge) (region : BoundRegion sloped) (x : ℤ) (g r : Edg
 
   winding-step : (winding sloped above -ℤ winding sloped below) ≡ (under g above -ℤ under g below)
   winding-step =
-      winding-one above below g sloped among region.distinct
+      ap₂ (λ a b. a -ℤ b) (winding-added sloped above) (winding-added sloped below)
+      ∙ added-one above below g sloped among region.distinct
       (λ edge other_among differ. under-same edge other_among (All-contains (λ e. e.x1 ≢ e.x0) sloped edge region.slanted other_among) differ)
 
   -- where no end of the column lies strictly between y and z, and r passes there, as many end upto y as start

@@ -8,7 +8,9 @@ use Rattle.std.specs.List.{count_by}
 use Rattle.std.specs.Prelude.{int_le}
 use Rattle.plane.specs.declared.edge.Edge.{Edge}
 use Rattle.plane.specs.declared.point.Point.{Point}
-use Rattle.overlay.specs.Snap.Windings.{count, end_of, start_of}
+use Rattle.overlay.specs.Fill.Rules.{count}
+use Rattle.overlay.proofs.SnapLemmas.Windings.{count-pos}
+use Rattle.overlay.specs.Snap.Windings.{end_of, start_of}
 
 -- ---- ends upto a height y / n of a column x: those of columns before it, and those of it that aren't higher
 
@@ -57,13 +59,9 @@ flow-counts test (edge ∷ edges) =
     let rest = flow-counts test edges in
     let ends = sum_by-cons (λ (e : Edge). cond (test (end_of e)) 1 0) edge edges in
     let starts = sum_by-cons (λ (e : Edge). cond (test (start_of e)) 1 0) edge edges in
-    let one = counts (test (end_of edge)) in
-    let other = counts (test (start_of edge)) in
+    let one = count-pos (test (end_of edge)) in
+    let other = count-pos (test (start_of edge)) in
     omega (arith, ints, rest, ends, starts, one, other)
-  where
-    counts : (t : Bool) → count t ≡ pos (cond t 1 0)
-    counts true = refl
-    counts false = refl
 
 -- the same edges, told from one to the next
 abbrev pub Every : (Edge → Type 0) → List Edge → Type 0

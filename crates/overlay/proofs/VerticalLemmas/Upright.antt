@@ -5,7 +5,7 @@ use Rattle.plane.specs.declared.edge.Edge.{Edge}
 use Rattle.plane.specs.Meet.Edges.{IsOf, RationalPoint}
 use Rattle.plane.specs.Meet.Kinds.{IsEnd}
 use Rattle.plane.proofs.MeetLemmas.Identities.{identity, minus, number, plus, scaled, times}
-use Rattle.overlay.specs.Snap.Meeting.{HaveSameEnds}
+use Rattle.overlay.specs.Fill.Filled.{HaveSameEnds}
 use Rattle.overlay.specs.Snap.Windings.{edge_between, reversed}
 use Rattle.overlay.proofs.SnapLemmas.Along.{point_at}
 use Rattle.overlay.proofs.SnapLemmas.Numbers.{n_of}

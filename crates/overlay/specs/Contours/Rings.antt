@@ -4,13 +4,13 @@ use Rattle.std.specs.List.Sorted.{IsPermutation}
 use Rattle.std.specs.Prelude.{◌≢◌, List, [], ◌∷◌, ◌++◌, All, AllPairs}
 use Rattle.plane.specs.declared.edge.Edge.{Edge}
 use Rattle.plane.specs.declared.point.Point.{Point}
-use Rattle.overlay.specs.Snap.Windings.{pieces_from}
+use Rattle.overlay.specs.Snap.Windings.{pieces}
 
 -- The edges from each point of a ring to the next, and from the last one to the first. That of a ring of one point goes from
 -- it to itself.
 abbrev pub ring_edges : List Point → List Edge
 ring_edges [] = []
-ring_edges (first ∷ others) = pieces_from first (others ++ first ∷ [])
+ring_edges (first ∷ others) = pieces (first ∷ (others ++ first ∷ []))
 
 -- Some points, none twice.
 pub record IsRing (ring : List Point) : Type 0 where

@@ -5,14 +5,18 @@ use Rattle.plane.specs.declared.edge.Edge.{Edge}
 use Rattle.plane.specs.Meet.Edges.{RationalPoint, IsOf}
 use Rattle.overlay.specs.declared.fill.rules.FillRule.{FillRule}
 use Rattle.overlay.specs.declared.fill.rules.Operation.{Operation}
-use Rattle.overlay.specs.Fill.Rules.{is_result}
+use Rattle.overlay.specs.Fill.Rules.{count, is_result}
 use Rattle.overlay.specs.Snap.Chains.{IsEnd}
-use Rattle.overlay.specs.Snap.Meeting.{HaveSameEnds, MeetAtEnds}
-use Rattle.overlay.specs.Snap.Windings.{count, reversed, winding, IsClosed}
+use Rattle.overlay.specs.Snap.Meeting.{MeetAtEnds}
+use Rattle.overlay.specs.Snap.Windings.{reversed, winding, IsClosed}
 
 -- Each point of two of the edges is an end of both, or the two have the same ends.
 abbrev pub AreNoded : List Edge → Type 0
 AreNoded edges = (one other : Edge) (point : RationalPoint) → Contains edges one → Contains edges other → IsOf one point → IsOf other point → MeetAtEnds one other point
+
+-- They are one edge, or one is the other from its end to its start.
+abbrev pub HaveSameEnds : Edge → Edge → Type 0
+HaveSameEnds one other = (one ≡ other) ⊎ (one ≡ reversed other)
 
 -- No two of the edges have the same ends.
 abbrev pub AreDistinct : List Edge → Type 0

@@ -5,10 +5,6 @@ use Rattle.plane.specs.Meet.Edges.{RationalPoint}
 use Rattle.plane.specs.Meet.Kinds.{IsEnd}
 use Rattle.overlay.specs.Snap.Windings.{reversed}
 
--- The edges have the same ends, in the same order or the other.
-abbrev pub HaveSameEnds : Edge → Edge → Type 0
-HaveSameEnds one other = (one ≡ other) ⊎ (one ≡ reversed other)
-
--- The point is an end of both edges, or they have the same ends.
+-- The point is an end of both edges, or these have the same ends: they are one, or one is the other from its end to its start.
 abbrev pub MeetAtEnds : Edge → Edge → RationalPoint → Type 0
-MeetAtEnds one other point = IsEnd one point × IsEnd other point ⊎ HaveSameEnds one other
+MeetAtEnds one other point = IsEnd one point × IsEnd other point ⊎ (one ≡ other) ⊎ (one ≡ reversed other)

@@ -1,13 +1,15 @@
 //! Contours: closed edges become rings that visit no point twice.
 
-ghost use Rattle.std.specs.Prelude.{◌≡◌, ◌++◌, List, OnOk, OnErr, IfErr, length};
+ghost use Rattle.std.specs.Prelude.{◌≡◌, ◌++◌, List, OnOk, OnErr, IfErr, length, map};
 ghost use Rattle.std.specs.List.{flat_map};
 ghost use Rattle.i_tree.specs.declared.Refusal.TheVariants.{OutOfMemory};
 ghost use Rattle.plane.specs.declared.point.Point.{Point};
+ghost use Rattle.overlay.specs.Contours.Outlines.{outline};
 ghost use Rattle.overlay.specs.Contours.Rings.{AreContours};
 ghost use Rattle.overlay.specs.Snap.Offsets.{offsets, Extends};
 ghost use Rattle.overlay.specs.Snap.Windings.{IsClosed};
 
+use bends::append_outlines;
 use i_tree::Refusal;
 use order::edges_in_order;
 use plane::edge::Edge;
@@ -15,6 +17,7 @@ use plane::point::Point;
 use std::alloc::{AllocError, Allocator};
 use walk::append_rings;
 
+mod bends;
 mod cutting;
 mod order;
 mod turns;
@@ -52,6 +55,52 @@ pub fn contours<A: Allocator + Copy>(
         return Err(Refusal::OutOfMemory);
     }
     Ok(())
+}
+
+/// As `contours`, but without the points at which a ring goes straight on: those that lie along one line with the points
+/// before and behind them in the ring, between these.
+///
+/// It is refused for want of memory alone, and leaves `points` and `ring_ends` as they were then.
+pub fn outlines<A: Allocator + Copy>(
+    edges: &[Edge],
+    points: &mut Vec<Point, A>,
+    ring_ends: &mut Vec<usize, A>,
+) -> Result<(), Refusal>
+    requires { IsClosed edges.now }
+    ensures ok { OnOk result ((rings : List (List Point)) × AreContours edges.now rings
+        × (points.new.items ≡ points.old.items ++ flat_map outline rings)
+        × (ring_ends.new.items ≡ ring_ends.old.items ++ offsets (length points.old.items) (map outline rings))) }
+    ensures err { OnErr result ((points.new.items ≡ points.old.items) × (ring_ends.new.items ≡ ring_ends.old.items)) }
+    ensures refused { IfErr result (λ cause. cause ≡ OutOfMemory) }
+{
+    let points_start = points.len();
+    let ends_start = ring_ends.len();
+    let outcome = append_all_outlines(edges, points, ring_ends);
+    if outcome.is_err() {
+        points.truncate(points_start);
+        ring_ends.truncate(ends_start);
+        return Err(Refusal::OutOfMemory);
+    }
+    Ok(())
+}
+
+// As `outlines`, but where it is refused, it may have appended something.
+fn append_all_outlines<A: Allocator + Copy>(
+    edges: &[Edge],
+    points: &mut Vec<Point, A>,
+    ring_ends: &mut Vec<usize, A>,
+) -> Result<(), AllocError>
+    requires { IsClosed edges.now }
+    ensures ok { OnOk result ((rings : List (List Point)) × AreContours edges.now rings
+        × (points.new.items ≡ points.old.items ++ flat_map outline rings)
+        × (ring_ends.new.items ≡ ring_ends.old.items ++ offsets (length points.old.items) (map outline rings))) }
+    ensures err { OnErr result (Extends points.old.items points.new.items × Extends ring_ends.old.items ring_ends.new.items) }
+{
+    let alloc = *points.allocator();
+    let mut rings = Vec::new(alloc);
+    let mut ends = Vec::new(alloc);
+    append_all(edges, &mut rings, &mut ends)?;
+    append_outlines(&rings, &ends, points, ring_ends)
 }
 
 // As `contours`, but where it is refused, it may have appended something.

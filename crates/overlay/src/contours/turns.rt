@@ -66,7 +66,7 @@ fn starts_at(edge: Edge, at: Point) -> bool
 }
 
 /// The way from the one point to the other.
-fn way_between(from: Point, to: Point) -> Way
+pub fn way_between(from: Point, to: Point) -> Way
     ensures x { result.x ≡ to.x -ℤ from.x }
     ensures y { result.y ≡ to.y -ℤ from.y }
 {
@@ -99,7 +99,7 @@ fn is_left(back: Way, way: Way) -> bool
 }
 
 /// The cross product of two ways.
-fn across(one: Way, other: Way) -> i128
+pub fn across(one: Way, other: Way) -> i128
     ensures { result ≡ cross one.x one.y other.x other.y }
 {
     product(one.x, other.y) - product(one.y, other.x)
@@ -107,7 +107,7 @@ fn across(one: Way, other: Way) -> i128
 
 /// Whether the scalar product of two ways is above 0, so that they go less than a quarter turn apart. Their sum may take one
 /// bit too many, so its parts are compared.
-fn is_ahead(one: Way, other: Way) -> bool
+pub fn is_ahead(one: Way, other: Way) -> bool
     ensures { let ahead = pos 0 <ℤ dot one.x one.y other.x other.y in MatchBool result ahead (¬ ahead) }
 {
     -product(one.x, other.x) < product(one.y, other.y)

@@ -20,6 +20,7 @@ mod chains;
 mod crossing;
 mod hot;
 mod passing;
+pub mod pieces;
 mod stops;
 
 /// Appends the chain of each edge in turn to `points`, and to `ends` where each chain stops among these.

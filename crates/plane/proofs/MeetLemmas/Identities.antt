@@ -4,6 +4,7 @@ use Rattle.std.specs.Int.RustNames.{unsigned_abs}
 use Rattle.std.proofs.lemmas.Int.{ints}
 use Rattle.std.proofs.lemmas.Nat.{mul-le}
 use Rattle.std.proofs.Math.Nat.{le_of_mul-le-mul_left}
+use Rattle.plane.specs.Meet.Crosses.{IsWithin}
 use borrow.Author.Differences.{up, down, product_is, same_in, sum_is_lem, at_most_in, le_out}
 
 -- An expression over whole numbers.
@@ -82,3 +83,26 @@ product_upto (negsuc a) (negsuc b) first second =
 pub abs_upto : (z : ℤ) → FitsSigned w64 z → unsigned_abs z ≤ 2 ^ 63
 abs_upto (pos n) fits = omega (arith, fits.sfits)
 abs_upto (negsuc n) fits = omega (arith, fits.sfits)
+
+-- ---- bounds of products
+
+within_of : (a b : ℤ) (m n : ℕ) → down a * up b + up a * down b ≤ m * n + (up a * up b + down a * down b) → up a * up b + down a * down b ≤ m * n + (down a * up b + up a * down b) → IsWithin (m * n) (a *ℤ b)
+within_of a b m n first second = record {
+  from = at_most (minus (number (pos 0)) (number (pos (m * n)))) (times (number a) (number b)) (omega (arith, first));
+  upto = at_most (times (number a) (number b)) (number (pos (m * n))) (omega (arith, second));
+}
+
+-- a product lies within the product of the bounds
+pub IsWithin-product : (a b : ℤ) (m n : ℕ) → IsWithin m a → IsWithin n b → IsWithin (m * n) (a *ℤ b)
+IsWithin-product (pos a) (pos b) m n first second =
+    let upto = mul-le a b m n (omega (arith, ints, first.upto)) (omega (arith, ints, second.upto)) in
+    within_of (pos a) (pos b) m n (omega arith) (omega (arith, upto))
+IsWithin-product (pos a) (negsuc b) m n first second =
+    let upto = mul-le a (suc b) m n (omega (arith, ints, first.upto)) (omega (arith, ints, second.from)) in
+    within_of (pos a) (negsuc b) m n (omega (arith, upto)) (omega arith)
+IsWithin-product (negsuc a) (pos b) m n first second =
+    let upto = mul-le (suc a) b m n (omega (arith, ints, first.from)) (omega (arith, ints, second.upto)) in
+    within_of (negsuc a) (pos b) m n (omega (arith, upto)) (omega arith)
+IsWithin-product (negsuc a) (negsuc b) m n first second =
+    let upto = mul-le (suc a) (suc b) m n (omega (arith, ints, first.from)) (omega (arith, ints, second.from)) in
+    within_of (negsuc a) (negsuc b) m n (omega arith) (omega (arith, upto))

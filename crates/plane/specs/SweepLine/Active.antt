@@ -4,11 +4,11 @@ use Rattle.std.specs.Int.{int_max}
 use Rattle.std.specs.Ordering.{int_cmp, nat_cmp}
 use Rattle.std.specs.declared.cmp.Ordering.{Ordering}
 use Rattle.std.specs.declared.cmp.Ordering.TheVariants.{Less, Equal, Greater}
-use Rattle.plane.specs.declared.edge.Edge.{Edge}
 use Rattle.plane.specs.declared.sweep_line.active.ActiveEdge.{ActiveEdge}
 use Rattle.i_tree.specs.Expiring.Live.{live_pairs, IsExpired}
 use Rattle.i_tree.specs.Root.Live.{is_live}
 use Rattle.plane.specs.declared.point.Point.{Point}
+use Rattle.plane.specs.Ends.{end_of}
 use Rattle.plane.specs.SweepLine.Crossings.{Cross}
 use Rattle.plane.specs.SweepLine.Heights.{run, height_by_run, height_by_runs, rise_by_run}
 
@@ -33,10 +33,6 @@ cmp_active one other =
 -- how an edge's height at the point's x stands to the point's
 abbrev pub cmp_to_point : Point → ActiveEdge → Ordering
 cmp_to_point point active = int_cmp (height_by_run active.edge point.x) (point.y *ℤ run active.edge)
-
--- the point at which an edge ends that goes to the right
-abbrev pub end_of : Edge → Point
-end_of edge = record { x = edge.x1; y = edge.y1 }
 
 -- how another stands to an edge that ends: by its height there, then along the status
 abbrev pub cmp_to_ending : ActiveEdge → ActiveEdge → Ordering

@@ -13,6 +13,9 @@ use std::alloc::{AllocError, Allocator};
 // The payloads of so many events are read at a time.
 const RUN: usize = 256;
 
+// The edges and points of fewer events lie near enough: they are read as they are asked for.
+const MANY: usize = 65536;
+
 /// The payload of an event: the edge that ends or begins, or the point that asks for its answer, and its place.
 #[derive(Clone, Copy)]
 pub enum Payload {
@@ -42,7 +45,8 @@ impl<A: Allocator> ReadAhead<A> {
         }
     }
 
-    /// The payload of the event at this place. Where it isn't read yet, it is read with those behind it.
+    /// The payload of the event at this place. Where there are many events and it isn't read yet, it is read with those
+    /// behind it.
     pub fn at(
         &mut self,
         edges: &[Edge],
@@ -57,6 +61,9 @@ impl<A: Allocator> ReadAhead<A> {
         ensures ahead { OnOk result (
             IsReadAhead edges.now points.now events.now self.new.from self.new.payloads.items) }
     {
+        if events.len() < MANY {
+            return Ok(payload_of(edges, points, events[place]));
+        }
         if self.from <= place && place - self.from < self.payloads.len() {
             return Ok(self.payloads[place - self.from]);
         }

@@ -8,10 +8,10 @@ ghost use Rattle.i_tree.specs.Root.Along.{AreNeighbours, IsMonotoneAlong};
 ghost use Rattle.i_tree.specs.Root.Change.{Without};
 ghost use Rattle.std.specs.declared.cmp.Ordering.TheVariants.{Less};
 ghost use Rattle.plane.specs.Locate.Answers.{IsPlaceBelow};
-ghost use Rattle.plane.specs.SweepLine.Crossings.{IsCrossing, NoneCross};
+ghost use Rattle.plane.specs.SweepLine.Crossings.{Cross, IsCrossing, NoneCross};
 ghost use Rattle.plane.specs.Locate.Events.{IsQueue};
 ghost use Rattle.plane.specs.SweepLine.Line.{BeganBefore, IsSortedAt, JoinsAt};
-ghost use Rattle.plane.specs.Locate.Serving.{AreCrossing, AreInOrder, HaveCrossing, IsPlaceUnder};
+ghost use Rattle.plane.specs.Locate.Serving.{AreCrossing, AreInOrder, ArePlacesOfCrossing, HaveCrossing, IsPlaceUnder};
 ghost use Rattle.plane.specs.SweepLine.Active.{AllRight, Entry, live_entries, IsExpiredAt, NotCross};
 ghost use Rattle.plane.specs.SweepLine.Active.{cmp_active, cmp_to_ending, cmp_to_point};
 
@@ -119,6 +119,7 @@ fn begin<C: StatusCollection<ActiveEdge, i64, ()>>(
 
 /// Whether two neighbours, where both are there, don't cross. They stand in order, so that the one isn't above the other where
 /// they begin to share an x.
+#[inline]
 fn check_neighbours(
     below: Option<(ActiveEdge, ())>,
     above: Option<(ActiveEdge, ())>,
@@ -134,6 +135,17 @@ fn check_neighbours(
     if compare_ends(below.edge, above.edge) != Ordering::Greater {
         return Ok(());
     }
+    check_crossing(below, above)
+}
+
+/// Whether two edges don't cross. It is asked of few neighbours.
+#[cold]
+#[inline(never)]
+fn check_crossing(below: ActiveEdge, above: ActiveEdge) -> Result<(), LocateFault>
+    ensures ok { OnOk result (¬ (Cross below.edge above.edge)) }
+    ensures crossing { (i j : ℕ) → result ≡ Err (LocateFault.Cross i j) → ArePlacesOfCrossing below above i j }
+    ensures never_refused { (cause : Refusal) → result ≢ Err (LocateFault.Refused cause) }
+{
     if cross(below.edge, above.edge) {
         let first = below.place.min(above.place);
         let second = below.place.max(above.place);

@@ -1,12 +1,12 @@
 //! Whether two edges share a point, in whole numbers.
 
-ghost use Rattle.std.specs.Prelude.{◌≡◌, ◌-ℤ◌, ◌≤ℤ◌, MatchBool};
+ghost use Rattle.std.specs.Prelude.{MatchBool};
 ghost use Rattle.plane.specs.Meet.Boxes.{RangesMeet, BoxesMeet};
-ghost use Rattle.plane.specs.Meet.Crosses.{cross, IsPart};
+ghost use Rattle.plane.specs.Meet.Crosses.{IsPart};
 ghost use Rattle.plane.specs.Meet.Edges.{Meet};
 
 use crate::edge::Edge;
-use crate::ways::product;
+use crate::ways::{cross_product, way_along, way_between};
 
 /// Whether the edges share a point. Both ends of an edge are of it, and an edge may be a point; nothing is rounded.
 ///
@@ -30,42 +30,6 @@ pub fn meet(one: Edge, other: Edge) -> bool
         return true;
     }
     boxes_meet(one, other)
-}
-
-/// How far it is from one point to another, along x and along y. A difference of two `i32` takes 33 bits.
-#[derive(Clone, Copy)]
-pub struct Way {
-    pub x: i64,
-    pub y: i64,
-}
-
-/// The way from the edge's start to its end.
-pub fn way_along(edge: Edge) -> Way
-    ensures x { result.x ≡ edge.x1 -ℤ edge.x0 }
-    ensures y { result.y ≡ edge.y1 -ℤ edge.y0 }
-{
-    Way {
-        x: edge.x1 as i64 - edge.x0 as i64,
-        y: edge.y1 as i64 - edge.y0 as i64,
-    }
-}
-
-/// The way from the one edge's start to the other's.
-fn way_between(one: Edge, other: Edge) -> Way
-    ensures x { result.x ≡ other.x0 -ℤ one.x0 }
-    ensures y { result.y ≡ other.y0 -ℤ one.y0 }
-{
-    Way {
-        x: other.x0 as i64 - one.x0 as i64,
-        y: other.y0 as i64 - one.y0 as i64,
-    }
-}
-
-/// The cross product of two ways.
-pub fn cross_product(one: Way, other: Way) -> i128
-    ensures { result ≡ cross one.x one.y other.x other.y }
-{
-    product(one.x, other.y) - product(one.y, other.x)
 }
 
 /// Whether the part lies between 0 and the whole. All four comparisons are made, since a branch between them would be

@@ -4,8 +4,9 @@ ghost use Rattle.std.specs.Prelude.{◌≡◌, MatchBool, pos};
 ghost use Rattle.plane.specs.Meet.Edges.{Meet};
 ghost use Rattle.plane.specs.Meet.Kinds.{MeetSo, ShareTwo, ShareAtMostOne, HasPoint, HasEndOf, RangesOverlap};
 
-use super::exact::{cross_product, meet, way_along};
+use super::exact::meet;
 use crate::edge::Edge;
+use crate::ways::{cross_product, way_along};
 
 /// How two edges meet.
 #[derive(Clone, Copy, Debug, PartialEq, Eq)]

@@ -1,30 +1,52 @@
 //! Heights of edges at an x, compared in whole numbers.
 
-ghost use Rattle.std.specs.Prelude.{◌≡◌, ◌-ℤ◌, ◌*ℤ◌, ◌<ℤ◌};
+ghost use Rattle.std.specs.Prelude.{◌≡◌, ◌-ℤ◌, ◌*ℤ◌, ◌<ℤ◌, true, false};
 ghost use Rattle.std.specs.Int.{int_max, int_min};
 ghost use Rattle.std.specs.Ordering.{int_cmp};
-ghost use Rattle.plane.specs.SweepLine.Active.{end_of};
+ghost use Rattle.plane.specs.Ends.{start_of, end_of};
 ghost use Rattle.plane.specs.SweepLine.Heights.{rightwards, run, height_by_runs, rise_by_run};
 ghost use Rattle.plane.specs.SweepLine.Heights.{height_by_run as height_of};
 
 use crate::edge::Edge;
 use crate::point::Point;
-use crate::ways::product;
+use crate::ways::{product, way_on_axis};
 use std::cmp::Ordering;
 
 /// The edge from its lesser end along x to its greater. A vertical edge, or a point, stays as it is.
 pub fn turn_rightwards(edge: Edge) -> Edge
     ensures { result ≡ rightwards edge }
 {
-    if edge.x1 < edge.x0 {
-        return Edge {
-            x0: edge.x1,
-            y0: edge.y1,
-            x1: edge.x0,
-            y1: edge.y0,
-        };
+    let leftwards = edge.x1 < edge.x0;
+    let turned = Edge {
+        x0: edge.x1,
+        y0: edge.y1,
+        x1: edge.x0,
+        y1: edge.y0,
+    };
+    select(leftwards, turned, edge)
+}
+
+/// The first edge where the test is true, else the other one. Each number is chosen by itself, which is no branch in the
+/// machine's code: one over whole edges would be guessed wrongly half of the time.
+fn select(takes_first: bool, first: Edge, other: Edge) -> Edge
+    ensures first { takes_first ≡ true → result ≡ first }
+    ensures other { takes_first ≡ false → result ≡ other }
+{
+    Edge {
+        x0: select_number(takes_first, first.x0, other.x0),
+        y0: select_number(takes_first, first.y0, other.y0),
+        x1: select_number(takes_first, first.x1, other.x1),
+        y1: select_number(takes_first, first.y1, other.y1),
     }
-    edge
+}
+
+/// The first number where the test is true, else the other one.
+#[inline]
+fn select_number(takes_first: bool, first: i32, other: i32) -> i32
+    ensures first { takes_first ≡ true → result ≡ first }
+    ensures other { takes_first ≡ false → result ≡ other }
+{
+    if takes_first { first } else { other }
 }
 
 /// How the edge's height at the point's x stands to the point's, where the edge goes to the right: by how far both are
@@ -32,8 +54,8 @@ pub fn turn_rightwards(edge: Edge) -> Edge
 pub fn compare_to_point(edge: Edge, point: Point) -> Ordering
     ensures { result ≡ int_cmp (height_of edge point.x) (point.y *ℤ run edge) }
 {
-    let climb = product(way(edge.y0, edge.y1), way(edge.x0, point.x));
-    let point_climb = product(way(edge.y0, point.y), way(edge.x0, edge.x1));
+    let climb = product(way_on_axis(edge.y0, edge.y1), way_on_axis(edge.x0, point.x));
+    let point_climb = product(way_on_axis(edge.y0, point.y), way_on_axis(edge.x0, edge.x1));
     climb.cmp(&point_climb)
 }
 
@@ -59,16 +81,19 @@ pub fn compare_ends(one: Edge, other: Edge) -> Ordering
     ensures { let end = int_min one.x1 other.x1 in
         result ≡ int_cmp (height_by_runs one other end) (height_by_runs other one end) }
 {
-    if other.x1 < one.x1 {
-        return compare_to_point(one, end_of(other));
+    let outlasts = other.x1 < one.x1;
+    let longer = select(outlasts, one, other);
+    let shorter = select(outlasts, other, one);
+    let heights = compare_to_point(longer, end_of(shorter));
+    if outlasts {
+        return heights;
     }
-    compare_to_point(other, end_of(one)).reverse()
+    heights.reverse()
 }
 
 /// The point at which the edge begins.
 fn start_of(edge: Edge) -> Point
-    ensures x { result.x ≡ edge.x0 }
-    ensures y { result.y ≡ edge.y0 }
+    ensures { result ≡ start_of edge }
 {
     Point {
         x: edge.x0,
@@ -90,14 +115,7 @@ pub fn end_of(edge: Edge) -> Point
 pub fn compare_slopes(one: Edge, other: Edge) -> Ordering
     ensures { result ≡ int_cmp (rise_by_run one other) (rise_by_run other one) }
 {
-    let steepness = product(way(one.y0, one.y1), way(other.x0, other.x1));
-    let other_steepness = product(way(other.y0, other.y1), way(one.x0, one.x1));
+    let steepness = product(way_on_axis(one.y0, one.y1), way_on_axis(other.x0, other.x1));
+    let other_steepness = product(way_on_axis(other.y0, other.y1), way_on_axis(one.x0, one.x1));
     steepness.cmp(&other_steepness)
-}
-
-/// The way from the one to the other, which takes 33 bits.
-fn way(start: i32, end: i32) -> i64
-    ensures { result ≡ end -ℤ start }
-{
-    end as i64 - start as i64
 }

@@ -1,5 +1,6 @@
 -- the two fields are read, and what the handle owns stays
-use Rattle.itree_c.proofs.Steps.{◌≡◌, List, [], ◌∷◌, ◌++◌, length, refl, sym, ap, ◌∙◌, subst, Some, w64, T, ty_ptr, bare, Val, vint, vptr, has_ty, WT, SProp, ent, emp, id⊢, never, fst∗, full_share, ftrue, flft, fat, WpFn, sem, ‵, raw, ◌⊛◌, some, ◌$◌, ◌∵◌, !, qed, by, move, keep, split, join, fsplit, fsplit3, fjoin, fjoin3, pick, suffices, use0, use1, use2, rewrite, feq_i, feq_l, of_opd, stop, fld, load, store, returns, enter, assigns, well_typed, alloc_all, pass_all, free_all, look_at, get, sets, through, sub, whole, look_in, fact, fact_i, tables, yes, Is, shows, cell_at, part_at, lone, owns, types_at, plain, Ptr, RawPtr, block_ptr, null_ptr, ptr_val, rawptr_Lawful, in_a_block, nothing, only, owned, peeks, opens, closes, usize, uint_Makes, vec_ptr, layout, Stays, stay_dropped, stay_ref, walk_of, Goes-dropped, Goes-ref, part_out, part_in, proved_at, leaves, ghosts}
+use Rattle.itree_c.proofs.Steps.{◌≡◌, List, [], ◌∷◌, ◌++◌, length, refl, sym, ap, ◌∙◌, subst, Some, w64, T, ty_ptr, Val, vint, vptr, has_ty, WT, SProp, ent, emp, id⊢, full_share, ftrue, flft, WpFn, ‵, raw, ◌⊛◌, ◌$◌, ◌∵◌, !, qed, by, move, keep, split, join, fsplit, fsplit3, fjoin, fjoin3, suffices, use0, use1, rewrite, feq_i, feq_l, of_opd, stop, fld, load, store, returns, enter, assigns, alloc_all, pass_all, free_all, look_at, get, sets, through, sub, whole, look_in, fact, fact_i, tables, yes, Is, cell_at, owns, types_at, plain, Ptr, RawPtr, ptr_val, rawptr_Lawful, nothing, owned, opens, closes, usize, uint_Makes, vec_ptr, Stays, stay_dropped, stay_ref, walk_of, Goes-dropped, Goes-ref, proved_at, leaves}
+use Rattle.itree_c.proofs.HandleLemmas.{held_out, held_in}
 use Rattle.itree_c.proofs.pairs.Pairs.TheLaws.{lowered, lowers}
 use Rattle.itree_c.specs.Handle.{owns_pairs}
 use Rattle.itree_c.specs.contracts.pairs.Pairs.{the_row as held_row}
@@ -20,17 +21,8 @@ itree_pairs_first_spec 𝓤 𝓛 𝓜 𝓡 wired =
     qed 𝓛 (((‵ (flft κ q) ⊛ ‵ ftrue) ⊛ ‵ (owns (types_at ended.signature.params z.0.0) z.0.3 z.0.4)) ∷ raw ((c z.0.0
     z.0.3).requires z.1) ∷ []) ∵ split ! $ move ! (1 ∷ []) $ fsplit ! $
     feq_l ! (λ ep. fsplit ! $ move ! (3 ∷ []) $ use1 𝓛 (‵ (owns_pairs p (Some x))) (id⊢ 𝓤 _) $
-    in_a_block ! p (λ at. owns_pairs at (Some x)) (fst∗ 𝓤 (never 𝓤) (sem 𝓛 (ghosts.dealloc_token (record {
-      memory =
-          record { seal = tt };
-    }) (bare (lone held_row.mir)) null_ptr))) (λ b o e. fsplit ! $
-    -- [the pairs in their memory; the right to free it; the reference; nothing; the token of κ]
-    use1 𝓛 (some (λ (v : Val). ‵ (fat full_share (layout held_row) b o v) ⊛ ‵ (held_row.own_val x (v ∷ []))))
-    (part_out 𝓛 held_row refl full_share x b o) $ pick ! (λ v. split ! $ move ! (1 ∷ []) $
-    peeks ! held_row (Is held_row) (shows 𝓛 held_row) x (v ∷ []) (λ is. let vx : Val = lowered x in
-    let ev : v ≡ vx = ap only (lowers.val_is x (v ∷ []) is) in
-    rewrite ! 1 (λ (u : Val). ‵ (fat full_share (layout held_row) b o u)) ev refl $ move ! (1 ∷ []) $
-    well_typed ! (λ good.
+    held_out held_row ! refl lowered lowers.val_is p x (λ b o e good. let vx : Val = lowered x in
+    -- [the pairs in their memory; what they own; the right to free it; the reference; nothing; the token of κ]
     let us : List Val = vptr b o ∷ vptr mb mo ∷ [] in let vp : Val = ptr_val x.first in
     let gp : T (has_ty ty_ptr vp) × WT vp = ((rawptr_Lawful 𝓛).typed x.first _ refl).0 in
     suffices ! (Run us) (subst (λ (vs : List Val). ent 𝓤 (Run us) (Run vs)) (sym (λ i. (ep ∙ ap (λ (at : Ptr).
@@ -48,10 +40,7 @@ itree_pairs_first_spec 𝓤 𝓛 𝓜 𝓡 wired =
     (tt, good.1.1.0) $
     feq_i ! (List Val) (vp ∷ []) (vp ∷ []) refl $ move ! (1 ∷ 0 ∷ []) $ closes ! tt RawPtr x.first (vp ∷ []) mb mo $
     returns ! (look_at ! 0 refl) $ free_all ! refl $
-    rewrite ! 5 (λ (u : Val). ‵ (fat full_share (layout held_row) b o u)) (sym ev) refl $ move ! (5 ∷ 6 ∷ []) $
-    use2 𝓛 (‵ (part_at held_row full_share x b o)) (part_in 𝓛 held_row refl full_share x b o v) $
-    move ! (0 ∷ 6 ∷ []) $ fjoin ! $ use1 𝓛 (‵ (owns_pairs (block_ptr b o) (Some x))) (id⊢ 𝓤 _) $
-    rewrite ! 0 (λ (at : Ptr). ‵ (owns_pairs at (Some x))) (sym e) refl $
+    move ! (5 ∷ 6 ∷ 7 ∷ []) $ held_in held_row ! refl p x vx b o e $
     -- [what the handle owns; two parts of the reference; the token; nothing; its first part; nothing]
     move ! (5 ∷ 1 ∷ 2 ∷ []) $ fjoin3 ! $ nothing ! $ move ! (1 ∷ 0 ∷ []) $ fjoin ! $ nothing ! $ fjoin ! $
     move ! (2 ∷ 3 ∷ []) $ join ! $
@@ -59,4 +48,4 @@ itree_pairs_first_spec 𝓤 𝓛 𝓜 𝓡 wired =
     let Told : Type 0 = (x.count ≡ length x.held.items) × (x.first ≡ vec_ptr x.held) in
     use0 𝓛 (raw (fact 𝓤 Told)) (fact_i 𝓤 Told (emp 𝓤) (x.told.1 ∙ x.held.ok.0, x.told.0)) $ move ! (4 ∷ 0 ∷ []) $
     join ! $
-    keep ! (2 ∷ 3 ∷ 1 ∷ 0 ∷ []) $ by ! (leaves 𝓛 ended hs c z (vint w64 x.count) x.count (tt, (x.first, tt)) (tt, (tt, tt))))))))))))
+    keep ! (2 ∷ 3 ∷ 1 ∷ 0 ∷ []) $ by ! (leaves 𝓛 ended hs c z (vint w64 x.count) x.count (tt, (x.first, tt)) (tt, (tt, tt)))))))))

@@ -1,25 +1,14 @@
 -- the handle's parts become a box, and it is dropped
-use Rattle.itree_c.proofs.Steps.{List, [], ◌∷◌, ◌++◌, refl, sym, ap, ◌∙◌, subst, Some, T, impl, tnil, dnil, bare, Val, vptr, vstruct, vcons, vnil, vunit, has_ty, WT, SProp, ent, emp, id⊢, never, fst∗, ftrue, WpFn, sem, ‵, raw, ◌⊛◌, some, later, ◌$◌, ◌∵◌, !, qed, by, move, keep, drop, split, join, fsplit3, fjoin, fpack, pick, suffices, use0, use1, await, feq_i, feq_l, of_opd, unit_lit, no_more, and_then, returns, enter, alloc_all, pass_all, free_all, look_at, get, sets, lands_as, agg, fact, fact_i, tables, yes, RattleType, Valss, owns, types_at, plain, unit, Ptr, RawPtr, block_ptr, null_ptr, ptr_val, in_a_block, nothing, only, lone, layout, within, shape, Lasts, lasts, triple_of, calls_at, framed, Stays, stay_dropped, walk_of, Goes-dropped, Al, handle_tells, and_tt, proved_at, leaves, IsSome, ghosts}
-use Rattle.std.specs.contracts.alloc.Global as heap
-use Rattle.std.proofs.alloc.Global.TheLaws as heap_laws
+use Rattle.itree_c.proofs.Steps.{List, [], ◌∷◌, ◌++◌, refl, sym, ap, ◌∙◌, subst, Some, T, bare, Val, vptr, vunit, has_ty, WT, SProp, ent, emp, id⊢, never, fst∗, ftrue, WpFn, sem, ‵, raw, ◌⊛◌, some, later, ◌$◌, ◌∵◌, !, qed, by, move, keep, drop, split, join, fsplit3, fjoin, pick, suffices, use0, use1, await, feq_i, feq_l, of_opd, unit_lit, no_more, and_then, returns, enter, alloc_all, pass_all, free_all, look_at, get, sets, lands_as, agg, fact, fact_i, tables, yes, owns, types_at, plain, unit, Ptr, RawPtr, block_ptr, null_ptr, ptr_val, in_a_block, nothing, only, lone, layout, Lasts, lasts, triple_of, calls_at, framed, Stays, stay_dropped, walk_of, Goes-dropped, handle_tells, and_tt, proved_at, leaves, IsSome, ghosts}
+use Rattle.itree_c.proofs.HandleLemmas.{Z, al, R, parts_word, parts_in}
 use Rattle.itree_c.specs.Handle.{owns_pairs}
 use Rattle.itree_c.specs.contracts.pairs.Pairs.{the_row as held_row}
-use Rattle.itree_c.specs.contracts.raw.Raw as parts
 use Rattle.itree_c.specs.contracts.pairs.drop_pairs as callee
 use Rattle.itree_c.proofs.pairs.drop_pairs.Met.{met}
 use Rattle.itree_c.specs.contracts.handle.itree_pairs_free.{ended, clauses}
 use Rattle.itree_c.specs.contracts.handle.itree_pairs_free.Key.{name as #self}
 use Rattle.itree_c.proofs.handle.itree_pairs_free.Statement.{statement}
 use Rattle.itree_c.proofs.handle.itree_pairs_free.Code as code
-
-abbrev Z : RattleType
-Z = heap.the_row
-
-abbrev al : Al
-al = record { row = Z; laws = heap_laws.the_row_laws; g = ghosts; d = impl [] tnil dnil; drops = impl [] tnil dnil }
-
-abbrev R : RattleType
-R = parts.the_row held_row Z ghosts
 
 pub itree_pairs_free_spec : {M : Type 1} → statement M
 itree_pairs_free_spec 𝓤 𝓛 𝓜 𝓡 wired =
@@ -37,14 +26,11 @@ itree_pairs_free_spec 𝓤 𝓛 𝓜 𝓡 wired =
     in_a_block ! p (λ q. owns_pairs q (Some x)) (fst∗ 𝓤 (never 𝓤) (sem 𝓛 (ghosts.dealloc_token a (bare (lone
     held_row.mir)) null_ptr))) (λ b o e.
     -- [the value in its memory; the handle; nothing; nothing]
-    let w : Val = vstruct (vcons (vptr b o) (vcons h vnil)) in
-    let good : T (has_ty (layout R) w) × WT w = (and_tt (has_ty (layout Z) h) fits.0, (tt, (fits.1, tt))) in
-    let made : R.Denot = record { at = block_ptr b o; alloc = a; value = Some x } in
+    let w : Val = parts_word h b o in
+    let good : T (has_ty (layout (R held_row)) w) × WT w = (and_tt (has_ty (layout Z) h) fits.0, (tt, (fits.1, tt))) in
+    let made : (R held_row).Denot = record { at = block_ptr b o; alloc = a; value = Some x } in
     let y : K.Ghost = ((tt, tt, tt, (made, tt), (w ∷ [], tt)), tt) in let us : List Val = h ∷ vptr b o ∷ [] in
-    nothing ! $ move ! (2 ∷ 0 ∷ []) $ fjoin ! $ feq_i ! (List Val) (vptr b o ∷ []) (vptr b o ∷ []) refl $ fjoin ! $
-    feq_i ! (List Val) (w ∷ []) (w ∷ []) refl $ fjoin ! $
-    fpack ! (Valss (RawPtr ∷ Z ∷ [])) (within (shape (parts.the_type held_row Z ghosts)) (block_ptr b o, (a, tt)) (w ∷ [])) (vptr b o ∷ [], (h ∷ [], tt)) $ fjoin ! $
-    use1 𝓛 (‵ (R.own_val made (w ∷ []))) (id⊢ 𝓤 _) $ nothing ! $ move ! (1 ∷ 0 ∷ []) $ fjoin ! $ nothing ! $ join ! $
+    move ! (1 ∷ 0 ∷ []) $ parts_in held_row ! a h b o x $ nothing ! $ move ! (1 ∷ 0 ∷ []) $ fjoin ! $ nothing ! $ join ! $
     use0 𝓛 (raw (fact 𝓤 (IsSome made.value))) (fact_i 𝓤 (IsSome made.value) (emp 𝓤) refl) $ move ! (1 ∷ 0 ∷ []) $
     join ! $ use1 𝓛 (raw (K.pre y)) (id⊢ 𝓤 _) $
     suffices ! (Run us) (subst (λ (vs : List Val). ent 𝓤 (Run us) (Run vs)) (sym (λ i.

@@ -1,6 +1,6 @@
 use Rattle.std.proofs.Common.{◌++◌, ◌∙◌, ℕ, List, length, ap}
-use Rattle.itree.specs.Told.{AreJoined}
-use Rattle.itree.proofs.Chained.{joined}
+use Rattle.overlay.specs.Snap.Offsets.{AreJoined}
+use Rattle.overlay.proofs.SnapLemmas.Callers.{joined}
 use Rattle.overlay.specs.Snap.Offsets.{offsets}
 use Rattle.plane.specs.declared.point.Point.{Point}
 use Rattle.itree.proofs.answers.snap.answer_snap.Goals as goal

@@ -1,5 +1,6 @@
 use Rattle.std.proofs.Common.{string_bytes, ◌∙◌}
-use Rattle.itree.proofs.Chained.{IsNext-at, chain_lines-more, chain_lines-all}
+use Rattle.itree.proofs.Chained.{chain_lines-more, chain_lines-all}
+use Rattle.overlay.proofs.SnapLemmas.Callers.{IsNext-at}
 use Rattle.itree.proofs.lines.snap.chain_text.Goals as goal
 
 pub chain_at-requires : goal.chain_at-requires

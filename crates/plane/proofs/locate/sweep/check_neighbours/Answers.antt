@@ -9,3 +9,9 @@ returns-then-ne-clause-ok c =
     let upto : c.compare_ends.result ≢ Greater = search rules in
     rw (c.in-Some-Some.is-0, c.in-Some-Some.is-1)
     (ahead_uncrossed c.in-Some-Some.below c.in-Some-Some.above order.0 order.1 order.2 (λ greater. upto (c.compare_ends.ensures ∙ greater)))
+
+pub returns-clause-ok : goal.returns-clause-ok
+returns-clause-ok c = rw (c.in-Some-Some.is-0, c.in-Some-Some.is-1) c.check_crossing.ensures.ok
+
+pub returns-clause-crossing : goal.returns-clause-crossing
+returns-clause-crossing c = rw (c.in-Some-Some.is-0, c.in-Some-Some.is-1) c.check_crossing.ensures.crossing

@@ -1,7 +1,8 @@
 use Rattle.std.proofs.Common.{◌≡◌, ◌∙◌, sym, ap, subst}
 use Rattle.std.specs.declared.cmp.Ordering.{Ordering}
 use Rattle.plane.specs.declared.point.Point.{Point}
-use Rattle.plane.specs.SweepLine.Active.{then_cmp, cmp_active, cmp_to_point, end_of}
+use Rattle.plane.specs.Ends.{end_of}
+use Rattle.plane.specs.SweepLine.Active.{then_cmp, cmp_active, cmp_to_point}
 use Rattle.plane.proofs.SweepLineLemmas.Active.{then_cmp-unequal, then_cmp-equal}
 use Rattle.plane.proofs.sweep_line.active.compare_to_ending.Goals as goal
 

@@ -17,18 +17,18 @@ returns c =
     let other_y0 : FitsSigned w32 other.y0 = search rules in
     let other_x1 : FitsSigned w32 other.x1 = search rules in
     let other_y1 : FitsSigned w32 other.y1 = search rules in
-    let rises : c.way.result ≡ rise one = simp to_z-of_z at c.way.ensures in
-    let other_runs : c.way-2.result ≡ run other = simp to_z-of_z at c.way-2.ensures in
-    let other_rises : c.way-3.result ≡ rise other = simp to_z-of_z at c.way-3.ensures in
-    let runs : c.way-4.result ≡ run one = simp to_z-of_z at c.way-4.ensures in
-    let way : FitsSigned w64 c.way.result = record { sfits = c.way.type_inv } in
-    let way_2 : FitsSigned w64 c.way-2.result = record { sfits = c.way-2.type_inv } in
-    let way_3 : FitsSigned w64 c.way-3.result = record { sfits = c.way-3.type_inv } in
-    let way_4 : FitsSigned w64 c.way-4.result = record { sfits = c.way-4.type_inv } in
+    let rises : c.way_on_axis.result ≡ rise one = simp to_z-of_z at c.way_on_axis.ensures.value in
+    let other_runs : c.way_on_axis-2.result ≡ run other = simp to_z-of_z at c.way_on_axis-2.ensures.value in
+    let other_rises : c.way_on_axis-3.result ≡ rise other = simp to_z-of_z at c.way_on_axis-3.ensures.value in
+    let runs : c.way_on_axis-4.result ≡ run one = simp to_z-of_z at c.way_on_axis-4.ensures.value in
+    let way : FitsSigned w64 c.way_on_axis.result = record { sfits = c.way_on_axis.type_inv } in
+    let way_2 : FitsSigned w64 c.way_on_axis-2.result = record { sfits = c.way_on_axis-2.type_inv } in
+    let way_3 : FitsSigned w64 c.way_on_axis-3.result = record { sfits = c.way_on_axis-3.type_inv } in
+    let way_4 : FitsSigned w64 c.way_on_axis-4.result = record { sfits = c.way_on_axis-4.type_inv } in
     let steepness : c.product-steepness.result ≡ rise_by_run one other =
-    (simp to_z-of_z at c.product-steepness.ensures.value) ∙ ap (λ (z : ℤ). z *ℤ c.way-2.result) rises ∙ ap (λ (z : ℤ). rise one *ℤ z) other_runs in
+    (simp to_z-of_z at c.product-steepness.ensures.value) ∙ ap (λ (z : ℤ). z *ℤ c.way_on_axis-2.result) rises ∙ ap (λ (z : ℤ). rise one *ℤ z) other_runs in
     let other_steepness : c.product-other_steepness.result ≡ rise_by_run other one =
-    (simp to_z-of_z at c.product-other_steepness.ensures.value) ∙ ap (λ (z : ℤ). z *ℤ c.way-4.result) other_rises ∙ ap (λ (z : ℤ). rise other *ℤ z) runs in
+    (simp to_z-of_z at c.product-other_steepness.ensures.value) ∙ ap (λ (z : ℤ). z *ℤ c.way_on_axis-4.result) other_rises ∙ ap (λ (z : ℤ). rise other *ℤ z) runs in
     let wide : FitsSigned w128 c.product-steepness.result = record { sfits = c.product-steepness.type_inv } in
     let other_wide : FitsSigned w128 c.product-other_steepness.result = record { sfits = c.product-other_steepness.type_inv } in
     (simp to_z-of_z at c.cmp.ensures)

@@ -1,4 +1,5 @@
-use Rattle.std.proofs.Common.{◌<ℤ◌, ◌≤ℤ◌, ◌∙◌, rules, w32, FitsSigned}
+use Rattle.std.proofs.Common.{ap, ◌<ℤ◌, ◌≤ℤ◌, ◌∙◌, rules, w32, FitsSigned}
+use Rattle.plane.specs.declared.point.Point.{Point}
 use Rattle.plane.proofs.SweepLineLemmas.Comparisons.{starts-later, starts-earlier}
 use Rattle.plane.proofs.sweep_line.heights.compare_starts.Goals as goal
 
@@ -9,7 +10,7 @@ returns-then-one-other c =
     let x0 : FitsSigned w32 one.x0 = search rules in
     let other_x0 : FitsSigned w32 other.x0 = search rules in
     let later : one.x0 <ℤ other.x0 = search rules in
-    starts-later one other c.start_of.result c.compare_to_point.result later c.requires.other_right c.start_of.ensures.x c.start_of.ensures.y c.compare_to_point.ensures
+    starts-later one other c.start_of.result c.compare_to_point.result later c.requires.other_right (ap (λ (p : Point). p.x) c.start_of.ensures) (ap (λ (p : Point). p.y) c.start_of.ensures) c.compare_to_point.ensures
 
 pub returns : goal.returns
 returns c =
@@ -19,4 +20,4 @@ returns c =
     let other_x0 : FitsSigned w32 other.x0 = search rules in
     let earlier : other.x0 ≤ℤ one.x0 = search rules in
     c.reverse.ensures
-    ∙ starts-earlier one other c.start_of-2.result c.compare_to_point-2.result earlier c.requires.right c.start_of-2.ensures.x c.start_of-2.ensures.y c.compare_to_point-2.ensures
+    ∙ starts-earlier one other c.start_of-2.result c.compare_to_point-2.result earlier c.requires.right (ap (λ (p : Point). p.x) c.start_of-2.ensures) (ap (λ (p : Point). p.y) c.start_of-2.ensures) c.compare_to_point-2.ensures

@@ -16,18 +16,18 @@ returns c =
     let y1 : FitsSigned w32 edge.y1 = search rules in
     let x : FitsSigned w32 point.x = search rules in
     let y : FitsSigned w32 point.y = search rules in
-    let rises : c.way.result ≡ rise edge = simp to_z-of_z at c.way.ensures in
-    let goes : c.way-2.result ≡ (point.x -ℤ edge.x0) = simp to_z-of_z at c.way-2.ensures in
-    let point_rises : c.way-3.result ≡ (point.y -ℤ edge.y0) = simp to_z-of_z at c.way-3.ensures in
-    let runs : c.way-4.result ≡ run edge = simp to_z-of_z at c.way-4.ensures in
-    let way : FitsSigned w64 c.way.result = record { sfits = c.way.type_inv } in
-    let way_2 : FitsSigned w64 c.way-2.result = record { sfits = c.way-2.type_inv } in
-    let way_3 : FitsSigned w64 c.way-3.result = record { sfits = c.way-3.type_inv } in
-    let way_4 : FitsSigned w64 c.way-4.result = record { sfits = c.way-4.type_inv } in
+    let rises : c.way_on_axis.result ≡ rise edge = simp to_z-of_z at c.way_on_axis.ensures.value in
+    let goes : c.way_on_axis-2.result ≡ (point.x -ℤ edge.x0) = simp to_z-of_z at c.way_on_axis-2.ensures.value in
+    let point_rises : c.way_on_axis-3.result ≡ (point.y -ℤ edge.y0) = simp to_z-of_z at c.way_on_axis-3.ensures.value in
+    let runs : c.way_on_axis-4.result ≡ run edge = simp to_z-of_z at c.way_on_axis-4.ensures.value in
+    let way : FitsSigned w64 c.way_on_axis.result = record { sfits = c.way_on_axis.type_inv } in
+    let way_2 : FitsSigned w64 c.way_on_axis-2.result = record { sfits = c.way_on_axis-2.type_inv } in
+    let way_3 : FitsSigned w64 c.way_on_axis-3.result = record { sfits = c.way_on_axis-3.type_inv } in
+    let way_4 : FitsSigned w64 c.way_on_axis-4.result = record { sfits = c.way_on_axis-4.type_inv } in
     let climb : c.product-climb.result ≡ (rise edge *ℤ (point.x -ℤ edge.x0)) =
-    (simp to_z-of_z at c.product-climb.ensures.value) ∙ ap (λ (z : ℤ). z *ℤ c.way-2.result) rises ∙ ap (λ (z : ℤ). rise edge *ℤ z) goes in
+    (simp to_z-of_z at c.product-climb.ensures.value) ∙ ap (λ (z : ℤ). z *ℤ c.way_on_axis-2.result) rises ∙ ap (λ (z : ℤ). rise edge *ℤ z) goes in
     let point_climb : c.product-point_climb.result ≡ ((point.y -ℤ edge.y0) *ℤ run edge) =
-    (simp to_z-of_z at c.product-point_climb.ensures.value) ∙ ap (λ (z : ℤ). z *ℤ c.way-4.result) point_rises ∙ ap (λ (z : ℤ). (point.y -ℤ edge.y0) *ℤ z) runs in
+    (simp to_z-of_z at c.product-point_climb.ensures.value) ∙ ap (λ (z : ℤ). z *ℤ c.way_on_axis-4.result) point_rises ∙ ap (λ (z : ℤ). (point.y -ℤ edge.y0) *ℤ z) runs in
     let wide : FitsSigned w128 c.product-climb.result = record { sfits = c.product-climb.type_inv } in
     let other_wide : FitsSigned w128 c.product-point_climb.result = record { sfits = c.product-point_climb.type_inv } in
     (simp to_z-of_z at c.cmp.ensures)

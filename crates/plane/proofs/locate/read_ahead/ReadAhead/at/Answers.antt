@@ -1,6 +1,13 @@
 use Rattle.std.proofs.Common.{◌≡◌, ◌+◌, ◌-◌, ◌<◌, length, subst, sym, arith, rules}
 use Rattle.plane.specs.Locate.Payloads.{IsPayloadAt, IsReadAhead}
+use Rattle.plane.proofs.LocateLemmas.Payloads.{has_item, payload_at}
 use Rattle.plane.proofs.locate.read_ahead.ReadAhead.at.Goals as goal
+
+pub payload_of-requires : goal.payload_of-requires
+payload_of-requires g c = has_item c.args.edges.now c.args.points.now c.args.events.now c.requires.queue c.args.place _ c.requires.inside
+
+pub returns-then-events-lt-MANY-clause-value : goal.returns-then-events-lt-MANY-clause-value
+returns-then-events-lt-MANY-clause-value g c = payload_at c.args.edges.now c.args.points.now c.args.events.now c.args.place _ c.payload_of.result c.requires.inside c.payload_of.ensures
 
 pub returns-then-place-self-clause-value : goal.returns-then-place-self-clause-value
 returns-then-place-self-clause-value g c =

@@ -1,0 +1,3 @@
+-- Lemmas on the boundary of a result.
+pub mod Broken
+pub mod Bounding

@@ -1,0 +1,93 @@
+-- From the pieces of closed edges to the edges that bound the result, and to rings.
+use Rattle.std.proofs.Common.{◌≡◌, ◌⊎◌, ◌++◌, [], ◌∷◌, inl, inr, Bool, true, false, ℤ, pos, ◌+ℤ◌, List, ap, ap₂, sym, subst, ◌∙◌, refl}
+use Rattle.std.specs.List.{All, Contains, flat_map}
+use Rattle.std.specs.List.Sorted.{IsPermutation}
+use Rattle.std.proofs.lemmas.Grind.{flat_map-append}
+use Rattle.std.proofs.lemmas.List.Elements.{Contains-append_left, Contains-append_right}
+use Rattle.std.proofs.lemmas.List.Sorted.{Contains-permutation}
+use Rattle.i_tree.proofs.RootLemmas.Joined.{All-front, All-behind}
+use Rattle.plane.specs.declared.edge.Edge.{Edge}
+use Rattle.plane.specs.declared.point.Point.{Point}
+use Rattle.plane.specs.Meet.Edges.{RationalPoint}
+use Rattle.overlay.specs.declared.fill.rules.FillRule.{FillRule}
+use Rattle.overlay.specs.declared.fill.rules.Operation.{Operation}
+use Rattle.overlay.specs.Boundary.{AreBroken, BoundsResult, IsBoundary}
+use Rattle.overlay.specs.Contours.Rings.{AreContours, ring_edges}
+use Rattle.overlay.specs.Fill.Filled.{AreNoded, IsFilled}
+use Rattle.overlay.specs.Fill.Rules.{count, is_result}
+use Rattle.overlay.specs.Snap.Near.{IsNear}
+use Rattle.overlay.specs.Snap.Windings.{pieces, winding, IsAlongAxis, IsClosed}
+use Rattle.overlay.proofs.BoundaryLemmas.Broken.{all-chains}
+use Rattle.overlay.proofs.SnapLemmas.Callers.{noded}
+use Rattle.overlay.proofs.SnapLemmas.Sums.{some-clear, some-closed, some-exact}
+use Rattle.overlay.proofs.ContourLemmas.Callers.{winding-contours}
+
+module _ (subject clip broken broken_clip : List Edge) (are : AreBroken subject clip broken broken_clip) where
+  abbrev all : List Edge
+  all = subject ++ clip
+
+  -- the pieces of both meet only at common ends
+  pub broken-noded : AreNoded (broken ++ broken_clip)
+  broken-noded =
+      subst AreNoded (sym (ap₂ (λ (one other : List Edge). one ++ other) are.is are.clip_is ∙ sym (flat_map-append pieces are.chains are.clip_chains)))
+      (λ one other point first second of of_other. noded all (are.chains ++ are.clip_chains) (all-chains subject clip broken broken_clip are) one other point first second of of_other)
+
+  -- the pieces of closed edges are closed
+  pub broken-closed : IsClosed subject → IsClosed broken
+  broken-closed closed = subst IsClosed (sym are.is) (some-closed all subject are.chains (Contains-append_left subject clip) are.are closed)
+
+  pub clip-closed : IsClosed clip → IsClosed broken_clip
+  clip-closed closed = subst IsClosed (sym are.clip_is) (some-closed all clip are.clip_chains (Contains-append_right subject clip) are.clip_are closed)
+
+  -- they wind as the edges do, where no edge is near
+  clear-subject : (point : RationalPoint) → All (λ edge. ¬ (IsNear edge point)) all → winding broken point ≡ winding subject point
+  clear-subject point far =
+      ap (λ (edges : List Edge). winding edges point) are.is
+      ∙ some-clear all subject are.chains point (Contains-append_left subject clip) are.are (All-front (λ edge. ¬ (IsNear edge point)) subject clip far)
+
+  clear-clip : (point : RationalPoint) → All (λ edge. ¬ (IsNear edge point)) all → winding broken_clip point ≡ winding clip point
+  clear-clip point far =
+      ap (λ (edges : List Edge). winding edges point) are.clip_is
+      ∙ some-clear all clip are.clip_chains point (Contains-append_right subject clip) are.clip_are (All-behind (λ edge. ¬ (IsNear edge point)) subject clip far)
+
+  -- and everywhere, where all edges run along the axes
+  exact-subject : (point : RationalPoint) → All IsAlongAxis all → winding broken point ≡ winding subject point
+  exact-subject point axial =
+      ap (λ (edges : List Edge). winding edges point) are.is
+      ∙ some-exact all subject are.chains point (Contains-append_left subject clip) are.are (All-front IsAlongAxis subject clip axial)
+
+  exact-clip : (point : RationalPoint) → All IsAlongAxis all → winding broken_clip point ≡ winding clip point
+  exact-clip point axial =
+      ap (λ (edges : List Edge). winding edges point) are.clip_is
+      ∙ some-exact all clip are.clip_chains point (Contains-append_right subject clip) are.clip_are (All-behind IsAlongAxis subject clip axial)
+
+  none_or_one : (t : Bool) → (count t ≡ pos 0) ⊎ (count t ≡ pos 1)
+  none_or_one true = inr refl
+  none_or_one false = inl refl
+
+  -- so what is filled of them bounds the result
+  pub filled-bounds : (rule : FillRule) (operation : Operation) (edges : List Edge) → IsFilled rule operation broken broken_clip edges → BoundsResult rule operation subject clip edges
+  filled-bounds rule operation edges filled = record {
+    noded = filled.noded;
+    once = λ point. subst (λ (z : ℤ). (z ≡ pos 0) ⊎ (z ≡ pos 1)) (sym (filled.winds point)) (none_or_one (is_result rule operation (winding broken point) (winding broken_clip point)));
+    clear = λ point far. filled.winds point ∙ ap₂ (λ (a b : ℤ). count (is_result rule operation a b)) (clear-subject point far) (clear-clip point far);
+    exact = λ point axial. filled.winds point ∙ ap₂ (λ (a b : ℤ). count (is_result rule operation a b)) (exact-subject point axial) (exact-clip point axial);
+  }
+
+-- the rings of edges that bound it do
+pub rings-bound : (rule : FillRule) (operation : Operation) (subject clip edges : List Edge) (rings : List (List Point)) → BoundsResult rule operation subject clip edges → AreContours edges rings → IsBoundary rule operation subject clip rings
+rings-bound rule operation subject clip edges rings bounds are = record {
+  each = are.each;
+  bounds = record {
+    noded = λ one other point first second of of_other. bounds.noded one other point (inside one first) (inside other second) of of_other;
+    once = λ point. subst (λ (z : ℤ). (z ≡ pos 0) ⊎ (z ≡ pos 1)) (same point) (bounds.once point);
+    clear = λ point far. sym (same point) ∙ bounds.clear point far;
+    exact = λ point axial. sym (same point) ∙ bounds.exact point axial;
+  };
+}
+  where
+    inside : (edge : Edge) → Contains (flat_map ring_edges rings) edge → Contains edges edge
+    inside edge held = Contains-permutation (flat_map ring_edges rings) edges edge are.all held
+
+    same : (point : RationalPoint) → winding edges point ≡ winding (flat_map ring_edges rings) point
+    same point = sym (winding-contours edges rings point are)

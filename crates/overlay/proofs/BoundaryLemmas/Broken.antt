@@ -1,0 +1,109 @@
+-- Two lists of edges that are broken together.
+use Rattle.std.proofs.Common.{◌≡◌, ◌<◌, ◌≤◌, ◌+◌, ◌-◌, ◌++◌, [], ◌∷◌, ℕ, suc, pos, List, length, drop, take, get_or, ap, ap₂, sym, subst, ◌∙◌, arith, refl}
+use Rattle.std.specs.List.{All, AllZip, flat_map}
+use Rattle.std.proofs.lemmas.Grind.{flat_map-append}
+use Rattle.std.proofs.lemmas.List.{length-append, length-take-le, take-append-drop}
+use Rattle.std.proofs.lemmas.List.Elements.{All-head, All-tail, Contains-get_or}
+use Rattle.i_tree.proofs.RootLemmas.Joined.{All-front}
+use Rattle.std.proofs.Math.Seq.{drop-append_seam, take-append_seam}
+use Rattle.plane.specs.declared.edge.Edge.{Edge}
+use Rattle.plane.specs.declared.point.Point.{Point}
+use Rattle.overlay.specs.Boundary.{AllSome, AreBroken}
+use Rattle.overlay.specs.Snap.Chains.{AreChains, IsChain}
+use Rattle.overlay.specs.Snap.Offsets.{offsets}
+use Rattle.overlay.specs.Snap.Windings.{pieces}
+use Rattle.overlay.proofs.ChainLemmas.Offsets.{joined, offset-at}
+use Rattle.overlay.proofs.ChainLemmas.Zips.{AllZip-at, AllZip-length}
+use Rattle.overlay.proofs.SnapLemmas.Callers.{starts}
+
+zip-append : {A B : Type 0} (R : A → B → Type 0) (xs xs' : List A) (ys ys' : List B) → AllZip R xs ys → AllZip R xs' ys' → AllZip R (xs ++ xs') (ys ++ ys')
+zip-append R [] xs' [] ys' first second = second
+zip-append R (x ∷ xs) xs' (y ∷ ys) ys' first second = (first.0, zip-append R xs xs' ys ys' first.1 second)
+zip-append R [] xs' (y ∷ ys) ys' first second = absurd first
+zip-append R (x ∷ xs) xs' [] ys' first second = absurd first
+
+zip-front : {A B : Type 0} (R : A → B → Type 0) (xs xs' : List A) (ys : List B) → AllZip R (xs ++ xs') ys → AllZip R xs (take (length xs) ys)
+zip-front R [] xs' ys zip = tt
+zip-front R (x ∷ xs) xs' (y ∷ ys) zip = (zip.0, zip-front R xs xs' ys zip.1)
+zip-front R (x ∷ xs) xs' [] zip = absurd zip
+
+zip-back : {A B : Type 0} (R : A → B → Type 0) (xs xs' : List A) (ys : List B) → AllZip R (xs ++ xs') ys → AllZip R xs' (drop (length xs) ys)
+zip-back R [] xs' ys zip = zip
+zip-back R (x ∷ xs) xs' (y ∷ ys) zip = zip-back R xs xs' ys zip.1
+zip-back R (x ∷ xs) xs' [] zip = absurd zip
+
+-- the chains of both are those of all edges
+pub all-chains : (subject clip broken broken_clip : List Edge) (are : AreBroken subject clip broken broken_clip) → AreChains (subject ++ clip) (are.chains ++ are.clip_chains)
+all-chains subject clip broken broken_clip are = zip-append (IsChain (subject ++ clip)) subject clip are.chains are.clip_chains are.are are.clip_are
+
+-- the pieces of all chains, cut behind those of the subject's
+pub cut-broken : (subject clip all : List Edge) (chains : List (List Point)) (count : ℕ) → AreChains (subject ++ clip) chains → all ≡ flat_map pieces chains → count ≡ length (flat_map pieces (take (length subject) chains))
+    → (count ≤ length all) × AreBroken subject clip (take count all) (drop count all)
+cut-broken subject clip all chains count are is size = (
+  (let sum = length-append front back in let whole = ap (λ (list : List Edge). length list) parts in omega (arith, size, sum, whole)),
+  record {
+    chains = take (length subject) chains;
+    clip_chains = drop (length subject) chains;
+    are = zip-front (IsChain (subject ++ clip)) subject clip chains are;
+    clip_are = zip-back (IsChain (subject ++ clip)) subject clip chains are;
+    is = ap₂ (λ (n : ℕ) (list : List Edge). take n list) size parts ∙ take-append_seam front back;
+    clip_is = ap₂ (λ (n : ℕ) (list : List Edge). drop n list) size parts ∙ drop-append_seam front back;
+  },
+)
+  where
+    front : List Edge
+    front = flat_map pieces (take (length subject) chains)
+
+    back : List Edge
+    back = flat_map pieces (drop (length subject) chains)
+
+    parts : all ≡ front ++ back
+    parts = is ∙ ap (λ (lists : List (List Point)). flat_map pieces lists) (sym (take-append-drop (length subject) chains)) ∙ flat_map-append pieces (take (length subject) chains) (drop (length subject) chains)
+
+-- ---- how many pieces there are
+
+more_points : (a b c d e f : ℕ) → a ≡ b + c → b + 1 ≡ d → c + e ≡ f → a + suc e ≡ d + f
+more_points a b c d e f sum first rest = omega (arith, sum, first, rest)
+
+chain-length : (chain : List Point) → 0 < length chain → length (pieces chain) + 1 ≡ length chain
+chain-length [] some = absurd (omega (arith, some))
+chain-length (from ∷ []) some = refl
+chain-length (from ∷ to ∷ others) some = let rest = chain-length (to ∷ others) (omega arith) in omega (arith, rest)
+
+pieces-length : (lists : List (List Point)) → AllSome lists → length (flat_map pieces lists) + length lists ≡ length (joined lists)
+pieces-length [] some = refl
+pieces-length (list ∷ lists) some =
+    more_points (length (flat_map pieces (list ∷ lists))) (length (pieces list)) (length (flat_map pieces lists)) (length list) (length lists) (length (joined lists))
+    (length-append (pieces list) (flat_map pieces lists)) (chain-length list (All-head (λ (l : List Point). 0 < length l) list lists some)) (pieces-length lists (All-tail (λ (l : List Point). 0 < length l) list lists some))
+    ∙ sym (length-append list (joined lists))
+
+All-take : {X : Type 0} (P : X → Type 0) (n : ℕ) (xs : List X) → All P xs → All P (take n xs)
+All-take P n xs all = All-front P (take n xs) (drop n xs) (subst (All P) (sym (take-append-drop n xs)) all)
+
+-- the first n lists have as many pieces as points less n
+pub first-pieces : (lists : List (List Point)) (n d : ℕ) → AllSome lists → n ≤ length lists → 0 < n → length (flat_map pieces (take n lists)) + n ≡ get_or (offsets 0 lists) (n - 1) d
+first-pieces lists n d some within more =
+    let size = length-take-le n lists within in
+    let all = pieces-length (take n lists) (All-take (λ (l : List Point). 0 < length l) n lists some) in
+    let here = ap (λ (k : ℕ). length (joined (take k lists))) (same_place n more) in
+    let stop = offset-at 0 lists (n - 1) d (omega (arith, more, within)) in
+    omega (arith, all, size, here, stop)
+  where
+    same_place : (n : ℕ) → 0 < n → suc (n - 1) ≡ n
+    same_place n more = omega (arith, more)
+
+-- no chain is empty, and there are as many as edges
+pub chains-some : (edges : List Edge) (chains : List (List Point)) → AreChains edges chains → AllSome chains
+chains-some edges chains are k d within =
+    let size = AllZip-length (IsChain edges) edges chains are in
+    let none : Edge = record { x0 = pos 0; y0 = pos 0; x1 = pos 0; y1 = pos 0 } in
+    let inside : k < length edges = omega (arith, size, within) in
+    let is = AllZip-at (IsChain edges) edges chains none d k are inside in
+    let begins = starts edges (get_or edges k none) (get_or chains k d) (Contains-get_or edges k none inside) is in
+    subst (λ (chain : List Point). 0 < length chain) (sym begins) (omega arith)
+
+pub chains-count : (subject clip : List Edge) (chains : List (List Point)) → AreChains (subject ++ clip) chains → length subject ≤ length chains
+chains-count subject clip chains are =
+    let size = AllZip-length (IsChain (subject ++ clip)) (subject ++ clip) chains are in
+    let sum = length-append subject clip in
+    omega (arith, size, sum)

@@ -1,0 +1,49 @@
+-- The boundary of what an operation makes of two sets of closed edges, on the grid again.
+use Rattle.std.specs.List.{AllZip, flat_map}
+use Rattle.std.specs.Prelude.{◌≡◌, ◌⊎◌, ◌++◌, ◌<◌, ◌≤◌, List, All, ℕ, ℤ, pos, length}
+use Rattle.plane.specs.declared.edge.Edge.{Edge}
+use Rattle.plane.specs.declared.point.Point.{Point}
+use Rattle.plane.specs.Meet.Edges.{RationalPoint}
+use Rattle.overlay.specs.declared.fill.rules.FillRule.{FillRule}
+use Rattle.overlay.specs.declared.fill.rules.Operation.{Operation}
+use Rattle.overlay.specs.Contours.Rings.{IsRing, ring_edges}
+use Rattle.overlay.specs.Fill.Filled.{AreNoded}
+use Rattle.overlay.specs.Fill.Rules.{count, is_result}
+use Rattle.overlay.specs.Snap.Chains.{IsChain}
+use Rattle.overlay.specs.Snap.Near.{IsNear}
+use Rattle.overlay.specs.Snap.Offsets.{offsets}
+use Rattle.overlay.specs.Snap.Windings.{pieces, winding, IsAlongAxis}
+
+-- 1 around a point of the result, else 0, by the winding numbers of the subject and of the clip there.
+abbrev pub result_at : FillRule → Operation → List Edge → List Edge → RationalPoint → ℤ
+result_at rule operation subject clip point = count (is_result rule operation (winding subject point) (winding clip point))
+
+-- Edges that bound the result, as far as it isn't near the edges given: they meet only at common ends, and wind once around each
+-- point of it, and around no others.
+pub record BoundsResult (rule : FillRule) (operation : Operation) (subject clip edges : List Edge) : Type 0 where
+  pub noded : AreNoded edges
+  pub once : (point : RationalPoint) → (winding edges point ≡ pos 0) ⊎ (winding edges point ≡ pos 1)
+  pub clear : (point : RationalPoint) → All (λ edge. ¬ (IsNear edge point)) (subject ++ clip) → winding edges point ≡ result_at rule operation subject clip point
+  pub exact : (point : RationalPoint) → All IsAlongAxis (subject ++ clip) → winding edges point ≡ result_at rule operation subject clip point
+
+-- Rings whose edges do.
+pub record IsBoundary (rule : FillRule) (operation : Operation) (subject clip : List Edge) (rings : List (List Point)) : Type 0 where
+  pub each : All IsRing rings
+  pub bounds : BoundsResult rule operation subject clip (flat_map ring_edges rings)
+
+-- The pieces of the subject's edges and of the clip's, which are broken together.
+pub record AreBroken (subject clip broken broken_clip : List Edge) : Type 0 where
+  pub chains : List (List Point)
+  pub clip_chains : List (List Point)
+  pub are : AllZip (IsChain (subject ++ clip)) subject chains
+  pub clip_are : AllZip (IsChain (subject ++ clip)) clip clip_chains
+  pub is : broken ≡ flat_map pieces chains
+  pub clip_is : broken_clip ≡ flat_map pieces clip_chains
+
+-- Lists of which none is empty.
+abbrev pub AllSome : {X : Type 0} → List (List X) → Type 0
+AllSome lists = All (λ list. 0 < length list) lists
+
+-- Where so many lists and more stop, of which none is empty.
+abbrev pub StopSome : List ℕ → ℕ → Type 0
+StopSome ends count = (lists : List (List Point)) × (ends ≡ offsets 0 lists) × AllSome lists × (count ≤ length lists)

@@ -1,0 +1,58 @@
+//! The edges of subject and clip, broken together.
+
+ghost use Rattle.std.specs.Prelude.{◌≡◌, ◌≤◌, ◌++◌, List, IfOk, drop, length, take};
+ghost use Rattle.std.specs.List.{flat_map};
+ghost use Rattle.plane.specs.declared.point.Point.{Point};
+ghost use Rattle.overlay.specs.Boundary.{AllSome, AreBroken, StopSome};
+ghost use Rattle.overlay.specs.Snap.Offsets.{offsets};
+ghost use Rattle.overlay.specs.Snap.Windings.{pieces};
+
+use crate::snap::pieces::pieces_of;
+use crate::snap::snap;
+use i_tree::Refusal;
+use plane::edge::Edge;
+use std::alloc::{AllocError, Allocator};
+
+/// The pieces of the subject's edges and then of the clip's, and how many of them are the subject's.
+pub fn broken<A: Allocator + Copy>(
+    alloc: A,
+    subject: &[Edge],
+    clip: &[Edge],
+) -> Result<(Vec<Edge, A>, usize), Refusal>
+    ensures { IfOk result (λ told. (told.1 ≤ length told.0.items)
+        × AreBroken subject.now clip.now (take told.1 told.0.items) (drop told.1 told.0.items)) }
+{
+    let edges = all_edges(alloc, subject, clip)?;
+    let mut points = Vec::new(alloc);
+    let mut ends = Vec::new(alloc);
+    snap(&edges, &mut points, &mut ends)?;
+    let pieces = pieces_of(alloc, &points, &ends)?;
+    let count = count_pieces(&ends, subject.len());
+    Ok((pieces, count))
+}
+
+// The subject's edges and then the clip's.
+fn all_edges<A: Allocator>(
+    alloc: A,
+    subject: &[Edge],
+    clip: &[Edge],
+) -> Result<Vec<Edge, A>, AllocError>
+    ensures { IfOk result (λ edges. edges.items ≡ subject.now ++ clip.now) }
+{
+    let mut edges = Vec::with_capacity(alloc, subject.len().saturating_add(clip.len()))?;
+    edges.extend_from_slice(subject)?;
+    edges.extend_from_slice(clip)?;
+    Ok(edges)
+}
+
+// How many pieces the first so many chains have: each has one less than it has points.
+fn count_pieces(ends: &[usize], chains: usize) -> usize
+    requires { StopSome ends.now chains }
+    ensures { (lists : List (List Point)) → ends.now ≡ offsets 0 lists → AllSome lists
+        → chains ≤ length lists → result ≡ length (flat_map pieces (take chains lists)) }
+{
+    if chains == 0 {
+        return 0;
+    }
+    ends[chains - 1] - chains
+}

@@ -1,0 +1,5 @@
+use Rattle.overlay.specs.Snap.Windings.{IsClosed}
+use Rattle.overlay_tests.proofs.contoured.squares.Given as goal
+
+abbrev pub invariant-loop-k : goal.invariant-loop-k
+invariant-loop-k l = IsClosed l.edges.items
