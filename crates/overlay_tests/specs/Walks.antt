@@ -3,9 +3,9 @@ use Rattle.std.specs.List.{count_by}
 use Rattle.std.specs.Prelude.{◌≡◌, ◌⊎◌, ◌+◌, Bool, cond, ℕ, List}
 use Rattle.plane.specs.declared.edge.Edge.{Edge}
 use Rattle.plane.specs.declared.point.Point.{Point}
+use Rattle.plane.specs.Ends.{start_of, end_of}
 use Rattle.plane.specs.Meet.Edges.{RationalPoint, IsOf}
 use Rattle.overlay.specs.Snap.Meeting.{MeetAtEnds}
-use Rattle.overlay.specs.Snap.Windings.{start_of, end_of}
 
 -- Each point of both edges is an end of both, or the two have the same ends.
 abbrev pub MeetAtEndsAlone : Edge → Edge → Type 0
