@@ -1,7 +1,6 @@
 -- From the pieces of closed edges to the edges that bound the result, and to rings.
-use Rattle.std.proofs.Common.{◌≡◌, ◌⊎◌, ◌++◌, [], ◌∷◌, inl, inr, Bool, true, false, ℤ, pos, ◌+ℤ◌, List, ap, ap₂, sym, subst, ◌∙◌, refl}
+use Rattle.std.proofs.Common.{◌≡◌, ◌⊎◌, ◌++◌, inl, inr, Bool, true, false, ℤ, pos, List, ap, ap₂, sym, subst, ◌∙◌, refl}
 use Rattle.std.specs.List.{All, Contains, flat_map}
-use Rattle.std.specs.List.Sorted.{IsPermutation}
 use Rattle.std.proofs.lemmas.Grind.{flat_map-append}
 use Rattle.std.proofs.lemmas.List.Elements.{Contains-append_left, Contains-append_right}
 use Rattle.std.proofs.lemmas.List.Sorted.{Contains-permutation}

@@ -30,7 +30,7 @@ count-total test (x ∷ xs) =
     ∙ count_more (test x) (count_by test xs) (total (λ x. count (test x)) xs) (count-total test xs)
 
 -- what edges carry into a set is how many end there less how many start there
-carried-counts : (test : Point → Bool) (edges : List Edge) → total (carried test) edges ≡ (pos (count_by (λ edge. test (end_of edge)) edges) -ℤ pos (count_by (λ edge. test (start_of edge)) edges))
+pub carried-counts : (test : Point → Bool) (edges : List Edge) → total (carried test) edges ≡ (pos (count_by (λ edge. test (end_of edge)) edges) -ℤ pos (count_by (λ edge. test (start_of edge)) edges))
 carried-counts test edges =
     total-difference (λ edge. count (test (end_of edge))) (λ edge. count (test (start_of edge))) edges
     ∙ sym (ap₂ (λ a b. a -ℤ b) (count-total (λ (edge : Edge). test (end_of edge)) edges) (count-total (λ (edge : Edge). test (start_of edge)) edges))

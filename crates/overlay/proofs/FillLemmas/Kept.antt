@@ -22,7 +22,7 @@ use Rattle.overlay.proofs.FillLemmas.Uncrossed.{MeetOnly-reversed, MeetOnly-exch
 -- ---- edges with the same ends
 
 -- whichever is named first, and one after another
-same-exchanged : (one other : Edge) → HaveSameEnds one other → HaveSameEnds other one
+pub same-exchanged : (one other : Edge) → HaveSameEnds one other → HaveSameEnds other one
 same-exchanged one other (inl same) = inl (sym same)
 same-exchanged one other (inr back) = inr (ap reversed (sym back))
 

@@ -41,7 +41,8 @@ total-bounds f (x ∷ xs) each = more_bounds (length xs) (f x) (total f xs) (eac
 unit_zero : IsWithin 1 (pos 0)
 unit_zero = record { from = omega (arith, ints); upto = omega (arith, ints) }
 
-unit_weight : (edge : Edge) → IsWithin 1 (weight edge)
+-- a weight is 1, -1 or 0
+pub unit_weight : (edge : Edge) → IsWithin 1 (weight edge)
 unit_weight edge = by (lt_z edge.x0 edge.x1) (lt_z edge.x1 edge.x0)
   where
     by : (s t : Bool) → IsWithin 1 (cond s (pos 1) (cond t (negsuc 0) (pos 0)))

@@ -1,8 +1,12 @@
 -- Sums over lists, term by term.
-use Rattle.std.proofs.Common.{◌≡◌, ℤ, pos, ◌+ℤ◌, ◌-ℤ◌, Bool, true, false, cond, List, [], ◌∷◌, refl, ap, ap₂, arith, sym, ◌∙◌}
-use Rattle.std.specs.List.{All, filter}
+use Rattle.std.proofs.Common.{◌≡◌, ◌+◌, ℕ, ℤ, pos, ◌+ℤ◌, ◌-ℤ◌, Bool, true, false, cond, List, [], ◌∷◌, ◌++◌, refl, ap, ap₂, arith, sym, ◌∙◌}
+use Rattle.std.specs.List.{All, filter, sum_by}
+use Rattle.std.specs.List.Sorted.{IsPermutation}
 use Rattle.std.proofs.lemmas.Int.{ints}
 use Rattle.std.proofs.lemmas.List.Elements.{All-head, All-tail}
+use Rattle.std.proofs.lemmas.List.Sorted.{sum_by-IsPermutation}
+use Rattle.std.proofs.lemmas.List.Sums.{sum_by-cons}
+use borrow.Author.Differences.{up, down}
 use Rattle.overlay.specs.Fill.Pieces.{total}
 use Rattle.overlay.proofs.SnapLemmas.Numbers.{both}
 
@@ -54,3 +58,35 @@ together a b c d e is = omega (arith, ints, is)
 pub total-sum : {X : Type 0} (f g : X → ℤ) (xs : List X) → total (λ x. f x +ℤ g x) xs ≡ (total f xs +ℤ total g xs)
 total-sum f g [] = refl
 total-sum f g (x ∷ xs) = together (f x) (g x) (total (λ x. f x +ℤ g x) xs) (total f xs) (total g xs) (total-sum f g xs)
+
+-- ---- lists joined and in another order
+
+more_split : (z : ℤ) (p q m n : ℕ) (s : ℤ) → s ≡ (pos p -ℤ pos q) → m ≡ up z + p → n ≡ down z + q → (z +ℤ s) ≡ (pos m -ℤ pos n)
+more_split z p q m n s is first second = omega (arith, ints, is, first, second)
+
+split : {X : Type 0} (f : X → ℤ) (xs : List X) → total f xs ≡ (pos (sum_by (λ x. up (f x)) xs) -ℤ pos (sum_by (λ x. down (f x)) xs))
+split f [] = refl
+split f (x ∷ xs) =
+    more_split (f x) (sum_by (λ x. up (f x)) xs) (sum_by (λ x. down (f x)) xs) (sum_by (λ x. up (f x)) (x ∷ xs)) (sum_by (λ x. down (f x)) (x ∷ xs)) (total f xs) (split f xs)
+    (sum_by-cons (λ x. up (f x)) x xs) (sum_by-cons (λ x. down (f x)) x xs)
+
+-- a sum is the same in another order
+pub total-permutation : {X : Type 0} (f : X → ℤ) (xs ys : List X) → IsPermutation xs ys → total f ys ≡ total f xs
+total-permutation f xs ys moved =
+    split f ys
+    ∙ ap₂ (λ m n. pos m -ℤ pos n) (sum_by-IsPermutation (λ x. up (f x)) xs ys moved) (sum_by-IsPermutation (λ x. down (f x)) xs ys moved)
+    ∙ sym (split f xs)
+
+added : (a b c d : ℤ) → a ≡ (b +ℤ c) → (d +ℤ a) ≡ ((d +ℤ b) +ℤ c)
+added a b c d is = omega (arith, ints, is)
+
+pub total-append : {X : Type 0} (f : X → ℤ) (xs ys : List X) → total f (xs ++ ys) ≡ (total f xs +ℤ total f ys)
+total-append f [] ys = omega (arith, ints)
+total-append f (x ∷ xs) ys = added (total f (xs ++ ys)) (total f xs) (total f ys) (f x) (total-append f xs ys)
+
+-- one more
+pub total-more : {X : Type 0} (f : X → ℤ) (xs : List X) (x : X) → total f (xs ++ x ∷ []) ≡ (total f xs +ℤ f x)
+total-more f xs x = total-append f xs (x ∷ []) ∙ ap (λ z. total f xs +ℤ z) (alone (f x))
+  where
+    alone : (a : ℤ) → (a +ℤ pos 0) ≡ a
+    alone a = omega (arith, ints)

@@ -1,7 +1,7 @@
 -- The edges kept bound a region, and with the vertical edges they are the fill.
 use Rattle.std.proofs.Common.{◌≡◌, ◌≢◌, ◌⊎◌, ◌++◌, [], ◌∷◌, inl, inr, Bool, true, false, ℤ, pos, List, refl, ap, ap₂, sym, subst, ◌∙◌}
-use Rattle.std.specs.List.{All, Contains}
-use Rattle.std.proofs.lemmas.List.Elements.{All-append, All-weaker, All-contains_itself}
+use Rattle.std.specs.List.{Contains}
+use Rattle.std.proofs.lemmas.List.Elements.{All-append, All-weaker}
 use Rattle.plane.specs.declared.edge.Edge.{Edge}
 use Rattle.plane.specs.Meet.Edges.{RationalPoint}
 use Rattle.overlay.specs.declared.fill.pieces.Piece.{Piece}
@@ -14,6 +14,7 @@ use Rattle.overlay.specs.Fill.Sweep.{AreFillPieces, kept_of}
 use Rattle.overlay.specs.Fill.Verticals.{AreVerticalsOf, BoundRegion}
 use Rattle.overlay.specs.Snap.Windings.{reversed, winding}
 use Rattle.overlay.proofs.FillLemmas.Callers.{kept-distinct, kept-high, kept-noded, kept-of, kept-onwards, kept-winds}
+use Rattle.overlay.proofs.FillLemmas.Premises.{All-among}
 use Rattle.overlay.proofs.KeptLemmas.Below.{above-edges, below-edges}
 
 -- the edges kept by the counts over the pieces are those kept by the counts over the edges
@@ -26,10 +27,6 @@ kept-edges inside pieces fill (piece ∷ some) =
 none_or_one : (t : Bool) → (count t ≡ pos 0) ⊎ (count t ≡ pos 1)
 none_or_one true = inr refl
 none_or_one false = inl refl
-
--- what holds of each element holds of all
-among : {X : Type 0} (P : X → Type 0) (xs : List X) → ((x : X) → Contains xs x → P x) → All P xs
-among P xs each = All-weaker (Contains xs) P each xs (All-contains_itself xs)
 
 module _ (rule : FillRule) (operation : Operation) (pieces : List Piece) (fill : AreFillPieces pieces) where
   abbrev inside : Counts → Bool
@@ -50,7 +47,7 @@ module _ (rule : FillRule) (operation : Operation) (pieces : List Piece) (fill :
   region : BoundRegion (kept_edges inside subject clip pieces)
   region =
       let high = kept-high subject clip fill.closed fill.clip_closed fill.noded pieces fill.are rule operation in record {
-        slanted = among (λ edge. edge.x1 ≢ edge.x0) (kept_edges inside subject clip pieces) (kept-onwards subject clip fill.closed fill.clip_closed fill.noded pieces fill.are inside);
+        slanted = All-among (λ edge. edge.x1 ≢ edge.x0) (kept_edges inside subject clip pieces) (kept-onwards subject clip fill.closed fill.clip_closed fill.noded pieces fill.are inside);
         noded = kept-noded subject clip fill.closed fill.clip_closed fill.noded pieces fill.are inside;
         distinct = kept-distinct subject clip fill.closed fill.clip_closed fill.noded pieces fill.are inside;
         winds = λ point. once point;
@@ -73,10 +70,10 @@ module _ (rule : FillRule) (operation : Operation) (pieces : List Piece) (fill :
     noded = are.noded;
     distinct = are.distinct;
     sloped = All-append IsOfEdges kept verticals
-        (among IsOfEdges kept (λ edge held slanted. kept-of subject clip fill.closed fill.clip_closed fill.noded pieces fill.are inside edge (subst (λ (edges : List Edge). Contains edges edge) are_edges held)))
+        (All-among IsOfEdges kept (λ edge held slanted. kept-of subject clip fill.closed fill.clip_closed fill.noded pieces fill.are inside edge (subst (λ (edges : List Edge). Contains edges edge) are_edges held)))
         (All-weaker (IsNextInColumn (kept ++ verticals)) IsOfEdges (λ edge next slanted. absurd (slanted next.vertical)) verticals are.next);
     vertical = All-append IsNext kept verticals
-        (among IsNext kept (λ edge held vertical. absurd (kept-onwards subject clip fill.closed fill.clip_closed fill.noded pieces fill.are inside edge (subst (λ (edges : List Edge). Contains edges edge) are_edges held) vertical)))
+        (All-among IsNext kept (λ edge held vertical. absurd (kept-onwards subject clip fill.closed fill.clip_closed fill.noded pieces fill.are inside edge (subst (λ (edges : List Edge). Contains edges edge) are_edges held) vertical)))
         (All-weaker (IsNextInColumn (kept ++ verticals)) IsNext (λ edge next vertical. next) verticals are.next);
   }
     where

@@ -11,6 +11,7 @@ use Rattle.plane.specs.declared.edge.Edge.{Edge}
 use Rattle.overlay.specs.declared.fill.pieces.Piece.{Piece}
 use Rattle.overlay.specs.Fill.Begins.{BeginsUpto, BeginInOrder}
 use Rattle.overlay.specs.Fill.Pieces.{total}
+use Rattle.overlay.proofs.FillLemmas.Totals.{total-more}
 use Rattle.overlay.specs.Fill.Turned.{Adds, AreJoinOf, BeginApart, EndIn, IsSmall, asked, sum_of}
 
 -- ---- the last of a list
@@ -36,10 +37,6 @@ module _ {X : Type 0} (xs : List X) (d : X) (some : 0 < length xs) where
       ap₂ (λ (list : List X) (n : ℕ). slice_set list n y) split_last (sym fore-length) ∙ set-append_seam fore final [] y
 
 -- ---- sums
-
-pub total-more : {X : Type 0} (f : X → ℤ) (xs : List X) (x : X) → total f (xs ++ x ∷ []) ≡ (total f xs +ℤ f x)
-total-more f [] x = omega (arith, ints)
-total-more f (y ∷ xs) x = let rest = total-more f xs x in omega (arith, ints, rest)
 
 both : (t : Bool) (a b : ℤ) → cond t (a +ℤ b) (pos 0) ≡ (cond t a (pos 0) +ℤ cond t b (pos 0))
 both true a b = refl

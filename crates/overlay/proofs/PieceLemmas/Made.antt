@@ -1,16 +1,14 @@
 -- From the edges of the subject and of the clip to their pieces.
-use Rattle.std.proofs.Common.{◌≡◌, ◌≢◌, ◌≤◌, ◌+◌, ◌++◌, [], ◌∷◌, inl, inr, Bool, true, false, cond, ◌&&◌, ℕ, ℤ, pos, negsuc, ◌+ℤ◌, ◌-ℤ◌, ◌*ℤ◌, ◌≤ℤ◌, ◌<ℤ◌, List, length, get_or, refl, ap, ap₂, sym, subst, ◌∙◌, arith}
+use Rattle.std.proofs.Common.{◌≡◌, ◌≢◌, ◌≤◌, ◌+◌, ◌++◌, [], ◌∷◌, inl, inr, Bool, true, false, cond, ◌&&◌, ℤ, pos, ◌+ℤ◌, ◌*ℤ◌, ◌≤ℤ◌, ◌<ℤ◌, List, length, get_or, refl, ap, ap₂, sym, subst, ◌∙◌, arith}
 use Rattle.std.specs.Bool.{MatchBool}
-use Rattle.std.specs.List.{All, Contains, sum_by}
-use Rattle.std.specs.List.Sorted.{IsPermutation, IsSortedBy}
+use Rattle.std.specs.List.{All, Contains}
+use Rattle.std.specs.List.Sorted.{IsSortedBy}
 use Rattle.std.specs.Int.Signed.{lt_z}
 use Rattle.std.specs.Ordering.{int_eq}
 use Rattle.std.proofs.lemmas.Int.{ints, clamps, by_lt_z}
 use Rattle.std.proofs.lemmas.List.{length-append}
 use Rattle.std.proofs.lemmas.List.Elements.{All-append, All-cons, All-contains, All-nil, All-weaker, Contains-append_left, Contains-append_right}
-use Rattle.std.proofs.lemmas.List.Sorted.{All-permutation, length_permutation, sorted_far, sum_by-IsPermutation}
-use Rattle.std.proofs.lemmas.List.Sums.{sum_by-cons}
-use borrow.Author.Differences.{up, down}
+use Rattle.std.proofs.lemmas.List.Sorted.{All-permutation, length_permutation, sorted_far}
 use Rattle.i_tree.proofs.RootLemmas.Lists.{Contains-here, Contains-there}
 use Rattle.plane.specs.declared.edge.Edge.{Edge}
 use Rattle.plane.specs.SweepLine.Heights.{run, rise, rightwards}
@@ -25,35 +23,12 @@ use Rattle.overlay.specs.Fill.Pieces.{ArePieces, total, weight}
 use Rattle.overlay.specs.Fill.Turned.{AreJoinOf, AreTurned, BeginApart, IsSmall, asked, piece_of, turned}
 use Rattle.overlay.proofs.FillLemmas.Level.{MeetOnly}
 use Rattle.overlay.proofs.FillLemmas.Order.{lower-asym, start-lower}
+use Rattle.overlay.proofs.FillLemmas.Small.{unit_weight}
+use Rattle.overlay.proofs.FillLemmas.Totals.{total-append, total-permutation}
 use Rattle.overlay.proofs.FillLemmas.Uncrossed.{MeetOnly-exchanged, MeetOnly-rightwards}
 use Rattle.overlay.proofs.FillLemmas.Weights.{weight-none}
 use Rattle.overlay.proofs.PieceLemmas.Begins.{begins_before, not_before, weak_order}
 use Rattle.overlay.proofs.PieceLemmas.Edges.{edge-is, equal, unequal}
-
--- ---- sums
-
-more_split : (z : ℤ) (p q m n : ℕ) (s : ℤ) → s ≡ (pos p -ℤ pos q) → m ≡ up z + p → n ≡ down z + q → (z +ℤ s) ≡ (pos m -ℤ pos n)
-more_split z p q m n s is first second = omega (arith, ints, is, first, second)
-
-split : {X : Type 0} (f : X → ℤ) (xs : List X) → total f xs ≡ (pos (sum_by (λ x. up (f x)) xs) -ℤ pos (sum_by (λ x. down (f x)) xs))
-split f [] = refl
-split f (x ∷ xs) =
-    more_split (f x) (sum_by (λ x. up (f x)) xs) (sum_by (λ x. down (f x)) xs) (sum_by (λ x. up (f x)) (x ∷ xs)) (sum_by (λ x. down (f x)) (x ∷ xs)) (total f xs) (split f xs)
-    (sum_by-cons (λ x. up (f x)) x xs) (sum_by-cons (λ x. down (f x)) x xs)
-
--- a sum is the same in another order
-pub total-permutation : {X : Type 0} (f : X → ℤ) (xs ys : List X) → IsPermutation xs ys → total f ys ≡ total f xs
-total-permutation f xs ys moved =
-    split f ys
-    ∙ ap₂ (λ m n. pos m -ℤ pos n) (sum_by-IsPermutation (λ x. up (f x)) xs ys moved) (sum_by-IsPermutation (λ x. down (f x)) xs ys moved)
-    ∙ sym (split f xs)
-
-added : (a b c d : ℤ) → a ≡ (b +ℤ c) → (d +ℤ a) ≡ ((d +ℤ b) +ℤ c)
-added a b c d is = omega (arith, ints, is)
-
-pub total-append : {X : Type 0} (f : X → ℤ) (xs ys : List X) → total f (xs ++ ys) ≡ (total f xs +ℤ total f ys)
-total-append f [] ys = omega (arith, ints)
-total-append f (x ∷ xs) ys = added (total f (xs ++ ys)) (total f xs) (total f ys) (f x) (total-append f xs ys)
 
 -- ---- the pieces of edges
 
@@ -78,22 +53,13 @@ rightwards-onwards edge sloped = by (lt_z edge.x1 edge.x0) refl
         level : lt_z edge.x1 edge.x0 ≡ false → edge.x1 ≤ℤ edge.x0 → edge.x0 ≡ edge.x1
         level e h = omega (arith, ints, e, h)
 
--- a weight is 1, -1 or 0
-pub weight-small : (edge : Edge) → ((pos 0 -ℤ pos 1) ≤ℤ weight edge) × (weight edge ≤ℤ pos 1)
-weight-small edge = by (lt_z edge.x0 edge.x1) (lt_z edge.x1 edge.x0)
-  where
-    by : (s t : Bool) → ((pos 0 -ℤ pos 1) ≤ℤ cond s (pos 1) (cond t (negsuc 0) (pos 0))) × (cond s (pos 1) (cond t (negsuc 0) (pos 0)) ≤ℤ pos 1)
-    by true t = (omega (arith, ints), omega (arith, ints))
-    by false true = (omega (arith, ints), omega (arith, ints))
-    by false false = (omega (arith, ints), omega (arith, ints))
-
 piece-small : (role : Role) (edge : Edge) → IsSmall 1 (piece_of role edge)
 piece-small Subject edge =
-    let of = weight-small edge in
-    record { from = of.0; upto = of.1; clip_from = omega (arith, ints); clip_upto = omega (arith, ints) }
+    let of = unit_weight edge in
+    record { from = of.from; upto = of.upto; clip_from = omega (arith, ints); clip_upto = omega (arith, ints) }
 piece-small Clip edge =
-    let of = weight-small edge in
-    record { from = omega (arith, ints); upto = omega (arith, ints); clip_from = of.0; clip_upto = of.1 }
+    let of = unit_weight edge in
+    record { from = omega (arith, ints); upto = omega (arith, ints); clip_from = of.from; clip_upto = of.upto }
 
 piece-turned : (role : Role) (edges : List Edge) (edge : Edge) → Contains edges edge → edge.x0 ≢ edge.x1 → IsTurned edges (piece_of role edge)
 piece-turned Subject edges edge among sloped = record { edge = edge; among = among; is = refl; onwards = rightwards-onwards edge sloped; small = piece-small Subject edge }

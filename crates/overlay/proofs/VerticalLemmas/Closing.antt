@@ -22,8 +22,11 @@ use Rattle.overlay.proofs.SnapLemmas.Numbers.{n_of, natural}
 use Rattle.overlay.proofs.SnapLemmas.Reversed.{IsOf-reversed}
 use Rattle.overlay.proofs.SnapLemmas.Counted.{added}
 use Rattle.overlay.proofs.SnapLemmas.Windings.{back, winding-append, winding-added}
-use Rattle.overlay.proofs.VerticalLemmas.Flows.{flow, flow-append, flow-counts, is_upto}
-use Rattle.overlay.proofs.VerticalLemmas.Crossed.{IsEnd-x, IsOf-column, IsOf-turned, SameEnds-sym, at_column, crossed, inside-no_end}
+use Rattle.overlay.proofs.VerticalLemmas.Flows.{flow, is_upto}
+use Rattle.overlay.proofs.FillLemmas.Totals.{total-append}
+use Rattle.overlay.proofs.FillLemmas.Balance.{carried, carried-counts}
+use Rattle.overlay.proofs.FillLemmas.Kept.{same-exchanged}
+use Rattle.overlay.proofs.VerticalLemmas.Crossed.{IsEnd-x, IsOf-column, IsOf-turned, at_column, crossed, inside-no_end}
 use Rattle.overlay.proofs.VerticalLemmas.Linked.{AreLinks, IsLink, all-links}
 use Rattle.overlay.proofs.VerticalLemmas.Order.{Before, Contains-both, Has, Has-from, Rises-sorted, Upto, changed, changed-edges, changed-permutation, every-all, upto_point}
 use Rattle.overlay.proofs.VerticalLemmas.Upright.{Upright, Along, mean_from, mean_upto, along, low-end, high-end, upright-same}
@@ -339,7 +342,7 @@ module _ (sloped : List Edge) (region : BoundRegion sloped) where
 
   MeetAtEnds-sym : (one other : Edge) (point : RationalPoint) → MeetAtEnds one other point → MeetAtEnds other one point
   MeetAtEnds-sym one other point (inl (first, second)) = inl (second, first)
-  MeetAtEnds-sym one other point (inr same) = inr (SameEnds-sym one other same)
+  MeetAtEnds-sym one other point (inr same) = inr (same-exchanged one other same)
 
   -- ---- all of it, for edges that are links
 
@@ -473,10 +476,10 @@ module _ (sloped : List Edge) (region : BoundRegion sloped) where
 
     all-closed : IsClosed (sloped ++ verticals_between (pos 0) before_all ends)
     all-closed test =
-        let both = flow-append test sloped (verticals_between (pos 0) before_all ends) in
+        let both = total-append (carried test) sloped (verticals_between (pos 0) before_all ends) in
         let none = links.closes test in
         let is = changed-is test in
-        let counts = flow-counts test (sloped ++ verticals_between (pos 0) before_all ends) in
+        let counts = carried-counts test (sloped ++ verticals_between (pos 0) before_all ends) in
         omega (arith, ints, both, none, is, counts)
 
     pub AreVerticalsOf-sorted : AreVerticalsOf sloped (verticals_between (pos 0) before_all ends)

@@ -11,7 +11,8 @@ use Rattle.plane.proofs.MeetLemmas.Identities.{identity, minus, number, plus, sc
 use Rattle.overlay.specs.Snap.Windings.{end_of, reversed, start_of, winding}
 use Rattle.overlay.specs.Fill.Rules.{count}
 use Rattle.overlay.proofs.SnapLemmas.Numbers.{n_of, natural, same_test}
-use Rattle.overlay.proofs.VerticalLemmas.Flows.{Every, carried, flow, is_upto, upto-at, upto-before, upto-behind}
+use Rattle.overlay.proofs.VerticalLemmas.Flows.{Every, flow, is_upto, upto-at, upto-before, upto-behind}
+use Rattle.overlay.proofs.FillLemmas.Balance.{carried}
 use Rattle.overlay.proofs.SnapLemmas.Counted.{added, counted, height_at, is_low, under}
 use Rattle.overlay.proofs.SnapLemmas.Windings.{after, before, under-left, under-right, within, winding-added}
 

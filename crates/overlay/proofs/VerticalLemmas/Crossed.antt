@@ -19,13 +19,10 @@ use Rattle.overlay.proofs.SnapLemmas.Numbers.{n_of, natural, same_test}
 use Rattle.overlay.proofs.SnapLemmas.Reversed.{IsOf-reversed}
 use Rattle.overlay.proofs.SnapLemmas.Counted.{added, counted, under}
 use Rattle.overlay.proofs.SnapLemmas.Windings.{under-left, under-right, winding-added}
+use Rattle.overlay.proofs.FillLemmas.Kept.{same-exchanged}
 use Rattle.overlay.proofs.VerticalLemmas.Columns.{is_lower, left_of, next_times, right-none, right-over, right-within, right_of, size, size-reversed, sizes, upto_size}
 use Rattle.overlay.proofs.VerticalLemmas.Flows.{flow, is_upto}
 use Rattle.overlay.proofs.VerticalLemmas.Region.{IsEndAt, bits, column-agree, extent, flow-is, size-among}
-
-pub SameEnds-sym : (one other : Edge) → HaveSameEnds one other → HaveSameEnds other one
-SameEnds-sym one other (inl is) = inl (sym is)
-SameEnds-sym one other (inr is) = inr (sym (ap reversed is))
 
 -- edges with the same ends have the same points
 pub IsOf-turned : (one other : Edge) (point : RationalPoint) → HaveSameEnds one other → IsOf one point → IsOf other point
@@ -93,7 +90,7 @@ added-one one other g [] (i, within, is) distinct each = absurd (omega (arith, w
 added-one one other g (edge ∷ edges) (zero, within, is) distinct each =
     let rest = added-same one other edges
     (λ e (i, inside, at). each e (suc i, omega (arith, inside), at)
-    (λ same. distinct 0 (suc i) e (omega arith) (omega (arith, inside)) (SameEnds-sym (get_or edges i e) edge (subst (λ (a : Edge). HaveSameEnds a edge) (sym at) (subst (λ (b : Edge). HaveSameEnds e b) (sym is) same))))) in
+    (λ same. distinct 0 (suc i) e (omega arith) (omega (arith, inside)) (same-exchanged (get_or edges i e) edge (subst (λ (a : Edge). HaveSameEnds a edge) (sym at) (subst (λ (b : Edge). HaveSameEnds e b) (sym is) same))))) in
     let first = ap (λ (a : Edge). under a one) is in
     let second = ap (λ (a : Edge). under a other) is in
     omega (arith, ints, rest, first, second)

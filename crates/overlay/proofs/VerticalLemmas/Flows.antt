@@ -1,15 +1,14 @@
 -- What edges carry into sets of points, and the points upto a height of a column.
-use Rattle.std.proofs.Common.{Bool, List, [], ◌∷◌, ◌++◌, true, false, cond, ℕ, ℤ, pos, ◌+ℤ◌, ◌-ℤ◌, ◌*ℤ◌, ◌<ℤ◌, ◌≡◌, refl, ap₂, arith}
+use Rattle.std.proofs.Common.{Bool, List, [], ◌∷◌, true, false, cond, ℕ, ℤ, pos, ◌+ℤ◌, ◌-ℤ◌, ◌*ℤ◌, ◌<ℤ◌, ◌≡◌, refl, ap₂, arith}
 use Rattle.std.proofs.lemmas.Int.{ints}
-use Rattle.std.proofs.lemmas.List.Sums.{sum_by-cons}
 use Rattle.std.specs.Bool.{⊤}
 use Rattle.std.specs.Int.Signed.{lt_z}
-use Rattle.std.specs.List.{count_by}
 use Rattle.std.specs.Prelude.{int_le}
 use Rattle.plane.specs.declared.edge.Edge.{Edge}
 use Rattle.plane.specs.declared.point.Point.{Point}
+use Rattle.overlay.specs.Fill.Pieces.{total}
 use Rattle.overlay.specs.Fill.Rules.{count}
-use Rattle.overlay.proofs.SnapLemmas.Windings.{count-pos}
+use Rattle.overlay.proofs.FillLemmas.Balance.{carried}
 use Rattle.overlay.specs.Snap.Windings.{end_of, start_of}
 
 -- ---- ends upto a height y / n of a column x: those of columns before it, and those of it that aren't higher
@@ -40,28 +39,9 @@ upto-at x n y point is = go (lt_z point.x x) (lt_z x point.x) refl refl
     go false true e f = absurd (omega (arith, ints, f, is))
     go false false e f = refl
 
--- what an edge carries into a set of points: 1 where it ends there, less 1 where it starts there
-abbrev pub carried : (Point → Bool) → Edge → ℤ
-carried test edge = count (test (end_of edge)) -ℤ count (test (start_of edge))
-
+-- what edges carry into a set of points
 abbrev pub flow : (Point → Bool) → List Edge → ℤ
-flow test [] = pos 0
-flow test (edge ∷ edges) = carried test edge +ℤ flow test edges
-
-pub flow-append : (test : Point → Bool) (xs ys : List Edge) → flow test (xs ++ ys) ≡ (flow test xs +ℤ flow test ys)
-flow-append test [] ys = omega (arith, ints)
-flow-append test (x ∷ xs) ys = let rest = flow-append test xs ys in omega (arith, ints, rest)
-
--- as many end as start where they carry nothing
-pub flow-counts : (test : Point → Bool) (edges : List Edge) → flow test edges ≡ (pos (count_by (λ edge. test (end_of edge)) edges) -ℤ pos (count_by (λ edge. test (start_of edge)) edges))
-flow-counts test [] = refl
-flow-counts test (edge ∷ edges) =
-    let rest = flow-counts test edges in
-    let ends = sum_by-cons (λ (e : Edge). cond (test (end_of e)) 1 0) edge edges in
-    let starts = sum_by-cons (λ (e : Edge). cond (test (start_of e)) 1 0) edge edges in
-    let one = count-pos (test (end_of edge)) in
-    let other = count-pos (test (start_of edge)) in
-    omega (arith, ints, rest, ends, starts, one, other)
+flow test edges = total (carried test) edges
 
 -- the same edges, told from one to the next
 abbrev pub Every : (Edge → Type 0) → List Edge → Type 0

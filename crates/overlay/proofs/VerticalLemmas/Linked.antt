@@ -16,7 +16,8 @@ use Rattle.overlay.specs.Fill.Filled.{HaveSameEnds}
 use Rattle.overlay.specs.Fill.Rules.{count}
 use Rattle.overlay.specs.Snap.Windings.{edge_between}
 use Rattle.overlay.proofs.SnapLemmas.Along.{point_at}
-use Rattle.overlay.proofs.VerticalLemmas.Flows.{carried, flow}
+use Rattle.overlay.proofs.VerticalLemmas.Flows.{flow}
+use Rattle.overlay.proofs.FillLemmas.Balance.{carried}
 use Rattle.overlay.proofs.VerticalLemmas.Order.{Before, Before-of, Before-upto, EveryEnd, Has, Rises, Upto, Upto-itself, Upto-trans, changed, changed-none, upto_point, upto_point-yes}
 
 -- ---- what stands between two ends
