@@ -17,11 +17,14 @@ pub fn append_outlines<A: Allocator>(
     points: &mut Vec<Point, A>,
     ring_ends: &mut Vec<usize, A>,
 ) -> Result<(), AllocError>
-    requires { (lists : List (List Point)) × (rings.now ≡ flat_map (λ ring. ring) lists) × (ends.now ≡ offsets 0 lists) }
-    ensures ok { (lists : List (List Point)) → rings.now ≡ flat_map (λ ring. ring) lists → ends.now ≡ offsets 0 lists → OnOk result (
+    requires { (lists : List (List Point)) × (rings.now ≡ flat_map (λ ring. ring) lists)
+        × (ends.now ≡ offsets 0 lists) }
+    ensures ok { (lists : List (List Point)) → rings.now ≡ flat_map (λ ring. ring) lists
+        → ends.now ≡ offsets 0 lists → OnOk result (
         (points.new.items ≡ points.old.items ++ flat_map outline lists)
         × (ring_ends.new.items ≡ ring_ends.old.items ++ offsets (length points.old.items) (map outline lists))) }
-    ensures err { OnErr result (Extends points.old.items points.new.items × Extends ring_ends.old.items ring_ends.new.items) }
+    ensures err { OnErr result (Extends points.old.items points.new.items
+        × Extends ring_ends.old.items ring_ends.new.items) }
 {
     let mut start = 0;
     for end in ends {

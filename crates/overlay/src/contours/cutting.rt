@@ -24,10 +24,13 @@ pub fn cut_loop<A: Allocator>(
 ) -> Result<(), AllocError>
     requires walk { IsMarked sorted.now marks.now stack.old.items }
     requires at { IsCorner sorted.now corner }
-    ensures ok { OnOk result ((rings : List (List Point)) × AreAppended rings points.old.items points.new.items ring_ends.old.items ring_ends.new.items
-        × IsPermutation (flat_map ring_edges rings ++ path sorted.now stack.new.items corner) (path sorted.now stack.old.items corner)
+    ensures ok { OnOk result ((rings : List (List Point))
+        × AreAppended rings points.old.items points.new.items ring_ends.old.items ring_ends.new.items
+        × IsPermutation (flat_map ring_edges rings ++ path sorted.now stack.new.items corner)
+        (path sorted.now stack.old.items corner)
         × IsMarked sorted.now marks.now stack.new.items × IsOff stack.new.items corner) }
-    ensures err { OnErr result (Extends points.old.items points.new.items × Extends ring_ends.old.items ring_ends.new.items) }
+    ensures err { OnErr result (Extends points.old.items points.new.items
+        × Extends ring_ends.old.items ring_ends.new.items) }
 {
     let mark = marks[corner];
     if mark < stack.len() && stack[mark] == corner {
@@ -47,7 +50,8 @@ fn append_ring<A: Allocator>(
     requires { All (λ corner. corner < length sorted.now) corners.now }
     ensures ok { OnOk result ((points.new.items ≡ points.old.items ++ map (point_at sorted.now) corners.now)
         × (ring_ends.new.items ≡ ring_ends.old.items ++ (length points.old.items + length corners.now) ∷ [])) }
-    ensures err { OnErr result (Extends points.old.items points.new.items × Extends ring_ends.old.items ring_ends.new.items) }
+    ensures err { OnErr result (Extends points.old.items points.new.items
+        × Extends ring_ends.old.items ring_ends.new.items) }
 {
     for corner in corners {
         points.push(start_of(sorted[*corner]))?;

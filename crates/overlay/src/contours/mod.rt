@@ -94,7 +94,8 @@ fn append_all_outlines<A: Allocator + Copy>(
     ensures ok { OnOk result ((rings : List (List Point)) × AreContours edges.now rings
         × (points.new.items ≡ points.old.items ++ flat_map outline rings)
         × (ring_ends.new.items ≡ ring_ends.old.items ++ offsets (length points.old.items) (map outline rings))) }
-    ensures err { OnErr result (Extends points.old.items points.new.items × Extends ring_ends.old.items ring_ends.new.items) }
+    ensures err { OnErr result (Extends points.old.items points.new.items
+        × Extends ring_ends.old.items ring_ends.new.items) }
 {
     let alloc = *points.allocator();
     let mut rings = Vec::new(alloc);
@@ -113,7 +114,8 @@ fn append_all<A: Allocator + Copy>(
     ensures ok { OnOk result ((rings : List (List Point)) × AreContours edges.now rings
         × (points.new.items ≡ points.old.items ++ flat_map (λ ring. ring) rings)
         × (ring_ends.new.items ≡ ring_ends.old.items ++ offsets (length points.old.items) rings)) }
-    ensures err { OnErr result (Extends points.old.items points.new.items × Extends ring_ends.old.items ring_ends.new.items) }
+    ensures err { OnErr result (Extends points.old.items points.new.items
+        × Extends ring_ends.old.items ring_ends.new.items) }
 {
     let alloc = *points.allocator();
     let sorted = edges_in_order(alloc, edges)?;

@@ -1,6 +1,6 @@
 //! Which of the edges that start at a point turns furthest left.
 
-ghost use Rattle.std.specs.Prelude.{◌≡◌, ◌^◌, ◌<◌, ℤ, pos, neg_ℤ, ◌+ℤ◌, ◌-ℤ◌, ◌*ℤ◌, ◌≤ℤ◌, ◌<ℤ◌, IfSome, MatchBool, MatchOption, length};
+ghost use Rattle.std.specs.Prelude.{◌≡◌, ◌<◌, pos, ◌-ℤ◌, ◌<ℤ◌, IfSome, MatchBool, MatchOption, length};
 ghost use Rattle.plane.specs.Meet.Crosses.{cross};
 ghost use Rattle.overlay.specs.Contours.Order.{AreInOrder, IsFirstFrom};
 ghost use Rattle.overlay.specs.Contours.Turns.{ComesBefore, IsBetter, IsLeft, IsLeftmost, NoneLeaves, dot};
@@ -9,6 +9,7 @@ ghost use Rattle.overlay.specs.Snap.Windings.{start_of, end_of};
 use super::order::{end_of, start_of};
 use plane::edge::Edge;
 use plane::point::Point;
+use plane::ways::product;
 
 /// How far it is from one point to another, along x and along y. A difference of two `i32` takes 33 bits.
 #[derive(Clone, Copy)]
@@ -30,7 +31,8 @@ pub fn leftmost(
     requires order { AreInOrder sorted.now }
     requires first { IsFirstFrom sorted.now at first }
     requires size { length used.now ≡ length sorted.now }
-    ensures { MatchOption result (NoneLeaves sorted.now used.now at) (λ place. IsLeftmost sorted.now used.now back at place) }
+    ensures { MatchOption result (NoneLeaves sorted.now used.now at)
+        (λ place. IsLeftmost sorted.now used.now back at place) }
 {
     let mut best = None;
     let mut place = first;
@@ -111,13 +113,4 @@ pub fn is_ahead(one: Way, other: Way) -> bool
     ensures { let ahead = pos 0 <ℤ dot one.x one.y other.x other.y in MatchBool result ahead (¬ ahead) }
 {
     -product(one.x, other.x) < product(one.y, other.y)
-}
-
-/// The product of two numbers of 64 bits. The bounds say that the difference of two such products fits too.
-fn product(one: i64, other: i64) -> i128
-    ensures value { result ≡ one *ℤ other }
-    ensures above { neg_ℤ (pos (2 ^ 126)) <ℤ result }
-    ensures upto { result ≤ℤ pos (2 ^ 126) }
-{
-    one as i128 * other as i128
 }

@@ -25,9 +25,11 @@ pub fn append_rings<A: Allocator + Copy>(
 ) -> Result<(), AllocError>
     requires closed { IsClosed sorted.now }
     requires order { AreInOrder sorted.now }
-    ensures ok { OnOk result ((rings : List (List Point)) × AreAppended rings points.old.items points.new.items ring_ends.old.items ring_ends.new.items
+    ensures ok { OnOk result ((rings : List (List Point))
+        × AreAppended rings points.old.items points.new.items ring_ends.old.items ring_ends.new.items
         × IsPermutation (flat_map ring_edges rings) sorted.now) }
-    ensures err { OnErr result (Extends points.old.items points.new.items × Extends ring_ends.old.items ring_ends.new.items) }
+    ensures err { OnErr result (Extends points.old.items points.new.items
+        × Extends ring_ends.old.items ring_ends.new.items) }
 {
     let mut used = vec![in alloc; false; sorted.len()]?;
     let mut marks = vec![in alloc; 0; sorted.len()]?;
@@ -50,9 +52,11 @@ fn walk_all<A: Allocator>(
     requires marks_size { length marks.old ≡ length sorted.now }
     requires all { unwalked sorted.now used.old ≡ sorted.now }
     requires begins { stack.old.items ≡ [] }
-    ensures ok { OnOk result ((rings : List (List Point)) × AreAppended rings points.old.items points.new.items ring_ends.old.items ring_ends.new.items
+    ensures ok { OnOk result ((rings : List (List Point))
+        × AreAppended rings points.old.items points.new.items ring_ends.old.items ring_ends.new.items
         × IsPermutation (flat_map ring_edges rings) sorted.now) }
-    ensures err { OnErr result (Extends points.old.items points.new.items × Extends ring_ends.old.items ring_ends.new.items) }
+    ensures err { OnErr result (Extends points.old.items points.new.items
+        × Extends ring_ends.old.items ring_ends.new.items) }
 {
     for first in 0..sorted.len() {
         if used[first] {
@@ -81,14 +85,16 @@ fn walk<A: Allocator>(
     requires marks_size { length marks.old ≡ length sorted.now }
     requires rest { IsClosed (unwalked sorted.now used.old) }
     requires begins { stack.old.items ≡ [] }
-    ensures ok { OnOk result ((rings : List (List Point)) × AreAppended rings points.old.items points.new.items ring_ends.old.items ring_ends.new.items
+    ensures ok { OnOk result ((rings : List (List Point))
+        × AreAppended rings points.old.items points.new.items ring_ends.old.items ring_ends.new.items
         × IsPermutation (flat_map ring_edges rings ++ unwalked sorted.now used.new) (unwalked sorted.now used.old)
         × (stack.new.items ≡ [])) }
     ensures walked { OnOk result (get_or used.new first true ≡ true) }
     ensures keeps { Keeps used.old used.new }
     ensures used_size { length used.new ≡ length used.old }
     ensures marks_size { length marks.new ≡ length marks.old }
-    ensures err { OnErr result (Extends points.old.items points.new.items × Extends ring_ends.old.items ring_ends.new.items) }
+    ensures err { OnErr result (Extends points.old.items points.new.items
+        × Extends ring_ends.old.items ring_ends.new.items) }
 {
     let mut corner = first_from(sorted, start_of(sorted[first]));
     let mut back = start_of(sorted[first]);

@@ -76,7 +76,8 @@ fn begin<C: StatusCollection<ActiveEdge, i64, ()>>(
         × IsLast (λ entry. cmp_active entry.0 beginning ≢ Greater)
         (live_entries beginning.edge.x0 (C.stored status.old)) found
         × (counts ≡ above_or above.now found)) }
-    ensures joins { OnOk result (JoinsAt beginning.edge.x0 (beginning, tt) (C.stored status.old) (C.stored status.new)) }
+    ensures joins { OnOk result (JoinsAt beginning.edge.x0 (beginning, tt) (C.stored status.old)
+        (C.stored status.new)) }
     ensures sorted { OnOk result ((later : ℤ) → beginning.edge.x0 ≤ℤ later
         → NoneCrossAmong (live_entries beginning.edge.x0 (C.stored status.new))
         → IsSortedAt later (live_entries later (C.stored status.new))) }
