@@ -2,9 +2,10 @@
 //!
 //! Which ring comes first, and at which of its points it begins, may change with the code.
 
-ghost use Rattle.std.specs.Prelude.{◌≡◌, IfOk, OnOk};
-ghost use Rattle.overlay.specs.Snap.Windings.{IsClosed, edge_between};
+ghost use Rattle.std.specs.Prelude.{IfOk};
+ghost use Rattle.overlay.specs.Snap.Windings.{IsClosed};
 
+use crate::walks::{edges_of, push_walk};
 use i_tree::Refusal;
 use overlay::contours::{contours, outlines};
 use plane::edge::Edge;
@@ -181,50 +182,6 @@ static ROWS: [Row; 13] = [
     },
 ];
 
-fn point(at: [i32; 2]) -> Point {
-    let [x, y] = at;
-    Point { x, y }
-}
-
-fn edge_between(from: Point, to: Point) -> Edge
-    ensures { result ≡ edge_between from to }
-{
-    Edge {
-        x0: from.x,
-        y0: from.y,
-        x1: to.x,
-        y1: to.y,
-    }
-}
-
-// Appends the edges of the walk, the one back to its first point too.
-fn push_walk(edges: &mut Vec<Edge>, walk: &[[i32; 2]]) -> Result<(), Fail>
-    ensures { OnOk result (IsClosed edges.old.items → IsClosed edges.new.items) }
-{
-    let Some((first, others)) = walk.split_first() else {
-        return Ok(())
-    };
-    let start = point(*first);
-    let mut from = start;
-    for corner in others {
-        let to = point(*corner);
-        edges.push(edge_between(from, to))?;
-        from = to;
-    }
-    edges.push(edge_between(from, start))?;
-    Ok(())
-}
-
-fn edges_of(alloc: Global, row: &Row) -> Result<Vec<Edge>, Fail>
-    ensures { IfOk result (λ edges. IsClosed edges.items) }
-{
-    let mut edges = Vec::new(alloc);
-    for walk in row.walks {
-        push_walk(&mut edges, walk)?;
-    }
-    Ok(edges)
-}
-
 fn points_of(alloc: Global, row: &Row) -> Result<Vec<Point>, Fail> {
     let mut points = Vec::new(alloc);
     for [x, y] in row.points {
@@ -235,7 +192,7 @@ fn points_of(alloc: Global, row: &Row) -> Result<Vec<Point>, Fail> {
 
 // Whether the edges have these rings.
 fn has_rings(alloc: Global, row: &Row) -> Result<bool, Fail> {
-    let edges = edges_of(alloc, row)?;
+    let edges = edges_of(alloc, row.walks)?;
     let mut points = Vec::new(alloc);
     let mut ends = Vec::new(alloc);
     let outcome = contours(&edges, &mut points, &mut ends);
@@ -295,7 +252,7 @@ static STRAIGHT: [Row; 4] = [
 
 // Whether the edges have these rings without the points at which they go straight on.
 fn has_outlines(alloc: Global, row: &Row) -> Result<bool, Fail> {
-    let edges = edges_of(alloc, row)?;
+    let edges = edges_of(alloc, row.walks)?;
     let mut points = Vec::new(alloc);
     let mut ends = Vec::new(alloc);
     let outcome = outlines(&edges, &mut points, &mut ends);

@@ -87,8 +87,8 @@ fn joined(alloc: Global, edges: &[Edge], others: &[Edge]) -> Result<Vec<Edge>, A
     Ok(both)
 }
 
-// The edges of each walk, from each of its points to the next and from the last back to the first.
-fn edges_of(alloc: Global, walks: &[&[[i32; 2]]]) -> Result<Vec<Edge>, AllocError>
+/// The edges of each walk, from each of its points to the next and from the last back to the first.
+pub fn edges_of(alloc: Global, walks: &[&[[i32; 2]]]) -> Result<Vec<Edge>, AllocError>
     ensures { IfOk result (λ edges. IsClosed edges.items) }
 {
     let mut edges = Vec::new(alloc);
@@ -98,8 +98,8 @@ fn edges_of(alloc: Global, walks: &[&[[i32; 2]]]) -> Result<Vec<Edge>, AllocErro
     Ok(edges)
 }
 
-// Appends the edges of a walk.
-fn push_walk(edges: &mut Vec<Edge>, walk: &[[i32; 2]]) -> Result<(), AllocError>
+/// Appends the edges of a walk.
+pub fn push_walk(edges: &mut Vec<Edge>, walk: &[[i32; 2]]) -> Result<(), AllocError>
     requires { IsClosed edges.old.items }
     ensures { OnOk result (IsClosed edges.new.items) }
 {
