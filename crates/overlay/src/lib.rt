@@ -6,5 +6,6 @@
 
 pub mod boundary;
 pub mod contours;
+mod edges;
 pub mod fill;
 pub mod snap;

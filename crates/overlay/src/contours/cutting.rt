@@ -8,7 +8,7 @@ ghost use Rattle.overlay.specs.Contours.Rings.{ring_edges};
 ghost use Rattle.overlay.specs.Contours.Walks.{AreAppended, IsMarked, IsOff, path};
 ghost use Rattle.overlay.specs.Snap.Offsets.{Extends};
 
-use super::order::start_of;
+use crate::edges::start_of;
 use plane::edge::Edge;
 use plane::point::Point;
 use std::alloc::{AllocError, Allocator};

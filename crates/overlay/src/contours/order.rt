@@ -2,7 +2,7 @@
 
 ghost use Rattle.std.specs.Prelude.{◌≡◌, IfOk, IsPermutation, MatchBool};
 ghost use Rattle.overlay.specs.Contours.Order.{AreInOrder, IsBehind, IsFirstFrom, corner_of};
-ghost use Rattle.overlay.specs.Snap.Windings.{start_of, end_of};
+ghost use Rattle.overlay.specs.Snap.Windings.{start_of};
 
 use plane::edge::Edge;
 use plane::point::Point;
@@ -32,26 +32,6 @@ fn corner_of(edge: Edge) -> Corner
     Corner {
         x: edge.x0,
         y: edge.y0,
-    }
-}
-
-/// The point at which the edge starts.
-pub fn start_of(edge: Edge) -> Point
-    ensures { result ≡ start_of edge }
-{
-    Point {
-        x: edge.x0,
-        y: edge.y0,
-    }
-}
-
-/// The point at which the edge ends.
-pub fn end_of(edge: Edge) -> Point
-    ensures { result ≡ end_of edge }
-{
-    Point {
-        x: edge.x1,
-        y: edge.y1,
     }
 }
 

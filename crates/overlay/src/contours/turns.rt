@@ -6,7 +6,7 @@ ghost use Rattle.overlay.specs.Contours.Order.{AreInOrder, IsFirstFrom};
 ghost use Rattle.overlay.specs.Contours.Turns.{ComesBefore, IsBetter, IsLeft, IsLeftmost, NoneLeaves, dot};
 ghost use Rattle.overlay.specs.Snap.Windings.{start_of, end_of};
 
-use super::order::{end_of, start_of};
+use crate::edges::{end_of, start_of};
 use plane::edge::Edge;
 use plane::point::Point;
 use plane::ways::product;

@@ -10,8 +10,9 @@ ghost use Rattle.overlay.specs.Snap.Offsets.{Extends};
 ghost use Rattle.overlay.specs.Snap.Windings.{IsClosed};
 
 use super::cutting::cut_loop;
-use super::order::{end_of, first_from, start_of};
+use super::order::first_from;
 use super::turns::leftmost;
+use crate::edges::{end_of, start_of};
 use plane::edge::Edge;
 use plane::point::Point;
 use std::alloc::{AllocError, Allocator};

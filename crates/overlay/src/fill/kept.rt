@@ -10,11 +10,11 @@ ghost use Rattle.overlay.specs.Fill.Counts.{kept_edge};
 ghost use Rattle.overlay.specs.Fill.Rules.{is_result};
 ghost use Rattle.overlay.specs.Fill.Sweep.{AreFillPieces, Fits, above_or, kept_of, plus};
 ghost use Rattle.overlay.specs.Snap.Offsets.{Extends};
-ghost use Rattle.overlay.specs.Snap.Windings.{reversed};
 
 use super::counts::{Counts, is_result};
 use super::pieces::{Piece, sum};
 use super::rules::{FillRule, Operation};
+use crate::edges::reverse;
 use i_tree::Refusal;
 use i_tree::status::exp::StatusCollection;
 use plane::edge::Edge;
@@ -121,16 +121,4 @@ fn keep<A: Allocator>(
     let bounding = if is_above { edge } else { reverse(edge) };
     out.push(bounding)?;
     Ok(())
-}
-
-// The edge from its end to its start.
-fn reverse(edge: Edge) -> Edge
-    ensures { result ≡ reversed edge }
-{
-    Edge {
-        x0: edge.x1,
-        y0: edge.y1,
-        x1: edge.x0,
-        y1: edge.y0,
-    }
 }

@@ -6,9 +6,10 @@ ghost use Rattle.plane.specs.declared.point.Point.{Point};
 ghost use Rattle.overlay.specs.Snap.Chains.{AreChains};
 ghost use Rattle.overlay.specs.Snap.Offsets.{offsets, between, Extends};
 ghost use Rattle.overlay.specs.Snap.Stops.{AreAt, AreStops, GoesToEnd, point_of};
-ghost use Rattle.overlay.specs.Snap.Windings.{end_of, start_of};
+ghost use Rattle.overlay.specs.Snap.Windings.{start_of};
 
 use super::stops::{Stop, point_of};
+use crate::edges::{end_of, start_of};
 use plane::edge::Edge;
 use plane::point::Point;
 use std::alloc::{AllocError, Allocator};
@@ -86,24 +87,4 @@ fn append_end<A: Allocator>(edge: Edge, points: &mut Vec<Point, A>) -> Result<()
     }
     points.push(end_of(edge))?;
     Ok(())
-}
-
-// The point at which the edge begins.
-fn start_of(edge: Edge) -> Point
-    ensures { result ≡ start_of edge }
-{
-    Point {
-        x: edge.x0,
-        y: edge.y0,
-    }
-}
-
-// The point at which the edge ends.
-fn end_of(edge: Edge) -> Point
-    ensures { result ≡ end_of edge }
-{
-    Point {
-        x: edge.x1,
-        y: edge.y1,
-    }
 }

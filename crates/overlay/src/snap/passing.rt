@@ -3,8 +3,8 @@
 ghost use Rattle.std.specs.Prelude.{◌≡◌, ◌*◌, ℤ, pos, ◌-ℤ◌, ◌≤ℤ◌, ◌<ℤ◌, MatchBool};
 ghost use Rattle.overlay.specs.Snap.Chains.{Passes};
 ghost use Rattle.overlay.specs.Snap.Tests.{CrossesRising, CrossesFalling};
-ghost use Rattle.overlay.specs.Snap.Windings.{reversed};
 
+use crate::edges::reverse;
 use plane::edge::Edge;
 
 /// Whether the edge passes the whole point (x, y): some point of the edge rounds to it, each coordinate to the nearest whole
@@ -17,21 +17,9 @@ pub fn passes(edge: Edge, x: i32, y: i32) -> bool
     ensures { MatchBool result (Passes edge x y) (¬ (Passes edge x y)) }
 {
     if edge.x1 < edge.x0 {
-        return passes_rightwards(turn(edge), x, y);
+        return passes_rightwards(reverse(edge), x, y);
     }
     passes_rightwards(edge, x, y)
-}
-
-/// The edge from its end to its start.
-fn turn(edge: Edge) -> Edge
-    ensures { result ≡ reversed edge }
-{
-    Edge {
-        x0: edge.x1,
-        y0: edge.y1,
-        x1: edge.x0,
-        y1: edge.y0,
-    }
 }
 
 fn passes_rightwards(edge: Edge, x: i32, y: i32) -> bool

@@ -4,8 +4,9 @@ ghost use Rattle.std.specs.Prelude.{◌≡◌, ◌≤◌, ◌++◌, List, IfOk, 
 ghost use Rattle.std.specs.List.{between, flat_map};
 ghost use Rattle.plane.specs.declared.point.Point.{Point};
 ghost use Rattle.overlay.specs.Snap.Offsets.{AreJoined};
-ghost use Rattle.overlay.specs.Snap.Windings.{edge_between, pieces};
+ghost use Rattle.overlay.specs.Snap.Windings.{pieces};
 
+use crate::edges::edge_between;
 use plane::edge::Edge;
 use plane::point::Point;
 use std::alloc::{AllocError, Allocator};
@@ -48,16 +49,4 @@ fn push_pieces<A: Allocator>(chain: &[Point], edges: &mut Vec<Edge, A>) -> Resul
         edges.push(edge_between(pair[0], pair[1]))?;
     }
     Ok(())
-}
-
-// The edge from the one point to the other.
-fn edge_between(from: Point, to: Point) -> Edge
-    ensures { result ≡ edge_between from to }
-{
-    Edge {
-        x0: from.x,
-        y0: from.y,
-        x1: to.x,
-        y1: to.y,
-    }
 }

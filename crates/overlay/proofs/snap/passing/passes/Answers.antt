@@ -7,7 +7,7 @@ pub returns-then-edge : goal.returns-then-edge
 returns-then-edge c =
     let x : FitsSigned w32 c.args.x = search rules in
     let y : FitsSigned w32 c.args.y = search rules in
-    reversed_tested c.args.edge c.turn.result c.args.x c.args.y c.passes_rightwards.result c.turn.ensures (simp to_z-of_z at c.passes_rightwards.ensures)
+    reversed_tested c.args.edge c.reverse.result c.args.x c.args.y c.passes_rightwards.result c.reverse.ensures (simp to_z-of_z at c.passes_rightwards.ensures)
 
 pub returns : goal.returns
 returns c =

@@ -1,0 +1,46 @@
+//! Edges and the points at which they start and end.
+
+ghost use Rattle.std.specs.Prelude.{◌≡◌};
+ghost use Rattle.overlay.specs.Snap.Windings.{edge_between, end_of, reversed, start_of};
+
+use plane::edge::Edge;
+use plane::point::Point;
+
+/// The point at which the edge starts.
+pub fn start_of(edge: Edge) -> Point
+    ensures { result ≡ start_of edge }
+{
+    Point {
+        x: edge.x0,
+        y: edge.y0,
+    }
+}
+
+/// The point at which the edge ends.
+pub fn end_of(edge: Edge) -> Point
+    ensures { result ≡ end_of edge }
+{
+    Point {
+        x: edge.x1,
+        y: edge.y1,
+    }
+}
+
+/// The edge from the one point to the other.
+pub fn edge_between(from: Point, to: Point) -> Edge
+    ensures { result ≡ edge_between from to }
+{
+    Edge {
+        x0: from.x,
+        y0: from.y,
+        x1: to.x,
+        y1: to.y,
+    }
+}
+
+/// The edge from its end to its start.
+pub fn reverse(edge: Edge) -> Edge
+    ensures { result ≡ reversed edge }
+{
+    edge_between(end_of(edge), start_of(edge))
+}
