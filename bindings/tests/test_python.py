@@ -544,7 +544,7 @@ class Locate(unittest.TestCase):
                 library.refuse_after(ctypes.c_size_t(-1))
             break
         self.assertEqual(answer, [0, 1, None])
-        self.assertGreater(requests, 3)
+        self.assertGreater(requests, 2)
 
 
 @contextlib.contextmanager
