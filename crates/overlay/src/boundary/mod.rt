@@ -61,8 +61,11 @@ where
     Ok(())
 }
 
-// The edges of the boundary.
-fn bounding_edges<C, A>(
+/// The edges of the boundary: they are closed, meet only at common ends, and have the result on their left.
+///
+/// It begins with an empty status, and leaves an empty one, in every case. It is refused where memory or the status has no
+/// room.
+pub fn bounding_edges<C, A>(
     alloc: A,
     subject: &[Edge],
     clip: &[Edge],

@@ -19,7 +19,7 @@ use verticals::append_verticals;
 
 mod counts;
 mod kept;
-mod pieces;
+pub mod pieces;
 pub mod rules;
 mod verticals;
 

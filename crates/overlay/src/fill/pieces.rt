@@ -130,7 +130,7 @@ fn weight(edge: Edge) -> i64
 }
 
 /// In which order two edges begin that go rightwards: by x, by y, and of those that begin at one point the flatter one first.
-fn compare_begins(one: Edge, other: Edge) -> Ordering
+pub fn compare_begins(one: Edge, other: Edge) -> Ordering
     ensures { result ≡ cmp_begins one other }
 {
     let across = one.x0.cmp(&other.x0);

@@ -1,0 +1,100 @@
+//! Overlay of polygons, in one call.
+
+ghost use Rattle.std.specs.Prelude.{◌≡◌, ◌↔◌, [], List, OnOk, OnErr, Err};
+ghost use Rattle.plane.specs.declared.point.Point.{Point};
+ghost use Rattle.overlay.specs.declared.fill.rules.Operation.TheVariants.{Union};
+ghost use Rattle.polygons.specs.Overlay.{IsOverlay};
+ghost use Rattle.polygons.specs.Polygons.{AreAppended};
+ghost use Rattle.polygons.specs.Rings.{HasEnds, edges_of};
+
+use crate::fault::OverlayFault;
+use crate::rings::{Polygons, Rings, are_ends};
+use i_tree::Refusal;
+use i_tree::status::exp::StatusCollection;
+use i_tree::status::tree::StatusTree;
+use overlay::fill::{FillRule, Operation};
+use plane::sweep_line::ActiveEdge;
+use std::alloc::Allocator;
+
+/// Appends the polygons of what the operation makes of the inside of the subject and that of the clip.
+///
+/// The winding number of rings around a point, and the rule, say whether the point is inside of them. Any rings are taken:
+/// such as cross, touch or lie along one another or themselves, run either way, and stand there more than once.
+///
+/// The polygons wind once around each point of the result, and not at all around any other, where the point isn't within half
+/// a unit, on both axes, of an edge of the rings given; and around every point where all of these edges run along the axes.
+/// Around no point do they wind more often. Their rings visit no point twice, and have no points on straight lines. With these,
+/// edges of rings meet only at common ends; so a corner may touch the side of a ring.
+///
+/// `Lengths` comes where the ends of subject or clip don't rise or go behind the points, and nothing else is done then.
+/// `Refused` comes for want of memory alone. After any fault `out` is as it was. The memory is that of `out`.
+pub fn overlay<A: Allocator + Copy>(
+    subject: Rings,
+    clip: Rings,
+    rule: FillRule,
+    operation: Operation,
+    out: &mut Polygons<A>,
+) -> Result<(), OverlayFault>
+    ensures ok { OnOk result ((polygons : List (List (List Point)))
+        × IsOverlay rule operation (edges_of subject.entry) (edges_of clip.entry) polygons
+        × AreAppended polygons out.old.points.items out.new.points.items out.old.ring_ends.items out.new.ring_ends.items out.old.polygon_ends.items out.new.polygon_ends.items) }
+    ensures err { OnErr result ((out.new.points.items ≡ out.old.points.items)
+        × (out.new.ring_ends.items ≡ out.old.ring_ends.items) × (out.new.polygon_ends.items ≡ out.old.polygon_ends.items)) }
+    ensures lengths { (result ≡ Err OverlayFault.Lengths)
+        ↔ ¬ (HasEnds subject.entry × HasEnds clip.entry) }
+{
+    let mut status = StatusTree::new(*out.points.allocator(), 0)?;
+    overlay_over(subject, clip, rule, operation, &mut status, out)
+}
+
+/// As `overlay`, over a status of the caller's. `Refused` comes where memory or the status has no room. What the status holds is
+/// removed before and after, in every case.
+pub fn overlay_over<C, A>(
+    subject: Rings,
+    clip: Rings,
+    rule: FillRule,
+    operation: Operation,
+    status: &mut C,
+    out: &mut Polygons<A>,
+) -> Result<(), OverlayFault>
+where
+    C: StatusCollection<ActiveEdge, i64, ()>,
+    A: Allocator + Copy,
+    ensures ok { OnOk result ((polygons : List (List (List Point)))
+        × IsOverlay rule operation (edges_of subject.entry) (edges_of clip.entry) polygons
+        × AreAppended polygons out.old.points.items out.new.points.items out.old.ring_ends.items out.new.ring_ends.items out.old.polygon_ends.items out.new.polygon_ends.items) }
+    ensures err { OnErr result ((out.new.points.items ≡ out.old.points.items)
+        × (out.new.ring_ends.items ≡ out.old.ring_ends.items) × (out.new.polygon_ends.items ≡ out.old.polygon_ends.items)) }
+    ensures lengths { (result ≡ Err OverlayFault.Lengths)
+        ↔ ¬ (HasEnds subject.entry × HasEnds clip.entry) }
+    ensures empty { C.stored status.new ≡ [] }
+{
+    status.clear();
+    if !are_ends(subject) || !are_ends(clip) {
+        return Err(OverlayFault::Lengths);
+    }
+    Err(OverlayFault::Refused(Refusal::OutOfMemory))
+}
+
+/// The polygons of what is inside of the rings by the rule: the union of them with nothing. So rings that cross themselves
+/// become valid polygons.
+///
+/// It is refused as `overlay` is.
+pub fn simplify<A: Allocator + Copy>(
+    rings: Rings,
+    rule: FillRule,
+    out: &mut Polygons<A>,
+) -> Result<(), OverlayFault>
+    ensures ok { OnOk result ((polygons : List (List (List Point)))
+        × IsOverlay rule Union (edges_of rings.entry) [] polygons
+        × AreAppended polygons out.old.points.items out.new.points.items out.old.ring_ends.items out.new.ring_ends.items out.old.polygon_ends.items out.new.polygon_ends.items) }
+    ensures err { OnErr result ((out.new.points.items ≡ out.old.points.items)
+        × (out.new.ring_ends.items ≡ out.old.ring_ends.items) × (out.new.polygon_ends.items ≡ out.old.polygon_ends.items)) }
+    ensures lengths { (result ≡ Err OverlayFault.Lengths) ↔ ¬ (HasEnds rings.entry) }
+{
+    let nothing = Rings {
+        points: &[],
+        ends: &[],
+    };
+    overlay(rings, nothing, rule, Operation::Union, out)
+}

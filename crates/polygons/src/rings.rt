@@ -1,0 +1,105 @@
+//! Rings and polygons, as points and where each ring and each polygon stops.
+
+ghost use Rattle.std.specs.Prelude.{◌≡◌, ◌++◌, ◌≤◌, IfOk, MatchBool, OnOk, length};
+ghost use Rattle.overlay.specs.Contours.Rings.{ring_edges};
+ghost use Rattle.overlay.specs.Snap.Windings.{edge_between};
+ghost use Rattle.polygons.specs.Rings.{HasEnds, edges_of};
+
+use plane::edge::Edge;
+use plane::point::Point;
+use std::alloc::{AllocError, Allocator};
+
+/// Rings: the points of all of them, one ring after another, and where each stops among these. So `ends` are the offsets of
+/// Arrow and GeoArrow without the first, which is 0. Points behind the last end are of no ring.
+///
+/// A ring goes from each of its points to the next one, and from the last to the first. It may end with its first point again,
+/// run either way, cross itself, and have one point or none.
+#[derive(Clone, Copy, Debug)]
+pub struct Rings<'a> {
+    pub points: &'a [Point],
+    pub ends: &'a [usize],
+}
+
+/// Polygons: the points of all rings, where each ring stops among the points, and where each polygon stops among the rings.
+///
+/// The first ring of a polygon is the outer one, which runs counterclockwise. Those behind it are its holes, and run clockwise.
+#[derive(Drop)]
+pub struct Polygons<A: Allocator> {
+    pub points: Vec<Point, A>,
+    pub ring_ends: Vec<usize, A>,
+    pub polygon_ends: Vec<usize, A>,
+}
+
+impl<A: Allocator + Copy> Polygons<A> {
+    ghost use Rattle.std.specs.Prelude.{◌≡◌, []};
+
+    /// No polygons.
+    pub fn new(alloc: A) -> Polygons<A>
+        ensures points { result.points.items ≡ [] }
+        ensures ring_ends { result.ring_ends.items ≡ [] }
+        ensures polygon_ends { result.polygon_ends.items ≡ [] }
+    {
+        Polygons {
+            points: Vec::new(alloc),
+            ring_ends: Vec::new(alloc),
+            polygon_ends: Vec::new(alloc),
+        }
+    }
+}
+
+/// Whether each ring stops where it begins or later, and none behind the points.
+pub fn are_ends(rings: Rings) -> bool
+    ensures { MatchBool result (HasEnds rings.entry) (¬ (HasEnds rings.entry)) }
+{
+    let mut start = 0;
+    for end in rings.ends {
+        if *end < start || rings.points.len() < *end {
+            return false;
+        }
+        start = *end;
+    }
+    true
+}
+
+/// The edges of all rings, ring by ring: from each point to the next, and from the last one to the first.
+///
+/// Memory that is refused is the only error.
+pub fn edges_of<A: Allocator>(alloc: A, rings: Rings) -> Result<Vec<Edge, A>, AllocError>
+    requires { HasEnds rings }
+    ensures { IfOk result (λ edges. edges.items ≡ edges_of rings.entry) }
+{
+    let mut edges = Vec::with_capacity(alloc, rings.points.len())?;
+    let mut start = 0;
+    for end in rings.ends {
+        append_edges(&rings.points[start..*end], &mut edges)?;
+        start = *end;
+    }
+    Ok(edges)
+}
+
+// Appends the edges of the ring.
+fn append_edges<A: Allocator>(ring: &[Point], edges: &mut Vec<Edge, A>) -> Result<(), AllocError>
+    ensures { OnOk result (edges.new.items ≡ edges.old.items ++ ring_edges ring.now) }
+{
+    if ring.is_empty() {
+        return Ok(());
+    }
+    let last = ring[ring.len() - 1];
+    for pair in ring.windows(2) {
+        edges.push(edge_between(pair[0], pair[1]))?;
+    }
+    edges.push(edge_between(last, ring[0]))?;
+    Ok(())
+}
+
+// The edge from the one point to the other.
+fn edge_between(from: Point, to: Point) -> Edge
+    ensures { result ≡ edge_between from to }
+{
+    Edge {
+        x0: from.x,
+        y0: from.y,
+        x1: to.x,
+        y1: to.y,
+    }
+}
