@@ -142,6 +142,84 @@ class Worked(unittest.TestCase):
         self.assertEqual(told(itree.simplify([bow])), [[[(0, 0), (2, 1), (0, 1)]], [[(2, 1), (3, 0), (3, 1)]]])
 
 
+def edges_of(rings):
+    return [edge for ring in rings for edge in zip(ring, [*ring[1:], ring[0]])]
+
+
+def winding(edges, point):
+    """How often the edges of rings go round a point counterclockwise: those that a ray to the right crosses."""
+    total, (x, y) = 0, point
+    for (x0, y0), (x1, y1) in edges:
+        side = (x1 - x0) * (y - y0) - (y1 - y0) * (x - x0)
+        total += (y0 <= y < y1 and side > 0) - (y1 <= y < y0 and side < 0)
+    return total
+
+
+def is_near(edge, point, reach):
+    """Whether some point of the edge is within the reach of the point on both axes."""
+    first, last = 0, 1
+    for start, end, middle in zip(*edge, point):
+        if start == end:
+            if abs(start - middle) > reach:
+                return False
+            continue
+        stops = sorted((middle + side - start) / (end - start) for side in (-reach, reach))
+        first, last = max(first, stops[0]), min(last, stops[1])
+    return first <= last
+
+
+def goes_through(edge, point):
+    """Whether the point lies on the edge, and is none of its ends."""
+    (x0, y0), (x1, y1) = edge
+    on_line = (x1 - x0) * (point[1] - y0) == (y1 - y0) * (point[0] - x0)
+    return on_line and point not in edge and is_near(edge, point, 0)
+
+
+class PlainModel(unittest.TestCase):
+    """Points that no edge is near are told as winding numbers have it."""
+
+    INSIDE = {
+        "evenodd": lambda count: count % 2 == 1,
+        "nonzero": lambda count: count != 0,
+        "positive": lambda count: count > 0,
+        "negative": lambda count: count < 0,
+    }
+    MADE = {
+        "union": lambda one, other: one or other,
+        "intersection": lambda one, other: one and other,
+        "difference": lambda one, other: one and not other,
+        "xor": lambda one, other: one != other,
+    }
+
+    def assert_told(self, seed, coordinate, reach, grid=None):
+        numbers, counts = random.Random(seed), collections.Counter()
+
+        def random_ring():
+            return [(coordinate(numbers), coordinate(numbers)) for _ in range(numbers.randrange(1, 8))]
+
+        for _ in range(600):
+            subject, clip = ([random_ring(), random_ring()] for _ in range(2))
+            rule, operation = numbers.choice(list(self.INSIDE)), numbers.choice(list(self.MADE))
+            polygons = itree.overlay(subject, clip, operation, rule, grid=grid)
+            result = edges_of(ring for polygon in polygons for ring in (polygon.outer, *polygon.holes))
+            both = edges_of(subject), edges_of(clip)
+            for _ in range(30):
+                point = numbers.uniform(-1, 101), numbers.uniform(-1, 101)
+                if not any(is_near(edge, point, reach + 1e-9) for edge in itertools.chain(*both)):
+                    inside = (self.INSIDE[rule](winding(edges, point)) for edges in both)
+                    wanted = self.MADE[operation](*inside)
+                    self.assertEqual(winding(result, point), int(wanted), (subject, clip, rule, operation, point))
+                    counts[wanted] += 1
+        self.assertGreater(min(counts[True], counts[False]), 1000, counts)
+
+    def test_whole_numbers(self):
+        self.assert_told(48, lambda numbers: numbers.randrange(101), 0.5)
+
+    def test_floats(self):
+        self.assert_told(49, lambda numbers: numbers.uniform(0, 100), 1.0, itree.Grid())
+        self.assert_told(50, lambda numbers: numbers.uniform(0, 100), 0.25, itree.Grid((20, 20), 0.25))
+
+
 class Answers(unittest.TestCase):
     def test_is_a_sequence_of_polygons(self):
         polygons = itree.overlay([BIG], [SMALL, square(20, 0, 2)], "xor")
@@ -578,6 +656,8 @@ class Faults(unittest.TestCase):
         for rule in "even-odd", 1, None:
             with self.assertRaisesRegex(ValueError, f"^the rule {rule!r}: one of evenodd, nonzero, .* is wanted$"):
                 itree.simplify([], rule)
+        with self.assertRaisesRegex(TypeError, "^the grid is float; a Grid or None is wanted$"):
+            itree.simplify([], grid=0.5)
 
 
 class Terminal(io.StringIO):
@@ -772,6 +852,28 @@ class Judge(unittest.TestCase):
     def test_coarse_units(self):
         for seed, unit in (45, 1.0), (46, 8.0):
             self.judge(seed, 100, unit)
+
+    def test_rings_on_few_points(self):
+        numbers, counts = random.Random(51), collections.Counter()
+        for _ in range(1500):
+            size = numbers.choice([4, 8, 20])
+
+            def random_ring():
+                if numbers.randrange(3):
+                    return [(numbers.randrange(size), numbers.randrange(size)) for _ in range(numbers.randrange(3, 9))]
+                return square(numbers.randrange(size), numbers.randrange(size), numbers.randrange(1, 5))
+
+            subject, clip = ([random_ring() for _ in range(numbers.randrange(1, 5))] for _ in range(2))
+            operation, rule = numbers.choice(OPERATIONS), numbers.choice(["evenodd", "nonzero", "positive", "negative"])
+            polygons = itree.overlay(subject, clip, operation, rule)
+            self.assertTrue(shapely.geometry.shape(polygons).is_valid, (subject, clip, operation, rule))
+            edges = edges_of(ring for polygon in polygons for ring in (polygon.outer, *polygon.holes))
+            corners = collections.Counter(start for start, _ in edges)
+            counts["at a corner"] += max(corners.values(), default=0) > 1
+            counts["at a side"] += any(goes_through(edge, corner) for edge in edges for corner in corners)
+        said = ", ".join(f"{count} touch {where}" for where, count in sorted(counts.items()))
+        print(f"\nshapely {shapely.__version__}: 1500 answers are valid, of which {said}")
+        self.assertGreater(min(counts.values()), 50)
 
     def test_rings_that_touch(self):
         for subject, clip, operation in (

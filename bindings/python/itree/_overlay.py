@@ -108,6 +108,8 @@ def overlaid(named: Sequence[Tuple[Shapes, str]], operation: str, rule: str, gri
         raise ValueError(f"the operation {operation!r}: one of {', '.join(OPERATIONS)} is wanted")
     if rule not in RULES:
         raise ValueError(f"the rule {rule!r}: one of {', '.join(RULES)} is wanted")
+    if not isinstance(grid, (Grid, type(None))):
+        raise TypeError(f"the grid is {type(grid).__name__}; a Grid or None is wanted")
     held = [_held(given, name, grid) for given, name in named]
     held += [HeldRings(array.array("i"), array.array("Q"))] * (2 - len(held))
     numbers, ring_offsets, polygon_offsets = _answers.polygons_of(held[0], held[1], RULES[rule], OPERATIONS[operation])
