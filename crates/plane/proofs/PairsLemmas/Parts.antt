@@ -11,6 +11,10 @@ use Rattle.plane.specs.declared.pairs.parts.Part.{Part}
 use Rattle.plane.specs.declared.pairs.strips.Strips.{Strips}
 use Rattle.plane.specs.declared.pairs.items.Bounds.{Bounds}
 
+-- the parts at one place, in one strip and of one item are one
+pub same_part : {X : Type 0} (bounds : X → Bounds) (p q s t : ℕ) (one other : X) → p ≡ q → s ≡ t → one ≡ other → part_of p (bounds one) s ≡ part_of q (bounds other) t
+same_part bounds p q s t one other first second third = cc
+
 -- those of the items in front of this place, and of the item there in strips below this one
 abbrev pub IsUpto : ℕ → ℕ → ℕ → ℕ → Type 0
 IsUpto place strip other_place other_strip = (other_place < place) ⊎ ((other_place ≡ place) × (other_strip < strip))
@@ -37,7 +41,7 @@ module _ {X : Type 0} (bounds : X → Bounds) (strips : Strips) (items : List X)
         | inl before ↦ Contains-append_left parts (part ∷ []) (part_of other_place (bounds other) other_strip) (lists.each other_place other_strip other stands' reaches' before)
         | inr (at, in_strip) ↦
             let same : item ≡ other = same_Some item other (sym stands ∙ ap (slice_get items) (sym at) ∙ stands') in
-            subst (Contains (parts ++ part ∷ [])) (made place other_place strip other_strip item other (sym at) (sym in_strip) same) (Contains-push parts part)
+            subst (Contains (parts ++ part ∷ [])) (same_part bounds place other_place strip other_strip item other (sym at) (sym in_strip) same) (Contains-push parts part)
       ];
       of = All-push (λ part. IsPartOf bounds strips items part × Wanted' part.place part.strip) parts part
           (All-weaker (λ part. IsPartOf bounds strips items part × Wanted part.place part.strip) (λ part. IsPartOf bounds strips items part × Wanted' part.place part.strip) (λ part (is, w). (is, forth part.place part.strip w)) parts lists.of)
@@ -48,9 +52,6 @@ module _ {X : Type 0} (bounds : X → Bounds) (strips : Strips) (items : List X)
       where
         part : Part
         part = part_of place (bounds item) strip
-
-        made : (p q s t : ℕ) (one other : X) → p ≡ q → s ≡ t → one ≡ other → part_of p (bounds one) s ≡ part_of q (bounds other) t
-        made p q s t one other first second third = cc
 
   -- Steps of a loop over the strips that the item at a place reaches.
   module _ (place : ℕ) (item : X) (stands : slice_get items place ≡ Some item) (parts : List Part) where
