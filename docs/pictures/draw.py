@@ -6,7 +6,7 @@ usage: draw.py            writes them all
 
 `sweep.svg` shows `sweep.lines`, with the answers that `sweep.replies` has: the process tests run the program over the one
 and compare what it prints with the other. So does `locate.svg` with `locate.lines` and `locate.replies`, and `snap.svg` with
-`snap.lines` and `snap.replies`.
+`snap.lines` and `snap.replies`; and `overlay.svg` shows `overlay.lines`, with the answers of the four operations.
 """
 
 import os
@@ -404,9 +404,44 @@ def fill():
     return picture("Two rings, the winding numbers on both sides of each edge, and the edges kept for their union", 720, 496, parts)
 
 
+# Two shapes, and what the four operations make of them, from lines that the program answers.
+
+
+def in_panel(panel, x, y):
+    """Where a point of a run stands in the panel of this number."""
+    return 32 + 172 * panel + 13 * x, 122 - 13 * y
+
+
+def region(panel, rings, stroke, fill):
+    """What is inside the rings, by the even-odd rule."""
+    ways = "".join("M" + "L".join(f"{x} {y}" for x, y in (in_panel(panel, *point) for point in ring)) + "Z" for ring in rings)
+    return f'<path d="{ways}" fill="{fill}" fill-opacity="0.3" fill-rule="evenodd" stroke="{stroke}" stroke-width="2"/>'
+
+
+def polygons_of(replies):
+    """The rings of each polygon: the outer one, and its holes."""
+    polygons = []
+    for words in replies:
+        if words[0] == "polygon":
+            polygons.append([])
+        polygons[-1].append(pairs_of(words))
+    return polygons
+
+
+def overlay():
+    lines = words_of("overlay.lines")
+    subject, clip = ([pairs_of(words) for words in lines if words[0] == kind] for kind in ("subject", "clip"))
+    parts = [region(0, subject, BLUE, BLUE), region(0, clip, RED, RED)]
+    parts += [text(*in_panel(0, 1, 5), "subject", 12, "start", BLUE), text(*in_panel(0, 7, 2.7), "clip", 12, "start", RED)]
+    for panel, operation in enumerate(("union", "intersection", "difference", "xor"), 1):
+        parts += [region(panel, rings, GREEN, GREEN) for rings in polygons_of(words_of(f"overlay.{operation}"))]
+        parts.append(text(in_panel(panel, 5, 0)[0], 170, operation, 13))
+    return picture("A square with a hole and a rhomb, and their union, intersection, difference and xor", 880, 186, parts)
+
+
 PICTURES = {
     **{"layers": layers, "slots": slots, "descent": descent, "buckets": buckets},
-    **{"sweep": sweep, "locate": locate, "snap": snap, "fill": fill},
+    **{"sweep": sweep, "locate": locate, "snap": snap, "fill": fill, "overlay": overlay},
 }
 
 

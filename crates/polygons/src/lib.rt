@@ -4,8 +4,10 @@
 //! point of the plane.
 #![tactic(auto)]
 
+pub mod areas;
 pub mod call;
 pub mod fault;
+mod grouping;
 pub mod rings;
 
 pub use call::{overlay, overlay_over, simplify};
