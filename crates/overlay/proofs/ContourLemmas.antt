@@ -1,8 +1,11 @@
 -- Lemmas of contours: edges in order, turns, counts of starts and ends, and walks.
+pub mod Bends
 pub mod Callers
 pub mod Counts
 pub mod Order
 pub mod Outlines
 pub mod Rings
+pub mod Straight
 pub mod Turns
 pub mod Walks
+pub mod Ways

@@ -1,5 +1,6 @@
--- Lemmas on the sweep of a fill: what stands in the status, and what is below a piece that begins.
+-- Lemmas on the sweep of a fill: what stands in the status, what is below a piece that begins, and how the edges kept begin.
 pub mod Begun
 pub mod Below
+pub mod First
 pub mod Region
 pub mod Swept

@@ -7,7 +7,7 @@ use Rattle.plane.specs.Meet.Edges.{RationalPoint}
 use Rattle.overlay.specs.declared.fill.rules.FillRule.{FillRule}
 use Rattle.overlay.specs.declared.fill.rules.Operation.{Operation}
 use Rattle.overlay.specs.Contours.Rings.{IsRing, ring_edges}
-use Rattle.overlay.specs.Fill.Filled.{AreNoded}
+use Rattle.overlay.specs.Fill.Filled.{AreDistinct, AreNoded}
 use Rattle.overlay.specs.Fill.Rules.{count, is_result}
 use Rattle.overlay.specs.Snap.Chains.{IsChain}
 use Rattle.overlay.specs.Snap.Near.{IsNear}
@@ -18,10 +18,11 @@ use Rattle.overlay.specs.Snap.Windings.{pieces, winding, IsAlongAxis}
 abbrev pub result_at : FillRule → Operation → List Edge → List Edge → RationalPoint → ℤ
 result_at rule operation subject clip point = count (is_result rule operation (winding subject point) (winding clip point))
 
--- Edges that bound the result, as far as it isn't near the edges given: they meet only at common ends, and wind once around each
--- point of it, and around no others.
+-- Edges that bound the result, as far as it isn't near the edges given: they meet only at common ends, no two have the same ends,
+-- and they wind once around each point of it, and around no others.
 pub record BoundsResult (rule : FillRule) (operation : Operation) (subject clip edges : List Edge) : Type 0 where
   pub noded : AreNoded edges
+  pub distinct : AreDistinct edges
   pub once : (point : RationalPoint) → (winding edges point ≡ pos 0) ⊎ (winding edges point ≡ pos 1)
   pub clear : (point : RationalPoint) → All (λ edge. ¬ (IsNear edge point)) (subject ++ clip) → winding edges point ≡ result_at rule operation subject clip point
   pub exact : (point : RationalPoint) → All IsAlongAxis (subject ++ clip) → winding edges point ≡ result_at rule operation subject clip point

@@ -1,3 +1,4 @@
+pub mod Areas
 pub mod Overlay
 pub mod Polygons
 pub mod Rings

@@ -43,6 +43,9 @@ pub fn overlay<A: Allocator + Copy>(
     ensures lengths { (result ≡ Err OverlayFault.Lengths)
         ↔ ¬ (HasEnds subject.entry × HasEnds clip.entry) }
 {
+    if !are_ends(subject) || !are_ends(clip) {
+        return Err(OverlayFault::Lengths);
+    }
     let mut status = StatusTree::new(*out.points.allocator(), 0)?;
     overlay_over(subject, clip, rule, operation, &mut status, out)
 }

@@ -4,6 +4,7 @@
 //! point of the plane.
 #![tactic(auto)]
 
+pub mod areas;
 pub mod call;
 pub mod fault;
 pub mod rings;

@@ -3,16 +3,17 @@ use Rattle.std.proofs.Common.{◌≡◌, ◌⊎◌, ◌++◌, inl, inr, Bool, tr
 use Rattle.std.specs.List.{All, Contains, flat_map}
 use Rattle.std.proofs.lemmas.Grind.{flat_map-append}
 use Rattle.std.proofs.lemmas.List.Elements.{Contains-append_left, Contains-append_right}
-use Rattle.std.proofs.lemmas.List.Sorted.{Contains-permutation}
+use Rattle.std.proofs.lemmas.List.Sorted.{Contains-permutation, IsPermutation-sym}
 use Rattle.i_tree.proofs.RootLemmas.Joined.{All-front, All-behind}
 use Rattle.plane.specs.declared.edge.Edge.{Edge}
 use Rattle.plane.specs.declared.point.Point.{Point}
 use Rattle.plane.specs.Meet.Edges.{RationalPoint}
+use Rattle.plane.proofs.PairsLemmas.Bags.{AllPairs-permutation}
 use Rattle.overlay.specs.declared.fill.rules.FillRule.{FillRule}
 use Rattle.overlay.specs.declared.fill.rules.Operation.{Operation}
 use Rattle.overlay.specs.Boundary.{AreBroken, BoundsResult, IsBoundary}
 use Rattle.overlay.specs.Contours.Rings.{AreContours, ring_edges}
-use Rattle.overlay.specs.Fill.Filled.{AreNoded, IsFilled}
+use Rattle.overlay.specs.Fill.Filled.{AreNoded, HaveSameEnds, IsFilled}
 use Rattle.overlay.specs.Fill.Rules.{count, is_result}
 use Rattle.overlay.specs.Snap.Near.{IsNear}
 use Rattle.overlay.specs.Snap.Windings.{pieces, winding, IsAlongAxis, IsClosed}
@@ -20,6 +21,7 @@ use Rattle.overlay.proofs.BoundaryLemmas.Broken.{all-chains}
 use Rattle.overlay.proofs.SnapLemmas.Callers.{noded}
 use Rattle.overlay.proofs.SnapLemmas.Sums.{some-clear, some-closed, some-exact}
 use Rattle.overlay.proofs.ContourLemmas.Callers.{winding-contours}
+use Rattle.overlay.proofs.FillLemmas.Kept.{same-exchanged}
 
 module _ (subject clip broken broken_clip : List Edge) (are : AreBroken subject clip broken broken_clip) where
   abbrev all : List Edge
@@ -68,6 +70,7 @@ module _ (subject clip broken broken_clip : List Edge) (are : AreBroken subject 
   pub filled-bounds : (rule : FillRule) (operation : Operation) (edges : List Edge) → IsFilled rule operation broken broken_clip edges → BoundsResult rule operation subject clip edges
   filled-bounds rule operation edges filled = record {
     noded = filled.noded;
+    distinct = filled.distinct;
     once = λ point. subst (λ (z : ℤ). (z ≡ pos 0) ⊎ (z ≡ pos 1)) (sym (filled.winds point)) (none_or_one (is_result rule operation (winding broken point) (winding broken_clip point)));
     clear = λ point far. filled.winds point ∙ ap₂ (λ (a b : ℤ). count (is_result rule operation a b)) (clear-subject point far) (clear-clip point far);
     exact = λ point axial. filled.winds point ∙ ap₂ (λ (a b : ℤ). count (is_result rule operation a b)) (exact-subject point axial) (exact-clip point axial);
@@ -79,6 +82,8 @@ rings-bound rule operation subject clip edges rings bounds are = record {
   each = are.each;
   bounds = record {
     noded = λ one other point first second of of_other. bounds.noded one other point (inside one first) (inside other second) of of_other;
+    distinct = AllPairs-permutation (λ one other. ¬ (HaveSameEnds one other)) (λ one other apart same. apart (same-exchanged other one same)) edges (flat_map ring_edges rings)
+        (IsPermutation-sym (flat_map ring_edges rings) edges are.all) bounds.distinct;
     once = λ point. subst (λ (z : ℤ). (z ≡ pos 0) ⊎ (z ≡ pos 1)) (same point) (bounds.once point);
     clear = λ point far. sym (same point) ∙ bounds.clear point far;
     exact = λ point axial. sym (same point) ∙ bounds.exact point axial;

@@ -40,9 +40,14 @@ module _ (before at after : Point) where
     | inr isnt ↦ absurd (bent-test turned onwards (int_le turned (pos 0)) (int_le (pos 0) turned) (int_lt (pos 0) onwards) refl refl refl isnt is.along is.ahead)
   ]
 
+  pub straight-is : goes_straight before at after ≡ true → IsStraight before at after
+  straight-is is =
+      let found = straight-test turned onwards (int_le turned (pos 0)) (int_le (pos 0) turned) (int_lt (pos 0) onwards) refl refl refl is in
+      record { along = found.0; ahead = found.1 }
+
   straight-false : ¬ (IsStraight before at after) → goes_straight before at after ≡ false
   straight-false none = elim (cases_Bool (goes_straight before at after)) [
-    | inl is_so ↦ (let found = straight-test turned onwards (int_le turned (pos 0)) (int_le (pos 0) turned) (int_lt (pos 0) onwards) refl refl refl is_so in absurd (none (record { along = found.0; ahead = found.1 })))
+    | inl is_so ↦ absurd (none (straight-is is_so))
     | inr isnt ↦ isnt
   ]
 

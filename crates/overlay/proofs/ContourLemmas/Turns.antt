@@ -18,10 +18,10 @@ use Rattle.overlay.proofs.SnapLemmas.Numbers.{n_of, natural}
 
 -- ---- the order of turns is transitive
 
-abbrev across : ℤ → ℤ → ℤ → ℤ → Term
+abbrev pub across : ℤ → ℤ → ℤ → ℤ → Term
 across x y other_x other_y = minus (times (number x) (number other_y)) (times (number y) (number other_x))
 
-abbrev along : ℤ → ℤ → ℤ → ℤ → Term
+abbrev pub along : ℤ → ℤ → ℤ → ℤ → Term
 along x y other_x other_y = plus (times (number x) (number other_x)) (times (number y) (number other_y))
 
 -- of four ways, two by two
@@ -86,7 +86,7 @@ no_turn cvw n cbw z cbv dbw same first second third fourth fifth =
     ∙ ap₂ (λ (x y : ℤ). x -ℤ y) (ap (λ (x : ℤ). x *ℤ z) third) (ap₂ (λ (x y : ℤ). x *ℤ y) b_is k.is)
     )
 
-some_square : (x y : ℤ) → ((x ≡ pos 0) × (y ≡ pos 0) → ⊥) → pos 0 <ℤ dot x y x y
+pub some_square : (x y : ℤ) → ((x ≡ pos 0) × (y ≡ pos 0) → ⊥) → pos 0 <ℤ dot x y x y
 some_square (pos zero) (pos zero) some = absurd (some (refl, refl))
 some_square (pos zero) (pos (suc n)) some = omega (arith, ints)
 some_square (pos zero) (negsuc n) some = omega (arith, ints)

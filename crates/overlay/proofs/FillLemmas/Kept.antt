@@ -26,14 +26,14 @@ pub same-exchanged : (one other : Edge) → HaveSameEnds one other → HaveSameE
 same-exchanged one other (inl same) = inl (sym same)
 same-exchanged one other (inr back) = inr (ap reversed (sym back))
 
-same-trans : (one second third : Edge) → HaveSameEnds one second → HaveSameEnds second third → HaveSameEnds one third
+pub same-trans : (one second third : Edge) → HaveSameEnds one second → HaveSameEnds second third → HaveSameEnds one third
 same-trans one second third (inl same) (inl next) = inl (same ∙ next)
 same-trans one second third (inl same) (inr next) = inr (same ∙ next)
 same-trans one second third (inr back) (inl next) = inr (back ∙ ap reversed next)
 same-trans one second third (inr back) (inr next) = inl (back ∙ ap reversed next)
 
 -- an edge turned rightwards has the ends of the edge
-same-rightwards : (edge : Edge) → HaveSameEnds (rightwards edge) edge
+pub same-rightwards : (edge : Edge) → HaveSameEnds (rightwards edge) edge
 same-rightwards edge = by (lt_z edge.x1 edge.x0) refl
   where
     by : (t : Bool) → lt_z edge.x1 edge.x0 ≡ t → HaveSameEnds (rightwards edge) edge

@@ -40,7 +40,7 @@ rising a b c m n k some_m some_n some_k first second =
     absurd (omega (arith, ints, there, second)))
 
 -- a sum of products by one number
-twofold : (h k m : ℤ) → ((h *ℤ m) +ℤ (k *ℤ m)) ≡ ((h +ℤ k) *ℤ m)
+pub twofold : (h k m : ℤ) → ((h *ℤ m) +ℤ (k *ℤ m)) ≡ ((h +ℤ k) *ℤ m)
 twofold h k m = identity (plus (times (number h) (number m)) (times (number k) (number m))) (times (plus (number h) (number k)) (number m)) (omega arith)
 
 -- twice the height in the middle of the stretch, times the edge's run

@@ -71,7 +71,7 @@ pub record Under (edge : Edge) (point : RationalPoint) : Type 0 where
   pub upto : height_at edge point ≤ℤ (point.y *ℤ run edge)
 
 -- the test tells this, and no other
-under_is : (edge : Edge) (point : RationalPoint) → is_counted edge point ≡ true → Under edge point
+pub under_is : (edge : Edge) (point : RationalPoint) → is_counted edge point ≡ true → Under edge point
 under_is edge point e =
     let one = and_parts (covers edge point) (is_low edge point) e in
     let two = and_parts (int_le (pos point.n *ℤ edge.x0) point.x) (int_lt point.x (pos point.n *ℤ edge.x1)) one.0 in record {
@@ -80,7 +80,7 @@ under_is edge point e =
       upto = le_is (height_at edge point) (point.y *ℤ run edge) one.1;
     }
 
-is_counted-from : (edge : Edge) (point : RationalPoint) → Under edge point → is_counted edge point ≡ true
+pub is_counted-from : (edge : Edge) (point : RationalPoint) → Under edge point → is_counted edge point ≡ true
 is_counted-from edge point under =
     rw (le_true (pos point.n *ℤ edge.x0) point.x under.from, less_true point.x (pos point.n *ℤ edge.x1) under.before, le_true (height_at edge point) (point.y *ℤ run edge) under.upto) refl
 

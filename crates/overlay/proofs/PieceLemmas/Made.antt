@@ -40,7 +40,7 @@ pub record IsTurned (edges : List Edge) (piece : Piece) : Type 0 where
   pub onwards : piece.edge.x0 <ℤ piece.edge.x1
   pub small : IsSmall 1 piece
 
-rightwards-onwards : (edge : Edge) → edge.x0 ≢ edge.x1 → (rightwards edge).x0 <ℤ (rightwards edge).x1
+pub rightwards-onwards : (edge : Edge) → edge.x0 ≢ edge.x1 → (rightwards edge).x0 <ℤ (rightwards edge).x1
 rightwards-onwards edge sloped = by (lt_z edge.x1 edge.x0) refl
   where
     by : (t : Bool) → lt_z edge.x1 edge.x0 ≡ t → (rightwards edge).x0 <ℤ (rightwards edge).x1
@@ -154,8 +154,18 @@ steps-run edge onwards = omega (arith, ints, clamps, onwards)
 abbrev same_edge : Edge → Edge → Bool
 same_edge one other = int_eq one.x0 other.x0 && (int_eq one.y0 other.y0 && (int_eq one.x1 other.x1 && int_eq one.y1 other.y1))
 
+-- of two edges that start at one x and meet only at common ends, the one that begins no later is lower there
+pub begins-lower : (one other : Edge) → MeetOnly one other → one ≢ other → one.x0 <ℤ one.x1 → other.x0 <ℤ other.x1 → one.x0 ≡ other.x0 → BeginsUpto one other → is_lower_on one.x0 one other ≡ true
+begins-lower one other meet apart some some_too level (inl less) = absurd (omega (arith, ints, level, less))
+begins-lower one other meet apart some some_too level (inr (same, inl less)) = start-lower one other meet apart some some_too level (inl less)
+begins-lower one other meet apart some some_too level (inr (same, inr (even, flat))) =
+    start-lower one other meet apart some some_too level (inr (even, slopes (rise one) (rise other) (steps other) (steps one) (run other) (run one) (steps-run other some_too) (steps-run one some) flat))
+  where
+    slopes : (a b m n k l : ℤ) → m ≡ k → n ≡ l → (a *ℤ m) ≤ℤ (b *ℤ n) → (a *ℤ k) ≤ℤ (b *ℤ l)
+    slopes a b m n k l first second upto = subst (λ (z : ℤ). (a *ℤ z) ≤ℤ (b *ℤ l)) first (subst (λ (z : ℤ). (a *ℤ m) ≤ℤ (b *ℤ z)) second upto)
+
 -- edges that meet only at common ends, and begin alike, are one
-alike : (one other : Edge) → MeetOnly one other → one.x0 <ℤ one.x1 → other.x0 <ℤ other.x1 → BeginsUpto one other → BeginsUpto other one → one ≡ other
+pub alike : (one other : Edge) → MeetOnly one other → one.x0 <ℤ one.x1 → other.x0 <ℤ other.x1 → BeginsUpto one other → BeginsUpto other one → one ≡ other
 alike one other meet some some_too (inl less) (inl more) = absurd (omega (arith, ints, less, more))
 alike one other meet some some_too (inl less) (inr (level, rest)) = absurd (omega (arith, ints, less, level))
 alike one other meet some some_too (inr (level, rest)) (inl more) = absurd (omega (arith, ints, level, more))
@@ -164,15 +174,12 @@ alike one other meet some some_too (inr (level, inl less)) (inr (same, inr (even
 alike one other meet some some_too (inr (level, inr (even, rest))) (inr (same, inl more)) = absurd (omega (arith, ints, even, more))
 alike one other meet some some_too (inr (level, inr (even, flat))) (inr (same, inr (as_even, steep))) = by (same_edge one other) refl
   where
-    slopes : (a b m n k l : ℤ) → m ≡ k → n ≡ l → (a *ℤ m) ≤ℤ (b *ℤ n) → (a *ℤ k) ≤ℤ (b *ℤ l)
-    slopes a b m n k l first second upto = subst (λ (z : ℤ). (a *ℤ z) ≤ℤ (b *ℤ l)) first (subst (λ (z : ℤ). (a *ℤ m) ≤ℤ (b *ℤ z)) second upto)
-
     by : (t : Bool) → same_edge one other ≡ t → one ≡ other
     by true e = subst (λ (t : Bool). MatchBool t (one ≡ other) (one ≢ other)) e (edge-is one other)
     by false e =
         let apart : one ≢ other = subst (λ (t : Bool). MatchBool t (one ≡ other) (one ≢ other)) e (edge-is one other) in
-        let lower = start-lower one other meet apart some some_too level (inr (even, slopes (rise one) (rise other) (steps other) (steps one) (run other) (run one) (steps-run other some_too) (steps-run one some) flat)) in
-        let higher = start-lower other one (MeetOnly-exchanged one other meet) (λ is. apart (sym is)) some_too some same (inr (as_even, slopes (rise other) (rise one) (steps one) (steps other) (run one) (run other) (steps-run one some) (steps-run other some_too) steep)) in
+        let lower = begins-lower one other meet apart some some_too level (inr (level, inr (even, flat))) in
+        let higher = begins-lower other one (MeetOnly-exchanged one other meet) (λ is. apart (sym is)) some_too some same (inr (same, inr (as_even, steep))) in
         absurd (never (sym (lower-asym one.x0 one other lower) ∙ subst (λ (x : ℤ). is_lower_on x other one ≡ true) same higher))
       where
         never : false ≡ true → ⊥

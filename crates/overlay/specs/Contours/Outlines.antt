@@ -1,8 +1,13 @@
 -- Rings without the points at which they go straight on.
-use Rattle.std.specs.Prelude.{◌≡◌, ℕ, ◌-◌, ℤ, pos, ◌-ℤ◌, ◌<ℤ◌, Bool, cond, ◌&&◌, int_le, int_lt, List, [], ◌∷◌, get_or, length}
+use Rattle.std.specs.List.{flat_map}
+use Rattle.std.specs.Prelude.{◌≡◌, ℕ, ◌-◌, ℤ, pos, ◌-ℤ◌, ◌<ℤ◌, Bool, cond, ◌&&◌, int_le, int_lt, List, [], ◌∷◌, All, get_or, length}
 use Rattle.plane.specs.Meet.Crosses.{cross}
+use Rattle.plane.specs.Meet.Edges.{RationalPoint}
+use Rattle.plane.specs.declared.edge.Edge.{Edge}
 use Rattle.plane.specs.declared.point.Point.{Point}
+use Rattle.overlay.specs.Contours.Rings.{IsRing, ring_edges}
 use Rattle.overlay.specs.Contours.Turns.{dot}
+use Rattle.overlay.specs.Snap.Windings.{winding}
 
 -- From the first point over the second to the third it goes straight on: along one line, and in one direction.
 pub record IsStraight (before at after : Point) : Type 0 where
@@ -35,3 +40,8 @@ ring_point ring place = get_or ring place (record { x = pos 0; y = pos 0 })
 -- The points of a ring at which it doesn't go straight on.
 abbrev pub outline : List Point → List Point
 outline ring = bends (ring_point ring (length ring - 1)) ring (ring_point ring 0)
+
+-- Rings that wind around each rational point as the edges do.
+pub record AreOutlines (edges : List Edge) (outlines : List (List Point)) : Type 0 where
+  pub each : All IsRing outlines
+  pub winds : (point : RationalPoint) → winding (flat_map ring_edges outlines) point ≡ winding edges point

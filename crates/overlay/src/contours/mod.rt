@@ -4,7 +4,7 @@ ghost use Rattle.std.specs.Prelude.{◌≡◌, ◌++◌, List, OnOk, OnErr, IfEr
 ghost use Rattle.std.specs.List.{flat_map};
 ghost use Rattle.i_tree.specs.declared.Refusal.TheVariants.{OutOfMemory};
 ghost use Rattle.plane.specs.declared.point.Point.{Point};
-ghost use Rattle.overlay.specs.Contours.Outlines.{outline};
+ghost use Rattle.overlay.specs.Contours.Outlines.{AreOutlines, outline};
 ghost use Rattle.overlay.specs.Contours.Rings.{AreContours};
 ghost use Rattle.overlay.specs.Snap.Offsets.{offsets, Extends};
 ghost use Rattle.overlay.specs.Snap.Windings.{IsClosed};
@@ -30,8 +30,8 @@ mod walk;
 /// edges. The edges of a ring go from each of its points to the next one, and from the last one to the first; that of a ring
 /// of one point goes from it to itself. Each edge is that of one ring, and no ring visits a point twice.
 ///
-/// Where several edges start at a point, a ring goes on along the one that turns furthest left. So rings that have their
-/// inside on the left touch, and don't cross.
+/// Where several edges start at a point, a ring goes on along the one that turns furthest left, so that rings which have their
+/// inside on the left touch, and don't cross. This is tried, and no clause says it.
 ///
 /// It is refused for want of memory alone, and leaves `points` and `ring_ends` as they were then. The memory is that of their
 /// allocator.
@@ -59,7 +59,8 @@ pub fn contours<A: Allocator + Copy>(
 }
 
 /// As `contours`, but without the points at which a ring goes straight on: those that lie along one line with the points
-/// before and behind them in the ring, between these.
+/// before and behind them in the ring, between these. What is left of each ring is one, too: it has some points, and visits
+/// none twice. And all of them wind around each point of the plane as the edges do.
 ///
 /// It is refused for want of memory alone, and leaves `points` and `ring_ends` as they were then.
 pub fn outlines<A: Allocator + Copy>(
@@ -70,7 +71,8 @@ pub fn outlines<A: Allocator + Copy>(
     requires { IsClosed edges.now }
     ensures ok { OnOk result ((rings : List (List Point)) × AreContours edges.now rings
         × (points.new.items ≡ points.old.items ++ flat_map outline rings)
-        × (ring_ends.new.items ≡ ring_ends.old.items ++ offsets (length points.old.items) (map outline rings))) }
+        × (ring_ends.new.items ≡ ring_ends.old.items ++ offsets (length points.old.items) (map outline rings))
+        × AreOutlines edges.now (map outline rings)) }
     ensures err { OnErr result ((points.new.items ≡ points.old.items) × (ring_ends.new.items ≡ ring_ends.old.items)) }
     ensures refused { IfErr result (λ cause. cause ≡ OutOfMemory) }
 {
@@ -94,7 +96,8 @@ fn append_all_outlines<A: Allocator + Copy>(
     requires { IsClosed edges.now }
     ensures ok { OnOk result ((rings : List (List Point)) × AreContours edges.now rings
         × (points.new.items ≡ points.old.items ++ flat_map outline rings)
-        × (ring_ends.new.items ≡ ring_ends.old.items ++ offsets (length points.old.items) (map outline rings))) }
+        × (ring_ends.new.items ≡ ring_ends.old.items ++ offsets (length points.old.items) (map outline rings))
+        × AreOutlines edges.now (map outline rings)) }
     ensures err { OnErr result (Extends points.old.items points.new.items
         × Extends ring_ends.old.items ring_ends.new.items) }
 {

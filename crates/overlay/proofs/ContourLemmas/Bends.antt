@@ -1,0 +1,183 @@
+-- An outline winds around each point as its ring does, and is a ring.
+use Rattle.std.proofs.Common.{◌≡◌, ◌≢◌, ◌⊎◌, inl, inr, ℕ, ◌-◌, ℤ, ◌+ℤ◌, List, [], ◌∷◌, ◌++◌, length, map, refl, sym, ap, ap₂, ◌∙◌, subst, arith}
+use Rattle.std.specs.List.{All, AllPairs, flat_map}
+use Rattle.std.proofs.lemmas.Bool.{cond_both}
+use Rattle.std.proofs.lemmas.Int.{ints}
+use Rattle.std.proofs.lemmas.List.Elements.{All-cons, All-head, All-nil, All-tail}
+use Rattle.std.proofs.lemmas.List.Kept.{AllPairs-cons}
+use Rattle.i_tree.proofs.RootLemmas.Lists.{AllPairs-head, AllPairs-tail}
+use Rattle.plane.specs.Meet.Edges.{RationalPoint}
+use Rattle.plane.specs.declared.point.Point.{Point}
+use Rattle.overlay.specs.Contours.Outlines.{IsStraight, bends, goes_straight, next_or, outline, ring_point}
+use Rattle.overlay.specs.Contours.Rings.{IsRing, ring_edges}
+use Rattle.overlay.specs.Snap.Windings.{edge_between, pieces, winding}
+use Rattle.overlay.proofs.ContourLemmas.Outlines.{straight-is}
+use Rattle.overlay.proofs.ContourLemmas.Straight.{straight-further, straight-longer, straight-nowhere, under-nowhere, under-straight}
+use Rattle.overlay.proofs.SnapLemmas.Counted.{added, under}
+use Rattle.overlay.proofs.SnapLemmas.Windings.{winding-added, winding-append}
+
+-- what holds of the bends, whether it goes straight on at their first point or not
+bends-by : (P : List Point → Type 0) (before at : Point) (points : List Point) (behind : Point) → (IsStraight before at (next_or points behind) → P (bends at points behind)) → P (at ∷ bends at points behind)
+    → P (bends before (at ∷ points) behind)
+bends-by P before at points behind skipped kept =
+    cond_both (goes_straight before at (next_or points behind)) (bends at points behind) (at ∷ bends at points behind) P
+    (λ is. skipped (straight-is before at (next_or points behind) is)) (λ bent. kept)
+
+-- ---- from the last point that is kept
+
+-- The last point that is kept is this one, or from it straight over this one it goes to the next.
+abbrev Leads : Point → Point → Point → Type 0
+Leads kept before next = (kept ≡ before) ⊎ IsStraight kept before next
+
+-- the last of the points, or if there is none the one before them
+abbrev last_from : Point → List Point → Point
+last_from from [] = from
+last_from from (point ∷ points) = last_from point points
+
+leads-on : (kept before at next : Point) → Leads kept before at → IsStraight before at next → Leads kept at next
+leads-on kept before at next (inl same) is = inr (subst (λ (p : Point). IsStraight p at next) (sym same) is)
+leads-on kept before at next (inr so_far) is = inr (straight-longer kept before at next so_far is)
+
+-- as far as the last of the points
+leads-last : (kept before : Point) (points : List Point) (behind : Point) → Leads kept before (next_or points behind) → Leads (last_from kept (bends before points behind)) (last_from before points) behind
+leads-last kept before [] behind leads = leads
+leads-last kept before (at ∷ points) behind leads =
+    bends-by (λ rest. Leads (last_from kept rest) (last_from at points) behind) before at points behind
+    (λ straight. leads-last kept at points behind (leads-on kept before at (next_or points behind) leads straight))
+    (leads-last at at points behind (inl refl))
+
+-- where it goes straight on, it does so as far as the next point that is kept
+straight-next : (kept before : Point) (points : List Point) (behind : Point) → IsStraight kept before (next_or points behind) → IsStraight kept before (next_or (bends before points behind) behind)
+straight-next kept before [] behind is = is
+straight-next kept before (at ∷ points) behind is =
+    bends-by (λ rest. IsStraight kept before (next_or rest behind)) before at points behind
+    (λ straight. straight-further kept before at (next_or (bends at points behind) behind) is (straight-next before at points behind straight))
+    is
+
+leads-next : (kept before : Point) (points : List Point) (behind : Point) → Leads kept before (next_or points behind) → Leads kept before (next_or (bends before points behind) behind)
+leads-next kept before points behind (inl same) = inl same
+leads-next kept before points behind (inr is) = inr (straight-next kept before points behind is)
+
+-- ---- what is under a point
+
+module _ (point : RationalPoint) where
+  under-leads : (kept before next : Point) → Leads kept before next → (under (edge_between kept before) point +ℤ under (edge_between before next) point) ≡ under (edge_between kept next) point
+  under-leads kept before next (inl same) =
+      subst (λ (p : Point). (under (edge_between p before) point +ℤ under (edge_between before next) point) ≡ under (edge_between p next) point) (sym same)
+      (let none = under-nowhere before point in omega (arith, ints, none))
+  under-leads kept before next (inr is) = under-straight kept before next is point
+
+  -- the edges over the points count as those over the bends, up to the last point that is kept
+  added-bends : (kept before : Point) (points : List Point) (behind : Point) → Leads kept before (next_or points behind)
+      → (under (edge_between kept before) point +ℤ added (pieces (before ∷ points)) point)
+      ≡ (added (pieces (kept ∷ bends before points behind)) point +ℤ under (edge_between (last_from kept (bends before points behind)) (last_from before points)) point)
+  added-bends kept before [] behind leads = omega (arith, ints)
+  added-bends kept before (at ∷ points) behind leads =
+      let first = under-leads kept before at leads in
+      bends-by (λ rest.
+      (under (edge_between kept before) point +ℤ (under (edge_between before at) point +ℤ added (pieces (at ∷ points)) point))
+      ≡ (added (pieces (kept ∷ rest)) point +ℤ under (edge_between (last_from kept rest) (last_from at points)) point)) before at points behind
+      (λ straight.
+      let rest = added-bends kept at points behind (leads-on kept before at (next_or points behind) leads straight) in
+      omega (arith, ints, first, rest))
+      (let rest = added-bends at at points behind (inl refl) in
+      let none = under-nowhere at point in
+      omega (arith, ints, first, rest, none))
+
+  -- a path that goes on to one more point
+  added-more : (from : Point) (points : List Point) (to : Point) → added (pieces (from ∷ points ++ to ∷ [])) point ≡ (added (pieces (from ∷ points)) point +ℤ under (edge_between (last_from from points) to) point)
+  added-more from [] to = omega (arith, ints)
+  added-more from (next ∷ points) to = let rest = added-more next points to in omega (arith, ints, rest)
+
+  -- the edges of a ring, the last one first
+  winding-ring : (first : Point) (others : List Point) → winding (ring_edges (first ∷ others)) point ≡ (under (edge_between (last_from first others) first) point +ℤ added (pieces (first ∷ others)) point)
+  winding-ring first others =
+      let sum = winding-added (ring_edges (first ∷ others)) point in
+      let last = added-more first others first in
+      omega (arith, ints, sum, last)
+
+-- ---- rings
+
+last-at : (first : Point) (others : List Point) → ring_point (first ∷ others) (length others) ≡ last_from first others
+last-at first [] = refl
+last-at first (next ∷ others) = last-at next others
+
+ring-last : (first : Point) (others : List Point) → ring_point (first ∷ others) (length (first ∷ others) - 1) ≡ last_from first others
+ring-last first others =
+    let before : length (first ∷ others) - 1 ≡ length others = omega arith in
+    ap (λ (place : ℕ). ring_point (first ∷ others) place) before ∙ last-at first others
+
+outline-is : (first : Point) (others : List Point) → outline (first ∷ others) ≡ bends (last_from first others) (first ∷ others) first
+outline-is first others = ap (λ (before : Point). bends before (first ∷ others) first) (ring-last first others)
+
+-- An outline winds around each rational point as its ring does.
+pub winding-outline : (ring : List Point) (point : RationalPoint) → winding (ring_edges (outline ring)) point ≡ winding (ring_edges ring) point
+winding-outline [] point = refl
+winding-outline (first ∷ others) point =
+    ap (λ (kept : List Point). winding (ring_edges kept) point) (outline-is first others)
+    ∙ same all (leads-next (last_from last all) last (first ∷ others) first (leads-last last last (first ∷ others) first (inl refl))) (added-bends point last last (first ∷ others) first (inl refl))
+  where
+    last : Point
+    last = last_from first others
+
+    all : List Point
+    all = bends last (first ∷ others) first
+
+    same : (kept : List Point) → Leads (last_from last kept) last (next_or kept first)
+        → (under (edge_between last last) point +ℤ added (pieces (last ∷ first ∷ others)) point) ≡ (added (pieces (last ∷ kept)) point +ℤ under (edge_between (last_from last kept) last) point)
+        → winding (ring_edges kept) point ≡ winding (ring_edges (first ∷ others)) point
+    same [] leads sum =
+        let whole = winding-ring point first others in
+        let none = under-nowhere last point in
+        omega (arith, ints, sum, whole, none)
+    same (next ∷ kept) leads sum =
+        let whole = winding-ring point first others in
+        let outer = winding-ring point next kept in
+        let none = under-nowhere last point in
+        let over = under-leads point (last_from next kept) last next leads in
+        omega (arith, ints, sum, whole, outer, none, over)
+
+-- some point is kept
+outline-some : (first : Point) (others : List Point) → outline (first ∷ others) ≢ []
+outline-some first others =
+    let last = ring_point (first ∷ others) (length (first ∷ others) - 1) in
+    bends-by (λ kept. kept ≢ []) last first others first
+    (λ straight none. straight-nowhere last first
+    (subst (λ (kept : List Point). IsStraight last first (next_or kept first)) none (straight-next last first others first straight)))
+    (λ none. absurd cc)
+
+-- the points that are kept are some of them
+All-bends : (P : Point → Type 0) (before : Point) (points : List Point) (behind : Point) → All P points → All P (bends before points behind)
+All-bends P before [] behind all = all
+All-bends P before (at ∷ points) behind all =
+    let rest = All-bends P at points behind (All-tail P at points all) in
+    bends-by (All P) before at points behind (λ straight. rest) (All-cons P at (bends at points behind) (All-head P at points all) rest)
+
+AllPairs-bends : (R : Point → Point → Type 0) (before : Point) (points : List Point) (behind : Point) → AllPairs R points → AllPairs R (bends before points behind)
+AllPairs-bends R before [] behind all = all
+AllPairs-bends R before (at ∷ points) behind all =
+    let rest = AllPairs-bends R at points behind (AllPairs-tail R at points all) in
+    bends-by (AllPairs R) before at points behind (λ straight. rest)
+    (AllPairs-cons R at (bends at points behind) (All-bends (R at) at points behind (AllPairs-head R at points all)) rest)
+
+-- An outline of a ring is a ring.
+pub IsRing-outline : (ring : List Point) → IsRing ring → IsRing (outline ring)
+IsRing-outline [] is = absurd (is.some refl)
+IsRing-outline (first ∷ others) is = record {
+  some = outline-some first others;
+  once = AllPairs-bends (λ point later. point ≢ later) (ring_point (first ∷ others) (length (first ∷ others) - 1)) (first ∷ others) first is.once;
+}
+
+-- ---- many rings
+
+pub winding-outlines : (rings : List (List Point)) (point : RationalPoint) → winding (flat_map ring_edges (map outline rings)) point ≡ winding (flat_map ring_edges rings) point
+winding-outlines [] point = refl
+winding-outlines (ring ∷ rings) point =
+    winding-append (ring_edges (outline ring)) (flat_map ring_edges (map outline rings)) point
+    ∙ ap₂ (λ (one other : ℤ). one +ℤ other) (winding-outline ring point) (winding-outlines rings point)
+    ∙ sym (winding-append (ring_edges ring) (flat_map ring_edges rings) point)
+
+pub AreRings-outlines : (rings : List (List Point)) → All IsRing rings → All IsRing (map outline rings)
+AreRings-outlines [] are = All-nil IsRing
+AreRings-outlines (ring ∷ rings) are =
+    All-cons IsRing (outline ring) (map outline rings) (IsRing-outline ring (All-head IsRing ring rings are)) (AreRings-outlines rings (All-tail IsRing ring rings are))

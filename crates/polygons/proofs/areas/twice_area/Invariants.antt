@@ -1,0 +1,13 @@
+use Rattle.std.proofs.Common.{◌≡◌, ◌^◌, ◌*◌, ℕ, length, drop, pos, ◌+ℤ◌, ◌∷◌, get_or}
+use Rattle.plane.specs.Meet.Crosses.{IsWithin}
+use Rattle.plane.specs.declared.point.Point.{Point}
+use Rattle.overlay.specs.Fill.Pieces.{total}
+use Rattle.overlay.specs.Snap.Windings.{pieces}
+use Rattle.polygons.specs.Areas.{swept, twice_area}
+use Rattle.polygons.proofs.areas.twice_area.Given as goal
+
+-- what is summed up, and what the edges left sweep, is twice the area
+abbrev pub invariant-loop-to : goal.invariant-loop-to
+invariant-loop-to l =
+    ((l.sum +ℤ total swept (pieces (l.from ∷ drop l.to-index l.ring))) ≡ twice_area l.ring)
+    × IsWithin (l.to-index * 2 ^ 63) l.sum

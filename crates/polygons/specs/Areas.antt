@@ -1,0 +1,15 @@
+-- Areas of rings.
+use Rattle.std.specs.Prelude.{List, ℤ}
+use Rattle.plane.specs.declared.edge.Edge.{Edge}
+use Rattle.plane.specs.declared.point.Point.{Point}
+use Rattle.plane.specs.Meet.Crosses.{cross}
+use Rattle.overlay.specs.Contours.Rings.{ring_edges}
+use Rattle.overlay.specs.Fill.Pieces.{total}
+
+-- Twice the area between the edge and the origin: above 0 where it turns left around it.
+abbrev pub swept : Edge → ℤ
+swept edge = cross edge.x0 edge.y0 edge.x1 edge.y1
+
+-- Twice the area of a ring, by the shoelace formula: above 0 where it runs counterclockwise.
+abbrev pub twice_area : List Point → ℤ
+twice_area ring = total swept (ring_edges ring)
