@@ -1,1 +1,2 @@
+pub mod GroupingLemmas
 pub mod RingLemmas

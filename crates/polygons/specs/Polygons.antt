@@ -1,5 +1,5 @@
 -- Polygons: an outer ring that runs counterclockwise, and holes that run clockwise.
-use Rattle.std.specs.Prelude.{ℕ, ◌≡◌, ◌++◌, Bool, true, false, ◌&&◌, not, cond, List, [], ◌∷◌, All, Option, Some, None, length}
+use Rattle.std.specs.Prelude.{ℕ, ◌≡◌, ◌≢◌, ◌⊎◌, pos, Contains, ◌++◌, Bool, true, false, ◌&&◌, not, cond, List, [], ◌∷◌, All, Option, Some, None, length}
 use Rattle.std.specs.List.{flat_map}
 use Rattle.std.specs.Int.Signed.{lt_z}
 use Rattle.std.specs.Ordering.{int_eq, is_lt}
@@ -7,8 +7,11 @@ use Rattle.plane.specs.declared.edge.Edge.{Edge}
 use Rattle.plane.specs.declared.point.Point.{Point}
 use Rattle.plane.specs.SweepLine.Heights.{rightwards}
 use Rattle.overlay.specs.Contours.Rings.{ring_edges}
+use Rattle.plane.specs.Meet.Edges.{RationalPoint}
 use Rattle.overlay.specs.Fill.Begins.{cmp_begins}
+use Rattle.overlay.specs.Fill.Filled.{AreDistinct, AreNoded}
 use Rattle.overlay.specs.Snap.Offsets.{offsets}
+use Rattle.overlay.specs.Snap.Windings.{winding}
 
 -- The edge begins before the best one so far: further left, or there and lower, or at one point and flatter.
 abbrev pub begins_before : Edge → Option Edge → Bool
@@ -46,3 +49,11 @@ pub record AreAppended (polygons : List (List (List Point))) (points points' : L
   pub points_are : points' ≡ points ++ flat_map (λ ring. ring) (rings_of polygons)
   pub rings_are : ring_ends' ≡ ring_ends ++ offsets (length points) (rings_of polygons)
   pub polygons_are : polygon_ends' ≡ polygon_ends ++ offsets (length ring_ends) polygons
+
+-- Edges that bound a region of the plane: they meet only at common ends, no two have the same, and they wind once around each
+-- point of it, and around no others. One of them isn't vertical, if there are any.
+pub record BoundsSome (edges : List Edge) : Type 0 where
+  pub noded : AreNoded edges
+  pub distinct : AreDistinct edges
+  pub once : (point : RationalPoint) → (winding edges point ≡ pos 0) ⊎ (winding edges point ≡ pos 1)
+  pub sloped : edges ≢ [] → (edge : Edge) × Contains edges edge × (edge.x0 ≢ edge.x1)

@@ -7,6 +7,7 @@
 pub mod areas;
 pub mod call;
 pub mod fault;
+pub mod grouping;
 pub mod rings;
 
 pub use call::{overlay, overlay_over, simplify};
