@@ -734,7 +734,7 @@ class Command(unittest.TestCase):
         wanted = "Polygon, MultiPolygon, GeometryCollection, Feature or FeatureCollection is wanted"
         for content, said in (
             ({**self.FRAME, "features": features}, ", feature 2, ring 0, row 1: nan; finite numbers are wanted"),
-            (b'{"type":\n "Polygon",}', ", line 2, column 12: Expecting property name enclosed in double quotes"),
+            (b'{"type":\n "Polygon" 7}', ", line 2, column 12: Expecting ',' delimiter"),
             (b"[1]", ": no object; one of GeoJSON is wanted"),
             (b"{}", f": no type of GeoJSON; {wanted}"),
             (b'{"type": "Polygon", "coordinates": [[[1, 2], [3]]]}', ", ring 0, row 1: 1 numbers, 2 are wanted"),
@@ -754,8 +754,8 @@ class Command(unittest.TestCase):
             self.assertEqual(self.ran("simplify", str(name)), (2, "", f"itree: {name}: {said}\n"))
 
     def test_faulty_words(self):
-        of_simplify = ("simplify", *self.files), ("simplify", "--unit", "x", "-")
-        for words in (), ("sum",), ("overlay", self.files[0]), *of_simplify:
+        few_or_many = ("overlay", self.files[0]), ("simplify", *self.files)
+        for words in [(), ("sum",), ("simplify", "--unit", "x", "-"), *few_or_many]:
             status, output, faults = self.called(*words)
             self.assertEqual((status, output), (2, ""))
             self.assertIn("error: ", faults)

@@ -1052,6 +1052,7 @@ unit: float = grid.unit
 polygons: itree.Polygons = itree.overlay([[(0, 0), (9, 9)]], [array.array("i"), memoryview(b"")], "xor", grid=grid)
 polygons = itree.simplify({"type": "Polygon", "coordinates": []}, rule="evenodd")
 polygons = itree.overlay(polygons, [polygons[0], [(1, 2)]], grid=None)
+polygons = itree.simplify([{"type": "Polygon", "coordinates": []}, [[0.5, 1]]], grid=grid)
 outer: List[Tuple[float, float]] = polygons[0].outer + [point for it in polygons[1:] for hole in it.holes for point in hole]
 view = polygons.ring_offsets
 version: str = itree.__version__

@@ -30,9 +30,10 @@ if TYPE_CHECKING:
 
     Numbers = Union[memoryview, array.array[int], array.array[float], _rows._HasBuffer, _rows._HasArray]
     Ring = Union[Iterable[Iterable[SupportsFloat]], Numbers]
-    Shapes = Union[Iterable[Union[Ring, HasGeoInterface]], Mapping[str, Any], HasGeoInterface]
+    Shape = Union[Mapping[str, Any], HasGeoInterface]
+    Shapes = Union[Shape, Iterable[Union[Ring, Shape]]]
 else:
-    HasGeoInterface = Ring = Shapes = object
+    HasGeoInterface = Ring = Shape = Shapes = object
 
 _WANTED = "Polygon, MultiPolygon, GeometryCollection, Feature or FeatureCollection is wanted"
 

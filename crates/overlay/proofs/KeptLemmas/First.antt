@@ -77,7 +77,7 @@ turned-meet edges noded one other first second =
     MeetOnly-exchanged (rightwards other) (rightwards one) (MeetOnly-rightwards other (rightwards one) (MeetOnly-exchanged (rightwards one) other (MeetOnly-rightwards one other meet)))
 
 -- edges that are one when turned have the same ends
-turned-same : (one other : Edge) → rightwards one ≡ rightwards other → HaveSameEnds one other
+pub turned-same : (one other : Edge) → rightwards one ≡ rightwards other → HaveSameEnds one other
 turned-same one other same =
     same-trans one (rightwards one) other (same-exchanged (rightwards one) one (same-rightwards one)) (subst (λ (e : Edge). HaveSameEnds e other) (sym same) (same-rightwards other))
 

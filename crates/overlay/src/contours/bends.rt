@@ -35,8 +35,8 @@ pub fn append_outlines<A: Allocator>(
     Ok(())
 }
 
-// Appends the points of the ring at which it doesn't go straight on.
-fn append_outline<A: Allocator>(
+/// Appends the points of the ring at which it doesn't go straight on. Memory that is refused is the only error.
+pub fn append_outline<A: Allocator>(
     ring: &[Point],
     points: &mut Vec<Point, A>,
 ) -> Result<(), AllocError>

@@ -63,8 +63,8 @@ fn turned_pieces<A: Allocator>(
     Ok(pieces)
 }
 
-// How many edges there are. More than `i64` counts have no room in any memory.
-fn room_for(subject: &[Edge], clip: &[Edge]) -> Result<usize, AllocError>
+/// How many edges there are. More than `i64` counts have no room in any memory.
+pub fn room_for(subject: &[Edge], clip: &[Edge]) -> Result<usize, AllocError>
     ensures { IfOk result (λ all. (all ≡ length subject.now + length clip.now) × (all < 2 ^ 63)) }
 {
     let all = subject.len().saturating_add(clip.len());
@@ -90,15 +90,15 @@ fn append_turned<A: Allocator>(
     Ok(())
 }
 
-// Whether the edge isn't vertical.
-fn is_sloped(edge: Edge) -> bool
+/// Whether the edge isn't vertical.
+pub fn is_sloped(edge: Edge) -> bool
     ensures { MatchBool result (edge.x0 ≢ edge.x1) (edge.x0 ≡ edge.x1) }
 {
     edge.x0 != edge.x1
 }
 
-// The edge alone as a piece.
-fn piece_of(edge: Edge, role: Role) -> Piece
+/// The edge alone as a piece.
+pub fn piece_of(edge: Edge, role: Role) -> Piece
     ensures { result ≡ piece_of role edge }
 {
     let right = turn_rightwards(edge);

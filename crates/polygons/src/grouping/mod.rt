@@ -1,6 +1,6 @@
 //! Rings of closed edges as polygons: which are outer ones, and to which of these each hole belongs.
 
-ghost use Rattle.std.specs.Prelude.{◌≡◌, [], List, All, OnErr, OnOk, map};
+ghost use Rattle.std.specs.Prelude.{◌≡◌, [], List, All, OnErr, OnOk, map, position};
 ghost use Rattle.plane.specs.declared.point.Point.{Point};
 ghost use Rattle.overlay.specs.Contours.Outlines.{outline};
 ghost use Rattle.overlay.specs.Contours.Rings.{AreContours};
@@ -9,11 +9,23 @@ ghost use Rattle.overlay.specs.Snap.Windings.{IsClosed};
 ghost use Rattle.polygons.specs.Polygons.{AreAppended, BoundsSome, IsPolygon, rings_of};
 
 use crate::rings::Polygons;
+use appending::append_placed;
+use directions::directions;
+use homes::homes;
 use i_tree::Refusal;
 use i_tree::status::exp::StatusCollection;
+use order::rings_in_order;
+use overlay::contours::contours;
 use plane::edge::Edge;
 use plane::sweep_line::ActiveEdge;
 use std::alloc::Allocator;
+
+mod appending;
+mod directions;
+mod edges;
+mod homes;
+mod order;
+mod sides;
 
 /// Appends polygons whose rings are those of the edges, without the points at which they go straight on.
 ///
@@ -41,5 +53,23 @@ where
         × Extends out.old.ring_ends.items out.new.ring_ends.items
         × Extends out.old.polygon_ends.items out.new.polygon_ends.items) }
 {
-    Err(Refusal::OutOfMemory)
+    let alloc = *out.points.allocator();
+    let mut points = Vec::new(alloc);
+    let mut ends = Vec::new(alloc);
+    contours(edges, &mut points, &mut ends)?;
+    let are_outer = directions(alloc, &points, &ends)?;
+    let Some(outer) = first_outer(&are_outer) else {
+        return Ok(());
+    };
+    let homes = homes(alloc, status, edges, &points, &ends, &are_outer, outer)?;
+    let order = rings_in_order(alloc, &ends, &are_outer, &homes)?;
+    append_placed(&points, &order, out)?;
+    Ok(())
+}
+
+// The place of the first outer ring.
+fn first_outer(are_outer: &[bool]) -> Option<usize>
+    ensures { result ≡ position (λ is. is) are_outer.now }
+{
+    are_outer.iter().position(|is| *is)
 }

@@ -1,0 +1,100 @@
+//! To which outer ring each ring belongs.
+
+ghost use Rattle.std.specs.Prelude.{◌≡◌, ◌<◌, [], true, IfOk, length};
+ghost use Rattle.overlay.specs.Contours.Rings.{AreContours};
+ghost use Rattle.overlay.specs.Fill.Sweep.{AreFillPieces};
+ghost use Rattle.overlay.specs.Snap.Windings.{IsClosed};
+ghost use Rattle.polygons.specs.Grouping.{AreHomes, AreNumbered, home_of, is_outer, pieces_of};
+ghost use Rattle.polygons.specs.Polygons.{BoundsSome};
+ghost use Rattle.polygons.specs.Rings.{AreEnds, rings_of};
+
+use super::sides::{Side, sides_in_order};
+use i_tree::Refusal;
+use i_tree::status::exp::StatusCollection;
+use plane::edge::Edge;
+use plane::point::Point;
+use plane::sweep_line::{ActiveEdge, insert_beginning};
+use std::alloc::Allocator;
+
+/// For each ring the number of the outer ring of its polygon. Of an outer ring it is nothing: that is its own.
+pub fn homes<C, A>(
+    alloc: A,
+    status: &mut C,
+    edges: &[Edge],
+    points: &[Point],
+    ends: &[usize],
+    are_outer: &[bool],
+    outer: usize,
+) -> Result<Vec<usize, A>, Refusal>
+where
+    C: StatusCollection<ActiveEdge, i64, ()>,
+    A: Allocator + Copy,
+    requires empty { C.stored status.old ≡ [] }
+    requires closed { IsClosed edges.now }
+    requires bounding { BoundsSome edges.now }
+    requires ends { AreEnds 0 ends.now (length points.now) }
+    requires rings { AreContours edges.now (rings_of points.now 0 ends.now) }
+    requires each { length are_outer.now ≡ length ends.now }
+    requires outer { is_outer are_outer.now outer ≡ true }
+    ensures { IfOk result (λ homes. AreHomes are_outer.now homes.items) }
+{
+    let mut homes = vec![in alloc; outer; are_outer.len()]?;
+    if are_outer.iter().all(|is| *is) {
+        return Ok(homes);
+    }
+    let sides = sides_in_order(alloc, edges, points, ends)?;
+    settle(status, &sides, are_outer, &mut homes)?;
+    Ok(homes)
+}
+
+// Finds the homes of holes. A side that runs leftwards has the polygon below it, and so the side just below it is of that
+// polygon too.
+fn settle<C>(
+    status: &mut C,
+    sides: &[Side],
+    are_outer: &[bool],
+    homes: &mut [usize],
+) -> Result<(), Refusal>
+where
+    C: StatusCollection<ActiveEdge, i64, ()>,
+    requires empty { C.stored status.old ≡ [] }
+    requires pieces { AreFillPieces (pieces_of sides.now) }
+    requires numbered { AreNumbered (length are_outer.now) sides.now }
+    requires homes { AreHomes are_outer.now homes.old }
+    ensures { AreHomes are_outer.now homes.new }
+{
+    for (place, side) in sides.iter().enumerate() {
+        let edge = side.piece.edge;
+        let (below, _) = insert_beginning(status, ActiveEdge { edge, place })?;
+        if let Some((active, _)) = below {
+            let other = sides[active.place].ring;
+            settle_one(*side, other, are_outer, homes);
+        }
+    }
+    Ok(())
+}
+
+// Notes the home of a hole by the ring below one of its sides, where this runs leftwards.
+fn settle_one(side: Side, below: usize, are_outer: &[bool], homes: &mut [usize])
+    requires side { side.ring < length are_outer.now }
+    requires below { below < length are_outer.now }
+    requires homes { AreHomes are_outer.now homes.old }
+    ensures { AreHomes are_outer.now homes.new }
+{
+    if are_outer[side.ring] || side.piece.subject > 0 {
+        return;
+    }
+    homes[side.ring] = home_of(are_outer, homes, below);
+}
+
+/// The outer ring of the polygon of this ring.
+pub fn home_of(are_outer: &[bool], homes: &[usize], ring: usize) -> usize
+    requires ring { ring < length are_outer.now }
+    requires homes { AreHomes are_outer.now homes.now }
+    ensures { result ≡ home_of are_outer.now homes.now ring }
+{
+    if are_outer[ring] {
+        return ring;
+    }
+    homes[ring]
+}

@@ -1,0 +1,97 @@
+//! The sides of rings: their edges that aren't vertical, in the order in which they begin.
+
+ghost use Rattle.std.specs.Prelude.{◌≡◌, ◌<◌, ◌^◌, ◌++◌, ◌∷◌, [], ℕ, IfOk, OnOk, length};
+ghost use Rattle.std.specs.List.{flat_map};
+ghost use Rattle.overlay.specs.declared.fill.pieces.Role.TheVariants.{Subject};
+ghost use Rattle.overlay.specs.Contours.Rings.{ring_edges};
+ghost use Rattle.overlay.specs.Fill.Turned.{turned};
+ghost use Rattle.polygons.specs.Grouping.{AreNumbered, AreSides, pieces_of};
+ghost use Rattle.polygons.specs.Rings.{AreEnds, rings_of};
+
+use super::edges::edge_at;
+use overlay::fill::pieces::{Piece, Role, compare_begins, is_sloped, piece_of, room_for};
+use plane::edge::Edge;
+use plane::point::Point;
+use std::alloc::{AllocError, Allocator};
+use std::cmp::Ordering;
+
+/// An edge that isn't vertical, turned rightwards, and the number of its ring.
+#[derive(Clone, Copy, Debug)]
+pub struct Side {
+    pub piece: Piece,
+    pub ring: usize,
+}
+
+/// The sides of all rings, which are those of the edges, in the order in which they begin.
+pub fn sides_in_order<A: Allocator>(
+    alloc: A,
+    edges: &[Edge],
+    points: &[Point],
+    ends: &[usize],
+) -> Result<Vec<Side, A>, AllocError>
+    requires { AreEnds 0 ends.now (length points.now) }
+    ensures sides { IfOk result (λ sides. AreSides (flat_map ring_edges (rings_of points.now 0 ends.now)) (length ends.now) sides.items) }
+    ensures countable { IfOk result (λ _. length edges.now < 2 ^ 63) }
+{
+    let room = room_for(edges, &[])?;
+    let mut sides = all_sides(alloc, room, points, ends)?;
+    sides.sort_unstable_by(|one: &Side, other: &Side| -> Ordering {
+        compare_begins(one.piece.edge, other.piece.edge)
+    });
+    Ok(sides)
+}
+
+// The sides of each ring, ring by ring.
+fn all_sides<A: Allocator>(
+    alloc: A,
+    room: usize,
+    points: &[Point],
+    ends: &[usize],
+) -> Result<Vec<Side, A>, AllocError>
+    requires { AreEnds 0 ends.now (length points.now) }
+    ensures pieces { IfOk result (λ sides. pieces_of sides.items
+        ≡ turned Subject (flat_map ring_edges (rings_of points.now 0 ends.now))) }
+    ensures numbered { IfOk result (λ sides. AreNumbered (length ends.now) sides.items) }
+{
+    let mut sides = Vec::with_capacity(alloc, room)?;
+    let mut start = 0;
+    for (ring, end) in ends.iter().enumerate() {
+        append_sides(&mut sides, &points[start..*end], ring)?;
+        start = *end;
+    }
+    Ok(sides)
+}
+
+// Appends the sides of the ring of this number.
+fn append_sides<A: Allocator>(
+    sides: &mut Vec<Side, A>,
+    points: &[Point],
+    ring: usize,
+) -> Result<(), AllocError>
+    ensures pieces { OnOk result (pieces_of sides.new.items
+        ≡ pieces_of sides.old.items ++ turned Subject (ring_edges points.now)) }
+    ensures numbered { OnOk result ((count : ℕ) → ring < count → AreNumbered count sides.old.items → AreNumbered count sides.new.items) }
+{
+    for place in 0..points.len() {
+        append_side(sides, edge_at(points, place), ring)?;
+    }
+    Ok(())
+}
+
+// Appends the edge as a side, if it isn't vertical.
+fn append_side<A: Allocator>(
+    sides: &mut Vec<Side, A>,
+    edge: Edge,
+    ring: usize,
+) -> Result<(), AllocError>
+    ensures pieces { OnOk result (pieces_of sides.new.items
+        ≡ pieces_of sides.old.items ++ turned Subject (edge ∷ [])) }
+    ensures numbered { OnOk result ((count : ℕ) → ring < count → AreNumbered count sides.old.items → AreNumbered count sides.new.items) }
+{
+    if !is_sloped(edge) {
+        return Ok(());
+    }
+    let piece = piece_of(edge, Role::Subject);
+    sides.push(Side { piece, ring })?;
+    Ok(())
+}
