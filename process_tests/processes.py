@@ -71,6 +71,18 @@ def redirected(redirections, first="", limit=LIMIT):
     return run
 
 
+class Looked(NamedTuple):
+    """Gives standard input as a file; in the place of the output stands what a look at it finds."""
+
+    look: Callable[[bytes], bytes]
+
+    def of(self, left):
+        return left._replace(output=self.look(left.output)) if left.status == 0 else left
+
+    def __call__(self, command, given):
+        return self.of(by_file(command, given))
+
+
 class Case(NamedTuple):
     """A run of the program, and what is to come of it."""
 

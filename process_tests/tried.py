@@ -19,13 +19,14 @@ import meetings
 import documents
 import histories
 import locates
+import overlays
 import small
 import snaps
 import sweeps
 import text
 import worked
 from documents import help_text
-from processes import Beginning, Outcome, by_file
+from processes import Beginning, Looked, Outcome, by_file
 from run import lists, told
 
 # The parts whose cases are tried, and those of which it is enough to try these modes, since others read lines by the same code.
@@ -35,7 +36,7 @@ PARTS = (
 )
 TEXTS = text.empty_texts, text.plain_lines, text.faulty_lines, text.numbers
 # Those of modes that the help in docs/COMMANDS.md may not list yet.
-WHERE_LISTED = {"snap": (snaps.worked,)}
+WHERE_LISTED = {"snap": (snaps.worked,), "overlay OPERATION RULE": (overlays.worked, overlays.faulty)}
 READ = "keytree", "setlist", "seg"
 
 CRATE = os.path.normpath(os.path.join(os.path.dirname(os.path.abspath(__file__)), "..", "crates", "itree"))
@@ -51,7 +52,8 @@ def is_plain(case):
     """Whether the case can be tried."""
     words_are_lines = all(isinstance(word, str) and "\n" not in word for word in case.words)
     is_short = len(case.given) <= LONG and len(case.wanted.output) <= LONG
-    return case.how is by_file and words_are_lines and is_short and not isinstance(case.wanted.output, Beginning)
+    is_file = case.how is by_file or isinstance(case.how, Looked)
+    return is_file and words_are_lines and is_short and not isinstance(case.wanted.output, Beginning)
 
 
 def write_case(folder, name, case):
@@ -94,7 +96,8 @@ def outcomes(cases):
     nothing = "nothing", b""
     came = [ended.get(name, nothing) for name in names]
     said = "" if len(ended) == len(names) else ran.stderr.decode(errors="replace")
-    return [Outcome(status, printed[name], faults) for name, (status, faults) in zip(names, came)], said
+    left = [Outcome(status, printed[name], faults) for name, (status, faults) in zip(names, came)]
+    return [case.how.of(it) if isinstance(case.how, Looked) else it for case, it in zip(cases, left)], said
 
 
 def main():

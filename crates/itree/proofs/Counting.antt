@@ -1,9 +1,11 @@
 -- How the lines of a text are counted, and what they say one after another.
-use Rattle.std.proofs.Common.{◌≡◌, ◌<◌, ◌≤◌, ◌+◌, ℕ, List, [], ◌∷◌, ◌++◌, Option, Some, None, IfSome, Bor, length, refl, sym, ap, ◌∙◌, append_assoc, append-nil, arith}
+use Rattle.std.proofs.Common.{◌≡◌, ◌<◌, ◌≤◌, ◌+◌, ◌⊎◌, inl, inr, ℕ, List, [], ◌∷◌, ◌++◌, Option, Some, None, IfSome, Bor, length, refl, sym, ap, ◌∙◌, append_assoc, append-nil, arith}
 use Rattle.std.proofs.lemmas.List.Elements.{All-nil, All-cons}
 use Rattle.std.specs.List.{All, cons_option}
 use Rattle.std.specs.Option.{option_to_list}
 use Rattle.itree.specs.Grammar.{LineSays, LinesSay, IsFaulty, IsFirstFaulty}
+use Rattle.itree.specs.declared.fault.Fault.{Fault}
+use Rattle.itree.specs.declared.fault.Fault.TheVariants.{Line, Stopped}
 
 -- one option before a list, and the rest after it
 cons_option-append : {X : Type 0} (o : Option X) (xs ys : List X) → cons_option o xs ++ ys ≡ cons_option o (xs ++ ys)
@@ -19,6 +21,11 @@ pub shorter : (rest : Option (Bor (List ℕ))) (left : Bor (List ℕ)) (after : 
     → rest ≡ Some left → IfSome rest (λ text. number + length text.now ≤ total) → IfSome after (λ text. length text.now < length left.now) → IfSome after (λ text. number + 1 + length text.now ≤ total)
 shorter rest left None number total is within less = tt
 shorter rest left (Some text) number total is within less = let here : number + length left.now ≤ total = rw is at within in omega (arith, here, less)
+
+-- a fault that names a line names the one that it may name
+pub named : (fault : Fault) (number other : ℕ) → (fault ≡ Line number) ⊎ (fault ≡ Stopped) → fault ≡ Line other → number ≡ other
+named fault number other (inl is) says = cc
+named fault number other (inr is) says = cc
 
 module _ {Command : Type 0} (SaysCommand : List (List ℕ) → Command → Type 0) where
   -- a line that says something is not faulty

@@ -6,6 +6,7 @@ pub mod Counting
 pub mod Faults
 pub mod Located
 pub mod Meetings
+pub mod Ringed
 pub mod SegmentLines
 pub mod Sorting
 pub mod Splitting

@@ -1,12 +1,12 @@
 -- Which words are not read as numbers, and which say no command.
-use Rattle.std.proofs.Common.{◌≡◌, ◌≢◌, ◌⊎◌, inl, inr, ℕ, suc, ℤ, Bool, true, false, List, [], ◌∷◌, Option, Some, None, length, map, codes, get_or, refl, sym, ap, ◌∙◌, subst, arith, Bor}
+use Rattle.std.proofs.Common.{◌≡◌, ◌≢◌, ◌⊎◌, inl, inr, ℕ, suc, ◌+◌, ℤ, Bool, true, false, List, [], ◌∷◌, Option, Some, None, length, map, codes, get_or, refl, sym, ap, ap₂, ◌∙◌, subst, arith, Bor}
 use Rattle.itree.specs.Grammar.{ReadsAll, Says, LineSays, words_of}
 use Rattle.itree.specs.KeyLines.{SaysNoKeyCommand}
-use Rattle.itree.specs.Modes.{row_of, Names, NamesRange}
+use Rattle.itree.specs.Modes.{row_of, Names, NamesRange, NamesOverlay, Chooses}
 use Rattle.itree.specs.SegLines.{SaysNoSegCommand}
 use Rattle.itree.specs.Texts.{HasFirstFaulty}
 use Rattle.itree.specs.declared.mode.Mode.{Mode}
-use Rattle.itree.specs.declared.mode.Mode.TheVariants.{KeyTree, KeyList, SetTree, SetList, Segments, Sweep, Meetings, Locate, Snap}
+use Rattle.itree.specs.declared.mode.Mode.TheVariants.{KeyTree, KeyList, SetTree, SetList, Segments, Sweep, Meetings, Locate, Snap, Overlay}
 use Rattle.std.proofs.lemmas.Slice.Eq.{bytes_eq-Decides}
 use Rattle.std.specs.Option.{option_eq}
 use Rattle.std.specs.Str.{bytes_eq}
@@ -67,23 +67,35 @@ first_is_segment (Some (sweep_line.Segment segment)) line None name is named say
 first_is_segment (Some (sweep_line.Point point)) line None name is named says = refl
 first_is_segment None line None name is named says = refl
 
--- the arguments that name a mode are its word and its numbers
-pub Names-numbers : (words : List (Bor (List ℕ))) (mode : Mode) → Names words mode → length words ≡ suc (length (row_of mode).numbers)
+-- as many words are chosen, and read as numbers
+Chooses-length : (words : List (Bor (List ℕ))) (choices : List (List ℕ)) (numbers : List ℤ) → Chooses (map (λ word. word.now) words) choices numbers → length words ≡ length choices + length numbers
+Chooses-length words [] numbers read = omega (arith, ReadsAll-length words numbers read)
+Chooses-length [] (choice ∷ choices) numbers read = absurd read
+Chooses-length (word ∷ words) (choice ∷ choices) numbers read = omega (arith, Chooses-length words choices numbers read.1)
+
+-- the arguments that name a mode are its word, its choices and its numbers
+pub Names-numbers : (words : List (Bor (List ℕ))) (mode : Mode) → Names words mode → length words ≡ suc (length (row_of mode).choices + length (row_of mode).numbers)
 Names-numbers [] mode names = absurd names.0
-Names-numbers (word ∷ words) mode names = ap suc (ReadsAll-length words (row_of mode).numbers names.0.1)
+Names-numbers (word ∷ words) mode names = ap suc (Chooses-length words (row_of mode).choices (row_of mode).numbers names.0.1)
 
 -- so they are one word, or three
 pub Names-length : (words : List (Bor (List ℕ))) (mode : Mode) → Names words mode → (length words ≡ 1) ⊎ (length words ≡ 3)
 Names-length words (Segments min max) names = inr (Names-numbers words (Segments min max) names)
+Names-length words (Overlay operation rule) names = inr (Names-numbers words (Overlay operation rule) names)
 Names-length words mode names = inl (Names-numbers words mode names)
 
--- three words that name a mode are `seg` and the ends of its range
+-- three words that name a mode are `seg` and the ends of its range, or `overlay` and what it is chosen by
 pub Names-three : (words : List (Bor (List ℕ))) (mode : Mode) (word : Bor (List ℕ)) → length words ≡ 3 → Names words mode
-    → ((get_or words 0 word).now ≡ codes "seg") × NamesRange (get_or words 1 word).now (get_or words 2 word).now mode
+    → (((get_or words 0 word).now ≡ codes "seg") × NamesRange (get_or words 1 word).now (get_or words 2 word).now mode)
+    ⊎ (((get_or words 0 word).now ≡ codes "overlay") × NamesOverlay (get_or words 1 word).now (get_or words 2 word).now mode)
 Names-three [] mode word three names = absurd (omega (arith, three))
 Names-three (first ∷ []) (Segments min max) word three names = absurd names.0.1
 Names-three (first ∷ second ∷ []) (Segments min max) word three names = absurd names.0.1.1
-Names-three (first ∷ second ∷ third ∷ words) (Segments min max) word three names = (names.0.0, ((names.0.1.0, (names.0.1.1.0, tt)), names.1))
+Names-three (first ∷ second ∷ third ∷ words) (Segments min max) word three names = inl (names.0.0, ((names.0.1.0, (names.0.1.1.0, tt)), names.1))
+Names-three (first ∷ []) (Overlay operation rule) word three names = absurd names.0.1
+Names-three (first ∷ second ∷ []) (Overlay operation rule) word three names = absurd names.0.1.1
+Names-three (first ∷ second ∷ third ∷ words) (Overlay operation rule) word three names =
+    inr (names.0.0, ap₂ (λ (one other : List ℕ). one ∷ other ∷ []) names.0.1.0 names.0.1.1.0)
 Names-three (first ∷ words) mode word three names = absurd (omega (arith, three, Names-numbers (first ∷ words) mode names))
 
 -- words name modes of one kind alone, so the line that is faulty in one of them is in each
@@ -102,6 +114,7 @@ Names-faulty (word ∷ words) Sweep Sweep text number names too faulty = faulty
 Names-faulty (word ∷ words) Meetings Meetings text number names too faulty = faulty
 Names-faulty (word ∷ words) Locate Locate text number names too faulty = faulty
 Names-faulty (word ∷ words) Snap Snap text number names too faulty = faulty
+Names-faulty (word ∷ words) (Overlay operation rule) (Overlay operation' rule') text number names too faulty = faulty
 Names-faulty (word ∷ words) one other text number names too faulty =
     let same : (row_of one).word ≡ (row_of other).word = sym names.0.0 ∙ too.0.0 in
     absurd (omega (arith, ap length same, ap (λ (letters : List ℕ). get_or letters 0 0) same))

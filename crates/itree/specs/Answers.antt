@@ -1,6 +1,6 @@
 -- What the program answers to the commands of each kind.
 use Rattle.std.specs.Prelude.{◌≡◌, ⊤, ℕ, ℤ, List, Option, Some, All, length, slice_get}
-use Rattle.std.specs.List.{AllZip}
+use Rattle.std.specs.List.{AllZip, flat_map}
 use Rattle.std.specs.List.Sorted.{IsSorted}
 use Rattle.std.specs.Ordering.{int_cmp}
 use Rattle.std.specs.declared.cmp.Ordering.{Ordering}
@@ -9,7 +9,8 @@ use Rattle.itree.specs.MeetingsLines.{AreMetLines}
 use Rattle.itree.specs.KeyLines.{KeyLine}
 use Rattle.itree_lib.specs.Run.KeyMachine as keys
 use Rattle.itree.specs.LocateLines.{IsLineBelow, edges_of, points_of as points_among}
-use Rattle.itree.specs.Replies.{key_reply_words, seg_reply_words, set_reply_words, height_words, met_words, edge_words, chain_words, reply_lines}
+use Rattle.itree.specs.Replies.{key_reply_words, seg_reply_words, set_reply_words, height_words, met_words, edge_words, chain_words, polygon_lines, reply_lines}
+use Rattle.itree.specs.RingLines.{RingLine, subject_of, clip_of}
 use Rattle.itree.specs.SegLines.{SegLine}
 use Rattle.itree_lib.specs.Run.SegMachine as segments
 use Rattle.itree_lib.specs.Run.SegMachine.{Reply as seg_reply}
@@ -22,7 +23,11 @@ use Rattle.itree.specs.declared.lines.sweep.SweepLine.{SweepLine}
 use Rattle.plane.specs.SweepLine.Crossings.{NoneCross}
 use Rattle.plane.specs.declared.edge.Edge.{Edge}
 use Rattle.plane.specs.declared.point.Point.{Point}
+use Rattle.overlay.specs.Contours.Rings.{ring_edges}
 use Rattle.overlay.specs.Snap.Chains.{AreChains}
+use Rattle.overlay.specs.declared.fill.rules.FillRule.{FillRule}
+use Rattle.overlay.specs.declared.fill.rules.Operation.{Operation}
+use Rattle.polygons.specs.Overlay.{IsOverlay}
 use Rattle.itree_lib.specs.declared.run.keys.KeyReply.{KeyReply}
 use Rattle.itree_lib.specs.declared.run.sets.SetReply.{SetReply}
 use Rattle.itree.specs.declared.set_key.SetKey.{SetKey}
@@ -106,3 +111,10 @@ pub record AnswersSnap (edges : List Edge) (output : List ℕ) : Type 0 where
   pub chains : List (List Point)
   pub are : AreChains edges chains
   pub written : output ≡ reply_lines chain_words chains
+
+-- the polygons are what the operation makes of the inside of the subject and that of the clip, whose rings are said, and the output
+-- is their lines
+pub record AnswersOverlay (operation : Operation) (rule : FillRule) (said : List RingLine) (output : List ℕ) : Type 0 where
+  pub polygons : List (List (List Point))
+  pub are : IsOverlay rule operation (flat_map ring_edges (subject_of said)) (flat_map ring_edges (clip_of said)) polygons
+  pub written : output ≡ flat_map polygon_lines polygons

@@ -6,6 +6,7 @@ pub mod LocateLines
 pub mod MeetingsLines
 pub mod Modes
 pub mod Replies
+pub mod RingLines
 pub mod SegLines
 pub mod SetLines
 pub mod Sorting

@@ -2,11 +2,12 @@
 use Rattle.std.specs.Prelude.{◌≡◌, ◌⊎◌, ⊤, ℕ, ℤ, List, [], ◌∷◌, map, codes}
 use Rattle.std.specs.Borrow.{Bor}
 use Rattle.i_tree.specs.Seg.Buckets.{HasLayout}
-use Rattle.itree.specs.Answers.{AnswersKeys, AnswersSet, AnswersRange, AnswersSweep, AnswersMeetings, AnswersLocate, AnswersSnap}
+use Rattle.itree.specs.Answers.{AnswersKeys, AnswersSet, AnswersRange, AnswersSweep, AnswersMeetings, AnswersLocate, AnswersSnap, AnswersOverlay}
 use Rattle.itree.specs.MeetingsLines.{SaysEdge}
-use Rattle.itree.specs.Grammar.{ReadsAll, Says}
+use Rattle.itree.specs.Grammar.{ReadsAll}
 use Rattle.itree.specs.KeyLines.{KeyLine, SaysKeyCommand}
 use Rattle.itree.specs.LocateLines.{SaysLocateLine, AreCrossingLines}
+use Rattle.itree.specs.RingLines.{RingLine, SaysRing}
 use Rattle.itree.specs.SegLines.{SegLine, SaysSegCommand}
 use Rattle.itree.specs.SetLines.{SetLine, SaysSetCommand}
 use Rattle.itree.specs.SweepLines.{SaysSweepLine, IsOverlapLine}
@@ -14,13 +15,18 @@ use Rattle.itree.specs.declared.lines.locate.LocateLine.{LocateLine}
 use Rattle.itree.specs.declared.lines.sweep.SweepLine.{SweepLine}
 use Rattle.plane.specs.declared.edge.Edge.{Edge}
 use Rattle.itree.specs.declared.mode.Mode.{Mode}
-use Rattle.itree.specs.declared.mode.Mode.TheVariants.{KeyTree, KeyList, SetTree, SetList, Segments, Sweep, Meetings, Locate, Snap}
+use Rattle.itree.specs.declared.mode.Mode.TheVariants.{KeyTree, KeyList, SetTree, SetList, Segments, Sweep, Meetings, Locate, Snap, Overlay}
+use Rattle.overlay.specs.declared.fill.rules.FillRule.{FillRule}
+use Rattle.overlay.specs.declared.fill.rules.FillRule.TheVariants.{EvenOdd, NonZero, Positive, Negative}
+use Rattle.overlay.specs.declared.fill.rules.Operation.{Operation}
+use Rattle.overlay.specs.declared.fill.rules.Operation.TheVariants.{Union, Intersection, Difference, Xor}
 
--- A mode: the word that names it and the numbers behind the word, which are to fit; which words of a line say which command;
--- which output answers lines and the commands that they say; and which line of a text, and which two, tell a fault beside a
--- faulty one.
+-- A mode: the word that names it, the words behind it that choose, and the numbers behind these, which are to fit; which words of a
+-- line say which command; which output answers lines and the commands that they say; and which line of a text, and which two, tell
+-- a fault beside a faulty one.
 pub record Row : Type 1 where
   pub word : List ℕ
+  pub choices : List (List ℕ)
   pub numbers : List ℤ
   pub Fits : Type 0
   pub Command : Type 0
@@ -33,6 +39,7 @@ pub record Row : Type 1 where
 abbrev pub keys_row : List ℕ → Row
 keys_row word = record {
   word = word;
+  choices = [];
   numbers = [];
   Fits = ⊤;
   Command = KeyLine;
@@ -46,6 +53,7 @@ keys_row word = record {
 abbrev pub set_row : List ℕ → Row
 set_row word = record {
   word = word;
+  choices = [];
   numbers = [];
   Fits = ⊤;
   Command = SetLine;
@@ -59,6 +67,7 @@ set_row word = record {
 abbrev pub segments_row : ℤ → ℤ → Row
 segments_row min max = record {
   word = codes "seg";
+  choices = [];
   numbers = min ∷ max ∷ [];
   Fits = HasLayout 31 min max;
   Command = SegLine;
@@ -72,6 +81,7 @@ segments_row min max = record {
 abbrev pub sweep_row : Row
 sweep_row = record {
   word = codes "sweep";
+  choices = [];
   numbers = [];
   Fits = ⊤;
   Command = SweepLine;
@@ -85,6 +95,7 @@ sweep_row = record {
 abbrev pub meetings_row : Row
 meetings_row = record {
   word = codes "meetings";
+  choices = [];
   numbers = [];
   Fits = ⊤;
   Command = Edge;
@@ -98,6 +109,7 @@ meetings_row = record {
 abbrev pub locate_row : Row
 locate_row = record {
   word = codes "locate";
+  choices = [];
   numbers = [];
   Fits = ⊤;
   Command = LocateLine;
@@ -111,11 +123,40 @@ locate_row = record {
 abbrev pub snap_row : Row
 snap_row = record {
   word = codes "snap";
+  choices = [];
   numbers = [];
   Fits = ⊤;
   Command = Edge;
   SaysCommand = SaysEdge;
   AnswersAll = λ lines. AnswersSnap;
+  IsOverlap = λ lines number. ⊥;
+  AreCrossing = λ lines first second. ⊥;
+}
+
+-- the word of an operation
+abbrev pub operation_word : Operation → List ℕ
+operation_word Union = codes "union"
+operation_word Intersection = codes "intersection"
+operation_word Difference = codes "difference"
+operation_word Xor = codes "xor"
+
+-- the word of a fill rule
+abbrev pub rule_word : FillRule → List ℕ
+rule_word EvenOdd = codes "evenodd"
+rule_word NonZero = codes "nonzero"
+rule_word Positive = codes "positive"
+rule_word Negative = codes "negative"
+
+-- the rings of a subject and of a clip, and the polygons of what the operation makes of them
+abbrev pub overlay_row : Operation → FillRule → Row
+overlay_row operation rule = record {
+  word = codes "overlay";
+  choices = operation_word operation ∷ rule_word rule ∷ [];
+  numbers = [];
+  Fits = ⊤;
+  Command = RingLine;
+  SaysCommand = SaysRing;
+  AnswersAll = λ lines. AnswersOverlay operation rule;
   IsOverlap = λ lines number. ⊥;
   AreCrossing = λ lines first second. ⊥;
 }
@@ -131,6 +172,7 @@ row_of Sweep = sweep_row
 row_of Meetings = meetings_row
 row_of Locate = locate_row
 row_of Snap = snap_row
+row_of (Overlay operation rule) = overlay_row operation rule
 
 -- the numbers of the mode fit: those of segments are the ends of a range that has a layout
 abbrev pub FitsItsNumbers : Mode → Type 0
@@ -140,9 +182,24 @@ FitsItsNumbers mode = (row_of mode).Fits
 abbrev pub NamesRange : List ℕ → List ℕ → Mode → Type 0
 NamesRange low high mode = ReadsAll (low ∷ high ∷ []) (row_of mode).numbers × (row_of mode).Fits
 
--- the arguments are the word of the mode and its numbers, which fit
+-- the two words are those that the mode is chosen by
+abbrev pub NamesOverlay : List ℕ → List ℕ → Mode → Type 0
+NamesOverlay operation rule mode = (operation ∷ rule ∷ []) ≡ (row_of mode).choices
+
+-- the words are these choices, and behind them such as are read as the numbers
+abbrev pub Chooses : List (List ℕ) → List (List ℕ) → List ℤ → Type 0
+Chooses words [] numbers = ReadsAll words numbers
+Chooses [] (choice ∷ choices) numbers = ⊥
+Chooses (word ∷ words) (choice ∷ choices) numbers = (word ≡ choice) × Chooses words choices numbers
+
+-- the arguments are the word of the row, its choices and its numbers
+abbrev pub SaysRow : List (List ℕ) → Row → Type 0
+SaysRow [] row = ⊥
+SaysRow (word ∷ words) row = (word ≡ row.word) × Chooses words row.choices row.numbers
+
+-- the arguments are those of the mode, and its numbers fit
 abbrev pub NamedBy : Mode → List (List ℕ) → Type 0
-NamedBy mode words = Says words (row_of mode).word (row_of mode).numbers × (row_of mode).Fits
+NamedBy mode words = SaysRow words (row_of mode) × (row_of mode).Fits
 
 -- the arguments name the mode
 abbrev pub Names : List (Bor (List ℕ)) → Mode → Type 0

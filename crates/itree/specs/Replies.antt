@@ -1,5 +1,5 @@
 -- The text of replies.
-use Rattle.std.specs.Prelude.{ℕ, ℤ, List, [], ◌∷◌, ◌++◌, Option, Some, None, codes, flat_map}
+use Rattle.std.specs.Prelude.{ℕ, ℤ, Bool, true, false, List, [], ◌∷◌, ◌++◌, Option, Some, None, codes, flat_map}
 use Rattle.std.specs.Fmt.{decimal, signed_decimal}
 use Rattle.itree_lib.specs.Run.SegMachine.{Reply}
 use Rattle.itree_lib.specs.Run.SegMachine.{Reply as seg_reply}
@@ -57,11 +57,25 @@ abbrev pub edge_words : Option ℕ → List ℕ
 edge_words (Some number) = codes "edge " ++ decimal number
 edge_words None = codes "none"
 
--- the words of the reply to an edge that is snapped: the points of its chain, each by its x and its y
+-- a name, and points behind it, each by its x and its y
+abbrev pub point_words : List ℕ → List Point → List ℕ
+point_words name points =
+    name ++ flat_map (λ point. codes " " ++ (signed_decimal point.x ++ (codes " " ++ signed_decimal point.y))) points
+
+-- the words of the reply to an edge that is snapped: the points of its chain
 abbrev pub chain_words : List Point → List ℕ
-chain_words chain =
-    codes "chain" ++ flat_map (λ point. codes " " ++ (signed_decimal point.x ++ (codes " " ++ signed_decimal point.y))) chain
+chain_words chain = point_words (codes "chain") chain
 
 -- the lines of the replies, each of which ends with a line feed
 abbrev pub reply_lines : {Reply : Type 0} → (Reply → List ℕ) → List Reply → List ℕ
 reply_lines words replies = flat_map (λ reply. words reply ++ 10 ∷ []) replies
+
+-- the line of a ring, which is the outer one of its polygon, or a hole
+abbrev pub ring_line : Bool → List Point → List ℕ
+ring_line true ring = point_words (codes "polygon") ring ++ 10 ∷ []
+ring_line false ring = point_words (codes "hole") ring ++ 10 ∷ []
+
+-- the lines of a polygon: its outer ring, and behind it its holes
+abbrev pub polygon_lines : List (List Point) → List ℕ
+polygon_lines [] = []
+polygon_lines (outer ∷ holes) = ring_line true outer ++ flat_map (ring_line false) holes

@@ -10,7 +10,7 @@ ghost use Rattle.itree.specs.Texts.{Answers, HasFirstFaulty, HasOverlapLine, Has
 ghost use Rattle.itree_lib.specs.Run.SegMachine.{reply_of};
 
 use crate::fault::Fault;
-use crate::lines::{KeyLine, SegLine, SetLine, parse_commands, reply_text};
+use crate::lines::{KeyLine, SegLine, SetLine, parse_commands, parse_rings, reply_text};
 use crate::mode::Mode;
 use crate::set_key::SetKey;
 use crate::timed_key::TimedKey;
@@ -27,6 +27,7 @@ use i_tree::status::tree::StatusTree;
 use itree_lib::run::{SegReply, run_keys, run_segments, run_sets};
 use locate::answer_locate;
 use meetings::answer_meetings;
+use rings::answer_rings;
 use snap::answer_snap;
 use std::alloc::Allocator;
 use std::cmp::Ordering;
@@ -34,6 +35,7 @@ use sweep::answer_sweep;
 
 mod locate;
 mod meetings;
+mod rings;
 mod snap;
 mod sweep;
 
@@ -101,6 +103,10 @@ pub fn answer_text<A: Allocator + Copy>(
         Mode::Snap => {
             let edges = parse_commands(alloc, text)?;
             answer_snap(alloc, &edges)
+        }
+        Mode::Overlay { operation, rule } => {
+            let said = parse_rings(alloc, text)?;
+            answer_rings(alloc, operation, rule, &said)
         }
     }
 }

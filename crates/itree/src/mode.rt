@@ -1,11 +1,14 @@
 //! The modes of the program.
 
-ghost use Rattle.std.specs.Prelude.{◌↔◌, IfSome, IsNone, IsTrue};
+ghost use Rattle.std.specs.Prelude.{◌≡◌, ◌≢◌, ◌↔◌, IfSome, IsNone, IsTrue};
 ghost use Rattle.i_tree.specs.Seg.Buckets.{HasLayout};
-ghost use Rattle.itree.specs.Modes.{Names, NamesMode, FitsItsNumbers, NamesRange};
+ghost use Rattle.itree.specs.Modes.{Names, NamesMode, FitsItsNumbers, NamesRange, NamesOverlay, operation_word, rule_word};
+ghost use Rattle.overlay.specs.declared.fill.rules.FillRule.{FillRule};
+ghost use Rattle.overlay.specs.declared.fill.rules.Operation.{Operation};
 
 use crate::lines::number;
 use i_tree::{LayoutNumber, LayoutUInt};
+use overlay::fill::{FillRule, Operation};
 
 /// What the program runs its commands over.
 #[derive(Clone, Copy, Debug, PartialEq, Eq)]
@@ -19,7 +22,10 @@ pub enum Mode {
     /// An ordered set in a sorted vector.
     SetList,
     /// Segments over the range from `min` to `max`, which has a layout.
-    Segments { min: i32, max: i32 },
+    Segments {
+        min: i32,
+        max: i32,
+    },
     /// A sweep over horizontal segments.
     Sweep,
     /// Edges of the plane, and which of them meet.
@@ -28,6 +34,11 @@ pub enum Mode {
     Locate,
     /// Edges of the plane, and over which points of the grid each goes where they are broken.
     Snap,
+    /// Rings of the subject and of the clip, and the polygons that the operation makes of what is inside of them by the rule.
+    Overlay {
+        operation: Operation,
+        rule: FillRule,
+    },
 }
 
 impl Mode {
@@ -47,6 +58,7 @@ impl Mode {
             ["meetings"] => Some(Mode::Meetings),
             ["locate"] => Some(Mode::Locate),
             ["snap"] => Some(Mode::Snap),
+            ["overlay", operation, rule] => overlay_by(operation, rule),
             _ => None,
         }
     }
@@ -63,6 +75,44 @@ fn segments(min: &str, max: &str) -> Option<Mode>
         return None;
     }
     Some(Mode::Segments { min, max })
+}
+
+// The mode of an overlay by the operation and the rule that the words name.
+fn overlay_by(operation: &str, rule: &str) -> Option<Mode>
+    ensures named { IfSome result (NamesOverlay operation.now rule.now) }
+    ensures unnamed { IsNone result → (mode : Mode) → ¬ (NamesOverlay operation.now rule.now mode) }
+{
+    let operation = operation_named(operation)?;
+    let rule = rule_named(rule)?;
+    Some(Mode::Overlay { operation, rule })
+}
+
+// The operation that the word names.
+fn operation_named(word: &str) -> Option<Operation>
+    ensures named { IfSome result (λ operation. word.now ≡ operation_word operation) }
+    ensures unnamed { IsNone result → (operation : Operation) → word.now ≢ operation_word operation }
+{
+    match word {
+        "union" => Some(Operation::Union),
+        "intersection" => Some(Operation::Intersection),
+        "difference" => Some(Operation::Difference),
+        "xor" => Some(Operation::Xor),
+        _ => None,
+    }
+}
+
+// The rule that the word names.
+fn rule_named(word: &str) -> Option<FillRule>
+    ensures named { IfSome result (λ rule. word.now ≡ rule_word rule) }
+    ensures unnamed { IsNone result → (rule : FillRule) → word.now ≢ rule_word rule }
+{
+    match word {
+        "evenodd" => Some(FillRule::EvenOdd),
+        "nonzero" => Some(FillRule::NonZero),
+        "positive" => Some(FillRule::Positive),
+        "negative" => Some(FillRule::Negative),
+        _ => None,
+    }
 }
 
 // Whether the range goes upwards, over at least the least span.

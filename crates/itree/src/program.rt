@@ -15,17 +15,18 @@ use std::alloc::Allocator;
 use std::io::{Read, Write};
 
 /// Runs the program: reads all of `input`, and writes one reply line for each command or edge to `output`. In a sweep, and
-/// among edges and points, each point has one, and a segment or an edge has none. Where the words ask for help it reads
-/// nothing, and writes `HELP`; where they ask for the version, `VERSION`.
+/// among edges and points, each point has one, and a segment or an edge has none; and of rings, each ring of the polygons has
+/// one that they make. Where the words ask for help it reads nothing, and writes `HELP`; where they ask for the version,
+/// `VERSION`.
 ///
 /// `words` are the arguments without the program's name, which are to be the one word of a mode: `keytree`, `keylist`,
-/// `settree`, `setlist`, `sweep`, `meetings`, `locate` or `snap`; or `seg`, `MIN` and `MAX`, the ends of a range that has a layout; or
-/// one word that asks for help, `help`, `--help` or `-h`, or for the version, `--version` or `-V`. `faults` stands for standard
-/// error, and the answer is the process's status:
+/// `settree`, `setlist`, `sweep`, `meetings`, `locate` or `snap`; `seg`, `MIN` and `MAX`, the ends of a range that has a layout;
+/// `overlay`, an operation and a fill rule; or one word that asks for help, `help`, `--help` or `-h`, or for the version,
+/// `--version` or `-V`. `faults` stands for standard error, and the answer is the process's status:
 ///
 /// - 0 where all replies, or the text asked for, were written and flushed. An insertion that was refused has a reply too.
-/// - 1 where reading, writing, flushing or memory outside the commands failed, or memory for a sweep or for edges; nothing
-///   goes to `faults`, and a failed write may have taken a part of the text.
+/// - 1 where reading, writing, flushing or memory outside the commands failed, or memory for a sweep, for edges or for
+///   rings; nothing goes to `faults`, and a failed write may have taken a part of the text.
 /// - 2 where the words neither name a mode nor ask for a text, before any input is read; where a line is faulty in the mode,
 ///   before any command is run; where two segments of a sweep overlap; and where two edges cross that points are located
 ///   among. `faults` is told which, and whether it takes that changes nothing.

@@ -1,15 +1,9 @@
-use Rattle.std.proofs.Common.{◌≡◌, ◌+◌, ◌++◌, ◌⊎◌, inl, inr, ℕ, [], ◌∷◌, Option, Some, None, length, refl, append-nil, length-append, ap, sym, ◌∙◌, subst}
+use Rattle.std.proofs.Common.{◌≡◌, ◌+◌, ◌++◌, [], ◌∷◌, Option, Some, None, length, refl, append-nil, length-append, ap, sym, ◌∙◌, subst}
 use Rattle.std.proofs.lemmas.Result.{err_from_is_err_and}
 use Rattle.itree.specs.Grammar.{lines_of, lines_left, LineSays, LinesSay, IsFirstFaulty}
-use Rattle.itree.specs.declared.fault.Fault.{Fault}
-use Rattle.itree.specs.declared.fault.Fault.TheVariants.{Line, Stopped}
-use Rattle.itree.proofs.Counting.{LinesSay-push, next_line, shorter, IsFirstFaulty-next}
+use Rattle.itree.specs.declared.fault.Fault.TheVariants.{Line}
+use Rattle.itree.proofs.Counting.{LinesSay-push, next_line, shorter, named, IsFirstFaulty-next}
 use Rattle.itree.proofs.lines.parse_commands.Goals as goal
-
--- a fault that names a line names the one that it may name
-named : (fault : Fault) (number other : ℕ) → (fault ≡ Line number) ⊎ (fault ≡ Stopped) → fault ≡ Line other → number ≡ other
-named fault number other (inl is) says = cc
-named fault number other (inr is) says = cc
 
 -- an option that is not `Some` is `None`
 neither : {X : Type 0} (o : Option X) → ((x : X) → o ≡ Some x → ⊥) → o ≡ None

@@ -3,8 +3,8 @@ use Rattle.itree.proofs.Chained.{chain_lines-more, chain_lines-all}
 use Rattle.overlay.proofs.SnapLemmas.Callers.{IsNext-at}
 use Rattle.itree.proofs.lines.snap.chain_text.Goals as goal
 
-pub chain_at-requires : goal.chain_at-requires
-chain_at-requires g c =
+pub points_between-requires : goal.points_between-requires
+points_between-requires g c =
     let (chains, are) = c.requires in
     let next = IsNext-at chains c.args.points.now c.args.ends.now c.loop-end.end-index c.loop-end.start are c.loop-end-test.true (c.loop-end.invariant chains are).1 in
     (next.rising, next.within)
@@ -14,8 +14,8 @@ loop-end-preserved g c = λ chains are.
     let (so_far, begins) = c.loop-end.invariant chains are in
     let i = c.loop-end.end-index in
     let next = IsNext-at chains c.args.points.now c.args.ends.now i c.loop-end.start are c.loop-end-test.true begins in (
-      chain_lines-more chains i c.chain_at.result.now (string_bytes c.loop-end.text) (string_bytes c.push_chain.new.text) (string_bytes c.push_str.new.self) next.inside
-          (c.chain_at.ensures ∙ next.is) so_far c.in_ok-push_chain.ensures c.in_ok-push_str.ensures.bytes,
+      chain_lines-more chains i c.points_between.result.now (string_bytes c.loop-end.text) (string_bytes c.push_points.new.text) (string_bytes c.push_str.new.self) next.inside
+          (c.points_between.ensures ∙ next.is) so_far c.in_ok-push_points.ensures c.in_ok-push_str.ensures.bytes,
       next.stops,
     )
 

@@ -1,0 +1,32 @@
+//! What the program answers to rings: the polygons of an overlay.
+
+ghost use Rattle.std.specs.Prelude.{◌≡◌, List, IfErr, IfOk, string_bytes};
+ghost use Rattle.itree.specs.Answers.{AnswersOverlay};
+ghost use Rattle.itree.specs.RingLines.{RingLine, HoldsSaid};
+
+use crate::fault::Fault;
+use crate::lines::{SaidRings, polygon_text};
+use overlay::fill::{FillRule, Operation};
+use polygons::{OverlayFault, Polygons, overlay};
+use std::alloc::Allocator;
+
+/// The text of the polygons that the operation makes of what is inside of the rings by the rule.
+pub fn answer_rings<A: Allocator + Copy>(
+    alloc: A,
+    operation: Operation,
+    rule: FillRule,
+    rings: &SaidRings<A>,
+) -> Result<String<A>, Fault>
+    requires { (said : List RingLine) × HoldsSaid rings.now said }
+    ensures answered { IfOk result (λ output. (said : List RingLine) → HoldsSaid rings.now said →
+        AnswersOverlay operation rule said (string_bytes output)) }
+    ensures err { IfErr result (λ fault. fault ≡ Fault.Stopped) }
+{
+    let mut polygons = Polygons::new(alloc);
+    let (subject, clip) = (rings.subject.rings(), rings.clip.rings());
+    match overlay(subject, clip, rule, operation, &mut polygons) {
+        Ok(()) => Ok(polygon_text(alloc, &polygons)?),
+        Err(OverlayFault::Refused(_)) => Err(Fault::Stopped),
+        Err(OverlayFault::Lengths) => unreachable!(),
+    }
+}
