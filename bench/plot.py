@@ -5,7 +5,7 @@ from html import escape
 
 WIDTH, HEIGHT, LEFT, RIGHT, TOP, BOTTOM = 620, 360, 70, 150, 40, 50
 INK, SOFT = "#222222", "#bbbbbb"
-COLOURS = ["#1f5fa8", "#c0392b", "#2e7d4f", "#8e44ad", "#b9770e"]
+COLOURS = ["#1f5fa8", "#c0392b", "#2e7d4f", "#8e44ad", "#b9770e", "#16857f", "#5d6d7e"]
 
 
 def text(x, y, words, anchor="middle", size=13, fill=INK):

@@ -7,10 +7,6 @@
 // A line has workload, size, side, seconds on a processor, the most memory beside the edges in MB, and the pieces that the
 // side gave. Each run is a process of its own, so that no side finds memory that another one left. Sides that give other
 // pieces than the first one are told: GEOS computes where edges meet in numbers that aren't whole.
-#include <malloc.h>
-#include <sys/wait.h>
-#include <unistd.h>
-
 #include <cmath>
 #include <cstring>
 #include <fstream>
@@ -19,6 +15,7 @@
 #include <iterator>
 #include <numeric>
 
+#include "apart.hpp"
 #include "timing.hpp"
 
 #ifdef HAVE_GEOS
@@ -131,49 +128,10 @@ std::vector<Side> all_sides() {
     return sides;
 }
 
-/// A size of this process in MB, as the system names it: VmRSS now, VmHWM at most since it was told to forget.
-double megabytes(const std::string &name) {
-    std::ifstream status("/proc/self/status");
-    for (std::string word; status >> word;) {
-        double kilobytes = 0;
-        if (word == name + ":" && status >> kilobytes) return kilobytes / 1024;
-    }
-    return 0;
-}
+using Run = apart::Run<Pieces>;
 
-/// What a run took and gave. Nothing is said of one that failed.
-struct Run {
-    double seconds = 0, megabytes = 0;
-    Pieces pieces;
-};
-
-Run run(const Side &side, const Edges &edges) {
-    std::ofstream("/proc/self/clear_refs") << "5";
-    Run it;
-    const double before = megabytes("VmRSS"), begun = timing::seconds();
-    it.pieces = side.second(edges);
-    it.seconds = timing::seconds() - begun;
-    it.megabytes = megabytes("VmHWM") - before;
-    return it;
-}
-
-/// A run in a process of its own.
 Run run_apart(const Side &side, const Edges &edges) {
-    int ends[2];
-    if (pipe(ends)) std::exit(1);
-    malloc_trim(0);
-    const auto child = fork();
-    if (child == 0) {
-        const Run it = run(side, edges);
-        _exit(write(ends[1], &it, sizeof it) == sizeof it ? 0 : 1);
-    }
-    close(ends[1]);
-    Run it;
-    const bool is_told = read(ends[0], &it, sizeof it) == sizeof it;
-    close(ends[0]);
-    waitpid(child, nullptr, 0);
-    if (!is_told) std::cerr << side.first << " failed\n";
-    return it;
+    return apart::run<Pieces>(side.first, [&] { return apart::timed<Pieces>([&] { return side.second(edges); }); });
 }
 
 /// The least seconds and memory of several runs, in turn.
@@ -189,9 +147,9 @@ void measure(const std::string &workload, const Edges &edges) {
     }
     for (std::size_t place = 0; place < sides.size(); place++) {
         const auto &[seconds, megabytes, pieces] = least[place];
-        if (pieces.sum != least[0].pieces.sum || pieces.count != least[0].pieces.count) {
+        if (pieces.sum != least[0].answer.sum || pieces.count != least[0].answer.count) {
             std::cerr << workload << ", " << edges.size() << ": " << sides[place].first << " gives other pieces than "
-                      << sides[0].first << ", " << pieces.count << " and " << least[0].pieces.count << "\n";
+                      << sides[0].first << ", " << pieces.count << " and " << least[0].answer.count << "\n";
         }
         std::printf("%s\t%zu\t%s\t%.6f\t%.1f\t%llu\n", workload.c_str(), edges.size(), sides[place].first.c_str(), seconds,
                     megabytes, static_cast<unsigned long long>(pieces.count));

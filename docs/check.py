@@ -54,6 +54,7 @@ SOURCES = {
     "`overlay::contours`": ["overlay/src/contours/*.rt"],
     "`overlay::fill`": ["overlay/src/fill/*.rt"],
     "`overlay::boundary`": ["overlay/src/boundary/*.rt"],
+    "`polygons`": ["polygons/src/*.rt"],
     "`itree_c`": ["itree_c/src/*.rt"],
     "`itree`": ["itree/src/program.rt"],
 }
@@ -206,7 +207,8 @@ def picture_failures():
     for path in files("docs/pictures/*.lines"):
         name = os.path.basename(path).removesuffix(".lines")
         lines = "".join(f"> {line}\n" for line in text_of(path).splitlines())
-        run = f"```console\n$ itree {name} << END\n{lines}> END\n{text_of(f'docs/pictures/{name}.replies')}```\n"
+        words, kind = ("overlay union nonzero", "union") if name == "overlay" else (name, "replies")
+        run = f"```console\n$ itree {words} << END\n{lines}> END\n{text_of(f'docs/pictures/{name}.{kind}')}```\n"
         shown = [document for document in DOCUMENTS if f"pictures/{name}.svg" in text_of(document)]
         yield None if any(run in text_of(document) for document in shown) else f"no document has {name}.svg and its run"
 

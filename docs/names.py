@@ -25,7 +25,7 @@ OTHERS = {
     *"i8 if impl inline int_cmp isize nat_cmp no_std partition_point pos push repr requires retain rotate_left rotate_right".split(),
     *"skip std u16 u32 u64 u8 unsafe usize".split(),
     # other tools, libraries and languages
-    *"CMAKE_PREFIX_PATH MemoryError PKG_CONFIG_PATH anyhow ar cc dist free".split(),
+    *"CMAKE_PREFIX_PATH MemoryError PKG_CONFIG_PATH ValueError __geo_interface__ anyhow ar cc dist free".split(),
     *"malloc memmove memset objcopy pkg-config proves realloc tactic thiserror".split(),
     *"rattle_alloc rattle_dealloc rattle_realloc".split(),
 }
@@ -47,6 +47,7 @@ CALLED = re.compile(r"\b([a-z_]\w*)\(")
 
 ITEM = re.compile(r"\b(?:fn|struct|enum|trait|mod|const|static|type|class|namespace|ghost|law)\s+(\w+)")
 CONSTANT_OF_C = re.compile(r"\bITREE_\w+")
+FIELD_OF_PYTHON = re.compile(r"\bself\.([a-z]\w*) = ")
 FIELD_OR_VARIANT = re.compile(r"^\s*(?:pub(?:\(\w+\))? )?(\w+): |^ {4}([A-Z]\w*)(?:[,({ ]|$)", re.M)
 LITERAL = re.compile(r'b?"(-{0,2}\w+)"')
 CLAUSE = re.compile(r"^\s*(?:ensures|requires)\*? (\w+) \{", re.M)
@@ -104,7 +105,8 @@ class Sources:
         stems = {part.partition(".")[0] for place in self.places for part in place.split("/")}
         words = {word for path, text in self.texts.items() if path.startswith("crates/itree/src/") for word in LITERAL.findall(text)}
         bindings = [text_of(path) for path in self.paths if path.startswith("bindings/")]
-        wrappers = {name for text in bindings for name in [*ITEM.findall(text), *CONSTANT_OF_C.findall(text)]}
+        forms = ITEM, CONSTANT_OF_C, FIELD_OF_PYTHON
+        wrappers = {name for text in bindings for form in forms for name in form.findall(text)}
         self.all = set().union(stems, words, wrappers, *self.names.values())
 
     def defined_in(self, path):

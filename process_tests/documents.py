@@ -136,10 +136,13 @@ def help_and_document():
 
 
 def pictures():
-    """The cases that docs/pictures/sweep.svg, locate.svg and snap.svg show."""
+    """The cases that docs/pictures/sweep.svg, locate.svg, snap.svg and overlay.svg show."""
     for mode in "sweep", "locate", "snap":
         given, wanted = (text_of(f"docs/pictures/{mode}.{kind}").encode() for kind in ("lines", "replies"))
         yield Case(f"the run of {mode}'s picture", [mode], given, Outcome(0, wanted))
+    for operation in "union", "intersection", "difference", "xor":
+        given, wanted = (text_of(f"docs/pictures/overlay.{kind}").encode() for kind in ("lines", operation))
+        yield Case(f"the {operation} of overlay's picture", ["overlay", operation, "nonzero"], given, Outcome(0, wanted))
 
 
 PARTS = examples, help_and_document, pictures

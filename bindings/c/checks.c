@@ -21,6 +21,14 @@ int32_t proved_itree_snap(const struct itree_edge *edges, size_t edge_count, str
 size_t proved_itree_chains_points(const struct itree_chains *chains, struct itree_point **first);
 size_t proved_itree_chains_offsets(const struct itree_chains *chains, size_t **first);
 void proved_itree_chains_free(struct itree_chains *chains);
+int32_t proved_itree_overlay(const struct itree_point *subject, size_t subject_count, const size_t *subject_ends,
+                             size_t subject_rings, const struct itree_point *clip, size_t clip_count,
+                             const size_t *clip_ends, size_t clip_rings, int32_t rule, int32_t operation,
+                             struct itree_polygons **polygons);
+size_t proved_itree_polygons_points(const struct itree_polygons *polygons, const struct itree_point **first);
+size_t proved_itree_polygons_ring_offsets(const struct itree_polygons *polygons, const size_t **first);
+size_t proved_itree_polygons_polygon_offsets(const struct itree_polygons *polygons, const size_t **first);
+void proved_itree_polygons_free(struct itree_polygons *polygons);
 int32_t proved_itree_locate(const struct itree_edge *edges, size_t edge_count, const struct itree_point *points,
                             size_t point_count, struct itree_place *places, size_t place_count, size_t *first,
                             size_t *second);
@@ -143,6 +151,48 @@ size_t *itree_chains_offsets(struct itree_chains *chains) {
 
 void itree_chains_free(struct itree_chains *chains) {
     if (chains != NULL) proved_itree_chains_free(chains);
+}
+
+/* Whether rings can stand there: their points, and where each stops. */
+static int can_be_rings(const struct itree_point *points, size_t count, const size_t *ends, size_t rings) {
+    return can_hold(points, count, OF(struct itree_point)) && can_hold(ends, rings, OF(size_t));
+}
+
+int32_t itree_overlay(const struct itree_point *subject, size_t subject_count, const size_t *subject_ends,
+                      size_t subject_rings, const struct itree_point *clip, size_t clip_count, const size_t *clip_ends,
+                      size_t clip_rings, int32_t rule, int32_t operation, struct itree_polygons **polygons) {
+    if (!can_be_rings(subject, subject_count, subject_ends, subject_rings) ||
+        !can_be_rings(clip, clip_count, clip_ends, clip_rings) || !can_hold(polygons, 1, OF(struct itree_polygons *))) {
+        return ITREE_POINTER;
+    }
+    return proved_itree_overlay(slice(subject, subject_count), subject_count, slice(subject_ends, subject_rings),
+                                subject_rings, slice(clip, clip_count), clip_count, slice(clip_ends, clip_rings),
+                                clip_rings, rule, operation, polygons);
+}
+
+size_t itree_polygons_points(const struct itree_polygons *polygons, const struct itree_point **first) {
+    const struct itree_point *points = NULL;
+    const size_t count = polygons == NULL ? 0 : proved_itree_polygons_points(polygons, &points);
+    if (first != NULL) *first = count == 0 ? NULL : points;
+    return count;
+}
+
+size_t itree_polygons_ring_offsets(const struct itree_polygons *polygons, const size_t **first) {
+    const size_t *offsets = NULL;
+    const size_t count = polygons == NULL ? 0 : proved_itree_polygons_ring_offsets(polygons, &offsets);
+    if (first != NULL) *first = offsets;
+    return count;
+}
+
+size_t itree_polygons_polygon_offsets(const struct itree_polygons *polygons, const size_t **first) {
+    const size_t *offsets = NULL;
+    const size_t count = polygons == NULL ? 0 : proved_itree_polygons_polygon_offsets(polygons, &offsets);
+    if (first != NULL) *first = offsets;
+    return count;
+}
+
+void itree_polygons_free(struct itree_polygons *polygons) {
+    if (polygons != NULL) proved_itree_polygons_free(polygons);
 }
 
 int32_t itree_locate(const struct itree_edge *edges, size_t edge_count, const struct itree_point *points,

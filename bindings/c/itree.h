@@ -1,5 +1,5 @@
-/* itree, for C: sweeps over horizontal segments, pairs of edges that meet, edges broken where they meet, and points
- * among edges.
+/* itree, for C: sweeps over horizontal segments, pairs of edges that meet, edges broken where they meet, polygons of what
+ * two sets of rings make, and points among edges.
  *
  * Each call looks at the pointers that it is given, and then makes one that is proved in Rattle: that answers as said
  * here for every input, reads and writes inside the arrays that it is given, and returns. Link it by what
@@ -33,8 +33,9 @@ enum itree_status {
     ITREE_OVERLAP = 2,  /* Two segments collide. */
     ITREE_CROSSING = 2, /* Two edges cross. */
     ITREE_MEETING = 2,  /* Two edges meet. */
-    ITREE_LENGTHS = 3,  /* The lengths of two arrays don't fit each other. */
-    ITREE_POINTER = 4   /* A pointer is faulty. */
+    ITREE_LENGTHS = 3,  /* The lengths of two arrays don't fit each other, or a ring stops where it can't. */
+    ITREE_POINTER = 4,  /* A pointer is faulty. */
+    ITREE_CHOICE = 5    /* A rule or an operation is none of their numbers. */
 };
 
 /* A horizontal segment at the height y, from x0 to x1, both of which it covers. One with x1 < x0 covers nothing. */
@@ -175,6 +176,70 @@ size_t *itree_chains_offsets(struct itree_chains *chains);
 
 /* Gives back the handle and its chains. At NULL it does nothing. */
 void itree_chains_free(struct itree_chains *chains);
+
+/* Which points are inside of rings: by how often the rings go round a point counterclockwise, where y points upwards, less
+ * how often they go round it clockwise. */
+enum itree_fill_rule {
+    ITREE_EVEN_ODD = 0, /* An odd number of times. */
+    ITREE_NON_ZERO = 1, /* Any number of times but 0. */
+    ITREE_POSITIVE = 2, /* More than 0 times. */
+    ITREE_NEGATIVE = 3  /* Less than 0 times. */
+};
+
+/* What becomes of the inside of a subject and that of a clip. */
+enum itree_operation {
+    ITREE_UNION = 0,        /* The points of either. */
+    ITREE_INTERSECTION = 1, /* The points of both. */
+    ITREE_DIFFERENCE = 2,   /* The points of the subject that aren't of the clip. */
+    ITREE_XOR = 3           /* The points of just one of the two. */
+};
+
+/* A handle of polygons, which owns them. It is read by the calls below, and given back by itree_polygons_free, once. One
+ * call at a time takes a handle, by any thread; different handles don't concern each other. */
+struct itree_polygons;
+
+/* Writes a handle of the polygons of what the operation makes of the inside of the subject and that of the clip, by one of
+ * itree_fill_rule and one of itree_operation.
+ *
+ * Subject and clip are rings: the points of all of them, one ring after the other, and for each ring the place among the
+ * points at which it stops. So the ends are the offsets of the Arrow format without the first, which is 0; points behind
+ * the last end are of no ring. A ring goes from each of its points to the next one, and from the last to the first. It may
+ * end with its first point again, run either way, and have one point or none. Rings may cross, touch and lie along each
+ * other and themselves, and stand there more than once.
+ *
+ * The first ring of a polygon is its outer one, which runs counterclockwise; those behind it are its holes, which run
+ * clockwise. The polygons wind once around each point of the result, and not at all around any other, where the point isn't
+ * within half a unit, on both axes, of an edge of the rings given; and around every point where all of these edges run along
+ * the axes. Around no point do they wind more often. Their rings visit no point twice, and have no points on straight lines:
+ * with these, edges of rings meet only at common ends, so a corner may touch the side of a ring. The call returns
+ *   ITREE_ANSWERED  and *polygons is the caller's, also where nothing is of the result;
+ *   ITREE_REFUSED   and *polygons is NULL;
+ *   ITREE_POINTER   exactly where a pointer is faulty, and *polygons stays as it was;
+ *   ITREE_CHOICE    exactly where none is, and rule or operation is none of their numbers: *polygons is NULL;
+ *   ITREE_LENGTHS   exactly where all that is well, and a ring stops before it begins or behind the points: *polygons is
+ *                   NULL.
+ * polygons may not be NULL. What *polygons was before isn't looked at. Subject and clip may be the same arrays. */
+int32_t itree_overlay(const struct itree_point *subject, size_t subject_count, const size_t *subject_ends,
+                      size_t subject_rings, const struct itree_point *clip, size_t clip_count, const size_t *clip_ends,
+                      size_t clip_rings, int32_t rule, int32_t operation, struct itree_polygons **polygons);
+
+/* How many points all rings have together; 0 at NULL. Where first isn't NULL, *first is where the first of them lies, and
+ * behind it the others, side by side, one ring behind the other; or NULL where there is none. They are the handle's, as the
+ * offsets below are, and all stay until it is given back; any number of threads may read them. */
+size_t itree_polygons_points(const struct itree_polygons *polygons, const struct itree_point **first);
+
+/* How many offsets of rings there are, one more than there are rings; 0 at NULL. Where first isn't NULL, *first is where
+ * they lie, side by side: the first is 0, and the one at i + 1 is where the ring at i stops among the points. So the ring
+ * at i has the points from the offset at i on and before that at i + 1. At NULL *first is NULL. */
+size_t itree_polygons_ring_offsets(const struct itree_polygons *polygons, const size_t **first);
+
+/* How many offsets of polygons there are, one more than there are polygons; 0 at NULL. Where first isn't NULL, *first is
+ * where they lie, side by side: the first is 0, and the one at i + 1 is where the polygon at i stops among the rings. So the
+ * polygon at i has the rings from the offset at i on and before that at i + 1. At NULL *first is NULL. */
+size_t itree_polygons_polygon_offsets(const struct itree_polygons *polygons, const size_t **first);
+
+/* Gives back the handle and its polygons. At NULL it does nothing. */
+void itree_polygons_free(struct itree_polygons *polygons);
 
 /* The edge straight below a point: found is 1 and place its place, or both are 0 where there is none. */
 struct itree_place {

@@ -114,6 +114,8 @@ namespace detail {
 /// Throws what a status says that each call may return.
 inline void throw_unless_answered(std::int32_t status) {
     if (status == ITREE_POINTER) throw std::invalid_argument("a span is null, misaligned or larger than memory can be");
+    if (status == ITREE_LENGTHS) throw std::invalid_argument("a ring stops before it begins, or behind the points");
+    if (status == ITREE_CHOICE) throw std::invalid_argument("there is no such rule or operation");
     if (status != ITREE_ANSWERED) throw std::bad_alloc();
 }
 
@@ -201,6 +203,37 @@ private:
     return Pairs(handle);
 }
 
+/// Goes over lists of points that stand one behind the other, by where each begins and stops.
+class PointsIterator {
+public:
+    using iterator_category = std::input_iterator_tag;
+    using value_type = Span<Point>;
+    using difference_type = std::ptrdiff_t;
+    using pointer = const Span<Point> *;
+    using reference = Span<Point>;
+
+    PointsIterator() = default;
+    PointsIterator(const Point *points, const std::size_t *offset) noexcept : points_(points), offset_(offset) {}
+    Span<Point> operator*() const noexcept { return {points_ + offset_[0], offset_[1] - offset_[0]}; }
+    PointsIterator &operator++() noexcept {
+        ++offset_;
+        return *this;
+    }
+    PointsIterator operator++(int) noexcept {
+        const PointsIterator before = *this;
+        ++offset_;
+        return before;
+    }
+    friend bool operator==(const PointsIterator &one, const PointsIterator &other) noexcept {
+        return one.offset_ == other.offset_;
+    }
+    friend bool operator!=(const PointsIterator &one, const PointsIterator &other) noexcept { return !(one == other); }
+
+private:
+    const Point *points_ = nullptr;
+    const std::size_t *offset_ = nullptr;
+};
+
 /// A chain of points, which stand one behind the other in memory that is its `Chains`'.
 using Chain = Span<Point>;
 
@@ -208,36 +241,7 @@ using Chain = Span<Point>;
 /// may read them.
 class Chains {
 public:
-    /// Goes over chains, in the order of their edges.
-    class Iterator {
-    public:
-        using iterator_category = std::input_iterator_tag;
-        using value_type = Chain;
-        using difference_type = std::ptrdiff_t;
-        using pointer = const Chain *;
-        using reference = Chain;
-
-        Iterator() = default;
-        Iterator(const Point *points, const std::size_t *offset) noexcept : points_(points), offset_(offset) {}
-        Chain operator*() const noexcept { return {points_ + offset_[0], offset_[1] - offset_[0]}; }
-        Iterator &operator++() noexcept {
-            ++offset_;
-            return *this;
-        }
-        Iterator operator++(int) noexcept {
-            const Iterator before = *this;
-            ++offset_;
-            return before;
-        }
-        friend bool operator==(const Iterator &one, const Iterator &other) noexcept {
-            return one.offset_ == other.offset_;
-        }
-        friend bool operator!=(const Iterator &one, const Iterator &other) noexcept { return !(one == other); }
-
-    private:
-        const Point *points_ = nullptr;
-        const std::size_t *offset_ = nullptr;
-    };
+    using Iterator = PointsIterator;
 
     Chains() = default;
     /// Takes over a handle of itree.h.
@@ -294,6 +298,233 @@ private:
     ::itree_chains *handle = nullptr;
     detail::throw_unless_answered(::itree_snap(edges.data(), edges.size(), &handle));
     return Chains(handle);
+}
+
+/// Which points are inside of rings: by how often the rings go round a point counterclockwise, where y points upwards,
+/// less how often they go round it clockwise.
+enum class FillRule : std::int32_t {
+    /// An odd number of times.
+    even_odd = ITREE_EVEN_ODD,
+    /// Any number of times but 0.
+    non_zero = ITREE_NON_ZERO,
+    /// More than 0 times.
+    positive = ITREE_POSITIVE,
+    /// Less than 0 times.
+    negative = ITREE_NEGATIVE
+};
+
+/// What becomes of the inside of a subject and that of a clip.
+enum class Operation : std::int32_t {
+    /// The points of either.
+    union_ = ITREE_UNION,
+    /// The points of both.
+    intersection = ITREE_INTERSECTION,
+    /// The points of the subject that aren't of the clip.
+    difference = ITREE_DIFFERENCE,
+    /// The points of just one of the two.
+    xor_ = ITREE_XOR
+};
+
+/// Rings that are only read: the points of all of them, one ring after the other, and where each stops among these. So
+/// the ends are the offsets of the Arrow format without the first, which is 0; points behind the last end are of no
+/// ring.
+struct Rings {
+    Rings() = default;
+    Rings(Span<Point> all_points, Span<std::size_t> all_ends) : points(all_points), ends(all_ends) {}
+
+    Span<Point> points;
+    Span<std::size_t> ends;
+};
+
+/// A ring of points, which stand one behind the other in memory that is its `Polygons`'.
+using Ring = Span<Point>;
+
+/// Rings that stand one behind the other in memory that is their `Polygons`'.
+class RingList {
+public:
+    using Iterator = PointsIterator;
+
+    RingList() = default;
+    RingList(const Point *points, const std::size_t *offsets, std::size_t count) noexcept
+        : points_(points), offsets_(offsets), count_(count) {}
+
+    [[nodiscard]] std::size_t size() const noexcept { return count_; }
+    [[nodiscard]] bool empty() const noexcept { return count_ == 0; }
+    /// The ring at a place below `size()`.
+    [[nodiscard]] Ring operator[](std::size_t place) const noexcept { return *Iterator(points_, offsets_ + place); }
+    [[nodiscard]] Iterator begin() const noexcept { return {points_, offsets_}; }
+    [[nodiscard]] Iterator end() const noexcept { return {points_, offsets_ + count_}; }
+
+protected:
+    const Point *points_ = nullptr;
+    const std::size_t *offsets_ = nullptr;
+    std::size_t count_ = 0;
+};
+
+/// The rings of a polygon: the outer one, which runs counterclockwise, and behind it its holes, which run clockwise.
+class Polygon : public RingList {
+public:
+    using RingList::RingList;
+
+    [[nodiscard]] Ring outer() const noexcept { return (*this)[0]; }
+    [[nodiscard]] RingList holes() const noexcept { return {points_, offsets_ + 1, count_ - 1}; }
+};
+
+/// Polygons in memory that is theirs. They are moved, and not copied. Any number of threads may read them.
+class Polygons {
+public:
+    /// Goes over polygons.
+    class Iterator {
+    public:
+        using iterator_category = std::input_iterator_tag;
+        using value_type = Polygon;
+        using difference_type = std::ptrdiff_t;
+        using pointer = const Polygon *;
+        using reference = Polygon;
+
+        Iterator() = default;
+        Iterator(const Point *points, const std::size_t *rings, const std::size_t *offset) noexcept
+            : points_(points), rings_(rings), offset_(offset) {}
+        Polygon operator*() const noexcept { return {points_, rings_ + offset_[0], offset_[1] - offset_[0]}; }
+        Iterator &operator++() noexcept {
+            ++offset_;
+            return *this;
+        }
+        Iterator operator++(int) noexcept {
+            const Iterator before = *this;
+            ++offset_;
+            return before;
+        }
+        friend bool operator==(const Iterator &one, const Iterator &other) noexcept {
+            return one.offset_ == other.offset_;
+        }
+        friend bool operator!=(const Iterator &one, const Iterator &other) noexcept { return !(one == other); }
+
+    private:
+        const Point *points_ = nullptr;
+        const std::size_t *rings_ = nullptr;
+        const std::size_t *offset_ = nullptr;
+    };
+
+    Polygons() = default;
+    /// Takes over a handle of itree.h.
+    explicit Polygons(::itree_polygons *handle) noexcept : handle_(handle) {
+        const Point *points = nullptr;
+        const std::size_t *offsets = nullptr;
+        const auto point_count = ::itree_polygons_points(handle, &points);
+        points_ = {points, point_count};
+        const auto ring_count = ::itree_polygons_ring_offsets(handle, &offsets);
+        ring_offsets_ = {offsets, ring_count};
+        const auto polygon_count = ::itree_polygons_polygon_offsets(handle, &offsets);
+        polygon_offsets_ = {offsets, polygon_count};
+    }
+    Polygons(Polygons &&other) noexcept
+        : handle_(std::move(other.handle_)),
+          points_(std::exchange(other.points_, Span<Point>())),
+          ring_offsets_(std::exchange(other.ring_offsets_, Span<std::size_t>())),
+          polygon_offsets_(std::exchange(other.polygon_offsets_, Span<std::size_t>())) {}
+    Polygons &operator=(Polygons &&other) noexcept {
+        handle_ = std::move(other.handle_);
+        points_ = std::exchange(other.points_, Span<Point>());
+        ring_offsets_ = std::exchange(other.ring_offsets_, Span<std::size_t>());
+        polygon_offsets_ = std::exchange(other.polygon_offsets_, Span<std::size_t>());
+        return *this;
+    }
+
+    /// How many polygons there are.
+    [[nodiscard]] std::size_t size() const noexcept {
+        return polygon_offsets_.empty() ? 0 : polygon_offsets_.size() - 1;
+    }
+    [[nodiscard]] bool empty() const noexcept { return size() == 0; }
+    /// The polygon at a place below `size()`.
+    [[nodiscard]] Polygon operator[](std::size_t place) const noexcept { return *at(place); }
+    [[nodiscard]] Iterator begin() const noexcept { return at(0); }
+    [[nodiscard]] Iterator end() const noexcept { return at(size()); }
+    /// The points of all rings, one ring behind the other.
+    [[nodiscard]] Span<Point> points() const noexcept { return points_; }
+    /// Where each ring begins among the points, and at last how many points there are; or nothing where nothing was
+    /// taken over.
+    [[nodiscard]] Span<std::size_t> ring_offsets() const noexcept { return ring_offsets_; }
+    /// Where each polygon begins among the rings, and at last how many rings there are: `size() + 1` numbers, or none
+    /// where nothing was taken over.
+    [[nodiscard]] Span<std::size_t> polygon_offsets() const noexcept { return polygon_offsets_; }
+    /// The rings of all polygons, as a further call takes them. They stay with these polygons.
+    [[nodiscard]] Rings rings() const noexcept {
+        if (ring_offsets_.empty()) return {};
+        return {points_, {ring_offsets_.data() + 1, ring_offsets_.size() - 1}};
+    }
+
+private:
+    struct Free {
+        void operator()(::itree_polygons *handle) const noexcept { ::itree_polygons_free(handle); }
+    };
+
+    [[nodiscard]] Iterator at(std::size_t place) const noexcept {
+        return {points_.data(), ring_offsets_.data(), polygon_offsets_.data() + place};
+    }
+
+    std::unique_ptr<::itree_polygons, Free> handle_;
+    Span<Point> points_;
+    Span<std::size_t> ring_offsets_, polygon_offsets_;
+};
+
+namespace detail {
+
+/// Rings in memory of their own.
+struct OwnRings {
+    std::vector<Point> points;
+    std::vector<std::size_t> ends;
+
+    operator Rings() const { return {points, ends}; }
+};
+
+/// Rings as the library takes them: as they are, or each ring's points behind those of the ring before it.
+template <typename Items>
+auto rings_of(const Items &items) {
+    if constexpr (std::is_same_v<Items, Rings>) {
+        return items;
+    } else if constexpr (std::is_same_v<Items, Polygons>) {
+        return items.rings();
+    } else {
+        OwnRings rings;
+        for (const auto &ring : items) {
+            rings.points.insert(rings.points.end(), std::begin(ring), std::end(ring));
+            rings.ends.push_back(rings.points.size());
+        }
+        return rings;
+    }
+}
+
+inline Polygons overlay(const Rings &subject, const Rings &clip, Operation operation, FillRule rule) {
+    ::itree_polygons *handle = nullptr;
+    throw_unless_answered(::itree_overlay(subject.points.data(), subject.points.size(), subject.ends.data(),
+                                          subject.ends.size(), clip.points.data(), clip.points.size(), clip.ends.data(),
+                                          clip.ends.size(), static_cast<std::int32_t>(rule),
+                                          static_cast<std::int32_t>(operation), &handle));
+    return Polygons(handle);
+}
+
+}  // namespace detail
+
+/// The polygons of what the operation makes of the inside of the subject and that of the clip, where the library wrote
+/// them. What they are is said at `itree_overlay` of itree.h.
+///
+/// Subject and clip are `Rings` or `Polygons`, which are read where they lie; or a vector of vectors of points, or any
+/// other range of ranges, which is copied; or `{}`. A ring may run either way, cross itself and others, and end with
+/// its first point again. Throws `std::invalid_argument` where a ring of `Rings` stops before it begins or behind the
+/// points, and `std::bad_alloc` where memory was refused.
+template <typename Subject = Rings, typename Clip = Rings>
+[[nodiscard]] Polygons overlay(const Subject &subject, const Clip &clip, Operation operation, FillRule rule) {
+    const auto subject_rings = detail::rings_of(subject);
+    const auto clip_rings = detail::rings_of(clip);
+    return detail::overlay(subject_rings, clip_rings, operation, rule);
+}
+
+/// The polygons of what is inside of the rings: the union of them with nothing. So rings that cross themselves become
+/// valid polygons. It takes and throws what `overlay` does.
+template <typename Items = Rings>
+[[nodiscard]] Polygons simplify(const Items &rings, FillRule rule) {
+    return overlay(rings, Rings(), Operation::union_, rule);
 }
 
 /// The places of some two edges that share a point, `first` below `second`, or nothing where no two do. Throws

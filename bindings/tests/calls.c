@@ -3,28 +3,10 @@
 #include <stdio.h>
 #include <string.h>
 
+#include "counted.h"
 #include "refuse.h"
 
 enum { MOST = 12 };
-
-static int passed, failed;
-
-static void check(const char *what, int ok) {
-    if (ok) {
-        passed++;
-    } else {
-        failed++;
-        printf("FAILED %s\n", what);
-    }
-}
-
-static uint64_t state = 27;
-
-/* A number below the limit, without visible order. */
-static int32_t random_below(uint32_t limit) {
-    state = state * 6364136223846793005u + 1442695040888963407u;
-    return (int32_t)((uint32_t)(state >> 33) % limit);
-}
 
 static int collide(struct itree_segment one, struct itree_segment other) {
     const int32_t first = one.x0 > other.x0 ? one.x0 : other.x0;
@@ -772,6 +754,5 @@ int main(void) {
     checks_refused_locate();
     checks_null();
     checks_faulty_pointers();
-    printf("%d passed, %d failed\n", passed, failed);
-    return failed != 0;
+    return told();
 }

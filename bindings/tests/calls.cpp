@@ -8,19 +8,13 @@
 #include <numeric>
 #include <random>
 
+#include "counted.h"
 #include "plain_locate.hpp"
 #include "plain_meetings.hpp"
 #include "plain_sweep.hpp"
 #include "refuse.h"
 
 namespace {
-
-int passed = 0, failed = 0;
-
-void check(const char *what, bool ok) {
-    (ok ? passed : failed)++;
-    if (!ok) std::printf("FAILED %s\n", what);
-}
 
 using Heights = std::vector<std::optional<std::int32_t>>;
 
@@ -437,6 +431,5 @@ int main() {
     checks_locate();
     checks_many_edges();
     checks_locate_faults();
-    std::printf("%d passed, %d failed\n", passed, failed);
-    return failed != 0;
+    return told();
 }

@@ -1047,6 +1047,14 @@ view = itree.locate(edges, [(1, 2)], True)
 heights: List[Optional[int]] = itree.below([(1, 2, 3)], [(1, 2)])
 values, found = itree.below([(1, 2, 3)], [(1, 2)], as_array=True)
 view = values
+grid = itree.Grid.fit([[(0.5, 1), (2, 3)]], {"type": "Polygon", "coordinates": []}, unit=0.5)
+unit: float = grid.unit
+polygons: itree.Polygons = itree.overlay([[(0, 0), (9, 9)]], [array.array("i"), memoryview(b"")], "xor", grid=grid)
+polygons = itree.simplify({"type": "Polygon", "coordinates": []}, rule="evenodd")
+polygons = itree.overlay(polygons, [polygons[0], [(1, 2)]], grid=None)
+polygons = itree.simplify([{"type": "Polygon", "coordinates": []}, [[0.5, 1]]], grid=grid)
+outer: List[Tuple[float, float]] = polygons[0].outer + [point for it in polygons[1:] for hole in it.holes for point in hole]
+view = polygons.ring_offsets
 version: str = itree.__version__
 itree.meetings([(0.5, 1, 2, 3)])  # error
 itree.meetings("abcd")  # error
@@ -1056,6 +1064,11 @@ pairs = itree.meetings(edges, as_array=True)  # error
 pairs = itree.meetings_between(edges, edges, as_array=True)  # error
 pair = itree.first_meeting(7)  # error
 kind = itree.how_they_meet(7, edges[0])  # error
+itree.overlay([[("a", 1)]], [])  # error
+itree.overlay([], [], "sum")  # error
+itree.simplify([], "even-odd")  # error
+itree.simplify(7)  # error
+unit = polygons.grid  # error
 """
 
 

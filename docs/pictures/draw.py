@@ -6,7 +6,7 @@ usage: draw.py            writes them all
 
 `sweep.svg` shows `sweep.lines`, with the answers that `sweep.replies` has: the process tests run the program over the one
 and compare what it prints with the other. So does `locate.svg` with `locate.lines` and `locate.replies`, and `snap.svg` with
-`snap.lines` and `snap.replies`.
+`snap.lines` and `snap.replies`; and `overlay.svg` shows `overlay.lines`, with the answers of the four operations.
 """
 
 import os
@@ -77,26 +77,27 @@ def layers():
         *titled(257, 22, 206, 46, "uses", "small programs to copy"),
         *titled(479, 22, 206, 46, "itree_c", "calls from other languages"),
         text(360, 87, "each of these three uses crates below, and i_tree", 12, fill=SOFT),
-        *titled(20, 108, 332, 112, "itree_lib", "runs of commands; a sweep over segments"),
-        *titled(368, 108, 332, 50, "overlay", "edges broken where they meet; what rings bound"),
-        *titled(368, 170, 332, 50, "plane", "edges that meet; the edge below a point"),
-        *titled(20, 232, 680, 50, "event_queue", "what a sweep meets, in order; it uses std alone"),
-        box(20, 294, 680, 208, PAPER),
-        text(30, 312, "i_tree", 14, "start", weight="bold"),
-        *titled(35, 320, 152, 60, "key", "keys that expire", "#e8f0fa"),
-        *titled(201, 320, 152, 60, "status", "what is along a line", "#e8f0fa"),
-        *titled(367, 320, 152, 112, "set", "ordered sets", "#e8f0fa"),
-        *titled(533, 320, 152, 112, "seg", "segments that expire", "#e8f0fa"),
-        text(111, 374, "list and tree", 12, fill=SOFT),
-        text(277, 374, "list and tree", 12, fill=SOFT),
-        text(443, 374, "list and tree", 12, fill=SOFT),
-        text(609, 374, "a heap of buckets", 12, fill=SOFT),
-        *titled(35, 387, 318, 45, "expiring", "what keys and statuses share", "#e8f0fa"),
-        *titled(35, 439, 484, 50, "rb", "the red-black core of the key, status and set trees", "#e8f0fa"),
-        *titled(533, 439, 152, 50, "steps", "what a call counts by", "#e8f0fa"),
-        *titled(20, 514, 680, 45, "std", "event_queue, i_tree, itree_lib, plane and overlay use nothing else", PAPER),
+        *titled(20, 108, 332, 174, "itree_lib", "runs of commands; a sweep over segments"),
+        *titled(368, 108, 332, 50, "polygons", "the overlay of polygons with holes"),
+        *titled(368, 170, 332, 50, "overlay", "edges broken where they meet; what rings bound"),
+        *titled(368, 232, 332, 50, "plane", "edges that meet; the edge below a point"),
+        *titled(20, 294, 680, 50, "event_queue", "what a sweep meets, in order; it uses std alone"),
+        box(20, 356, 680, 208, PAPER),
+        text(30, 374, "i_tree", 14, "start", weight="bold"),
+        *titled(35, 382, 152, 60, "key", "keys that expire", "#e8f0fa"),
+        *titled(201, 382, 152, 60, "status", "what is along a line", "#e8f0fa"),
+        *titled(367, 382, 152, 112, "set", "ordered sets", "#e8f0fa"),
+        *titled(533, 382, 152, 112, "seg", "segments that expire", "#e8f0fa"),
+        text(111, 436, "list and tree", 12, fill=SOFT),
+        text(277, 436, "list and tree", 12, fill=SOFT),
+        text(443, 436, "list and tree", 12, fill=SOFT),
+        text(609, 436, "a heap of buckets", 12, fill=SOFT),
+        *titled(35, 449, 318, 45, "expiring", "what keys and statuses share", "#e8f0fa"),
+        *titled(35, 501, 484, 50, "rb", "the red-black core of the key, status and set trees", "#e8f0fa"),
+        *titled(533, 501, 152, 50, "steps", "what a call counts by", "#e8f0fa"),
+        *titled(20, 576, 680, 45, "std", "event_queue, i_tree, itree_lib, plane, overlay and polygons use nothing else", PAPER),
     ]
-    return picture("The crates, each on those below that it uses", 720, 574, parts)
+    return picture("The crates, each on those below that it uses", 720, 636, parts)
 
 
 # A red-black tree.
@@ -404,9 +405,44 @@ def fill():
     return picture("Two rings, the winding numbers on both sides of each edge, and the edges kept for their union", 720, 496, parts)
 
 
+# Two shapes, and what the four operations make of them, from lines that the program answers.
+
+
+def in_panel(panel, x, y):
+    """Where a point of a run stands in the panel of this number."""
+    return 32 + 172 * panel + 13 * x, 122 - 13 * y
+
+
+def region(panel, rings, stroke, fill):
+    """What is inside the rings, by the even-odd rule."""
+    ways = "".join("M" + "L".join(f"{x} {y}" for x, y in (in_panel(panel, *point) for point in ring)) + "Z" for ring in rings)
+    return f'<path d="{ways}" fill="{fill}" fill-opacity="0.3" fill-rule="evenodd" stroke="{stroke}" stroke-width="2"/>'
+
+
+def polygons_of(replies):
+    """The rings of each polygon: the outer one, and its holes."""
+    polygons = []
+    for words in replies:
+        if words[0] == "polygon":
+            polygons.append([])
+        polygons[-1].append(pairs_of(words))
+    return polygons
+
+
+def overlay():
+    lines = words_of("overlay.lines")
+    subject, clip = ([pairs_of(words) for words in lines if words[0] == kind] for kind in ("subject", "clip"))
+    parts = [region(0, subject, BLUE, BLUE), region(0, clip, RED, RED)]
+    parts += [text(*in_panel(0, 1, 5), "subject", 12, "start", BLUE), text(*in_panel(0, 7, 2.7), "clip", 12, "start", RED)]
+    for panel, operation in enumerate(("union", "intersection", "difference", "xor"), 1):
+        parts += [region(panel, rings, GREEN, GREEN) for rings in polygons_of(words_of(f"overlay.{operation}"))]
+        parts.append(text(in_panel(panel, 5, 0)[0], 170, operation, 13))
+    return picture("A square with a hole and a rhomb, and their union, intersection, difference and xor", 880, 186, parts)
+
+
 PICTURES = {
     **{"layers": layers, "slots": slots, "descent": descent, "buckets": buckets},
-    **{"sweep": sweep, "locate": locate, "snap": snap, "fill": fill},
+    **{"sweep": sweep, "locate": locate, "snap": snap, "fill": fill, "overlay": overlay},
 }
 
 

@@ -21,9 +21,9 @@ METADATA = """\
 Metadata-Version: 2.1
 Name: itree
 Version: {version}
-Summary: Which edges meet, and which lies straight below a point: exactly, by a proved library
+Summary: Polygons made of polygons, edges that meet, and what lies straight below a point, by a proved library
 License: MIT
-Keywords: geometry,intersection,sweep line,point location
+Keywords: geometry,polygon,overlay,clipping,intersection,sweep line,point location
 Classifier: License :: OSI Approved :: MIT License
 Classifier: Operating System :: POSIX :: Linux
 Classifier: Programming Language :: Python :: 3

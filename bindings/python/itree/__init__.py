@@ -1,5 +1,5 @@
-"""Which edges meet, edges broken where they meet, and which edge or segment
-lies straight below a point.
+"""Polygons made of polygons, which edges meet, edges broken where they meet, and
+which edge or segment lies straight below a point.
 
 The answers are exact, in whole numbers of 32 bits, by a library that is proved
 in Rattle.
@@ -13,6 +13,9 @@ in Rattle.
     [0, 1, None]
     >>> itree.below([(0, 10, 5), (2, 6, 8)], [(6, 7), (2, 9), (11, 9)])
     [5, 8, None]
+    >>> square, hole = [(0, 0), (9, 0), (9, 9), (0, 9)], [(2, 2), (4, 2), (4, 4), (2, 4)]
+    >>> [(len(it.outer), len(it.holes)) for it in itree.overlay([square], [hole], "difference")]
+    [(4, 1)]
 
 Rows
     An edge is (x0, y0, x1, y1), a horizontal segment (x0, x1, y), a point
@@ -39,6 +42,17 @@ Rows
     threads of Python run on. All else is copied first; other buffers in bulk,
     by numpy where the program has loaded it.
 
+Shapes
+    What `overlay` and `simplify` take: rings, each of which is rows of points,
+    or what has a __geo_interface__, as shapely's and geopandas' objects, or a
+    dict of GeoJSON. With a Grid coordinates may be floats. All is copied.
+
+    >>> grid = itree.Grid.fit([square], [hole])
+    >>> itree.overlay([square], [hole], grid=grid)[0].outer[0][0]
+    0.0
+
+    `python3 -m itree overlay a.geojson b.geojson` takes files: see its --help.
+
 Answers
     Lists, or with as_array=True memoryviews, which numpy.asarray takes without
     a copy.
@@ -50,8 +64,9 @@ Answers
 
 Errors
     ValueError     a row has too few or too many numbers, or an array has
-                   another shape
-    TypeError      something is no row, or no whole number, as a float
+                   another shape; a shape lacks a part; with a grid, a number
+                   isn't finite or is off the grid
+    TypeError      something is no row, no shape, or no whole number, as a float
     OverflowError  a number doesn't fit in 32 bits
     Overlap        two segments of `below` collide
     Crossing       two edges of `locate` cross
@@ -73,21 +88,29 @@ import ctypes
 from typing import Any, Iterator, List, Literal, Optional, Tuple, Union, overload
 
 from . import _answers, _library
+from ._grid import Grid
 from ._library import CROSSING, MEETING, OVERLAP, checked, library
 from ._memory import room_for
+from ._overlay import overlay, simplify
+from ._polygons import Polygon, Polygons
 from ._rows import EDGES, ONE, OTHER, OTHERS, POINTS, SEGMENTS, HeldRow, HeldRows, Row, Rows
 
 __all__ = [
     "Chains",
     "Crossing",
+    "Grid",
     "Heights",
     "Overlap",
+    "Polygon",
+    "Polygons",
     "below",
     "first_meeting",
     "how_they_meet",
     "locate",
     "meetings",
     "meetings_between",
+    "overlay",
+    "simplify",
     "snap",
 ]
 __version__ = _library.version

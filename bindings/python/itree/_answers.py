@@ -11,6 +11,7 @@ from typing import Callable, Iterable, Iterator, List, Literal, Tuple
 from ._library import checked, library
 from ._memory import numpy_where_loaded, room_for
 from ._rows import HeldRows
+from ._shapes import HeldRings
 
 
 def two_by_two(numbers: Iterable[int]) -> Iterator[Tuple[int, int]]:
@@ -93,6 +94,25 @@ def in_chains(points: memoryview, offsets: memoryview) -> List[List[Tuple[int, i
     """The points of flat numbers, in a list for each chain."""
     numbers = two_by_two(points)
     return [list(itertools.islice(numbers, stop - start)) for start, stop in zip(offsets, offsets[1:])]
+
+
+def polygons_of(
+    subject: HeldRings, clip: HeldRings, rule: int, operation: int
+) -> Tuple[memoryview, memoryview, memoryview]:
+    """The points of all polygons, as flat 32-bit numbers, the offsets of the rings among them, and of the polygons among
+    the rings, as signed 64-bit numbers, where the library wrote them, and read-only. Their memory is given back once
+    there is neither a view of them nor an array over one."""
+    at = ctypes.c_void_p()
+    checked(library.itree_overlay(*subject.given(), *clip.given(), rule, operation, ctypes.byref(at)))
+    handle, first = _Handle(at, library.itree_polygons_free), ctypes.c_void_p()
+
+    def held(read: Callable[..., int], width: int, letter: Literal["i", "q"]) -> memoryview:
+        count = read(at, ctypes.byref(first))
+        return _held(handle, first.value or 0, width * count, letter).toreadonly()
+
+    points = held(library.itree_polygons_points, 2, "i")
+    ring_offsets = held(library.itree_polygons_ring_offsets, 1, "q")
+    return points, ring_offsets, held(library.itree_polygons_polygon_offsets, 1, "q")
 
 
 _TYPES = {"i": ctypes.c_int32, "q": ctypes.c_int64, "Q": ctypes.c_uint64}

@@ -22,9 +22,14 @@ _CALLS = {
     "itree_locate": (_status, [_address, _length, _address, _length, _address, _length, _address, _address]),
     "itree_meetings_all": (_status, [_address, _length, _address]),
     "itree_meetings_between": (_status, [_address, _length, _address, _length, _address]),
+    "itree_overlay": (_status, [*[_address, _length] * 4, _status, _status, _address]),
     "itree_pairs_count": (_length, [_address]),
     "itree_pairs_first": (_address, [_address]),
     "itree_pairs_free": (None, [_address]),
+    "itree_polygons_free": (None, [_address]),
+    "itree_polygons_points": (_length, [_address, _address]),
+    "itree_polygons_polygon_offsets": (_length, [_address, _address]),
+    "itree_polygons_ring_offsets": (_length, [_address, _address]),
     "itree_snap": (_status, [_address, _length, _address]),
 }
 

@@ -1,5 +1,5 @@
-//! Pairs of edges that meet, edges broken where they meet, and the edge or the horizontal segment straight below a point,
-//! exactly, by a library that is proved in Rattle: slices in, a `Result` out.
+//! Pairs of edges that meet, edges broken where they meet, polygons of what two sets of rings make, and the edge or the
+//! horizontal segment straight below a point, by a library that is proved in Rattle: slices in, a `Result` out.
 //!
 //! ```
 //! use itree::{below, locate, meetings, Edge, Point, Segment};
@@ -20,7 +20,7 @@
 use std::collections::TryReserveError;
 use std::error::Error;
 use std::fmt::{self, Debug, Display, Formatter};
-use std::ops::{Deref, DerefMut};
+use std::ops::{Deref, DerefMut, Range};
 use std::ptr::{self, NonNull};
 use std::slice;
 
@@ -283,6 +283,228 @@ impl Debug for Chains {
     }
 }
 
+/// Which points are inside of rings: by how often the rings go round a point counterclockwise, where y points upwards, less
+/// how often they go round it clockwise.
+#[derive(Clone, Copy, Debug, PartialEq, Eq, Hash)]
+pub enum FillRule {
+    /// An odd number of times.
+    EvenOdd = 0,
+    /// Any number of times but 0.
+    NonZero = 1,
+    /// More than 0 times.
+    Positive = 2,
+    /// Less than 0 times.
+    Negative = 3,
+}
+
+/// What becomes of the inside of a subject and that of a clip.
+#[derive(Clone, Copy, Debug, PartialEq, Eq, Hash)]
+pub enum Operation {
+    /// The points of either.
+    Union = 0,
+    /// The points of both.
+    Intersection = 1,
+    /// The points of the subject that aren't of the clip.
+    Difference = 2,
+    /// The points of just one of the two.
+    Xor = 3,
+}
+
+/// Why there are no polygons.
+#[derive(Clone, Copy, Debug, PartialEq, Eq, Hash)]
+pub enum OverlayFault {
+    /// Memory was refused.
+    Refused,
+    /// A ring stops before it begins, or behind the points.
+    Lengths,
+}
+
+impl Display for OverlayFault {
+    fn fmt(&self, f: &mut Formatter<'_>) -> fmt::Result {
+        match self {
+            OverlayFault::Refused => write!(f, "memory was refused"),
+            OverlayFault::Lengths => write!(f, "a ring stops before it begins, or behind the points"),
+        }
+    }
+}
+
+impl Error for OverlayFault {}
+
+/// Rings: the points of all of them, one ring after the other, and where each stops among these. So the ends are the
+/// offsets of the Arrow format without the first, which is 0; points behind the last end are of no ring.
+#[derive(Clone, Copy, Debug, Default, PartialEq, Eq)]
+pub struct Rings<'a> {
+    /// The points of all rings.
+    pub points: &'a [Point],
+    /// For each ring, the place among the points at which it stops.
+    pub ends: &'a [usize],
+}
+
+/// A polygon in memory that is its `Polygons`'.
+#[derive(Clone, Copy, PartialEq, Eq)]
+pub struct Polygon<'a> {
+    points: &'a [Point],
+    /// Where each of its rings begins among the points, and where the last stops.
+    offsets: &'a [usize],
+}
+
+impl<'a> Polygon<'a> {
+    /// The outer ring, which runs counterclockwise.
+    pub fn outer(&self) -> &'a [Point] {
+        &self.points[self.offsets[0]..self.offsets[1]]
+    }
+
+    /// The holes, which run clockwise.
+    pub fn holes(&self) -> impl ExactSizeIterator<Item = &'a [Point]> {
+        rings_at(self.points, &self.offsets[1..])
+    }
+
+    /// The outer ring, and behind it the holes.
+    pub fn rings(&self) -> impl ExactSizeIterator<Item = &'a [Point]> {
+        rings_at(self.points, self.offsets)
+    }
+}
+
+impl Debug for Polygon<'_> {
+    fn fmt(&self, f: &mut Formatter<'_>) -> fmt::Result {
+        f.debug_list().entries(self.rings()).finish()
+    }
+}
+
+/// The rings that begin and stop at these places.
+fn rings_at<'a>(points: &'a [Point], offsets: &'a [usize]) -> impl ExactSizeIterator<Item = &'a [Point]> {
+    offsets.windows(2).map(move |it| &points[it[0]..it[1]])
+}
+
+/// Polygons where the library wrote them. They are given back where this is dropped.
+pub struct Polygons {
+    handle: NonNull<calls::Handle>,
+    points: *const Point,
+    point_count: usize,
+    ring_offsets: *const usize,
+    ring_offset_count: usize,
+    polygon_offsets: *const usize,
+    polygon_offset_count: usize,
+}
+
+// SAFETY: the polygons are this value's own, their memory is the process's, and they are only read.
+unsafe impl Send for Polygons {}
+unsafe impl Sync for Polygons {}
+
+impl Polygons {
+    /// How many polygons there are.
+    pub fn len(&self) -> usize {
+        self.polygon_offset_count - 1
+    }
+
+    /// Whether there is no polygon.
+    pub fn is_empty(&self) -> bool {
+        self.len() == 0
+    }
+
+    /// The polygon at this place. Panics where there is none.
+    pub fn polygon(&self, place: usize) -> Polygon<'_> {
+        assert!(
+            place < self.len(),
+            "there are {} polygons, and none at {place}",
+            self.len()
+        );
+        let offsets = self.polygon_offsets();
+        Polygon {
+            points: self.points(),
+            offsets: &self.ring_offsets()[offsets[place]..=offsets[place + 1]],
+        }
+    }
+
+    /// The polygons.
+    pub fn iter(&self) -> PolygonsIter<'_> {
+        PolygonsIter {
+            polygons: self,
+            places: 0..self.len(),
+        }
+    }
+
+    /// The points of all rings, one ring behind the other.
+    pub fn points(&self) -> &[Point] {
+        if self.point_count == 0 {
+            return &[];
+        }
+        // SAFETY: so many points lie there, until the handle is given back, and nothing else leads there.
+        unsafe { slice::from_raw_parts(self.points, self.point_count) }
+    }
+
+    /// Where each ring begins among the points, and at last how many points there are: one number more than there are
+    /// rings.
+    pub fn ring_offsets(&self) -> &[usize] {
+        // SAFETY: as in `points`; there is one offset more than there are rings.
+        unsafe { slice::from_raw_parts(self.ring_offsets, self.ring_offset_count) }
+    }
+
+    /// Where each polygon begins among the rings, and at last how many rings there are: one number more than there are
+    /// polygons.
+    pub fn polygon_offsets(&self) -> &[usize] {
+        // SAFETY: as in `points`; there is one offset more than there are polygons.
+        unsafe { slice::from_raw_parts(self.polygon_offsets, self.polygon_offset_count) }
+    }
+
+    /// The rings of all polygons, as `overlay_rings` takes them.
+    pub fn rings(&self) -> Rings<'_> {
+        Rings {
+            points: self.points(),
+            ends: &self.ring_offsets()[1..],
+        }
+    }
+}
+
+impl Drop for Polygons {
+    fn drop(&mut self) {
+        // SAFETY: the handle is this value's own.
+        unsafe { calls::itree_polygons_free(self.handle.as_ptr()) }
+    }
+}
+
+impl Debug for Polygons {
+    fn fmt(&self, f: &mut Formatter<'_>) -> fmt::Result {
+        f.debug_list().entries(self.iter()).finish()
+    }
+}
+
+impl<'a> IntoIterator for &'a Polygons {
+    type Item = Polygon<'a>;
+    type IntoIter = PolygonsIter<'a>;
+
+    fn into_iter(self) -> PolygonsIter<'a> {
+        self.iter()
+    }
+}
+
+/// Goes over polygons.
+#[derive(Clone, Debug)]
+pub struct PolygonsIter<'a> {
+    polygons: &'a Polygons,
+    places: Range<usize>,
+}
+
+impl<'a> Iterator for PolygonsIter<'a> {
+    type Item = Polygon<'a>;
+
+    fn next(&mut self) -> Option<Polygon<'a>> {
+        self.places.next().map(|place| self.polygons.polygon(place))
+    }
+
+    fn size_hint(&self) -> (usize, Option<usize>) {
+        self.places.size_hint()
+    }
+}
+
+impl DoubleEndedIterator for PolygonsIter<'_> {
+    fn next_back(&mut self) -> Option<Self::Item> {
+        self.places.next_back().map(|place| self.polygons.polygon(place))
+    }
+}
+
+impl ExactSizeIterator for PolygonsIter<'_> {}
+
 /// The calls of `itree.h`.
 mod calls {
     use super::{Edge, Pair, Point, Segment};
@@ -291,6 +513,7 @@ mod calls {
     pub const OVERLAP: i32 = 2;
     pub const CROSSING: i32 = 2;
     pub const MEETING: i32 = 2;
+    pub const LENGTHS: i32 = 3;
 
     pub const APART: i32 = 0;
     pub const TOUCH: i32 = 1;
@@ -359,6 +582,28 @@ mod calls {
         pub fn itree_chains_offsets(chains: *mut Handle) -> *mut usize;
 
         pub fn itree_chains_free(chains: *mut Handle);
+
+        pub fn itree_overlay(
+            subject: *const Point,
+            subject_count: usize,
+            subject_ends: *const usize,
+            subject_rings: usize,
+            clip: *const Point,
+            clip_count: usize,
+            clip_ends: *const usize,
+            clip_rings: usize,
+            rule: i32,
+            operation: i32,
+            polygons: *mut *mut Handle,
+        ) -> i32;
+
+        pub fn itree_polygons_points(polygons: *const Handle, first: *mut *const Point) -> usize;
+
+        pub fn itree_polygons_ring_offsets(polygons: *const Handle, first: *mut *const usize) -> usize;
+
+        pub fn itree_polygons_polygon_offsets(polygons: *const Handle, first: *mut *const usize) -> usize;
+
+        pub fn itree_polygons_free(polygons: *mut Handle);
 
         pub fn itree_locate(
             edges: *const Edge,
@@ -550,6 +795,136 @@ pub fn snap(edges: &[Edge]) -> Result<Chains, Refused> {
             handle,
         })
     }
+}
+
+/// The polygons of what the operation makes of the inside of the subject and that of the clip, where the library wrote
+/// them. Both are rings, which are copied; `overlay_rings` reads them where they lie.
+///
+/// A ring goes from each of its points to the next one, and from the last to the first. It may end with its first point
+/// again, run either way, and have one point or none. Rings may cross, touch and lie along each other and themselves, and
+/// stand there more than once. The rule says which points are inside.
+///
+/// The polygons wind once around each point of the result, and not at all around any other, where the point isn't within
+/// half a unit, on both axes, of an edge of the rings given; and around every point where all of these edges run along the
+/// axes. Around no point do they wind more often. Their rings visit no point twice, and have no points on straight lines:
+/// with these, edges of rings meet only at common ends, so a corner may touch the side of a ring.
+///
+/// ```
+/// use itree::{overlay, FillRule, Operation, Point};
+///
+/// let ring = |corners: [(i32, i32); 4]| corners.map(|(x, y)| Point { x, y });
+/// let (field, pond) = (ring([(0, 0), (9, 0), (9, 9), (0, 9)]), ring([(3, 3), (6, 3), (6, 6), (3, 6)]));
+/// let polygons = overlay(&[field], &[pond], Operation::Difference, FillRule::NonZero).unwrap();
+/// for polygon in &polygons {
+///     assert_eq!((polygon.outer().len(), polygon.holes().len()), (4, 1));
+/// }
+/// assert_eq!(polygons.len(), 1);
+/// ```
+pub fn overlay<S: AsRef<[Point]>, C: AsRef<[Point]>>(
+    subject: &[S],
+    clip: &[C],
+    operation: Operation,
+    rule: FillRule,
+) -> Result<Polygons, Refused> {
+    let (subject_points, subject_ends) = side_by_side(subject)?;
+    let (clip_points, clip_ends) = side_by_side(clip)?;
+    let subject = Rings {
+        points: &subject_points,
+        ends: &subject_ends,
+    };
+    let clip = Rings {
+        points: &clip_points,
+        ends: &clip_ends,
+    };
+    overlay_rings(subject, clip, operation, rule).map_err(|_| Refused)
+}
+
+/// The polygons of what is inside of the rings by the rule: the union of them with nothing. So rings that cross themselves
+/// become valid polygons.
+///
+/// ```
+/// use itree::{simplify, FillRule, Point};
+///
+/// let bow_tie = [(0, 0), (3, 1), (3, 0), (0, 1)].map(|(x, y)| Point { x, y });
+/// assert_eq!(simplify(&[bow_tie], FillRule::EvenOdd).unwrap().len(), 2);
+/// ```
+pub fn simplify<R: AsRef<[Point]>>(rings: &[R], rule: FillRule) -> Result<Polygons, Refused> {
+    overlay(rings, &[[]; 0], Operation::Union, rule)
+}
+
+/// As `overlay`, of rings that are read where they lie, as those of `Polygons::rings`. It is refused too where a ring stops
+/// before it begins or behind the points: `OverlayFault::Lengths`.
+///
+/// ```
+/// use itree::{overlay_rings, FillRule, Operation, Point, Rings};
+///
+/// let points = [(0, 0), (2, 0), (2, 2), (0, 2)].map(|(x, y)| Point { x, y });
+/// let square = Rings { points: &points, ends: &[4] };
+/// let polygons = overlay_rings(square, Rings::default(), Operation::Union, FillRule::NonZero).unwrap();
+/// assert_eq!(polygons.points().len(), 4);
+/// ```
+pub fn overlay_rings(
+    subject: Rings<'_>,
+    clip: Rings<'_>,
+    operation: Operation,
+    rule: FillRule,
+) -> Result<Polygons, OverlayFault> {
+    let mut handle = ptr::null_mut();
+    // SAFETY: as in `below`.
+    let status = unsafe {
+        calls::itree_overlay(
+            subject.points.as_ptr(),
+            subject.points.len(),
+            subject.ends.as_ptr(),
+            subject.ends.len(),
+            clip.points.as_ptr(),
+            clip.points.len(),
+            clip.ends.as_ptr(),
+            clip.ends.len(),
+            rule as i32,
+            operation as i32,
+            &mut handle,
+        )
+    };
+    if status == calls::LENGTHS {
+        return Err(OverlayFault::Lengths);
+    }
+    let handle = answered(status, handle).map_err(|_| OverlayFault::Refused)?;
+    Ok(polygons_of(handle))
+}
+
+/// The polygons of a handle that a call wrote.
+fn polygons_of(handle: NonNull<calls::Handle>) -> Polygons {
+    let (mut points, mut ring_offsets, mut polygon_offsets) = (ptr::null(), ptr::null(), ptr::null());
+    // SAFETY: the handle was written by a call, and nothing else has it.
+    let (point_count, ring_offset_count, polygon_offset_count) = unsafe {
+        (
+            calls::itree_polygons_points(handle.as_ptr(), &mut points),
+            calls::itree_polygons_ring_offsets(handle.as_ptr(), &mut ring_offsets),
+            calls::itree_polygons_polygon_offsets(handle.as_ptr(), &mut polygon_offsets),
+        )
+    };
+    Polygons {
+        handle,
+        points,
+        point_count,
+        ring_offsets,
+        ring_offset_count,
+        polygon_offsets,
+        polygon_offset_count,
+    }
+}
+
+/// The points of all rings, one ring after the other, and where each stops.
+fn side_by_side<R: AsRef<[Point]>>(rings: &[R]) -> Result<(Vec<Point>, Vec<usize>), TryReserveError> {
+    let (mut points, mut ends) = (Vec::new(), Vec::new());
+    points.try_reserve_exact(rings.iter().map(|ring| ring.as_ref().len()).sum())?;
+    ends.try_reserve_exact(rings.len())?;
+    for ring in rings {
+        points.extend_from_slice(ring.as_ref());
+        ends.push(points.len());
+    }
+    Ok((points, ends))
 }
 
 /// For each point, in order, the place of the edge straight below it, if there is one.

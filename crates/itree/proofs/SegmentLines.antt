@@ -37,12 +37,6 @@ number_said count (Some (sweep_line.Segment segment)) names is = ap (λ (test : 
 number_said count (Some (sweep_line.Point point)) names is = ap (λ (test : Bool). cond test (count + 1) count) is ∙ omega arith
 number_said count None names is = ap (λ (test : Bool). cond test (count + 1) count) is ∙ omega arith
 
--- an item that says a segment
-the_segment : (said : Option SweepLine) → says_segment said ≡ true → (segment : Segment) × (said ≡ Some (sweep_line.Segment segment))
-the_segment (Some (sweep_line.Segment segment)) is = (segment, refl)
-the_segment (Some (sweep_line.Point point)) is = cc
-the_segment None is = cc
-
 -- one more line passes, and whether it says a segment is decided
 module _ (before left : List (List ℕ)) (line : List ℕ) (after : List (List ℕ)) (said : List SweepLine) (count : ℕ) (names : Bool) (cut : left ≡ line ∷ after) (decided : (here : Option SweepLine) → LineSays SaysSweepLine line here → names ≡ says_segment here) (passed : Passed before left said count) where
   pub Passed-next : Passed (before ++ line ∷ []) after said (cond names (count + 1) count)

@@ -7,7 +7,7 @@
 --   a private call that answers `(i32, Raw<Kind, Global>)`, as `all_meetings`: it is proved as ever;
 --   an export with the clause `made`, as `itree_meetings_all`, and its walk over the row of the kind: behind the private
 --   call `parts_out` takes the answer apart, and at the end `made_in` makes the clause of what is owned. Only what is
---   done with the parameters is its own: `itree_meetings_between` has one slice more;
+--   done with the parameters is its own: `itree_meetings_between` has one slice more, `itree_overlay` four and two numbers;
 --   walks as those of `itree_pairs_first` and `itree_pairs_free` for what reads it and what frees it: `held_out` opens
 --   what the handle owns, and `held_in` closes it.
 -- The walks take the names of the toolchain's logic from `Steps`.

@@ -1,8 +1,10 @@
 pub mod Chains
+pub mod Choices
 pub mod Handle
 pub mod Heights
 pub mod Kinds
 pub mod Meetings
+pub mod Overlay
 pub mod Places
 pub mod Raw
 pub mod Status

@@ -1,4 +1,5 @@
-//! Calls from C, and so from each language that calls C: a static library over `itree_lib`, `plane` and `overlay`.
+//! Calls from C, and so from each language that calls C: a static library over `itree_lib`, `plane`, `overlay` and
+//! `polygons`.
 //!
 //! Each function takes slices, which are a pointer and a length in C, writes its answers into slices of its caller's,
 //! and answers a status. An answer whose size isn't known before goes out as a handle, which the caller gives back.
@@ -7,12 +8,15 @@
 #![tactic(auto)]
 
 pub mod chains;
+pub mod choices;
 pub mod handle;
 pub mod heights;
 pub mod kinds;
 pub mod meetings;
+pub mod overlaid;
 pub mod pairs;
 pub mod places;
+pub mod polygon_lists;
 pub mod raw;
 pub mod snapped;
 pub mod status;

@@ -18,7 +18,16 @@ pub const MEETING: i32 = 2;
 /// The lengths of two slices don't fit each other.
 pub const LENGTHS: i32 = 3;
 
+/// A rule or an operation isn't one of their numbers. `itree.h` has 4 for a faulty pointer, which no call here answers.
+pub const CHOICE: i32 = 5;
+
 // `itree.h` has these numbers.
 const _: () = prove!(
-    ANSWERED == 0 && REFUSED == 1 && OVERLAP == 2 && CROSSING == 2 && MEETING == 2 && LENGTHS == 3
+    ANSWERED == 0
+        && REFUSED == 1
+        && OVERLAP == 2
+        && CROSSING == 2
+        && MEETING == 2
+        && LENGTHS == 3
+        && CHOICE == 5
 );

@@ -5,7 +5,6 @@ pub mod Clear
 pub mod Counted
 pub mod Crossing
 pub mod Exact
-pub mod Falling
 pub mod Heights
 pub mod Hobby
 pub mod Means
@@ -16,8 +15,8 @@ pub mod Passing
 pub mod Paths
 pub mod Pieces
 pub mod Reversed
-pub mod Rising
 pub mod Rounding
+pub mod Slanted
 pub mod Standing
 pub mod Sums
 pub mod Windings

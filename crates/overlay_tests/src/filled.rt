@@ -15,11 +15,13 @@ const LEAST: i32 = i32::MIN;
 
 const MOST: i32 = i32::MAX;
 
-// Rings by their points, cut by hand where they meet, and the edges that a fill keeps of them, in any order.
-struct Row {
-    name: &'static str,
-    regions: Regions,
-    kept: &'static [[i32; 4]],
+/// Rings by their points, cut by hand where they meet; the edges that a fill keeps of them, in any order; and the polygons that
+/// these bound, without points on straight lines, of which each has its outer ring and then its holes.
+pub struct Row {
+    pub name: &'static str,
+    pub regions: Regions,
+    pub kept: &'static [[i32; 4]],
+    pub polygons: &'static [&'static [&'static [[i32; 2]]]],
 }
 
 const SQUARE: &[[i32; 2]] = &[[0, 0], [2, 0], [2, 2], [0, 2]];
@@ -28,7 +30,9 @@ const SQUARE_BACK: &[[i32; 2]] = &[[0, 0], [0, 2], [2, 2], [2, 0]];
 
 const AROUND: &[[i32; 4]] = &[[0, 0, 2, 0], [2, 0, 2, 2], [2, 2, 0, 2], [0, 2, 0, 0]];
 
-static ROWS: [Row; 40] = [
+const ONE_SQUARE: &[&[&[[i32; 2]]]] = &[&[SQUARE]];
+
+pub static ROWS: [Row; 40] = [
     Row {
         name: "a square, EvenOdd",
         regions: Regions {
@@ -38,6 +42,7 @@ static ROWS: [Row; 40] = [
             operation: Operation::Union,
         },
         kept: AROUND,
+        polygons: ONE_SQUARE,
     },
     Row {
         name: "a square, NonZero",
@@ -48,6 +53,7 @@ static ROWS: [Row; 40] = [
             operation: Operation::Union,
         },
         kept: AROUND,
+        polygons: ONE_SQUARE,
     },
     Row {
         name: "a square, Positive",
@@ -58,6 +64,7 @@ static ROWS: [Row; 40] = [
             operation: Operation::Union,
         },
         kept: AROUND,
+        polygons: ONE_SQUARE,
     },
     Row {
         name: "a square, Negative",
@@ -68,6 +75,7 @@ static ROWS: [Row; 40] = [
             operation: Operation::Union,
         },
         kept: &[],
+        polygons: &[],
     },
     Row {
         name: "a square run the other way, EvenOdd",
@@ -78,6 +86,7 @@ static ROWS: [Row; 40] = [
             operation: Operation::Union,
         },
         kept: AROUND,
+        polygons: ONE_SQUARE,
     },
     Row {
         name: "a square run the other way, NonZero",
@@ -88,6 +97,7 @@ static ROWS: [Row; 40] = [
             operation: Operation::Union,
         },
         kept: AROUND,
+        polygons: ONE_SQUARE,
     },
     Row {
         name: "a square run the other way, Positive",
@@ -98,6 +108,7 @@ static ROWS: [Row; 40] = [
             operation: Operation::Union,
         },
         kept: &[],
+        polygons: &[],
     },
     Row {
         name: "a square run the other way, Negative",
@@ -108,6 +119,7 @@ static ROWS: [Row; 40] = [
             operation: Operation::Union,
         },
         kept: AROUND,
+        polygons: ONE_SQUARE,
     },
     Row {
         name: "a square in a square, EvenOdd",
@@ -130,6 +142,10 @@ static ROWS: [Row; 40] = [
             [2, 4, 4, 4],
             [4, 4, 4, 2],
         ],
+        polygons: &[&[
+            &[[0, 0], [6, 0], [6, 6], [0, 6]],
+            &[[2, 2], [2, 4], [4, 4], [4, 2]],
+        ]],
     },
     Row {
         name: "a square in a square, NonZero",
@@ -143,6 +159,7 @@ static ROWS: [Row; 40] = [
             operation: Operation::Union,
         },
         kept: &[[0, 0, 6, 0], [6, 0, 6, 6], [6, 6, 0, 6], [0, 6, 0, 0]],
+        polygons: &[&[&[[0, 0], [6, 0], [6, 6], [0, 6]]]],
     },
     Row {
         name: "a square in a square, Positive",
@@ -156,6 +173,7 @@ static ROWS: [Row; 40] = [
             operation: Operation::Union,
         },
         kept: &[[0, 0, 6, 0], [6, 0, 6, 6], [6, 6, 0, 6], [0, 6, 0, 0]],
+        polygons: &[&[&[[0, 0], [6, 0], [6, 6], [0, 6]]]],
     },
     Row {
         name: "a square in a square run the other way, NonZero",
@@ -178,6 +196,10 @@ static ROWS: [Row; 40] = [
             [2, 4, 4, 4],
             [4, 4, 4, 2],
         ],
+        polygons: &[&[
+            &[[0, 0], [6, 0], [6, 6], [0, 6]],
+            &[[2, 2], [2, 4], [4, 4], [4, 2]],
+        ]],
     },
     Row {
         name: "a square in a square run the other way, Positive",
@@ -200,6 +222,10 @@ static ROWS: [Row; 40] = [
             [2, 4, 4, 4],
             [4, 4, 4, 2],
         ],
+        polygons: &[&[
+            &[[0, 0], [6, 0], [6, 6], [0, 6]],
+            &[[2, 2], [2, 4], [4, 4], [4, 2]],
+        ]],
     },
     Row {
         name: "squares that share an edge, all of both",
@@ -217,6 +243,7 @@ static ROWS: [Row; 40] = [
             [2, 2, 0, 2],
             [0, 2, 0, 0],
         ],
+        polygons: &[&[&[[0, 0], [4, 0], [4, 2], [0, 2]]]],
     },
     Row {
         name: "squares that share an edge, what both have",
@@ -227,6 +254,7 @@ static ROWS: [Row; 40] = [
             operation: Operation::Intersection,
         },
         kept: &[],
+        polygons: &[],
     },
     Row {
         name: "squares that share a part of an edge",
@@ -246,6 +274,16 @@ static ROWS: [Row; 40] = [
             [2, 2, 0, 2],
             [0, 2, 0, 0],
         ],
+        polygons: &[&[&[
+            [0, 0],
+            [2, 0],
+            [2, 1],
+            [4, 1],
+            [4, 3],
+            [2, 3],
+            [2, 2],
+            [0, 2],
+        ]]],
     },
     Row {
         name: "squares that touch at a corner",
@@ -264,6 +302,10 @@ static ROWS: [Row; 40] = [
             [2, 1, 2, 2],
             [2, 2, 1, 2],
             [1, 2, 1, 1],
+        ],
+        polygons: &[
+            &[&[[0, 0], [1, 0], [1, 1], [0, 1]]],
+            &[&[[1, 1], [2, 1], [2, 2], [1, 2]]],
         ],
     },
     Row {
@@ -284,6 +326,16 @@ static ROWS: [Row; 40] = [
             [1, 2, 0, 2],
             [0, 2, 0, 0],
         ],
+        polygons: &[&[&[
+            [0, 0],
+            [2, 0],
+            [2, 1],
+            [3, 1],
+            [3, 3],
+            [1, 3],
+            [1, 2],
+            [0, 2],
+        ]]],
     },
     Row {
         name: "squares that overlap, Intersection",
@@ -294,6 +346,7 @@ static ROWS: [Row; 40] = [
             operation: Operation::Intersection,
         },
         kept: &[[1, 1, 2, 1], [2, 1, 2, 2], [2, 2, 1, 2], [1, 2, 1, 1]],
+        polygons: &[&[&[[1, 1], [2, 1], [2, 2], [1, 2]]]],
     },
     Row {
         name: "squares that overlap, Difference",
@@ -311,6 +364,7 @@ static ROWS: [Row; 40] = [
             [1, 2, 0, 2],
             [0, 2, 0, 0],
         ],
+        polygons: &[&[&[[0, 0], [2, 0], [2, 1], [1, 1], [1, 2], [0, 2]]]],
     },
     Row {
         name: "squares that overlap, Xor",
@@ -334,6 +388,10 @@ static ROWS: [Row; 40] = [
             [1, 2, 2, 2],
             [2, 2, 2, 1],
         ],
+        polygons: &[
+            &[&[[0, 0], [2, 0], [2, 1], [1, 1], [1, 2], [0, 2]]],
+            &[&[[1, 2], [2, 2], [2, 1], [3, 1], [3, 3], [1, 3]]],
+        ],
     },
     Row {
         name: "one square as both, Union",
@@ -344,6 +402,7 @@ static ROWS: [Row; 40] = [
             operation: Operation::Union,
         },
         kept: AROUND,
+        polygons: ONE_SQUARE,
     },
     Row {
         name: "one square as both, Intersection",
@@ -354,6 +413,7 @@ static ROWS: [Row; 40] = [
             operation: Operation::Intersection,
         },
         kept: AROUND,
+        polygons: ONE_SQUARE,
     },
     Row {
         name: "one square as both, Difference",
@@ -364,6 +424,7 @@ static ROWS: [Row; 40] = [
             operation: Operation::Difference,
         },
         kept: &[],
+        polygons: &[],
     },
     Row {
         name: "one square as both, Xor",
@@ -374,6 +435,7 @@ static ROWS: [Row; 40] = [
             operation: Operation::Xor,
         },
         kept: &[],
+        polygons: &[],
     },
     // Its left half is run counterclockwise, its right half isn't.
     Row {
@@ -392,6 +454,7 @@ static ROWS: [Row; 40] = [
             [2, 0, 2, 2],
             [2, 2, 1, 1],
         ],
+        polygons: &[&[&[[0, 0], [1, 1], [0, 2]]], &[&[[1, 1], [2, 0], [2, 2]]]],
     },
     Row {
         name: "a bow-tie, NonZero",
@@ -409,6 +472,7 @@ static ROWS: [Row; 40] = [
             [2, 0, 2, 2],
             [2, 2, 1, 1],
         ],
+        polygons: &[&[&[[0, 0], [1, 1], [0, 2]]], &[&[[1, 1], [2, 0], [2, 2]]]],
     },
     Row {
         name: "a bow-tie, Positive",
@@ -419,6 +483,7 @@ static ROWS: [Row; 40] = [
             operation: Operation::Union,
         },
         kept: &[[0, 0, 1, 1], [1, 1, 0, 2], [0, 2, 0, 0]],
+        polygons: &[&[&[[0, 0], [1, 1], [0, 2]]]],
     },
     Row {
         name: "a bow-tie, Negative",
@@ -429,6 +494,7 @@ static ROWS: [Row; 40] = [
             operation: Operation::Union,
         },
         kept: &[[1, 1, 2, 0], [2, 0, 2, 2], [2, 2, 1, 1]],
+        polygons: &[&[&[[1, 1], [2, 0], [2, 2]]]],
     },
     Row {
         name: "no subject, all of both",
@@ -439,6 +505,7 @@ static ROWS: [Row; 40] = [
             operation: Operation::Union,
         },
         kept: AROUND,
+        polygons: ONE_SQUARE,
     },
     Row {
         name: "no subject, what only it has",
@@ -449,6 +516,7 @@ static ROWS: [Row; 40] = [
             operation: Operation::Difference,
         },
         kept: &[],
+        polygons: &[],
     },
     Row {
         name: "no clip, what only the subject has",
@@ -459,6 +527,7 @@ static ROWS: [Row; 40] = [
             operation: Operation::Difference,
         },
         kept: AROUND,
+        polygons: ONE_SQUARE,
     },
     Row {
         name: "neither",
@@ -469,6 +538,7 @@ static ROWS: [Row; 40] = [
             operation: Operation::Xor,
         },
         kept: &[],
+        polygons: &[],
     },
     Row {
         name: "a point, and an edge there and back",
@@ -479,6 +549,7 @@ static ROWS: [Row; 40] = [
             operation: Operation::Union,
         },
         kept: &[],
+        polygons: &[],
     },
     Row {
         name: "a ring run twice, EvenOdd",
@@ -489,6 +560,7 @@ static ROWS: [Row; 40] = [
             operation: Operation::Union,
         },
         kept: &[],
+        polygons: &[],
     },
     Row {
         name: "a ring run twice, NonZero",
@@ -499,6 +571,7 @@ static ROWS: [Row; 40] = [
             operation: Operation::Union,
         },
         kept: AROUND,
+        polygons: ONE_SQUARE,
     },
     Row {
         name: "a ring run twice, Positive",
@@ -509,6 +582,7 @@ static ROWS: [Row; 40] = [
             operation: Operation::Union,
         },
         kept: AROUND,
+        polygons: ONE_SQUARE,
     },
     Row {
         name: "a hole that touches its outer ring",
@@ -531,6 +605,7 @@ static ROWS: [Row; 40] = [
             [2, 1, 2, 3],
             [2, 3, 4, 2],
         ],
+        polygons: &[&[&[[0, 0], [4, 0], [4, 4], [0, 4]], &[[4, 2], [2, 1], [2, 3]]]],
     },
     Row {
         name: "from corner to corner, all of both",
@@ -546,6 +621,7 @@ static ROWS: [Row; 40] = [
             [MOST, MOST, LEAST, MOST],
             [LEAST, MOST, LEAST, LEAST],
         ],
+        polygons: &[&[&[[LEAST, LEAST], [MOST, LEAST], [MOST, MOST], [LEAST, MOST]]]],
     },
     Row {
         name: "from corner to corner, what only the subject has",
@@ -560,6 +636,7 @@ static ROWS: [Row; 40] = [
             [MOST, LEAST, MOST, MOST],
             [MOST, MOST, LEAST, LEAST],
         ],
+        polygons: &[&[&[[LEAST, LEAST], [MOST, LEAST], [MOST, MOST]]]],
     },
 ];
 

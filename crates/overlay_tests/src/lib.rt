@@ -1,4 +1,4 @@
-//! For tests alone: worked examples of the public calls of `overlay`.
+//! For tests alone: worked examples of the public calls of `overlay` and of `polygons`.
 #![tactic(auto)]
 
 #[cfg(test)]
@@ -7,6 +7,8 @@ mod bounded;
 mod contoured;
 #[cfg(test)]
 mod filled;
+#[cfg(test)]
+mod overlaid;
 #[cfg(test)]
 mod snapped;
 #[cfg(test)]

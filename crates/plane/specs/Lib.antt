@@ -2,4 +2,5 @@ pub mod Ends
 pub mod Locate
 pub mod Meet
 pub mod Pairs
+pub mod ReadAhead
 pub mod SweepLine

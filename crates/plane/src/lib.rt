@@ -9,5 +9,6 @@ pub mod locate;
 pub mod meet;
 pub mod pairs;
 pub mod point;
+mod read_ahead;
 pub mod sweep_line;
 pub mod ways;

@@ -1,2 +1,3 @@
 pub mod GroupingLemmas
+pub mod OverlayLemmas
 pub mod RingLemmas

@@ -3,15 +3,18 @@
 ghost use Rattle.std.specs.Prelude.{◌≡◌, ◌↔◌, [], List, OnOk, OnErr, Err};
 ghost use Rattle.plane.specs.declared.point.Point.{Point};
 ghost use Rattle.overlay.specs.declared.fill.rules.Operation.TheVariants.{Union};
+ghost use Rattle.overlay.specs.Snap.Offsets.{Extends};
 ghost use Rattle.polygons.specs.Overlay.{IsOverlay};
 ghost use Rattle.polygons.specs.Polygons.{AreAppended};
 ghost use Rattle.polygons.specs.Rings.{HasEnds, edges_of};
 
 use crate::fault::OverlayFault;
-use crate::rings::{Polygons, Rings, are_ends};
+use crate::grouping::append_polygons;
+use crate::rings::{Polygons, Rings, are_ends, edges_of};
 use i_tree::Refusal;
 use i_tree::status::exp::StatusCollection;
 use i_tree::status::tree::StatusTree;
+use overlay::boundary::bounding_edges;
 use overlay::fill::{FillRule, Operation};
 use plane::sweep_line::ActiveEdge;
 use std::alloc::Allocator;
@@ -76,7 +79,47 @@ where
     if !are_ends(subject) || !are_ends(clip) {
         return Err(OverlayFault::Lengths);
     }
-    Err(OverlayFault::Refused(Refusal::OutOfMemory))
+    let points = out.points.len();
+    let rings = out.ring_ends.len();
+    let polygons = out.polygon_ends.len();
+    let outcome = append_overlay(subject, clip, rule, operation, status, out);
+    status.clear();
+    if let Err(cause) = outcome {
+        out.points.truncate(points);
+        out.ring_ends.truncate(rings);
+        out.polygon_ends.truncate(polygons);
+        return Err(OverlayFault::Refused(cause));
+    }
+    Ok(())
+}
+
+// As `overlay_over`, from an empty status and right ends on. Where it is refused, it may have appended something.
+fn append_overlay<C, A>(
+    subject: Rings,
+    clip: Rings,
+    rule: FillRule,
+    operation: Operation,
+    status: &mut C,
+    out: &mut Polygons<A>,
+) -> Result<(), Refusal>
+where
+    C: StatusCollection<ActiveEdge, i64, ()>,
+    A: Allocator + Copy,
+    requires empty { C.stored status.old ≡ [] }
+    requires ends { HasEnds subject }
+    requires clip_ends { HasEnds clip }
+    ensures ok { OnOk result ((polygons : List (List (List Point)))
+        × IsOverlay rule operation (edges_of subject.entry) (edges_of clip.entry) polygons
+        × AreAppended polygons out.old.points.items out.new.points.items out.old.ring_ends.items out.new.ring_ends.items out.old.polygon_ends.items out.new.polygon_ends.items) }
+    ensures err { OnErr result (Extends out.old.points.items out.new.points.items
+        × Extends out.old.ring_ends.items out.new.ring_ends.items
+        × Extends out.old.polygon_ends.items out.new.polygon_ends.items) }
+{
+    let alloc = *out.points.allocator();
+    let subject_edges = edges_of(alloc, subject)?;
+    let clip_edges = edges_of(alloc, clip)?;
+    let edges = bounding_edges(alloc, &subject_edges, &clip_edges, rule, operation, status)?;
+    append_polygons(status, &edges, out)
 }
 
 /// The polygons of what is inside of the rings by the rule: the union of them with nothing. So rings that cross themselves

@@ -7,7 +7,7 @@
 pub mod areas;
 pub mod call;
 pub mod fault;
-pub mod grouping;
+mod grouping;
 pub mod rings;
 
 pub use call::{overlay, overlay_over, simplify};

@@ -6,6 +6,7 @@
 
 pub mod broken_roads;
 pub mod crossing_candidates;
+pub mod dry_land;
 pub mod inside_polygon;
 pub mod kept_booking;
 pub mod kept_handles;

@@ -1,12 +1,13 @@
 -- A chain is its edge's start, the hot points that the edge passes between its ends, and its end.
-use Rattle.std.proofs.Common.{◌≡◌, ◌≢◌, ◌⊎◌, inl, inr, zero, suc, ℤ, Bool, true, false, not, List, [], ◌∷◌, ◌++◌, get_or, refl, sym, ap, ap₂, ◌∙◌, subst, ⊎_elim, append_assoc, arith}
+use Rattle.std.proofs.Common.{◌≡◌, ◌≢◌, ◌⊎◌, inl, inr, ℤ, Bool, true, false, not, List, [], ◌∷◌, ◌++◌, get_or, refl, sym, ap, ap₂, ◌∙◌, subst, ⊎_elim}
 use Rattle.std.specs.Bool.{MatchBool}
 use Rattle.std.specs.List.{AllPairs, Contains}
-use Rattle.std.proofs.lemmas.Int.{by_lt_z, ints}
 use Rattle.std.proofs.lemmas.List.Elements.{Contains-append_left, Contains-get_or, Contains-push, Contains-push_cases}
 use Rattle.std.proofs.lemmas.List.Kept.{AllPairs-cons}
 use Rattle.std.proofs.lemmas.List.Quantifiers.{all_pairs_push}
 use Rattle.i_tree.proofs.RootLemmas.Lists.{Contains-here, Contains-there}
+use Rattle.plane.proofs.MeetLemmas.Along.{same_or_apart}
+use Rattle.plane.proofs.PairsLemmas.Bags.{here_or_there}
 use Rattle.plane.specs.declared.edge.Edge.{Edge}
 use Rattle.plane.specs.declared.point.Point.{Point}
 use Rattle.overlay.specs.Snap.Chains.{IsChain, IsEnd, IsHot, Passes, Upto}
@@ -14,11 +15,6 @@ use Rattle.overlay.specs.Snap.Hot.{PassesInside}
 use Rattle.overlay.specs.Snap.Stops.{GoesToEnd}
 use Rattle.overlay.specs.Snap.Windings.{end_of, start_of}
 use Rattle.overlay.proofs.SnapLemmas.Along.{Passes-end, Passes-start, Upto-from_start, Upto-to_end, point_at}
-
--- what stands in front stays in front
-pub GoesToEnd-append : (edge : Edge) (before list after : List Point) → GoesToEnd edge (before ++ list) after → (chain : List Point) × GoesToEnd edge list chain × (after ≡ before ++ chain)
-GoesToEnd-append edge before list after (inl (point, is)) = (list, inl (point, refl), is)
-GoesToEnd-append edge before list after (inr (apart, is)) = (list ++ end_of edge ∷ [], inr (apart, refl), is ∙ append_assoc before list (end_of edge ∷ []))
 
 -- what an edge passes is inside it where it is none of its ends
 pub inside_by : (edge : Edge) (x y : ℤ) (end passed : Bool) → MatchBool end (IsEnd edge x y) (¬ (IsEnd edge x y)) → end ≡ false → MatchBool passed (Passes edge x y) (¬ (Passes edge x y)) → MatchBool passed (PassesInside edge x y) (¬ (PassesInside edge x y))
@@ -30,13 +26,6 @@ pub outside_by : (edge : Edge) (x y : ℤ) (end : Bool) → MatchBool end (IsEnd
 outside_by edge x y true is same = λ both. both.1 is
 outside_by edge x y false is same = absurd (cc)
 
--- two whole numbers are the same or not
-same_or : (a b : ℤ) → (a ≡ b) ⊎ (a ≢ b)
-same_or a b =
-    by_lt_z a b
-    (λ less. inr (λ same. omega (arith, ints, less, same)))
-    (λ upto. by_lt_z b a (λ less. inr (λ same. omega (arith, ints, less, same))) (λ back. inl (omega (arith, ints, upto, back))))
-
 -- a point is the edge's start, or its end, or neither
 data EndOr (edge : Edge) (c : Point) : Type 0 where
   is_start : c ≡ start_of edge → EndOr edge c
@@ -44,7 +33,7 @@ data EndOr (edge : Edge) (c : Point) : Type 0 where
   neither : ¬ (IsEnd edge c.x c.y) → EndOr edge c
 
 ends_of : (edge : Edge) (c : Point) → EndOr edge c
-ends_of edge c = go (same_or c.x edge.x0) (same_or c.y edge.y0) (same_or c.x edge.x1) (same_or c.y edge.y1)
+ends_of edge c = go (same_or_apart c.x edge.x0) (same_or_apart c.y edge.y0) (same_or_apart c.x edge.x1) (same_or_apart c.y edge.y1)
   where
     last : (c.x ≡ edge.x1) ⊎ (c.x ≢ edge.x1) → (c.y ≡ edge.y1) ⊎ (c.y ≢ edge.y1) → ¬ ((c.x ≡ edge.x0) × (c.y ≡ edge.y0)) → EndOr edge c
     last (inl x) (inl y) none = is_end (ap₂ point_at x y)
@@ -55,11 +44,6 @@ ends_of edge c = go (same_or c.x edge.x0) (same_or c.y edge.y0) (same_or c.x edg
     go (inl x) (inl y) x1 y1 = is_start (ap₂ point_at x y)
     go (inr x) y x1 y1 = last x1 y1 (λ is. x is.0)
     go (inl x) (inr y) x1 y1 = last x1 y1 (λ is. y is.1)
-
--- a point in front of a list is first, or of the list
-cons_cases : {X : Type 0} (first : X) (list : List X) (c : X) → Contains (first ∷ list) c → (first ≡ c) ⊎ Contains list c
-cons_cases first list c (zero, within, at) = inl at
-cons_cases first list c (suc k, within, at) = inr (k, omega (arith, within), at)
 
 module _ (edges : List Edge) (edge : Edge) (held : Contains edges edge) (inner : List Point)
     (inner_in_order : AllPairs (λ c d. Upto edge c.x c.y d.x d.y) inner) (inner_once : AllPairs (λ c d. c ≢ d) inner)
@@ -93,7 +77,7 @@ module _ (edges : List Edge) (edge : Edge) (held : Contains edges edge) (inner :
       ⊎_elim
       (λ same. subst (λ (p : Point). IsHot edges p.x p.y × Passes edge p.x p.y) same start_is)
       (λ among. let is = of_inner c among in (is.0, is.1.0))
-      (cons_cases (start_of edge) inner c held)
+      (here_or_there (start_of edge) inner c held)
 
   in_front : (c : Point) → IsHot edges c.x c.y × Passes edge c.x c.y → Contains front c ⊎ (c ≡ end_of edge)
   in_front c (hot, passed) = go (ends_of edge c)
@@ -122,7 +106,7 @@ module _ (edges : List Edge) (edge : Edge) (held : Contains edges edge) (inner :
   once : start_of edge ≢ end_of edge → AllPairs (λ c d. c ≢ d) all
   once apart =
       all_pairs_push (λ c d. c ≢ d) front (end_of edge) front_once
-      (λ k d within same. go (get_or front k d) same (cons_cases (start_of edge) inner (get_or front k d) (Contains-get_or front k d within)))
+      (λ k d within same. go (get_or front k d) same (here_or_there (start_of edge) inner (get_or front k d) (Contains-get_or front k d within)))
     where
       go : (c : Point) → c ≡ end_of edge → ¬ ((start_of edge ≡ c) ⊎ Contains inner c)
       go c same (inl start) = apart (start ∙ same)

@@ -58,16 +58,6 @@ GainsPoints-one now point x y = (to, from)
         subst (λ (a : ℤ). Contains (now ++ point ∷ []) (hot_at a y)) (sym same_x)
         (subst (λ (b : ℤ). Contains (now ++ point ∷ []) (hot_at point.x b)) (sym same_y) (Contains-push now point))
 
--- one that is there
-pub GainsPoints-there : (now : List HotPoint) (point : HotPoint) → Contains now point → GainsPoints (IsAt point) now now
-GainsPoints-there now point held x y = (inl, from)
-  where
-    from : Contains now (hot_at x y) ⊎ IsAt point x y → Contains now (hot_at x y)
-    from (inl there) = there
-    from (inr (same_x, same_y)) =
-        subst (λ (a : ℤ). Contains now (hot_at a y)) (sym same_x)
-        (subst (λ (b : ℤ). Contains now (hot_at point.x b)) (sym same_y) held)
-
 pub GainsPoints-push : (before now : List HotPoint) (Is : ℤ → ℤ → Type 0) (px py : ℤ) → GainsPoints Is before now
     → GainsPoints (λ x y. Is x y ⊎ ((x ≡ px) × (y ≡ py))) before (now ++ hot_at px py ∷ [])
 GainsPoints-push before now Is px py gains = GainsPoints-join before now (now ++ hot_at px py ∷ []) Is (IsAt (hot_at px py)) gains (GainsPoints-one now (hot_at px py))

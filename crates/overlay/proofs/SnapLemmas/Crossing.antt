@@ -10,11 +10,11 @@ use Rattle.overlay.specs.Snap.Chains.{AreNotParallel, CrossAt, Passes, UptoOn}
 use Rattle.overlay.specs.Snap.Crossing.{HasParts, RoundsPart}
 use Rattle.overlay.specs.Snap.Rounding.{RoundsOn, RoundsTo}
 use Rattle.overlay.proofs.SnapLemmas.Along.{Upto-to_end, same_on, Upto-from_start, Upto-by_shares}
-use Rattle.overlay.proofs.SnapLemmas.Numbers.{minus_of, n_of, share_same, side, way_from, cross-exchanged}
+use Rattle.overlay.proofs.SnapLemmas.Numbers.{n_of, share_same, side, way_from, cross-exchanged}
 use Rattle.overlay.proofs.SnapLemmas.Pieces.{left_of}
 use Rattle.overlay.proofs.SnapLemmas.Rounding.{RoundsOn-same}
-use Rattle.plane.proofs.MeetLemmas.Identities.{Term, identity, minus, number, plus, same_of, times}
-use Rattle.plane.proofs.MeetLemmas.Shares.{meet-of_parts, part_of_one, part_of_other, parts_of_meet, whole}
+use Rattle.plane.proofs.MeetLemmas.Identities.{identity, minus, number, plus, same_of, times}
+use Rattle.plane.proofs.MeetLemmas.Shares.{meet-of_parts, part_of_one, part_of_other, parts_of_meet, share_of_one, whole}
 
 record Between (from to c : ℤ) : Type 0 where
   first : UptoOn from to from c
@@ -87,23 +87,6 @@ share_by one other point a b first second =
     (way_from point.n a b point.x one.x0 one.x1 other.x0 other.x1 first.x second.x)
     (way_from point.n a b point.y one.y0 one.y1 other.y0 other.y1 first.y second.y)
 
--- the part of the one edge, as `plane` has it, and as a turn at the other
-part_is : (x0 y0 ox0 oy0 ox1 oy1 : ℤ) → cross (ox0 -ℤ x0) (oy0 -ℤ y0) (ox1 -ℤ ox0) (oy1 -ℤ oy0) ≡ cross (ox1 -ℤ ox0) (oy1 -ℤ oy0) (x0 -ℤ ox0) (y0 -ℤ oy0)
-part_is x0 y0 ox0 oy0 ox1 oy1 =
-    let gap : ℤ → ℤ → Term = λ s t. minus (number s) (number t) in
-    identity (minus (times (gap ox0 x0) (gap oy1 oy0)) (times (gap oy0 y0) (gap ox1 ox0))) (minus (times (gap ox1 ox0) (gap y0 oy0)) (times (gap oy1 oy0) (gap x0 ox0))) (omega arith)
-
-turn_cross : (a : ℕ) (ux uy vx vy : ℤ) → ((pos 0 -ℤ pos a) *ℤ cross vx vy ux uy) ≡ (pos a *ℤ cross ux uy vx vy)
-turn_cross a ux uy vx vy =
-    identity (times (minus_of a) (minus (times (number vx) (number uy)) (times (number vy) (number ux)))) (times (n_of a) (minus (times (number ux) (number vy)) (times (number uy) (number vx)))) (omega arith)
-
--- the share of a common point is the part over the whole
-share_of : (one other : Edge) (point : RationalPoint) (a b : ℕ) → IsAtShare one point a → IsAtShare other point b → (pos point.n *ℤ part_of_one one other) ≡ (pos a *ℤ whole one other)
-share_of one other point a b first second =
-    ap (λ z. pos point.n *ℤ z) (part_is one.x0 one.y0 other.x0 other.y0 other.x1 other.y1)
-    ∙ share_by other one point b a second first
-    ∙ turn_cross a (one.x1 -ℤ one.x0) (one.y1 -ℤ one.y0) (other.x1 -ℤ other.x0) (other.y1 -ℤ other.y0)
-
 -- ---- three numbers are three others, or these with their signs turned
 
 -- the first three are the other three, or those with their signs turned
@@ -169,7 +152,7 @@ share_signed n a d s t all first second (inr (x, y, z)) same =
 rounds_there : (one other : Edge) (d s t x y : ℤ) → AreSigned d s t (whole one other) (part_of_one one other) (part_of_other one other) → RoundsPart one d s t x y → (point : RationalPoint) → IsOf one point → IsOf other point → RoundsTo point x y
 rounds_there one other (pos m) s t x y signed rounds point (a, first) (b, second) =
     let some = rounds.parts.some in
-    let same = share_signed point.n a (pos m) s t (whole one other) (part_of_one one other) (part_of_other one other) signed (share_of one other point a b first second) in record {
+    let same = share_signed point.n a (pos m) s t (whole one other) (part_of_one one other) (part_of_other one other) signed (share_of_one one other point a b first second) in record {
       along_x = rounds_at m point.n a s one.x0 (one.x1 -ℤ one.x0) point.x x (omega (arith, ints, some)) point.positive same first.x rounds.along_x;
       along_y = rounds_at m point.n a s one.y0 (one.y1 -ℤ one.y0) point.y y (omega (arith, ints, some)) point.positive same first.y rounds.along_y;
     }

@@ -1,19 +1,18 @@
 -- What the tests of `passes` say of whether an edge passes a whole point.
-use Rattle.std.proofs.Common.{Bool, MatchBool, ap, arith, false, pos, refl, subst, suc, sym, true, zero, ℕ, ℤ, ◌*ℤ◌, ◌*◌, ◌+ℤ◌, ◌-ℤ◌, ◌-◌, ◌<◌, ◌≡◌, ◌≢◌, ◌≤ℤ◌, ◌≤◌}
-use Rattle.std.proofs.lemmas.Int.{ints}
+use Rattle.std.proofs.Common.{Bool, MatchBool, ap, arith, false, inl, inr, negsuc, pos, refl, subst, sym, true, ℕ, ℤ, ◌*ℤ◌, ◌+ℤ◌, ◌-ℤ◌, ◌<ℤ◌, ◌<◌, ◌∙◌, ◌≡◌, ◌≢◌, ◌≤ℤ◌, ◌≤◌, ◌⊎◌}
+use Rattle.std.specs.Int.{int_max, int_min}
+use Rattle.std.specs.Int.RustNames.{unsigned_abs}
+use Rattle.std.specs.Int.Signed.{le_z}
+use Rattle.std.proofs.lemmas.Bool.{cases_lt}
+use Rattle.std.proofs.lemmas.Int.{by_lt_z, clamps, ints}
 use Rattle.plane.specs.declared.edge.Edge.{Edge}
-use Rattle.plane.specs.Meet.Edges.{IsOf, RationalPoint}
 use Rattle.overlay.specs.Snap.Chains.{Passes}
 use Rattle.overlay.specs.Snap.Rounding.{RoundsOn}
-use Rattle.overlay.specs.Snap.Tests.{CrossesFalling, CrossesRising}
+use Rattle.overlay.specs.Snap.Tests.{Crosses, IsPassed}
 use Rattle.overlay.specs.Snap.Windings.{reversed}
 use Rattle.overlay.proofs.SnapLemmas.Along.{Upto-to_end, Upto-from_start}
-use Rattle.overlay.proofs.SnapLemmas.Falling.{falling-Passes, Passes-falling}
-use Rattle.overlay.proofs.SnapLemmas.Numbers.{below, n_of}
 use Rattle.overlay.proofs.SnapLemmas.Reversed.{Passes-reversed}
-use Rattle.overlay.proofs.SnapLemmas.Rising.{Passes-rising, rising-Passes}
-use Rattle.overlay.proofs.SnapLemmas.Rounding.{high}
-use Rattle.plane.proofs.MeetLemmas.Identities.{at_most, minus, number, plus, times}
+use Rattle.overlay.proofs.SnapLemmas.Slanted.{RoundsDown, RoundsUp, Share, along_axis, corner, corner_on, down_rounds, middle, passes_share, rounds_down, rounds_up, up_rounds}
 
 -- z is between the two
 abbrev pub Within : ℤ → ℤ → ℤ → Type 0
@@ -25,183 +24,138 @@ Within from to z = (from ≤ℤ z) × (z ≤ℤ to)
 pub outside_x : (edge : Edge) (x y : ℤ) → edge.x0 ≤ℤ edge.x1 → ¬ (Within edge.x0 edge.x1 x) → ¬ (Passes edge x y)
 outside_x edge x y right none passes = none ((Upto-from_start edge x y passes).along_x.rising right, (Upto-to_end edge x y passes).along_x.rising right)
 
-pub above_below : (edge : Edge) (x y : ℤ) → edge.y0 ≤ℤ edge.y1 → ¬ (Within edge.y0 edge.y1 y) → ¬ (Passes edge x y)
-above_below edge x y up none passes = none ((Upto-from_start edge x y passes).along_y.rising up, (Upto-to_end edge x y passes).along_y.rising up)
+pub outside_y : (edge : Edge) (x y low high : ℤ) → low ≡ int_min edge.y0 edge.y1 → high ≡ int_max edge.y0 edge.y1 → ¬ (Within low high y) → ¬ (Passes edge x y)
+outside_y edge x y low high is_low is_high none passes =
+    let start = (Upto-from_start edge x y passes).along_y in
+    let end = (Upto-to_end edge x y passes).along_y in
+    by_lt_z edge.y1 edge.y0
+    (λ falls. none (omega (arith, ints, clamps, is_low, falls, end.falling (omega (arith, ints, falls))), omega (arith, ints, clamps, is_high, falls, start.falling (omega (arith, ints, falls)))))
+    (λ rises. none (omega (arith, ints, clamps, is_low, rises, start.rising rises), omega (arith, ints, clamps, is_high, rises, end.rising rises)))
 
-pub below_above : (edge : Edge) (x y : ℤ) → edge.y1 ≤ℤ edge.y0 → ¬ (Within edge.y1 edge.y0 y) → ¬ (Passes edge x y)
-below_above edge x y down none passes = none ((Upto-to_end edge x y passes).along_y.falling down, (Upto-from_start edge x y passes).along_y.falling down)
+-- ---- how far an edge goes, and how far a whole point in its box is from its start
 
--- ---- how far an edge goes, and how far a whole point is from its start
-
--- of an edge that rises
-pub record Up (edge : Edge) (x y : ℤ) (w h dx dy : ℕ) : Type 0 where
-  pub wide : pos w ≡ (edge.x1 -ℤ edge.x0)
-  pub high : pos h ≡ (edge.y1 -ℤ edge.y0)
-  pub far : pos dx ≡ (x -ℤ edge.x0)
-  pub up : pos dy ≡ (y -ℤ edge.y0)
+pub record Ways (edge : Edge) (x y : ℤ) (w h dx dy : ℕ) : Type 0 where
+  pub wide : w ≡ unsigned_abs (edge.x1 -ℤ edge.x0)
+  pub tall : h ≡ unsigned_abs (edge.y1 -ℤ edge.y0)
+  pub far_x : dx ≡ unsigned_abs (x -ℤ edge.x0)
+  pub far_y : dy ≡ unsigned_abs (y -ℤ edge.y0)
   pub in_x : Within edge.x0 edge.x1 x
-  pub in_y : Within edge.y0 edge.y1 y
+  pub low : ℤ
+  pub high : ℤ
+  pub is_low : low ≡ int_min edge.y0 edge.y1
+  pub is_high : high ≡ int_max edge.y0 edge.y1
+  pub in_y : Within low high y
 
--- of one that falls
-pub record Down (edge : Edge) (x y : ℤ) (w h dx dy : ℕ) : Type 0 where
-  pub wide : pos w ≡ (edge.x1 -ℤ edge.x0)
-  pub high : pos h ≡ (edge.y0 -ℤ edge.y1)
-  pub far : pos dx ≡ (x -ℤ edge.x0)
-  pub down : pos dy ≡ (edge.y0 -ℤ y)
-  pub in_x : Within edge.x0 edge.x1 x
-  pub in_y : Within edge.y1 edge.y0 y
+some : (n : ℕ) → n ≢ 0 → 0 < n
+some n isnt = omega (arith, isnt)
 
--- how far the point is, is at most how far the edge goes
-upto_on : (from to z : ℤ) (w d : ℕ) → pos w ≡ (to -ℤ from) → pos d ≡ (z -ℤ from) → Within from to z → d ≤ w
-upto_on from to z w d wide far within = omega (arith, ints, wide, far, within.1)
+-- on one axis, onwards and back
+record Onwards (from to z : ℤ) (w d : ℕ) : Type 0 where
+  pub goes : (to -ℤ from) ≡ pos w
+  pub at : z ≡ (from +ℤ pos d)
+  pub upto : d ≤ w
 
-down_on : (from to z : ℤ) (h d : ℕ) → pos h ≡ (from -ℤ to) → pos d ≡ (from -ℤ z) → Within to from z → d ≤ h
-down_on from to z h d high far within = omega (arith, ints, high, far, within.0)
+record Back (from to z : ℤ) (w d : ℕ) : Type 0 where
+  pub goes : (to -ℤ from) ≡ (pos 0 -ℤ pos w)
+  pub at : z ≡ (from -ℤ pos d)
+  pub upto : d ≤ w
 
-stands_at : (from z : ℤ) (d : ℕ) → pos d ≡ (z -ℤ from) → z ≡ (from +ℤ pos d)
-stands_at from z d far = omega (arith, ints, far)
+size : (z : ℤ) → pos 0 ≤ℤ z → z ≡ pos (unsigned_abs z)
+size (pos n) from = refl
+size (negsuc n) from = absurd (omega (arith, ints, from))
 
-stands_below : (from z : ℤ) (d : ℕ) → pos d ≡ (from -ℤ z) → z ≡ (from -ℤ pos d)
-stands_below from z d far = omega (arith, ints, far)
+size_back : (z : ℤ) → z ≤ℤ pos 0 → z ≡ (pos 0 -ℤ pos (unsigned_abs z))
+size_back (pos n) upto = omega (arith, ints, upto)
+size_back (negsuc n) upto = omega (arith, ints)
 
-turned : (from to : ℤ) (h : ℕ) → pos h ≡ (from -ℤ to) → (to -ℤ from) ≡ (pos 0 -ℤ pos h)
-turned from to h high = omega (arith, ints, high)
-
-some_of : (w : ℕ) → w ≢ 0 → 0 < w
-some_of w some = omega (arith, some)
-
--- the point written in another way
-passes_at : (edge : Edge) (x y x1 y1 : ℤ) → x ≡ x1 → y ≡ y1 → Passes edge x1 y1 → Passes edge x y
-passes_at edge x y x1 y1 same_x same_y passes =
-    subst (λ (z : ℤ). Passes edge z y) (sym same_x) (subst (λ (z : ℤ). Passes edge x1 z) (sym same_y) passes)
-
-passes_to : (edge : Edge) (x y x1 y1 : ℤ) → x ≡ x1 → y ≡ y1 → Passes edge x y → Passes edge x1 y1
-passes_to edge x y x1 y1 same_x same_y passes =
-    subst (λ (z : ℤ). Passes edge z y1) same_x (subst (λ (z : ℤ). Passes edge x z) same_y passes)
-
--- ---- along an axis
-
--- a point of the edge that is whole on this axis rounds to itself there
-exact_share : (n a w d : ℕ) (start way : ℤ) → 0 < n → way ≡ pos w → a * w ≡ n * d → RoundsOn n ((pos n *ℤ start) +ℤ (pos a *ℤ way)) (start +ℤ pos d)
-exact_share n a w d start way some goes same =
-    let p = plus (times (n_of n) (number start)) (times (n_of a) (n_of w)) in
-    let c = plus (number start) (n_of d) in
-    let found : RoundsOn n ((pos n *ℤ start) +ℤ (pos a *ℤ pos w)) (start +ℤ pos d) = record {
-      from = at_most (times (n_of n) (minus (times (n_of 2) c) (n_of 1))) (times (n_of 2) p) (omega (arith, same));
-      below = below (times (n_of 2) p) (times (n_of n) (plus (times (n_of 2) c) (n_of 1))) (omega (arith, same, some));
-    } in
-    subst (λ (z : ℤ). RoundsOn n ((pos n *ℤ start) +ℤ (pos a *ℤ z)) (start +ℤ pos d)) (sym goes) found
-
--- an edge passes what is at a share of it
-at_share : (edge : Edge) (x y : ℤ) (w h dx dy n a : ℕ) → Up edge x y w h dx dy → 0 < n → a ≤ n → a * w ≡ n * dx → a * h ≡ n * dy → Passes edge x y
-at_share edge x y w h dx dy n a up some share along_x along_y =
-    let point : RationalPoint = record {
-      n = n;
-      x = (pos n *ℤ edge.x0) +ℤ (pos a *ℤ (edge.x1 -ℤ edge.x0));
-      y = (pos n *ℤ edge.y0) +ℤ (pos a *ℤ (edge.y1 -ℤ edge.y0));
-      positive = some;
-    } in
-    let of : IsOf edge point = (
-      a,
-      record {
-        share = share;
-        x = refl;
-        y = refl;
-      },
-    ) in
-    passes_at edge x y (edge.x0 +ℤ pos dx) (edge.y0 +ℤ pos dy) (stands_at edge.x0 x dx up.far) (stands_at edge.y0 y dy up.up) (
-      point,
-      of,
-      record {
-        along_x = exact_share n a w dx edge.x0 (edge.x1 -ℤ edge.x0) some (sym up.wide) along_x;
-        along_y = exact_share n a h dy edge.y0 (edge.y1 -ℤ edge.y0) some (sym up.high) along_y;
-      },
-    )
-
-none_of : (d w : ℕ) → d ≤ w → w ≡ 0 → d ≡ 0
-none_of d w upto none = omega (arith, upto, none)
-
--- an upright edge passes all whole points of its box
-pub upright : (edge : Edge) (x y : ℤ) (w h dx dy : ℕ) → Up edge x y w h dx dy → w ≡ 0 → Passes edge x y
-upright edge x y w zero dx dy up none =
-    let no_x : dx ≡ 0 = none_of dx w (upto_on edge.x0 edge.x1 x w dx up.wide up.far up.in_x) none in
-    let no_y : dy ≡ 0 = none_of dy 0 (upto_on edge.y0 edge.y1 y 0 dy up.high up.up up.in_y) refl in
-    at_share edge x y w 0 dx dy 1 0 up (omega arith) (omega arith) (omega (arith, no_x)) (omega (arith, no_y))
-upright edge x y w (suc h) dx dy up none =
-    let no_x : dx ≡ 0 = none_of dx w (upto_on edge.x0 edge.x1 x w dx up.wide up.far up.in_x) none in
-    let left : dy * w ≡ dy * 0 = ap (λ (k : ℕ). dy * k) none in
-    let right : suc h * dx ≡ suc h * 0 = ap (λ (k : ℕ). suc h * k) no_x in
-    at_share edge x y w (suc h) dx dy (suc h) dy up (omega arith) (upto_on edge.y0 edge.y1 y (suc h) dy up.high up.up up.in_y) (omega (arith, left, right)) (omega arith)
-
--- and so does a level one
-pub level : (edge : Edge) (x y : ℤ) (w h dx dy : ℕ) → Up edge x y w h dx dy → w ≢ 0 → h ≡ 0 → Passes edge x y
-level edge x y w h dx dy up some none =
-    let no_y : dy ≡ 0 = none_of dy h (upto_on edge.y0 edge.y1 y h dy up.high up.up up.in_y) none in
-    let left : dx * h ≡ dx * 0 = ap (λ (k : ℕ). dx * k) none in
-    let right : w * dy ≡ w * 0 = ap (λ (k : ℕ). w * k) no_y in
-    at_share edge x y w h dx dy w dx up (some_of w some) (upto_on edge.x0 edge.x1 x w dx up.wide up.far up.in_x) (omega arith) (omega (arith, left, right))
-
--- an upright edge that goes down, by turning it
-turned_up : (edge : Edge) (x y : ℤ) (w h dx dy : ℕ) → Down edge x y w h dx dy → w ≡ 0 → Up (reversed edge) x y w h dx (h - dy)
-turned_up edge x y w h dx dy down none =
-    let wide = down.wide in
-    let high = down.high in
-    let far = down.far in
-    let below = down.down in
-    let in_x = down.in_x in
-    let in_y = down.in_y in record {
-      wide = omega (arith, ints, wide, none);
-      high = high;
-      far = omega (arith, ints, wide, none, far);
-      up = omega (arith, ints, high, below, in_y.0);
-      in_x = (omega (arith, ints, wide, none, in_x.0, in_x.1), omega (arith, ints, wide, none, in_x.0, in_x.1));
-      in_y = in_y;
+onwards : (from to z : ℤ) (w d : ℕ) → w ≡ unsigned_abs (to -ℤ from) → d ≡ unsigned_abs (z -ℤ from) → from ≤ℤ z → z ≤ℤ to → Onwards from to z w d
+onwards from to z w d wide far above below =
+    let goes : (to -ℤ from) ≡ pos w = size (to -ℤ from) (omega (arith, ints, above, below)) ∙ ap pos (sym wide) in
+    let is : (z -ℤ from) ≡ pos d = size (z -ℤ from) (omega (arith, ints, above)) ∙ ap pos (sym far) in record {
+      goes = goes;
+      at = omega (arith, ints, is);
+      upto = omega (arith, ints, goes, is, below);
     }
 
--- an upright one that falls, too
-pub upright_down : (edge : Edge) (x y : ℤ) (w h dx dy : ℕ) → Down edge x y w h dx dy → w ≡ 0 → Passes edge x y
-upright_down edge x y w h dx dy down none =
-    Passes-reversed (reversed edge) x y (upright (reversed edge) x y w h dx (h - dy) (turned_up edge x y w h dx dy down none) none)
+back : (from to z : ℤ) (w d : ℕ) → w ≡ unsigned_abs (to -ℤ from) → d ≡ unsigned_abs (z -ℤ from) → to ≤ℤ z → z ≤ℤ from → Back from to z w d
+back from to z w d wide far above below =
+    let goes : (to -ℤ from) ≡ (pos 0 -ℤ pos w) = size_back (to -ℤ from) (omega (arith, ints, above, below)) ∙ ap (λ (n : ℕ). pos 0 -ℤ pos n) (sym wide) in
+    let is : (z -ℤ from) ≡ (pos 0 -ℤ pos d) = size_back (z -ℤ from) (omega (arith, ints, below)) ∙ ap (λ (n : ℕ). pos 0 -ℤ pos n) (sym far) in record {
+      goes = goes;
+      at = omega (arith, ints, is);
+      upto = omega (arith, ints, goes, is, above);
+    }
 
--- ---- slanted
+-- which of two numbers is the greater, as it is tested
+pub rises_tested : (from to : ℤ) (r : Bool) → r ≡ le_z from to → MatchBool r (from ≤ℤ to) (to <ℤ from)
+rises_tested from to true is = omega (arith, ints, is)
+rises_tested from to false is = omega (arith, ints, is)
 
--- an edge that rises, by the two corners
-pub rising_tested : (edge : Edge) (x y : ℤ) (w h dx dy : ℕ) (r : Bool) → Up edge x y w h dx dy → w ≢ 0 → h ≢ 0 → MatchBool r (CrossesRising w h dx dy) (¬ (CrossesRising w h dx dy)) → MatchBool r (Passes edge x y) (¬ (Passes edge x y))
-rising_tested edge x y w h dx dy true up wide high test =
-    passes_at edge x y (edge.x0 +ℤ pos dx) (edge.y0 +ℤ pos dy) (stands_at edge.x0 x dx up.far) (stands_at edge.y0 y dy up.up)
-    (Passes-rising edge w h dx dy (record {
-      along_x = sym up.wide;
-      along_y = sym up.high;
-      wide = some_of w wide;
-      high = some_of h high;
-    }) (upto_on edge.x0 edge.x1 x w dx up.wide up.far up.in_x) (upto_on edge.y0 edge.y1 y h dy up.high up.up up.in_y) test.low test.high)
-rising_tested edge x y w h dx dy false up wide high test = λ passes.
-    let both = rising-Passes edge w h dx dy (record {
-      along_x = sym up.wide;
-      along_y = sym up.high;
-      wide = some_of w wide;
-      high = some_of h high;
-    }) (passes_to edge x y (edge.x0 +ℤ pos dx) (edge.y0 +ℤ pos dy) (stands_at edge.x0 x dx up.far) (stands_at edge.y0 y dy up.up) passes) in
-    test (record { low = both.0; high = both.1 })
+module _ (edge : Edge) (x y : ℤ) (w h dx dy : ℕ) (ways : Ways edge x y w h dx dy) where
+  along_x : Onwards edge.x0 edge.x1 x w dx
+  along_x = onwards edge.x0 edge.x1 x w dx ways.wide ways.far_x ways.in_x.0 ways.in_x.1
 
--- an edge that falls
-pub falling_tested : (edge : Edge) (x y : ℤ) (w h dx dy : ℕ) (r : Bool) → Down edge x y w h dx dy → w ≢ 0 → 0 < h → MatchBool r (CrossesFalling w h dx dy) (¬ (CrossesFalling w h dx dy)) → MatchBool r (Passes edge x y) (¬ (Passes edge x y))
-falling_tested edge x y w h dx dy true down wide high test =
-    passes_at edge x y (edge.x0 +ℤ pos dx) (edge.y0 -ℤ pos dy) (stands_at edge.x0 x dx down.far) (stands_below edge.y0 y dy down.down)
-    (Passes-falling edge w h dx dy (record {
-      along_x = sym down.wide;
-      along_y = turned edge.y0 edge.y1 h down.high;
-      wide = some_of w wide;
-      high = high;
-    }) (upto_on edge.x0 edge.x1 x w dx down.wide down.far down.in_x) (down_on edge.y0 edge.y1 y h dy down.high down.down down.in_y) test.low test.high)
-falling_tested edge x y w h dx dy false down wide high test = λ passes.
-    let both = falling-Passes edge w h dx dy (record {
-      along_x = sym down.wide;
-      along_y = turned edge.y0 edge.y1 h down.high;
-      wide = some_of w wide;
-      high = high;
-    }) (passes_to edge x y (edge.x0 +ℤ pos dx) (edge.y0 -ℤ pos dy) (stands_at edge.x0 x dx down.far) (stands_below edge.y0 y dy down.down) passes) in
-    test (record { low = both.0; high = both.1 })
+  up : edge.y0 ≤ℤ edge.y1 → Onwards edge.y0 edge.y1 y h dy
+  up rises = onwards edge.y0 edge.y1 y h dy ways.tall ways.far_y (omega (arith, ints, clamps, ways.is_low, rises, ways.in_y.0)) (omega (arith, ints, clamps, ways.is_high, rises, ways.in_y.1))
+
+  down : edge.y1 <ℤ edge.y0 → Back edge.y0 edge.y1 y h dy
+  down falls = back edge.y0 edge.y1 y h dy ways.tall ways.far_y (omega (arith, ints, clamps, ways.is_low, falls, ways.in_y.0)) (omega (arith, ints, clamps, ways.is_high, falls, ways.in_y.1))
+
+  -- the edge passes a point to which a share of it rounds
+  by_share : {Apart : Type 0} → Share Apart w h dx dy → (edge.y0 ≤ℤ edge.y1 → Apart) → Passes edge x y
+  by_share found apart =
+      let rounds_x : RoundsOn found.n ((pos found.n *ℤ edge.x0) +ℤ (pos found.a *ℤ (edge.x1 -ℤ edge.x0))) x =
+      subst (RoundsOn found.n ((pos found.n *ℤ edge.x0) +ℤ (pos found.a *ℤ (edge.x1 -ℤ edge.x0)))) (sym along_x.at) (up_rounds found.n found.a w dx edge.x0 (edge.x1 -ℤ edge.x0) along_x.goes found.on_x) in
+      passes_share edge found.n found.a x y found.some found.share rounds_x
+      (by_lt_z edge.y1 edge.y0
+      (λ falls. subst (RoundsOn found.n ((pos found.n *ℤ edge.y0) +ℤ (pos found.a *ℤ (edge.y1 -ℤ edge.y0)))) (sym (down falls).at) (down_rounds found.n found.a h dy edge.y0 (edge.y1 -ℤ edge.y0) (down falls).goes found.down_y))
+      (λ rises. subst (RoundsOn found.n ((pos found.n *ℤ edge.y0) +ℤ (pos found.a *ℤ (edge.y1 -ℤ edge.y0)))) (sym (up rises).at) (up_rounds found.n found.a h dy edge.y0 (edge.y1 -ℤ edge.y0) (up rises).goes (found.up_y (apart rises)))))
+
+  off_upto : dy ≤ h
+  off_upto = by_lt_z edge.y1 edge.y0 (λ falls. (down falls).upto) (λ rises. (up rises).upto)
+
+  -- along an axis it passes all whole points of its box
+  level : (w ≡ 0) ⊎ (h ≡ 0) → Passes edge x y
+  level none = by_share (along_axis w h dx dy along_x.upto off_upto none) (λ _. tt)
+
+  -- what a share of the edge rounds to on each axis
+  x_up : (n a : ℕ) (p : ℤ) → p ≡ ((pos n *ℤ edge.x0) +ℤ (pos a *ℤ (edge.x1 -ℤ edge.x0))) → RoundsOn n p x → RoundsUp n a w dx
+  x_up n a p is rounds = rounds_up n a w dx edge.x0 (edge.x1 -ℤ edge.x0) along_x.goes
+      (subst (λ (z : ℤ). RoundsOn n z (edge.x0 +ℤ pos dx)) is (subst (RoundsOn n p) along_x.at rounds))
+
+  y_up : (n a : ℕ) (p : ℤ) → edge.y0 ≤ℤ edge.y1 → p ≡ ((pos n *ℤ edge.y0) +ℤ (pos a *ℤ (edge.y1 -ℤ edge.y0))) → RoundsOn n p y → RoundsUp n a h dy
+  y_up n a p rises is rounds = rounds_up n a h dy edge.y0 (edge.y1 -ℤ edge.y0) (up rises).goes
+      (subst (λ (z : ℤ). RoundsOn n z (edge.y0 +ℤ pos dy)) is (subst (RoundsOn n p) (up rises).at rounds))
+
+  y_down : (n a : ℕ) (p : ℤ) → edge.y1 <ℤ edge.y0 → p ≡ ((pos n *ℤ edge.y0) +ℤ (pos a *ℤ (edge.y1 -ℤ edge.y0))) → RoundsOn n p y → RoundsDown n a h dy
+  y_down n a p falls is rounds = rounds_down n a h dy edge.y0 (edge.y1 -ℤ edge.y0) (down falls).goes
+      (subst (λ (z : ℤ). RoundsOn n z (edge.y0 -ℤ pos dy)) is (subst (RoundsOn n p) (down falls).at rounds))
+
+  module _ (wide : 0 < w) (high : 0 < h) where
+    crosses-Passes : (rises : Bool) → MatchBool rises (edge.y0 ≤ℤ edge.y1) (edge.y1 <ℤ edge.y0) → Crosses rises w h dx dy → Passes edge x y
+    crosses-Passes true is test = by_share (middle w h dx dy wide high along_x.upto off_upto (omega (arith, test.low)) test.high) (λ _. omega (arith, test.low))
+    crosses-Passes false is test = by_share (middle w h dx dy wide high along_x.upto off_upto (omega (arith, test.low)) test.high) (λ rises. absurd (omega (arith, ints, is, rises)))
+
+    Passes-crosses : (rises : Bool) → MatchBool rises (edge.y0 ≤ℤ edge.y1) (edge.y1 <ℤ edge.y0) → Passes edge x y → Crosses rises w h dx dy
+    Passes-crosses true is (point, (a, at), rounds) =
+        let on_x = x_up point.n a point.x at.x rounds.along_x in
+        let on_y = y_up point.n a point.y is at.y rounds.along_y in
+        let low = corner point.n a w h dx dy wide on_x.from on_y.upto in
+        record { low = omega (arith, low); high = corner point.n a h w dy dx high on_y.from on_x.upto }
+    Passes-crosses false is (point, (a, at), rounds) =
+        let on_x = x_up point.n a point.x at.x rounds.along_x in
+        let on_y = y_down point.n a point.y is at.y rounds.along_y in
+        let low = corner_on point.n a w h dx dy point.positive on_x.from on_y.upto in
+        record { low = omega (arith, low); high = corner point.n a h w dy dx high (omega (arith, on_y.from)) on_x.upto }
+
+  -- the edge passes the point exactly where the test says so
+  pub passed_tested : (rises r : Bool) → MatchBool rises (edge.y0 ≤ℤ edge.y1) (edge.y1 <ℤ edge.y0) → MatchBool r (IsPassed rises w h dx dy) (¬ (IsPassed rises w h dx dy)) → MatchBool r (Passes edge x y) (¬ (Passes edge x y))
+  passed_tested rises true is (inl none) = level none
+  passed_tested rises true is (inr test) = elim (cases_lt 0 w) [
+    | inl wide ↦ elim (cases_lt 0 h) [ inl high ↦ crosses-Passes wide high rises is test | inr none ↦ level (inr (omega (arith, none))) ]
+    | inr none ↦ level (inl (omega (arith, none)))
+  ]
+  passed_tested rises false is test = λ passes. test (inr (Passes-crosses (some w (λ none. test (inl (inl none)))) (some h (λ none. test (inl (inr none)))) rises is passes))
 
 -- ---- an edge and its reversed one
 

@@ -1,9 +1,10 @@
 //! The boundary of what an operation makes of two sets of closed edges, as rings of whole points.
 
-ghost use Rattle.std.specs.Prelude.{◌≡◌, ◌++◌, [], List, IfOk, OnOk, OnErr, length};
+ghost use Rattle.std.specs.Prelude.{◌≡◌, ◌++◌, [], All, List, IfOk, OnOk, OnErr, length};
 ghost use Rattle.std.specs.List.{flat_map};
 ghost use Rattle.plane.specs.declared.point.Point.{Point};
 ghost use Rattle.overlay.specs.Boundary.{BoundsResult, IsBoundary};
+ghost use Rattle.overlay.specs.Fill.Filled.{IsNextInColumn};
 ghost use Rattle.overlay.specs.Snap.Offsets.{offsets};
 ghost use Rattle.overlay.specs.Snap.Windings.{IsClosed};
 
@@ -61,7 +62,8 @@ where
     Ok(())
 }
 
-/// The edges of the boundary: they are closed, meet only at common ends, and have the result on their left.
+/// The edges of the boundary: they are closed, meet only at common ends, and have the result on their left. A vertical one goes
+/// from an end of those that aren't vertical to the next one in its column.
 ///
 /// It begins with an empty status, and leaves an empty one, in every case. It is refused where memory or the status has no
 /// room.
@@ -81,6 +83,7 @@ where
     requires clip_closed { IsClosed clip.now }
     ensures closed { IfOk result (λ edges. IsClosed edges.items) }
     ensures bounds { IfOk result (λ edges. BoundsResult rule operation subject.now clip.now edges.items) }
+    ensures vertical { IfOk result (λ edges. All (λ edge. edge.x1 ≡ edge.x0 → IsNextInColumn edges.items edge) edges.items) }
     ensures empty { C.stored status.new ≡ [] }
 {
     let (pieces, count) = broken(alloc, subject, clip)?;

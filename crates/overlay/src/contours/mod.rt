@@ -60,7 +60,7 @@ pub fn contours<A: Allocator + Copy>(
 
 /// As `contours`, but without the points at which a ring goes straight on: those that lie along one line with the points
 /// before and behind them in the ring, between these. What is left of each ring is one, too: it has some points, and visits
-/// none twice. And all of them wind around each point of the plane as the edges do.
+/// none twice. All of them wind around each point with rational coordinates as the edges do.
 ///
 /// It is refused for want of memory alone, and leaves `points` and `ring_ends` as they were then.
 pub fn outlines<A: Allocator + Copy>(

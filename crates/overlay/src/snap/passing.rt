@@ -1,8 +1,8 @@
 //! Whether an edge passes a whole point.
 
-ghost use Rattle.std.specs.Prelude.{◌≡◌, ◌*◌, ℤ, pos, ◌-ℤ◌, ◌≤ℤ◌, ◌<ℤ◌, MatchBool};
+ghost use Rattle.std.specs.Prelude.{◌≡◌, ◌*◌, ◌≤ℤ◌, MatchBool};
 ghost use Rattle.overlay.specs.Snap.Chains.{Passes};
-ghost use Rattle.overlay.specs.Snap.Tests.{CrossesRising, CrossesFalling};
+ghost use Rattle.overlay.specs.Snap.Tests.{IsPassed};
 
 use crate::edges::reverse;
 use plane::edge::Edge;
@@ -26,55 +26,17 @@ fn passes_rightwards(edge: Edge, x: i32, y: i32) -> bool
     requires right { edge.x0 ≤ℤ edge.x1 }
     ensures { MatchBool result (Passes edge x y) (¬ (Passes edge x y)) }
 {
-    if edge.y0 <= edge.y1 {
-        return passes_rising(edge, x, y);
-    }
-    passes_falling(edge, x, y)
-}
-
-fn passes_rising(edge: Edge, x: i32, y: i32) -> bool
-    requires right { edge.x0 ≤ℤ edge.x1 }
-    requires up { edge.y0 ≤ℤ edge.y1 }
-    ensures { MatchBool result (Passes edge x y) (¬ (Passes edge x y)) }
-{
     if !is_between(edge.x0, edge.x1, x) {
         return false;
     }
-    if !is_between(edge.y0, edge.y1, y) {
+    if !is_between(edge.y0.min(edge.y1), edge.y0.max(edge.y1), y) {
         return false;
     }
-    let width = way(edge.x0, edge.x1);
-    let height = way(edge.y0, edge.y1);
-    let right = way(edge.x0, x);
-    let up = way(edge.y0, y);
-    if width == 0 {
-        return true;
-    }
-    if height == 0 {
-        return true;
-    }
-    crosses_rising(width, height, right, up)
-}
-
-fn passes_falling(edge: Edge, x: i32, y: i32) -> bool
-    requires right { edge.x0 ≤ℤ edge.x1 }
-    requires down { edge.y1 <ℤ edge.y0 }
-    ensures { MatchBool result (Passes edge x y) (¬ (Passes edge x y)) }
-{
-    if !is_between(edge.x0, edge.x1, x) {
-        return false;
-    }
-    if !is_between(edge.y1, edge.y0, y) {
-        return false;
-    }
-    let width = way(edge.x0, edge.x1);
-    let height = way(edge.y1, edge.y0);
-    let right = way(edge.x0, x);
-    let down = way(y, edge.y0);
-    if width == 0 {
-        return true;
-    }
-    crosses_falling(width, height, right, down)
+    let width = edge.x1.abs_diff(edge.x0);
+    let height = edge.y1.abs_diff(edge.y0);
+    let right = x.abs_diff(edge.x0);
+    let off = y.abs_diff(edge.y0);
+    is_passed(edge.y0 <= edge.y1, width, height, right, off)
 }
 
 fn is_between(from: i32, to: i32, z: i32) -> bool
@@ -83,38 +45,23 @@ fn is_between(from: i32, to: i32, z: i32) -> bool
     (from <= z) & (z <= to)
 }
 
-/// How far it is from the one to the other.
-fn way(from: i32, to: i32) -> u32
-    requires { from ≤ℤ to }
-    ensures { pos result ≡ to -ℤ from }
-{
-    (to as i64 - from as i64) as u32
-}
-
 fn product(one: u32, other: u32) -> u64
     ensures { result ≡ one * other }
 {
     one as u64 * other as u64
 }
 
-/// Of a whole point that lies `right` and `up` from the start of an edge, whether the pixel's upper left corner is above the
-/// edge's line and its lower right one below it.
-fn crosses_rising(width: u32, height: u32, right: u32, up: u32) -> bool
-    ensures { MatchBool result (CrossesRising width height right up) (¬ (CrossesRising width height right up)) }
+/// Of a whole point in the box of an edge, `right` and `off`, up or down, from its start: whether the edge goes along an axis, or
+/// two corners of the pixel are on opposite sides of its line. Where it rises these are the upper left one and the lower right one;
+/// where it falls, the lower left one, which may lie on the line, and the upper right one.
+fn is_passed(rises: bool, width: u32, height: u32, right: u32, off: u32) -> bool
+    ensures { MatchBool result (IsPassed rises width height right off) (¬ (IsPassed rises width height right off)) }
 {
+    if width == 0 || height == 0 {
+        return true;
+    }
     let line = 2 * product(right, height) as u128;
-    let point = 2 * product(up, width) as u128;
+    let point = 2 * product(off, width) as u128;
     let sides = width as u128 + height as u128;
-    (line < point + sides) & (point < line + sides)
-}
-
-/// Of a whole point that lies `right` and `down` from the start of an edge, whether the pixel's upper right corner is above the
-/// edge's line and its lower left one isn't.
-fn crosses_falling(width: u32, height: u32, right: u32, down: u32) -> bool
-    ensures { MatchBool result (CrossesFalling width height right down) (¬ (CrossesFalling width height right down)) }
-{
-    let line = 2 * product(right, height) as u128;
-    let point = 2 * product(down, width) as u128;
-    let sides = width as u128 + height as u128;
-    (line <= point + sides) & (point < line + sides)
+    (line + rises as u128 <= point + sides) & (point < line + sides)
 }

@@ -10,6 +10,7 @@ use Rattle.i_tree.specs.Root.Along.{AreNeighbours, IsMonotoneAlong}
 use Rattle.i_tree.specs.Root.Change.{Without}
 use Rattle.event_queue.proofs.QueueLemmas.Answers.{Answered-other}
 use Rattle.plane.specs.Locate.Answers.{IsPlaceBelow}
+use Rattle.i_tree.proofs.SetLemmas.Live.{cut_at_item}
 use Rattle.plane.specs.declared.edge.Edge.{Edge}
 use Rattle.plane.specs.declared.point.Point.{Point}
 use Rattle.event_queue.specs.declared.Event.{Event}
@@ -27,7 +28,7 @@ use Rattle.plane.proofs.LocateLemmas.Begun.{begin_of, end_of, IsOneOf, IsBegun, 
 use Rattle.event_queue.proofs.QueueLemmas.Done.{never_both, precedes, done_before, one_more}
 use Rattle.plane.proofs.LocateLemmas.Events.{ends_of}
 use Rattle.plane.proofs.SweepLineLemmas.Ends.{end_monotone, end_uncrossed, end_kept}
-use Rattle.plane.proofs.SweepLineLemmas.Later.{cut_around, around_cases, live-without}
+use Rattle.plane.proofs.SweepLineLemmas.Later.{around_cases, live-without}
 use Rattle.plane.specs.SweepLine.Line.{IsLineAt}
 use Rattle.plane.proofs.SweepLineLemmas.Live.{is_live_at-ended}
 use Rattle.plane.proofs.LocateLemmas.Swept.{Swept, NoneBehind, line_at, live_at, live_are, live_onwards, none_behind_before, upto_later}
@@ -192,7 +193,7 @@ module _ (edges : List Edge) (points : List Point) (events : List Event) (queue 
   -- the order to the edge is monotone along what is live
   pub end_requires : IsMonotoneAlong (cmp_to_ending ending) (live_entries ending.edge.x1 stored)
   end_requires =
-      let (front, back, cut) = cut_around swept.line (ending, tt) in_line in
+      let (front, back, cut) = cut_at_item swept.line (ending, tt) in_line in
       monotone front back cut
 
   -- live ones that cross are edges that do
@@ -204,6 +205,6 @@ module _ (edges : List Edge) (points : List Point) (events : List Event) (queue 
   pub Swept-ended : (after : List Entry) (found : Option Entry × Option Entry) → AreNeighbours (cmp_to_ending ending) (live_entries ending.edge.x1 stored) found → NotCross found.0 found.1
       → Without (IsExpiredAt ending.edge.x1) stored after → Swept edges points (take (k + 1) events) after answers
   Swept-ended after found are apart kept =
-      let (front, back, cut) = cut_around swept.line (ending, tt) in_line in
+      let (front, back, cut) = cut_at_item swept.line (ending, tt) in_line in
       subst (λ done. Swept edges points done after answers) (sym (one_more queue k event inside is))
       (served front back cut after found are apart kept)

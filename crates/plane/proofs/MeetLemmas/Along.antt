@@ -75,7 +75,8 @@ bounds_down start end z downwards above upto = omega (arith, ints, clamps)
 strictly : (a b : ℤ) → a ≢ b → b ≤ℤ a → b <ℤ a
 strictly a b apart downwards = omega (arith, ints)
 
-same_or_apart : (a b : ℤ) → (a ≡ b) ⊎ (a ≢ b)
+-- two whole numbers are the same or not
+pub same_or_apart : (a b : ℤ) → (a ≡ b) ⊎ (a ≢ b)
 same_or_apart a b =
     by_lt_z a b (λ less. inr (omega (arith, ints))) (λ least. by_lt_z b a (λ more. inr (omega (arith, ints))) (λ most. inl (omega (arith, ints))))
 

@@ -1,5 +1,5 @@
 -- Which pairs are told once some parts are served, and that all pairs are told once all are.
-use Rattle.std.proofs.Common.{◌≡◌, ◌≢◌, inl, inr, ℕ, ◌<◌, ℤ, ◌≤ℤ◌, min, max, Option, Some, List, [], ◌∷◌, ◌++◌, length, get_or, sym, ap, ap₂, ◌∙◌, subst, arith}
+use Rattle.std.proofs.Common.{◌≡◌, ◌≢◌, inl, inr, ℕ, ◌<◌, ℤ, ◌≤ℤ◌, min, max, Option, Some, List, [], ◌∷◌, ◌++◌, length, get_or, refl, sym, ap, ap₂, ◌∙◌, subst, arith}
 use Rattle.std.specs.Int.{int_max}
 use Rattle.std.specs.List.{All, AllPairs, Contains, slice_get}
 use Rattle.std.proofs.lemmas.Bool.{cases_lt}
@@ -18,6 +18,7 @@ use Rattle.plane.specs.declared.pairs.parts.Part.{Part}
 use Rattle.plane.specs.declared.pairs.roles.Roles.{Roles}
 use Rattle.plane.specs.declared.pairs.strips.Strips.{Strips}
 use Rattle.plane.specs.declared.pairs.sweep.Placed.{Placed}
+use Rattle.plane.proofs.PairsLemmas.Parts.{same_part}
 use Rattle.plane.proofs.PairsLemmas.Status.{Holds, IsServed, placed_at, is_other, of_others, others_apart, elsewhere}
 use Rattle.plane.proofs.PairsLemmas.Told.{Reaches-meeting, overlaps}
 use Rattle.plane.specs.declared.pairs.items.Bounds.{Bounds}
@@ -170,12 +171,9 @@ module _ {X : Type 0} {bounds : X → Bounds} {Meeting : X → X → Type 0} (bo
     first = ap (slice_get items) first ∙ stands;
     second = ap (slice_get items) second ∙ is_served.stands;
     meet = is_told.meet;
-    own = subst (Contains (served ++ part ∷ [])) (same_part placed.place i strip (strip_of_both bounds strips placed.item other.item) placed.item (sym first) (sym is_told.here)) (Contains-push served part);
-    others = subst (Contains (served ++ part ∷ [])) (same_part other.place j strip (strip_of_both bounds strips placed.item other.item) other.item (sym second) (sym is_told.here)) (Contains-append_left served (part ∷ []) (part_of other.place (bounds other.item) strip) is_served.part);
+    own = subst (Contains (served ++ part ∷ [])) (same_part bounds placed.place i strip (strip_of_both bounds strips placed.item other.item) placed.item placed.item (sym first) (sym is_told.here) refl) (Contains-push served part);
+    others = subst (Contains (served ++ part ∷ [])) (same_part bounds other.place j strip (strip_of_both bounds strips placed.item other.item) other.item other.item (sym second) (sym is_told.here) refl) (Contains-append_left served (part ∷ []) (part_of other.place (bounds other.item) strip) is_served.part);
   }
-    where
-      same_part : (p q s t : ℕ) (item : X) → p ≡ q → s ≡ t → part_of p (bounds item) s ≡ part_of q (bounds item) t
-      same_part p q s t item first second = cc
   told_comes i j (falling other is_served is_told first second below) =
       let here : strip_of_both bounds strips other.item placed.item ≡ strip = strip_of_both-comm bounds strips other.item placed.item ∙ is_told.here in
       record {
@@ -185,12 +183,9 @@ module _ {X : Type 0} {bounds : X → Bounds} {Meeting : X → X → Type 0} (bo
         first = ap (slice_get items) first ∙ is_served.stands;
         second = ap (slice_get items) second ∙ stands;
         meet = boxed.exchanged placed.item other.item is_told.meet;
-        own = subst (Contains (served ++ part ∷ [])) (same_part other.place i strip (strip_of_both bounds strips other.item placed.item) other.item (sym first) (sym here)) (Contains-append_left served (part ∷ []) (part_of other.place (bounds other.item) strip) is_served.part);
-        others = subst (Contains (served ++ part ∷ [])) (same_part placed.place j strip (strip_of_both bounds strips other.item placed.item) placed.item (sym second) (sym here)) (Contains-push served part);
+        own = subst (Contains (served ++ part ∷ [])) (same_part bounds other.place i strip (strip_of_both bounds strips other.item placed.item) other.item other.item (sym first) (sym here) refl) (Contains-append_left served (part ∷ []) (part_of other.place (bounds other.item) strip) is_served.part);
+        others = subst (Contains (served ++ part ∷ [])) (same_part bounds placed.place j strip (strip_of_both bounds strips other.item placed.item) placed.item placed.item (sym second) (sym here) refl) (Contains-push served part);
       }
-    where
-      same_part : (p q s t : ℕ) (item : X) → p ≡ q → s ≡ t → part_of p (bounds item) s ≡ part_of q (bounds item) t
-      same_part p q s t item first second = cc
 
   of_told : (i j : ℕ) → Contains (found ++ pairs) (i, j) → ToldAt bounds Meeting strips items (served ++ part ∷ []) i j
   of_told i j within = elim (Contains-append_cases found pairs (i, j) within) [
@@ -216,18 +211,12 @@ module _ {X : Type 0} {bounds : X → Bounds} {Meeting : X → X → Type 0} (bo
       let one : both.one ≡ placed.item = same_Some both.one placed.item (sym both.first ∙ ap (slice_get items) first ∙ stands) in
       let another : both.other ≡ other.item = same_Some both.other other.item (sym both.second ∙ ap (slice_get items) second ∙ is_served.stands) in
       let here : strip_of_both bounds strips both.one both.other ≡ strip = ap₂ (strip_of_both bounds strips) one another ∙ is_told.here in
-      unserved (subst (Contains served) (same_part i placed.place (strip_of_both bounds strips both.one both.other) strip both.one placed.item first here one) both.own)
-    where
-      same_part : (p q s t : ℕ) (item last : X) → p ≡ q → s ≡ t → item ≡ last → part_of p (bounds item) s ≡ part_of q (bounds last) t
-      same_part p q s t item last first second third = cc
+      unserved (subst (Contains served) (same_part bounds i placed.place (strip_of_both bounds strips both.one both.other) strip both.one placed.item first here one) both.own)
   not_told i j both (falling other is_served is_told first second below) =
       let one : both.one ≡ other.item = same_Some both.one other.item (sym both.first ∙ ap (slice_get items) first ∙ is_served.stands) in
       let another : both.other ≡ placed.item = same_Some both.other placed.item (sym both.second ∙ ap (slice_get items) second ∙ stands) in
       let here : strip_of_both bounds strips both.one both.other ≡ strip = ap₂ (strip_of_both bounds strips) one another ∙ strip_of_both-comm bounds strips other.item placed.item ∙ is_told.here in
-      unserved (subst (Contains served) (same_part j placed.place (strip_of_both bounds strips both.one both.other) strip both.other placed.item second here another) both.others)
-    where
-      same_part : (p q s t : ℕ) (item last : X) → p ≡ q → s ≡ t → item ≡ last → part_of p (bounds item) s ≡ part_of q (bounds last) t
-      same_part p q s t item last first second third = cc
+      unserved (subst (Contains served) (same_part bounds j placed.place (strip_of_both bounds strips both.one both.other) strip both.other placed.item second here another) both.others)
 
   pub AreTold-served : AreTold bounds Meeting strips items (served ++ part_of placed.place (bounds placed.item) strip ∷ []) (found ++ serves.asks.gains.0)
   AreTold-served = record {

@@ -1,15 +1,11 @@
 -- Lists of pairs that grow at their end, and what holds whatever a call answered.
 use Rattle.std.proofs.Common.{ℕ, List, [], ◌++◌, append-nil, append_assoc, Result, Ok, Err, sym, ap, ◌∙◌}
-use Rattle.std.specs.Result.{OnErr, OnOk}
+use Rattle.std.specs.Result.{OnErr}
 use Rattle.plane.specs.Pairs.Sweep.{Extends}
 
 pub OnErr-always : {T E : Type 0} (r : Result T E) (P : Type 0) → P → OnErr r P
 OnErr-always (Ok x) P holds = tt
 OnErr-always (Err e) P holds = holds
-
-pub OnOk-always : {T E : Type 0} (r : Result T E) (P : Type 0) → P → OnOk r P
-OnOk-always (Ok x) P holds = holds
-OnOk-always (Err e) P holds = tt
 
 -- a list extends itself
 pub Extends-same : (pairs : List (ℕ × ℕ)) → Extends pairs pairs

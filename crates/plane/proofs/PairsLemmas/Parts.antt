@@ -1,16 +1,19 @@
 -- The parts of items in strips, as they are listed one after another, and as they stand once they are sorted.
-use Rattle.std.proofs.Common.{◌≡◌, ◌≢◌, ◌⊎◌, inl, inr, ℕ, ◌<◌, ◌≤◌, ◌+◌, List, [], ◌∷◌, ◌++◌, Some, get_or, length, refl, sym, ap, ◌∙◌, subst, ⊎_elim, arith}
+use Rattle.std.proofs.Common.{◌≡◌, ◌≢◌, ◌⊎◌, inl, inr, ℕ, ◌<◌, ◌≤◌, ◌+◌, List, [], ◌∷◌, ◌++◌, Some, refl, sym, ap, ◌∙◌, subst, ⊎_elim, arith}
 use Rattle.std.specs.List.{Contains, slice_get}
 use Rattle.std.proofs.lemmas.Bool.{cases_lt}
-use Rattle.std.proofs.lemmas.List.{get_or_append_left, get_or_default, get_or_push, length-append}
 use Rattle.std.proofs.lemmas.List.Elements.{All-push, All-weaker, Contains-append_left, Contains-push}
 use Rattle.std.proofs.lemmas.List.Quantifiers.{all_pairs_push}
 use Rattle.std.proofs.lemmas.Option.{same_Some}
-use Rattle.plane.specs.Pairs.Parts.{AreReadAhead, IsItemOf, Lists, IsPartOf, part_of}
+use Rattle.plane.specs.Pairs.Parts.{Lists, IsPartOf, part_of}
 use Rattle.plane.specs.Pairs.Strips.{strip_at, Reaches}
 use Rattle.plane.specs.declared.pairs.parts.Part.{Part}
 use Rattle.plane.specs.declared.pairs.strips.Strips.{Strips}
 use Rattle.plane.specs.declared.pairs.items.Bounds.{Bounds}
+
+-- the parts at one place, in one strip and of one item are one
+pub same_part : {X : Type 0} (bounds : X → Bounds) (p q s t : ℕ) (one other : X) → p ≡ q → s ≡ t → one ≡ other → part_of p (bounds one) s ≡ part_of q (bounds other) t
+same_part bounds p q s t one other first second third = cc
 
 -- those of the items in front of this place, and of the item there in strips below this one
 abbrev pub IsUpto : ℕ → ℕ → ℕ → ℕ → Type 0
@@ -38,7 +41,7 @@ module _ {X : Type 0} (bounds : X → Bounds) (strips : Strips) (items : List X)
         | inl before ↦ Contains-append_left parts (part ∷ []) (part_of other_place (bounds other) other_strip) (lists.each other_place other_strip other stands' reaches' before)
         | inr (at, in_strip) ↦
             let same : item ≡ other = same_Some item other (sym stands ∙ ap (slice_get items) (sym at) ∙ stands') in
-            subst (Contains (parts ++ part ∷ [])) (made place other_place strip other_strip item other (sym at) (sym in_strip) same) (Contains-push parts part)
+            subst (Contains (parts ++ part ∷ [])) (same_part bounds place other_place strip other_strip item other (sym at) (sym in_strip) same) (Contains-push parts part)
       ];
       of = All-push (λ part. IsPartOf bounds strips items part × Wanted' part.place part.strip) parts part
           (All-weaker (λ part. IsPartOf bounds strips items part × Wanted part.place part.strip) (λ part. IsPartOf bounds strips items part × Wanted' part.place part.strip) (λ part (is, w). (is, forth part.place part.strip w)) parts lists.of)
@@ -49,9 +52,6 @@ module _ {X : Type 0} (bounds : X → Bounds) (strips : Strips) (items : List X)
       where
         part : Part
         part = part_of place (bounds item) strip
-
-        made : (p q s t : ℕ) (one other : X) → p ≡ q → s ≡ t → one ≡ other → part_of p (bounds one) s ≡ part_of q (bounds other) t
-        made p q s t one other first second third = cc
 
   -- Steps of a loop over the strips that the item at a place reaches.
   module _ (place : ℕ) (item : X) (stands : slice_get items place ≡ Some item) (parts : List Part) where
@@ -86,19 +86,3 @@ module _ {X : Type 0} (bounds : X → Bounds) (strips : Strips) (items : List X)
               inr (at, omega (arith, past, reached.upto))
         ])
         (λ other other_strip other_item stands' reaches wanted. ⊎_elim (λ before. omega (arith, before)) (λ (at, _). omega (arith, at)) wanted)
-
--- ---- what is read ahead
-
--- the item of a part, whatever the list is read by where it ends
-pub item_of : {X : Type 0} (items : List X) (parts : List Part) (place : ℕ) (d : Part) (item : X) → place < length parts → item ≡ get_or items (get_or parts place d).place item → IsItemOf items parts place item
-item_of items parts place d item inside is e = subst (λ (part : Part). item ≡ get_or items part.place item) (get_or_default parts place d e inside) is
-
--- the item of the next part joins what is read
-pub AreReadAhead-push : {X : Type 0} (items : List X) (parts : List Part) (from : ℕ) (read : List X) (next : ℕ) (item : X) → from + length read ≡ next → AreReadAhead items parts from read → IsItemOf items parts next item → AreReadAhead items parts from (read ++ item ∷ [])
-AreReadAhead-push items parts from read next item at ahead is i d within = elim (cases_lt i (length read)) [
-  | inl before ↦ subst (IsItemOf items parts (from + i)) (sym (get_or_append_left read (item ∷ []) d i before)) (ahead i d before)
-  | inr behind ↦
-      let last : length read ≡ i = omega (arith, behind, within, length-append read (item ∷ [])) in
-      let here : next ≡ from + i = omega (arith, at, last) in
-      subst (IsItemOf items parts (from + i)) (sym (get_or_push read item d i last)) (subst (λ (k : ℕ). IsItemOf items parts k item) here is)
-]

@@ -1,14 +1,13 @@
 -- An item is served: what comes of the calls that it takes.
-use Rattle.std.proofs.Common.{◌≡◌, inl, inr, ℕ, ◌<◌, pos, ℤ, ◌<ℤ◌, ◌≤ℤ◌, true, false, Option, Some, None, List, [], ◌∷◌, ◌++◌, Ordering, Less, Equal, Greater, refl, sym, ap, ◌∙◌, subst, arith}
+use Rattle.std.proofs.Common.{◌≡◌, inl, inr, ℕ, ◌<◌, pos, ℤ, ◌≤ℤ◌, true, Option, Some, None, List, [], ◌∷◌, ◌++◌, refl, sym, ap, ◌∙◌, subst, arith}
 use Rattle.std.specs.List.Sorted.{IsPermutation}
-use Rattle.std.specs.Ordering.{MatchOrdering, int_cmp, is_lt}
+use Rattle.std.specs.Ordering.{int_cmp}
 use Rattle.std.proofs.lemmas.Bool.{cond-true}
-use Rattle.std.proofs.lemmas.Cmp.{int_ranked}
 use Rattle.std.proofs.lemmas.Int.{ints}
 use Rattle.i_tree.proofs.RootLemmas.Numbers.{int_ge-upto}
 use Rattle.i_tree.specs.Root.Live.{is_live}
 use Rattle.i_tree.specs.Seg.Buckets.{Buckets, Filters}
-use Rattle.i_tree.specs.Seg.Members.{Member, Appends, Joins, NotBefore, answer, live_members}
+use Rattle.i_tree.specs.Seg.Members.{Member, Appends, Joins, answer, live_members}
 use Rattle.i_tree.specs.Seg.Ranges.{interval_over, segment_over}
 use Rattle.i_tree.specs.declared.seg.exp.SegRange.{SegRange}
 use Rattle.plane.specs.Pairs.Strips.{range_in}
@@ -70,12 +69,3 @@ module _ {X : Type 0} (bounds : X → Bounds) (roles : Roles) (strips : Strips) 
           let wide = proper.wide in
           subst (λ (all : List (Member (Placed X))). IsPermutation all new)
           (cond-true (is_live (last_of bounds) int_cmp time placed) (member_in bounds strips strip buckets placed ∷ old) old (is_live-upto bounds time placed (omega (arith, ints, first, wide)))) joined
-
--- a time that isn't before the latest one is at least that
-pub upto_time : (latest : Option ℤ) (x time : ℤ) → NotBefore int_cmp latest x → latest ≡ Some time → time ≤ℤ x
-upto_time latest x time order is = by_order (int_cmp x time) (int_ranked x time (int_cmp x time) refl) (subst (λ (l : Option ℤ). NotBefore int_cmp l x) is order)
-  where
-    by_order : (o : Ordering) → MatchOrdering o (x <ℤ time) (x ≡ time) (time <ℤ x) → is_lt o ≡ false → time ≤ℤ x
-    by_order Less below order = cc
-    by_order Equal same order = omega (arith, ints)
-    by_order Greater above order = omega (arith, ints)

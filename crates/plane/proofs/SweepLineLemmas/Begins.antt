@@ -10,6 +10,7 @@ use Rattle.std.proofs.lemmas.Int.{ints, clamps, by_lt_z}
 use Rattle.std.proofs.lemmas.List.Elements.{All-head}
 use Rattle.i_tree.proofs.RootLemmas.Joined.{All-behind, All-front, AllPairs-joined}
 use Rattle.i_tree.specs.Root.Along.{AreNeighbours, IsMonotoneAlong, NoneEqual}
+use Rattle.plane.proofs.SweepLineLemmas.Comparisons.{says_greater, says_less}
 use Rattle.plane.specs.declared.edge.Edge.{Edge}
 use Rattle.plane.specs.declared.sweep_line.active.ActiveEdge.{ActiveEdge}
 use Rattle.plane.specs.SweepLine.Crossings.{Cross}
@@ -25,14 +26,8 @@ use Rattle.plane.proofs.SweepLineLemmas.Order.{not_steeper, in_order, stands_cas
 
 -- ---- from heights and slopes to the order
 
-less_of : (a b : ℤ) → a <ℤ b → int_cmp a b ≡ Less
-less_of a b below = sym (int_cmp_is a b Less below)
-
 equal_of : (a b : ℤ) → a ≡ b → int_cmp a b ≡ Equal
 equal_of a b same = sym (int_cmp_is a b Equal same)
-
-greater_of : (a b : ℤ) → b <ℤ a → int_cmp a b ≡ Greater
-greater_of a b above = sym (int_cmp_is a b Greater above)
 
 -- a first comparison that tells Less, or Greater, and one that leaves it to the second
 told_first : (first second r : Ordering) → first ≡ r → r ≢ Equal → then_cmp first second ≡ r
@@ -88,24 +83,24 @@ module _ (x : ℤ) (begun beginning : ActiveEdge) (from : begun.edge.x0 ≤ℤ x
       ap (λ (z : ℤ). then_cmp (int_cmp (height_by_runs begun.edge beginning.edge z) (height_by_runs beginning.edge begun.edge z)) (then_cmp (int_cmp slow steep) last_told)) starts
 
   by_last : BeganBefore begun beginning → last_told ≡ Less
-  by_last (inl before) = told_first (int_cmp begun.edge.x0 beginning.edge.x0) (nat_cmp begun.place beginning.place) Less (less_of begun.edge.x0 beginning.edge.x0 before) less_apart
+  by_last (inl before) = told_first (int_cmp begun.edge.x0 beginning.edge.x0) (nat_cmp begun.place beginning.place) Less (says_less begun.edge.x0 beginning.edge.x0 before) less_apart
   by_last (inr (same, before)) =
       told_second (int_cmp begun.edge.x0 beginning.edge.x0) (nat_cmp begun.place beginning.place) (equal_of begun.edge.x0 beginning.edge.x0 same)
       ∙ sym (nat_cmp_is begun.place beginning.place Less before)
 
   less_from_below : BeganBefore begun beginning → StandsBelow → cmp_active begun beginning ≡ Less
-  less_from_below before (inl lower) = order_here ∙ told_first (int_cmp low high) (then_cmp (int_cmp slow steep) last_told) Less (less_of low high lower) less_apart
+  less_from_below before (inl lower) = order_here ∙ told_first (int_cmp low high) (then_cmp (int_cmp slow steep) last_told) Less (says_less low high lower) less_apart
   less_from_below before (inr (level, upto)) =
       order_here ∙ told_second (int_cmp low high) (then_cmp (int_cmp slow steep) last_told) (equal_of low high level)
       ∙ by_lt_z slow steep
-      (λ slower. told_first (int_cmp slow steep) last_told Less (less_of slow steep slower) less_apart)
+      (λ slower. told_first (int_cmp slow steep) last_told Less (says_less slow steep slower) less_apart)
       (λ from_above. told_second (int_cmp slow steep) last_told (equal_of slow steep (omega (arith, ints, upto, from_above))) ∙ by_last before)
 
   greater_from_above : StandsAbove → cmp_active begun beginning ≡ Greater
-  greater_from_above (inl higher) = order_here ∙ told_first (int_cmp low high) (then_cmp (int_cmp slow steep) last_told) Greater (greater_of low high higher) greater_apart
+  greater_from_above (inl higher) = order_here ∙ told_first (int_cmp low high) (then_cmp (int_cmp slow steep) last_told) Greater (says_greater low high higher) greater_apart
   greater_from_above (inr (level, steeper)) =
       order_here ∙ told_second (int_cmp low high) (then_cmp (int_cmp slow steep) last_told) (equal_of low high level)
-      ∙ told_first (int_cmp slow steep) last_told Greater (greater_of slow steep steeper) greater_apart
+      ∙ told_first (int_cmp slow steep) last_told Greater (says_greater slow steep steeper) greater_apart
 
   below_or_above : StandsBelow ⊎ StandsAbove
   below_or_above =

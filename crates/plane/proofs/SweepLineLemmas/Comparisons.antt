@@ -1,5 +1,5 @@
 -- Comparisons of heights that are worth the same: less a number on both sides, or by a positive factor.
-use Rattle.std.proofs.Common.{◌≡◌, ℤ, pos, ◌+ℤ◌, ◌-ℤ◌, ◌*ℤ◌, ◌≤ℤ◌, ◌<ℤ◌, arith, refl, ap, sym, ◌∙◌}
+use Rattle.std.proofs.Common.{◌≡◌, ◌≢◌, ℤ, pos, ◌+ℤ◌, ◌-ℤ◌, ◌*ℤ◌, ◌≤ℤ◌, ◌<ℤ◌, arith, refl, ap, sym, ◌∙◌}
 use Rattle.std.specs.Cmp.{int_cmp_is, int_cmp_total}
 use Rattle.std.specs.Int.{int_min, int_max}
 use Rattle.std.specs.Ordering.{MatchOrdering, int_cmp, ordering_reverse}
@@ -12,6 +12,19 @@ use Rattle.plane.specs.declared.point.Point.{Point}
 use Rattle.plane.specs.SweepLine.Heights.{run, rise, height_by_run, height_by_runs}
 use Rattle.plane.proofs.MeetLemmas.Identities.{number, plus, minus, times, identity}
 use Rattle.plane.proofs.SweepLineLemmas.Gaps.{quotient_above}
+
+-- ---- what a comparison says
+
+pub says_less : (a b : ℤ) → a <ℤ b → int_cmp a b ≡ Less
+says_less a b below = sym (int_cmp_is a b Less below)
+
+pub says_greater : (a b : ℤ) → b <ℤ a → int_cmp a b ≡ Greater
+says_greater a b above = sym (int_cmp_is a b Greater above)
+
+pub not_greater : (a b : ℤ) → int_cmp a b ≢ Greater → a ≤ℤ b
+not_greater a b says = by_lt_z b a (λ above. absurd (says (says_greater a b above))) (λ upto. upto)
+
+-- ---- comparisons that are worth the same
 
 ranked : (a b c d : ℤ) (r : Ordering) → (a <ℤ b → c <ℤ d) → (a ≡ b → c ≡ d) → (b <ℤ a → d <ℤ c)
     → MatchOrdering r (a <ℤ b) (a ≡ b) (b <ℤ a) → MatchOrdering r (c <ℤ d) (c ≡ d) (d <ℤ c)
@@ -67,94 +80,71 @@ cmp-from_start edge point =
     ∙ ap (λ (z : ℤ). int_cmp z ((edge.y0 *ℤ run edge) +ℤ ((point.y -ℤ edge.y0) *ℤ run edge))) (height-from_start edge point.x)
     ∙ ap (λ (z : ℤ). int_cmp (height_by_run edge point.x) z) (point-from_start edge point.y)
 
--- ---- two edges, where one of them begins
+-- ---- two edges, where one of them begins or ends
 
-height-at_start : (edge other : Edge) → ((edge.y0 *ℤ run other) *ℤ run edge) ≡ height_by_runs edge other edge.x0
-height-at_start edge other =
-    identity (times (times (number edge.y0) (minus (number other.x1) (number other.x0))) (minus (number edge.x1) (number edge.x0)))
-    (times (plus (times (number edge.y0) (minus (number edge.x1) (number edge.x0))) (times (number edge.y1) (minus (number edge.x0) (number edge.x0)))) (minus (number other.x1) (number other.x0)))
+-- an edge's height at its ends
+at_begin : (edge : Edge) → height_by_run edge edge.x0 ≡ (edge.y0 *ℤ run edge)
+at_begin edge =
+    identity (plus (times (number edge.y0) (minus (number edge.x1) (number edge.x0))) (times (number edge.y1) (minus (number edge.x0) (number edge.x0))))
+    (times (number edge.y0) (minus (number edge.x1) (number edge.x0)))
     (omega arith)
 
--- how the one's height stands to the other's where the other begins, if it goes to the right
-cmp-at_start : (one other : Edge) → other.x0 <ℤ other.x1
-    → int_cmp (height_by_run one other.x0) (other.y0 *ℤ run one) ≡ int_cmp (height_by_runs one other other.x0) (height_by_runs other one other.x0)
-cmp-at_start one other onwards =
-    times_cmp (run other) (height_by_run one other.x0) (other.y0 *ℤ run one) (omega (arith, ints, onwards))
-    ∙ ap (λ (z : ℤ). int_cmp (height_by_runs one other other.x0) z) (height-at_start other one)
+at_end : (edge : Edge) → height_by_run edge edge.x1 ≡ (edge.y1 *ℤ run edge)
+at_end edge =
+    identity (plus (times (number edge.y0) (minus (number edge.x1) (number edge.x1))) (times (number edge.y1) (minus (number edge.x1) (number edge.x0))))
+    (times (number edge.y1) (minus (number edge.x1) (number edge.x0)))
+    (omega arith)
 
--- so it is told by the point at which the other begins
-at_point : (one other : Edge) (point : Point) (r : Ordering) → other.x0 <ℤ other.x1 → point.x ≡ other.x0 → point.y ≡ other.y0
-    → r ≡ int_cmp (height_by_run one point.x) (point.y *ℤ run one) → r ≡ int_cmp (height_by_runs one other other.x0) (height_by_runs other one other.x0)
-at_point one other point r onwards x_is y_is told =
+turned : (y m n : ℤ) → ((y *ℤ m) *ℤ n) ≡ ((y *ℤ n) *ℤ m)
+turned y m n = identity (times (times (number y) (number m)) (number n)) (times (times (number y) (number n)) (number m)) (omega arith)
+
+-- how the one's height stands to the other's where the other has a point, if it goes to the right, is told by that point
+at_point : (one other : Edge) (point : Point) (x y : ℤ) (r : Ordering) → other.x0 <ℤ other.x1 → height_by_run other x ≡ (y *ℤ run other) → point.x ≡ x → point.y ≡ y
+    → r ≡ int_cmp (height_by_run one point.x) (point.y *ℤ run one) → r ≡ int_cmp (height_by_runs one other x) (height_by_runs other one x)
+at_point one other point x y r onwards height x_is y_is told =
     told
-    ∙ ap (λ (x : ℤ). int_cmp (height_by_run one x) (point.y *ℤ run one)) x_is
-    ∙ ap (λ (y : ℤ). int_cmp (height_by_run one other.x0) (y *ℤ run one)) y_is
-    ∙ cmp-at_start one other onwards
+    ∙ ap (λ (z : ℤ). int_cmp (height_by_run one z) (point.y *ℤ run one)) x_is
+    ∙ ap (λ (z : ℤ). int_cmp (height_by_run one x) (z *ℤ run one)) y_is
+    ∙ times_cmp (run other) (height_by_run one x) (y *ℤ run one) (omega (arith, ints, onwards))
+    ∙ ap (λ (z : ℤ). int_cmp (height_by_runs one other x) z) (turned y (run one) (run other) ∙ ap (λ (z : ℤ). z *ℤ run one) (sym height))
 
-max_second : (a b : ℤ) → a <ℤ b → b ≡ int_max a b
-max_second a b below = omega (arith, ints, clamps, below)
+-- and the other way round
+at_point_back : (one other : Edge) (point : Point) (x y : ℤ) (r : Ordering) → one.x0 <ℤ one.x1 → height_by_run one x ≡ (y *ℤ run one) → point.x ≡ x → point.y ≡ y
+    → r ≡ int_cmp (height_by_run other point.x) (point.y *ℤ run other) → ordering_reverse r ≡ int_cmp (height_by_runs one other x) (height_by_runs other one x)
+at_point_back one other point x y r onwards height x_is y_is told =
+    ap ordering_reverse (at_point other one point x y r onwards height x_is y_is told)
+    ∙ sym (int_cmp_total.antisymm (height_by_runs one other x) (height_by_runs other one x))
 
-max_first : (a b : ℤ) → b ≤ℤ a → a ≡ int_max a b
-max_first a b upto = omega (arith, ints, clamps, upto)
+-- how the heights of two edges stand to each other
+abbrev heights : Edge → Edge → ℤ → Ordering
+heights one other x = int_cmp (height_by_runs one other x) (height_by_runs other one x)
 
--- how the heights of two edges stand to each other at the first x that both span: the later one's start tells
+-- at the first x that both span the later one's start tells it
 pub starts-later : (one other : Edge) (point : Point) (r : Ordering) → one.x0 <ℤ other.x0 → other.x0 <ℤ other.x1 → point.x ≡ other.x0 → point.y ≡ other.y0
     → r ≡ int_cmp (height_by_run one point.x) (point.y *ℤ run one)
     → r ≡ int_cmp (height_by_runs one other (int_max one.x0 other.x0)) (height_by_runs other one (int_max one.x0 other.x0))
 starts-later one other point r later onwards x_is y_is told =
-    at_point one other point r onwards x_is y_is told
-    ∙ ap (λ (x : ℤ). int_cmp (height_by_runs one other x) (height_by_runs other one x)) (max_second one.x0 other.x0 later)
+    let is : other.x0 ≡ int_max one.x0 other.x0 = omega (arith, ints, clamps, later) in
+    at_point one other point other.x0 other.y0 r onwards (at_begin other) x_is y_is told ∙ ap (heights one other) is
 
 pub starts-earlier : (one other : Edge) (point : Point) (r : Ordering) → other.x0 ≤ℤ one.x0 → one.x0 <ℤ one.x1 → point.x ≡ one.x0 → point.y ≡ one.y0
     → r ≡ int_cmp (height_by_run other point.x) (point.y *ℤ run other)
     → ordering_reverse r ≡ int_cmp (height_by_runs one other (int_max one.x0 other.x0)) (height_by_runs other one (int_max one.x0 other.x0))
 starts-earlier one other point r earlier onwards x_is y_is told =
-    ap ordering_reverse (at_point other one point r onwards x_is y_is told)
-    ∙ sym (int_cmp_total.antisymm (height_by_runs one other one.x0) (height_by_runs other one one.x0))
-    ∙ ap (λ (x : ℤ). int_cmp (height_by_runs one other x) (height_by_runs other one x)) (max_first one.x0 other.x0 earlier)
+    let is : one.x0 ≡ int_max one.x0 other.x0 = omega (arith, ints, clamps, earlier) in
+    at_point_back one other point one.x0 one.y0 r onwards (at_begin one) x_is y_is told ∙ ap (heights one other) is
 
--- ---- two edges, where one of them ends
-
-height-at_end : (edge other : Edge) → ((edge.y1 *ℤ run other) *ℤ run edge) ≡ height_by_runs edge other edge.x1
-height-at_end edge other =
-    identity (times (times (number edge.y1) (minus (number other.x1) (number other.x0))) (minus (number edge.x1) (number edge.x0)))
-    (times (plus (times (number edge.y0) (minus (number edge.x1) (number edge.x1))) (times (number edge.y1) (minus (number edge.x1) (number edge.x0)))) (minus (number other.x1) (number other.x0)))
-    (omega arith)
-
--- how the one's height stands to the other's where the other ends, if it goes to the right
-cmp-at_end : (one other : Edge) → other.x0 <ℤ other.x1
-    → int_cmp (height_by_run one other.x1) (other.y1 *ℤ run one) ≡ int_cmp (height_by_runs one other other.x1) (height_by_runs other one other.x1)
-cmp-at_end one other onwards =
-    times_cmp (run other) (height_by_run one other.x1) (other.y1 *ℤ run one) (omega (arith, ints, onwards))
-    ∙ ap (λ (z : ℤ). int_cmp (height_by_runs one other other.x1) z) (height-at_end other one)
-
--- so it is told by the point at which the other ends
-at_last : (one other : Edge) (point : Point) (r : Ordering) → other.x0 <ℤ other.x1 → point.x ≡ other.x1 → point.y ≡ other.y1
-    → r ≡ int_cmp (height_by_run one point.x) (point.y *ℤ run one) → r ≡ int_cmp (height_by_runs one other other.x1) (height_by_runs other one other.x1)
-at_last one other point r onwards x_is y_is told =
-    told
-    ∙ ap (λ (x : ℤ). int_cmp (height_by_run one x) (point.y *ℤ run one)) x_is
-    ∙ ap (λ (y : ℤ). int_cmp (height_by_run one other.x1) (y *ℤ run one)) y_is
-    ∙ cmp-at_end one other onwards
-
-min_second : (a b : ℤ) → b <ℤ a → b ≡ int_min a b
-min_second a b below = omega (arith, ints, clamps, below)
-
-min_first : (a b : ℤ) → a ≤ℤ b → a ≡ int_min a b
-min_first a b upto = omega (arith, ints, clamps, upto)
-
--- how the heights of two edges stand to each other at the last x that both span: the end of the one that ends first tells
+-- at the last one the end of the one that ends first
 pub ends-earlier : (one other : Edge) (point : Point) (r : Ordering) → other.x1 <ℤ one.x1 → other.x0 <ℤ other.x1 → point.x ≡ other.x1 → point.y ≡ other.y1
     → r ≡ int_cmp (height_by_run one point.x) (point.y *ℤ run one)
     → r ≡ int_cmp (height_by_runs one other (int_min one.x1 other.x1)) (height_by_runs other one (int_min one.x1 other.x1))
-ends-earlier one other point r later onwards x_is y_is told =
-    at_last one other point r onwards x_is y_is told
-    ∙ ap (λ (x : ℤ). int_cmp (height_by_runs one other x) (height_by_runs other one x)) (min_second one.x1 other.x1 later)
+ends-earlier one other point r earlier onwards x_is y_is told =
+    let is : other.x1 ≡ int_min one.x1 other.x1 = omega (arith, ints, clamps, earlier) in
+    at_point one other point other.x1 other.y1 r onwards (at_end other) x_is y_is told ∙ ap (heights one other) is
 
 pub ends-later : (one other : Edge) (point : Point) (r : Ordering) → one.x1 ≤ℤ other.x1 → one.x0 <ℤ one.x1 → point.x ≡ one.x1 → point.y ≡ one.y1
     → r ≡ int_cmp (height_by_run other point.x) (point.y *ℤ run other)
     → ordering_reverse r ≡ int_cmp (height_by_runs one other (int_min one.x1 other.x1)) (height_by_runs other one (int_min one.x1 other.x1))
-ends-later one other point r earlier onwards x_is y_is told =
-    ap ordering_reverse (at_last other one point r onwards x_is y_is told)
-    ∙ sym (int_cmp_total.antisymm (height_by_runs one other one.x1) (height_by_runs other one one.x1))
-    ∙ ap (λ (x : ℤ). int_cmp (height_by_runs one other x) (height_by_runs other one x)) (min_first one.x1 other.x1 earlier)
+ends-later one other point r later onwards x_is y_is told =
+    let is : one.x1 ≡ int_min one.x1 other.x1 = omega (arith, ints, clamps, later) in
+    at_point_back one other point one.x1 one.y1 r onwards (at_end one) x_is y_is told ∙ ap (heights one other) is

@@ -2,11 +2,11 @@
 use Rattle.std.proofs.Common.{◌≡◌, ℤ, ◌≤ℤ◌, ◌<ℤ◌, inl, inr, Bool, true, false, MatchBool, arith, sym}
 use Rattle.std.specs.Int.{int_min, int_max}
 use Rattle.std.specs.Ordering.{int_cmp}
-use Rattle.std.specs.Cmp.{int_cmp_is}
 use Rattle.std.specs.declared.cmp.Ordering.{Ordering}
 use Rattle.std.specs.declared.cmp.Ordering.TheVariants.{Less, Greater}
 use Rattle.std.proofs.lemmas.Cmp.{int_ranked}
 use Rattle.std.proofs.lemmas.Int.{ints, clamps, by_lt_z}
+use Rattle.plane.proofs.SweepLineLemmas.Comparisons.{says_greater, says_less}
 use Rattle.plane.specs.declared.edge.Edge.{Edge}
 use Rattle.plane.specs.SweepLine.Heights.{rightwards, height_by_runs, Spans, IsLowerAt}
 use Rattle.plane.specs.SweepLine.Crossings.{IsBelowAt, Cross, AreOpposite}
@@ -26,12 +26,6 @@ less_of a b says = int_ranked a b Less (sym says)
 
 greater_of : (a b : ℤ) → int_cmp a b ≡ Greater → b <ℤ a
 greater_of a b says = int_ranked a b Greater (sym says)
-
-says_less : (a b : ℤ) → a <ℤ b → int_cmp a b ≡ Less
-says_less a b below = sym (int_cmp_is a b Less below)
-
-says_greater : (a b : ℤ) → b <ℤ a → int_cmp a b ≡ Greater
-says_greater a b above = sym (int_cmp_is a b Greater above)
 
 -- an x that both span lies between the two ends
 within_max : (a b first x : ℤ) → first ≡ int_max a b → a ≤ℤ x → b ≤ℤ x → first ≤ℤ x

@@ -1,5 +1,5 @@
 -- What is left of the entries of the status at a later x, and what a list has around one of its elements.
-use Rattle.std.proofs.Common.{◌≡◌, ◌⊎◌, inl, inr, zero, suc, ℤ, ◌≤ℤ◌, false, List, [], ◌∷◌, ◌++◌, ap, ⊎_elim, arith}
+use Rattle.std.proofs.Common.{◌≡◌, ◌⊎◌, inl, inr, zero, suc, ℤ, ◌≤ℤ◌, false, List, [], ◌∷◌, ◌++◌, ⊎_elim, arith}
 use Rattle.std.specs.List.{Contains}
 use Rattle.std.proofs.lemmas.Bool.{both_ways}
 use Rattle.std.proofs.lemmas.Int.{ints, by_lt_z}
@@ -27,14 +27,6 @@ module _ {X : Type 0} where
   here_or_there : (x : X) (xs : List X) (y : X) → Contains (x ∷ xs) y → (x ≡ y) ⊎ Contains xs y
   here_or_there x xs y (zero, within, is) = inl is
   here_or_there x xs y (suc k, within, is) = inr (k, omega arith, is)
-
-  -- a member of a list has a list in front of it and one behind
-  pub cut_around : (xs : List X) (x : X) → Contains xs x → (front : List X) × (back : List X) × (xs ≡ front ++ x ∷ back)
-  cut_around [] x (k, within, is) = absurd (omega arith)
-  cut_around (y ∷ ys) x (zero, within, is) = ([], ys, ap (λ z. z ∷ ys) is)
-  cut_around (y ∷ ys) x (suc k, within, is) =
-      let (front, back, cut) = cut_around ys x (k, omega arith, is) in
-      (y ∷ front, back, ap (λ zs. y ∷ zs) cut)
 
   -- a member is this one, or one of those around it
   pub around_cases : (front : List X) (x : X) (back : List X) (y : X) → Contains (front ++ x ∷ back) y → (x ≡ y) ⊎ Contains (front ++ back) y

@@ -1,10 +1,10 @@
 -- Edges that don't cross, since the one is nowhere above the other.
-use Rattle.std.proofs.Common.{◌≢◌, ℤ, ◌≤ℤ◌, ◌<ℤ◌, arith, ap, sym, subst}
-use Rattle.std.specs.Cmp.{int_cmp_is}
+use Rattle.std.proofs.Common.{◌≢◌, ℤ, ◌≤ℤ◌, ◌<ℤ◌, arith, ap, subst}
 use Rattle.std.specs.Ordering.{int_cmp, nat_cmp}
 use Rattle.std.specs.declared.cmp.Ordering.TheVariants.{Greater}
 use Rattle.std.specs.Int.{int_min, int_max}
-use Rattle.std.proofs.lemmas.Int.{ints, clamps, by_lt_z}
+use Rattle.std.proofs.lemmas.Int.{ints, clamps}
+use Rattle.plane.proofs.SweepLineLemmas.Comparisons.{not_greater}
 use Rattle.plane.specs.declared.edge.Edge.{Edge}
 use Rattle.plane.specs.declared.sweep_line.active.ActiveEdge.{ActiveEdge}
 use Rattle.plane.specs.SweepLine.Crossings.{Cross}
@@ -54,9 +54,6 @@ upto_uncrossed one other last some some_too ends first upto cross =
     let here : IsUpto one.edge other.edge cross.above = upto_between one.edge other.edge (common_start one other) x last start (omega (arith, ints, within, ends)) first upto in
     let above = lower_of other.edge one.edge x some_too some cross.is_above.lower in
     omega (arith, ints, here, above)
-
-not_greater : (a b : ℤ) → int_cmp a b ≢ Greater → a ≤ℤ b
-not_greater a b says = by_lt_z b a (λ above. absurd (says (sym (int_cmp_is a b Greater above)))) (λ upto. upto)
 
 -- where the one doesn't stand behind the other, nor is above it at the last common x, they don't cross
 pub ahead_uncrossed : (one other : ActiveEdge) → one.edge.x0 <ℤ one.edge.x1 → other.edge.x0 <ℤ other.edge.x1 → cmp_active one other ≢ Greater

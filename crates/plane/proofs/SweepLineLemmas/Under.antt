@@ -9,6 +9,7 @@ use Rattle.std.proofs.lemmas.Int.{ints}
 use Rattle.std.proofs.lemmas.List.Elements.{All-append, All-cons}
 use Rattle.i_tree.proofs.RootLemmas.Joined.{All-behind, All-front}
 use Rattle.i_tree.specs.Root.Along.{IsLast, IsMonotoneAlong}
+use Rattle.plane.proofs.SweepLineLemmas.Comparisons.{not_greater}
 use Rattle.plane.specs.declared.edge.Edge.{Edge}
 use Rattle.plane.specs.declared.point.Point.{Point}
 use Rattle.plane.specs.SweepLine.Heights.{run, height_by_run, Covers, IsUnder, IsLowerAt}
@@ -49,14 +50,6 @@ index_upto a b c d Greater Greater first second low high = omega arith
 upto_not_greater : (a b : ℤ) → a ≤ℤ b → int_cmp a b ≢ Greater
 upto_not_greater a b upto greater = let above : b <ℤ a = int_ranked a b Greater (sym greater) in omega (arith, ints, upto, above)
 
-not_greater_upto : (a b : ℤ) → int_cmp a b ≢ Greater → a ≤ℤ b
-not_greater_upto a b differs = told (int_cmp a b) (int_ranked a b (int_cmp a b) refl) differs
-  where
-    told : (r : Ordering) → MatchOrdering r (a <ℤ b) (a ≡ b) (b <ℤ a) → r ≢ Greater → a ≤ℤ b
-    told Less below differs = omega (arith, ints, below)
-    told Equal same differs = omega (arith, ints, same)
-    told Greater above differs = absurd (differs refl)
-
 -- ---- along the line
 
 module _ (point : Point) (line : List Entry) (is : IsSortedAt point.x line) where
@@ -96,7 +89,7 @@ module _ (point : Point) (line : List Entry) (is : IsSortedAt point.x line) wher
       record {
         covers = covers;
         upto = subst (λ (edge : Edge). height_by_run edge point.x ≤ℤ (point.y *ℤ run edge)) same
-            (not_greater_upto (height_by_run entry.0.edge point.x) (point.y *ℤ run entry.0.edge) low);
+            (not_greater (height_by_run entry.0.edge point.x) (point.y *ℤ run entry.0.edge) low);
       }
 
   -- the last that isn't above the point is the highest under it, at the point's x and at the next

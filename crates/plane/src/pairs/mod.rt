@@ -21,7 +21,6 @@ mod between;
 mod cut;
 pub mod items;
 mod parts;
-mod read_ahead;
 mod roles;
 mod strips;
 mod sweep;

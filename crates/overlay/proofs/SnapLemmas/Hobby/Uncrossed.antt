@@ -14,9 +14,6 @@ use Rattle.overlay.proofs.SnapLemmas.Pieces.{CrossProperly, HasCrossings, InBox,
 use Rattle.overlay.proofs.SnapLemmas.Reversed.{left-reversed}
 use Rattle.plane.proofs.MeetLemmas.Identities.{Term, at_most, at_most_of, identity, minus, number, plus, same_of, times, unscaled}
 
-turn_term : Term → Term → Term → Term → Term
-turn_term a b c d = minus (times a d) (times b c)
-
 left_none_from : (x0 y0 x1 y1 : ℤ) → cross (x1 -ℤ x0) (y1 -ℤ y0) (x0 -ℤ x0) (y0 -ℤ y0) ≡ pos 0
 left_none_from x0 y0 x1 y1 =
     let way : ℤ → ℤ → Term = λ a b. minus (number a) (number b) in

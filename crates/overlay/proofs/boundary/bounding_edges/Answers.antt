@@ -1,8 +1,8 @@
-use Rattle.std.proofs.Common.{◌≡◌, ◌++◌, ◌-◌, ℕ, List, length, take, drop, ap, ap₂, sym, subst, ◌∙◌, arith}
+use Rattle.std.proofs.Common.{◌≡◌, ◌++◌, ◌-◌, ℕ, List, All, length, take, drop, ap, ap₂, sym, subst, ◌∙◌, arith}
 use Rattle.std.proofs.lemmas.List.{length-drop, take_all}
 use Rattle.plane.specs.declared.edge.Edge.{Edge}
 use Rattle.overlay.specs.Boundary.{BoundsResult}
-use Rattle.overlay.specs.Fill.Filled.{AreNoded, IsFilled}
+use Rattle.overlay.specs.Fill.Filled.{AreNoded, IsFilled, IsNextInColumn}
 use Rattle.overlay.specs.Snap.Windings.{IsClosed}
 use Rattle.overlay.proofs.BoundaryLemmas.Bounding.{broken-closed, broken-noded, clip-closed, filled-bounds}
 use Rattle.overlay.proofs.boundary.bounding_edges.Goals as goal
@@ -48,3 +48,8 @@ returns-clause-bounds g c =
     (filled-bounds c.args.subject.now c.args.clip.now (take count items) (drop count items) c.in_ok-pieces.ensures.1 c.args.rule c.args.operation edges
     (subst (λ (list : List Edge). IsFilled c.args.rule c.args.operation (take count items) list edges) second
     (subst (λ (list : List Edge). IsFilled c.args.rule c.args.operation list (take (length c.deref-2.result.now - count) (drop count c.deref-2.result.now)) edges) first filled)))
+
+pub returns-clause-vertical : goal.returns-clause-vertical
+returns-clause-vertical g c =
+    let (edges, is, filled) = c.in_ok-fill.ensures.ok in
+    subst (λ (list : List Edge). All (λ edge. edge.x1 ≡ edge.x0 → IsNextInColumn list edge) list) (sym (is ∙ ap (λ (before : List Edge). before ++ edges) c.new-edges.ensures.items)) filled.vertical

@@ -1,4 +1,4 @@
-use Rattle.std.proofs.Common.{◌^◌, ◌-ℤ◌, ◌*ℤ◌, arith, rules, w64, FitsSigned}
+use Rattle.std.proofs.Common.{◌≡◌, ◌^◌, ◌-ℤ◌, ◌*ℤ◌, arith, rules, FitsSigned}
 use Rattle.std.specs.Int.{w128}
 use Rattle.std.proofs.lemmas.Int.{ints, to_z-of_z}
 use Rattle.plane.specs.Meet.Crosses.{IsWithin}
@@ -9,35 +9,21 @@ pub overflow_sub-result : goal.overflow_sub-result
 overflow_sub-result c =
     let one : FitsSigned w128 c.product.result = record { sfits = c.product.type_inv } in
     let other : FitsSigned w128 c.product-2.result = record { sfits = c.product-2.type_inv } in
-    let above = c.product.ensures.above in
-    let upto = c.product.ensures.upto in
-    let other_above = c.product-2.ensures.above in
-    let other_upto = c.product-2.ensures.upto in
-    let wide : FitsSigned w128 (c.product.result -ℤ c.product-2.result) = omega (arith, ints, above, upto, other_above, other_upto) in
+    let within = c.product.ensures in
+    let other_within = c.product-2.ensures in
+    let wide : FitsSigned w128 (c.product.result -ℤ c.product-2.result) = omega (arith, ints, within.above, within.upto, other_within.above, other_within.upto) in
     simp to_z-of_z wide
 
 pub returns-clause-value : goal.returns-clause-value
 returns-clause-value c =
-    let one_x : FitsSigned w64 c.args.one.x = search rules in
-    let one_y : FitsSigned w64 c.args.one.y = search rules in
-    let other_x : FitsSigned w64 c.args.other.x = search rules in
-    let other_y : FitsSigned w64 c.args.other.y = search rules in
-    let first = simp to_z-of_z at c.product.ensures.value in
-    let second = simp to_z-of_z at c.product-2.ensures.value in
+    let first : c.product.result ≡ (c.args.one.x *ℤ c.args.other.y) = search rules in
+    let second : c.product-2.result ≡ (c.args.one.y *ℤ c.args.other.x) = search rules in
     omega (arith, ints, first, second)
 
 pub returns-clause-within : goal.returns-clause-within
 returns-clause-within c =
-    let one_x : FitsSigned w64 c.args.one.x = search rules in
-    let one_y : FitsSigned w64 c.args.one.y = search rules in
-    let other_x : FitsSigned w64 c.args.other.x = search rules in
-    let other_y : FitsSigned w64 c.args.other.y = search rules in
-    let first = simp to_z-of_z at c.product.ensures.value in
-    let second = simp to_z-of_z at c.product-2.ensures.value in
+    let first : c.product.result ≡ (c.args.one.x *ℤ c.args.other.y) = search rules in
+    let second : c.product-2.result ≡ (c.args.one.y *ℤ c.args.other.x) = search rules in
     let right : IsWithin (2 ^ 64) (c.args.one.x *ℤ c.args.other.y) = IsWithin-product c.args.one.x c.args.other.y (2 ^ 32) (2 ^ 32) c.args.one.x_within c.args.other.y_within in
     let left : IsWithin (2 ^ 64) (c.args.one.y *ℤ c.args.other.x) = IsWithin-product c.args.one.y c.args.other.x (2 ^ 32) (2 ^ 32) c.args.one.y_within c.args.other.x_within in
-    let from = right.from in
-    let upto = right.upto in
-    let left_from = left.from in
-    let left_upto = left.upto in
-    record { from = omega (arith, ints, first, second, from, left_upto); upto = omega (arith, ints, first, second, upto, left_from) }
+    record { from = omega (arith, ints, first, second, right.from, left.upto); upto = omega (arith, ints, first, second, right.upto, left.from) }

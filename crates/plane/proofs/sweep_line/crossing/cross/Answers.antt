@@ -1,6 +1,6 @@
-use Rattle.std.proofs.Common.{◌≡◌, ◌∙◌, ◌≤ℤ◌, ◌<ℤ◌, ap, sym, rules, subst, arith, w32, FitsSigned, MatchBool}
+use Rattle.std.proofs.Common.{◌≡◌, ◌∙◌, ◌≤ℤ◌, ◌<ℤ◌, ap, sym, rules, subst, arith, MatchBool}
 use Rattle.std.specs.Int.{int_min, int_max}
-use Rattle.std.proofs.lemmas.Int.{ints, to_z-of_z}
+use Rattle.std.proofs.lemmas.Int.{ints}
 use Rattle.std.specs.declared.cmp.Ordering.{Ordering}
 use Rattle.plane.specs.SweepLine.Heights.{rightwards}
 use Rattle.plane.specs.SweepLine.Crossings.{AreOpposite}
@@ -12,8 +12,6 @@ use Rattle.plane.proofs.sweep_line.crossing.cross.Goals as goal
 pub returns-then-right : goal.returns-then-right
 returns-then-right c cross =
     let right = c.turn_rightwards-right.result in
-    let x0 : FitsSigned w32 right.x0 = search rules in
-    let x1 : FitsSigned w32 right.x1 = search rules in
     let none : right.x1 ≤ℤ right.x0 = search rules in
     let some : right.x0 <ℤ right.x1 = rw (c.turn_rightwards-right.ensures) (CoversSome-crossed c.args.one c.args.other cross) in
     omega (arith, ints, none, some)
@@ -21,41 +19,22 @@ returns-then-right c cross =
 pub returns-then-other_right : goal.returns-then-other_right
 returns-then-other_right c cross =
     let right = c.turn_rightwards-other_right.result in
-    let x0 : FitsSigned w32 right.x0 = search rules in
-    let x1 : FitsSigned w32 right.x1 = search rules in
     let none : right.x1 ≤ℤ right.x0 = search rules in
     let some : right.x0 <ℤ right.x1 = rw (c.turn_rightwards-other_right.ensures) (CoversSome-crossed c.args.other c.args.one (Cross-exchanged c.args.one c.args.other cross)) in
     omega (arith, ints, none, some)
 
 pub returns-then-last-first : goal.returns-then-last-first
 returns-then-last-first c =
-    let right = c.turn_rightwards-right.result in
-    let other_right = c.turn_rightwards-other_right.result in
-    let x0 : FitsSigned w32 right.x0 = search rules in
-    let x1 : FitsSigned w32 right.x1 = search rules in
-    let other_x0 : FitsSigned w32 other_right.x0 = search rules in
-    let other_x1 : FitsSigned w32 other_right.x1 = search rules in
-    let first : FitsSigned w32 c.max-first.result = record { sfits = c.max-first.type_inv } in
-    let last : FitsSigned w32 c.min-last.result = record { sfits = c.min-last.type_inv } in
-    let max_is = simp to_z-of_z at c.max-first.ensures.value in
-    let min_is = simp to_z-of_z at c.min-last.ensures.value in
+    let max_is : c.max-first.result ≡ int_max c.turn_rightwards-right.result.x0 c.turn_rightwards-other_right.result.x0 = search rules in
+    let min_is : c.min-last.result ≡ int_min c.turn_rightwards-right.result.x1 c.turn_rightwards-other_right.result.x1 = search rules in
     let first_is : c.max-first.result ≡ int_max (rightwards c.args.one).x0 (rightwards c.args.other).x0 = rw (← c.turn_rightwards-right.ensures, ← c.turn_rightwards-other_right.ensures) max_is in
     let last_is : c.min-last.result ≡ int_min (rightwards c.args.one).x1 (rightwards c.args.other).x1 = rw (← c.turn_rightwards-right.ensures, ← c.turn_rightwards-other_right.ensures) min_is in
-    let none = simp to_z-of_z at c.if-last-first.true in
     apart c.args.one c.args.other c.max-first.result c.min-last.result (record { first_is = first_is; last_is = last_is }) (search rules)
 
 pub returns : goal.returns
 returns c =
-    let right = c.turn_rightwards-right.result in
-    let other_right = c.turn_rightwards-other_right.result in
-    let x0 : FitsSigned w32 right.x0 = search rules in
-    let x1 : FitsSigned w32 right.x1 = search rules in
-    let other_x0 : FitsSigned w32 other_right.x0 = search rules in
-    let other_x1 : FitsSigned w32 other_right.x1 = search rules in
-    let first : FitsSigned w32 c.max-first.result = record { sfits = c.max-first.type_inv } in
-    let last : FitsSigned w32 c.min-last.result = record { sfits = c.min-last.type_inv } in
-    let max_is = simp to_z-of_z at c.max-first.ensures.value in
-    let min_is = simp to_z-of_z at c.min-last.ensures.value in
+    let max_is : c.max-first.result ≡ int_max c.turn_rightwards-right.result.x0 c.turn_rightwards-other_right.result.x0 = search rules in
+    let min_is : c.min-last.result ≡ int_min c.turn_rightwards-right.result.x1 c.turn_rightwards-other_right.result.x1 = search rules in
     let first_is : c.max-first.result ≡ int_max (rightwards c.args.one).x0 (rightwards c.args.other).x0 = rw (← c.turn_rightwards-right.ensures, ← c.turn_rightwards-other_right.ensures) max_is in
     let last_is : c.min-last.result ≡ int_min (rightwards c.args.one).x1 (rightwards c.args.other).x1 = rw (← c.turn_rightwards-right.ensures, ← c.turn_rightwards-other_right.ensures) min_is in
     let some : c.max-first.result ≤ℤ c.min-last.result = search rules in

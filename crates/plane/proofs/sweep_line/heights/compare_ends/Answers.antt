@@ -1,4 +1,4 @@
-use Rattle.std.proofs.Common.{◌≡◌, ap, ◌<ℤ◌, ◌≤ℤ◌, ◌∙◌, rules, w32, FitsSigned}
+use Rattle.std.proofs.Common.{◌≡◌, ap, ◌<ℤ◌, ◌≤ℤ◌, ◌∙◌, rules}
 use Rattle.plane.specs.declared.edge.Edge.{Edge}
 use Rattle.plane.specs.declared.point.Point.{Point}
 use Rattle.plane.proofs.SweepLineLemmas.Comparisons.{ends-earlier, ends-later}
@@ -8,8 +8,6 @@ pub returns-then-outlasts : goal.returns-then-outlasts
 returns-then-outlasts c =
     let one = c.args.one in
     let other = c.args.other in
-    let x1 : FitsSigned w32 one.x1 = search rules in
-    let other_x1 : FitsSigned w32 other.x1 = search rules in
     let earlier : other.x1 <ℤ one.x1 = search rules in
     let longer : c.select-longer.result ≡ one = c.select-longer.ensures.first c.if-outlasts.true in
     let shorter : c.select-shorter.result ≡ other = c.select-shorter.ensures.first c.if-outlasts.true in
@@ -22,8 +20,6 @@ pub returns : goal.returns
 returns c =
     let one = c.args.one in
     let other = c.args.other in
-    let x1 : FitsSigned w32 one.x1 = search rules in
-    let other_x1 : FitsSigned w32 other.x1 = search rules in
     let later : one.x1 ≤ℤ other.x1 = search rules in
     let longer : c.select-longer.result ≡ other = c.select-longer.ensures.other c.if-outlasts.false in
     let shorter : c.select-shorter.result ≡ one = c.select-shorter.ensures.other c.if-outlasts.false in

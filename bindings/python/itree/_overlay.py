@@ -1,0 +1,127 @@
+"""overlay and simplify: what is made of polygons, as polygons."""
+
+from __future__ import annotations
+
+import array
+from typing import Dict, Literal, Optional, Sequence, Tuple
+
+from . import _answers, _shapes
+from ._grid import Grid
+from ._polygons import Polygons
+from ._shapes import GatheredRings, HeldRings, Shapes
+
+Rule = Literal["evenodd", "nonzero", "positive", "negative"]
+Operation = Literal["union", "intersection", "difference", "xor"]
+
+# By the numbers that itree.h has for them.
+RULES: Dict[str, int] = {"evenodd": 0, "nonzero": 1, "positive": 2, "negative": 3}
+OPERATIONS: Dict[str, int] = {"union": 0, "intersection": 1, "difference": 2, "xor": 3}
+
+
+def overlay(
+    subject: Shapes,
+    clip: Shapes,
+    operation: Operation = "union",
+    rule: Rule = "nonzero",
+    *,
+    grid: Optional[Grid] = None,
+) -> Polygons:
+    """The polygons of what an operation makes of the insides of two sets of rings.
+
+    subject, clip: each a sequence of rings, or what has a __geo_interface__.
+    operation: "union", what is inside of any; "intersection", of both;
+    "difference", of the subject and not of the clip; "xor", of just one.
+    rule: which points are inside of rings, by how often these wind around them
+    counterclockwise: "evenodd", an odd number of times; "nonzero", not 0 times;
+    "positive", more often; "negative", less often.
+    grid: by which floats become whole numbers, as Grid.fit(subject, clip).
+
+    A ring is a sequence of points (x, y), or a buffer of whole numbers of the
+    shape (n, 2), or flat. It goes from each point to the next one, and from the
+    last to the first. Rings may cross and touch as they like, themselves, too.
+
+    >>> square, other = [(0, 0), (2, 0), (2, 2), (0, 2)], [(1, 1), (3, 1), (3, 3), (1, 3)]
+    >>> for polygon in overlay([square], [other], "intersection"):
+    ...     print(sorted(polygon.outer), polygon.holes)
+    [(1, 1), (1, 2), (2, 1), (2, 2)] []
+
+    The answer is `Polygons`: a sequence of `Polygon`, each with its outer ring,
+    counterclockwise, and its holes, clockwise. Where a ring begins, and the
+    order, is open. Rings visit no point twice, have no points on straight
+    lines, and share no more than single points.
+
+    What has a __geo_interface__ is taken as it is, and so are GeoJSON's dicts
+    and sequences of both: Polygon, MultiPolygon, and Feature, FeatureCollection
+    and GeometryCollection of these. Outer rings are turned counterclockwise
+    there, and holes clockwise, so that each rule but "negative" finds the
+    polygon inside. Of a point the first two coordinates are taken. They may be
+    floats that are whole.
+
+    >>> shape = {"type": "Polygon", "coordinates": [[(0, 0), (2, 0), (2, 2), (0, 0)]]}
+    >>> overlay(shape, [other]).__geo_interface__["type"]
+    'MultiPolygon'
+
+    Without a grid coordinates are whole numbers of 32 bits, and so are those of
+    the answer: rings are broken where they meet, and moved there to the next
+    whole point. A point is told rightly, inside or not, that isn't within half
+    a unit of an edge on both axes. Where all edges run along the axes, each
+    point is.
+
+    With a grid coordinates are floats, and so are those of the answer, which
+    are points of the grid. Each coordinate is first rounded to the grid: so a
+    point is told rightly that isn't within one unit, `grid.unit`, of an edge on
+    both axes.
+
+    >>> grid = Grid.fit([square], [other], unit=0.25)
+    >>> answer = overlay([square], [[(0.5, 0.5), (0.7, 0.5), (0.5, 0.7)]], "intersection", grid=grid)
+    >>> sorted(answer[0].outer), answer.grid.unit
+    ([(0.5, 0.5), (0.5, 0.75), (0.75, 0.5)], 0.25)
+
+    Raises ValueError where an operation or a rule is none, and with a grid where
+    a coordinate isn't finite, or is off the grid. Raises MemoryError where
+    memory was refused. What is raised for faulty rings is told at help(itree).
+    """
+    return overlaid([(subject, "subject"), (clip, "clip")], operation, rule, grid)
+
+
+def simplify(rings: Shapes, rule: Rule = "nonzero", *, grid: Optional[Grid] = None) -> Polygons:
+    """The polygons of what is inside of rings, by a rule: `overlay` of them and nothing.
+
+    rings: a sequence of rings, or what has a __geo_interface__, as of `overlay`.
+    rule, grid: as those of `overlay`.
+
+    So rings that cross or touch, themselves, too, become valid polygons. A
+    bow-tie becomes two triangles:
+
+    >>> bow = [(0, 0), (4, 4), (4, 0), (0, 4)]
+    >>> sorted(sorted(polygon.outer) for polygon in simplify([bow]))
+    [[(0, 0), (0, 4), (2, 2)], [(2, 2), (4, 0), (4, 4)]]
+
+    Raises what `overlay` does.
+    """
+    return overlaid([(rings, "rings")], "union", rule, grid)
+
+
+def overlaid(named: Sequence[Tuple[Shapes, str]], operation: str, rule: str, grid: Optional[Grid]) -> Polygons:
+    """`overlay` of one or two shapes, each with the name by which its faults are told."""
+    if operation not in OPERATIONS:
+        raise ValueError(f"the operation {operation!r}: one of {', '.join(OPERATIONS)} is wanted")
+    if rule not in RULES:
+        raise ValueError(f"the rule {rule!r}: one of {', '.join(RULES)} is wanted")
+    if not isinstance(grid, (Grid, type(None))):
+        raise TypeError(f"the grid is {type(grid).__name__}; a Grid or None is wanted")
+    held = [_held(given, name, grid) for given, name in named]
+    held += [HeldRings(array.array("i"), array.array("Q"))] * (2 - len(held))
+    numbers, ring_offsets, polygon_offsets = _answers.polygons_of(held[0], held[1], RULES[rule], OPERATIONS[operation])
+    return Polygons(numbers, ring_offsets, polygon_offsets, grid)
+
+
+def _held(given: Shapes, name: str, grid: Optional[Grid]) -> HeldRings:
+    if isinstance(given, Polygons) and given.grid == grid:
+        return HeldRings(array.array("i", given._numbers), array.array("Q", given.ring_offsets[1:]))
+    rings = _shapes.rings_in(given, name)
+    if grid is None:
+        whole = GatheredRings(rings, _shapes.whole_numbers, "i")
+        return HeldRings(whole.numbers, whole.ends)
+    floats = GatheredRings(rings, _shapes.directed_floats, "d")
+    return HeldRings(grid.rounded(floats.numbers, floats.row), floats.ends)

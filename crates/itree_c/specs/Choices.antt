@@ -1,0 +1,36 @@
+-- A fill rule and an operation, as C names them: by numbers.
+use Rattle.std.specs.Prelude.{◌≡◌, ◌≢◌, ℤ, Option, Some, None}
+use Rattle.overlay.specs.declared.fill.rules.FillRule.{FillRule}
+use Rattle.overlay.specs.declared.fill.rules.FillRule.TheVariants.{EvenOdd, NonZero, Positive, Negative}
+use Rattle.overlay.specs.declared.fill.rules.Operation.{Operation}
+use Rattle.overlay.specs.declared.fill.rules.Operation.TheVariants.{Union, Intersection, Difference, Xor}
+use Rattle.itree_c.specs.declared.choices.TheConstants.{EVEN_ODD, NON_ZERO, POSITIVE, NEGATIVE, UNION, INTERSECTION, DIFFERENCE, XOR}
+
+-- the number of each rule
+abbrev pub number_of_rule : FillRule → ℤ
+number_of_rule EvenOdd = EVEN_ODD
+number_of_rule NonZero = NON_ZERO
+number_of_rule Positive = POSITIVE
+number_of_rule Negative = NEGATIVE
+
+-- the number of each operation
+abbrev pub number_of_operation : Operation → ℤ
+number_of_operation Union = UNION
+number_of_operation Intersection = INTERSECTION
+number_of_operation Difference = DIFFERENCE
+number_of_operation Xor = XOR
+
+-- it is the rule that has the number, or no rule has it
+abbrev pub IsRule : ℤ → Option FillRule → Type 0
+IsRule number (Some rule) = number ≡ number_of_rule rule
+IsRule number None = (rule : FillRule) → number ≢ number_of_rule rule
+
+-- it is the operation that has the number, or no operation has it
+abbrev pub IsOperation : ℤ → Option Operation → Type 0
+IsOperation number (Some operation) = number ≡ number_of_operation operation
+IsOperation number None = (operation : Operation) → number ≢ number_of_operation operation
+
+-- a rule has the one number, and an operation the other
+abbrev pub AreChoices : ℤ → ℤ → Type 0
+AreChoices rule operation =
+    ((named : FillRule) × (rule ≡ number_of_rule named)) × ((chosen : Operation) × (operation ≡ number_of_operation chosen))

@@ -1,0 +1,60 @@
+//! The numbers by which C names a fill rule and an operation.
+
+ghost use Rattle.itree_c.specs.Choices.{IsOperation, IsRule};
+
+use polygons::{FillRule, Operation};
+
+/// Inside are the points with an odd winding number.
+pub const EVEN_ODD: i32 = 0;
+
+/// Inside are the points with any winding number but 0.
+pub const NON_ZERO: i32 = 1;
+
+/// Inside are the points with a winding number above 0.
+pub const POSITIVE: i32 = 2;
+
+/// Inside are the points with a winding number below 0.
+pub const NEGATIVE: i32 = 3;
+
+/// The points of either.
+pub const UNION: i32 = 0;
+
+/// The points of both.
+pub const INTERSECTION: i32 = 1;
+
+/// The points of the subject that aren't of the clip.
+pub const DIFFERENCE: i32 = 2;
+
+/// The points of just one of the two.
+pub const XOR: i32 = 3;
+
+// `itree.h` has these numbers.
+const _: () = prove!(EVEN_ODD == 0 && NON_ZERO == 1 && POSITIVE == 2 && NEGATIVE == 3);
+
+const _: () = prove!(UNION == 0 && INTERSECTION == 1 && DIFFERENCE == 2 && XOR == 3);
+
+// The rule that has the number, or none.
+pub(crate) fn rule_of(number: i32) -> Option<FillRule>
+    ensures { IsRule number result }
+{
+    match number {
+        EVEN_ODD => Some(FillRule::EvenOdd),
+        NON_ZERO => Some(FillRule::NonZero),
+        POSITIVE => Some(FillRule::Positive),
+        NEGATIVE => Some(FillRule::Negative),
+        _ => None,
+    }
+}
+
+// The operation that has the number, or none.
+pub(crate) fn operation_of(number: i32) -> Option<Operation>
+    ensures { IsOperation number result }
+{
+    match number {
+        UNION => Some(Operation::Union),
+        INTERSECTION => Some(Operation::Intersection),
+        DIFFERENCE => Some(Operation::Difference),
+        XOR => Some(Operation::Xor),
+        _ => None,
+    }
+}

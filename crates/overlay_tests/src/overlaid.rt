@@ -1,0 +1,188 @@
+//! Rings and the polygons of their overlay, as shapely tells them; ends that are none; and each request for memory refused in turn.
+
+use crate::filled::{ROWS, Row};
+use crate::walks::Regions;
+use i_tree::Refusal;
+use plane::point::Point;
+use polygons::{FillRule, Operation, OverlayFault, Polygons, Rings, overlay, simplify};
+use std::alloc::{AllocError, Allocator, Global};
+use std::test::Fail;
+use test_kit::Refusing;
+use test_kit::in_turn::{Trial, refuse_in_turn};
+
+// Appends the points of each ring, and where it stops.
+fn push_rings<A: Allocator>(
+    rings: &[&[[i32; 2]]],
+    points: &mut Vec<Point, A>,
+    ends: &mut Vec<usize, A>,
+) -> Result<(), AllocError> {
+    for ring in rings {
+        push_points(ring, points)?;
+        ends.push(points.len())?;
+    }
+    Ok(())
+}
+
+fn push_points<A: Allocator>(
+    ring: &[[i32; 2]],
+    points: &mut Vec<Point, A>,
+) -> Result<(), AllocError> {
+    for [x, y] in ring {
+        points.push(Point { x: *x, y: *y })?;
+    }
+    Ok(())
+}
+
+// The polygons of a row.
+fn wanted_of(alloc: Global, row: &Row) -> Result<Polygons<Global>, AllocError> {
+    let mut wanted = Polygons::new(alloc);
+    for rings in row.polygons {
+        push_rings(rings, &mut wanted.points, &mut wanted.ring_ends)?;
+        wanted.polygon_ends.push(wanted.ring_ends.len())?;
+    }
+    Ok(wanted)
+}
+
+// Appends the overlay of the regions' rings.
+fn overlay_regions<A: Allocator + Copy>(
+    alloc: Global,
+    regions: Regions,
+    out: &mut Polygons<A>,
+) -> Result<Result<(), OverlayFault>, AllocError> {
+    let mut points = Vec::new(alloc);
+    let mut ends = Vec::new(alloc);
+    push_rings(regions.subject, &mut points, &mut ends)?;
+    let mut clip_points = Vec::new(alloc);
+    let mut clip_ends = Vec::new(alloc);
+    push_rings(regions.clip, &mut clip_points, &mut clip_ends)?;
+    let subject = Rings {
+        points: &points,
+        ends: &ends,
+    };
+    let clip = Rings {
+        points: &clip_points,
+        ends: &clip_ends,
+    };
+    Ok(overlay(subject, clip, regions.rule, regions.operation, out))
+}
+
+fn is_overlaid(alloc: Global, row: &Row) -> Result<bool, Fail> {
+    let wanted = wanted_of(alloc, row)?;
+    let mut told = Polygons::new(alloc);
+    let outcome = overlay_regions(alloc, row.regions, &mut told)?;
+    let same_rings = told.points == wanted.points && told.ring_ends == wanted.ring_ends;
+    Ok(outcome == Ok(()) && same_rings && told.polygon_ends == wanted.polygon_ends)
+}
+
+#[test]
+fn rings_are_overlaid_as_shapely_tells(rt: HostRuntime) -> Result<(), Fail> {
+    for row in &ROWS {
+        assert!(rt; is_overlaid(rt.alloc(), row)?, "{}", row.name);
+    }
+    Ok(())
+}
+
+// The rings of a square and a point, by where they would stop.
+static ENDS: [(&[usize], bool); 6] = [
+    (&[4, 5], true),
+    (&[0, 4, 4, 5], true),
+    (&[4], true),
+    (&[4, 3], false),
+    (&[6], false),
+    (&[5, 4], false),
+];
+
+#[test]
+fn ends_are_tested(rt: HostRuntime) -> Result<(), Fail> {
+    let corners = [[0, 0], [2, 0], [2, 2], [0, 2], [7, 7]];
+    let mut points = Vec::new(rt.alloc());
+    push_points(&corners, &mut points)?;
+    for (ends, are_right) in &ENDS {
+        let rings = Rings {
+            points: &points,
+            ends: *ends,
+        };
+        let mut out = Polygons::new(rt.alloc());
+        let outcome = simplify(rings, FillRule::NonZero, &mut out);
+        let wanted = if *are_right {
+            Ok(())
+        } else {
+            Err(OverlayFault::Lengths)
+        };
+        assert!(rt; outcome == wanted && out.polygon_ends.is_empty() != *are_right);
+    }
+    Ok(())
+}
+
+// The polygons behind what was there.
+#[derive(Drop)]
+struct Overlaid<'a> {
+    out: Polygons<&'a Refusing<Global>>,
+    outcome: Option<Result<(), OverlayFault>>,
+}
+
+#[derive(Drop)]
+struct Overlaying<'a> {
+    memory: &'a Refusing<Global>,
+    alloc: Global,
+}
+
+// A square with two holes, which touch the rhomb between them.
+const WITH_HOLES: Regions = Regions {
+    subject: &[
+        &[[0, 0], [6, 0], [6, 6], [0, 6]],
+        &[[2, 2], [2, 4], [4, 4], [4, 2]],
+    ],
+    clip: &[&[[2, 3], [6, -1], [10, 3], [6, 7]]],
+    rule: FillRule::NonZero,
+    operation: Operation::Union,
+};
+
+impl<'a> Trial for Overlaying<'a> {
+    type State = Overlaid<'a>;
+
+    fn begin(&self) -> Option<Overlaid<'a>> {
+        let mut out = Polygons::new(self.memory);
+        out.points.push(Point { x: 7, y: 8 }).ok()?;
+        out.ring_ends.push(1).ok()?;
+        out.polygon_ends.push(1).ok()?;
+        Some(Overlaid { out, outcome: None })
+    }
+
+    fn call(&self, overlaid: &mut Overlaid<'a>) {
+        overlaid.outcome = overlay_regions(self.alloc, WITH_HOLES, &mut overlaid.out).ok();
+    }
+
+    // Where room for all was asked in advance and refused, the call may still have found room for each.
+    fn is_refused(&self, overlaid: &mut Overlaid<'a>, _nth: u64) -> bool {
+        let done = self.is_done(overlaid);
+        if done {
+            overlaid.out.points.truncate(1);
+            overlaid.out.ring_ends.truncate(1);
+            overlaid.out.polygon_ends.truncate(1);
+        }
+        let refused = overlaid.outcome == Some(Err(OverlayFault::Refused(Refusal::OutOfMemory)));
+        let kept = overlaid.out.points.len() == 1
+            && overlaid.out.ring_ends.as_slice() == [1].as_slice();
+        (done || refused) && kept && overlaid.out.polygon_ends.as_slice() == [1].as_slice()
+    }
+
+    fn is_done(&self, overlaid: &mut Overlaid<'a>) -> bool {
+        let out = &overlaid.out;
+        let is_whole = out.points.len() == 14
+            && out.ring_ends.len() == 4
+            && out.polygon_ends.len() == 2;
+        overlaid.outcome == Some(Ok(())) && is_whole
+    }
+}
+
+#[test]
+fn keeps_what_was_there_at_each_refusal(rt: HostRuntime) -> Result<(), Fail> {
+    let memory = Refusing::new(rt.alloc());
+    let overlaying = Overlaying {
+        memory: &memory,
+        alloc: rt.alloc(),
+    };
+    assert!(rt; refuse_in_turn(&memory, &overlaying).is_ok_and(|requests| requests > 20));
+    Ok(())
+}
