@@ -21,7 +21,7 @@ METADATA = """\
 Metadata-Version: 2.1
 Name: itree
 Version: {version}
-Summary: Polygons made of polygons, edges that meet, and what lies straight below a point, by a proved library
+Summary: Union, intersection, difference and xor of polygons, and edges that meet, by a proved library
 License: MIT
 Keywords: geometry,polygon,overlay,clipping,intersection,sweep line,point location
 Classifier: License :: OSI Approved :: MIT License

@@ -1,10 +1,13 @@
-"""Polygons made of polygons, which edges meet, edges broken where they meet, and
-which edge or segment lies straight below a point.
+"""Union, intersection, difference and xor of polygons; which edges meet, edges
+broken where they meet, and which edge or segment lies straight below a point.
 
-The answers are exact, in whole numbers of 32 bits, by a library that is proved
-in Rattle.
+The answers are those of a library that is proved in Rattle, in whole numbers of
+32 bits: exact, but for what `overlay`, `simplify` and `snap` say that they round.
 
     >>> import itree
+    >>> square, hole = [(0, 0), (9, 0), (9, 9), (0, 9)], [(2, 2), (4, 2), (4, 4), (2, 4)]
+    >>> [(len(it.outer), len(it.holes)) for it in itree.overlay([square], [hole], "difference")]
+    [(4, 1)]
     >>> itree.meetings([(0, 0, 9, 9), (0, 9, 9, 0), (20, 0, 21, 0)])
     [(0, 1)]
     >>> itree.snap([(0, 0, 10, 10), (0, 10, 10, 0)])
@@ -13,9 +16,6 @@ in Rattle.
     [0, 1, None]
     >>> itree.below([(0, 10, 5), (2, 6, 8)], [(6, 7), (2, 9), (11, 9)])
     [5, 8, None]
-    >>> square, hole = [(0, 0), (9, 0), (9, 9), (0, 9)], [(2, 2), (4, 2), (4, 4), (2, 4)]
-    >>> [(len(it.outer), len(it.holes)) for it in itree.overlay([square], [hole], "difference")]
-    [(4, 1)]
 
 Rows
     An edge is (x0, y0, x1, y1), a horizontal segment (x0, x1, y), a point
