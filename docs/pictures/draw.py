@@ -415,7 +415,7 @@ def in_panel(panel, x, y):
 
 def region(panel, rings, stroke, fill):
     """What is inside the rings, by the even-odd rule."""
-    ways = "".join("M" + "L".join(f"{x} {y}" for x, y in (in_panel(panel, *point) for point in ring)) + "Z" for ring in rings)
+    ways = "".join("M" + "L".join(f"{x:g} {y:g}" for x, y in (in_panel(panel, *point) for point in ring)) + "Z" for ring in rings)
     return f'<path d="{ways}" fill="{fill}" fill-opacity="0.3" fill-rule="evenodd" stroke="{stroke}" stroke-width="2"/>'
 
 
