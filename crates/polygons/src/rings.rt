@@ -92,8 +92,8 @@ fn append_edges<A: Allocator>(ring: &[Point], edges: &mut Vec<Edge, A>) -> Resul
     Ok(())
 }
 
-// The edge from the one point to the other.
-fn edge_between(from: Point, to: Point) -> Edge
+/// The edge from the one point to the other.
+pub(crate) fn edge_between(from: Point, to: Point) -> Edge
     ensures { result ≡ edge_between from to }
 {
     Edge {

@@ -56,8 +56,8 @@ pub fn append_outline<A: Allocator>(
     Ok(())
 }
 
-// The point behind this place in the ring.
-fn next_in(ring: &[Point], place: usize) -> Point
+/// The point behind this place in the ring.
+pub fn next_in(ring: &[Point], place: usize) -> Point
     requires { place < length ring.now }
     ensures { result ≡ next_or (drop (place + 1) ring.now) (ring_point ring.now 0) }
 {

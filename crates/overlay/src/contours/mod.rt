@@ -9,8 +9,8 @@ ghost use Rattle.overlay.specs.Contours.Rings.{AreContours};
 ghost use Rattle.overlay.specs.Snap.Offsets.{offsets, Extends};
 ghost use Rattle.overlay.specs.Snap.Windings.{IsClosed};
 
-pub use bends::append_outline;
 use bends::append_outlines;
+pub use bends::{append_outline, next_in};
 use i_tree::Refusal;
 use order::edges_in_order;
 use plane::edge::Edge;

@@ -4,6 +4,8 @@ ghost use Rattle.std.specs.Prelude.{◌≡◌, ◌<◌, ◌+◌, drop, length};
 ghost use Rattle.overlay.specs.Contours.Outlines.{next_or, ring_point};
 ghost use Rattle.overlay.specs.Snap.Windings.{edge_between};
 
+use crate::rings::edge_between;
+use overlay::contours::next_in;
 use plane::edge::Edge;
 use plane::point::Point;
 
@@ -12,23 +14,5 @@ pub fn edge_at(ring: &[Point], place: usize) -> Edge
     requires { place < length ring.now }
     ensures { result ≡ edge_between (ring_point ring.now place) (next_or (drop (place + 1) ring.now) (ring_point ring.now 0)) }
 {
-    let from = ring[place];
-    let to = next_in(ring, place);
-    Edge {
-        x0: from.x,
-        y0: from.y,
-        x1: to.x,
-        y1: to.y,
-    }
-}
-
-// The point behind this place in the ring.
-fn next_in(ring: &[Point], place: usize) -> Point
-    requires { place < length ring.now }
-    ensures { result ≡ next_or (drop (place + 1) ring.now) (ring_point ring.now 0) }
-{
-    if place + 1 < ring.len() {
-        return ring[place + 1];
-    }
-    ring[0]
+    edge_between(ring[place], next_in(ring, place))
 }
