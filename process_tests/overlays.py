@@ -97,13 +97,16 @@ ROUND = [(0, 0), (4, 0), (4, 4), (0, 4)], [(1, 1), (3, 1), (3, 3), (1, 3)]
 
 # Rings by chance with how far they go, and how many drawings of each operation and rule there are.
 KINDS = (
-    (near, 4, 250),
-    (near, 12, 200),
-    (square, 4, 250),
+    (near, 4, 200),
+    (near, 12, 100),
+    (near, 40, 200),
+    (square, 4, 200),
     (square, 12, 100),
-    (frame, 10, 200),
+    (frame, 10, 150),
     (diamond, 12, 50),
-    (any_of, 10, 200),
+    (diamond, 40, 50),
+    (any_of, 10, 100),
+    (any_of, 40, 100),
 )
 
 # So many drawings stand in one text.
