@@ -410,12 +410,12 @@ def fill():
 
 def in_panel(panel, x, y):
     """Where a point of a run stands in the panel of this number."""
-    return 32 + 172 * panel + 13 * x, 122 - 13 * y
+    return 32 + 172 * panel + 6.5 * x, 122 - 6.5 * y
 
 
 def region(panel, rings, stroke, fill):
     """What is inside the rings, by the even-odd rule."""
-    ways = "".join("M" + "L".join(f"{x} {y}" for x, y in (in_panel(panel, *point) for point in ring)) + "Z" for ring in rings)
+    ways = "".join("M" + "L".join(f"{x:g} {y:g}" for x, y in (in_panel(panel, *point) for point in ring)) + "Z" for ring in rings)
     return f'<path d="{ways}" fill="{fill}" fill-opacity="0.3" fill-rule="evenodd" stroke="{stroke}" stroke-width="2"/>'
 
 
@@ -433,10 +433,10 @@ def overlay():
     lines = words_of("overlay.lines")
     subject, clip = ([pairs_of(words) for words in lines if words[0] == kind] for kind in ("subject", "clip"))
     parts = [region(0, subject, BLUE, BLUE), region(0, clip, RED, RED)]
-    parts += [text(*in_panel(0, 1, 5), "subject", 12, "start", BLUE), text(*in_panel(0, 7, 2.7), "clip", 12, "start", RED)]
+    parts += [text(*in_panel(0, 2, 10), "subject", 12, "start", BLUE), text(*in_panel(0, 14, 5.4), "clip", 12, "start", RED)]
     for panel, operation in enumerate(("union", "intersection", "difference", "xor"), 1):
         parts += [region(panel, rings, GREEN, GREEN) for rings in polygons_of(words_of(f"overlay.{operation}"))]
-        parts.append(text(in_panel(panel, 5, 0)[0], 170, operation, 13))
+        parts.append(text(in_panel(panel, 10, 0)[0], 170, operation, 13))
     return picture("A square with a hole and a rhomb, and their union, intersection, difference and xor", 880, 186, parts)
 
 

@@ -2,5 +2,4 @@ pub mod Ends
 pub mod Locate
 pub mod Meet
 pub mod Pairs
-pub mod ReadAhead
 pub mod SweepLine

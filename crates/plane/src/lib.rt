@@ -9,6 +9,5 @@ pub mod locate;
 pub mod meet;
 pub mod pairs;
 pub mod point;
-mod read_ahead;
 pub mod sweep_line;
 pub mod ways;

@@ -1,10 +1,7 @@
 -- What the tests of `passes` say of whether an edge passes a whole point.
-use Rattle.std.proofs.Common.{Bool, MatchBool, ap, arith, false, inl, inr, negsuc, pos, refl, subst, sym, true, ℕ, ℤ, ◌*ℤ◌, ◌+ℤ◌, ◌-ℤ◌, ◌<ℤ◌, ◌<◌, ◌∙◌, ◌≡◌, ◌≢◌, ◌≤ℤ◌, ◌≤◌, ◌⊎◌}
-use Rattle.std.specs.Int.{int_max, int_min}
-use Rattle.std.specs.Int.RustNames.{unsigned_abs}
-use Rattle.std.specs.Int.Signed.{le_z}
+use Rattle.std.proofs.Common.{Bool, MatchBool, arith, false, inl, inr, pos, subst, sym, true, ℕ, ℤ, ◌*ℤ◌, ◌+ℤ◌, ◌-ℤ◌, ◌<ℤ◌, ◌<◌, ◌≡◌, ◌≢◌, ◌≤ℤ◌, ◌≤◌, ◌⊎◌}
 use Rattle.std.proofs.lemmas.Bool.{cases_lt}
-use Rattle.std.proofs.lemmas.Int.{by_lt_z, clamps, ints}
+use Rattle.std.proofs.lemmas.Int.{by_lt_z, ints}
 use Rattle.plane.specs.declared.edge.Edge.{Edge}
 use Rattle.overlay.specs.Snap.Chains.{Passes}
 use Rattle.overlay.specs.Snap.Rounding.{RoundsOn}
@@ -24,82 +21,71 @@ Within from to z = (from ≤ℤ z) × (z ≤ℤ to)
 pub outside_x : (edge : Edge) (x y : ℤ) → edge.x0 ≤ℤ edge.x1 → ¬ (Within edge.x0 edge.x1 x) → ¬ (Passes edge x y)
 outside_x edge x y right none passes = none ((Upto-from_start edge x y passes).along_x.rising right, (Upto-to_end edge x y passes).along_x.rising right)
 
-pub outside_y : (edge : Edge) (x y low high : ℤ) → low ≡ int_min edge.y0 edge.y1 → high ≡ int_max edge.y0 edge.y1 → ¬ (Within low high y) → ¬ (Passes edge x y)
-outside_y edge x y low high is_low is_high none passes =
-    let start = (Upto-from_start edge x y passes).along_y in
-    let end = (Upto-to_end edge x y passes).along_y in
-    by_lt_z edge.y1 edge.y0
-    (λ falls. none (omega (arith, ints, clamps, is_low, falls, end.falling (omega (arith, ints, falls))), omega (arith, ints, clamps, is_high, falls, start.falling (omega (arith, ints, falls)))))
-    (λ rises. none (omega (arith, ints, clamps, is_low, rises, start.rising rises), omega (arith, ints, clamps, is_high, rises, end.rising rises)))
+pub outside_rising : (edge : Edge) (x y : ℤ) → edge.y0 ≤ℤ edge.y1 → ¬ (Within edge.y0 edge.y1 y) → ¬ (Passes edge x y)
+outside_rising edge x y up none passes = none ((Upto-from_start edge x y passes).along_y.rising up, (Upto-to_end edge x y passes).along_y.rising up)
+
+pub outside_falling : (edge : Edge) (x y : ℤ) → edge.y1 <ℤ edge.y0 → ¬ (Within edge.y1 edge.y0 y) → ¬ (Passes edge x y)
+outside_falling edge x y down none passes =
+    none ((Upto-to_end edge x y passes).along_y.falling (omega (arith, ints, down)), (Upto-from_start edge x y passes).along_y.falling (omega (arith, ints, down)))
 
 -- ---- how far an edge goes, and how far a whole point in its box is from its start
 
-pub record Ways (edge : Edge) (x y : ℤ) (w h dx dy : ℕ) : Type 0 where
-  pub wide : w ≡ unsigned_abs (edge.x1 -ℤ edge.x0)
-  pub tall : h ≡ unsigned_abs (edge.y1 -ℤ edge.y0)
-  pub far_x : dx ≡ unsigned_abs (x -ℤ edge.x0)
-  pub far_y : dy ≡ unsigned_abs (y -ℤ edge.y0)
-  pub in_x : Within edge.x0 edge.x1 x
-  pub low : ℤ
-  pub high : ℤ
-  pub is_low : low ≡ int_min edge.y0 edge.y1
-  pub is_high : high ≡ int_max edge.y0 edge.y1
-  pub in_y : Within low high y
-
-some : (n : ℕ) → n ≢ 0 → 0 < n
-some n isnt = omega (arith, isnt)
-
 -- on one axis, onwards and back
-record Onwards (from to z : ℤ) (w d : ℕ) : Type 0 where
+pub record Onwards (from to z : ℤ) (w d : ℕ) : Type 0 where
   pub goes : (to -ℤ from) ≡ pos w
   pub at : z ≡ (from +ℤ pos d)
   pub upto : d ≤ w
 
-record Back (from to z : ℤ) (w d : ℕ) : Type 0 where
+pub record Back (from to z : ℤ) (w d : ℕ) : Type 0 where
   pub goes : (to -ℤ from) ≡ (pos 0 -ℤ pos w)
   pub at : z ≡ (from -ℤ pos d)
   pub upto : d ≤ w
 
-size : (z : ℤ) → pos 0 ≤ℤ z → z ≡ pos (unsigned_abs z)
-size (pos n) from = refl
-size (negsuc n) from = absurd (omega (arith, ints, from))
+pub onwards : (from to z : ℤ) (w d : ℕ) → pos w ≡ (to -ℤ from) → pos d ≡ (z -ℤ from) → Within from to z → Onwards from to z w d
+onwards from to z w d wide far within = record {
+  goes = sym wide;
+  at = omega (arith, ints, far);
+  upto = omega (arith, ints, wide, far, within.1);
+}
 
-size_back : (z : ℤ) → z ≤ℤ pos 0 → z ≡ (pos 0 -ℤ pos (unsigned_abs z))
-size_back (pos n) upto = omega (arith, ints, upto)
-size_back (negsuc n) upto = omega (arith, ints)
+back : (from to z : ℤ) (w d : ℕ) → pos w ≡ (from -ℤ to) → pos d ≡ (from -ℤ z) → Within to from z → Back from to z w d
+back from to z w d wide far within = record {
+  goes = omega (arith, ints, wide);
+  at = omega (arith, ints, far);
+  upto = omega (arith, ints, wide, far, within.0);
+}
 
-onwards : (from to z : ℤ) (w d : ℕ) → w ≡ unsigned_abs (to -ℤ from) → d ≡ unsigned_abs (z -ℤ from) → from ≤ℤ z → z ≤ℤ to → Onwards from to z w d
-onwards from to z w d wide far above below =
-    let goes : (to -ℤ from) ≡ pos w = size (to -ℤ from) (omega (arith, ints, above, below)) ∙ ap pos (sym wide) in
-    let is : (z -ℤ from) ≡ pos d = size (z -ℤ from) (omega (arith, ints, above)) ∙ ap pos (sym far) in record {
-      goes = goes;
-      at = omega (arith, ints, is);
-      upto = omega (arith, ints, goes, is, below);
-    }
+pub record Ways (edge : Edge) (x y : ℤ) (w h dx dy : ℕ) : Type 0 where
+  pub along_x : Onwards edge.x0 edge.x1 x w dx
+  pub up : edge.y0 ≤ℤ edge.y1 → Onwards edge.y0 edge.y1 y h dy
+  pub down : edge.y1 <ℤ edge.y0 → Back edge.y0 edge.y1 y h dy
 
-back : (from to z : ℤ) (w d : ℕ) → w ≡ unsigned_abs (to -ℤ from) → d ≡ unsigned_abs (z -ℤ from) → to ≤ℤ z → z ≤ℤ from → Back from to z w d
-back from to z w d wide far above below =
-    let goes : (to -ℤ from) ≡ (pos 0 -ℤ pos w) = size_back (to -ℤ from) (omega (arith, ints, above, below)) ∙ ap (λ (n : ℕ). pos 0 -ℤ pos n) (sym wide) in
-    let is : (z -ℤ from) ≡ (pos 0 -ℤ pos d) = size_back (z -ℤ from) (omega (arith, ints, below)) ∙ ap (λ (n : ℕ). pos 0 -ℤ pos n) (sym far) in record {
-      goes = goes;
-      at = omega (arith, ints, is);
-      upto = omega (arith, ints, goes, is, above);
-    }
+pub rising : (edge : Edge) (x y : ℤ) (w h dx dy : ℕ) → Onwards edge.x0 edge.x1 x w dx → edge.y0 ≤ℤ edge.y1 → pos h ≡ (edge.y1 -ℤ edge.y0) → pos dy ≡ (y -ℤ edge.y0) → Within edge.y0 edge.y1 y → Ways edge x y w h dx dy
+rising edge x y w h dx dy along_x rises tall far within = record {
+  along_x = along_x;
+  up = λ _. onwards edge.y0 edge.y1 y h dy tall far within;
+  down = λ falls. absurd (omega (arith, ints, rises, falls));
+}
 
--- which of two numbers is the greater, as it is tested
-pub rises_tested : (from to : ℤ) (r : Bool) → r ≡ le_z from to → MatchBool r (from ≤ℤ to) (to <ℤ from)
-rises_tested from to true is = omega (arith, ints, is)
-rises_tested from to false is = omega (arith, ints, is)
+pub falling : (edge : Edge) (x y : ℤ) (w h dx dy : ℕ) → Onwards edge.x0 edge.x1 x w dx → edge.y1 <ℤ edge.y0 → pos h ≡ (edge.y0 -ℤ edge.y1) → pos dy ≡ (edge.y0 -ℤ y) → Within edge.y1 edge.y0 y → Ways edge x y w h dx dy
+falling edge x y w h dx dy along_x falls tall far within = record {
+  along_x = along_x;
+  up = λ rises. absurd (omega (arith, ints, rises, falls));
+  down = λ _. back edge.y0 edge.y1 y h dy tall far within;
+}
+
+some : (n : ℕ) → n ≢ 0 → 0 < n
+some n isnt = omega (arith, isnt)
 
 module _ (edge : Edge) (x y : ℤ) (w h dx dy : ℕ) (ways : Ways edge x y w h dx dy) where
   along_x : Onwards edge.x0 edge.x1 x w dx
-  along_x = onwards edge.x0 edge.x1 x w dx ways.wide ways.far_x ways.in_x.0 ways.in_x.1
+  along_x = ways.along_x
 
   up : edge.y0 ≤ℤ edge.y1 → Onwards edge.y0 edge.y1 y h dy
-  up rises = onwards edge.y0 edge.y1 y h dy ways.tall ways.far_y (omega (arith, ints, clamps, ways.is_low, rises, ways.in_y.0)) (omega (arith, ints, clamps, ways.is_high, rises, ways.in_y.1))
+  up = ways.up
 
   down : edge.y1 <ℤ edge.y0 → Back edge.y0 edge.y1 y h dy
-  down falls = back edge.y0 edge.y1 y h dy ways.tall ways.far_y (omega (arith, ints, clamps, ways.is_low, falls, ways.in_y.0)) (omega (arith, ints, clamps, ways.is_high, falls, ways.in_y.1))
+  down = ways.down
 
   -- the edge passes a point to which a share of it rounds
   by_share : {Apart : Type 0} → Share Apart w h dx dy → (edge.y0 ≤ℤ edge.y1 → Apart) → Passes edge x y

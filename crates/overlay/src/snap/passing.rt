@@ -1,6 +1,6 @@
 //! Whether an edge passes a whole point.
 
-ghost use Rattle.std.specs.Prelude.{◌≡◌, ◌*◌, ◌≤ℤ◌, MatchBool};
+ghost use Rattle.std.specs.Prelude.{◌≡◌, ◌*◌, pos, ◌-ℤ◌, ◌≤ℤ◌, MatchBool};
 ghost use Rattle.overlay.specs.Snap.Chains.{Passes};
 ghost use Rattle.overlay.specs.Snap.Tests.{IsPassed};
 
@@ -29,20 +29,32 @@ fn passes_rightwards(edge: Edge, x: i32, y: i32) -> bool
     if !is_between(edge.x0, edge.x1, x) {
         return false;
     }
-    if !is_between(edge.y0.min(edge.y1), edge.y0.max(edge.y1), y) {
+    let width = way(edge.x0, edge.x1);
+    let right = way(edge.x0, x);
+    if edge.y0 <= edge.y1 {
+        if !is_between(edge.y0, edge.y1, y) {
+            return false;
+        }
+        return is_passed(true, width, way(edge.y0, edge.y1), right, way(edge.y0, y));
+    }
+    if !is_between(edge.y1, edge.y0, y) {
         return false;
     }
-    let width = edge.x1.abs_diff(edge.x0);
-    let height = edge.y1.abs_diff(edge.y0);
-    let right = x.abs_diff(edge.x0);
-    let off = y.abs_diff(edge.y0);
-    is_passed(edge.y0 <= edge.y1, width, height, right, off)
+    is_passed(false, width, way(edge.y1, edge.y0), right, way(y, edge.y0))
 }
 
 fn is_between(from: i32, to: i32, z: i32) -> bool
     ensures { let between = (from ≤ℤ z) × (z ≤ℤ to) in MatchBool result between (¬ between) }
 {
     (from <= z) & (z <= to)
+}
+
+/// How far it is from the one to the other.
+fn way(from: i32, to: i32) -> u32
+    requires { from ≤ℤ to }
+    ensures { pos result ≡ to -ℤ from }
+{
+    (to as i64 - from as i64) as u32
 }
 
 fn product(one: u32, other: u32) -> u64
@@ -54,6 +66,7 @@ fn product(one: u32, other: u32) -> u64
 /// Of a whole point in the box of an edge, `right` and `off`, up or down, from its start: whether the edge goes along an axis, or
 /// two corners of the pixel are on opposite sides of its line. Where it rises these are the upper left one and the lower right one;
 /// where it falls, the lower left one, which may lie on the line, and the upper right one.
+#[inline]
 fn is_passed(rises: bool, width: u32, height: u32, right: u32, off: u32) -> bool
     ensures { MatchBool result (IsPassed rises width height right off) (¬ (IsPassed rises width height right off)) }
 {

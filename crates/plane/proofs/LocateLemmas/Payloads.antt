@@ -1,23 +1,25 @@
--- How the payload of the next event of a queue is served.
-use Rattle.std.proofs.Common.{◌≡◌, ℕ, ◌<◌, ◌+◌, pos, ◌<ℤ◌, List, ◌∷◌, Option, Some, length, get_or, set, take, sym, ap, ◌∙◌, subst, arith}
+-- What is read ahead are the payloads of the events of a queue, and how that of the next one is served.
+use Rattle.std.proofs.Common.{◌≡◌, inl, inr, ℕ, ◌<◌, ◌+◌, ℤ, pos, ◌<ℤ◌, List, [], ◌∷◌, ◌++◌, Option, Some, length, get_or, set, take, sym, ap, ◌∙◌, subst, arith}
 use Rattle.std.specs.List.{All, AllPairs}
 use Rattle.std.specs.declared.cmp.Ordering.TheVariants.{Less}
-use Rattle.std.proofs.lemmas.List.{get_or_default}
+use Rattle.std.proofs.lemmas.Bool.{cases_lt}
+use Rattle.std.proofs.lemmas.List.{get_or_append_left, get_or_default, get_or_push, length-append}
 use Rattle.i_tree.specs.Root.Along.{AreNeighbours, IsMonotoneAlong}
 use Rattle.i_tree.specs.Root.Change.{Without}
 use Rattle.plane.specs.declared.edge.Edge.{Edge}
-use Rattle.plane.specs.declared.locate.payload.Payload.{Payload}
-use Rattle.plane.specs.declared.locate.payload.Payload.TheVariants.{Ends, Begins, Asks}
+use Rattle.plane.specs.declared.locate.read_ahead.Payload.{Payload}
+use Rattle.plane.specs.declared.locate.read_ahead.Payload.TheVariants.{Ends, Begins, Asks}
 use Rattle.event_queue.specs.declared.Event.{Event}
-use Rattle.event_queue.specs.declared.Task.TheVariants.{End}
+use Rattle.event_queue.specs.declared.Task.{Task}
+use Rattle.event_queue.specs.declared.Task.TheVariants.{End, Begin, Answer}
 use Rattle.plane.specs.declared.point.Point.{Point}
 use Rattle.plane.specs.declared.sweep_line.active.ActiveEdge.{ActiveEdge}
 use Rattle.plane.specs.SweepLine.Crossings.{IsCrossing}
-use Rattle.plane.specs.ReadAhead.{IsReadAt}
-use Rattle.plane.specs.Locate.Payloads.{IsPayloadOf}
+use Rattle.plane.specs.Locate.Payloads.{IsPlaceFor, HasItem, IsPayloadOf, IsPayloadAt, IsReadAhead}
 use Rattle.plane.specs.SweepLine.Heights.{rightwards}
 use Rattle.event_queue.specs.Queue.{StandsAt}
-use Rattle.plane.specs.Locate.Events.{IsQueue}
+use Rattle.event_queue.specs.Queue.{IsDoneAt}
+use Rattle.plane.specs.Locate.Events.{IsQueue, answer_x, begin_x, end_x}
 use Rattle.plane.specs.SweepLine.Line.{BeganBefore, IsSortedAt, JoinsAt}
 use Rattle.plane.specs.Locate.Serving.{HaveCrossing, IsPlaceUnder}
 use Rattle.plane.specs.SweepLine.Active.{Entry, cmp_active, cmp_to_ending, live_entries, IsExpiredAt, NotCross}
@@ -30,8 +32,37 @@ use Rattle.plane.proofs.LocateLemmas.Swept.{Swept}
 abbrev nothing : Event
 nothing = record { x = pos 0; task = End; place = 0 }
 
+-- ---- what is read
+
+-- each event of a queue has its edge or its point
+pub has_item : (edges : List Edge) (points : List Point) (events : List Event) → IsQueue edges points events → (k : ℕ) (d : Event) → k < length events → HasItem edges points (get_or events k d)
+has_item edges points events queue k d inside = let event = get_or events k d in by_task event.x event.task event.place (queue.of k d inside)
+  where
+    by_task : (x : ℤ) (task : Task) (place : ℕ) → IsDoneAt end_x begin_x answer_x edges points x task place → IsPlaceFor edges points task place
+    by_task x End place (edge, stands, has) = stands.0
+    by_task x Begin place (edge, stands, has) = stands.0
+    by_task x Answer place (point, stands, has) = stands.0
+
+-- the payload of an event of a list, whatever the list is read by where it ends
+pub payload_at : (edges : List Edge) (points : List Point) (events : List Event) (k : ℕ) (d : Event) (payload : Payload) → k < length events → IsPayloadOf edges points (get_or events k d) payload → IsPayloadAt edges points events k payload
+payload_at edges points events k d payload inside is_payload e =
+    subst (λ (event : Event). IsPayloadOf edges points event payload) (get_or_default events k d e inside) is_payload
+
+-- the payload of the next event joins what is read
+pub IsReadAhead-push : (edges : List Edge) (points : List Point) (events : List Event) (from : ℕ) (payloads : List Payload) (next : ℕ) (payload : Payload)
+    → from + length payloads ≡ next → IsReadAhead edges points events from payloads → IsPayloadAt edges points events next payload → IsReadAhead edges points events from (payloads ++ payload ∷ [])
+IsReadAhead-push edges points events from payloads next payload at ahead is_payload i d within = elim (cases_lt i (length payloads)) [
+  | inl before ↦ subst (IsPayloadAt edges points events (from + i)) (sym (get_or_append_left payloads (payload ∷ []) d i before)) (ahead i d before)
+  | inr behind ↦
+      let last : length payloads ≡ i = omega (arith, behind, within, length-append payloads (payload ∷ [])) in
+      let here : next ≡ from + i = omega (arith, at, last) in
+      subst (IsPayloadAt edges points events (from + i)) (sym (get_or_push payloads payload d i last)) (subst (λ (k : ℕ). IsPayloadAt edges points events k payload) here is_payload)
+]
+
+-- ---- what is served
+
 module _ (edges : List Edge) (points : List Point) (events : List Event) (queue : IsQueue edges points events) (k : ℕ) (inside : k < length events)
-    (stored : List Entry) (answers : List (Option ℕ)) (swept : Swept edges points (take k events) stored answers) (payload : Payload) (is_payload : IsReadAt (IsPayloadOf edges points) events k payload) where
+    (stored : List Entry) (answers : List (Option ℕ)) (swept : Swept edges points (take k events) stored answers) (payload : Payload) (is_payload : IsPayloadAt edges points events k payload) where
   abbrev event : Event
   event = get_or events k nothing
 

@@ -9,11 +9,10 @@ use Rattle.event_queue.specs.declared.Task.TheVariants.{End, Begin}
 use Rattle.event_queue.proofs.QueueLemmas.Begins.{begun, begun-before, begun-more, is_begin}
 use Rattle.plane.specs.declared.edge.Edge.{Edge}
 use Rattle.plane.specs.declared.point.Point.{Point}
-use Rattle.plane.specs.declared.locate.payload.Payload.{Payload}
-use Rattle.plane.specs.declared.locate.payload.Payload.TheVariants.{Begins}
+use Rattle.plane.specs.declared.locate.read_ahead.Payload.{Payload}
+use Rattle.plane.specs.declared.locate.read_ahead.Payload.TheVariants.{Begins}
 use Rattle.plane.specs.Locate.Events.{IsQueue, answer_x, begin_x, end_x}
-use Rattle.plane.specs.Locate.Payloads.{IsPayloadOf}
-use Rattle.plane.specs.ReadAhead.{IsReadAt}
+use Rattle.plane.specs.Locate.Payloads.{IsPayloadOf, IsPayloadAt}
 use Rattle.plane.specs.SweepLine.Active.{Entry}
 use Rattle.plane.specs.SweepLine.Line.{JoinsAt}
 use Rattle.plane.specs.declared.sweep_line.active.ActiveEdge.{ActiveEdge}
@@ -32,7 +31,7 @@ pub HoldsBegun-nothing : (stored : List Entry) → stored ≡ [] → HoldsBegun 
 HoldsBegun-nothing stored empty = let none = ap length empty in omega (arith, none)
 
 module _ (edges : List Edge) (points : List Point) (events : List Event) (queue : IsQueue edges points events) (k : ℕ) (inside : k < length events)
-    (stored : List Entry) (holds : HoldsBegun (take k events) stored) (payload : Payload) (is_payload : IsReadAt (IsPayloadOf edges points) events k payload) where
+    (stored : List Entry) (holds : HoldsBegun (take k events) stored) (payload : Payload) (is_payload : IsPayloadAt edges points events k payload) where
   abbrev nothing : Event
   nothing = record { x = pos 0; task = End; place = 0 }
 

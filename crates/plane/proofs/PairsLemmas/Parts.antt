@@ -1,11 +1,12 @@
 -- The parts of items in strips, as they are listed one after another, and as they stand once they are sorted.
-use Rattle.std.proofs.Common.{◌≡◌, ◌≢◌, ◌⊎◌, inl, inr, ℕ, ◌<◌, ◌≤◌, ◌+◌, List, [], ◌∷◌, ◌++◌, Some, refl, sym, ap, ◌∙◌, subst, ⊎_elim, arith}
+use Rattle.std.proofs.Common.{◌≡◌, ◌≢◌, ◌⊎◌, inl, inr, ℕ, ◌<◌, ◌≤◌, ◌+◌, List, [], ◌∷◌, ◌++◌, Some, get_or, length, refl, sym, ap, ◌∙◌, subst, ⊎_elim, arith}
 use Rattle.std.specs.List.{Contains, slice_get}
 use Rattle.std.proofs.lemmas.Bool.{cases_lt}
+use Rattle.std.proofs.lemmas.List.{get_or_append_left, get_or_default, get_or_push, length-append}
 use Rattle.std.proofs.lemmas.List.Elements.{All-push, All-weaker, Contains-append_left, Contains-push}
 use Rattle.std.proofs.lemmas.List.Quantifiers.{all_pairs_push}
 use Rattle.std.proofs.lemmas.Option.{same_Some}
-use Rattle.plane.specs.Pairs.Parts.{Lists, IsPartOf, part_of}
+use Rattle.plane.specs.Pairs.Parts.{AreReadAhead, IsItemOf, Lists, IsPartOf, part_of}
 use Rattle.plane.specs.Pairs.Strips.{strip_at, Reaches}
 use Rattle.plane.specs.declared.pairs.parts.Part.{Part}
 use Rattle.plane.specs.declared.pairs.strips.Strips.{Strips}
@@ -86,3 +87,19 @@ module _ {X : Type 0} (bounds : X → Bounds) (strips : Strips) (items : List X)
               inr (at, omega (arith, past, reached.upto))
         ])
         (λ other other_strip other_item stands' reaches wanted. ⊎_elim (λ before. omega (arith, before)) (λ (at, _). omega (arith, at)) wanted)
+
+-- ---- what is read ahead
+
+-- the item of a part, whatever the list is read by where it ends
+pub item_of : {X : Type 0} (items : List X) (parts : List Part) (place : ℕ) (d : Part) (item : X) → place < length parts → item ≡ get_or items (get_or parts place d).place item → IsItemOf items parts place item
+item_of items parts place d item inside is e = subst (λ (part : Part). item ≡ get_or items part.place item) (get_or_default parts place d e inside) is
+
+-- the item of the next part joins what is read
+pub AreReadAhead-push : {X : Type 0} (items : List X) (parts : List Part) (from : ℕ) (read : List X) (next : ℕ) (item : X) → from + length read ≡ next → AreReadAhead items parts from read → IsItemOf items parts next item → AreReadAhead items parts from (read ++ item ∷ [])
+AreReadAhead-push items parts from read next item at ahead is i d within = elim (cases_lt i (length read)) [
+  | inl before ↦ subst (IsItemOf items parts (from + i)) (sym (get_or_append_left read (item ∷ []) d i before)) (ahead i d before)
+  | inr behind ↦
+      let last : length read ≡ i = omega (arith, behind, within, length-append read (item ∷ [])) in
+      let here : next ≡ from + i = omega (arith, at, last) in
+      subst (IsItemOf items parts (from + i)) (sym (get_or_push read item d i last)) (subst (λ (k : ℕ). IsItemOf items parts k item) here is)
+]

@@ -1,9 +1,9 @@
--- The payloads of the events of the sweep. For the private contracts of `locate`.
-use Rattle.std.specs.Prelude.{◌≡◌, ℕ, ◌<◌, List, length}
+-- The payloads of the events of the sweep, and which of them are read ahead. For the private contracts of `locate`.
+use Rattle.std.specs.Prelude.{◌≡◌, ℕ, ◌<◌, ◌+◌, List, length, get_or}
 use Rattle.plane.specs.declared.edge.Edge.{Edge}
 use Rattle.plane.specs.declared.point.Point.{Point}
-use Rattle.plane.specs.declared.locate.payload.Payload.{Payload}
-use Rattle.plane.specs.declared.locate.payload.Payload.TheVariants.{Ends, Begins, Asks}
+use Rattle.plane.specs.declared.locate.read_ahead.Payload.{Payload}
+use Rattle.plane.specs.declared.locate.read_ahead.Payload.TheVariants.{Ends, Begins, Asks}
 use Rattle.event_queue.specs.declared.Event.{Event}
 use Rattle.event_queue.specs.declared.Task.{Task}
 use Rattle.event_queue.specs.declared.Task.TheVariants.{End, Begin, Answer}
@@ -30,3 +30,12 @@ abbrev pub IsPayloadOf : List Edge → List Point → Event → Payload → Type
 IsPayloadOf edges points event (Ends active) = (event.task ≡ End) × IsActiveAt edges event.place active
 IsPayloadOf edges points event (Begins active) = (event.task ≡ Begin) × IsActiveAt edges event.place active
 IsPayloadOf edges points event (Asks place point) = (event.task ≡ Answer) × (place ≡ event.place) × StandsAt points event.place point
+
+-- this is the payload of the event at this place
+abbrev pub IsPayloadAt : List Edge → List Point → List Event → ℕ → Payload → Type 0
+IsPayloadAt edges points events place payload = (event : Event) → IsPayloadOf edges points (get_or events place event) payload
+
+-- these are the payloads of the events from a place on
+abbrev pub IsReadAhead : List Edge → List Point → List Event → ℕ → List Payload → Type 0
+IsReadAhead edges points events from payloads =
+    (i : ℕ) (payload : Payload) → i < length payloads → IsPayloadAt edges points events (from + i) (get_or payloads i payload)

@@ -1,5 +1,5 @@
 -- The parts of items in the strips that their boxes reach, in the order in which they are served. For private contracts.
-use Rattle.std.specs.Prelude.{◌≡◌, ◌≢◌, ◌⊎◌, ℕ, ◌<◌, ◌≤◌, ◌<ℤ◌, List, Some, All, AllPairs, Contains, get_or, slice_get}
+use Rattle.std.specs.Prelude.{◌≡◌, ◌≢◌, ◌⊎◌, ℕ, ◌<◌, ◌≤◌, ◌+◌, ◌<ℤ◌, List, Some, All, AllPairs, Contains, get_or, length, slice_get}
 use Rattle.plane.specs.Pairs.Strips.{Reaches}
 use Rattle.plane.specs.declared.pairs.items.Bounds.{Bounds}
 use Rattle.plane.specs.declared.pairs.parts.Part.{Part}
@@ -34,6 +34,10 @@ pub record AreParts {X : Type 0} (bounds : X → Bounds) (strips : Strips) (item
   pub once : AllPairs (λ part later. part ≢ later) parts
   pub in_order : AllPairs NotBehind parts
 
--- the item is that of the part
-abbrev pub IsItemOf : {X : Type 0} → List X → Part → X → Type 0
-IsItemOf items part item = item ≡ get_or items part.place item
+-- the item is that whose part stands at this place
+abbrev pub IsItemOf : {X : Type 0} → List X → List Part → ℕ → X → Type 0
+IsItemOf items parts place item = (part : Part) → item ≡ get_or items (get_or parts place part).place item
+
+-- these are the items of the parts from a place on
+abbrev pub AreReadAhead : {X : Type 0} → List X → List Part → ℕ → List X → Type 0
+AreReadAhead {X} items parts from read = (i : ℕ) (item : X) → i < length read → IsItemOf items parts (from + i) (get_or read i item)

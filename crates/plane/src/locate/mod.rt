@@ -18,7 +18,7 @@ use sweep::serve_all;
 
 mod events;
 pub mod fault;
-mod payload;
+mod read_ahead;
 mod sweep;
 
 /// Appends to `out`, for each of the points in order, the place of the edge straight below it, or `None` where there is none.

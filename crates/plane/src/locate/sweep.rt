@@ -16,10 +16,9 @@ ghost use Rattle.plane.specs.SweepLine.Active.{AllRight, Entry, live_entries, Is
 ghost use Rattle.plane.specs.SweepLine.Active.{cmp_active, cmp_to_ending, cmp_to_point};
 
 use super::fault::LocateFault;
-use super::payload::{Among, Payload};
+use super::read_ahead::{Payload, ReadAhead};
 use crate::edge::Edge;
 use crate::point::Point;
-use crate::read_ahead::ReadAhead;
 use crate::sweep_line::active::{ActiveEdge, compare_to_ending};
 use crate::sweep_line::crossing::cross;
 use crate::sweep_line::heights::{compare_ends, compare_to_point};
@@ -49,10 +48,9 @@ where
     ensures refused { length edges.now ≤ C.room status.old → (cause : Refusal) →
         result ≡ Err (LocateFault.Refused cause) → cause ≡ OutOfMemory }
 {
-    let among = Among { edges, points };
     let mut read_ahead = ReadAhead::new(alloc);
     for next in 0..events.len() {
-        let payload = read_ahead.at(among, events, next)?;
+        let payload = read_ahead.at(edges, points, events, next)?;
         match payload {
             Payload::Ends(active) => end(status, active)?,
             Payload::Begins(active) => begin(status, active)?,

@@ -21,6 +21,7 @@ mod between;
 mod cut;
 pub mod items;
 mod parts;
+mod read_ahead;
 mod roles;
 mod strips;
 mod sweep;

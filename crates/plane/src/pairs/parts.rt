@@ -3,12 +3,11 @@
 ghost use Rattle.std.specs.Prelude.{◌≡◌, ◌<◌, ◌≤◌, ◌+◌, ◌*◌, ◌≤ℤ◌, All, IfOk, OnOk, length, take, []};
 ghost use Rattle.std.specs.Ordering.{int_cmp, nat_cmp, ordering_then};
 ghost use Rattle.plane.specs.Pairs.Bounds.{IsBox};
-ghost use Rattle.plane.specs.Pairs.Parts.{AreParts, IsItemOf, Lists};
+ghost use Rattle.plane.specs.Pairs.Parts.{AreParts, Lists};
 ghost use Rattle.plane.specs.Pairs.Strips.{ReachFew, reached};
 
 use super::items::Boxed;
 use super::strips::Strips;
-use crate::read_ahead::Names;
 use std::alloc::{AllocError, Allocator};
 use std::cmp::Ordering;
 
@@ -19,18 +18,6 @@ pub struct Part {
     pub strip: u32,
     pub left: i32,
     pub place: usize,
-}
-
-impl<'a, T: Copy> Names<&'a [T], T> for Part {
-    ghost in_source = { λ items part. part.place < length items.now };
-
-    ghost named = { λ items. IsItemOf items.now };
-
-    const MANY: usize = 16384;
-
-    fn read(self, items: &'a [T]) -> T {
-        items[self.place]
-    }
 }
 
 /// The parts of all items, in order: three an item at most, where items reach no more strips.

@@ -15,9 +15,9 @@ ghost use Rattle.plane.specs.Pairs.Sweep.{Extends, IsTold, GainsPair, GainsPairs
 
 use super::items::{Boxed, Meets};
 use super::parts::Part;
+use super::read_ahead::ReadAhead;
 use super::roles::Roles;
 use super::strips::Strips;
-use crate::read_ahead::ReadAhead;
 use i_tree::seg::exp::{SegExpCollection, SegRange};
 use i_tree::seg::tree::SegExpTree;
 use i_tree::{ExpiredVal, Refusal};

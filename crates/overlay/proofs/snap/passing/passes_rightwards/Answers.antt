@@ -1,25 +1,30 @@
-use Rattle.std.proofs.Common.{rules}
-use Rattle.overlay.proofs.SnapLemmas.Passing.{Ways, outside_x, outside_y, passed_tested, rises_tested}
+use Rattle.std.proofs.Common.{◌<ℤ◌, ◌≤ℤ◌, rules, true, false}
+use Rattle.overlay.proofs.SnapLemmas.Passing.{Onwards, falling, onwards, outside_falling, outside_rising, outside_x, passed_tested, rising}
 use Rattle.overlay.proofs.snap.passing.passes_rightwards.Goals as goal
 
 pub returns-then-not-is_between : goal.returns-then-not-is_between
 returns-then-not-is_between c = outside_x c.args.edge c.args.x c.args.y c.requires.right (search rules)
 
 pub returns-then-not-is_between-2 : goal.returns-then-not-is_between-2
-returns-then-not-is_between-2 c = outside_y c.args.edge c.args.x c.args.y c.min.result c.max.result (search rules) (search rules) (search rules)
+returns-then-not-is_between-2 c = outside_rising c.args.edge c.args.x c.args.y (search rules) (search rules)
+
+pub returns-then-not-is_between-3 : goal.returns-then-not-is_between-3
+returns-then-not-is_between-3 c = outside_falling c.args.edge c.args.x c.args.y (search rules) (search rules)
+
+pub returns-then-edge : goal.returns-then-edge
+returns-then-edge c =
+    let edge = c.args.edge in
+    let rises : edge.y0 ≤ℤ edge.y1 = search rules in
+    let along_x : Onwards edge.x0 edge.x1 c.args.x c.way-width.result c.way-right.result = onwards edge.x0 edge.x1 c.args.x c.way-width.result c.way-right.result (search rules) (search rules) (search rules) in
+    passed_tested edge c.args.x c.args.y c.way-width.result c.way.result c.way-right.result c.way-then-edge.result
+    (rising edge c.args.x c.args.y c.way-width.result c.way.result c.way-right.result c.way-then-edge.result along_x rises (search rules) (search rules) (search rules))
+    true c.is_passed.result rises c.is_passed.ensures
 
 pub returns : goal.returns
 returns c =
-    let ways : Ways c.args.edge c.args.x c.args.y c.abs_diff-width.result c.abs_diff-height.result c.abs_diff-right.result c.abs_diff-off.result = record {
-      wide = search rules;
-      tall = search rules;
-      far_x = search rules;
-      far_y = search rules;
-      low = c.min.result;
-      high = c.max.result;
-      is_low = search rules;
-      is_high = search rules;
-      in_x = search rules;
-      in_y = search rules;
-    } in
-    passed_tested c.args.edge c.args.x c.args.y c.abs_diff-width.result c.abs_diff-height.result c.abs_diff-right.result c.abs_diff-off.result ways _ c.is_passed.result (rises_tested c.args.edge.y0 c.args.edge.y1 _ (search rules)) c.is_passed.ensures
+    let edge = c.args.edge in
+    let falls : edge.y1 <ℤ edge.y0 = search rules in
+    let along_x : Onwards edge.x0 edge.x1 c.args.x c.way-width.result c.way-right.result = onwards edge.x0 edge.x1 c.args.x c.way-width.result c.way-right.result (search rules) (search rules) (search rules) in
+    passed_tested edge c.args.x c.args.y c.way-width.result c.way-2.result c.way-right.result c.way-3.result
+    (falling edge c.args.x c.args.y c.way-width.result c.way-2.result c.way-right.result c.way-3.result along_x falls (search rules) (search rules) (search rules))
+    false c.is_passed-2.result falls c.is_passed-2.ensures
