@@ -1,3 +1,4 @@
+pub mod Callers
 pub mod GroupingLemmas
 pub mod OverlayLemmas
 pub mod RingLemmas

@@ -1,6 +1,6 @@
 //! Areas of rings, exactly.
 
-ghost use Rattle.std.specs.Prelude.{◌≡◌, ◌^◌};
+ghost use Rattle.std.specs.Prelude.{◌≡◌, ◌*◌, ◌^◌, length};
 ghost use Rattle.plane.specs.Meet.Crosses.{IsWithin};
 ghost use Rattle.overlay.specs.Snap.Windings.{edge_between};
 ghost use Rattle.polygons.specs.Areas.{swept, twice_area};
@@ -11,9 +11,11 @@ use plane::ways::product;
 /// Twice the area of the ring, which goes from each point to the next one, and from the last to the first: above 0 where it runs
 /// counterclockwise, below 0 where it runs clockwise. Around what a ring winds more often, it counts as often.
 ///
-/// It is exact, by the shoelace formula. So the area of polygons is the sum of those of all their rings.
+/// It is exact, by the shoelace formula. So the area of polygons is the sum of those of all their rings, which 128 bits have room
+/// for, by `within`.
 pub fn twice_area(ring: &[Point]) -> i128
-    ensures { result ≡ twice_area ring.now }
+    ensures value { result ≡ twice_area ring.now }
+    ensures within { IsWithin (length ring.now * 2 ^ 63) result }
 {
     if ring.is_empty() {
         return 0;

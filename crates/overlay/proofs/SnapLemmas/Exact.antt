@@ -54,7 +54,7 @@ test_level k w h p some is =
     omega (arith, ints, low, above))
 
 -- so the test of heights compares numbers
-low_level : (edge : Edge) (point : RationalPoint) (h : ℤ) → edge.y0 ≡ h → edge.y1 ≡ h → Covering edge point → is_low edge point ≡ int_le (pos point.n *ℤ h) point.y
+pub low_level : (edge : Edge) (point : RationalPoint) (h : ℤ) → edge.y0 ≡ h → edge.y1 ≡ h → Covering edge point → is_low edge point ≡ int_le (pos point.n *ℤ h) point.y
 low_level edge point h first second c =
     let some = onwards edge point c in
     let width = natural (run edge) (omega (arith, ints, some)) in
