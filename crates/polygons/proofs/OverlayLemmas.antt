@@ -1,25 +1,22 @@
 -- Polygons of the edges that bound a result are an overlay.
-use Rattle.std.proofs.Common.{◌≡◌, ◌≢◌, ◌⊎◌, ◌++◌, [], ◌∷◌, inl, inr, true, false, List, ℤ, pos, map, ap, refl, sym, subst, ◌∙◌, arith}
-use Rattle.std.specs.List.{All, Contains, flat_map}
+use Rattle.std.proofs.Common.{◌≡◌, ◌≢◌, ◌⊎◌, [], ◌∷◌, inl, inr, true, false, List, ℤ, pos, map, refl, sym, subst, ◌∙◌, arith}
+use Rattle.std.specs.List.{All, Contains}
 use Rattle.std.specs.Ordering.{int_eq}
 use Rattle.std.proofs.lemmas.Bool.{cases_Bool}
 use Rattle.std.proofs.lemmas.Bool.Decides.{Decides-int_eq}
-use Rattle.std.proofs.lemmas.List.Concat.{flat_map-append}
-use Rattle.std.proofs.lemmas.List.{map-append}
 use Rattle.i_tree.proofs.RootLemmas.Lists.{Contains-here}
 use Rattle.plane.specs.declared.edge.Edge.{Edge}
 use Rattle.plane.specs.declared.point.Point.{Point}
-use Rattle.plane.specs.Meet.Edges.{RationalPoint}
 use Rattle.overlay.specs.declared.fill.rules.FillRule.{FillRule}
 use Rattle.overlay.specs.declared.fill.rules.Operation.{Operation}
 use Rattle.overlay.specs.Boundary.{BoundsResult}
 use Rattle.overlay.specs.Contours.Outlines.{AreOutlines, outline}
-use Rattle.overlay.specs.Contours.Rings.{AreContours, ring_edges}
+use Rattle.overlay.specs.Contours.Rings.{AreContours}
 use Rattle.overlay.specs.Fill.Filled.{IsNextInColumn}
-use Rattle.overlay.specs.Snap.Windings.{winding}
 use Rattle.overlay.proofs.BoundaryLemmas.Bounding.{rings-bound}
 use Rattle.overlay.proofs.ContourLemmas.Callers.{outlines-wind}
-use Rattle.polygons.specs.Overlay.{IsOverlay, polygon_edges}
+use Rattle.polygons.specs.Overlay.{IsOverlay}
+use Rattle.polygons.proofs.GroupingLemmas.Grouped.{map-joined}
 use Rattle.polygons.specs.Polygons.{BoundsSome, IsPolygon, rings_of}
 
 -- where one is vertical, another isn't
@@ -44,15 +41,10 @@ bounds-some rule operation subject clip edges bounds next = record {
   sloped = some-sloped edges next;
 }
 
--- the rings of polygons without points on straight lines are the outlines of their rings
-outlined-rings : (whole : List (List (List Point))) → rings_of (map (λ polygon. map outline polygon) whole) ≡ map outline (rings_of whole)
-outlined-rings [] = refl
-outlined-rings (polygon ∷ whole) = ap (λ (rings : List (List Point)). map outline polygon ++ rings) (outlined-rings whole) ∙ sym (map-append outline polygon (rings_of whole))
-
 pub polygons-overlay : (rule : FillRule) (operation : Operation) (subject clip edges : List Edge) (whole : List (List (List Point))) → BoundsResult rule operation subject clip edges → All IsPolygon whole → AreContours edges (rings_of whole)
     → IsOverlay rule operation subject clip (map (λ polygon. map outline polygon) whole)
 polygons-overlay rule operation subject clip edges whole bounds directed are =
-    let outlines = subst (AreOutlines edges) (sym (outlined-rings whole)) (outlines-wind edges (rings_of whole) are) in
+    let outlines = subst (AreOutlines edges) (sym (map-joined outline whole)) (outlines-wind edges (rings_of whole) are) in
     record {
       each = outlines.each;
       once = λ point. subst (λ (z : ℤ). (z ≡ pos 0) ⊎ (z ≡ pos 1)) (sym (outlines.winds point)) (bounds.once point);

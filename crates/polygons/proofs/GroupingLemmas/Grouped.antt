@@ -2,6 +2,7 @@
 use Rattle.std.proofs.Common.{◌≡◌, ◌<◌, ◌+◌, ◌++◌, [], ◌∷◌, ℕ, Bool, true, false, not, cond, List, drop, take, ◌-◌, length, map, refl, ap, ap₂, sym, subst, ◌∙◌, append_assoc, arith}
 use Rattle.std.specs.List.{All, flat_map}
 use Rattle.std.proofs.lemmas.List.{length-append, length-map, map-append, take_all}
+use Rattle.std.proofs.lemmas.List.Folds.{flat_map-map}
 use Rattle.std.proofs.lemmas.List.Elements.{All-append, All-cons, All-head, All-nil, All-tail}
 use Rattle.plane.specs.declared.point.Point.{Point}
 use Rattle.overlay.specs.Contours.Outlines.{outline}
@@ -47,13 +48,10 @@ joined-polygons : (rings : List PlacedRing) → flat_map (λ list. list) (polygo
 joined-polygons [] = refl
 joined-polygons (ring ∷ rings) = joined-from (ring ∷ []) rings
 
-map-joined : {X Y : Type 0} (f : X → Y) (lists : List (List X)) → flat_map (λ list. list) (map (λ list. map f list) lists) ≡ map f (flat_map (λ list. list) lists)
+-- lists that are mapped one by one
+pub map-joined : {X Y : Type 0} (f : X → Y) (lists : List (List X)) → flat_map (λ list. list) (map (λ list. map f list) lists) ≡ map f (flat_map (λ list. list) lists)
 map-joined f [] = refl
 map-joined f (list ∷ lists) = ap (λ rest. map f list ++ rest) (map-joined f lists) ∙ sym (map-append f list (flat_map (λ one. one) lists))
-
-joined-map : {X Y : Type 0} (f : X → List Y) (xs : List X) → flat_map (λ list. list) (map f xs) ≡ flat_map f xs
-joined-map f [] = refl
-joined-map f (x ∷ xs) = ap (λ rest. f x ++ rest) (joined-map f xs)
 
 module _ (points : List Point) (order : List PlacedRing) where
   -- the rings of the polygons are those in order
@@ -70,7 +68,7 @@ module _ (points : List Point) (order : List PlacedRing) where
       → ends_new ≡ ends_old ++ offsets (length old) (map outline (map (ring_in points) order)) → polygons_new ≡ polygons_old ++ offsets (length ends_old) (polygons_of order)
       → AreAppended appended old new ends_old ends_new polygons_old polygons_new
   AreAppended-all old new ends_old ends_new polygons_old polygons_new points_are ends_are polygons_are = record {
-    points_are = points_are ∙ ap (λ (list : List Point). old ++ list) (sym (joined-map outline (map (ring_in points) order)) ∙ ap (λ (rings : List (List Point)). flat_map (λ ring. ring) rings) (sym outlines-are));
+    points_are = points_are ∙ ap (λ (list : List Point). old ++ list) (sym (flat_map-map (λ (list : List Point). list) outline (map (ring_in points) order)) ∙ ap (λ (rings : List (List Point)). flat_map (λ ring. ring) rings) (sym outlines-are));
     rings_are = ends_are ∙ ap (λ (rings : List (List Point)). ends_old ++ offsets (length old) rings) (sym outlines-are);
     polygons_are = polygons_are ∙ ap (λ (list : List ℕ). polygons_old ++ list)
         (sym (offsets-map outline (length ends_old) (placed_polygons points order) ∙ offsets-map (ring_in points) (length ends_old) (polygons_of order)));

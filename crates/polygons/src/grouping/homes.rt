@@ -16,7 +16,10 @@ use plane::point::Point;
 use plane::sweep_line::{ActiveEdge, insert_beginning};
 use std::alloc::Allocator;
 
-/// For each ring the number of the outer ring of its polygon. Of an outer ring it is nothing: that is its own.
+/// For each ring the number of an outer ring: for a hole, that of its polygon. An outer ring is its own, whatever stands there.
+///
+/// The edges are those of the rings. Before the sweep, `outer` stands for each. It begins with an empty status, and is refused
+/// where memory or the status has no room.
 pub fn homes<C, A>(
     alloc: A,
     status: &mut C,

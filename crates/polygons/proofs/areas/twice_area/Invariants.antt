@@ -1,6 +1,5 @@
-use Rattle.std.proofs.Common.{◌≡◌, ◌^◌, ◌*◌, ℕ, length, drop, pos, ◌+ℤ◌, ◌∷◌, get_or}
+use Rattle.std.proofs.Common.{◌≡◌, ◌^◌, ◌*◌, drop, ◌+ℤ◌, ◌∷◌}
 use Rattle.plane.specs.Meet.Crosses.{IsWithin}
-use Rattle.plane.specs.declared.point.Point.{Point}
 use Rattle.overlay.specs.Fill.Pieces.{total}
 use Rattle.overlay.specs.Snap.Windings.{pieces}
 use Rattle.polygons.specs.Areas.{swept, twice_area}

@@ -1,11 +1,10 @@
-use Rattle.std.proofs.Common.{◌≡◌, List, All, map, subst, sym, ◌∙◌}
+use Rattle.std.proofs.Common.{List, All, map, subst, sym, ◌∙◌}
 use Rattle.std.proofs.lemmas.Result.{on_ok_weaker}
 use Rattle.plane.specs.declared.edge.Edge.{Edge}
 use Rattle.plane.specs.declared.point.Point.{Point}
 use Rattle.overlay.specs.Boundary.{BoundsResult}
 use Rattle.overlay.specs.Contours.Outlines.{outline}
 use Rattle.overlay.specs.Contours.Rings.{AreContours}
-use Rattle.overlay.specs.Fill.Filled.{IsNextInColumn}
 use Rattle.overlay.specs.Snap.Windings.{IsClosed}
 use Rattle.overlay.proofs.ContourLemmas.Counts.{rings-closed}
 use Rattle.polygons.specs.Polygons.{AreAppended, BoundsSome, IsPolygon}

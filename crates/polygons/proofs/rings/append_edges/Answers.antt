@@ -1,8 +1,7 @@
-use Rattle.std.proofs.Common.{◌≡◌, ◌≢◌, ◌<◌, ◌++◌, ◌∷◌, ◌-◌, [], ℕ, List, length, get_or, refl, ap, ap₂, sym, ◌∙◌, append_assoc, append-nil, arith, pos}
+use Rattle.std.proofs.Common.{◌≡◌, ◌++◌, ◌∷◌, ◌-◌, [], List, length, get_or, refl, ap, ap₂, sym, ◌∙◌, append_assoc, append-nil, arith, pos}
 use Rattle.std.proofs.lemmas.Bool.{eqb-false}
 use Rattle.plane.specs.declared.edge.Edge.{Edge}
 use Rattle.plane.specs.declared.point.Point.{Point}
-use Rattle.overlay.specs.Contours.Rings.{ring_edges}
 use Rattle.overlay.specs.Snap.Windings.{edge_between, pieces}
 use Rattle.polygons.proofs.RingLemmas.{closing, few_pieces}
 use Rattle.polygons.proofs.rings.append_edges.Goals as goal
