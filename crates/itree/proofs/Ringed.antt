@@ -1,5 +1,5 @@
 -- Rings in one list: how they are read, and their lines.
-use Rattle.std.proofs.Common.{◌≡◌, ◌==◌, ◌≤◌, ◌<◌, ◌+◌, ◌-◌, ℕ, ℤ, Bool, true, false, List, [], ◌∷◌, ◌++◌, length, map, get_or, take, refl, sym, ap, ap₂, ◌∙◌, append_assoc, append-nil, arith, min, subst, Bor}
+use Rattle.std.proofs.Common.{◌≡◌, ◌==◌, ◌≤◌, ◌<◌, ◌+◌, ℕ, ℤ, Bool, true, false, List, [], ◌∷◌, ◌++◌, length, map, get_or, refl, sym, ap, ap₂, ◌∙◌, append_assoc, append-nil, arith, min, subst, Bor}
 use Rattle.std.proofs.lemmas.Bool.Decides.{nat_tests}
 use Rattle.std.proofs.lemmas.List.{flat_map_more, length-append}
 use Rattle.std.proofs.lemmas.List.Elements.{filter_map-append}
@@ -9,10 +9,9 @@ use Rattle.itree.specs.Replies.{polygon_lines, ring_line}
 use Rattle.itree.specs.RingLines.{RingLine, Subject, Clip, subject_in, clip_in, subject_of, clip_of, coordinates, Holds, HoldsSaid}
 use Rattle.itree.specs.declared.lines.rings.RingList.{RingList}
 use Rattle.itree.specs.declared.lines.rings.SaidRings.{SaidRings}
-use Rattle.overlay.specs.Snap.Offsets.{AreJoined, offsets}
-use Rattle.overlay.proofs.SnapLemmas.Callers.{joined}
+use Rattle.overlay.specs.Snap.Offsets.{AreJoined}
+use Rattle.polygons.proofs.GroupingLemmas.Placed.{ends-right, rings-back}
 use Rattle.polygons.specs.Rings.{AreEnds, rings_of}
-use Rattle.std.proofs.Math.Seq.{drop-append_seam, take-append_seam}
 use Rattle.overlay.proofs.ChainLemmas.Runs.{between-more, length-between, offsets-more}
 use Rattle.plane.specs.declared.point.Point.{Point}
 
@@ -123,27 +122,9 @@ HoldsSaid-clip rings list ring more said (subject, clip) = (
 
 -- ---- rings for a call
 
--- behind other points, too
-rings_behind : (before : List Point) (lists : List (List Point)) → rings_of (before ++ joined lists) (length before) (offsets (length before) lists) ≡ lists
-rings_behind before [] = refl
-rings_behind before (list ∷ lists) =
-    let all = before ++ (list ++ joined lists) in
-    let stop : length (before ++ list) ≡ length before + length list = length-append before list in
-    ap₂ (λ (ring : List Point) (rings : List (List Point)). ring ∷ rings)
-    (ap (λ (points : List Point). take ((length before + length list) - length before) points) (drop-append_seam before (list ++ joined lists))
-    ∙ ap (λ (n : ℕ). take n (list ++ joined lists)) (omega arith) ∙ take-append_seam list (joined lists))
-    (subst (λ (n : ℕ). rings_of all n (offsets n lists) ≡ lists) stop
-    (subst (λ (points : List Point). rings_of points (length (before ++ list)) (offsets (length (before ++ list)) lists) ≡ lists) (append_assoc before list (joined lists)) (rings_behind (before ++ list) lists)))
-
 pub rings_of-joined : (lists : List (List Point)) (points : List Point) (ends : List ℕ) → AreJoined lists points ends → rings_of points 0 ends ≡ lists
-rings_of-joined lists points ends (are, stops) = ap₂ (λ (ps : List Point) (es : List ℕ). rings_of ps 0 es) are stops ∙ rings_behind [] lists
-
-ends_behind : (start : ℕ) (lists : List (List Point)) (count : ℕ) → start + length (joined lists) ≤ count → AreEnds start (offsets start lists) count
-ends_behind start [] count within = tt
-ends_behind start (list ∷ lists) count within =
-    let sum = length-append list (joined lists) in
-    (omega arith, omega (arith, within, sum), ends_behind (start + length list) lists count (omega (arith, within, sum)))
+rings_of-joined lists points ends (are, stops) = ap₂ (λ (ps : List Point) (es : List ℕ). rings_of ps 0 es) are stops ∙ rings-back [] lists 0 refl
 
 pub AreEnds-joined : (lists : List (List Point)) (points : List Point) (ends : List ℕ) → AreJoined lists points ends → AreEnds 0 ends (length points)
 AreEnds-joined lists points ends (are, stops) =
-    subst (λ (es : List ℕ). AreEnds 0 es (length points)) (sym stops) (ends_behind 0 lists (length points) (omega (arith, ap length are)))
+    subst (λ (es : List ℕ). AreEnds 0 es (length points)) (sym stops) (ends-right 0 lists (length points) (omega (arith, ap length are)))
