@@ -6,6 +6,8 @@ mod broken_roads;
 #[cfg(test)]
 mod crossing_candidates;
 #[cfg(test)]
+mod free_of_masks;
+#[cfg(test)]
 mod inside_polygon;
 #[cfg(test)]
 mod kept_booking;
