@@ -5,6 +5,7 @@
 #![tactic(auto)]
 
 pub mod broken_roads;
+pub mod coverage;
 pub mod crossing_candidates;
 pub mod dry_land;
 pub mod free_of_masks;
