@@ -24,6 +24,8 @@ mod own_descent;
 #[cfg(test)]
 mod own_error;
 #[cfg(test)]
+mod parcels;
+#[cfg(test)]
 mod points_in_rectangles;
 #[cfg(test)]
 mod polygon_crossings;
