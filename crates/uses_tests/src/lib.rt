@@ -4,7 +4,11 @@
 #[cfg(test)]
 mod broken_roads;
 #[cfg(test)]
+mod coverage;
+#[cfg(test)]
 mod crossing_candidates;
+#[cfg(test)]
+mod free_of_masks;
 #[cfg(test)]
 mod inside_polygon;
 #[cfg(test)]
@@ -19,6 +23,8 @@ mod level_below;
 mod own_descent;
 #[cfg(test)]
 mod own_error;
+#[cfg(test)]
+mod parcels;
 #[cfg(test)]
 mod points_in_rectangles;
 #[cfg(test)]
