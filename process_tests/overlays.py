@@ -95,16 +95,17 @@ RUN = "overlay difference nonzero", (f"subject {SQUARE}", f"clip {WITHIN}"), (f"
 # A square, and one within it.
 ROUND = [(0, 0), (4, 0), (4, 4), (0, 4)], [(1, 1), (3, 1), (3, 3), (1, 3)]
 
-# Rings by chance with how far they go, and how many drawings of each operation and rule there are.
+# Rings by chance with how far they go, and how many drawings of each operation and rule there are: 1,250 along the axes, which
+# are exact everywhere, and as many others.
 KINDS = (
-    (near, 4, 200),
-    (near, 12, 100),
-    (near, 40, 200),
-    (square, 4, 200),
-    (square, 12, 100),
-    (frame, 10, 150),
-    (diamond, 12, 50),
-    (diamond, 40, 50),
+    (square, 4, 550),
+    (square, 12, 350),
+    (frame, 10, 350),
+    (near, 4, 300),
+    (near, 12, 200),
+    (near, 40, 350),
+    (diamond, 12, 100),
+    (diamond, 40, 100),
     (any_of, 10, 100),
     (any_of, 40, 100),
 )
