@@ -10,8 +10,9 @@ use Rattle.overlay.specs.Contours.Rings.{ring_edges}
 use Rattle.plane.specs.Meet.Edges.{RationalPoint}
 use Rattle.overlay.specs.Fill.Begins.{cmp_begins}
 use Rattle.overlay.specs.Fill.Filled.{AreDistinct, AreNoded}
-use Rattle.overlay.specs.Snap.Offsets.{offsets}
+use Rattle.overlay.specs.Snap.Offsets.{offsets, Extends}
 use Rattle.overlay.specs.Snap.Windings.{winding}
+use Rattle.polygons.specs.declared.rings.Polygons.{Polygons}
 
 -- The edge begins before the best one so far: further left, or there and lower, or at one point and flatter.
 abbrev pub begins_before : Edge → Option Edge → Bool
@@ -49,6 +50,18 @@ pub record AreAppended (polygons : List (List (List Point))) (points points' : L
   pub points_are : points' ≡ points ++ flat_map (λ ring. ring) (rings_of polygons)
   pub rings_are : ring_ends' ≡ ring_ends ++ offsets (length points) (rings_of polygons)
   pub polygons_are : polygon_ends' ≡ polygon_ends ++ offsets (length ring_ends) polygons
+
+-- What is appended to polygons that stand there.
+abbrev pub Appends : {A : Type 0} → List (List (List Point)) → Polygons A → Polygons A → Type 0
+Appends polygons before after = AreAppended polygons before.points.items after.points.items before.ring_ends.items after.ring_ends.items before.polygon_ends.items after.polygon_ends.items
+
+-- The polygons are as they were.
+abbrev pub AreAsBefore : {A : Type 0} → Polygons A → Polygons A → Type 0
+AreAsBefore before after = (after.points.items ≡ before.points.items) × (after.ring_ends.items ≡ before.ring_ends.items) × (after.polygon_ends.items ≡ before.polygon_ends.items)
+
+-- Something may stand behind the polygons that were there.
+abbrev pub AreExtended : {A : Type 0} → Polygons A → Polygons A → Type 0
+AreExtended before after = Extends before.points.items after.points.items × Extends before.ring_ends.items after.ring_ends.items × Extends before.polygon_ends.items after.polygon_ends.items
 
 -- Edges that bound a region of the plane: they meet only at common ends, no two have the same, and they wind once around each
 -- point of it, and around no others. One of them isn't vertical, if there are any.

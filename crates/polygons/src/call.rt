@@ -3,9 +3,8 @@
 ghost use Rattle.std.specs.Prelude.{◌≡◌, ◌↔◌, [], List, OnOk, OnErr, Err};
 ghost use Rattle.plane.specs.declared.point.Point.{Point};
 ghost use Rattle.overlay.specs.declared.fill.rules.Operation.TheVariants.{Union};
-ghost use Rattle.overlay.specs.Snap.Offsets.{Extends};
 ghost use Rattle.polygons.specs.Overlay.{IsOverlay};
-ghost use Rattle.polygons.specs.Polygons.{AreAppended};
+ghost use Rattle.polygons.specs.Polygons.{Appends, AreAsBefore, AreExtended};
 ghost use Rattle.polygons.specs.Rings.{HasEnds, edges_of};
 
 use crate::fault::OverlayFault;
@@ -26,11 +25,12 @@ use std::alloc::Allocator;
 ///
 /// The polygons wind once around each point of the result, and not at all around any other, where the point isn't within half
 /// a unit, on both axes, of an edge of the rings given; and around every point where all of these edges run along the axes.
-/// Around no point do they wind more often. Their rings visit no point twice, and have no points on straight lines. With these,
-/// edges of rings meet only at common ends; so a corner may touch the side of a ring.
+/// Around no point do they wind more often. Their rings visit no point twice. Points at which a ring goes straight on are left
+/// out; with these, edges of rings meet only at common ends, so that a corner may touch the side of a ring.
 ///
 /// `Lengths` comes where the ends of subject or clip don't rise or go behind the points, and nothing else is done then.
-/// `Refused` comes for want of memory alone. After any fault `out` is as it was. The memory is that of `out`.
+/// `Refused` comes where memory was refused, or where more edges are live at once than a tree has handles. After any fault
+/// `out` is as it was. The memory is that of `out`.
 pub fn overlay<A: Allocator + Copy>(
     subject: Rings,
     clip: Rings,
@@ -40,9 +40,8 @@ pub fn overlay<A: Allocator + Copy>(
 ) -> Result<(), OverlayFault>
     ensures ok { OnOk result ((polygons : List (List (List Point)))
         × IsOverlay rule operation (edges_of subject.entry) (edges_of clip.entry) polygons
-        × AreAppended polygons out.old.points.items out.new.points.items out.old.ring_ends.items out.new.ring_ends.items out.old.polygon_ends.items out.new.polygon_ends.items) }
-    ensures err { OnErr result ((out.new.points.items ≡ out.old.points.items)
-        × (out.new.ring_ends.items ≡ out.old.ring_ends.items) × (out.new.polygon_ends.items ≡ out.old.polygon_ends.items)) }
+        × Appends polygons out.old out.new) }
+    ensures err { OnErr result (AreAsBefore out.old out.new) }
     ensures lengths { (result ≡ Err OverlayFault.Lengths)
         ↔ ¬ (HasEnds subject.entry × HasEnds clip.entry) }
 {
@@ -68,9 +67,8 @@ where
     A: Allocator + Copy,
     ensures ok { OnOk result ((polygons : List (List (List Point)))
         × IsOverlay rule operation (edges_of subject.entry) (edges_of clip.entry) polygons
-        × AreAppended polygons out.old.points.items out.new.points.items out.old.ring_ends.items out.new.ring_ends.items out.old.polygon_ends.items out.new.polygon_ends.items) }
-    ensures err { OnErr result ((out.new.points.items ≡ out.old.points.items)
-        × (out.new.ring_ends.items ≡ out.old.ring_ends.items) × (out.new.polygon_ends.items ≡ out.old.polygon_ends.items)) }
+        × Appends polygons out.old out.new) }
+    ensures err { OnErr result (AreAsBefore out.old out.new) }
     ensures lengths { (result ≡ Err OverlayFault.Lengths)
         ↔ ¬ (HasEnds subject.entry × HasEnds clip.entry) }
     ensures empty { C.stored status.new ≡ [] }
@@ -110,10 +108,8 @@ where
     requires clip_ends { HasEnds clip }
     ensures ok { OnOk result ((polygons : List (List (List Point)))
         × IsOverlay rule operation (edges_of subject.entry) (edges_of clip.entry) polygons
-        × AreAppended polygons out.old.points.items out.new.points.items out.old.ring_ends.items out.new.ring_ends.items out.old.polygon_ends.items out.new.polygon_ends.items) }
-    ensures err { OnErr result (Extends out.old.points.items out.new.points.items
-        × Extends out.old.ring_ends.items out.new.ring_ends.items
-        × Extends out.old.polygon_ends.items out.new.polygon_ends.items) }
+        × Appends polygons out.old out.new) }
+    ensures err { OnErr result (AreExtended out.old out.new) }
 {
     let alloc = *out.points.allocator();
     let subject_edges = edges_of(alloc, subject)?;
@@ -133,9 +129,8 @@ pub fn simplify<A: Allocator + Copy>(
 ) -> Result<(), OverlayFault>
     ensures ok { OnOk result ((polygons : List (List (List Point)))
         × IsOverlay rule Union (edges_of rings.entry) [] polygons
-        × AreAppended polygons out.old.points.items out.new.points.items out.old.ring_ends.items out.new.ring_ends.items out.old.polygon_ends.items out.new.polygon_ends.items) }
-    ensures err { OnErr result ((out.new.points.items ≡ out.old.points.items)
-        × (out.new.ring_ends.items ≡ out.old.ring_ends.items) × (out.new.polygon_ends.items ≡ out.old.polygon_ends.items)) }
+        × Appends polygons out.old out.new) }
+    ensures err { OnErr result (AreAsBefore out.old out.new) }
     ensures lengths { (result ≡ Err OverlayFault.Lengths) ↔ ¬ (HasEnds rings.entry) }
 {
     let nothing = Rings {

@@ -5,7 +5,7 @@ ghost use Rattle.std.specs.List.{flat_map};
 ghost use Rattle.overlay.specs.Contours.Outlines.{outline};
 ghost use Rattle.overlay.specs.Snap.Offsets.{Extends, offsets};
 ghost use Rattle.polygons.specs.Grouping.{AreWithin, placed_polygons, polygons_of, ring_in};
-ghost use Rattle.polygons.specs.Polygons.{AreAppended};
+ghost use Rattle.polygons.specs.Polygons.{Appends, AreExtended};
 
 use super::order::PlacedRing;
 use crate::rings::Polygons;
@@ -20,11 +20,8 @@ pub fn append_placed<A: Allocator>(
     out: &mut Polygons<A>,
 ) -> Result<(), AllocError>
     requires within { AreWithin points.now order.now }
-    ensures ok { OnOk result (AreAppended (map (λ polygon. map outline polygon) (placed_polygons points.now order.now))
-        out.old.points.items out.new.points.items out.old.ring_ends.items out.new.ring_ends.items out.old.polygon_ends.items out.new.polygon_ends.items) }
-    ensures err { OnErr result (Extends out.old.points.items out.new.points.items
-        × Extends out.old.ring_ends.items out.new.ring_ends.items
-        × Extends out.old.polygon_ends.items out.new.polygon_ends.items) }
+    ensures ok { OnOk result (Appends (map (λ polygon. map outline polygon) (placed_polygons points.now order.now)) out.old out.new) }
+    ensures err { OnErr result (AreExtended out.old out.new) }
 {
     let first = out.ring_ends.len();
     append_rings(points, order, &mut out.points, &mut out.ring_ends)?;

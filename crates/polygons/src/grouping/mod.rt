@@ -4,9 +4,8 @@ ghost use Rattle.std.specs.Prelude.{◌≡◌, [], List, All, OnErr, OnOk, map, 
 ghost use Rattle.plane.specs.declared.point.Point.{Point};
 ghost use Rattle.overlay.specs.Contours.Outlines.{outline};
 ghost use Rattle.overlay.specs.Contours.Rings.{AreContours};
-ghost use Rattle.overlay.specs.Snap.Offsets.{Extends};
 ghost use Rattle.overlay.specs.Snap.Windings.{IsClosed};
-ghost use Rattle.polygons.specs.Polygons.{AreAppended, BoundsSome, IsPolygon, rings_of};
+ghost use Rattle.polygons.specs.Polygons.{Appends, AreExtended, BoundsSome, IsPolygon, rings_of};
 
 use crate::rings::Polygons;
 use appending::append_placed;
@@ -48,10 +47,8 @@ where
     requires bounding { BoundsSome edges.now }
     ensures ok { OnOk result ((whole : List (List (List Point))) × All IsPolygon whole
         × AreContours edges.now (rings_of whole)
-        × AreAppended (map (λ polygon. map outline polygon) whole) out.old.points.items out.new.points.items out.old.ring_ends.items out.new.ring_ends.items out.old.polygon_ends.items out.new.polygon_ends.items) }
-    ensures err { OnErr result (Extends out.old.points.items out.new.points.items
-        × Extends out.old.ring_ends.items out.new.ring_ends.items
-        × Extends out.old.polygon_ends.items out.new.polygon_ends.items) }
+        × Appends (map (λ polygon. map outline polygon) whole) out.old out.new) }
+    ensures err { OnErr result (AreExtended out.old out.new) }
 {
     let alloc = *out.points.allocator();
     let mut points = Vec::new(alloc);
