@@ -1,6 +1,8 @@
--- Lemmas on how chains are made: hot points as a list, the stops of edges at them, and the runs of stops that are chains.
+-- Lemmas on how chains are made: which edges come close, what crossings round to, the stops of edges, and the runs of stops that are chains.
+pub mod Close
+pub mod Crossings
 pub mod Ends
-pub mod Hot
+pub mod Gains
 pub mod Offsets
 pub mod Order
 pub mod Runs

@@ -1,7 +1,9 @@
 -- Definitions of snap rounding: what a point rounds to, the chains that edges become, and what holds of these.
 pub mod Chains
+pub mod Close
 pub mod Crossing
-pub mod Hot
+pub mod Crossings
+pub mod Gains
 pub mod Meeting
 pub mod Near
 pub mod Offsets

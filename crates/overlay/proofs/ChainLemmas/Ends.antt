@@ -1,5 +1,5 @@
 -- A chain is its edge's start, the hot points that the edge passes between its ends, and its end.
-use Rattle.std.proofs.Common.{◌≡◌, ◌≢◌, ◌⊎◌, inl, inr, ℤ, Bool, true, false, not, List, [], ◌∷◌, ◌++◌, get_or, refl, sym, ap, ap₂, ◌∙◌, subst, ⊎_elim}
+use Rattle.std.proofs.Common.{◌≡◌, ◌≢◌, ◌⊎◌, inl, inr, ℤ, Bool, true, false, List, [], ◌∷◌, ◌++◌, get_or, refl, sym, ap, ap₂, ◌∙◌, subst, ⊎_elim}
 use Rattle.std.specs.Bool.{MatchBool}
 use Rattle.std.specs.List.{AllPairs, Contains}
 use Rattle.std.proofs.lemmas.List.Elements.{Contains-append_left, Contains-get_or, Contains-push, Contains-push_cases}
@@ -11,7 +11,7 @@ use Rattle.plane.proofs.PairsLemmas.Bags.{here_or_there}
 use Rattle.plane.specs.declared.edge.Edge.{Edge}
 use Rattle.plane.specs.declared.point.Point.{Point}
 use Rattle.overlay.specs.Snap.Chains.{IsChain, IsEnd, IsHot, Passes, Upto}
-use Rattle.overlay.specs.Snap.Hot.{PassesInside}
+use Rattle.overlay.specs.Snap.Close.{PassesInside}
 use Rattle.overlay.specs.Snap.Stops.{GoesToEnd}
 use Rattle.overlay.specs.Snap.Windings.{end_of, start_of}
 use Rattle.overlay.proofs.SnapLemmas.Along.{Passes-end, Passes-start, Upto-from_start, Upto-to_end, point_at}
@@ -21,10 +21,6 @@ pub inside_by : (edge : Edge) (x y : ℤ) (end passed : Bool) → MatchBool end 
 inside_by edge x y false true none same is = (is, none)
 inside_by edge x y false false none same is = λ both. is both.0
 inside_by edge x y true passed none same is = absurd (cc)
-
-pub outside_by : (edge : Edge) (x y : ℤ) (end : Bool) → MatchBool end (IsEnd edge x y) (¬ (IsEnd edge x y)) → end ≡ true → MatchBool (not end) (PassesInside edge x y) (¬ (PassesInside edge x y))
-outside_by edge x y true is same = λ both. both.1 is
-outside_by edge x y false is same = absurd (cc)
 
 -- a point is the edge's start, or its end, or neither
 data EndOr (edge : Edge) (c : Point) : Type 0 where
@@ -44,6 +40,15 @@ ends_of edge c = go (same_or_apart c.x edge.x0) (same_or_apart c.y edge.y0) (sam
     go (inl x) (inl y) x1 y1 = is_start (ap₂ point_at x y)
     go (inr x) y x1 y1 = last x1 y1 (λ is. x is.0)
     go (inl x) (inr y) x1 y1 = last x1 y1 (λ is. y is.1)
+
+-- a whole point is an end of the edge, or it isn't
+pub end_or_not : (edge : Edge) (x y : ℤ) → IsEnd edge x y ⊎ (¬ (IsEnd edge x y))
+end_or_not edge x y = go (ends_of edge (point_at x y))
+  where
+    go : EndOr edge (point_at x y) → IsEnd edge x y ⊎ (¬ (IsEnd edge x y))
+    go (is_start same) = inl (inl (ap (λ (p : Point). p.x) same, ap (λ (p : Point). p.y) same))
+    go (is_end same) = inl (inr (ap (λ (p : Point). p.x) same, ap (λ (p : Point). p.y) same))
+    go (neither none) = inr none
 
 module _ (edges : List Edge) (edge : Edge) (held : Contains edges edge) (inner : List Point)
     (inner_in_order : AllPairs (λ c d. Upto edge c.x c.y d.x d.y) inner) (inner_once : AllPairs (λ c d. c ≢ d) inner)

@@ -1,19 +1,18 @@
 -- The order of stops, and of hot points.
-use Rattle.std.proofs.Common.{◌≡◌, ◌≢◌, inl, inr, ℕ, ◌<◌, ℤ, ◌<ℤ◌, true, false, List, get_or, Ordering, Less, Equal, Greater, refl, sym, ap, ◌∙◌, arith}
+use Rattle.std.proofs.Common.{◌≡◌, inl, inr, ℕ, ◌<◌, ℤ, ◌<ℤ◌, true, List, [], ◌∷◌, get_or, Ordering, Less, Equal, Greater, refl, subst, arith}
 use Rattle.std.specs.Bool.{⊤}
-use Rattle.std.specs.List.{AllPairs, IsDistinct}
-use Rattle.std.specs.List.Sorted.{IsPermutation, IsSorted, IsStrictlySortedBy}
-use Rattle.std.specs.Ordering.{MatchOrdering, int_cmp, nat_cmp, ordering_then, ordering_reverse, eq_by_cmp, is_eq, is_lt}
-use Rattle.std.proofs.lemmas.Cmp.{ranked, int_ranked, eq_by_cmp_equiv}
-use Rattle.std.proofs.lemmas.List.Sorted.{ranks_by, sorted_far}
-use Rattle.std.proofs.lemmas.Map.Keys.{IsDistinct-IsPermutation, IsDistinct-from_apart, IsDistinct-from_sorted, apart_from_distinct}
-use Rattle.overlay.specs.Snap.Hot.{hot_at}
+use Rattle.std.specs.List.{AllPairs}
+use Rattle.std.specs.List.Sorted.{IsStrictlySortedBy}
+use Rattle.std.specs.Ordering.{MatchOrdering, int_cmp, nat_cmp, ordering_then, eq_by_cmp, is_eq}
+use Rattle.std.proofs.lemmas.Cmp.{ranked, int_ranked}
+use Rattle.std.proofs.lemmas.List.Kept.{AllPairs-cons}
+use Rattle.std.proofs.lemmas.Map.Keys.{sorted_tail}
+use Rattle.std.proofs.lemmas.Map.Views.{All-after_first}
+use Rattle.overlay.specs.Snap.Crossings.{hot_at}
 use Rattle.overlay.specs.Snap.Stops.{IsBefore}
-use Rattle.overlay.specs.contracts.snap.hot.HotPointOrd.TheImpl.{ghosts as hot_order}
-use Rattle.overlay.specs.contracts.snap.hot.HotPointOrd.TheImpl.Laws.{total-law as hot_total}
+use Rattle.overlay.specs.contracts.snap.crossings.HotPointOrd.TheImpl.{ghosts as hot_order}
 use Rattle.overlay.specs.contracts.snap.stops.StopOrd.TheImpl.{ghosts as stop_order}
-use Rattle.overlay.specs.contracts.snap.stops.StopOrd.TheImpl.Laws.{total-law as stop_total}
-use Rattle.overlay.specs.declared.snap.hot.HotPoint.{HotPoint}
+use Rattle.overlay.specs.declared.snap.crossings.HotPoint.{HotPoint}
 use Rattle.overlay.specs.declared.snap.stops.Stop.{Stop}
 
 abbrev stop_at : ℕ → ℤ → ℤ → Stop
@@ -46,39 +45,27 @@ ranked_place p q x x' y y' Greater said = tt
 ranked_stops : (a b : Stop) → MatchOrdering (stop_order.cmp a b) (IsBefore a b) (a ≡ b) ⊤
 ranked_stops a b = ranked_place a.place b.place a.along_x b.along_x a.along_y b.along_y (nat_cmp a.place b.place) (ranked a.place b.place (nat_cmp a.place b.place) refl)
 
--- stops that differ do not compare Equal
-apart : (a b : Stop) → a ≢ b → eq_by_cmp stop_order.cmp a b ≡ false
-apart a b differ = go (stop_order.cmp a b) (ranked_stops a b)
+-- so of two where the first compares Less it comes before the second
+precedes : (a b : Stop) → stop_order.cmp a b ≡ Less → IsBefore a b
+precedes a b less = subst (λ (o : Ordering). MatchOrdering o (IsBefore a b) (a ≡ b) ⊤) less (ranked_stops a b)
+
+-- and two that compare Equal are one
+pub stop-same : (a b : Stop) → eq_by_cmp stop_order.cmp a b ≡ true → a ≡ b
+stop-same a b is = go (stop_order.cmp a b) (ranked_stops a b) is
   where
-    go : (o : Ordering) → MatchOrdering o (IsBefore a b) (a ≡ b) ⊤ → is_eq o ≡ false
-    go Less said = refl
-    go Equal said = absurd (differ said)
-    go Greater said = refl
+    go : (o : Ordering) → MatchOrdering o (IsBefore a b) (a ≡ b) ⊤ → is_eq o ≡ true → a ≡ b
+    go Less said same = cc
+    go Equal said same = said
+    go Greater said same = cc
 
--- of two stops that differ and stand in order the first comes before the second
-precedes : (a b : Stop) → eq_by_cmp stop_order.cmp a b ≡ false → is_lt (stop_order.cmp b a) ≡ false → IsBefore a b
-precedes a b differ in_order = go (stop_order.cmp a b) (ranked_stops a b) differ (sym (ap is_lt (stop_total.antisymm b a)) ∙ in_order)
-  where
-    go : (o : Ordering) → MatchOrdering o (IsBefore a b) (a ≡ b) ⊤ → is_eq o ≡ false → is_lt (ordering_reverse o) ≡ false → IsBefore a b
-    go Less said d i = said
-    go Equal said d i = cc
-    go Greater said d i = cc
+-- of a list that is strictly sorted each item compares Less with all later ones
+less_far : {X : Type 0} (cmp : X → X → Ordering) (items : List X) → IsStrictlySortedBy cmp items → AllPairs (λ a b. cmp a b ≡ Less) items
+less_far cmp [] sorted = λ i j d below within. absurd (omega (arith, within))
+less_far cmp (x ∷ items) sorted = AllPairs-cons (λ a b. cmp a b ≡ Less) x items (All-after_first cmp x items sorted) (less_far cmp items (sorted_tail cmp x items sorted))
 
--- stops that differ come one before the other once they are sorted
-pub stops-in_order : (before after : List Stop) → AllPairs (λ stop later. stop ≢ later) before → IsPermutation before after → IsSorted stop_order.cmp after → AllPairs IsBefore after
-stops-in_order before after differ moved sorted i j d below within =
-    let distinct = IsDistinct-from_apart (eq_by_cmp stop_order.cmp) before (λ k l e lower inside. apart (get_or before k e) (get_or before l e) (differ k l e lower inside)) in
-    let still : IsDistinct (eq_by_cmp stop_order.cmp) after = IsDistinct-IsPermutation (eq_by_cmp stop_order.cmp) (eq_by_cmp_equiv stop_total).symm before after moved distinct in
-    precedes (get_or after i d) (get_or after j d)
-    (apart_from_distinct (eq_by_cmp stop_order.cmp) after i j d still below within)
-    (sorted_far (λ a b. is_lt (stop_order.cmp a b)) (ranks_by stop_total (λ (stop : Stop). stop)) after sorted i j d (omega arith) within)
-
--- hot points that are strictly sorted are different
-pub hot-differ : (hot : List HotPoint) → IsStrictlySortedBy hot_order.cmp hot → AllPairs (λ point later. point ≢ later) hot
-hot-differ hot rising i j d below within same =
-    let differ = apart_from_distinct (eq_by_cmp hot_order.cmp) hot i j d (IsDistinct-from_sorted hot_order.cmp hot rising) below within in
-    let alike = (eq_by_cmp_equiv hot_total).refl (get_or hot i d) in
-    let none : true ≡ false = sym alike ∙ ap (λ (point : HotPoint). eq_by_cmp hot_order.cmp (get_or hot i d) point) same ∙ differ in cc
+-- stops that are strictly sorted come one before the other
+pub stops-in_order : (stops : List Stop) → IsStrictlySortedBy stop_order.cmp stops → AllPairs IsBefore stops
+stops-in_order stops sorted i j d below within = precedes (get_or stops i d) (get_or stops j d) (less_far stop_order.cmp stops sorted i j d below within)
 
 -- hot points that compare Equal are one
 same_y : (x x' y y' : ℤ) (o : Ordering) → x ≡ x' → MatchOrdering o (y <ℤ y') (y ≡ y') (y' <ℤ y) → is_eq o ≡ true → hot_at x y ≡ hot_at x' y'

@@ -7,13 +7,13 @@ use Rattle.std.proofs.lemmas.Option.{same_Some}
 use Rattle.plane.specs.declared.edge.Edge.{Edge}
 use Rattle.plane.specs.declared.point.Point.{Point}
 use Rattle.overlay.specs.Snap.Chains.{IsChain, IsHot, Upto}
-use Rattle.overlay.specs.Snap.Hot.{PassesInside}
+use Rattle.overlay.specs.Snap.Close.{PassesInside}
 use Rattle.overlay.specs.Snap.Offsets.{between, offsets, Extends}
 use Rattle.overlay.specs.Snap.Stops.{AreAt, AreStops, GoesToEnd, IsBefore, IsStop, point_of, stop_of}
 use Rattle.overlay.specs.Snap.Windings.{start_of}
 use Rattle.overlay.specs.declared.snap.stops.Stop.{Stop}
 use Rattle.overlay.proofs.ChainLemmas.Ends.{IsChain-ends}
-use Rattle.overlay.proofs.ChainLemmas.Hot.{held-at}
+use Rattle.overlay.proofs.ChainLemmas.Gains.{held-at}
 use Rattle.overlay.proofs.ChainLemmas.Stops.{differ-before, point-of_stop, upto-before}
 
 -- ---- lists

@@ -1,24 +1,29 @@
 -- The stops of edges at hot points, once they are sorted.
-use Rattle.std.proofs.Common.{◌≡◌, ◌≢◌, ◌⊎◌, inl, inr, ℕ, ◌<◌, ℤ, pos, ◌-ℤ◌, ◌≤ℤ◌, Bool, true, false, cond, List, Some, length, get_or, refl, sym, ap, ap₂, ◌∙◌, subst, arith}
+use Rattle.std.proofs.Common.{◌≡◌, ◌≢◌, ◌⊎◌, ◌↔◌, inl, inr, ℕ, ℤ, pos, ◌-ℤ◌, ◌≤ℤ◌, Bool, true, false, cond, List, [], ◌∷◌, ◌++◌, Some, get_or, refl, sym, ap, ap₂, ◌∙◌, subst, ⊎_elim, arith}
 use Rattle.std.specs.Int.Signed.{lt_z}
-use Rattle.std.specs.List.{All, AllZip, Contains, slice_get}
+use Rattle.std.specs.List.{Contains, dedup, slice_get}
 use Rattle.std.specs.List.Sorted.{IsPermutation, IsSorted}
+use Rattle.std.specs.Ordering.{eq_by_cmp}
 use Rattle.std.proofs.lemmas.Bool.{cases_eq, cases_lt}
 use Rattle.std.proofs.lemmas.Int.{ints}
 use Rattle.std.proofs.lemmas.List.Elements.{Contains-get_or}
-use Rattle.std.proofs.lemmas.List.Sorted.{All-permutation, Contains-permutation}
-use Rattle.std.proofs.lemmas.Option.{same_Some, slice_get-get_or, slice_get_within}
+use Rattle.std.proofs.lemmas.List.Kept.{IsStrictlySortedBy-dedup}
+use Rattle.std.proofs.lemmas.Option.{same_Some}
 use Rattle.plane.specs.declared.edge.Edge.{Edge}
 use Rattle.plane.specs.declared.point.Point.{Point}
-use Rattle.plane.specs.Pairs.Pairs.{ArePairsBetween}
-use Rattle.overlay.specs.Snap.Chains.{IsHot, Passes, Upto, UptoOn}
-use Rattle.overlay.specs.Snap.Hot.{hot_at, AreHotPoints, PassesInside}
-use Rattle.overlay.specs.Snap.Stops.{AreStops, IsBefore, IsStop, IsStopAt, point_of, stop_of, turned}
+use Rattle.plane.specs.Pairs.Pairs.{ArePairs, ArePairsBetween}
+use Rattle.overlay.specs.Snap.Chains.{IsEnd, IsHot, Passes, Upto, UptoOn}
+use Rattle.overlay.specs.Snap.Close.{ComeClose, PassesEnd, PassesInside}
+use Rattle.overlay.specs.Snap.Crossings.{AreCrossings, hot_at}
+use Rattle.overlay.specs.Snap.Gains.{GainsThese, IsOfSome}
+use Rattle.overlay.specs.Snap.Stops.{AreStops, IsBefore, IsStop, IsStopAlong, IsStopAmong, IsStopAt, IsStopAtEnd, IsStopOfPair, point_of, stop_of, turned}
 use Rattle.overlay.specs.contracts.snap.stops.StopOrd.TheImpl.{ghosts as stop_order}
-use Rattle.overlay.specs.declared.snap.hot.HotPoint.{HotPoint}
+use Rattle.overlay.specs.contracts.snap.stops.StopOrd.TheImpl.Laws.{total-law as stop_total}
+use Rattle.overlay.specs.declared.snap.crossings.HotPoint.{HotPoint}
 use Rattle.overlay.specs.declared.snap.stops.Stop.{Stop}
-use Rattle.overlay.proofs.ChainLemmas.Order.{stops-in_order}
-use Rattle.overlay.proofs.ChainLemmas.Zips.{AllZip-at, AllZip-length, AllZip-differ}
+use Rattle.overlay.proofs.ChainLemmas.Crossings.{crossing-hot, hot_cases}
+use Rattle.overlay.proofs.ChainLemmas.Gains.{Contains-sorted, gains-join, gains-only, gains-same, held-at, place-of}
+use Rattle.overlay.proofs.ChainLemmas.Order.{stop-same, stops-in_order}
 use Rattle.overlay.proofs.SnapLemmas.Along.{Passes-ordered}
 
 -- ---- along an edge
@@ -93,81 +98,167 @@ differ-before edge one other same before is = go before
 
 -- ---- all stops
 
-module _ (edges : List Edge) (hot : List HotPoint) (passes : List (ℕ × ℕ)) (stops : List Stop)
-    (are_hot : AreHotPoints edges hot) (pairs : ArePairsBetween (λ (edge : Edge) (point : HotPoint). PassesInside edge point.x point.y) edges hot passes) (zip : AllZip (IsStopAt edges hot) passes stops) where
-  size : length stops ≡ length passes
-  size = AllZip-length (IsStopAt edges hot) passes stops zip
+-- a point is at an end of an edge where an edge that passes it passes that end
+at_end : (edge : Edge) (a b x y : ℤ) → x ≡ a → y ≡ b → PassesInside edge x y → PassesInside edge a b
+at_end edge a b x y same_x same_y passes = subst (λ (c : ℤ). PassesInside edge c b) same_x (subst (λ (c : ℤ). PassesInside edge x c) same_y passes)
 
-  -- each hot point that an edge passes has its stop
-  listed : (place : ℕ) (edge : Edge) (x y : ℤ) → slice_get edges place ≡ Some edge → IsHot edges x y → PassesInside edge x y → Contains stops (stop_of place edge x y)
-  listed place edge x y stands is_hot passed =
-      let (j, within, at) = (are_hot.exact x y).1 is_hot in
-      let second : slice_get hot j ≡ Some (hot_at x y) = slice_get-get_or hot j (hot_at x y) within ∙ ap Some at in
-      let (k, inside, there) = (pairs.exact place j).1 (record { one = edge; other = hot_at x y; first = stands; second = second; meet = passed }) in
-      let stop = get_or stops k (stop_of place edge x y) in
-      let is : IsStopAt edges hot (place, j) stop = subst (λ (pair : ℕ × ℕ). IsStopAt edges hot pair stop) there (AllZip-at (IsStopAt edges hot) passes stops (place, j) (stop_of place edge x y) k zip inside) in
-      let edge_is : is.edge ≡ edge = same_Some _ _ (sym is.first ∙ stands) in
-      let point_is : is.point ≡ hot_at x y = same_Some _ _ (sym is.second ∙ second) in
-      let same : stop ≡ stop_of place edge x y =
-      is.is ∙ ap (λ (e : Edge). stop_of place e is.point.x is.point.y) edge_is ∙ ap (λ (p : HotPoint). stop_of place edge p.x p.y) point_is in
-      (k, omega (arith, size, inside), same)
+module _ (edge other : Edge) (x y : ℤ) (passes : PassesInside edge x y) where
+  passed_end : IsEnd other x y → PassesEnd edge other
+  passed_end (inl (same_x, same_y)) = inl (at_end edge other.x0 other.y0 x y same_x same_y passes)
+  passed_end (inr (same_x, same_y)) = inr (at_end edge other.x1 other.y1 x y same_x same_y passes)
 
-  -- each stop is one
-  all_stops : All (IsStop edges) stops
-  all_stops k d within =
-      let inside : k < length passes = omega (arith, size, within) in
-      let pair = get_or passes k (0, 0) in
-      let stop = get_or stops k d in
-      let is = AllZip-at (IsStopAt edges hot) passes stops (0, 0) d k zip inside in
-      let between = (pairs.exact pair.0 pair.1).0 (Contains-get_or passes k (0, 0) inside) in
-      let edge_is : between.one ≡ is.edge = same_Some _ _ (sym between.first ∙ is.first) in
-      let point_is : between.other ≡ is.point = same_Some _ _ (sym between.second ∙ is.second) in
-      let passed : PassesInside is.edge is.point.x is.point.y =
-      subst (λ (e : Edge). PassesInside e is.point.x is.point.y) edge_is (subst (λ (p : HotPoint). PassesInside between.one p.x p.y) point_is between.meet) in
-      let within_hot = slice_get_within hot pair.1 is.point is.second in
-      let is_hot : IsHot edges is.point.x is.point.y = (are_hot.exact is.point.x is.point.y).0 (pair.1, within_hot, same_Some _ _ (sym (slice_get-get_or hot pair.1 is.point within_hot) ∙ is.second)) in
-      let place_is : stop.place ≡ pair.0 = ap (λ (s : Stop). s.place) is.is in
-      let point : point_of is.edge stop ≡ record { x = is.point.x; y = is.point.y } = ap (point_of is.edge) is.is ∙ point-of_stop pair.0 is.edge is.point.x is.point.y in
-      record {
-        edge = is.edge;
-        stands = ap (slice_get edges) place_is ∙ is.first;
-        hot = subst (λ (p : Point). IsHot edges p.x p.y) (sym point) is_hot;
-        passes = subst (λ (p : Point). PassesInside is.edge p.x p.y) (sym point) passed;
-      }
+  stop_at_end : (place : ℕ) → IsEnd other x y → IsStopAtEnd other place edge (stop_of place edge x y)
+  stop_at_end place (inl (same_x, same_y)) = inl (at_end edge other.x0 other.y0 x y same_x same_y passes, ap₂ (stop_of place edge) same_x same_y)
+  stop_at_end place (inr (same_x, same_y)) = inr (at_end edge other.x1 other.y1 x y same_x same_y passes, ap₂ (stop_of place edge) same_x same_y)
 
-  -- one hot point stands at one place
-  one_place : (i j : ℕ) (point : HotPoint) → slice_get hot i ≡ Some point → slice_get hot j ≡ Some point → i ≡ j
-  one_place i j point first second =
-      let inside = slice_get_within hot i point first in
-      let within = slice_get_within hot j point second in
-      let at : get_or hot i point ≡ point = same_Some _ _ (sym (slice_get-get_or hot i point inside) ∙ first) in
-      let there : get_or hot j point ≡ point = same_Some _ _ (sym (slice_get-get_or hot j point within) ∙ second) in
-      elim (cases_lt i j) [
-        | inl below ↦ absurd (are_hot.once i j point below within (at ∙ sym there))
-        | inr upto ↦ elim (cases_eq i j) [
-          | inl same ↦ same
-          | inr differs ↦ absurd (are_hot.once j i point (omega (arith, upto, differs)) inside (there ∙ sym at))
+-- a stop at a hot point
+IsStop-along : (edges : List Edge) (place : ℕ) (edge : Edge) (x y : ℤ) (stop : Stop) → slice_get edges place ≡ Some edge → IsHot edges x y → IsStopAlong place edge x y stop → IsStop edges stop
+IsStop-along edges place edge x y stop stands hot (passes, is) =
+    let same_place : stop.place ≡ place = ap (λ (s : Stop). s.place) is in
+    let point : point_of edge stop ≡ record { x = x; y = y } = ap (point_of edge) is ∙ point-of_stop place edge x y in
+    record {
+      edge = edge;
+      stands = ap (slice_get edges) same_place ∙ stands;
+      hot = subst (λ (p : Point). IsHot edges p.x p.y) (sym point) hot;
+      passes = subst (λ (p : Point). PassesInside edge p.x p.y) (sym point) passes;
+    }
+
+-- one at an end of another edge
+IsStop-at_end : (edges : List Edge) (other : Edge) (place : ℕ) (edge : Edge) (stop : Stop) → Contains edges other → slice_get edges place ≡ Some edge → IsStopAtEnd other place edge stop → IsStop edges stop
+IsStop-at_end edges other place edge stop held stands (inl along) = IsStop-along edges place edge other.x0 other.y0 stop stands (inl (other, held, inl (refl, refl))) along
+IsStop-at_end edges other place edge stop held stands (inr along) = IsStop-along edges place edge other.x1 other.y1 stop stands (inl (other, held, inr (refl, refl))) along
+
+module _ (edges : List Edge) (pairs : List (ℕ × ℕ)) (close : ArePairs ComeClose edges pairs) where
+  -- where an edge passes an end of another one the two are at a pair that comes close
+  end_told : (place i : ℕ) (edge other : Edge) (x y : ℤ) → slice_get edges place ≡ Some edge → slice_get edges i ≡ Some other → IsEnd other x y → PassesInside edge x y
+      → IsOfSome (IsStopOfPair edges) pairs (stop_of place edge x y)
+  end_told place i edge other x y stands second end passes =
+      let near : PassesEnd edge other = passed_end edge other x y passes end in
+      let stop : IsStopAtEnd other place edge (stop_of place edge x y) = stop_at_end edge other x y passes place end in
+      elim (cases_lt place i) [
+        | inl below ↦ (
+          (place, i),
+          (close.exact place i).1 (record { one = edge; other = other; rising = below; first = stands; second = second; meet = inr (inl near) }),
+          record { one = edge; other = other; first = stands; second = second; at = inl stop },
+        )
+        | inr upto ↦ elim (cases_eq place i) [
+          | inl same ↦
+              let edge_is : edge ≡ other = same_Some _ _ (sym stands ∙ ap (slice_get edges) same ∙ second) in
+              absurd (passes.1 (subst (λ (e : Edge). IsEnd e x y) (sym edge_is) end))
+          | inr differs ↦ (
+            (i, place),
+            (close.exact i place).1 (record { one = other; other = edge; rising = omega (arith, upto, differs); first = second; second = stands; meet = inr (inr near) }),
+            record { one = other; other = edge; first = second; second = stands; at = inr stop },
+          )
         ]
       ]
 
-  -- stops of different pairs are different
-  apart : (pair later : ℕ × ℕ) (one other : Stop) → IsStopAt edges hot pair one → IsStopAt edges hot later other → pair ≢ later → one ≢ other
-  apart pair later one other is other_is differ same =
-      let stop : stop_of pair.0 is.edge is.point.x is.point.y ≡ stop_of later.0 other_is.edge other_is.point.x other_is.point.y = sym is.is ∙ same ∙ other_is.is in
-      let place : pair.0 ≡ later.0 = ap (λ (s : Stop). s.place) stop in
-      let edge : is.edge ≡ other_is.edge = same_Some _ _ (sym is.first ∙ ap (slice_get edges) place ∙ other_is.first) in
-      let along : stop_of later.0 other_is.edge is.point.x is.point.y ≡ stop_of later.0 other_is.edge other_is.point.x other_is.point.y =
-      sym (ap (λ (n : ℕ). stop_of n other_is.edge is.point.x is.point.y) place) ∙ sym (ap (λ (e : Edge). stop_of pair.0 e is.point.x is.point.y) edge) ∙ stop in
-      let x = turned-same other_is.edge.x0 other_is.edge.x1 is.point.x other_is.point.x (ap (λ (s : Stop). s.along_x) along) in
-      let y = turned-same other_is.edge.y0 other_is.edge.y1 is.point.y other_is.point.y (ap (λ (s : Stop). s.along_y) along) in
-      let point : is.point ≡ other_is.point = ap₂ hot_at x y in
-      let second = one_place pair.1 later.1 other_is.point (is.second ∙ ap Some point) other_is.second in
-      differ (ap₂ (λ (m n : ℕ). (m, n)) place second)
+  end-stop : (stop : Stop) → IsOfSome (IsStopOfPair edges) pairs stop → IsStop edges stop
+  end-stop stop ((i, j), held, is) =
+      elim is.at [
+        | inl at ↦ IsStop-at_end edges is.other i is.one stop (held-at edges j is.other is.second) is.first at
+        | inr at ↦ IsStop-at_end edges is.one j is.other stop (held-at edges i is.one is.first) is.second at
+      ]
 
-  -- so, once they are sorted, they are the edges' stops in order
-  pub AreStops-sorted : (sorted : List Stop) → IsPermutation stops sorted → IsSorted stop_order.cmp sorted → AreStops edges sorted
-  AreStops-sorted sorted moved rising = record {
-    each = λ place edge x y stands is_hot passed. Contains-permutation stops sorted (stop_of place edge x y) moved (listed place edge x y stands is_hot passed);
-    of = All-permutation (IsStop edges) stops sorted moved all_stops;
-    in_order = stops-in_order stops sorted (AllZip-differ (IsStopAt edges hot) passes stops zip apart (λ d. (0, 0)) pairs.once) moved rising;
-  }
+  module _ (points : List HotPoint) (crossings : AreCrossings edges pairs points) (stops : List Stop)
+      (told : (stop : Stop) → Contains stops stop ↔ (IsOfSome (IsStopOfPair edges) pairs stop ⊎ IsStopAmong edges points stop)) where
+    -- each hot point that an edge passes has its stop
+    listed : (place : ℕ) (edge : Edge) (x y : ℤ) → slice_get edges place ≡ Some edge → IsHot edges x y → PassesInside edge x y → Contains stops (stop_of place edge x y)
+    listed place edge x y stands hot passes =
+        (told (stop_of place edge x y)).1
+        (⊎_elim
+        (λ (other, held, end). let (i, second) = place-of edges other held in inl (end_told place i edge other x y stands second end passes))
+        (λ crossing. inr (record {
+          place = place;
+          edge = edge;
+          point = hot_at x y;
+          stands = stands;
+          held = (crossings (hot_at x y)).1 crossing;
+          along = (passes, refl);
+        }))
+        (hot_cases edges pairs close x y hot))
+
+    -- each stop is one
+    all_stops : (stop : Stop) → Contains stops stop → IsStop edges stop
+    all_stops stop held =
+        ⊎_elim (end-stop stop)
+        (λ among. IsStop-along edges among.place among.edge among.point.x among.point.y stop among.stands
+        (crossing-hot edges pairs close among.point ((crossings among.point).0 among.held)) among.along)
+        ((told stop).0 held)
+
+    -- so, once they are sorted and each is left once, they are the edges' stops in order
+    pub AreStops-sorted : (same : Stop → Stop → Bool) → ((a b : Stop) → same a b ≡ eq_by_cmp stop_order.cmp a b) → (sorted : List Stop) → IsPermutation stops sorted → IsSorted stop_order.cmp sorted
+        → AreStops edges (dedup same sorted)
+    AreStops-sorted same ties sorted moved rising = record {
+      each = λ place edge x y stands hot passes. (kept (stop_of place edge x y)).1 (listed place edge x y stands hot passes);
+      of = λ k d within. all_stops (get_or (dedup same sorted) k d) ((kept (get_or (dedup same sorted) k d)).0 (Contains-get_or (dedup same sorted) k d within));
+      in_order = stops-in_order (dedup same sorted) (IsStrictlySortedBy-dedup stop_total ties sorted rising);
+    }
+      where
+        kept : (stop : Stop) → Contains (dedup same sorted) stop ↔ Contains stops stop
+        kept = Contains-sorted stop_total stop-same ties stops sorted moved
+
+-- ---- what is gained
+
+-- the stop of an edge at a point that it passes
+pub gains-stop : (place : ℕ) (edge : Edge) (x y : ℤ) (before after : List Stop) → PassesInside edge x y → after ≡ before ++ stop_of place edge x y ∷ [] → GainsThese (IsStopAlong place edge x y) before after
+gains-stop place edge x y before after passes =
+    gains-only (IsStopAlong place edge x y) before after (stop_of place edge x y) (passes, refl) (λ stop along. along.1)
+
+-- the stops of the edges at a pair at ends of one another
+pub gains-of_pair : (edges : List Edge) (pair : ℕ × ℕ) (one other : Edge) (before now after : List Stop) → slice_get edges pair.0 ≡ Some one → slice_get edges pair.1 ≡ Some other
+    → GainsThese (IsStopAtEnd other pair.0 one) before now → GainsThese (IsStopAtEnd one pair.1 other) now after → GainsThese (IsStopOfPair edges pair) before after
+gains-of_pair edges pair one other before now after first second gains more =
+    gains-same (λ stop. IsStopAtEnd other pair.0 one stop ⊎ IsStopAtEnd one pair.1 other stop) (IsStopOfPair edges pair) before after
+    (λ stop at. record { one = one; other = other; first = first; second = second; at = at })
+    (λ stop is.
+    let one_is : is.one ≡ one = same_Some _ _ (sym is.first ∙ first) in
+    let other_is : is.other ≡ other = same_Some _ _ (sym is.second ∙ second) in
+    subst (λ (e : Edge). IsStopAtEnd other pair.0 e stop ⊎ IsStopAtEnd e pair.1 other stop) one_is
+    (subst (λ (e : Edge). IsStopAtEnd e pair.0 is.one stop ⊎ IsStopAtEnd is.one pair.1 e stop) other_is is.at))
+    (gains-join (IsStopAtEnd other pair.0 one) (IsStopAtEnd one pair.1 other) before now after gains more)
+
+-- the stop of a pair of an edge and a point
+pub gains-at : (edges : List Edge) (points : List HotPoint) (pair : ℕ × ℕ) (edge : Edge) (point : HotPoint) (before after : List Stop) → slice_get edges pair.0 ≡ Some edge → slice_get points pair.1 ≡ Some point
+    → after ≡ before ++ stop_of pair.0 edge point.x point.y ∷ [] → GainsThese (IsStopAt edges points pair) before after
+gains-at edges points pair edge point before after first second =
+    gains-only (IsStopAt edges points pair) before after (stop_of pair.0 edge point.x point.y)
+    (record { edge = edge; point = point; first = first; second = second; is = refl })
+    (λ stop is.
+    let edge_is : is.edge ≡ edge = same_Some _ _ (sym is.first ∙ first) in
+    let point_is : is.point ≡ point = same_Some _ _ (sym is.second ∙ second) in
+    is.is ∙ ap (λ (e : Edge). stop_of pair.0 e is.point.x is.point.y) edge_is ∙ ap (λ (p : HotPoint). stop_of pair.0 edge p.x p.y) point_is)
+
+-- ---- stops at points
+
+pub no_stop_among : (edges : List Edge) (stop : Stop) → ¬ (IsStopAmong edges [] stop)
+no_stop_among edges stop is = let (k, within, at) = is.held in absurd (omega (arith, within))
+
+-- the stops of the pairs of an edge and a point that it passes are the stops at these points
+pub gains-among : (edges : List Edge) (points : List HotPoint) (passes : List (ℕ × ℕ)) (before after : List Stop) → ArePairsBetween (λ (edge : Edge) (point : HotPoint). PassesInside edge point.x point.y) edges points passes
+    → GainsThese (IsOfSome (IsStopAt edges points) passes) before after → GainsThese (IsStopAmong edges points) before after
+gains-among edges points passes before after pairs = gains-same (IsOfSome (IsStopAt edges points) passes) (IsStopAmong edges points) before after to from
+  where
+    to : (stop : Stop) → IsOfSome (IsStopAt edges points) passes stop → IsStopAmong edges points stop
+    to stop ((i, j), held, is) =
+        let between = (pairs.exact i j).0 held in
+        let edge_is : between.one ≡ is.edge = same_Some _ _ (sym between.first ∙ is.first) in
+        let point_is : between.other ≡ is.point = same_Some _ _ (sym between.second ∙ is.second) in
+        let passed : PassesInside is.edge is.point.x is.point.y =
+        subst (λ (e : Edge). PassesInside e is.point.x is.point.y) edge_is (subst (λ (p : HotPoint). PassesInside between.one p.x p.y) point_is between.meet) in
+        record {
+          place = i;
+          edge = is.edge;
+          point = is.point;
+          stands = is.first;
+          held = held-at points j is.point is.second;
+          along = (passed, is.is);
+        }
+
+    from : (stop : Stop) → IsStopAmong edges points stop → IsOfSome (IsStopAt edges points) passes stop
+    from stop is =
+        let (j, second) = place-of points is.point is.held in (
+          (is.place, j),
+          (pairs.exact is.place j).1 (record { one = is.edge; other = is.point; first = is.stands; second = second; meet = is.along.0 }),
+          record { edge = is.edge; point = is.point; first = is.stands; second = second; is = is.along.1 },
+        )

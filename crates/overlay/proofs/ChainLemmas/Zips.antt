@@ -1,6 +1,6 @@
 -- Two lists of one length whose items stand in a relation place by place.
-use Rattle.std.proofs.Common.{◌≡◌, ◌≢◌, ℕ, zero, suc, ◌<◌, List, [], ◌∷◌, ◌++◌, length, get_or, refl, arith}
-use Rattle.std.specs.List.{AllPairs, AllZip}
+use Rattle.std.proofs.Common.{◌≡◌, ℕ, zero, suc, ◌<◌, List, [], ◌∷◌, ◌++◌, length, get_or, refl, arith}
+use Rattle.std.specs.List.{AllZip}
 
 pub AllZip-length : {A B : Type 0} (R : A → B → Type 0) (xs : List A) (ys : List B) → AllZip R xs ys → length ys ≡ length xs
 AllZip-length R [] [] zip = refl
@@ -21,14 +21,3 @@ AllZip-at R [] ys d e k zip within = absurd (omega (arith, within))
 AllZip-at R (x ∷ xs) [] d e k zip within = absurd zip
 AllZip-at R (x ∷ xs) (y ∷ ys) d e zero zip within = zip.0
 AllZip-at R (x ∷ xs) (y ∷ ys) d e (suc k) zip within = AllZip-at R xs ys d e k zip.1 (omega (arith, within))
-
--- what different items lead to is different, if it is so of each two of them
-pub AllZip-differ : {A B : Type 0} (R : A → B → Type 0) (xs : List A) (ys : List B) → AllZip R xs ys → ((x x' : A) (y y' : B) → R x y → R x' y' → x ≢ x' → y ≢ y')
-    → ((d : B) → A) → AllPairs (λ x later. x ≢ later) xs → AllPairs (λ y later. y ≢ later) ys
-AllZip-differ R xs ys zip apart first once i j d below within =
-    let size = AllZip-length R xs ys zip in
-    let inside : j < length xs = omega (arith, size, within) in
-    let before : i < length xs = omega (arith, inside, below) in
-    apart (get_or xs i (first d)) (get_or xs j (first d)) (get_or ys i d) (get_or ys j d)
-    (AllZip-at R xs ys (first d) d i zip before) (AllZip-at R xs ys (first d) d j zip inside)
-    (once i j (first d) below inside)

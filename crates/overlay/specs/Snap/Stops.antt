@@ -4,9 +4,9 @@ use Rattle.std.specs.Int.Signed.{lt_z}
 use Rattle.plane.specs.declared.edge.Edge.{Edge}
 use Rattle.plane.specs.declared.point.Point.{Point}
 use Rattle.overlay.specs.Snap.Chains.{IsHot}
-use Rattle.overlay.specs.Snap.Hot.{PassesInside}
+use Rattle.overlay.specs.Snap.Close.{PassesInside}
 use Rattle.overlay.specs.Snap.Windings.{start_of, end_of}
-use Rattle.overlay.specs.declared.snap.hot.HotPoint.{HotPoint}
+use Rattle.overlay.specs.declared.snap.crossings.HotPoint.{HotPoint}
 use Rattle.overlay.specs.declared.snap.stops.Stop.{Stop}
 
 -- The number, or where the way from the one number to the other goes down its reflection: so they rise along the way.
@@ -28,13 +28,38 @@ point_of edge stop = record {
   y = turned edge.y0 edge.y1 stop.along_y;
 }
 
--- The stop of the edge at the first place of the pair, at the hot point at its second place.
-pub record IsStopAt (edges : List Edge) (hot : List HotPoint) (pair : ℕ × ℕ) (stop : Stop) : Type 0 where
+-- The stop is that of the edge, which is at this place, at the whole point (x, y), which it passes between its ends.
+abbrev pub IsStopAlong : ℕ → Edge → ℤ → ℤ → Stop → Type 0
+IsStopAlong place edge x y stop = PassesInside edge x y × (stop ≡ stop_of place edge x y)
+
+-- It is one of the edge, which is at this place, at an end of the other one.
+abbrev pub IsStopAtEnd : Edge → ℕ → Edge → Stop → Type 0
+IsStopAtEnd other place edge stop = IsStopAlong place edge other.x0 other.y0 stop ⊎ IsStopAlong place edge other.x1 other.y1 stop
+
+-- It is one of the edges at the pair of places, at an end of the other one.
+pub record IsStopOfPair (edges : List Edge) (pair : ℕ × ℕ) (stop : Stop) : Type 0 where
+  pub one : Edge
+  pub other : Edge
+  pub first : slice_get edges pair.0 ≡ Some one
+  pub second : slice_get edges pair.1 ≡ Some other
+  pub at : IsStopAtEnd other pair.0 one stop ⊎ IsStopAtEnd one pair.1 other stop
+
+-- It is that of the edge at the first place of the pair, at the point at its second place.
+pub record IsStopAt (edges : List Edge) (points : List HotPoint) (pair : ℕ × ℕ) (stop : Stop) : Type 0 where
   pub edge : Edge
   pub point : HotPoint
   pub first : slice_get edges pair.0 ≡ Some edge
-  pub second : slice_get hot pair.1 ≡ Some point
+  pub second : slice_get points pair.1 ≡ Some point
   pub is : stop ≡ stop_of pair.0 edge point.x point.y
+
+-- It is one of some edge, at one of the points.
+pub record IsStopAmong (edges : List Edge) (points : List HotPoint) (stop : Stop) : Type 0 where
+  pub place : ℕ
+  pub edge : Edge
+  pub point : HotPoint
+  pub stands : slice_get edges place ≡ Some edge
+  pub held : Contains points point
+  pub along : IsStopAlong place edge point.x point.y stop
 
 -- The one stop comes before the other: at an edge before, or before it along the same edge.
 abbrev pub IsBefore : Stop → Stop → Type 0

@@ -9,7 +9,6 @@ ghost use Rattle.overlay.specs.Snap.Chains.{AreChains};
 ghost use Rattle.overlay.specs.Snap.Offsets.{offsets, Extends};
 
 use chains::append_chains;
-use hot::hot_points;
 use i_tree::Refusal;
 use plane::edge::Edge;
 use plane::point::Point;
@@ -17,8 +16,9 @@ use std::alloc::Allocator;
 use stops::stops_in_order;
 
 mod chains;
+mod close;
 mod crossing;
-mod hot;
+mod crossings;
 mod passing;
 pub mod pieces;
 mod stops;
@@ -66,8 +66,7 @@ fn append_all<A: Allocator + Copy>(
     ensures refused { IfErr result (λ cause. cause ≡ OutOfMemory) }
 {
     let alloc = *points.allocator();
-    let hot = hot_points(alloc, edges)?;
-    let stops = stops_in_order(alloc, edges, &hot)?;
+    let stops = stops_in_order(alloc, edges)?;
     append_chains(edges, &stops, points, ends)?;
     Ok(())
 }

@@ -1,11 +1,26 @@
 //! Whether an edge passes a whole point.
 
 ghost use Rattle.std.specs.Prelude.{◌≡◌, ◌*◌, pos, ◌-ℤ◌, ◌≤ℤ◌, MatchBool};
-ghost use Rattle.overlay.specs.Snap.Chains.{Passes};
+ghost use Rattle.overlay.specs.Snap.Chains.{IsEnd, Passes};
+ghost use Rattle.overlay.specs.Snap.Close.{PassesInside};
 ghost use Rattle.overlay.specs.Snap.Tests.{IsPassed};
 
 use crate::edges::reverse;
 use plane::edge::Edge;
+
+/// Whether the edge passes the whole point (x, y) between its ends.
+pub fn passes_inside(edge: Edge, x: i32, y: i32) -> bool
+    ensures { MatchBool result (PassesInside edge x y) (¬ (PassesInside edge x y)) }
+{
+    !is_end(edge, x, y) && passes(edge, x, y)
+}
+
+/// Whether the whole point (x, y) is an end of the edge.
+pub fn is_end(edge: Edge, x: i32, y: i32) -> bool
+    ensures { MatchBool result (IsEnd edge x y) (¬ (IsEnd edge x y)) }
+{
+    (edge.x0 == x && edge.y0 == y) || (edge.x1 == x && edge.y1 == y)
+}
 
 /// Whether the edge passes the whole point (x, y): some point of the edge rounds to it, each coordinate to the nearest whole
 /// number, a half upwards.

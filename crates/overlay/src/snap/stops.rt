@@ -1,12 +1,13 @@
 //! The stops of edges: which hot points each passes between its ends, in the order along it.
 
-ghost use Rattle.std.specs.Prelude.{◌≡◌, ◌<◌, All, length, IfErr, IfOk};
-ghost use Rattle.std.specs.List.{AllZip};
+ghost use Rattle.std.specs.Prelude.{◌≡◌, ◌<◌, All, length, IfErr, IfOk, OnOk};
 ghost use Rattle.i_tree.specs.declared.Refusal.TheVariants.{OutOfMemory};
-ghost use Rattle.overlay.specs.Snap.Hot.{AreHotPoints};
-ghost use Rattle.overlay.specs.Snap.Stops.{AreStops, IsStopAt, point_of, stop_of, turned};
+ghost use Rattle.overlay.specs.Snap.Gains.{GainsThese, IsOfSome};
+ghost use Rattle.overlay.specs.Snap.Stops.{AreStops, IsStopAlong, IsStopAmong, IsStopAt, IsStopAtEnd, IsStopOfPair, point_of, stop_of, turned};
 
-use super::hot::HotPoint;
+use super::close::close_pairs;
+use super::crossings::{HotPoint, crossings};
+use super::passing::passes_inside;
 use i_tree::Refusal;
 use plane::edge::Edge;
 use plane::pairs::pairs_between;
@@ -22,47 +23,117 @@ pub struct Stop {
 }
 
 /// The stops of all edges between their ends, in order: edge by edge, and those of each in the order along it.
+///
+/// What an edge passes lies in its box. So the pairs of edges that come close tell the stops at ends of edges, and which
+/// edges cross; where some do, the crossings are sought among all edges.
 pub fn stops_in_order<A: Allocator + Copy>(
     alloc: A,
     edges: &[Edge],
-    hot: &[HotPoint],
 ) -> Result<Vec<Stop, A>, Refusal>
-    requires { AreHotPoints edges.now hot.now }
     ensures ok { IfOk result (λ stops. AreStops edges.now stops.items) }
     ensures refused { IfErr result (λ cause. cause ≡ OutOfMemory) }
 {
-    let mut passes = Vec::new(alloc);
-    pairs_between(edges, hot, &mut passes)?;
-    let mut stops = stops_at(alloc, edges, hot, &passes)?;
+    let pairs = close_pairs(alloc, edges)?;
+    let mut stops = Vec::new(alloc);
+    push_stops_at_ends(edges, &pairs, &mut stops)?;
+    let points = crossings(alloc, edges, &pairs)?;
+    push_stops_at_points(edges, &points, &mut stops)?;
     stops.sort_unstable();
+    stops.dedup();
     Ok(stops)
 }
 
-// The stop of each pair of an edge and a hot point.
-fn stops_at<A: Allocator>(
-    alloc: A,
+// Appends the stops of the edges at each of these pairs at ends of one another.
+fn push_stops_at_ends<A: Allocator>(
     edges: &[Edge],
-    hot: &[HotPoint],
-    passes: &[(usize, usize)],
-) -> Result<Vec<Stop, A>, AllocError>
-    requires { All (λ pair. (pair.0 < length edges.now) × (pair.1 < length hot.now)) passes.now }
-    ensures { IfOk result (λ stops. AllZip (IsStopAt edges.now hot.now) passes.now stops.items) }
+    pairs: &[(usize, usize)],
+    stops: &mut Vec<Stop, A>,
+) -> Result<(), AllocError>
+    requires { All (λ pair. (pair.0 < length edges.now) × (pair.1 < length edges.now)) pairs.now }
+    ensures { OnOk result (GainsThese (IsOfSome (IsStopOfPair edges.now) pairs.now) stops.old.items stops.new.items) }
 {
-    let mut stops = Vec::with_capacity(alloc, passes.len())?;
-    for pair in passes {
-        stops.push(stop_of(pair.0, edges[pair.0], hot[pair.1]))?;
+    for pair in pairs {
+        let one = edges[pair.0];
+        let other = edges[pair.1];
+        push_ends_of(other, pair.0, one, stops)?;
+        push_ends_of(one, pair.1, other, stops)?;
     }
-    Ok(stops)
+    Ok(())
 }
 
-// The stop of the edge at this place at the hot point.
-fn stop_of(place: usize, edge: Edge, point: HotPoint) -> Stop
-    ensures { result ≡ stop_of place edge point.x point.y }
+// Appends the stops of the edge, which is at this place, at ends of the other one.
+fn push_ends_of<A: Allocator>(
+    other: Edge,
+    place: usize,
+    edge: Edge,
+    stops: &mut Vec<Stop, A>,
+) -> Result<(), AllocError>
+    ensures { OnOk result (GainsThese (IsStopAtEnd other place edge) stops.old.items stops.new.items) }
+{
+    push_if_inside(place, edge, other.x0, other.y0, stops)?;
+    push_if_inside(place, edge, other.x1, other.y1, stops)?;
+    Ok(())
+}
+
+// Appends the stop of the edge, which is at this place, at the whole point (x, y), if it passes that between its ends.
+fn push_if_inside<A: Allocator>(
+    place: usize,
+    edge: Edge,
+    x: i32,
+    y: i32,
+    stops: &mut Vec<Stop, A>,
+) -> Result<(), AllocError>
+    ensures { OnOk result (GainsThese (IsStopAlong place edge x y) stops.old.items stops.new.items) }
+{
+    if passes_inside(edge, x, y) {
+        stops.push(stop_of(place, edge, x, y))?;
+    }
+    Ok(())
+}
+
+// Appends the stops of all edges at these points.
+fn push_stops_at_points<A: Allocator + Copy>(
+    edges: &[Edge],
+    points: &[HotPoint],
+    stops: &mut Vec<Stop, A>,
+) -> Result<(), Refusal>
+    ensures ok { OnOk result (GainsThese (IsStopAmong edges.now points.now) stops.old.items stops.new.items) }
+    ensures refused { IfErr result (λ cause. cause ≡ OutOfMemory) }
+{
+    if points.is_empty() {
+        return Ok(());
+    }
+    let mut passes = Vec::new(*stops.allocator());
+    pairs_between(edges, points, &mut passes)?;
+    push_stops(edges, points, &passes, stops)?;
+    Ok(())
+}
+
+// Appends the stop of each pair of an edge and a point.
+fn push_stops<A: Allocator>(
+    edges: &[Edge],
+    points: &[HotPoint],
+    passes: &[(usize, usize)],
+    stops: &mut Vec<Stop, A>,
+) -> Result<(), AllocError>
+    requires { All (λ pair. (pair.0 < length edges.now) × (pair.1 < length points.now)) passes.now }
+    ensures { OnOk result (GainsThese (IsOfSome (IsStopAt edges.now points.now) passes.now) stops.old.items stops.new.items) }
+{
+    for pair in passes {
+        let point = points[pair.1];
+        stops.push(stop_of(pair.0, edges[pair.0], point.x, point.y))?;
+    }
+    Ok(())
+}
+
+// The stop of the edge, which is at this place, at the whole point (x, y).
+fn stop_of(place: usize, edge: Edge, x: i32, y: i32) -> Stop
+    ensures { result ≡ stop_of place edge x y }
 {
     Stop {
         place,
-        along_x: turned(edge.x0, edge.x1, point.x),
-        along_y: turned(edge.y0, edge.y1, point.y),
+        along_x: turned(edge.x0, edge.x1, x),
+        along_y: turned(edge.y0, edge.y1, y),
     }
 }
 

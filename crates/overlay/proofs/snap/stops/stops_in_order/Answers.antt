@@ -1,23 +1,29 @@
-use Rattle.std.proofs.Common.{◌≡◌, ◌++◌, ℕ, List, ap, ◌∙◌, subst, arith}
-use Rattle.std.specs.List.{AllZip}
-use Rattle.std.proofs.lemmas.Int.{ints, clamps}
-use Rattle.overlay.specs.Snap.Stops.{IsStopAt}
+use Rattle.std.proofs.Common.{◌⊎◌, ℕ, List, [], sym, subst}
+use Rattle.std.proofs.lemmas.List.Filters.{dedup_is}
+use Rattle.overlay.specs.Snap.Crossings.{AreCrossings}
+use Rattle.overlay.specs.Snap.Gains.{GainsThese, IsOfSome}
+use Rattle.overlay.specs.Snap.Stops.{AreStops, IsStopAmong, IsStopOfPair}
+use Rattle.overlay.specs.contracts.snap.stops.StopOrd.TheImpl.Laws.{matches_eq-law}
+use Rattle.overlay.specs.declared.snap.crossings.HotPoint.{HotPoint}
+use Rattle.overlay.specs.declared.snap.stops.Stop.{Stop}
+use Rattle.overlay.proofs.ChainLemmas.Gains.{gained-all, gains-join}
 use Rattle.overlay.proofs.ChainLemmas.Stops.{AreStops-sorted}
-use Rattle.overlay.proofs.SnapLemmas.Along.{Passes-in_box}
 use Rattle.overlay.proofs.snap.stops.stops_in_order.Goals as goal
-
-pub pairs_between-requires : goal.pairs_between-requires
-pairs_between-requires g c = record {
-  proper = λ edge. record { wide = omega (arith, ints, clamps); tall = omega (arith, ints, clamps) };
-  other_proper = λ point. record { wide = omega (arith, ints); tall = omega (arith, ints) };
-  near = λ edge point passed. Passes-in_box edge point.x point.y passed.0;
-}
 
 pub returns-clause-ok : goal.returns-clause-ok
 returns-clause-ok g c =
     let edges = c.args.edges.now in
-    let hot = c.args.hot.now in
-    let (pairs, is, are) = c.in_ok-pairs_between.ensures.ok in
-    let listed : c.pairs_between.new.out.items ≡ pairs = is ∙ ap (λ (list : List (ℕ × ℕ)). list ++ pairs) c.new-passes.ensures.items in
-    let zip = subst (λ (passes : List (ℕ × ℕ)). AllZip (IsStopAt edges hot) passes c.in_ok-stops.stops.items) (c.deref.ensures.value ∙ listed) c.in_ok-stops.ensures in
-    AreStops-sorted edges hot pairs c.in_ok-stops.stops.items c.requires are zip c.sort_unstable.new.self.items c.sort_unstable.ensures.permutation c.sort_unstable.ensures.sorted
+    let pairs = c.in_ok-pairs.pairs.items in
+    let points = c.in_ok-points.points.items in
+    let ended = c.push_stops_at_ends.new.stops.items in
+    let all = c.push_stops_at_points.new.stops.items in
+    let crossings = subst (λ (among : List (ℕ × ℕ)). AreCrossings edges among points) c.deref-2.ensures.value c.in_ok-points.ensures in
+    let at_ends =
+    subst (λ (before : List Stop). GainsThese (IsOfSome (IsStopOfPair edges) pairs) before ended) c.new-stops.ensures.items
+    (subst (λ (among : List (ℕ × ℕ)). GainsThese (IsOfSome (IsStopOfPair edges) among) c.new-stops.result.items ended) c.deref.ensures.value c.in_ok-push_stops_at_ends.ensures) in
+    let at_points = subst (λ (among : List HotPoint). GainsThese (IsStopAmong edges among) ended all) c.deref-3.ensures.value c.in_ok-push_stops_at_points.ensures.ok in
+    let told = gains-join (IsOfSome (IsStopOfPair edges) pairs) (IsStopAmong edges points) [] ended all at_ends at_points in
+    subst (AreStops edges) (sym (dedup_is _ _ _ c.dedup.ensures.filtered))
+    (AreStops-sorted edges pairs c.in_ok-pairs.ensures.ok points crossings all
+    (gained-all (λ stop. IsOfSome (IsStopOfPair edges) pairs stop ⊎ IsStopAmong edges points stop) all told)
+    _ matches_eq-law c.sort_unstable.new.self.items c.sort_unstable.ensures.permutation c.sort_unstable.ensures.sorted)

@@ -1,0 +1,30 @@
+-- Edges that come close to each other. For private contracts.
+use Rattle.std.specs.Prelude.{◌⊎◌, ℤ}
+use Rattle.plane.specs.declared.edge.Edge.{Edge}
+use Rattle.plane.specs.Meet.Edges.{Meet}
+use Rattle.overlay.specs.Snap.Chains.{IsEnd, Passes}
+use Rattle.overlay.specs.declared.snap.close.CloseEdge.{CloseEdge}
+
+-- The edge passes the whole point (x, y) between its ends.
+abbrev pub PassesInside : Edge → ℤ → ℤ → Type 0
+PassesInside edge x y = Passes edge x y × (¬ (IsEnd edge x y))
+
+-- It passes an end of the other edge so.
+abbrev pub PassesEnd : Edge → Edge → Type 0
+PassesEnd edge other = PassesInside edge other.x0 other.y0 ⊎ PassesInside edge other.x1 other.y1
+
+-- Some point is an end of both edges.
+abbrev pub ShareEnd : Edge → Edge → Type 0
+ShareEnd one other = (x : ℤ) × (y : ℤ) × IsEnd one x y × IsEnd other x y
+
+-- The edges meet, and no point is an end of both.
+abbrev pub MeetApart : Edge → Edge → Type 0
+MeetApart one other = (¬ (ShareEnd one other)) × Meet one other
+
+-- They do, or one of them passes an end of the other between its own ends.
+abbrev pub ComeClose : Edge → Edge → Type 0
+ComeClose one other = MeetApart one other ⊎ (PassesEnd one other ⊎ PassesEnd other one)
+
+-- The edge as an item.
+abbrev pub item_of : Edge → CloseEdge
+item_of edge = record { edge = edge }

@@ -1,0 +1,96 @@
+//! Which edges come close to each other: pairs that may have stops on one another.
+
+ghost use Rattle.std.specs.Prelude.{◌≡◌, ◌⊎◌, ◌<◌, All, IfErr, IfOk, MatchBool, length, map};
+ghost use Rattle.i_tree.specs.declared.Refusal.TheVariants.{OutOfMemory};
+ghost use Rattle.plane.specs.Meet.Boxes.{bounds_of};
+ghost use Rattle.plane.specs.Pairs.Pairs.{ArePairs};
+ghost use Rattle.overlay.specs.Snap.Close.{ComeClose, MeetApart, PassesEnd, ShareEnd, item_of};
+
+use super::passing::{is_end, passes_inside};
+use i_tree::Refusal;
+use plane::edge::Edge;
+use plane::meet::meet;
+use plane::pairs::items::{Bounds, Boxed, Meets};
+use plane::pairs::pairs_among;
+use std::alloc::{AllocError, Allocator};
+
+/// An edge as an item that meets those that come close to it. Of edges by themselves the sweep asks which share a point.
+#[derive(Clone, Copy)]
+pub struct CloseEdge {
+    pub edge: Edge,
+}
+
+impl Boxed for CloseEdge {
+    ghost bounds = { λ it. bounds_of it.edge };
+
+    fn bounds(self) -> Bounds {
+        self.edge.bounds()
+    }
+}
+
+impl Meets<CloseEdge> for CloseEdge {
+    ghost Meeting = { λ it other. ComeClose it.edge other.edge };
+
+    fn meets(self, other: CloseEdge) -> bool {
+        come_close(self.edge, other.edge)
+    }
+}
+
+/// The pairs of places `(i, j)` of edges that come close, i below j, each once.
+pub fn close_pairs<A: Allocator + Copy>(
+    alloc: A,
+    edges: &[Edge],
+) -> Result<Vec<(usize, usize), A>, Refusal>
+    ensures ok { IfOk result (λ pairs. ArePairs ComeClose edges.now pairs.items) }
+    ensures within { IfOk result (λ pairs. All (λ pair. (pair.0 < length edges.now) × (pair.1 < length edges.now)) pairs.items) }
+    ensures refused { IfErr result (λ cause. cause ≡ OutOfMemory) }
+{
+    let items = items_of(alloc, edges)?;
+    let mut pairs = Vec::new(alloc);
+    pairs_among(&items, &mut pairs)?;
+    Ok(pairs)
+}
+
+fn items_of<A: Allocator>(alloc: A, edges: &[Edge]) -> Result<Vec<CloseEdge, A>, AllocError>
+    ensures { IfOk result (λ items. items.items ≡ map item_of edges.now) }
+{
+    edges
+        .iter()
+        .map(|edge| CloseEdge { edge: *edge })
+        .collect(alloc)
+}
+
+// Whether the edges come close. Edges that follow each other share an end, which is no stop of either.
+fn come_close(one: Edge, other: Edge) -> bool
+    ensures { MatchBool result (ComeClose one other) (¬ (ComeClose one other)) }
+{
+    meet_apart(one, other) || one_passes_end(one, other)
+}
+
+// Whether the edges meet, and share no end.
+fn meet_apart(one: Edge, other: Edge) -> bool
+    ensures { MatchBool result (MeetApart one other) (¬ (MeetApart one other)) }
+{
+    !share_end(one, other) && meet(one, other)
+}
+
+// Whether some point is an end of both edges.
+fn share_end(one: Edge, other: Edge) -> bool
+    ensures { MatchBool result (ShareEnd one other) (¬ (ShareEnd one other)) }
+{
+    is_end(one, other.x0, other.y0) || is_end(one, other.x1, other.y1)
+}
+
+// Whether one of the edges passes an end of the other between its own ends.
+fn one_passes_end(one: Edge, other: Edge) -> bool
+    ensures { let passes = PassesEnd one other ⊎ PassesEnd other one in MatchBool result passes (¬ passes) }
+{
+    passes_end(one, other) || passes_end(other, one)
+}
+
+// Whether the edge passes an end of the other one between its own ends.
+fn passes_end(edge: Edge, other: Edge) -> bool
+    ensures { MatchBool result (PassesEnd edge other) (¬ (PassesEnd edge other)) }
+{
+    passes_inside(edge, other.x0, other.y0) || passes_inside(edge, other.x1, other.y1)
+}
