@@ -8,6 +8,7 @@ pub mod First
 pub mod Order
 pub mod Pairs
 pub mod Parts
+pub mod Points
 pub mod Roles
 pub mod Served
 pub mod Serving

@@ -3,6 +3,7 @@ pub mod Bounds
 pub mod OfTwo
 pub mod Pairs
 pub mod Parts
+pub mod Points
 pub mod Roles
 pub mod Strips
 pub mod Sweep

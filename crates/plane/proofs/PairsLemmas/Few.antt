@@ -1,5 +1,5 @@
 -- Few strips are reached: by an item, as many as its height and the widths of strips say, and so by all.
-use Rattle.std.proofs.Common.{inl, inr, ℕ, ◌+◌, ◌*◌, ◌/◌, ◌^◌, ◌<◌, ◌≤◌, ℤ, ◌≤ℤ◌, List, [], ◌∷◌, length, sym, subst, arith}
+use Rattle.std.proofs.Common.{inl, inr, ℕ, ◌+◌, ◌-◌, ◌*◌, ◌/◌, ◌^◌, ◌<◌, ◌≤◌, ℤ, ◌≤ℤ◌, List, [], ◌∷◌, length, sym, subst, arith}
 use Rattle.std.specs.List.{All, sum_by}
 use Rattle.std.proofs.lemmas.Int.{ints}
 use Rattle.std.proofs.lemmas.List.Elements.{All-weaker}
@@ -7,8 +7,8 @@ use Rattle.std.proofs.lemmas.List.Sums.{sum_by-cons, sum_by-le}
 use Rattle.std.proofs.lemmas.Nat.{pow_pos}
 use Rattle.std.proofs.Math.Nat.{div-lt_iff_lt-mul, le-div_iff_mul-le, lt-div-mul-add}
 use Rattle.i_tree.specs.Seg.Buckets.{distance}
-use Rattle.plane.specs.Pairs.Bounds.{IsBox}
-use Rattle.plane.specs.Pairs.Strips.{width, reached_by, reached, ReachFew, IsWideEnough}
+use Rattle.plane.specs.Pairs.Bounds.{IsBox, IsPoint}
+use Rattle.plane.specs.Pairs.Strips.{strip_at, width, reached_by, reached, ReachFew, IsWideEnough}
 use Rattle.plane.specs.declared.pairs.items.Bounds.{Bounds}
 use Rattle.plane.specs.declared.pairs.strips.Strips.{Strips}
 use Rattle.plane.proofs.PairsLemmas.Told.{strip_at-mono}
@@ -82,3 +82,11 @@ module _ {X : Type 0} (bounds : X → Bounds) (strips : Strips) where
       omega (arith, reached-span items top proper between (omega (arith, narrow)))
   ReachFew-wide items top proper between fits (inr (inl one)) = omega (arith, reached-span items top proper between (omega (arith, one)))
   ReachFew-wide items top proper between fits (inr (inr some)) = omega (arith, reached-heights items, some)
+
+-- points reach one strip each
+pub ReachFew-points : {X : Type 0} (bounds : X → Bounds) (strips : Strips) (items : List X) → All (λ item. IsPoint (bounds item)) items → ReachFew bounds strips items
+ReachFew-points bounds strips items alone =
+    let one = sum_by-le (λ item. reached_by strips (bounds item)) 1 items
+    (All-weaker (λ item. IsPoint (bounds item)) (λ item. reached_by strips (bounds item) ≤ 1)
+    (λ item is. subst (λ (high : ℤ). strip_at strips high + 1 - strip_at strips (bounds item).low ≤ 1) is.level (omega arith)) items alone) in
+    omega (arith, one)

@@ -11,6 +11,11 @@ pub record IsBox (bounds : Bounds) : Type 0 where
 abbrev pub IsUpright : Bounds → Type 0
 IsUpright bounds = bounds.left ≡ bounds.right
 
+-- The box is a single point.
+pub record IsPoint (bounds : Bounds) : Type 0 where
+  pub upright : bounds.left ≡ bounds.right
+  pub level : bounds.low ≡ bounds.high
+
 -- Two boxes, whose sides are of them, share a point.
 pub record BoundsMeet (one other : Bounds) : Type 0 where
   pub left : one.left ≤ℤ other.right

@@ -1,0 +1,41 @@
+-- What is told of items and points, row by row. For private contracts.
+use Rattle.std.specs.Prelude.{◌≡◌, ◌≢◌, ◌↔◌, ◌⊎◌, ℕ, ◌<◌, ◌≤◌, ℤ, ◌<ℤ◌, ◌≤ℤ◌, Some, List, ◌++◌, AllPairs, Contains, slice_get}
+use Rattle.plane.specs.declared.pairs.parts.Part.{Part}
+
+-- these are the pairs of places of which this holds, each once
+pub record AreAll (IsPair : ℕ → ℕ → Type 0) (pairs : List (ℕ × ℕ)) : Type 0 where
+  pub once : AllPairs (λ pair later. pair ≢ later) pairs
+  pub exact : (i j : ℕ) → Contains pairs (i, j) ↔ IsPair i j
+
+-- the list gains these pairs at its end
+abbrev pub Gains : (ℕ → ℕ → Type 0) → List (ℕ × ℕ) → List (ℕ × ℕ) → Type 0
+Gains IsPair before after = (pairs : List (ℕ × ℕ)) × (after ≡ before ++ pairs) × AreAll IsPair pairs
+
+-- what an item meets stands at this place among the points
+pub record MeetsAt {Y : Type 0} (Meeting : Y → Type 0) (points : List Y) (j : ℕ) : Type 0 where
+  pub point : Y
+  pub stands : slice_get points j ≡ Some point
+  pub meet : Meeting point
+
+-- and its part among all parts is one of those that are wanted, by where they stand
+pub record MeetsPart {Y : Type 0} (Meeting : Y → Type 0) (points : List Y) (parts : List Part) (Wanted : ℕ → Part → Type 0) (j : ℕ) : Type 0 where
+  pub met : MeetsAt Meeting points j
+  pub at : ℕ
+  pub part : Part
+  pub listed : slice_get parts at ≡ Some part
+  pub is : part.place ≡ j
+  pub wanted : Wanted at part
+
+-- a part in a row from an x on, or in a row above
+pub record IsFrom (row : ℕ) (left : ℤ) (part : Part) : Type 0 where
+  pub above : row ≤ part.strip
+  pub behind : part.strip ≡ row → left ≤ℤ part.left
+
+-- a part in a row before an x, or in a row below
+abbrev pub IsShort : ℕ → ℤ → Part → Type 0
+IsShort row left part = (part.strip < row) ⊎ ((part.strip ≡ row) × (part.left <ℤ left))
+
+-- the parts from this place on are those in the row from the x on and in the rows above
+pub record IsFirstFrom (parts : List Part) (row : ℕ) (left : ℤ) (first : ℕ) : Type 0 where
+  pub short : (at : ℕ) (part : Part) → slice_get parts at ≡ Some part → at < first → IsShort row left part
+  pub from : (at : ℕ) (part : Part) → slice_get parts at ≡ Some part → first ≤ at → IsFrom row left part
