@@ -255,6 +255,15 @@ def many(count=MANY // 20):
     yield answered(name, "overlay union nonzero", lines(line_of("clip", ring)), told, Looked(in_order))
 
 
+def points(count=MANY // 20):
+    """Cases of edges from a point to itself, each two of which meet: they are to cost no more than others."""
+    mode, wanted = "overlay union nonzero", lines(f"polygon {SQUARE}")
+    rings = lines(*[f"subject 1 1\nclip {LEAST} 3"] * count, f"subject {SQUARE}")
+    yield answered(f"{2 * count} rings of one point", mode, rings, wanted, Looked(in_order))
+    still = line_of("subject", [corner for corner in ROUND[0] for _ in range(count)])
+    yield answered(f"a ring with each point {count} times in a row", mode, lines(still), wanted, Looked(in_order))
+
+
 class InOrder(refusals.Preloaded):
     """Runs whose replies are put in order."""
 
@@ -272,6 +281,6 @@ def memory():
 
 
 PARTS = (
-    *(worked, faulty, texts, odd_texts, many, memory, partial(streams.each_mode, [PLAIN])),
+    *(worked, faulty, texts, odd_texts, many, points, memory, partial(streams.each_mode, [PLAIN])),
     *(partial(by_chance, mode, seed) for seed, mode in enumerate(MODES)),
 )

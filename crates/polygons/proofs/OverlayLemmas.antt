@@ -1,23 +1,31 @@
 -- Polygons of the edges that bound a result are an overlay.
-use Rattle.std.proofs.Common.{◌≡◌, ◌≢◌, ◌⊎◌, [], ◌∷◌, inl, inr, true, false, List, ℤ, pos, map, refl, sym, subst, ◌∙◌, arith}
+use Rattle.std.proofs.Common.{◌≡◌, ◌≢◌, ◌⊎◌, ◌++◌, [], ◌∷◌, inl, inr, true, false, List, ℤ, pos, map, refl, ap₂, sym, subst, ◌∙◌, arith}
 use Rattle.std.specs.List.{All, Contains}
 use Rattle.std.specs.Ordering.{int_eq}
 use Rattle.std.proofs.lemmas.Bool.{cases_Bool}
 use Rattle.std.proofs.lemmas.Bool.Decides.{Decides-int_eq}
+use Rattle.std.proofs.lemmas.List.Elements.{All-append, All-filter}
+use Rattle.i_tree.proofs.RootLemmas.Joined.{All-front, All-behind}
 use Rattle.i_tree.proofs.RootLemmas.Lists.{Contains-here}
 use Rattle.plane.specs.declared.edge.Edge.{Edge}
 use Rattle.plane.specs.declared.point.Point.{Point}
+use Rattle.plane.specs.Meet.Edges.{RationalPoint}
 use Rattle.overlay.specs.declared.fill.rules.FillRule.{FillRule}
 use Rattle.overlay.specs.declared.fill.rules.Operation.{Operation}
-use Rattle.overlay.specs.Boundary.{BoundsResult}
+use Rattle.overlay.specs.Boundary.{BoundsResult, result_at}
 use Rattle.overlay.specs.Contours.Outlines.{AreOutlines, outline}
 use Rattle.overlay.specs.Contours.Rings.{AreContours}
 use Rattle.overlay.specs.Fill.Filled.{IsNextInColumn}
+use Rattle.overlay.specs.Fill.Rules.{count, is_result}
+use Rattle.overlay.specs.Snap.Near.{IsNear}
+use Rattle.overlay.specs.Snap.Windings.{IsAlongAxis}
 use Rattle.overlay.proofs.BoundaryLemmas.Bounding.{rings-bound}
 use Rattle.overlay.proofs.ContourLemmas.Callers.{outlines-wind}
 use Rattle.polygons.specs.Overlay.{IsOverlay}
 use Rattle.polygons.proofs.GroupingLemmas.Grouped.{map-joined}
 use Rattle.polygons.specs.Polygons.{BoundsSome, IsPolygon, rings_of}
+use Rattle.polygons.specs.Rings.{has_two_ends, real_edges}
+use Rattle.polygons.proofs.RingLemmas.{winding-real}
 
 -- where one is vertical, another isn't
 some-sloped : (edges : List Edge) → All (λ edge. edge.x1 ≡ edge.x0 → IsNextInColumn edges edge) edges → edges ≢ [] → (edge : Edge) × Contains edges edge × (edge.x0 ≢ edge.x1)
@@ -40,6 +48,26 @@ bounds-some rule operation subject clip edges bounds next = record {
   once = bounds.once;
   sloped = some-sloped edges next;
 }
+
+-- what bounds the result of real edges bounds that of all
+pub bounds-real : (rule : FillRule) (operation : Operation) (subject clip edges : List Edge) → BoundsResult rule operation (real_edges subject) (real_edges clip) edges → BoundsResult rule operation subject clip edges
+bounds-real rule operation subject clip edges bounds = record {
+  noded = bounds.noded;
+  distinct = bounds.distinct;
+  once = bounds.once;
+  clear = λ point far. bounds.clear point (both (λ edge. ¬ (IsNear edge point)) far) ∙ same point;
+  exact = λ point axial. bounds.exact point (both IsAlongAxis axial) ∙ same point;
+}
+  where
+    -- what holds of all holds of the real ones
+    both : (P : Edge → Type 0) → All P (subject ++ clip) → All P (real_edges subject ++ real_edges clip)
+    both P every =
+        All-append P (real_edges subject) (real_edges clip)
+        (All-filter has_two_ends P subject (All-front P subject clip every))
+        (All-filter has_two_ends P clip (All-behind P subject clip every))
+
+    same : (point : RationalPoint) → result_at rule operation (real_edges subject) (real_edges clip) point ≡ result_at rule operation subject clip point
+    same point = ap₂ (λ (a b : ℤ). count (is_result rule operation a b)) (winding-real subject point) (winding-real clip point)
 
 pub polygons-overlay : (rule : FillRule) (operation : Operation) (subject clip edges : List Edge) (whole : List (List (List Point))) → BoundsResult rule operation subject clip edges → All IsPolygon whole → AreContours edges (rings_of whole)
     → IsOverlay rule operation subject clip (map (λ polygon. map outline polygon) whole)

@@ -1,6 +1,7 @@
 -- Rings in one list of points, by where each stops.
-use Rattle.std.specs.Prelude.{ℕ, ◌≤◌, ⊤, List, [], ◌∷◌, length}
+use Rattle.std.specs.Prelude.{ℕ, ◌≤◌, ⊤, Bool, not, ◌||◌, List, [], ◌∷◌, filter, length}
 use Rattle.std.specs.List.{between, flat_map}
+use Rattle.std.specs.Ordering.{int_eq}
 use Rattle.plane.specs.declared.edge.Edge.{Edge}
 use Rattle.plane.specs.declared.point.Point.{Point}
 use Rattle.overlay.specs.Contours.Rings.{ring_edges}
@@ -23,3 +24,11 @@ HasEnds rings = AreEnds 0 rings.ends.now (length rings.points.now)
 -- The edges of all rings. A ring may end with its first point again: then that edge goes nowhere.
 abbrev pub edges_of : Rings → List Edge
 edges_of rings = flat_map ring_edges (rings_of rings.points.now 0 rings.ends.now)
+
+-- The edge goes from one point to another.
+abbrev pub has_two_ends : Edge → Bool
+has_two_ends edge = not (int_eq edge.x0 edge.x1) || not (int_eq edge.y0 edge.y1)
+
+-- Those of the edges that do. The others are points, and wind around nothing.
+abbrev pub real_edges : List Edge → List Edge
+real_edges edges = filter has_two_ends edges

@@ -9,7 +9,7 @@ ghost use Rattle.polygons.specs.Rings.{HasEnds, edges_of};
 
 use crate::fault::OverlayFault;
 use crate::grouping::append_polygons;
-use crate::rings::{Polygons, Rings, are_ends, edges_of};
+use crate::rings::{Polygons, Rings, are_ends, real_edges_of};
 use i_tree::Refusal;
 use i_tree::status::exp::StatusCollection;
 use i_tree::status::tree::StatusTree;
@@ -112,8 +112,8 @@ where
     ensures err { OnErr result (AreExtended out.old out.new) }
 {
     let alloc = *out.points.allocator();
-    let subject_edges = edges_of(alloc, subject)?;
-    let clip_edges = edges_of(alloc, clip)?;
+    let subject_edges = real_edges_of(alloc, subject)?;
+    let clip_edges = real_edges_of(alloc, clip)?;
     let edges = bounding_edges(alloc, &subject_edges, &clip_edges, rule, operation, status)?;
     append_polygons(status, &edges, out)
 }

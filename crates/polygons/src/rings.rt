@@ -3,7 +3,7 @@
 ghost use Rattle.std.specs.Prelude.{◌≡◌, ◌++◌, ◌≤◌, IfOk, MatchBool, OnOk, length};
 ghost use Rattle.overlay.specs.Contours.Rings.{ring_edges};
 ghost use Rattle.overlay.specs.Snap.Windings.{edge_between};
-ghost use Rattle.polygons.specs.Rings.{HasEnds, edges_of};
+ghost use Rattle.polygons.specs.Rings.{HasEnds, edges_of, real_edges};
 
 use plane::edge::Edge;
 use plane::point::Point;
@@ -74,6 +74,21 @@ pub fn edges_of<A: Allocator>(alloc: A, rings: Rings) -> Result<Vec<Edge, A>, Al
         append_edges(&rings.points[start..*end], &mut edges)?;
         start = *end;
     }
+    Ok(edges)
+}
+
+/// The edges of all rings but those from a point to itself, which wind around nothing.
+///
+/// Memory that is refused is the only error.
+pub(crate) fn real_edges_of<A: Allocator>(
+    alloc: A,
+    rings: Rings,
+) -> Result<Vec<Edge, A>, AllocError>
+    requires { HasEnds rings }
+    ensures { IfOk result (λ edges. edges.items ≡ real_edges (edges_of rings.entry)) }
+{
+    let mut edges = edges_of(alloc, rings)?;
+    edges.retain(|edge| edge.x0 != edge.x1 || edge.y0 != edge.y1);
     Ok(edges)
 }
 
