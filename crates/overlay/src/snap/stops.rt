@@ -10,7 +10,7 @@ use super::crossings::{HotPoint, crossings};
 use super::passing::passes_inside;
 use i_tree::Refusal;
 use plane::edge::Edge;
-use plane::pairs::pairs_between;
+use plane::pairs::pairs_with_points;
 use plane::point::Point;
 use std::alloc::{AllocError, Allocator};
 
@@ -104,7 +104,7 @@ fn push_stops_at_points<A: Allocator + Copy>(
         return Ok(());
     }
     let mut passes = Vec::new(*stops.allocator());
-    pairs_between(edges, points, &mut passes)?;
+    pairs_with_points(edges, points, &mut passes)?;
     push_stops(edges, points, &passes, stops)?;
     Ok(())
 }
