@@ -3,6 +3,7 @@ pub mod Between
 pub mod Closing
 pub mod Columns
 pub mod Crossed
+pub mod Ends
 pub mod Flows
 pub mod Linked
 pub mod Order

@@ -39,6 +39,13 @@ ending edge = record { x = edge.x1; y = edge.y1; change = pos 1 }
 abbrev pub both_ends : Edge → List End
 both_ends edge = starting edge ∷ ending edge ∷ []
 
+-- the one of them that isn't further right, and the other one
+abbrev pub left_end : Edge → End
+left_end edge = cond (lt_z edge.x1 edge.x0) (ending edge) (starting edge)
+
+abbrev pub right_end : Edge → End
+right_end edge = cond (lt_z edge.x1 edge.x0) (starting edge) (ending edge)
+
 abbrev pub point_of_end : End → Point
 point_of_end end = record { x = end.x; y = end.y }
 

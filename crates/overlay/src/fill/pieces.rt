@@ -57,9 +57,10 @@ fn turned_pieces<A: Allocator>(
     let mut pieces = Vec::with_capacity(alloc, room_for(subject, clip)?)?;
     append_turned(&mut pieces, subject, Role::Subject)?;
     append_turned(&mut pieces, clip, Role::Clip)?;
-    pieces.sort_unstable_by(|one: &Piece, other: &Piece| -> Ordering {
+    // Edges of rings have runs, which this sort finds.
+    pieces.sort_by(|one: &Piece, other: &Piece| -> Ordering {
         compare_begins(one.edge, other.edge)
-    });
+    })?;
     Ok(pieces)
 }
 

@@ -1,9 +1,8 @@
 //! The vertical edges that close the edges that bound a region, by what ends and starts along each column.
 
-ghost use Rattle.std.specs.Prelude.{◌≡◌, ◌≤◌, ◌≤ℤ◌, ◌+ℤ◌, ◌-ℤ◌, ◌^◌, ◌++◌, ℤ, pos, negsuc, List, All, IfOk, OnOk, OnErr, drop, length};
-ghost use Rattle.std.specs.List.{flat_map};
+ghost use Rattle.std.specs.Prelude.{◌≡◌, ◌≤◌, ◌≤ℤ◌, ◌+ℤ◌, ◌-ℤ◌, ◌^◌, ◌++◌, ℤ, pos, negsuc, List, All, IfOk, OnOk, OnErr, drop, length, map};
 ghost use Rattle.plane.specs.declared.edge.Edge.{Edge};
-ghost use Rattle.overlay.specs.Fill.Verticals.{AreVerticalsOf, BoundRegion, before_all, both_ends, ending, point_of_end, starting, vertical_between, verticals_between};
+ghost use Rattle.overlay.specs.Fill.Verticals.{AreVerticalsOf, BoundRegion, before_all, ending, left_end, point_of_end, right_end, starting, vertical_between, verticals_between};
 ghost use Rattle.overlay.specs.Snap.Offsets.{Extends};
 ghost use Rattle.overlay.specs.Snap.Windings.{edge_between};
 
@@ -36,20 +35,40 @@ pub fn append_verticals<A: Allocator + Copy>(
 {
     let alloc = *edges.allocator();
     let mut ends = ends_of(alloc, &edges[first..])?;
-    ends.sort_unstable();
+    ends.sort()?;
     push_verticals(&ends, edges)
 }
 
-// Both ends of each edge.
+// Both ends of each edge: first the left ones and then the right ones. A fill keeps edges in the order of their left ends, so
+// that the first half is a run that the sort finds.
 fn ends_of<A: Allocator>(alloc: A, edges: &[Edge]) -> Result<Vec<End, A>, AllocError>
-    ensures { IfOk result (λ ends. ends.items ≡ flat_map both_ends edges.now) }
+    ensures { IfOk result (λ ends. ends.items ≡ map left_end edges.now ++ map right_end edges.now) }
 {
-    let mut ends = Vec::with_capacity(alloc, 2 * edges.len())?;
-    for edge in edges {
-        ends.push(starting(*edge))?;
-        ends.push(ending(*edge))?;
+    let left = edges.iter().map(|edge| left_end(*edge));
+    let right = edges.iter().map(|edge| right_end(*edge));
+    left.chain(right).collect(alloc)
+}
+
+// Of the two ends of the edge the one that isn't further right.
+fn left_end(edge: Edge) -> End
+    ensures { result ≡ left_end edge }
+{
+    if edge.x1 < edge.x0 {
+        ending(edge)
+    } else {
+        starting(edge)
     }
-    Ok(ends)
+}
+
+// The other one of the two.
+fn right_end(edge: Edge) -> End
+    ensures { result ≡ right_end edge }
+{
+    if edge.x1 < edge.x0 {
+        starting(edge)
+    } else {
+        ending(edge)
+    }
 }
 
 // The end at which the edge starts.

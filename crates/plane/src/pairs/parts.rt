@@ -34,7 +34,7 @@ pub fn parts<T: Boxed, A: Allocator>(
 {
     let mut parts = Vec::with_capacity(alloc, items.len())?;
     push_all(&mut parts, items, strips)?;
-    parts.sort_unstable_by(|one, other| compare(*one, *other));
+    parts.sort_by(|one, other| compare(*one, *other))?;
     Ok(parts)
 }
 
