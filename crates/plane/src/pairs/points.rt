@@ -19,8 +19,8 @@ use std::alloc::{AllocError, Allocator};
 ///
 /// It is refused for want of memory alone, and leaves `out` as it was then. The memory is that of `out`'s allocator.
 ///
-/// It is `pairs_between` for a second list of points, in less time: heights are cut into rows, the points are sorted by
-/// row and x, and each item looks at the points of its rows from its left side to its right one.
+/// It is `pairs_between` for a second list of points, most often in less time: heights are cut into rows, the points are
+/// sorted by row and x, and each item looks at the points of its rows from its left side to its right one.
 pub fn pairs_with_points<X: Meets<Y>, Y: Boxed, A: Allocator + Copy>(
     items: &[X],
     points: &[Y],
