@@ -15,3 +15,5 @@ mod located_refused;
 mod meetings;
 #[cfg(test)]
 mod pairs;
+#[cfg(test)]
+mod points;

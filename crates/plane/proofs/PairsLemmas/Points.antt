@@ -1,15 +1,17 @@
 -- Pairs of items and points, as they are told row by row, and the search for the first part in a row.
-use Rattle.std.proofs.Common.{◌≡◌, ◌≢◌, ◌↔◌, ◌⊎◌, inl, inr, ℕ, ◌+◌, ◌<◌, ◌≤◌, ◌<ℤ◌, ◌≤ℤ◌, ℤ, List, [], ◌∷◌, ◌++◌, Some, get_or, length, append-nil, append_assoc, refl, sym, ap, ap₂, ◌∙◌, subst, subst₂, ⊎_elim, arith}
+use Rattle.std.proofs.Common.{◌≡◌, ◌≢◌, ◌↔◌, ◌⊎◌, inl, inr, ℕ, ◌+◌, ◌<◌, ◌≤◌, ◌<ℤ◌, ◌≤ℤ◌, ℤ, pos, min, List, [], ◌∷◌, ◌++◌, Some, get_or, length, append-nil, append_assoc, refl, sym, ap, ap₂, ◌∙◌, subst, subst₂, ⊎_elim, arith}
 use Rattle.std.specs.List.{All, AllPairs, Contains, slice_get}
 use Rattle.std.proofs.lemmas.Bool.{cases_lt}
-use Rattle.std.proofs.lemmas.Int.{ints}
+use Rattle.std.specs.Int.{int_max}
+use Rattle.std.proofs.lemmas.Int.{ints, clamps}
+use Rattle.std.proofs.lemmas.List.{get_or_append_left, get_or_push, length-append}
 use Rattle.std.proofs.lemmas.List.Elements.{Contains-append_left, Contains-append_right, Contains-append_cases, Contains-get_or}
 use Rattle.std.proofs.lemmas.Option.{get_or_from_slice_get, slice_get-get_or, slice_get_within, same_Some}
 use Rattle.i_tree.proofs.RootLemmas.Joined.{AllPairs-append}
 use Rattle.plane.specs.Pairs.Bounds.{BoundsMeet, IsPoint}
 use Rattle.plane.specs.Pairs.Pairs.{ArePairsBetween, PairBetween}
 use Rattle.plane.specs.Pairs.Parts.{AreParts, IsPartOf, NotBehind, part_of}
-use Rattle.plane.specs.Pairs.Points.{AreAll, Gains, MeetsAt, MeetsPart, IsFrom, IsShort, IsFirstFrom}
+use Rattle.plane.specs.Pairs.Points.{AreAll, Gains, MeetsAt, MeetsPart, IsFrom, IsShort, IsFirstFrom, IsStart, AreStarts}
 use Rattle.plane.specs.Pairs.Strips.{Reaches, strip_at}
 use Rattle.plane.specs.declared.pairs.items.Bounds.{Bounds}
 use Rattle.plane.specs.declared.pairs.parts.Part.{Part}
@@ -71,6 +73,82 @@ module _ (row : ℕ) (left : ℤ) where
           let is : middle ≡ at = omega (arith, upto, below) in
           subst (IsFrom row left) (same_Some part one (sym stands ∙ ap (slice_get parts) is ∙ listed)) (from_not_short part none)
     ]
+
+-- ---- where rows begin
+
+abbrev pub nothing : Part
+nothing = record { strip = 0; left = pos 0; place = 0 }
+
+module _ (parts : List Part) where
+  -- a row ends behind its start
+  pub starts_upto : (row start end : ℕ) → IsStart parts row start → IsStart parts (row + 1) end → start ≤ end
+  starts_upto row start end starts ends = elim (cases_lt end start) [
+    | inl past ↦
+        let within = starts.within in
+        let listed = slice_get-get_or parts end nothing (omega (arith, past, within)) in
+        let below = starts.below end (get_or parts end nothing) listed past in
+        let above = ends.above end (get_or parts end nothing) listed (omega arith) in
+        absurd (omega (arith, below, above))
+    | inr upto ↦ upto
+  ]
+
+  -- what stands behind the row isn't in it
+  pub from_end : (row end : ℕ) (left : ℤ) → IsStart parts (row + 1) end → (at : ℕ) (part : Part) → slice_get parts at ≡ Some part → end ≤ at → IsFrom row left part
+  from_end row end left ends at part listed upto =
+      let above = ends.above at part listed upto in
+      record { above = omega (arith, above); behind = λ in_row. absurd (omega (arith, above, in_row)) }
+
+  pub AreStarts-none : AreStarts parts 0 []
+  AreStarts-none = record { each = λ row d within. absurd (omega (arith, within)); all = λ at part listed before. absurd (omega (arith, before)) }
+
+  module _ (place : ℕ) (starts : List ℕ) (are : AreStarts parts place starts) (inside : place < length parts) where
+    -- one more row up to that of the part at the place begins there
+    pub AreStarts-push : AllPairs NotBehind parts → length starts < (get_or parts place nothing).strip + 1 → AreStarts parts place (starts ++ place ∷ [])
+    AreStarts-push in_order upto = record {
+      each = λ row d within. elim (cases_lt row (length starts)) [
+        | inl before ↦ subst (IsStart parts row) (sym (get_or_append_left starts (place ∷ []) d row before)) (are.each row d before)
+        | inr behind ↦
+            let last : length starts ≡ row = omega (arith, behind, within, length-append starts (place ∷ [])) in
+            subst (IsStart parts row) (sym (get_or_push starts place d row last)) (here row last)
+      ];
+      all = λ at part listed before. let below = are.all at part listed before in omega (arith, below, length-append starts (place ∷ []));
+    }
+      where
+        listed_here : slice_get parts place ≡ Some (get_or parts place nothing)
+        listed_here = slice_get-get_or parts place nothing inside
+
+        above : (row at : ℕ) (part : Part) → length starts ≡ row → slice_get parts at ≡ Some part → place ≤ at → row ≤ part.strip
+        above row at part last listed behind =
+            let one = get_or parts place nothing in
+            let from = from_there row one.left parts in_order place one listed_here (λ short. ⊎_elim (λ below. omega (arith, below, upto, last)) (λ (_, less). omega (arith, ints, less)) short) at part listed behind in
+            from.above
+
+        here : (row : ℕ) → length starts ≡ row → IsStart parts row place
+        here row last = record {
+          within = omega (arith, inside);
+          below = λ at part listed before. let below = are.all at part listed before in omega (arith, below, last);
+          above = λ at part listed behind. above row at part last listed behind;
+        }
+
+    -- once its row has begun, the part is one of those whose rows have
+    pub AreStarts-next : (get_or parts place nothing).strip < length starts → AreStarts parts (place + 1) starts
+    AreStarts-next begun = record {
+      each = are.each;
+      all = λ at part listed before. elim (cases_lt at place) [
+        | inl earlier ↦ are.all at part listed earlier
+        | inr upto ↦
+            let is : place ≡ at = omega (arith, upto, before) in
+            subst (λ (one : Part). one.strip < length starts) (get_or_from_slice_get parts at part nothing listed) (subst (λ (k : ℕ). (get_or parts k nothing).strip < length starts) is begun)
+      ];
+    }
+
+  -- behind the last row there is nothing
+  pub past_all : (starts : List ℕ) (row : ℕ) → AreStarts parts (length parts) starts → length starts ≤ row → IsStart parts row (length parts)
+  past_all starts row are past = record {
+    within = omega arith;
+    below = λ at part listed before. let below = are.all at part listed before in omega (arith, below, past);
+    above = λ at part listed behind. let inside = slice_get_within parts at part listed in absurd (omega (arith, inside, behind));
+  }
 
 -- ---- lists of all pairs of which something holds
 
@@ -296,16 +374,21 @@ module _ {Y : Type 0} (bounds : Y → Bounds) (points : List Y) (alone : All (λ
         λ (at_place, told). (at_place, weaker (InRow next) (λ _ one. one.strip ≡ row) j told told.wanted.1),
       )
 
-    -- Of rows one after another.
-    module _ (above : rows.base ≤ℤ box.low) where
-      -- rows below that of the box's low side have nothing that is met
-      pub rows_none : (row : ℕ) → row ≡ strip_at rows box.low → (i j : ℕ) → Told (λ _ part. part.strip < row) i j → ⊥
+    -- Of rows one after another, from the base on or from the box's low side.
+    module _ (over : All (λ point. rows.base ≤ℤ (bounds point).low) points) where
+      over_at : (j : ℕ) (point : Y) → slice_get points j ≡ Some point → rows.base ≤ℤ (bounds point).low
+      over_at j point stands = subst (λ (one : Y). rows.base ≤ℤ (bounds one).low) (get_or_from_slice_get points j point point stands) (over j point (slice_get_within points j point stands))
+
+      -- rows below have nothing that is met
+      pub rows_none : (row : ℕ) → row ≡ strip_at rows (int_max box.low rows.base) → (i j : ℕ) → Told (λ _ part. part.strip < row) i j → ⊥
       rows_none row is i j (_, told) =
           let below = told.wanted in
-          let there = ap (λ (part : Part). part.strip) (part_of_point told.at told.part j told.met.point told.listed told.is told.met.stands) in
-          let level = (point_at j told.met.point told.met.stands).level in
-          let low = (near told.met.point told.met.meet).low in
-          let rises = strip_at-mono rows box.low (bounds told.met.point).low above (omega (arith, ints, low, level)) in
+          let point = told.met.point in
+          let there = ap (λ (part : Part). part.strip) (part_of_point told.at told.part j point told.listed told.is told.met.stands) in
+          let level = (point_at j point told.met.stands).level in
+          let low = (near point told.met.meet).low in
+          let base = over_at j point told.met.stands in
+          let rises = strip_at-mono rows (int_max box.low rows.base) (bounds point).low (omega (arith, ints, clamps)) (omega (arith, ints, clamps, low, level, base)) in
           omega (arith, below, there, rises, is)
 
       -- one more row
@@ -324,25 +407,20 @@ module _ {Y : Type 0} (bounds : Y → Bounds) (points : List Y) (alone : All (λ
       pub rows_apart : (row : ℕ) (i j : ℕ) → Told (λ _ part. part.strip < row) i j → Told (λ _ part. part.strip ≡ row) i j → ⊥
       rows_apart row = apart (λ _ part. part.strip < row) (λ _ part. part.strip ≡ row) (λ at part below is. omega (arith, below, is))
 
-      -- above the row of the box's high side there is nothing to meet
-      pub rows_all : All (λ point. rows.base ≤ℤ (bounds point).low) points → (row : ℕ) → strip_at rows box.high < row → (i j : ℕ) → ((i ≡ place) × MeetsAt Meeting points j) ↔ Told (λ _ part. part.strip < row) i j
-      rows_all over row past i j = (λ (at_place, met). (at_place, by_part met), λ (at_place, told). (at_place, told.met))
+      -- nor have rows above the last one or that of the box's high side
+      pub rows_all : (starts : List ℕ) → AreStarts parts (length parts) starts → (row : ℕ) → min (length starts) (strip_at rows (int_max box.high rows.base) + 1) ≤ row
+          → (i j : ℕ) → ((i ≡ place) × MeetsAt Meeting points j) ↔ Told (λ _ part. part.strip < row) i j
+      rows_all starts begun row past i j = (λ (at_place, met). (at_place, by_part met), λ (at_place, told). (at_place, told.met))
         where
           by_part : MeetsAt Meeting points j → MeetsPart Meeting points parts (λ _ part. part.strip < row) j
           by_part met =
               let part = part_of j (bounds met.point) (strip_at rows (bounds met.point).low) in
               let (at, inside, is) = has_part j met.point met.stands in
+              let listed = slice_get-get_or parts at part inside ∙ ap (λ (one : Part). Some one) is in
               let high = (near met.point met.meet).high in
-              let base = subst (λ (one : Y). rows.base ≤ℤ (bounds one).low) (get_or_from_slice_get points j met.point met.point met.stands) (over j met.point (slice_get_within points j met.point met.stands)) in
-              let rises = strip_at-mono rows (bounds met.point).low box.high base high in
-              record {
-                met = met;
-                at = at;
-                part = part;
-                listed = slice_get-get_or parts at part inside ∙ ap (λ (one : Part). Some one) is;
-                is = refl;
-                wanted = omega (arith, rises, past);
-              }
+              let rises = strip_at-mono rows (bounds met.point).low (int_max box.high rows.base) (over_at j met.point met.stands) (omega (arith, ints, clamps, high)) in
+              let last = begun.all at part listed inside in
+              record { met = met; at = at; part = part; listed = listed; is = refl; wanted = omega (arith, rises, last, past) }
 
 -- ---- item by item
 

@@ -1,5 +1,5 @@
 -- What is told of items and points, row by row. For private contracts.
-use Rattle.std.specs.Prelude.{◌≡◌, ◌≢◌, ◌↔◌, ◌⊎◌, ℕ, ◌<◌, ◌≤◌, ℤ, ◌<ℤ◌, ◌≤ℤ◌, Some, List, ◌++◌, AllPairs, Contains, slice_get}
+use Rattle.std.specs.Prelude.{◌≡◌, ◌≢◌, ◌↔◌, ◌⊎◌, ℕ, ◌<◌, ◌≤◌, ℤ, ◌<ℤ◌, ◌≤ℤ◌, Some, List, ◌++◌, AllPairs, Contains, get_or, length, slice_get}
 use Rattle.plane.specs.declared.pairs.parts.Part.{Part}
 
 -- these are the pairs of places of which this holds, each once
@@ -39,3 +39,14 @@ IsShort row left part = (part.strip < row) ⊎ ((part.strip ≡ row) × (part.le
 pub record IsFirstFrom (parts : List Part) (row : ℕ) (left : ℤ) (first : ℕ) : Type 0 where
   pub short : (at : ℕ) (part : Part) → slice_get parts at ≡ Some part → at < first → IsShort row left part
   pub from : (at : ℕ) (part : Part) → slice_get parts at ≡ Some part → first ≤ at → IsFrom row left part
+
+-- the parts from this place on are those in the row and in the rows above
+pub record IsStart (parts : List Part) (row start : ℕ) : Type 0 where
+  pub within : start ≤ length parts
+  pub below : (at : ℕ) (part : Part) → slice_get parts at ≡ Some part → at < start → part.strip < row
+  pub above : (at : ℕ) (part : Part) → slice_get parts at ≡ Some part → start ≤ at → row ≤ part.strip
+
+-- these are the starts of rows from the first one on, and the parts before this place stand in these rows
+pub record AreStarts (parts : List Part) (place : ℕ) (starts : List ℕ) : Type 0 where
+  pub each : (row d : ℕ) → row < length starts → IsStart parts row (get_or starts row d)
+  pub all : (at : ℕ) (part : Part) → slice_get parts at ≡ Some part → at < place → part.strip < length starts

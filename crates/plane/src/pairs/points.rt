@@ -1,11 +1,11 @@
 //! Pairs of items and of points.
 
-ghost use Rattle.std.specs.Prelude.{◌≡◌, ◌++◌, ◌<◌, ◌≤◌, ◌<ℤ◌, ◌≤ℤ◌, ℕ, List, All, AllPairs, MatchBool, Some, drop, length, slice_get, OnOk, OnErr, IfErr};
+ghost use Rattle.std.specs.Prelude.{◌≡◌, ◌++◌, ◌<◌, ◌≤◌, ◌+◌, ◌<ℤ◌, ◌≤ℤ◌, ℕ, List, All, AllPairs, MatchBool, Some, drop, length, slice_get, OnOk, OnErr, IfErr, IfOk};
 ghost use Rattle.i_tree.specs.declared.Refusal.TheVariants.{OutOfMemory};
 ghost use Rattle.plane.specs.Pairs.Bounds.{IsBox, IsPoint, MeetInBoxesAcross};
 ghost use Rattle.plane.specs.Pairs.Pairs.{ArePairsBetween, PairBetween};
 ghost use Rattle.plane.specs.Pairs.Parts.{AreParts, NotBehind};
-ghost use Rattle.plane.specs.Pairs.Points.{Gains, IsFirstFrom, IsShort, MeetsAt, MeetsPart};
+ghost use Rattle.plane.specs.Pairs.Points.{AreStarts, Gains, IsFirstFrom, IsStart, IsShort, MeetsAt, MeetsPart};
 ghost use Rattle.plane.specs.Pairs.Sweep.{Extends};
 
 use super::cut::strips_for;
@@ -19,8 +19,8 @@ use std::alloc::{AllocError, Allocator};
 ///
 /// It is refused for want of memory alone, and leaves `out` as it was then. The memory is that of `out`'s allocator.
 ///
-/// It is `pairs_between` for a second list of points, in less time: heights are cut into rows, the points are sorted by
-/// row and x, and each item looks at the points of its rows from its left side to its right one.
+/// It is `pairs_between` for a second list of points, most often in less time: heights are cut into rows, the points are
+/// sorted by row and x, and each item looks at the points of its rows from its left side to its right one.
 pub fn pairs_with_points<X: Meets<Y>, Y: Boxed, A: Allocator + Copy>(
     items: &[X],
     points: &[Y],
@@ -58,29 +58,73 @@ fn append_all<X: Meets<Y>, Y: Boxed, A: Allocator + Copy>(
     ensures err { OnErr result (Extends out.old.items out.new.items) }
     ensures refused { IfErr result (λ cause. cause ≡ OutOfMemory) }
 {
+    let alloc = *out.allocator();
     let rows = rows_for(items, points);
-    let parts = parts(*out.allocator(), points, rows)?;
+    let parts = parts(alloc, points, rows)?;
+    let starts = starts_of(alloc, &parts)?;
     for place in 0..items.len() {
-        append_of_item(items[place], place, points, rows, &parts, out)?;
+        append_of_item(items[place], place, points, rows, &parts, &starts, out)?;
     }
     Ok(())
 }
 
-// How many bits the rows are narrower than strips would be for the items: a point stands in one row however narrow.
+// How many bits the rows are narrower than strips would be: a point stands in one row however narrow.
 const NARROWER: u32 = 4;
 
-// Rows of heights, none of which lies below the first one. They are cut as the strips of items, but narrower.
+// Rows of heights from the lowest point on. They are cut as the strips of items, or of points where these are wider, but
+// narrower. So there are few rows for each point, and few that an item reaches.
 fn rows_for<X: Boxed, Y: Boxed>(items: &[X], points: &[Y]) -> Strips
     requires items { (item : X) → IsBox (X.bounds item) }
     requires points { (point : Y) → IsBox (Y.bounds point) }
-    ensures items { All (λ item. result.base ≤ℤ (X.bounds item).low) items.now }
-    ensures points { All (λ point. result.base ≤ℤ (Y.bounds point).low) points.now }
+    ensures { All (λ point. result.base ≤ℤ (Y.bounds point).low) points.now }
 {
-    let strips = strips_for(items);
-    let below = strips_for(points).base;
+    let strips = strips_for(points);
+    let bits = strips.bits.max(strips_for(items).bits);
     Strips {
-        base: strips.base.min(below),
-        bits: strips.bits.saturating_sub(NARROWER).max(5),
+        base: strips.base,
+        bits: bits.saturating_sub(NARROWER).max(5),
+    }
+}
+
+// Where each row up to the last one that has a point begins among the parts of points.
+fn starts_of<A: Allocator>(alloc: A, parts: &[Part]) -> Result<Vec<usize, A>, AllocError>
+    requires { AllPairs NotBehind parts.now }
+    ensures { IfOk result (λ starts. AreStarts parts.now (length parts.now) starts.items) }
+{
+    let mut starts = Vec::new(alloc);
+    for place in 0..parts.len() {
+        begin_rows(&mut starts, parts, place)?;
+    }
+    Ok(starts)
+}
+
+// Appends where the rows up to that of the part at a place begin, which is there.
+fn begin_rows<A: Allocator>(
+    starts: &mut Vec<usize, A>,
+    parts: &[Part],
+    place: usize,
+) -> Result<(), AllocError>
+    requires in_order { AllPairs NotBehind parts.now }
+    requires inside { place < length parts.now }
+    requires before { AreStarts parts.now place starts.old.items }
+    ensures { OnOk result (AreStarts parts.now (place + 1) starts.new.items) }
+{
+    let end = parts[place].strip as usize + 1;
+    for row in starts.len()..end {
+        starts.push(place)?;
+    }
+    Ok(())
+}
+
+// Where a row begins among the parts.
+fn start_of(starts: &[usize], parts: &[Part], row: usize) -> usize
+    requires { AreStarts parts.now (length parts.now) starts.now }
+    ensures { IsStart parts.now row result }
+{
+    if row < starts.len() {
+        starts[row]
+    } else {
+        parts.len()
     }
 }
 
@@ -91,22 +135,23 @@ fn append_of_item<X: Meets<Y>, Y: Boxed, A: Allocator>(
     points: &[Y],
     rows: Strips,
     parts: &[Part],
+    starts: &[usize],
     out: &mut Vec<(usize, usize), A>,
 ) -> Result<(), AllocError>
     requires boxed { MeetInBoxesAcross X.bounds Y.bounds X.Meeting }
     requires points { All (λ point. IsPoint (Y.bounds point)) points.now }
-    requires base { rows.base ≤ℤ (X.bounds item).low }
-    requires above { All (λ point. rows.base ≤ℤ (Y.bounds point).low) points.now }
+    requires base { All (λ point. rows.base ≤ℤ (Y.bounds point).low) points.now }
     requires parts { AreParts Y.bounds rows points.now parts.now }
+    requires starts { AreStarts parts.now (length parts.now) starts.now }
     ensures ok { OnOk result (Gains (λ i j. (i ≡ place) × MeetsAt (X.Meeting item) points.now j)
         out.old.items out.new.items) }
     ensures err { OnErr result (Extends out.old.items out.new.items) }
 {
     let bounds = item.bounds();
-    let first = rows.strip_at(bounds.low);
-    let last = rows.strip_at(bounds.high);
-    for row in first..last + 1 {
-        append_in_row(item, place, points, rows, parts, row, out)?;
+    let first = rows.strip_at(bounds.low.max(rows.base)) as usize;
+    let last = rows.strip_at(bounds.high.max(rows.base)) as usize;
+    for row in first..starts.len().min(last + 1) {
+        append_in_row(item, place, points, rows, parts, starts, row, out)?;
     }
     Ok(())
 }
@@ -118,19 +163,24 @@ fn append_in_row<X: Meets<Y>, Y: Boxed, A: Allocator>(
     points: &[Y],
     rows: Strips,
     parts: &[Part],
-    row: u32,
+    starts: &[usize],
+    row: usize,
     out: &mut Vec<(usize, usize), A>,
 ) -> Result<(), AllocError>
     requires boxed { MeetInBoxesAcross X.bounds Y.bounds X.Meeting }
     requires points { All (λ point. IsPoint (Y.bounds point)) points.now }
     requires parts { AreParts Y.bounds rows points.now parts.now }
+    requires starts { AreStarts parts.now (length parts.now) starts.now }
+    requires reached { row < length starts.now }
     ensures ok { OnOk result (Gains
         (λ i j. (i ≡ place) × MeetsPart (X.Meeting item) points.now parts.now (λ _ part. part.strip ≡ row) j)
         out.old.items out.new.items) }
     ensures err { OnErr result (Extends out.old.items out.new.items) }
 {
     let bounds = item.bounds();
-    let from = first_from(parts, row, bounds.left);
+    let start = start_of(starts, parts, row);
+    let end = start_of(starts, parts, row + 1);
+    let from = first_from(parts, start, end, row, bounds.left);
     for next in from..parts.len() {
         let part = parts[next];
         if is_past(part, row, bounds.right) {
@@ -159,14 +209,16 @@ fn append_if_met<X: Meets<Y>, Y: Boxed, A: Allocator>(
     Ok(())
 }
 
-// The place of the first part in the row from the x on, or in a row above, by halves.
-fn first_from(parts: &[Part], row: u32, left: i32) -> usize
-    requires { AllPairs NotBehind parts.now }
+// The place of the first part in the row from the x on, or in a row above, by halves of what stands in the row.
+fn first_from(parts: &[Part], start: usize, end: usize, row: usize, left: i32) -> usize
+    requires in_order { AllPairs NotBehind parts.now }
+    requires starts { IsStart parts.now row start }
+    requires ends { IsStart parts.now (row + 1) end }
     ensures within { result ≤ length parts.now }
     ensures first { IsFirstFrom parts.now row left result }
 {
-    let mut first = 0;
-    let mut size = parts.len();
+    let mut first = start;
+    let mut size = end - start;
     while size > 0 {
         let half = size / 2;
         let middle = first + half;
@@ -181,15 +233,16 @@ fn first_from(parts: &[Part], row: u32, left: i32) -> usize
 }
 
 // Whether the part stands in the row before the x, or in a row below.
-fn is_short(part: Part, row: u32, left: i32) -> bool
+fn is_short(part: Part, row: usize, left: i32) -> bool
     ensures { let short = IsShort row left part in MatchBool result short (¬ short) }
 {
-    part.strip < row || (part.strip == row && part.left < left)
+    let strip = part.strip as usize;
+    strip < row || (strip == row && part.left < left)
 }
 
 // Whether the part stands in another row than this, or there beyond the x.
-fn is_past(part: Part, row: u32, right: i32) -> bool
+fn is_past(part: Part, row: usize, right: i32) -> bool
     ensures { MatchBool result (part.strip ≡ row → right <ℤ part.left) (part.strip ≡ row) }
 {
-    part.strip != row || right < part.left
+    part.strip as usize != row || right < part.left
 }

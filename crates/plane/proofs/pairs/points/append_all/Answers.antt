@@ -4,11 +4,14 @@ use Rattle.plane.specs.Pairs.Pairs.{PairBetween}
 use Rattle.plane.specs.Pairs.Points.{MeetsAt}
 use Rattle.plane.proofs.PairsLemmas.Extends.{OnErr-always, Extends-trans}
 use Rattle.plane.proofs.PairsLemmas.Few.{ReachFew-points}
-use Rattle.plane.proofs.PairsLemmas.Points.{Gains-same, Gains-then, items_more, items_all}
+use Rattle.plane.proofs.PairsLemmas.Points.{Gains-none, Gains-same, Gains-then, items_more, items_all}
 use Rattle.plane.proofs.pairs.points.append_all.Goals as goal
 
 pub parts-requires-clause-few : goal.parts-requires-clause-few
 parts-requires-clause-few g c = ReachFew-points g.Y.Boxed.bounds c.rows_for-rows.result c.args.points.now c.requires.points
+
+pub loop-place-init : goal.loop-place-init
+loop-place-init g c = Gains-none (λ i j. (i < 0) × PairBetween g.X.Meets.Meeting c.args.items.now c.args.points.now i j) c.args.out.now.items (λ i j (below, _). omega (arith, below))
 
 pub returns-in_err-append_of_item-clause-err : goal.returns-in_err-append_of_item-clause-err
 returns-in_err-append_of_item-clause-err g c =

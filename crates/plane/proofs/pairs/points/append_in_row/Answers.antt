@@ -1,15 +1,11 @@
-use Rattle.std.proofs.Common.{◌≡◌, ◌<ℤ◌, ◌<◌, ◌+◌, ℤ, pos, Some, SFits, w32, to_z, of_z, get_or, ap, sym, ◌∙◌, subst, arith, rules}
+use Rattle.std.proofs.Common.{◌≡◌, ◌<ℤ◌, ◌<◌, ◌+◌, ℤ, Some, SFits, w32, to_z, of_z, get_or, ap, sym, ◌∙◌, subst, arith, rules}
 use Rattle.std.proofs.lemmas.Int.{to_z-of_z}
 use Rattle.std.proofs.lemmas.Option.{slice_get-get_or}
 use Rattle.plane.specs.Pairs.Points.{IsFirstFrom, MeetsPart}
 use Rattle.plane.specs.declared.pairs.items.Bounds.{Bounds}
-use Rattle.plane.specs.declared.pairs.parts.Part.{Part}
 use Rattle.plane.proofs.PairsLemmas.Extends.{OnErr-always}
-use Rattle.plane.proofs.PairsLemmas.Points.{Gains-none, Gains-same, Gains-then, told_none, told_more, told_apart, told_upto, told_all, place_within}
+use Rattle.plane.proofs.PairsLemmas.Points.{Gains-none, Gains-same, Gains-then, nothing, told_none, told_more, told_apart, told_upto, told_all, place_within}
 use Rattle.plane.proofs.pairs.points.append_in_row.Goals as goal
-
-abbrev nothing : Part
-nothing = record { strip = 0; left = pos 0; place = 0 }
 
 pub loop-next-init : goal.loop-next-init
 loop-next-init g c =

@@ -1,4 +1,5 @@
 use Rattle.std.proofs.Common.{◌≡◌, ◌<◌, ◌+◌, SFits, w32, ap, ◌∙◌, arith, rules}
+use Rattle.std.specs.Int.{int_max}
 use Rattle.std.proofs.lemmas.Int.{to_z-of_z}
 use Rattle.plane.specs.Pairs.Points.{MeetsAt, MeetsPart}
 use Rattle.plane.specs.Pairs.Strips.{strip_at}
@@ -13,8 +14,11 @@ loop-row-init g c =
     let Meeting = g.X.Meets.Meeting c.args.item in
     let points = c.args.points.now in
     let parts = c.args.parts.now in
+    let base : SFits w32 c.args.rows.base = search rules in
     let low : SFits w32 c.bounds-bounds.result.low = search rules in
-    let first = (simp to_z-of_z at c.strip_at-first.ensures.value) ∙ ap (λ (bounds : Bounds). strip_at c.args.rows bounds.low) c.bounds-bounds.ensures in
+    let fits : SFits w32 c.max.result = search rules in
+    let greater = (simp to_z-of_z at c.max.ensures.value) ∙ ap (λ (bounds : Bounds). int_max bounds.low c.args.rows.base) c.bounds-bounds.ensures in
+    let first = (simp to_z-of_z at c.strip_at-first.ensures.value) ∙ ap (strip_at c.args.rows) greater in
     Gains-none (λ i j. (i ≡ c.args.place) × MeetsPart Meeting points parts (λ _ part. part.strip < c.strip_at-first.result) j) c.args.out.now.items
     (rows_none g.Y.Boxed.bounds points c.requires.points c.args.rows parts c.requires.parts Meeting box (c.requires.boxed.near c.args.item) c.args.place c.requires.base c.strip_at-first.result first)
 
@@ -43,8 +47,12 @@ returns-clause-ok g c =
     let points = c.args.points.now in
     let parts = c.args.parts.now in
     let row = c.loop-row.row in
+    let base : SFits w32 c.args.rows.base = search rules in
     let high : SFits w32 c.bounds-bounds.result.high = search rules in
-    let last = (simp to_z-of_z at c.strip_at-last.ensures.value) ∙ ap (λ (bounds : Bounds). strip_at c.args.rows bounds.high) c.bounds-bounds.ensures in
+    let fits : SFits w32 c.max-2.result = search rules in
+    let greater = (simp to_z-of_z at c.max-2.ensures.value) ∙ ap (λ (bounds : Bounds). int_max bounds.high c.args.rows.base) c.bounds-bounds.ensures in
+    let last = (simp to_z-of_z at c.strip_at-last.ensures.value) ∙ ap (strip_at c.args.rows) greater in
+    let end = c.loop-row-test.false in
     Gains-same (λ i j. (i ≡ c.args.place) × MeetsPart Meeting points parts (λ _ part. part.strip < row) j) (λ i j. (i ≡ c.args.place) × MeetsAt Meeting points j)
-    (rows_all g.Y.Boxed.bounds points c.requires.points c.args.rows parts c.requires.parts Meeting box (c.requires.boxed.near c.args.item) c.args.place c.requires.base c.requires.above row (omega (arith, last)))
+    (rows_all g.Y.Boxed.bounds points c.requires.points c.args.rows parts c.requires.parts Meeting box (c.requires.boxed.near c.args.item) c.args.place c.requires.base c.args.starts.now c.requires.starts row (omega (arith, last, end, c.min-row-end.ensures)))
     c.args.out.now.items c.loop-row.out.items c.loop-row.invariant
