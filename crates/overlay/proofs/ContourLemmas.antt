@@ -2,6 +2,7 @@
 pub mod Bends
 pub mod Callers
 pub mod Counts
+pub mod Ends
 pub mod Order
 pub mod Outlines
 pub mod Rings

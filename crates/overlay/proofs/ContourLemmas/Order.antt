@@ -1,5 +1,5 @@
 -- Edges in the order of their starts.
-use Rattle.std.proofs.Common.{◌≡◌, ◌≢◌, inl, inr, ℕ, ◌<◌, ◌≤◌, ℤ, ◌≤ℤ◌, ◌<ℤ◌, false, List, length, Ordering, Less, Equal, Greater, refl, sym, ap, ap₂, ◌∙◌, subst, arith}
+use Rattle.std.proofs.Common.{◌≡◌, ◌≢◌, inl, inr, ℕ, ◌<◌, ◌≤◌, ℤ, ◌≤ℤ◌, ◌<ℤ◌, false, List, get_or, length, Ordering, Less, Equal, Greater, refl, sym, ap, ap₂, ◌∙◌, subst, arith}
 use denote.Param.Members.{Mut}
 use denote.Ref.{Bor}
 use Rattle.std.specs.Fn.{Called, ComputesKey}
@@ -12,7 +12,7 @@ use Rattle.std.proofs.lemmas.Int.{ints}
 use Rattle.std.proofs.lemmas.List.Sorted.{ranks_by, sorted_far}
 use Rattle.plane.specs.declared.edge.Edge.{Edge}
 use Rattle.plane.specs.declared.point.Point.{Point}
-use Rattle.overlay.specs.Contours.Order.{AreInOrder, IsBehind, IsCorner, IsFirstFrom, corner_of, edge_at, point_at}
+use Rattle.overlay.specs.Contours.Order.{AreInOrder, IsBehind, IsCorner, IsFirstFrom, corner_at, point_at}
 use Rattle.overlay.specs.declared.contours.order.Corner.{Corner}
 use Rattle.overlay.specs.contracts.contours.order.CornerOrd.TheImpl.{ghosts as corner_order}
 use Rattle.overlay.specs.contracts.contours.order.CornerOrd.TheImpl.Laws.{total-law as corner_total}
@@ -64,18 +64,22 @@ not_less x y x' y' Less said is = absurd cc
 not_less x y x' y' Equal said is = inr (sym said, not_less-y y y' (int_cmp y' y) (int_ranked y' y (int_cmp y' y) refl) is)
 not_less x y x' y' Greater said is = inl said
 
-pub AreInOrder-sorted : (sorted : List Edge) → IsSortedBy (λ one other. is_lt (corner_order.cmp (corner_of one) (corner_of other))) sorted → AreInOrder sorted
-AreInOrder-sorted sorted rising i j upto within =
-    let one = edge_at sorted i in
-    let other = edge_at sorted j in
-    let far = sorted_far (λ a b. is_lt (corner_order.cmp (corner_of a) (corner_of b))) (ranks_by corner_total corner_of) sorted rising i j _ upto within in
-    not_less one.x0 one.y0 other.x0 other.y0 (int_cmp other.x0 one.x0) (int_ranked other.x0 one.x0 (int_cmp other.x0 one.x0) refl) far
+-- of things in the order of their corners, none is at a point before that of one that stands before it
+behind-sorted : {X : Type 0} (point_of : X → Point) (xs : List X) → IsSortedBy (λ one other. is_lt (corner_order.cmp (corner_at (point_of one)) (corner_at (point_of other)))) xs
+    → (i j : ℕ) (d : X) → i ≤ j → j < length xs → IsBehind (point_of (get_or xs i d)) (point_of (get_or xs j d))
+behind-sorted {X = X} point_of xs rising i j d upto within =
+    let one = point_of (get_or xs i d) in
+    let other = point_of (get_or xs j d) in
+    let far = sorted_far (λ a b. is_lt (corner_order.cmp (corner_at (point_of a)) (corner_at (point_of b)))) (ranks_by corner_total (λ (x : X). corner_at (point_of x))) xs rising i j d upto within in
+    not_less one.x one.y other.x other.y (int_cmp other.x one.x) (int_ranked other.x one.x (int_cmp other.x one.x) refl) far
 
 -- what the sort ensures
-pub AreInOrder-from_sort : {F : Type 0} {g : Mut F (Bor Edge × Unit {0}) Corner} {f : F} (sorted : List Edge)
-    → ((key : Edge → Corner) → ComputesKey g key f → IsSortedByKey key corner_order.cmp sorted)
-    → ((a : Bor Edge × Unit {0}) (r : Corner) (f' : F) → Called g f a r f' → (r ≡ corner_of a.0.now) × (f' ≡ f)) → AreInOrder sorted
-AreInOrder-from_sort {g = g} {f = f} sorted rising answers = AreInOrder-sorted sorted (rising corner_of (always_returns_same g (λ a r. r ≡ corner_of a.0.now) f answers))
+pub behind-from_sort : {X : Type 0} (point_of : X → Point) {F : Type 0} {g : Mut F (Bor X × Unit {0}) Corner} {f : F} (xs : List X)
+    → ((key : X → Corner) → ComputesKey g key f → IsSortedByKey key corner_order.cmp xs)
+    → ((a : Bor X × Unit {0}) (r : Corner) (f' : F) → Called g f a r f' → (r ≡ corner_at (point_of a.0.now)) × (f' ≡ f))
+    → (i j : ℕ) (d : X) → i ≤ j → j < length xs → IsBehind (point_of (get_or xs i d)) (point_of (get_or xs j d))
+behind-from_sort {X = X} point_of {g = g} {f = f} xs rising answers =
+    behind-sorted point_of xs (rising (λ (x : X). corner_at (point_of x)) (always_returns_same g (λ a r. r ≡ corner_at (point_of a.0.now)) f answers))
 
 -- ---- where the edges stand that start at a point
 

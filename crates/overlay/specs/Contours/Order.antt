@@ -5,8 +5,8 @@ use Rattle.plane.specs.declared.point.Point.{Point}
 use Rattle.overlay.specs.Snap.Windings.{start_of}
 use Rattle.overlay.specs.declared.contours.order.Corner.{Corner}
 
-abbrev pub corner_of : Edge → Corner
-corner_of edge = record { x = edge.x0; y = edge.y0 }
+abbrev pub corner_at : Point → Corner
+corner_at point = record { x = point.x; y = point.y }
 
 -- The edge at a place.
 abbrev pub edge_at : List Edge → ℕ → Edge

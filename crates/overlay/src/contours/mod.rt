@@ -20,6 +20,7 @@ use walk::append_rings;
 
 mod bends;
 mod cutting;
+mod ends;
 mod order;
 mod turns;
 mod walk;

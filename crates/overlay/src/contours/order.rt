@@ -1,9 +1,10 @@
 //! Edges in the order of their starts, and where those that start at a point stand.
 
 ghost use Rattle.std.specs.Prelude.{◌≡◌, IfOk, IsPermutation, MatchBool};
-ghost use Rattle.overlay.specs.Contours.Order.{AreInOrder, IsBehind, IsFirstFrom, corner_of};
+ghost use Rattle.overlay.specs.Contours.Order.{AreInOrder, IsBehind, IsFirstFrom, corner_at};
 ghost use Rattle.overlay.specs.Snap.Windings.{start_of};
 
+use crate::edges::start_of;
 use plane::edge::Edge;
 use plane::point::Point;
 use std::alloc::{AllocError, Allocator};
@@ -21,17 +22,17 @@ pub fn edges_in_order<A: Allocator>(alloc: A, edges: &[Edge]) -> Result<Vec<Edge
 {
     let mut sorted = Vec::with_capacity(alloc, edges.len())?;
     sorted.extend_from_slice(edges)?;
-    sorted.sort_unstable_by_key(|edge| corner_of(*edge));
+    sorted.sort_by_key(|edge| corner_at(start_of(*edge)))?;
     Ok(sorted)
 }
 
-/// The corner at which the edge starts.
-fn corner_of(edge: Edge) -> Corner
-    ensures { result ≡ corner_of edge }
+/// The corner at the point.
+pub fn corner_at(point: Point) -> Corner
+    ensures { result ≡ corner_at point }
 {
     Corner {
-        x: edge.x0,
-        y: edge.y0,
+        x: point.x,
+        y: point.y,
     }
 }
 
@@ -54,7 +55,7 @@ pub fn first_from(sorted: &[Edge], point: Point) -> usize
 }
 
 /// Whether the edge starts at the point or behind it.
-fn is_behind(edge: Edge, point: Point) -> bool
+pub fn is_behind(edge: Edge, point: Point) -> bool
     ensures { MatchBool result (IsBehind point (start_of edge)) (¬ (IsBehind point (start_of edge))) }
 {
     point.x < edge.x0 || (point.x == edge.x0 && point.y <= edge.y0)

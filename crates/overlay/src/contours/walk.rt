@@ -3,6 +3,7 @@
 ghost use Rattle.std.specs.Prelude.{◌≡◌, ◌++◌, ◌<◌, [], true, false, IsPermutation, List, OnErr, OnOk, get_or, length};
 ghost use Rattle.std.specs.List.{flat_map};
 ghost use Rattle.plane.specs.declared.point.Point.{Point};
+ghost use Rattle.overlay.specs.Contours.Ends.{AreCornersOfEnds};
 ghost use Rattle.overlay.specs.Contours.Order.{AreInOrder};
 ghost use Rattle.overlay.specs.Contours.Rings.{ring_edges};
 ghost use Rattle.overlay.specs.Contours.Walks.{AreAppended, Keeps, unwalked};
@@ -10,6 +11,7 @@ ghost use Rattle.overlay.specs.Snap.Offsets.{Extends};
 ghost use Rattle.overlay.specs.Snap.Windings.{IsClosed};
 
 use super::cutting::cut_loop;
+use super::ends::corners_of_ends;
 use super::order::first_from;
 use super::turns::leftmost;
 use crate::edges::{end_of, start_of};
@@ -32,15 +34,19 @@ pub fn append_rings<A: Allocator + Copy>(
     ensures err { OnErr result (Extends points.old.items points.new.items
         × Extends ring_ends.old.items ring_ends.new.items) }
 {
+    let corners = corners_of_ends(alloc, sorted)?;
     let mut used = vec![in alloc; false; sorted.len()]?;
     let mut marks = vec![in alloc; 0; sorted.len()]?;
     let mut stack = Vec::new(alloc);
-    walk_all(sorted, &mut used, &mut marks, &mut stack, points, ring_ends)
+    walk_all(
+        sorted, &corners, &mut used, &mut marks, &mut stack, points, ring_ends,
+    )
 }
 
 // Walks along all edges, of which none is walked yet.
 fn walk_all<A: Allocator>(
     sorted: &[Edge],
+    corners: &[usize],
     used: &mut [bool],
     marks: &mut [usize],
     stack: &mut Vec<usize, A>,
@@ -49,6 +55,7 @@ fn walk_all<A: Allocator>(
 ) -> Result<(), AllocError>
     requires closed { IsClosed sorted.now }
     requires order { AreInOrder sorted.now }
+    requires corners { AreCornersOfEnds sorted.now corners.now }
     requires used_size { length used.old ≡ length sorted.now }
     requires marks_size { length marks.old ≡ length sorted.now }
     requires all { unwalked sorted.now used.old ≡ sorted.now }
@@ -63,7 +70,9 @@ fn walk_all<A: Allocator>(
         if used[first] {
             continue;
         }
-        walk(sorted, first, used, marks, stack, points, ring_ends)?;
+        walk(
+            sorted, corners, first, used, marks, stack, points, ring_ends,
+        )?;
     }
     Ok(())
 }
@@ -71,6 +80,7 @@ fn walk_all<A: Allocator>(
 // Walks from the edge at this place on, until no edge is left to go on along: then the walk is back where it began.
 fn walk<A: Allocator>(
     sorted: &[Edge],
+    corners: &[usize],
     first: usize,
     used: &mut [bool],
     marks: &mut [usize],
@@ -80,6 +90,7 @@ fn walk<A: Allocator>(
 ) -> Result<(), AllocError>
     requires closed { IsClosed sorted.now }
     requires order { AreInOrder sorted.now }
+    requires corners { AreCornersOfEnds sorted.now corners.now }
     requires inside { first < length sorted.now }
     requires unused { get_or used.old first true ≡ false }
     requires used_size { length used.old ≡ length sorted.now }
@@ -107,7 +118,7 @@ fn walk<A: Allocator>(
         used[place] = true;
         marks[corner] = stack.len();
         stack.push(corner)?;
-        corner = first_from(sorted, at);
+        corner = corners[place];
         cut_loop(sorted, corner, marks, stack, points, ring_ends)?;
         if from != at {
             back = from;

@@ -1,13 +1,14 @@
 use Rattle.std.proofs.Common.{◌≡◌, ◌++◌, List, IsPermutation, ap, ◌∙◌, subst, rules}
 use Rattle.plane.specs.declared.edge.Edge.{Edge}
-use Rattle.overlay.proofs.ContourLemmas.Order.{AreInOrder-from_sort}
+use Rattle.overlay.specs.Snap.Windings.{start_of}
+use Rattle.overlay.proofs.ContourLemmas.Order.{behind-from_sort}
 use Rattle.overlay.proofs.contours.order.edges_in_order.Goals as goal
 
 pub returns : goal.returns
 returns g c =
     let edges = c.args.edges.now in
-    let sorted = c.sort_unstable_by_key.new.self.items in
+    let sorted = c.sort_by_key.new.self.items in
     let all : c.extend_from_slice.new.self.items ≡ edges = c.in_ok-extend_from_slice.ensures.items ∙ ap (λ (none : List Edge). none ++ edges) c.in_ok-sorted.ensures.items in (
-      subst (λ (old : List Edge). IsPermutation old sorted) all c.sort_unstable_by_key.ensures.permutation,
-      AreInOrder-from_sort sorted c.sort_unstable_by_key.ensures.sorted (λ a r q k. search rules),
+      subst (λ (old : List Edge). IsPermutation old sorted) all c.sort_by_key.ensures.permutation,
+      (λ i j upto within. behind-from_sort start_of sorted c.in_ok-sort_by_key.ensures.sorted (λ a r q k. search rules) i j _ upto within),
     )

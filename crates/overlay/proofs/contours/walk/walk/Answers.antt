@@ -1,11 +1,11 @@
-use Rattle.std.proofs.Common.{◌≡◌, ◌++◌, ◌∷◌, ◌<◌, [], ℕ, true, inl, IsPermutation, List, length, set, sym, ◌∙◌, subst, arith}
+use Rattle.std.proofs.Common.{◌≡◌, ◌++◌, ◌∷◌, ◌<◌, [], ℕ, true, inl, IsPermutation, List, get_or, length, set, refl, sym, ◌∙◌, subst, arith}
 use Rattle.std.specs.List.{flat_map}
 use Rattle.std.specs.Option.{MatchOption}
 use Rattle.std.proofs.lemmas.List.{length-set}
 use Rattle.std.proofs.lemmas.List.Sorted.{IsPermutation-refl}
 use Rattle.std.proofs.lemmas.Option.{MatchOption-at_none, MatchOption-at_some}
 use Rattle.plane.specs.declared.point.Point.{Point}
-use Rattle.overlay.specs.Contours.Order.{edge_at, point_at}
+use Rattle.overlay.specs.Contours.Order.{IsFirstFrom, edge_at, point_at}
 use Rattle.overlay.specs.Contours.Rings.{ring_edges}
 use Rattle.overlay.specs.Contours.Turns.{Leaves, NoneLeaves}
 use Rattle.overlay.specs.Contours.Walks.{IsMarked, path, unwalked}
@@ -50,7 +50,14 @@ cut_loop-requires-clause-at g c =
     let walking = c.loop-next.invariant.1 in
     let sorted = c.args.sorted.now in
     let leaves = MatchOption-at_some (NoneLeaves sorted c.loop-next.used (point_at sorted c.loop-next.corner)) (λ place. Leaves sorted c.loop-next.used (point_at sorted c.loop-next.corner) place) c.in-Some.place c.in-Some.is walking.leaves in
-    (corner-of_end sorted c.requires.closed c.requires.order c.in-Some.place leaves.inside c.end_of-at.result c.end_of-at.ensures c.first_from-corner-in-Some.result c.first_from-corner-in-Some.ensures).1
+    (corner-of_end sorted c.requires.closed c.requires.order c.in-Some.place leaves.inside _ refl _ (c.requires.corners.each c.in-Some.place leaves.inside)).1
+
+pub leftmost-next-requires-clause-first : goal.leftmost-next-requires-clause-first
+leftmost-next-requires-clause-first g c =
+    let walking = c.loop-next.invariant.1 in
+    let sorted = c.args.sorted.now in
+    let leaves = MatchOption-at_some (NoneLeaves sorted c.loop-next.used (point_at sorted c.loop-next.corner)) (λ place. Leaves sorted c.loop-next.used (point_at sorted c.loop-next.corner) place) c.in-Some.place c.in-Some.is walking.leaves in
+    subst (λ (at : Point). IsFirstFrom sorted at (get_or c.args.corners.now c.in-Some.place 0)) (sym c.end_of-at.ensures) (c.requires.corners.each c.in-Some.place leaves.inside)
 
 pub loop-next-smaller : goal.loop-next-smaller
 loop-next-smaller g c =
@@ -72,14 +79,14 @@ loop-next-preserved g c =
     let stack = c.loop-next.stack.items in
     let corner = c.loop-next.corner in
     let place = c.in-Some.place in
-    let next = c.first_from-corner-in-Some.result in
+    let next = get_or c.args.corners.now place 0 in
     let at = c.end_of-at.result in
     let leaves = MatchOption-at_some (NoneLeaves sorted used (point_at sorted corner)) (λ place. Leaves sorted used (point_at sorted corner) place) place c.in-Some.is walking.leaves in
     let inside = leaves.inside in
     let size = walking.size in
     let before = c.requires.used_size in
     let in_used : place < length used = omega (arith, inside, size, before) in
-    let (same, is) = corner-of_end sorted c.requires.closed c.requires.order place inside at c.end_of-at.ensures next c.first_from-corner-in-Some.ensures in
+    let (same, is) = corner-of_end sorted c.requires.closed c.requires.order place inside at c.end_of-at.ensures next (subst (λ (p : Point). IsFirstFrom sorted p next) (sym c.end_of-at.ensures) (c.requires.corners.each place inside)) in
     let step = subst (λ (list : List ℕ). IsPermutation (path sorted list next ++ unwalked sorted (set used place true)) (path sorted stack corner ++ unwalked sorted used)) (sym c.in_ok-push.ensures.items)
     (step-edges sorted used stack corner next place leaves in_used (same ∙ c.end_of-at.ensures)) in (
       (
