@@ -23,18 +23,15 @@ pub enum ClipFault {
     /// A ring stops before it begins, or behind the points.
     #[error("a ring stops before it begins, or behind the points")]
     Lengths,
-    /// A piece ends further than 2^30 from 0 on an axis.
-    #[error("a piece ends further than 2^30 from 0")]
+    /// A piece ends 2^30 or more from 0 on an axis.
+    #[error("a piece ends 2^30 or more from 0")]
     Far,
-    /// The edges were refused room.
+    /// The edges were refused room, or the status was.
     #[error("the edges: {0}")]
     Refused(#[from] Refusal),
     /// A list was refused room.
     #[error("a list: {0}")]
     Memory(#[from(alloc)] AllocError),
-    /// The edges below were not told.
-    #[error("the edges below: {0}")]
-    Located(#[from] LocateFault),
 }
 
 /// The pieces of the roads that lie inside of the rings, road by road. Inside are the points around which the rings wind.
@@ -67,8 +64,12 @@ pub fn clipped_roads(alloc: Global, roads: &[Edge], rings: Rings) -> Result<Vec<
     let doubled = doubled_edges(alloc, &bounds)?;
     let middles = twice_middles(alloc, of_roads)?;
     let mut places = Vec::new(alloc);
-    locate(&mut status, &doubled, &middles, &mut places)?;
-    Ok(kept_pieces(alloc, &bounds, of_roads, &places)?)
+    match locate(&mut status, &doubled, &middles, &mut places) {
+        Ok(()) => Ok(kept_pieces(alloc, &bounds, of_roads, &places)?),
+        Err(LocateFault::Refused(cause)) => Err(ClipFault::Refused(cause)),
+        // edges that meet only at common ends don't cross
+        Err(LocateFault::Cross(_, _)) => unreachable!(),
+    }
 }
 
 // The pieces of the roads and then of the rings, and how many of them are the roads'.

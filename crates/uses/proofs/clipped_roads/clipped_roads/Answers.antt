@@ -1,10 +1,11 @@
-use Rattle.std.proofs.Common.{◌≡◌, ◌++◌, ◌-◌, [], ℕ, List, Option, length, take, drop, map, ap, sym, subst, ◌∙◌, arith}
+use Rattle.std.proofs.Common.{Err, ◌≡◌, ◌++◌, ◌-◌, [], ℕ, List, Option, length, take, drop, map, ap, sym, subst, ◌∙◌, arith}
 use Rattle.std.specs.List.{AllZip}
 use Rattle.std.proofs.lemmas.List.{append-nil, length-drop, take_all}
 use Rattle.std.proofs.lemmas.List.Elements.{Contains-append_right}
 use Rattle.plane.specs.declared.edge.Edge.{Edge}
 use Rattle.plane.specs.declared.point.Point.{Point}
 use Rattle.plane.specs.Locate.Answers.{IsPlaceBelow}
+use Rattle.plane.specs.SweepLine.Crossings.{IsCrossing}
 use Rattle.overlay.specs.declared.fill.rules.FillRule.TheVariants.{NonZero}
 use Rattle.overlay.specs.declared.fill.rules.Operation.TheVariants.{Union}
 use Rattle.overlay.specs.Boundary.{AreBroken}
@@ -14,6 +15,7 @@ use Rattle.overlay.proofs.BoundaryLemmas.Bounding.{broken-noded, clip-closed}
 use Rattle.overlay.proofs.ContourLemmas.Counts.{rings-closed}
 use Rattle.polygons.specs.Rings.{rings_of}
 use Rattle.uses.specs.Roads.{double, kept, twice_middle}
+use Rattle.uses.proofs.RoadLemmas.{none-crosses}
 use Rattle.uses.proofs.clipped_roads.clipped_roads.Goals as goal
 
 -- what a slice to its list's end is
@@ -41,12 +43,22 @@ fill-requires-clause-noded c =
     let items = c.in_ok-pieces.pieces.items in
     noded-back (take count items) (drop count items) _ (broken-noded c.args.roads.now c.deref.result.now (take count items) (drop count items) c.in_ok-pieces.ensures.1) (rest-is items c.deref-2.result.now count c.deref-2.ensures.value)
 
-pub returns : goal.returns
-returns c =
+-- edges that bound the inside meet only at common ends, so they don't cross
+pub unreachable-requires : goal.unreachable-requires
+unreachable-requires c =
+    let (edges, bounds_are, filled) = c.in_ok-fill.ensures.ok in
+    let bounds = bounds_are ∙ ap (λ (before : List Edge). before ++ edges) c.new-bounds.ensures.items in
+    let doubled = c.deref-5.ensures.value ∙ c.in_ok-doubled.ensures ∙ ap (λ (list : List Edge). map double list) (c.deref-4.ensures.value ∙ bounds) in
+    let i = c.in-Err-Cross.field-0-0 in
+    let j = c.in-Err-Cross.field-0-1 in
+    none-crosses edges filled.noded i j (subst (λ (list : List Edge). IsCrossing list i j) doubled (c.locate.ensures.crossing i j (c.in-Err-Cross.is ∙ ap Err c.in-Err-Cross.field-0-is)))
+
+pub returns-in-Ok : goal.returns-in-Ok
+returns-in-Ok c =
     let count = c.in_ok-pieces.count in
     let items = c.in_ok-pieces.pieces.items in
     let (edges, bounds_are, filled) = c.in_ok-fill.ensures.ok in
-    let (_, answers, places_are, located) = c.in_ok-locate.ensures.ok in
+    let (_, answers, places_are, located) = c.in-Ok.ensures.ok in
     let bounds = bounds_are ∙ ap (λ (before : List Edge). before ++ edges) c.new-bounds.ensures.items in
     let places = places_are ∙ ap (λ (before : List (Option ℕ)). before ++ answers) c.new-places.ensures.items in
     let doubled = c.deref-5.ensures.value ∙ c.in_ok-doubled.ensures ∙ ap (λ (list : List Edge). map double list) (c.deref-4.ensures.value ∙ bounds) in
@@ -61,9 +73,9 @@ returns c =
         places = answers;
         below = subst (λ (list : List Edge). AllZip (IsPlaceBelow list) (map twice_middle (take count items)) answers) doubled
             (subst (λ (points : List Point). AllZip (IsPlaceBelow c.deref-5.result.now) points answers) middles located);
-        is = c.in_ok-kept_pieces.ensures
-            ∙ ap (λ (list : List Edge). kept list (take count c.deref-3.result.now) c.deref-8.result.now) (c.deref-7.ensures.value ∙ bounds)
-            ∙ ap (λ (list : List Edge). kept edges (take count list) c.deref-8.result.now) c.deref-3.ensures.value
-            ∙ ap (λ (list : List (Option ℕ)). kept edges (take count items) list) (c.deref-8.ensures.value ∙ places);
+        is = c.in_ok-kept_pieces-in-Ok.ensures
+            ∙ ap (λ (list : List Edge). kept list (take count c.deref-3.result.now) c.deref-in-Ok-2.result.now) (c.deref-in-Ok.ensures.value ∙ bounds)
+            ∙ ap (λ (list : List Edge). kept edges (take count list) c.deref-in-Ok-2.result.now) c.deref-3.ensures.value
+            ∙ ap (λ (list : List (Option ℕ)). kept edges (take count items) list) (c.deref-in-Ok-2.ensures.value ∙ places);
       };
     }
