@@ -1,1 +1,2 @@
 mod MaskLemmas
+mod RoadLemmas

@@ -1,10 +1,12 @@
 //! Complete small programs over `i_tree`, as its users write them: each is proved; tests stand in `uses_tests`. A loop in
 //! `tickets` and one in `own_descent` have an invariant in a proof file. `kept_booking`, `sessions` and `broken_roads` have a
-//! file for what they promise, and `free_of_masks` has both, and lemmas. `points_in_rectangles` has two files, for its test
-//! and for the condition of a call, and `parcels` has some for a loop and for such a condition. The others need none.
+//! file for what they promise, and `free_of_masks` and `clipped_roads` have both, and lemmas. `points_in_rectangles` has two
+//! files, for its test and for the condition of a call, and `parcels` has some for a loop and for such a condition. The others
+//! need none.
 #![tactic(auto)]
 
 pub mod broken_roads;
+pub mod clipped_roads;
 pub mod coverage;
 pub mod crossing_candidates;
 pub mod dry_land;

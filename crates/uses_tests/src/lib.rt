@@ -4,6 +4,8 @@
 #[cfg(test)]
 mod broken_roads;
 #[cfg(test)]
+mod clipped_roads;
+#[cfg(test)]
 mod coverage;
 #[cfg(test)]
 mod crossing_candidates;
