@@ -32,12 +32,6 @@ loop-here-init g c =
       first = c.root-here.ensures.core;
     }
 
-pub item-requires : goal.item-requires
-item-requires g c = c.loop-here.invariant.way.at.live c.loop-here-test.true
-
-pub remove-requires : goal.remove-requires
-remove-requires g c = c.loop-here.invariant.way.at.live c.loop-here-test.true
-
 pub top_below-here-requires : goal.top_below-here-requires
 top_below-here-requires g c =
     let gone : IsRemoved c.loop-here.core.shape c.loop-here.here c.remove.new.self.shape = record { left = c.remove.ensures.left; right = c.remove.ensures.right; rank = c.remove.ensures.rank } in
@@ -91,12 +85,6 @@ loop-here-preserved-then-not-is_live g c =
       core = c.remove.ensures.core;
       first = c.loop-here.invariant.first;
     }
-
-pub left-left-requires : goal.left-left-requires
-left-left-requires g c = c.loop-here.invariant.way.at.live c.loop-here-test.true
-
-pub right-right-requires : goal.right-right-requires
-right-right-requires g c = c.loop-here.invariant.way.at.live c.loop-here-test.true
 
 pub stands-answer-requires : goal.stands-answer-requires
 stands-answer-requires g c =

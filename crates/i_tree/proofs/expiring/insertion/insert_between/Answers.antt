@@ -14,11 +14,6 @@ use Rattle.i_tree.specs.Rb.Shape.{entries}
 use Rattle.i_tree.specs.Set.Pairs.{values}
 use Rattle.i_tree.proofs.expiring.insertion.insert_between.Goals as goal
 
-pub insert_at-requires : goal.insert_at-requires
-insert_at-requires g c =
-    let end = c.descend-end.ensures.end in
-    (end.front, end.back, subst (IsPlaceBetween c.descend-end.new.core.shape end.front end.back) (sym c.place_below-place.ensures) end.between)
-
 -- a live key was called Equal, and nothing joins
 pub returns-then-is_eq-clause-pairs : goal.returns-then-is_eq-clause-pairs
 returns-then-is_eq-clause-pairs g c =
@@ -29,22 +24,6 @@ returns-then-is_eq-clause-pairs g c =
           (equal_from c.descend-end.result.said (sym c.is_eq.ensures ∙ c.if-is_eq.true));
       refused = tt;
     }
-
-pub returns-then-is_eq-clause-inserts : goal.returns-then-is_eq-clause-inserts
-returns-then-is_eq-clause-inserts g c =
-    record {
-      core = c.descend-end.ensures.core;
-      err = tt;
-      with_spare = λ _. refl;
-      err_way = tt;
-      full = λ none full passes answers all. refl;
-      no_handle = λ _. tt;
-      refused = λ _. tt;
-      slots = c.descend-end.ensures.slots;
-    }
-
-pub returns-then-is_eq-clause-steps : goal.returns-then-is_eq-clause-steps
-returns-then-is_eq-clause-steps g c = c.descend-end.ensures.steps
 
 -- a refusal means that nothing was removed
 none_gone : (g : _) (c : goal.In-Err g) → (c.descend-end.new.core.spare ≡ 0) × (length (entries c.descend-end.new.core.shape) ≡ length (entries c.args.core.now.shape))
@@ -83,9 +62,6 @@ returns-in-Err-clause-inserts g c =
       refused = λ more. takes.refused (λ full. more (ap slots (sym (held g c)) ∙ full));
       slots = tt;
     }
-
-pub returns-in-Err-clause-err_steps : goal.returns-in-Err-clause-err_steps
-returns-in-Err-clause-err_steps g c = rw ((c.in-Err.ensures).takes.err, (c.in-Err.ensures).err_steps) c.descend-end.ensures.steps
 
 -- the pair has joined
 joined : (g : _) (c : goal.In_default g) → entries c.insert_at.new.self.shape ≡ c.descend-end.ensures.end.front ++ (c.in_default.field-0, c.args.pair) ∷ c.descend-end.ensures.end.back

@@ -23,20 +23,11 @@ loop-here-init g c =
       counted = compared_none g.met.C.Counter.law c.args.steps.now _ _ (omega (arith, ap rank c.root-here.ensures.part));
     }
 
-pub item-requires : goal.item-requires
-item-requires g c = c.loop-here.invariant.way.at.live c.loop-here-test.true
-
 pub f-answer-requires : goal.f-answer-requires
 f-answer-requires g c =
     let way = c.loop-here.invariant.way in
     takes_item (λ item. goal.F-pre g c.args.f.now item) (entries c.args.core.now.shape) _ c.loop-here.here c.item.result.now _
     (cut_here c.args.core.now.shape c.loop-here.here c.item.result.now c.item.ensures.value way.at) c.requires c.item.result refl
-
-pub left-left-requires : goal.left-left-requires
-left-left-requires g c = c.loop-here.invariant.way.at.live c.loop-here-test.true
-
-pub right-right-requires : goal.right-right-requires
-right-right-requires g c = c.loop-here.invariant.way.at.live c.loop-here-test.true
 
 pub loop-here-smaller : goal.loop-here-smaller
 loop-here-smaller g c =

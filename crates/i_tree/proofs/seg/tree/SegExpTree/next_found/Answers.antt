@@ -24,9 +24,6 @@ holds g c =
     (rw (← c.self.view_is) at c.requires.latest) c.self.invariant
     (subst (λ (chunks : List (Vec (ℕ × g.row.V.Denot) g.row.A.Denot)). SameLive g.V.ExpiredVal.expiration g.E.Ord.cmp c.args.time (copies_in chunks) (copies_in c.next_value.new.chunks)) c.deref_mut.ensures.value c.next_value.ensures.live)
 
-pub next_value-requires-clause-passed : goal.next_value-requires-clause-passed
-next_value-requires-clause-passed g c = rw c.deref_mut.ensures.value (rw (← c.self.view_is) at c.requires.passed)
-
 pub invariant_of-self : goal.invariant_of-self
 invariant_of-self g c =
     rw (kept g c)

@@ -12,9 +12,6 @@ pub loop-here-init : goal.loop-here-init
 loop-here-init g c =
     ([], IsCutAt-top c.self.inside.core.shape c.root-here.result c.root-here.ensures.part c.root-here.ensures.live, refl)
 
-pub right-here-requires : goal.right-here-requires
-right-here-requires g c = c.loop-here.invariant.1.live c.loop-here-test.true
-
 pub loop-here-smaller : goal.loop-here-smaller
 loop-here-smaller g c =
     let tree = c.self.inside.core.shape in
