@@ -100,10 +100,9 @@ module _ {X : Type 0} where
     pub length-filter_lt : (xs : List X) → Any (λ x. p x ≡ false) xs → length (filter p xs) < length xs
     length-filter_lt [] (k, y, within, is, fails) = absurd (omega arith)
     length-filter_lt (x ∷ xs) (zero, y, within, is, fails) =
-        let short = length-filter_le xs in
         cond_both (p x) (x ∷ filter p xs) (filter p xs) (λ ys. length ys < suc (length xs))
         (λ passes. absurd (both_ways (p x) (ap p is ∙ fails) passes))
-        (λ _. omega arith)
+        (λ _. omega (arith, length-filter_le xs))
     length-filter_lt (x ∷ xs) (suc k, y, within, is, fails) =
         let rest = length-filter_lt xs (k, y, omega arith, is, fails) in
         cond_both (p x) (x ∷ filter p xs) (filter p xs) (λ ys. length ys < suc (length xs)) (λ _. omega arith) (λ _. omega arith)

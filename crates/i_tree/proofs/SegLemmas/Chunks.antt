@@ -56,7 +56,6 @@ module _ {X : Type 0} (P : X → Type 0) where
       → All (λ at. IsSomeAnd (slice_get xs at) P) places → All (λ at. IsSomeAnd (slice_get (slice_set xs place new) at) P) places
   some_at-set_higher xs place new places higher all =
       λ index default within.
-      let above : place < get_or places index default = higher index default within in
       some_at-set_other xs place (get_or places index default) new (λ same. absurd (omega arith)) (all index default within)
 
 -- there is room in the chunk of a node

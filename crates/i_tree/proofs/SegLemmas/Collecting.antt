@@ -148,13 +148,10 @@ module _ {V : Type 0} (answers kept items : List V) (come : List (Member V)) (so
   -- fewer were appended than there are answers, as long as one comes
   pub IsAppended-fewer : {value : V} {come' : List (Member V)} → (member : Member V) × (member.value ≡ value) × IsPermutation come (member ∷ come') → length items < length kept + length answers
   IsAppended-fewer {come' = come'} one =
-      let longer = ap length so_far.is in
-      let both = length-append kept so_far.found in
       let as_many = length_permutation answers (so_far.found ++ values_of come) so_far.rest in
-      let parts = length-append so_far.found (values_of come) in
       let values = length-map come (λ member. member.value) in
       let some = length_permutation come (one.0 ∷ come') one.2 in
-      omega arith
+      omega (arith, length-append so_far.found (values_of come), length-append kept so_far.found, ap length so_far.is)
 
   -- none is left
   pub IsAppended-all : come ≡ [] → (found : List V) × IsPermutation answers found × (items ≡ kept ++ found)

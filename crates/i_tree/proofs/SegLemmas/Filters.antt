@@ -11,8 +11,6 @@ distance_is start value upwards = omega (arith, ints)
 
 distance_rises : (start low high : ℤ) → start ≤ℤ low → low ≤ℤ high → distance start low ≤ distance start high
 distance_rises start low high above upwards =
-    let first = distance_is start low above in
-    let second : pos (distance start high) ≡ high -ℤ start = distance_is start high (omega (arith, ints)) in
     omega (arith, ints)
 
 quotient_rises : (w a b : ℕ) → 0 < w → a ≤ b → a / w ≤ b / w
@@ -42,10 +40,8 @@ overlap_second a b c d both = grind (arith, nat_tests)
 -- where one number's bucket isn't behind another's, it lies less than a width behind it at most
 near : (start low high : ℤ) (width : ℕ) → 0 < width → start ≤ℤ low → start ≤ℤ high → distance start low / width ≤ distance start high / width → low <ℤ (high +ℤ pos width)
 near start low high width some above second_above upto =
-    let first = distance_is start low above in
-    let second = distance_is start high second_above in
     let less = quotient_near width (distance start low) (distance start high) some upto in
-    omega (arith, ints)
+    omega (arith, distance_is start high second_above, distance_is start low above, ints)
 
 -- buckets that have a width filter
 pub filters : (buckets : Buckets) → 0 < buckets.width → Filters buckets
@@ -56,8 +52,6 @@ filters buckets some = record {
       (quotient_rises buckets.width (distance buckets.start least) (distance buckets.start high) some (distance_rises buckets.start least high accepted.above second));
   stays_near = λ low high least greatest own accepted meet.
       let above = own.above in
-      let upwards = own.order in
-      let other_above = accepted.above in
       let other_upwards = accepted.order in (
         near buckets.start low greatest buckets.width some own.above (omega (arith, ints)) (overlap_first (bucket buckets low) (bucket buckets high) (bucket buckets least) (bucket buckets greatest) meet),
         near buckets.start least high buckets.width some accepted.above (omega (arith, ints)) (overlap_second (bucket buckets low) (bucket buckets high) (bucket buckets least) (bucket buckets greatest) meet),

@@ -63,7 +63,6 @@ module _ {E V : Type 0} (expiration : V → E) (cmp : E → E → Ordering) (lat
     all_decode : All Decodes members
     all_decode k d within =
         let order = holds.order k d within in
-        let below = holds.within k d within in
         placed-decodes _ _ order (omega arith)
 
     -- at a node are found the members whose lowest asked node it is

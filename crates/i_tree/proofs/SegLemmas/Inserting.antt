@@ -21,10 +21,8 @@ module _ (buckets : Buckets) (low high : ℤ) (wide : 0 < buckets.width) (accept
   -- the last bucket of the range has a chunk
   pub accepted-within : 32 + bucket buckets high ≤ chunk_count buckets
   accepted-within =
-      let above = accepted.above in
       let order = accepted.order in
-      let rises = bucket-rises buckets high buckets.end wide (omega (arith, ints)) accepted.below in
-      omega arith
+      omega (arith, bucket-rises buckets high buckets.end wide (omega (arith, ints)) accepted.below, accepted.above)
 
   pub accepted-below : (mask : ℕ) → mask < 2 ^ (32 + bucket buckets high) → mask < 2 ^ chunk_count buckets
   accepted-below mask below =
@@ -51,5 +49,4 @@ module _ (buckets : Buckets) (low high : ℤ) (wide : 0 < buckets.width) (accept
         let long = holds.chunk_for_each in
         let within = accepted-within in
         let more = placed-few (canonical_nodes (interval buckets low high)) value before after (omega arith) placed in
-        let eight = few-placed (bucket buckets low) (bucket buckets high) accepted-order (omega arith) in
-        omega arith
+        omega (arith, few-placed (bucket buckets low) (bucket buckets high) accepted-order (omega arith))

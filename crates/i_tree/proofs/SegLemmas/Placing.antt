@@ -58,10 +58,9 @@ module _ {E V : Type 0} (expiration : V → E) (cmp : E → E → Ordering) (lat
     no_chunk : (node : ℕ) → length before ≤ node → is_at node member ≡ false
     no_chunk node past =
         false_from_ne_true (is_at node member) (λ has.
-        let long = holds.chunk_for_each in
-        let small = placed-below member.interval.first member.interval.last order (omega arith) in
+        let small = placed-below member.interval.first member.interval.last order (omega (arith, holds.chunk_for_each)) in
         let within = has_node-below (canonical_nodes member.interval) (32 + member.interval.last) node small has in
-        absurd (omega arith))
+        absurd (omega (arith, holds.chunk_for_each)))
 
     -- what joins the chunk of any node, also where there is no chunk
     joined : (node : ℕ) → chunk_at node after ≡ chunk_at node before ++ joining (canonical_nodes member.interval) member.value node
@@ -69,7 +68,6 @@ module _ {E V : Type 0} (expiration : V → E) (cmp : E → E → Ordering) (lat
         elim (cases_lt node (length before)) [
           | inl less ↦ placed.chunks node less
           | inr past ↦
-              let long = placed.count in
               get_or_past after node [] (omega arith)
               ∙ sym (ap (λ (has : Bool). chunk_at node before ++ cond has (copy_of member ∷ []) []) (no_chunk node past) ∙ append-nil (chunk_at node before) ∙ get_or_past before node [] past)
         ]

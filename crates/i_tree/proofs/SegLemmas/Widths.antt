@@ -17,10 +17,8 @@ width_of_exponent span scale wide enough = record {
   power = (scale, refl);
   enough = enough;
   least = λ exponent more.
-      let doubled : 2 ^ (1 + exponent) ≡ 2 * 2 ^ exponent = pow-add 2 1 exponent in
-      let below : 2 ^ scale < 2 ^ (1 + exponent) = omega arith in
-      let less : scale < 1 + exponent = exponents scale (1 + exponent) below in
-      let most : scale ≤ exponent = omega arith in
+      let below : 2 ^ scale < 2 ^ (1 + exponent) = omega (arith, pow-add 2 1 exponent) in
+      let most : scale ≤ exponent = omega (arith, exponents scale (1 + exponent) below, pow-add 2 1 exponent) in
       pow_mono most;
 }
 
@@ -32,17 +30,14 @@ module _ (least n power : ℕ) (start end : ℤ) (span : pos n ≡ end -ℤ star
   pub too_narrow : n < 2 ^ (power + 1) → power < 4 → HasLayout least start end → ⊥
   too_narrow greatest low layout =
       let few : power + 1 ≤ 4 = omega arith in
-      let small : 2 ^ (power + 1) ≤ 2 ^ 4 = pow_mono few in
-      let wide : 16 ≤ n = subst (λ (d : ℕ). 16 ≤ d) distance_is layout.wide in
-      omega arith
+      omega (arith, subst (λ (d : ℕ). 16 ≤ d) distance_is layout.wide, pow_mono few)
 
   module _ (reached : 2 ^ power ≤ n) (high : 4 ≤ power) where
     pub layout_is : least ≤ n → HasLayout least start end
     layout_is allowed =
-        let large : 2 ^ 4 ≤ 2 ^ power = pow_mono high in
-        let wide : 16 ≤ n = omega arith in
+        let wide : 16 ≤ n = omega (arith, pow_mono high) in
         record {
-          order = omega (arith, ints);
+          order = omega (arith, pow_mono high, ints);
           wide = subst (λ (d : ℕ). 16 ≤ d) (sym distance_is) wide;
           allowed = subst (λ (d : ℕ). least ≤ d) (sym distance_is) allowed;
         }

@@ -84,8 +84,7 @@ module _ {V : Type 0} where
 
   pub LacksHandle-outside : (xs : List V) (handle : ℕ) → length xs ≤ handle → LacksHandle (numbered xs) handle
   LacksHandle-outside xs handle outside k d inside is =
-      let same = length-numbered xs in
-      absurd (omega (arith, is, handle_at xs k d (omega arith)))
+      absurd (omega (arith, length-numbered xs, is, handle_at xs k d (omega (arith, length-numbered xs))))
 
   -- a pair of the list stands at its handle
   module _ (xs : List V) (front : List (ℕ × V)) (handle : ℕ) (value : V) (back : List (ℕ × V)) (cut : numbered xs ≡ front ++ (handle, value) ∷ back) where

@@ -95,11 +95,9 @@ module _ {T : Type 0} where
     where
       by_far : (subtree : Shape T) → top subtree ≡ wanted → occurs wanted subtree ≡ 0 → occurs EMPTY_REF near ≡ 0 → ⊥
       by_far leaf same none none_empty =
-          let e = ap (λ h. occurs h near) same in
-          omega arith
+          omega (arith, ap (λ h. occurs h near) same)
       by_far (fork shade before own thing after) same none none_empty =
-          let e = ap (λ h. one_if_same wanted h) same in
-          omega (arith, one_if_same-same wanted)
+          omega (arith, ap (λ h. one_if_same wanted h) same, one_if_same-same wanted)
 
   -- the number of red nodes in the frames
   abbrev pub red_around : List (Frame T) → ℕ
@@ -114,9 +112,8 @@ module _ {T : Type 0} where
   pub red_nodes-plug : (around : List (Frame T)) (subtree : Shape T) → red_nodes (plug around subtree) ≡ red_around around + red_nodes subtree
   red_nodes-plug [] subtree = omega arith
   red_nodes-plug (frame ∷ around) subtree =
-      let inner = red_nodes-fork_on frame.side frame.colour subtree frame.handle frame.item frame.sibling in
       let outer = red_nodes-plug around (fill frame subtree) in
-      omega arith
+      omega (arith, red_nodes-fork_on frame.side frame.colour subtree frame.handle frame.item frame.sibling)
 
   -- the tree with another colour at the handle
   abbrev pub Paints : Colour → ℕ → Shape T → Shape T → Type 0

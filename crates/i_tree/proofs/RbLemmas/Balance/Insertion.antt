@@ -144,8 +144,7 @@ module _ {T : Type 0} where
           subst IsRedBlack (sym (painted under.side Black parent tree new paints [] Red node_subtree under.parent_item under.sibling is)) whole.balanced
       by_around (frame ∷ around) is same =
           let live = IsHandle-at tree around frame.side frame.colour (fork_on under.side Red node_subtree parent under.parent_item under.sibling) frame.handle frame.item frame.sibling is in
-          let empty = ap (λ handle. occurs handle tree) (sym same ∙ root) in
-          absurd (omega (arith, handles.none_empty))
+          absurd (omega (arith, ap (λ handle. occurs handle tree) (sym same ∙ root), handles.none_empty))
 
   -- the parent's parent, on whichever side the parent is
   under_red-at : (tree : Shape T) (around : List (Frame T)) (side : Side) (colour : Colour) (rotation : Side) (before : Shape T) (node : ℕ) (item : T) (after : Shape T) (parent : ℕ) (parent_item : T) (sibling : Shape T) (above : ℕ) (above_item : T) (uncle : Shape T)

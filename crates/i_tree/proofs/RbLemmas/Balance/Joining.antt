@@ -126,13 +126,12 @@ module _ {T : Type 0} where
   pub length-joined : (tree new : Shape T) (parent : ℕ) (side : Side) (handle : ℕ) (item : T) → HasRoomOn tree parent side
       → Joins tree new parent side handle item → length (entries new) ≡ length (entries tree) + 1
   length-joined tree new parent side handle item room joins =
-      let old_whole = ap (λ (shape : Shape T). length (entries shape)) room.is in
       let new_whole = ap (λ (shape : Shape T). length (entries shape)) (joins room.colour room.item room.far room.around room.is) in
       let old_sum = length-plug room.around (fork_on side room.colour leaf parent room.item room.far) in
       let new_sum = length-plug room.around (fork_on side room.colour (fork Red leaf handle item leaf) parent room.item room.far) in
       let old_node = length-node side room.colour leaf parent room.item room.far in
       let new_node = length-node side room.colour (fork Red leaf handle item leaf) parent room.item room.far in
-      omega arith
+      omega (arith, ap (λ (shape : Shape T). length (entries shape)) room.is)
 
   -- a live handle with no subtree on a side has room there
   HasRoomOn-subtree_on : (side : Side) (tree : Shape T) (handle : ℕ) → AreHandles tree → IsHandle tree handle → subtree_on side handle tree ≡ leaf → HasRoomOn tree handle side

@@ -70,9 +70,7 @@ module _ {T : Type 0} where
   height-at_most : (tree : Shape T) → RanksFall tree → height tree ≤ rank tree
   height-at_most leaf falls = omega arith
   height-at_most (fork colour before handle item after) falls =
-      let left = height-at_most before falls.2 in
-      let right = height-at_most after falls.3 in
-      omega (arith, falls.0, falls.1)
+      omega (arith, height-at_most after falls.3, height-at_most before falls.2, falls.0, falls.1)
 
   length-fork : (colour : Colour) (before : Shape T) (handle : ℕ) (item : T) (after : Shape T)
       → length (entries (fork colour before handle item after)) ≡ length (entries before) + length (entries after) + 1
@@ -84,21 +82,17 @@ module _ {T : Type 0} where
   levels-filled (fork Red before handle item after) balanced =
       omega (arith, length-fork Red before handle item after, levels-filled before balanced.0)
   levels-filled (fork Black before handle item after) balanced =
-      let left = levels-filled before balanced.0 in
-      let right = levels-filled after balanced.1 in
       let even = ap (λ levels. 2 ^ levels) balanced.2 in
       let double = pow_more (black_levels before) in
-      omega (arith, length-fork Black before handle item after)
+      omega (arith, levels-filled after balanced.1, levels-filled before balanced.0, length-fork Black before handle item after)
 
   -- a red top adds a level
   levels-filled_red : (before : Shape T) (handle : ℕ) (item : T) (after : Shape T) → IsRedBlack (fork Red before handle item after)
       → 2 ^ (black_levels before + 1) ≤ length (entries (fork Red before handle item after)) + 1
   levels-filled_red before handle item after balanced =
-      let left = levels-filled before balanced.0 in
-      let right = levels-filled after balanced.1 in
       let even = ap (λ levels. 2 ^ levels) balanced.2 in
       let double = pow_more (black_levels before) in
-      omega (arith, length-fork Red before handle item after)
+      omega (arith, levels-filled after balanced.1, levels-filled before balanced.0, length-fork Red before handle item after)
 
   rank-bounded : (tree : Shape T) → IsRedBlack tree → (levels : ℕ) → length (entries tree) + 1 < 2 ^ (levels + 1) → rank tree ≤ 2 * levels
   rank-bounded leaf balanced levels few = omega arith

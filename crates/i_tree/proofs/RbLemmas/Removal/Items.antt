@@ -109,13 +109,12 @@ module _ {T : Type 0} (at : ℕ) (new : T) where
   pub IsCore-with_item : (tree : Shape T) → IsCore tree → IsCore (with_item at new tree)
   IsCore-with_item tree core =
       let same : length (entries (with_item at new tree)) ≡ length (entries tree) = ap (λ (list : List (ℕ × T)). length list) (entries-with_item tree) ∙ length-set_item (entries tree) in
-      let ranks = rank-with_item tree in
       let heights = height-with_item tree in
       let low = core.low in
       record {
         handles = AreHandles-with_item at new tree core.handles;
         balanced = IsRedBlack-with_item at new tree core.balanced;
         falls = RanksFall-with_item tree core.falls;
-        low = omega arith;
-        bounded = λ levels few. omega (arith, core.bounded levels (omega arith));
+        low = omega (arith, rank-with_item tree);
+        bounded = λ levels few. omega (arith, rank-with_item tree, core.bounded levels (omega (arith, rank-with_item tree)));
       }

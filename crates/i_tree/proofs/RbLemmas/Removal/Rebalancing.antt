@@ -141,8 +141,7 @@ module _ {T : Type 0} where
             by_around [] around_is same = around_is
             by_around (frame ∷ rest) around_is same =
                 let live = IsHandle-at new rest frame.side frame.colour risen.subtree frame.handle frame.item frame.sibling (at_frame frame rest around_is) in
-                let also = ap (λ handle. occurs handle new) (sym same ∙ empty) in
-                absurd (omega (arith, handles.none_empty))
+                absurd (omega (arith, ap (λ handle. occurs handle new) (sym same ∙ empty), handles.none_empty))
 
         pub frame_above : above ≢ EMPTY_REF → (frame : Frame T) × (rest : List (Frame T)) × (cut.around ≡ frame ∷ rest) × (above ≡ frame.handle)
         frame_above some = by_around cut.around refl hole_is

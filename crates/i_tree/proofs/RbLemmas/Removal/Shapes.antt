@@ -39,7 +39,6 @@ module _ {T : Type 0} where
       let whole = gone_in old gone balanced one.around one.side one.colour one.subtree one.item one.is in
       let lower = IsLower-plug one.around one.subtree node whole.lower in
       let ranks = lower.ranks in
-      let was : rank old ≡ rank (plug one.around node) = ap (λ (shape : Shape T). rank shape) one.is in
       let now : rank new ≡ rank (plug one.around one.subtree) = ap (λ (shape : Shape T). rank shape) (detaches one.side one.colour one.subtree one.item one.around one.is) in
       record {
         list = λ around side colour subtree item is. ap (λ (shape : Shape T). entries shape) (detaches side colour subtree item around is);
@@ -52,19 +51,16 @@ module _ {T : Type 0} where
           entries_are = refl;
           ranks = (IsLower-plug inner subtree (fork_on side colour subtree gone item leaf) (gone_in old gone balanced (inner ++ frame ∷ outer) side colour subtree item is).lower).ranks;
         };
-        rank = omega arith;
+        rank = omega (arith, ap (λ (shape : Shape T). rank shape) one.is);
       }
 
   -- a node has no `EMPTY_REF` above it but the root
   pub no_frame : (old : Shape T) (frame : Frame T) (rest : List (Frame T)) (subtree : Shape T) → AreHandles old → old ≡ plug (frame ∷ rest) subtree → frame.handle ≢ EMPTY_REF
   no_frame old frame rest subtree handles is same =
-      let count : occurs EMPTY_REF old ≡ occurs EMPTY_REF (plug rest (fill frame subtree)) = ap (occurs EMPTY_REF) is in
-      let outer = occurs-plug EMPTY_REF rest (fill frame subtree) in
       let inner = occurs-fork_on EMPTY_REF frame.side frame.colour subtree frame.handle frame.item frame.sibling in
       let here = ap (λ handle. one_if_same EMPTY_REF handle) same in
-      let one = one_if_same-same EMPTY_REF in
       let none = handles.none_empty in
-      omega arith
+      omega (arith, one_if_same-same EMPTY_REF, occurs-plug EMPTY_REF rest (fill frame subtree), ap (occurs EMPTY_REF) is)
 
   balanced_root : (old new : Shape T) (gone : ℕ) → AreHandles old → IsRedBlack old → (around : List (Frame T)) (side : Side) (colour : Colour) (subtree : Shape T) (item : T)
       → old ≡ plug around (fork_on side colour subtree gone item leaf) → new ≡ plug around subtree → EMPTY_REF ≡ hole_parent around → IsRedBlack new
@@ -79,8 +75,7 @@ module _ {T : Type 0} where
       let node : Shape T = fork_on side colour subtree gone item leaf in
       let split = IsSplit-of old around node is balanced in
       let whole = gone_in old gone balanced around side colour subtree item is in
-      let level : level_of colour ≡ 0 = ap level_of red in
-      let levels : black_levels node ≡ black_levels subtree = let e = whole.levels in omega arith in
+      let levels : black_levels node ≡ black_levels subtree = let e = whole.levels in omega (arith, ap level_of red) in
       let P : ℕ → Type 0 = λ count. Fits around count in
       subst IsRedBlack (sym now)
       (IsRedBlack-plug around (black_levels subtree) subtree (subst P levels split.fits) (record { balanced = whole.subtree_balanced; deep = refl }) (inl (whole.red red)))
@@ -142,9 +137,7 @@ module _ {T : Type 0} where
       let place = place_of old mid gone parent short leaves frame rest side colour subtree item is in
       let split = IsSplit-of old (frame ∷ rest) node is leaves.balanced in
       let whole = gone_in old gone leaves.balanced (frame ∷ rest) side colour subtree item is in
-      let level : level_of colour ≡ 1 = ap level_of place.black in
       let deep : black_levels frame.sibling ≡ black_levels node = split.fits.1 in
-      let levels : black_levels node ≡ black_levels subtree + level_of colour = whole.levels in
       let P : ℕ → Type 0 = λ count. Fits rest (count + level_of frame.colour) in
       let Q : ℕ → Type 0 = λ own. mid ≡ plug rest (fork_on short frame.colour subtree own frame.item frame.sibling) in
       let R : Side → Type 0 = λ toward. mid ≡ plug rest (fork_on toward frame.colour subtree frame.handle frame.item frame.sibling) in
@@ -157,7 +150,7 @@ module _ {T : Type 0} where
         is = subst Q place.handle (subst R place.side (leaves.detaches side colour subtree item (frame ∷ rest) is));
         near_balanced = whole.subtree_balanced;
         far_balanced = split.fits.0;
-        one_less = omega arith;
+        one_less = omega (arith, whole.levels, ap level_of place.black);
         red_holds = red_stands frame.colour frame.sibling rest split.fits.2;
         fits = subst P (sym deep) split.fits.3;
       }
@@ -189,9 +182,7 @@ module _ {T : Type 0} where
   full_levels old mid gone parent short leaves frame rest side colour subtree item is =
       let place = place_of old mid gone parent short leaves frame rest side colour subtree item is in
       let whole = gone_in old gone leaves.balanced (frame ∷ rest) side colour subtree item is in
-      let level : level_of colour ≡ 1 = ap level_of place.black in
-      let levels = whole.levels in
-      omega arith
+      omega (arith, whole.levels, ap level_of place.black)
 
   rebalanced_side : (old mid new : Shape T) (gone parent : ℕ) (short : Side) → LeavesShort old gone parent short mid → IsRebalanced mid parent short new
       → (inner : List (Frame T)) (frame : Frame T) (outer : List (Frame T)) (side : Side) (colour : Colour) (subtree : Shape T) (item : T)

@@ -42,12 +42,11 @@ module _ {T : Type 0} where
       → AreHandles tree → RebalancesSubtree tree handle side item list most → HasOnSide tree handle side list most
   HasOnSide-from tree handle side item list most handles rebalances =
       let near = subtree_on-cut tree handles rebalances.around side rebalances.colour rebalances.subtree handle item rebalances.far rebalances.is in
-      let same : rank (subtree_on side handle tree) ≡ rank rebalances.subtree = ap (λ (subtree : Shape T). rank subtree) near in
       let ranks = rebalances.ranks in
       record {
         live = IsHandle-at tree rebalances.around side rebalances.colour rebalances.subtree handle item rebalances.far rebalances.is;
         entries_are = ap (λ (subtree : Shape T). entries subtree) near ∙ rebalances.entries_are;
-        ranks = omega arith;
+        ranks = omega (arith, ap (λ (subtree : Shape T). rank subtree) near);
       }
 
   subtree_on-with_item : (side : Side) (at : ℕ) (new : T) (handle : ℕ) (tree : Shape T) → subtree_on side handle (with_item at new tree) ≡ with_item at new (subtree_on side handle tree)
@@ -62,11 +61,10 @@ module _ {T : Type 0} where
       = ap (λ (subtree : Shape T). rank subtree) near ∙ rank-with_item at new (subtree_on side handle tree) in
       let ranks = has.ranks in
       let live = has.live in
-      let count = occurs-with_item at new handle tree in
       record {
-        live = omega arith;
+        live = omega (arith, occurs-with_item at new handle tree);
         entries_are = ap (λ (subtree : Shape T). entries subtree) near ∙ entries-with_item at new (subtree_on side handle tree) ∙ ap (set_item at new) has.entries_are;
-        ranks = omega arith;
+        ranks = omega (arith, occurs-with_item at new handle tree);
       }
 
   -- what the side of a node is made, and what stands around it in the list

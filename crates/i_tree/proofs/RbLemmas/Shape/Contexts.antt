@@ -96,9 +96,8 @@ module _ {T : Type 0} where
   pub occurs-plug : (wanted : ℕ) (around : List (Frame T)) (subtree : Shape T) → occurs wanted (plug around subtree) ≡ occurs_around wanted around + occurs wanted subtree
   occurs-plug wanted [] subtree = omega arith
   occurs-plug wanted (frame ∷ around) subtree =
-      let inner = occurs-fork_on wanted frame.side frame.colour subtree frame.handle frame.item frame.sibling in
       let outer = occurs-plug wanted around (fill frame subtree) in
-      omega arith
+      omega (arith, occurs-fork_on wanted frame.side frame.colour subtree frame.handle frame.item frame.sibling)
 
   pub entries-fork_on : (side : Side) (colour : Colour) (near : Shape T) (handle : ℕ) (item : T) (far : Shape T) →
       entries (fork_on side colour near handle item far) ≡ own_before side (handle, item) (entries far) ++ (entries near ++ own_after side (handle, item) (entries far))
@@ -209,14 +208,12 @@ module _ {T : Type 0} where
   same_cut handle [] back (first ∷ front') back' item item' once same =
       let rest : back ≡ front' ++ (handle, item') ∷ back' = cc in
       let again = ap (λ list. occurs_among handle list) rest ∙ occurs_among-append handle front' ((handle, item') ∷ back') in
-      let own = one_if_same-same handle in
-      absurd (omega arith)
+      absurd (omega (arith, one_if_same-same handle))
   same_cut handle (first ∷ front) back [] back' item item' once same =
       let head : first ≡ (handle, item') = cc in
-      let own = ap (λ (entry : ℕ × T). one_if_same handle entry.0) head ∙ one_if_same-same handle in
       let again = occurs_among-append handle front ((handle, item) ∷ back) in
       let other = one_if_same-same handle in
-      absurd (omega arith)
+      absurd (omega (arith, ap (λ (entry : ℕ × T). one_if_same handle entry.0) head ∙ one_if_same-same handle))
   same_cut handle (first ∷ front) back (other ∷ front') back' item item' once same =
       let head : first ≡ other = cc in
       let rest : front ++ (handle, item) ∷ back ≡ front' ++ (handle, item') ∷ back' = cc in

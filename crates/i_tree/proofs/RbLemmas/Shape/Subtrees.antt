@@ -30,9 +30,7 @@ module _ {T : Type 0} where
 
   pub live-subtree : (around : List (Frame T)) (subtree : Shape T) → top subtree ≢ EMPTY_REF → IsHandle (plug around subtree) (top subtree)
   live-subtree around subtree apart =
-      let inside = live-top subtree apart in
-      let total = occurs-plug (top subtree) around subtree in
-      omega arith
+      omega (arith, occurs-plug (top subtree) around subtree, live-top subtree apart)
 
   pub IsTopOf-subtree : (tree : Shape T) (around : List (Frame T)) (subtree : Shape T) → tree ≡ plug around subtree → AreHandles tree → IsTopOf tree (top subtree) subtree
   IsTopOf-subtree tree around subtree is handles =
@@ -149,15 +147,11 @@ module _ {T : Type 0} where
       let whole : entries tree ≡ before_hole cut.around ++ (entries node ++ after_hole cut.around) = ap (λ (subtree : Shape T). entries subtree) cut.is ∙ entries-plug cut.around node in
       let cuts : before_hole cut.around ++ (entries node ++ after_hole cut.around)
       ≡ (before_hole cut.around ++ entries cut.before) ++ (handle, cut.item) ∷ (entries cut.after ++ after_hole cut.around) = simp append_assoc in
-      let count : occurs_among handle (entries tree) ≡ occurs_among handle (front ++ (handle, item) ∷ back) = ap (occurs_among handle) is in
-      let total = occurs_among-entries handle tree in
-      let apart = handles.apart handle in
       same_cut handle front back (before_hole cut.around ++ entries cut.before) (entries cut.after ++ after_hole cut.around) item cut.item
-      (omega arith) (sym is ∙ whole ∙ cuts)
+      (omega (arith, handles.apart handle, occurs_among-entries handle tree, ap (occurs_among handle) is)) (sym is ∙ whole ∙ cuts)
 
   pub length-subtree : (tree : Shape T) (around : List (Frame T)) (subtree : Shape T) → tree ≡ plug around subtree → length (entries subtree) ≤ length (entries tree)
   length-subtree tree around subtree is =
-      let whole : length (entries tree) ≡ length (before_hole around ++ (entries subtree ++ after_hole around)) = ap (λ (shape : Shape T). length (entries shape)) is ∙ ap length (entries-plug around subtree) in
       let outer = length-append (before_hole around) (entries subtree ++ after_hole around) in
       let inner = length-append (entries subtree) (after_hole around) in
-      omega arith
+      omega (arith, ap (λ (shape : Shape T). length (entries shape)) is ∙ ap length (entries-plug around subtree))

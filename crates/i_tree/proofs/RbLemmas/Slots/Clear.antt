@@ -39,11 +39,9 @@ module _ {T : Type 0} where
       → length (entries (plug around leaf)) + 1 ≡ length (entries (plug around (fork colour leaf gone item leaf)))
   fewer_without around colour gone item =
       let empty : Shape T = leaf in
-      let outer = length-append (before_hole around) (after_hole around) in
       let inner = length-append (before_hole around) ((gone, item) ∷ after_hole around) in
-      let without = ap length (entries-plug around empty) in
       let with_it = ap length (entries-plug around (fork colour leaf gone item leaf)) in
-      omega arith
+      omega (arith, ap length (entries-plug around empty), length-append (before_hole around) (after_hole around))
 
   lost_inside : (around : List (Frame T)) (colour : Colour) (gone : ℕ) (item : T) (new : Shape T) → AreHandles new → new ≡ plug around leaf
       → HasLost (plug around (fork colour leaf gone item leaf)) new (hole_parent around)

@@ -73,9 +73,7 @@ module _ {T : Type 0} where
 
   pub head_not_reserved : (slots : List (Slot T)) (first free : ℕ) (tree : Shape T) → Head slots first free tree → 0 ≢ first
   head_not_reserved slots first free tree head same =
-      let at_zero : occurs 0 tree + (one_if_same 0 first + occurs_in 0 head.rest) ≡ 0 = head.each_once 0 in
-      let own : one_if_same 0 first ≡ 1 = ap (one_if_same 0) (sym same) ∙ one_if_same-same 0 in
-      omega arith
+      omega (arith, ap (one_if_same 0) (sym same) ∙ one_if_same-same 0, head.each_once 0)
 
   pub same_next : (slots : List (Slot T)) (handle next other : ℕ) → slice_get slots handle ≡ Some (Free next) → slice_get slots handle ≡ Some (Free other) → next ≡ other
   same_next slots handle next other first second =

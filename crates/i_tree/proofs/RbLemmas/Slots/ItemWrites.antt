@@ -55,7 +55,6 @@ module _ {T : Type 0} where
           let Old : Links = record { parent = above; left = top before; right = top after; colour = shade } in
           let here = eqb-true handle own is in
           let wrote = slice_get-set_same slots handle (Used links item) (slice_get_within slots handle (Used links held) used) in
-          let both : Some (Used links held) ≡ Some (Used Old was) = sym used ∙ ap (slice_get slots) here ∙ at.0 in
           let linked : links ≡ Old = cc in
           ap (slice_get (slice_set slots handle (Used links item))) (sym here) ∙ wrote ∙ ap (λ (l : Links). Some (Used l item)) (linked ∙ same_links)
           ∙ ap (λ (b : Bool). Some (Used (record { parent = above; left = top (with_item handle item before); right = top (with_item handle item after); colour = shade }) (cond b item was))) (sym is)
@@ -103,7 +102,6 @@ module _ {T : Type 0} where
       → IsHandle tree handle → slot ≡ get_or slots handle slot → slot_item slot ≡ Some lent → tree ≡ plug around (fork shade before handle item after) → lent ≡ item
   item_lent slots root first_free free handle slot lent tree around shade before item after sound live is lends cut =
       let held = slot_live slots root first_free free handle slot tree sound live is in
-      let same : Some held.0.item ≡ Some lent = sym (ap slot_item held.1) ∙ lends in
       let equal : lent ≡ held.0.item = cc in
       equal ∙ item_at slots root first_free free handle tree held.0.links held.0.item around shade before item after sound held.0.is cut
 

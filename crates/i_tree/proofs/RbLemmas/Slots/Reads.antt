@@ -60,9 +60,8 @@ module _ {T : Type 0} where
       → IsSound slots root first_free free tree → IsHandle tree handle → links_of slots handle ≡ Some links → tree ≡ plug around subtree → top subtree ≡ handle
       → (links.parent ≡ hole_parent around) × (is_black_colour links.colour ≡ is_black subtree)
   top_links slots root first_free free handle tree links around leaf sound live read is here =
-      let none = (AreHandles-sound slots root first_free free tree sound).none_empty in
       let moved = ap (λ other. occurs other tree) here in
-      absurd (omega arith)
+      absurd (omega (arith, (AreHandles-sound slots root first_free free tree sound).none_empty))
   top_links slots root first_free free handle tree links around (fork shade before own item after) sound live read is here =
       let at = node_at slots root first_free free tree around shade before own item after sound is in
       let Node : Links = record { parent = hole_parent around; left = top before; right = top after; colour = shade } in
@@ -78,7 +77,6 @@ module _ {T : Type 0} where
       let at = node_on slots root first_free free tree around side shade near handle item far sound is in
       let Node : Links = links_on side (hole_parent around) (top near) (top far) shade in
       let linked : links_of slots handle ≡ Some Node = ap slot_links at in
-      let same : Some Node ≡ Some links = sym linked ∙ read in
       let equal : links ≡ Node = cc in
       ap (child_link side) equal ∙ child_link-on side (hole_parent around) (top near) (top far) shade
 
@@ -87,12 +85,10 @@ module _ {T : Type 0} where
       → is_black subtree ≡ true
   black_at_none tree around leaf handle handles none is here = refl
   black_at_none tree around (fork shade before own item after) handle handles none is here =
-      let total = occurs-plug EMPTY_REF around (fork shade before own item after) in
-      let moved = ap (occurs EMPTY_REF) is in
       let own_is : own ≡ EMPTY_REF = here ∙ none in
       let once = ap (λ other. one_if_same other own) (sym own_is) ∙ one_if_same-same own in
       let never = handles.none_empty in
-      absurd (omega arith)
+      absurd (omega (arith, ap (occurs EMPTY_REF) is, occurs-plug EMPTY_REF around (fork shade before own item after)))
 
   -- the item of a node in its frames
   pub item_at : (slots : List (Slot T)) (root first_free free handle : ℕ) (tree : Shape T) (links : Links) (held : T) (around : List (Frame T)) (shade : Colour) (before : Shape T) (item : T) (after : Shape T)

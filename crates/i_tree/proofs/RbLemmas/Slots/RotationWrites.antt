@@ -30,11 +30,10 @@ module _ {T : Type 0} {handle : ℕ} {side : Side} where
   pub occurs-rotation : (other : ℕ) (rotation : Rotation T handle side) → occurs other (plug rotation.around (unrotated rotation))
       ≡ occurs_around other rotation.around + one_if_same other handle + occurs other rotation.outer + one_if_same other rotation.raised + occurs other rotation.inner + occurs other rotation.far
   occurs-rotation other rotation =
-      let whole = occurs-plug other rotation.around (unrotated rotation) in
       let below : Shape T = fork_on side rotation.raised_colour rotation.inner rotation.raised rotation.raised_item rotation.far in
       let node = occurs-fork_on other side rotation.colour rotation.outer handle rotation.item below in
       let raised = occurs-fork_on other side rotation.raised_colour rotation.inner rotation.raised rotation.raised_item rotation.far in
-      omega arith
+      omega (arith, occurs-plug other rotation.around (unrotated rotation))
 
   pub laid : (slots : List (Slot T)) (root first_free free : ℕ) (rotation : Rotation T handle side) → IsSound slots root first_free free (plug rotation.around (unrotated rotation)) → Laid slots rotation
   laid slots root first_free free rotation sound =
@@ -83,7 +82,6 @@ module _ {T : Type 0} {handle : ℕ} {side : Side} where
       let up_is = up_found slots rotation links up lies read up_read in
       let Node : Links = links_on side handle (top rotation.inner) (top rotation.far) rotation.raised_colour in
       let linked : links_of slots rotation.raised ≡ Some Node = ap slot_links lies.raised in
-      let same : Some Node ≡ Some raised_links = sym linked ∙ ap (links_of slots) (sym up_is) ∙ raised_read in
       let raised_are : raised_links ≡ Node = cc in
       record {
         links_are = links_found slots rotation links lies read;

@@ -50,7 +50,6 @@ module _ {T : Type 0} where
       → Relinks slots (slice_set slots handle (Used links item)) handle change
   Relinks-set slots handle was links change item at is = record {
     at = λ before own same.
-        let held : Some (Used was item) ≡ Some (Used before own) = sym at ∙ same in
         let equal : was ≡ before = cc in
         let kept : item ≡ own = cc in
         slice_get-set_same slots handle (Used links item) (slice_get_within slots handle _ at)
