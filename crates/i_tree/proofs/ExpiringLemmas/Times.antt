@@ -4,12 +4,11 @@ use Rattle.std.specs.Cmp.{IsTotalOrder, upto, tied_itself}
 use Rattle.std.specs.Ordering.{is_ge, is_gt, is_lt, is_some_and, ord_min, partial_ge}
 use Rattle.std.specs.declared.cmp.Ordering.{Ordering}
 use Rattle.std.specs.declared.cmp.Ordering.TheVariants.{Less, Equal, Greater}
-use Rattle.std.specs.List.{insert}
 use Rattle.std.proofs.lemmas.Bool.{cond_both, both_ways}
 use Rattle.std.proofs.lemmas.List.Elements.{All-more, All-weaker}
 use Rattle.i_tree.specs.Expiring.Live.{live_pairs, NoneExpiresBefore}
 use Rattle.i_tree.specs.Root.Live.{is_live}
-use Rattle.i_tree.proofs.RootLemmas.Lists.{All-insert, filter_all}
+use Rattle.i_tree.proofs.RootLemmas.Lists.{filter_all}
 use Rattle.i_tree.proofs.RootLemmas.Orders.{gt-reversed, ge-reversed, at_or_after-reversed, not_after-reversed}
 
 -- what `>=` answers, by `cmp`
@@ -60,13 +59,6 @@ module _ {E : Type 0} {cmp : E → E → Ordering} (o : IsTotalOrder cmp) where
         All-more NotBefore pairs i pair within
         (NoneExpiresBefore-min bound (expiration pair.0) (take i pairs) h)
         (subst NotBefore is (not_after-min_second bound (expiration pair.0)))
-
-    -- a pair joins, and the bound becomes the lesser of it and the pair's expiration
-    pub NoneExpiresBefore-insert : (bound : E) (pairs : List (K × V)) (place : ℕ) (pair : K × V) → NoneExpiresBefore expiration cmp bound pairs → NoneExpiresBefore expiration cmp (ord_min cmp bound (expiration pair.0)) (insert pairs place pair)
-    NoneExpiresBefore-insert bound pairs place pair h =
-        All-insert (λ other. is_gt (cmp (ord_min cmp bound (expiration pair.0)) (expiration other.0)) ≡ false) pairs place pair
-        (NoneExpiresBefore-min bound (expiration pair.0) pairs h)
-        (not_after-min_second bound (expiration pair.0))
 
     -- up to a time before which nothing expires all are live
     pub live_pairs-early : (bound time : E) (pairs : List (K × V)) → is_ge (cmp bound time) ≡ true → NoneExpiresBefore expiration cmp bound pairs → live_pairs expiration cmp time pairs ≡ pairs

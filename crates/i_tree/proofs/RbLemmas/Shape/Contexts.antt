@@ -10,13 +10,6 @@ use Rattle.i_tree.specs.Rb.Context.{Frame, fork_on, fill, plug, other_side}
 pub one_if_same-same : (handle : ℕ) → one_if_same handle handle ≡ 1
 one_if_same-same handle = ap (λ b. cond b 1 0) (eq-eqb handle handle refl)
 
-pub one_if_same-other : (first second : ℕ) → first ≢ second → one_if_same first second ≡ 0
-one_if_same-other first second apart = by_test (eqb first second) refl
-  where
-    by_test : (b : Bool) → eqb first second ≡ b → one_if_same first second ≡ 0
-    by_test true is = absurd (apart (eqb-true first second is))
-    by_test false is = ap (λ t. cond t 1 0) is
-
 -- the test is one of the two
 pub one_if_same-cases : (first second : ℕ) → (one_if_same first second ≡ 0 → first ≢ second) × (0 < one_if_same first second → first ≡ second)
 one_if_same-cases first second = by_test (eqb first second) refl

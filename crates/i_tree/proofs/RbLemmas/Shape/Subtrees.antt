@@ -6,13 +6,9 @@ use Rattle.i_tree.specs.declared.rb.links.Side.{Side}
 use Rattle.i_tree.specs.declared.rb.links.Side.TheVariants.{Left, Right}
 use Rattle.i_tree.specs.Rb.Shape.{Shape, leaf, fork, top, entries, subtree_at, left_subtree, right_subtree, left_at, right_at, first_handle, last_handle, occurs, IsHandle, AreHandles}
 use Rattle.i_tree.specs.Rb.Context.{Frame, fork_on, plug, subtree_on}
-use Rattle.i_tree.proofs.RbLemmas.Shape.Contexts.{Cut, cut_at, one_if_same-same, occurs-plug, subtree_at-here, subtree_at-none, subtree_at-cut, before_hole, after_hole, entries-plug, same_cut, occurs_among-entries, occurs_among}
+use Rattle.i_tree.proofs.RbLemmas.Shape.Contexts.{Cut, cut_at, one_if_same-same, occurs-plug, subtree_at-none, subtree_at-cut, before_hole, after_hole, entries-plug, same_cut, occurs_among-entries, occurs_among}
 
 module _ {T : Type 0} where
-  pub subtree_at-top : (tree : Shape T) → subtree_at (top tree) tree ≡ tree
-  subtree_at-top leaf = refl
-  subtree_at-top (fork shade before own item after) = subtree_at-here shade before own item after
-
   pub live-top : (tree : Shape T) → top tree ≢ EMPTY_REF → IsHandle tree (top tree)
   live-top leaf apart = absurd (apart refl)
   live-top (fork shade before own item after) apart = let here = one_if_same-same own in omega arith

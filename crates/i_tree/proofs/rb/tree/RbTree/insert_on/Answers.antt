@@ -37,10 +37,9 @@ returns-clause-entries g c front at back is =
 
 pub returns-clause-takes : goal.returns-clause-takes
 returns-clause-takes g c =
-    let kept = c.make_room.new.self.shape in
-    let room = HasRoomOn-kept c.args.side c.self.inside.arena.shape kept c.args.parent c.make_room.ensures.shape c.self.invariant.1
+    let room = HasRoomOn-kept c.args.side c.self.inside.arena.shape _ c.args.parent c.make_room.ensures.shape c.self.invariant.1
     (rw c.self.view_is c.requires.live) (rw c.self.view_is c.requires.room) in
-    let more = length-joined kept c.attach-handle.new.self.shape c.args.parent c.args.side c.attach-handle.result c.args.item room c.attach-handle.ensures.shape in
+    let more = length-joined _ c.attach-handle.new.self.shape c.args.parent c.args.side c.attach-handle.result c.args.item room c.attach-handle.ensures.shape in
     let same_entries = ap length c.rebalance_insertion.ensures.entries in
     let spare = c.attach-handle.ensures.spare in
     let same_spare = c.rebalance_insertion.ensures.spare in

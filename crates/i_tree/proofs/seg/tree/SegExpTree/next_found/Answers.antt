@@ -14,8 +14,7 @@ kept g c = all-back c.self.inside.chunks.len c.deref_mut.result.now c.next_value
 small : (g : _) (c : goal.After-self-1 g) → chunk_count c.self.inside.layout ≤ 63
 small g c =
     let few : length (copies_in c.self.inside.chunks.items) ≤ 63 = rw (← c.self.view_is) at c.requires.few in
-    let long = c.self.invariant.chunk_for_each in
-    omega (arith, few, long)
+    omega (arith, few, c.self.invariant.chunk_for_each)
 
 -- they hold what they held
 holds : (g : _) (c : goal.After-self-1 g) → Holds g.V.ExpiredVal.expiration g.E.Ord.cmp c.self.inside.latest (chunk_count c.self.inside.layout) (copies_in c.next_value.new.chunks) (members_in g.V.ExpiredVal.expiration g.E.Ord.cmp c.self.inside.latest (copies_in c.self.inside.chunks.items))
