@@ -49,9 +49,7 @@ module _ {T : Type 0} where
     changes_right above live_above is = gone.right above live_above (ap top is ∙ top_live tree here live)
 
     pub place_stays : (place : Place) → IsPath Finds HoldsBehind nothing tree here place found → IsPlace tree' place
-    place_stays Root way = tt
-    place_stays (Below above Left) way = (changes_left above way.of.0 way.of.1).live
-    place_stays (Below above Right) way = (changes_right above way.of.0 way.of.1).live
+    place_stays place way = grind (arith, changes_left, changes_right)
 
     -- the place is read again: what was found stays
     module _ (next : ℕ) (next_live : next ≢ EMPTY_REF → IsHandle tree' next) where

@@ -22,34 +22,22 @@ pub at_most_from_test : (r : Ordering) → not (is_gt r) ≡ true → r ≢ Grea
 at_most_from_test r passes above = both_ways (not (is_gt r)) (ap (λ s. not (is_gt s)) above) passes
 
 pub above_from_test : (r : Ordering) → not (is_gt r) ≡ false → r ≡ Greater
-above_from_test Less fails = absurd (both_ways true fails refl)
-above_from_test Equal fails = absurd (both_ways true fails refl)
-above_from_test Greater fails = refl
+above_from_test r fails = grind (arith, both_ways)
 
 index_from_test : (r : Ordering) → not (is_gt r) ≡ true → ordering_index r ≤ 1
-index_from_test Less passes = omega arith
-index_from_test Equal passes = omega arith
-index_from_test Greater passes = absurd (both_ways false refl passes)
+index_from_test r passes = grind (arith, both_ways)
 
 test_from_index : (r : Ordering) → ordering_index r ≤ 1 → not (is_gt r) ≡ true
-test_from_index Less few = refl
-test_from_index Equal few = refl
-test_from_index Greater few = absurd (omega arith)
+test_from_index r few = grind arith
 
 less_from_index : (r : Ordering) → ordering_index r ≤ 0 → r ≡ Less
-less_from_index Less few = refl
-less_from_index Equal few = absurd (omega arith)
-less_from_index Greater few = absurd (omega arith)
+less_from_index r few = grind arith
 
 above_from_index : (r : Ordering) → 2 ≤ ordering_index r → r ≡ Greater
-above_from_index Less many = absurd (omega arith)
-above_from_index Equal many = absurd (omega arith)
-above_from_index Greater many = refl
+above_from_index r many = grind arith
 
 pub less_from_apart : (r : Ordering) → r ≢ Equal → r ≢ Greater → r ≡ Less
-less_from_apart Less level above = refl
-less_from_apart Equal level above = absurd (level refl)
-less_from_apart Greater level above = absurd (above refl)
+less_from_apart r level above = grind arith
 
 module _ {X : Type 0} where
   -- a point of a list cuts it
@@ -136,9 +124,7 @@ module _ {K V : Type 0} where
 module _ {K V : Type 0} (P Q : K × V → Type 0) (to : (pair : K × V) → P pair → Q pair) (from : (pair : K × V) → Q pair → P pair) where
   -- two ways to say what is met
   pub IsLast-same : (pairs : List (K × V)) (found : Option (K × V)) → IsLast P pairs found → IsLast Q pairs found
-  IsLast-same pairs None all = All-weaker (λ pair. ¬ (P pair)) (λ pair. ¬ (Q pair)) (λ pair misses too. misses (from pair too)) pairs all
-  IsLast-same pairs (Some pair) (front, back, cut, meets, behind) =
-      (front, back, cut, to pair meets, All-weaker (λ pair. ¬ (P pair)) (λ pair. ¬ (Q pair)) (λ pair misses too. misses (from pair too)) back behind)
+  IsLast-same pairs found all = grind (arith, All-weaker)
 
 module _ {K V : Type 0} (order : K → Ordering) where
   abbrev pub Rises : K × V → K × V → Type 0

@@ -1,5 +1,5 @@
 -- Facts on keys that rise, and on the place of a key among them.
-use Rattle.std.proofs.Common.{◌≡◌, ◌≢◌, ℕ, ◌+◌, ◌-◌, ◌<◌, ◌≤◌, true, false, not, None, Some, List, ◌∷◌, length, get_or, slice_get, refl, sym, ap, ◌∙◌, subst, inl, inr, ⊎_elim, arith, length-drop}
+use Rattle.std.proofs.Common.{◌≡◌, ◌≢◌, ℕ, ◌+◌, ◌-◌, ◌<◌, ◌≤◌, true, false, not, None, Some, List, ◌∷◌, length, get_or, slice_get, sym, ap, ◌∙◌, subst, inl, inr, ⊎_elim, arith, length-drop}
 use Rattle.std.specs.Cmp.{IsTotalOrder, alike_right, tied_itself}
 use Rattle.std.specs.Ordering.{is_gt, is_lt, ordering_reverse}
 use Rattle.std.specs.declared.cmp.Ordering.{Ordering}
@@ -22,9 +22,7 @@ use Rattle.i_tree.specs.Root.Answer.{Above, AtMost, GreatestOr, IsMonotone, Leas
 
 -- the test `is_lt` and the answer `Less`
 pub less_from_is_lt : (r : Ordering) → is_lt r ≡ true → r ≡ Less
-less_from_is_lt Less h = refl
-less_from_is_lt Equal h = absurd (both_ways false refl h)
-less_from_is_lt Greater h = absurd (both_ways false refl h)
+less_from_is_lt r h = grind (arith, both_ways)
 
 pub not_less_from_is_lt : (r : Ordering) → is_lt r ≡ false → r ≢ Less
 not_less_from_is_lt r h e = both_ways (is_lt r) h (ap is_lt e)

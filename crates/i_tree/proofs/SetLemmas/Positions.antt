@@ -6,7 +6,7 @@ use Rattle.std.specs.List.{All, AllPairs, insert, remove, enumerate_from}
 use Rattle.std.specs.List.Sorted.{IsPartitionPoint, IsPartitionedBy}
 use Rattle.std.specs.Ordering.{is_ge, is_gt, is_lt}
 use Rattle.std.specs.declared.cmp.Ordering.{Ordering}
-use Rattle.std.specs.declared.cmp.Ordering.TheVariants.{Less, Equal, Greater}
+use Rattle.std.specs.declared.cmp.Ordering.TheVariants.{Less, Equal}
 use Rattle.std.proofs.Math.Nat.{min-le_left, min-le_right}
 use Rattle.std.proofs.Math.Seq.{get_or-append_seam}
 use Rattle.std.proofs.lemmas.Bool.{both_ways, cases_eq}
@@ -72,10 +72,7 @@ module _ {V : Type 0} where
 
   -- the position before a count of values is a handle
   pub HasHandle-counted : (xs : List V) (count before : ℕ) → count ≤ length xs → (count ≡ 0 → before ≡ EMPTY_REF) → (0 < count → before ≡ count - 1) → before ≢ EMPTY_REF → HasHandle (numbered xs) before
-  HasHandle-counted xs zero before within first later some = absurd (some (first refl))
-  HasHandle-counted xs (suc k) before within first later some =
-      let is : before ≡ suc k - 1 = later (omega arith) in
-      HasHandle-inside xs before (omega (arith, is, within))
+  HasHandle-counted xs count before within first later some = grind (arith, HasHandle-inside)
 
   pub inside_from_HasHandle : (xs : List V) (handle : ℕ) → HasHandle (numbered xs) handle → handle < length xs
   inside_from_HasHandle xs handle (k, pair, within, at, is) =
@@ -245,9 +242,7 @@ pub AreApart-viewed : {V : Type 0} {inside contents : Contents V} → inside ≡
 AreApart-viewed {V} {inside} {contents} is short = subst (λ (list : Contents V). AreApart (numbered list.values)) is (AreApart-numbered inside.values short)
 
 less_from_is_ge : (r : Ordering) → is_ge r ≡ false → r ≡ Less
-less_from_is_ge Less h = refl
-less_from_is_ge Equal h = absurd (both_ways true h refl)
-less_from_is_ge Greater h = absurd (both_ways true h refl)
+less_from_is_ge r h = grind (arith, both_ways)
 
 module _ {K V : Type 0} (key_of : V → K) (cmp : K → K → Ordering) where
   -- two neighbours, as they were read

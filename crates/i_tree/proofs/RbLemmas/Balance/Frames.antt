@@ -1,5 +1,5 @@
 -- Red-black subtrees inside their frames, and what painting and rotating a node keeps.
-use Rattle.std.proofs.Common.{◌≡◌, ◌≢◌, ℕ, ◌+◌, ◌<◌, ◌≤◌, ◌⊎◌, inl, inr, true, List, [], ◌∷◌, ◌++◌, refl, sym, ap, ◌∙◌, subst, append_assoc, arith}
+use Rattle.std.proofs.Common.{◌≡◌, ◌≢◌, ℕ, ◌+◌, ◌<◌, ◌≤◌, ◌⊎◌, true, List, [], ◌∷◌, ◌++◌, refl, sym, ap, ◌∙◌, subst, append_assoc, arith}
 use Rattle.i_tree.specs.declared.TheConstants.{EMPTY_REF}
 use Rattle.i_tree.specs.declared.rb.links.Colour.{Colour}
 use Rattle.i_tree.specs.declared.rb.links.Colour.TheVariants.{Red, Black}
@@ -22,31 +22,19 @@ module _ {T : Type 0} where
   -- a red node over black subtrees
   pub IsSubtree-red : {levels : ℕ} {near far : Shape T} (side : Side) (handle : ℕ) (item : T) → IsBlackSubtree levels near → IsBlackSubtree levels far
       → IsSubtree levels (fork_on side Red near handle item far)
-  IsSubtree-red Left handle item near_subtree far_subtree =
-      record { balanced = (near_subtree.balanced, far_subtree.balanced, near_subtree.deep ∙ sym far_subtree.deep, (near_subtree.black, far_subtree.black)); deep = near_subtree.deep }
-  IsSubtree-red Right handle item near_subtree far_subtree =
-      record { balanced = (far_subtree.balanced, near_subtree.balanced, far_subtree.deep ∙ sym near_subtree.deep, (far_subtree.black, near_subtree.black)); deep = far_subtree.deep }
+  IsSubtree-red side handle item near_subtree far_subtree = grind arith
 
   -- a black node over any subtrees
   pub IsBlackSubtree-black : {levels : ℕ} {near far : Shape T} (side : Side) (handle : ℕ) (item : T) → IsSubtree levels near → IsSubtree levels far
       → IsBlackSubtree (levels + 1) (fork_on side Black near handle item far)
-  IsBlackSubtree-black Left handle item near_subtree far_subtree =
-      record { balanced = (near_subtree.balanced, far_subtree.balanced, near_subtree.deep ∙ sym far_subtree.deep, tt); deep = ap (λ n. n + 1) near_subtree.deep; black = refl }
-  IsBlackSubtree-black Right handle item near_subtree far_subtree =
-      record { balanced = (far_subtree.balanced, near_subtree.balanced, far_subtree.deep ∙ sym near_subtree.deep, tt); deep = ap (λ n. n + 1) far_subtree.deep; black = refl }
+  IsBlackSubtree-black side handle item near_subtree far_subtree = grind arith
 
   -- one frame around a subtree that fits
   fills : (side : Side) (colour : Colour) (near : Shape T) (handle : ℕ) (item : T) (far : Shape T) (around : List (Frame T)) (levels : ℕ)
       → IsSubtree levels near → IsSubtree levels far → MayStand colour far around → (is_black near ≡ true) ⊎ (is_black_colour colour ≡ true)
       → IsSubtree (levels + level_of colour) (fork_on side colour near handle item far)
       × ((is_black (fork_on side colour near handle item far) ≡ true) ⊎ (is_black_around around ≡ true))
-  fills side Red near handle item far around levels near_subtree far_subtree stands (inr black) = cc
-  fills side Red near handle item far around levels near_subtree far_subtree stands (inl black) =
-      let filled = IsSubtree-red side handle item (IsBlackSubtree-from near_subtree black) (IsBlackSubtree-from far_subtree stands.0) in
-      (record { balanced = filled.balanced; deep = omega (arith, filled.deep) }, inr stands.1)
-  fills side Black near handle item far around levels near_subtree far_subtree stands either =
-      let filled = IsBlackSubtree-black side handle item near_subtree far_subtree in
-      (record { balanced = filled.balanced; deep = filled.deep }, inl filled.black)
+  fills side colour near handle item far around levels near_subtree far_subtree stands either = grind (arith, IsSubtree-red, IsBlackSubtree-from, IsBlackSubtree-black)
 
   -- the frames make a red-black tree of a subtree that fits
   pub IsRedBlack-plug : (around : List (Frame T)) (levels : ℕ) (subtree : Shape T) → Fits around levels → IsSubtree levels subtree

@@ -147,11 +147,7 @@ module _ {T : Type 0} where
       -- either way both red nodes then stand on the side, and the entries are the same
       pub IsLeaning-joined : AreHandles tree → is_black under.uncle ≡ true → (new : Shape T) → IsStraightened tree new node parent side child
           → IsLeaning new above side × (entries new ≡ entries tree)
-      IsLeaning-joined handles black new (inl (same, rotations)) =
-          (IsLeaning-rotated handles black same new rotations, entries-rotated parent side tree new (CanRotation-inner handles same) rotations)
-      IsLeaning-joined handles black new (inr (apart, kept)) =
-          let P : Shape T → Type 0 = λ whole. IsLeaning whole above side in
-          (subst P (sym kept) (IsLeaning-straight black apart), ap entries kept)
+      IsLeaning-joined handles black new either = grind (arith, IsLeaning-rotated, entries-rotated, CanRotation-inner, IsLeaning, IsLeaning-straight)
 
   -- the node under red, at the side that was found
   pub IsUnderRed-found : {tree : Shape T} {node parent : ℕ} → HasRedParent tree node parent → AreHandles tree → (above : ℕ) → IsParent tree parent above → above ≢ EMPTY_REF

@@ -52,10 +52,7 @@ module _ {T : Type 0} where
 
   pub rank-fork_on : (side : Side) (colour : Colour) (near : Shape T) (handle : ℕ) (item : T) (far : Shape T) → black_levels near ≡ black_levels far
       → rank (fork_on side colour near handle item far) ≡ 2 * (black_levels far + level_of colour) + one_if_red colour
-  rank-fork_on Left Red near handle item far even = omega arith
-  rank-fork_on Left Black near handle item far even = omega arith
-  rank-fork_on Right Red near handle item far even = omega arith
-  rank-fork_on Right Black near handle item far even = omega arith
+  rank-fork_on side colour near handle item far even = grind arith
 
   -- a node's levels and rank, by its subtree's levels
   pub levels-same_near : (side : Side) (colour : Colour) (one other : Shape T) (handle : ℕ) (item : T) (far : Shape T) → black_levels one ≡ black_levels other
@@ -70,10 +67,7 @@ module _ {T : Type 0} where
 
   pub rank-same_near : (side : Side) (colour : Colour) (one other : Shape T) (handle : ℕ) (item : T) (far : Shape T) → black_levels one ≡ black_levels other
       → rank (fork_on side colour one handle item far) ≡ rank (fork_on side colour other handle item far)
-  rank-same_near Left Red one other handle item far same = ap (λ n. 2 * n + 1) same
-  rank-same_near Left Black one other handle item far same = ap (λ n. 2 * (n + 1)) same
-  rank-same_near Right Red one other handle item far same = refl
-  rank-same_near Right Black one other handle item far same = refl
+  rank-same_near side colour one other handle item far same = grind arith
 
   -- no more nodes are red than there are
   pub red_nodes-few : (tree : Shape T) → red_nodes tree ≤ length (entries tree)

@@ -1,5 +1,5 @@
 -- How a tree changes where a node with an empty subtree is taken out, with the rebalancing or without.
-use Rattle.std.proofs.Common.{◌≡◌, ◌≢◌, ℕ, ◌+◌, ◌≤◌, ◌⊎◌, inl, inr, Bool, true, false, List, [], ◌∷◌, ◌++◌, refl, sym, ap, ◌∙◌, subst, arith}
+use Rattle.std.proofs.Common.{◌≡◌, ◌≢◌, ℕ, ◌+◌, ◌≤◌, ◌⊎◌, inl, Bool, true, false, List, [], ◌∷◌, ◌++◌, refl, sym, ap, ◌∙◌, subst, arith}
 use Rattle.i_tree.specs.declared.TheConstants.{EMPTY_REF}
 use Rattle.i_tree.specs.declared.rb.links.Colour.{Colour}
 use Rattle.i_tree.specs.declared.rb.links.Colour.TheVariants.{Red, Black}
@@ -64,10 +64,7 @@ module _ {T : Type 0} where
 
   balanced_root : (old new : Shape T) (gone : ℕ) → AreHandles old → IsRedBlack old → (around : List (Frame T)) (side : Side) (colour : Colour) (subtree : Shape T) (item : T)
       → old ≡ plug around (fork_on side colour subtree gone item leaf) → new ≡ plug around subtree → EMPTY_REF ≡ hole_parent around → IsRedBlack new
-  balanced_root old new gone handles balanced [] side colour subtree item is now at =
-      subst IsRedBlack (sym now) (gone_in old gone balanced [] side colour subtree item is).subtree_balanced
-  balanced_root old new gone handles balanced (frame ∷ rest) side colour subtree item is now at =
-      absurd (no_frame old frame rest (fork_on side colour subtree gone item leaf) handles is (sym at))
+  balanced_root old new gone handles balanced around side colour subtree item is now at = grind (arith, gone_in, no_frame)
 
   balanced_red : (old new : Shape T) (gone : ℕ) → IsRedBlack old → (around : List (Frame T)) (side : Side) (colour : Colour) (subtree : Shape T) (item : T)
       → old ≡ plug around (fork_on side colour subtree gone item leaf) → new ≡ plug around subtree → colour ≡ Red → IsRedBlack new
@@ -85,15 +82,7 @@ module _ {T : Type 0} where
       → ((around : List (Frame T)) (subtree : Shape T) → old ≡ plug around subtree → top subtree ≡ gone → parent ≡ hole_parent around)
       → ((around : List (Frame T)) (subtree : Shape T) → old ≡ plug around subtree → top subtree ≡ gone → was_black ≡ is_black subtree)
       → (parent ≡ EMPTY_REF) ⊎ ((parent ≢ EMPTY_REF) × (was_black ≡ false)) → IsRedBlack new
-  IsRedBlack-unbalanced old new gone parent was_black handles balanced one detaches parent_is black_is (inl none) =
-      let node : Shape T = fork_on one.side one.colour one.subtree gone one.item leaf in
-      balanced_root old new gone handles balanced one.around one.side one.colour one.subtree one.item one.is (detaches one.side one.colour one.subtree one.item one.around one.is)
-      (sym none ∙ parent_is one.around node one.is (top-fork_on one.side one.colour one.subtree gone one.item leaf))
-  IsRedBlack-unbalanced old new gone parent was_black handles balanced one detaches parent_is black_is (inr red) =
-      let node : Shape T = fork_on one.side one.colour one.subtree gone one.item leaf in
-      let black = black_is one.around node one.is (top-fork_on one.side one.colour one.subtree gone one.item leaf) in
-      balanced_red old new gone balanced one.around one.side one.colour one.subtree one.item one.is (detaches one.side one.colour one.subtree one.item one.around one.is)
-      (red_colour one.colour (sym (is_black-fork_on one.side one.colour one.subtree gone one.item leaf) ∙ sym black ∙ red.1))
+  IsRedBlack-unbalanced old new gone parent was_black handles balanced one detaches parent_is black_is either = grind (arith, balanced_root, top-fork_on, balanced_red, red_colour, is_black-fork_on)
 
   -- a black node below this parent was taken out, on this side
   pub record LeavesShort (old : Shape T) (gone parent : ℕ) (short : Side) (mid : Shape T) : Type 0 where
@@ -246,10 +235,7 @@ module _ {T : Type 0} where
   IsHandle-gone old gone one = IsHandle-at old one.around one.side one.colour one.subtree gone one.item leaf one.is
 
   parent_live : (old : Shape T) (parent : ℕ) (around : List (Frame T)) (subtree : Shape T) → old ≡ plug around subtree → parent ≡ hole_parent around → parent ≢ EMPTY_REF → IsHandle old parent
-  parent_live old parent [] subtree is at some = absurd (some at)
-  parent_live old parent (frame ∷ rest) subtree is at some =
-      let P : ℕ → Type 0 = λ handle. IsHandle old handle in
-      subst P (sym at) (IsHandle-at old rest frame.side frame.colour subtree frame.handle frame.item frame.sibling is)
+  parent_live old parent around subtree is at some = grind (arith, IsHandle-at)
 
   pub IsHandle-parent : (old : Shape T) (gone parent : ℕ) → HasOneSubtree old gone
       → ((around : List (Frame T)) (subtree : Shape T) → old ≡ plug around subtree → top subtree ≡ gone → parent ≡ hole_parent around) → parent ≢ EMPTY_REF → IsHandle old parent

@@ -1,5 +1,5 @@
 -- A subtree of a tree inside its frames: what stands in the whole, and where a handle is.
-use Rattle.std.proofs.Common.{◌≡◌, ◌≢◌, ℕ, ◌+◌, ◌<◌, ◌≤◌, ◌⊎◌, inl, inr, Bool, true, false, eqb, cond, List, [], ◌∷◌, ◌++◌, zero, suc, append-nil, refl, sym, ap, ◌∙◌, subst, append_assoc, arith, length, length-append}
+use Rattle.std.proofs.Common.{◌≡◌, ◌≢◌, ℕ, ◌+◌, ◌<◌, ◌≤◌, ◌⊎◌, Bool, true, false, eqb, cond, List, [], ◌∷◌, ◌++◌, append-nil, refl, sym, ap, ◌∙◌, subst, append_assoc, arith, length, length-append}
 use Rattle.std.proofs.lemmas.Bool.{eqb-true, eqb-false, eq-eqb}
 use Rattle.i_tree.specs.declared.rb.links.Colour.{Colour}
 use Rattle.i_tree.specs.declared.rb.links.Side.{Side}
@@ -21,9 +21,7 @@ one_if_same-cases first second = by_test (eqb first second) refl
 -- a handle of a node is its own, or stands in one of its subtrees
 pub occurs_where : (own handle before after : ℕ) (Goal : Type 0) → 0 < before + one_if_same handle own + after
     → (0 < before → Goal) → (handle ≡ own → Goal) → (0 < after → Goal) → Goal
-occurs_where own handle (suc _) after Goal some in_before here in_after = in_before (omega arith)
-occurs_where own handle zero (suc _) Goal some in_before here in_after = in_after (omega arith)
-occurs_where own handle zero zero Goal some in_before here in_after = here ((one_if_same-cases handle own).1 (omega arith))
+occurs_where own handle before after Goal some in_before here in_after = grind (arith, one_if_same-cases)
 
 pub eqb-apart : (first second : ℕ) → first ≢ second → eqb first second ≡ false
 eqb-apart first second apart = by_test (eqb first second) refl
@@ -38,10 +36,7 @@ other_other Left = refl
 other_other Right = refl
 
 pub same_or_other : (side other : Side) → (other ≡ side) ⊎ (other ≡ other_side side)
-same_or_other Left Left = inl refl
-same_or_other Left Right = inr refl
-same_or_other Right Left = inr refl
-same_or_other Right Right = inl refl
+same_or_other side other = grind arith
 
 module _ {T : Type 0} where
   -- how often the handle stands in the frames
@@ -167,13 +162,7 @@ module _ {T : Type 0} where
 
   pub subtree_at-fork_on : (wanted : ℕ) (side : Side) (shade : Colour) (near : Shape T) (own : ℕ) (item : T) (far : Shape T) → one_if_same wanted own + occurs wanted far ≡ 0
       → subtree_at wanted (fork_on side shade near own item far) ≡ subtree_at wanted near
-  subtree_at-fork_on wanted Left shade near own item far none =
-      subtree_at-below wanted shade near own item far ((one_if_same-cases wanted own).0 (omega arith))
-      ∙ ap (λ tree. or_else (subtree_at wanted near) tree) (subtree_at-none wanted far (omega arith))
-      ∙ or_else-leaf (subtree_at wanted near)
-  subtree_at-fork_on wanted Right shade near own item far none =
-      subtree_at-below wanted shade far own item near ((one_if_same-cases wanted own).0 (omega arith))
-      ∙ ap (λ tree. or_else tree (subtree_at wanted near)) (subtree_at-none wanted far (omega arith))
+  subtree_at-fork_on wanted side shade near own item far none = grind (arith, subtree_at-below, one_if_same-cases, subtree_at-none, or_else-leaf)
 
   -- a handle that isn't in the frames is found inside them
   pub subtree_at-plug : (around : List (Frame T)) (handle : ℕ) (subtree : Shape T) → occurs_around handle around ≡ 0 → subtree_at handle (plug around subtree) ≡ subtree_at handle subtree

@@ -9,7 +9,7 @@ use Rattle.i_tree.specs.declared.rb.links.Side.TheVariants.{Left, Right}
 use Rattle.i_tree.specs.declared.rb.links.Slot.{Slot}
 use Rattle.i_tree.specs.declared.rb.links.Slot.TheVariants.{Free, Used}
 use Rattle.i_tree.specs.Rb.Context.{Frame, fork_on, plug, hole_parent, HasOneSubtree}
-use Rattle.i_tree.specs.Rb.Shape.{Shape, leaf, fork, top, entries, occurs, one_if_same}
+use Rattle.i_tree.specs.Rb.Shape.{Shape, leaf, top, entries, occurs, one_if_same}
 use Rattle.i_tree.specs.Rb.Slots.{slot_links, links_of, IsUsed, IsAt, IsSound, one_if_slot}
 use Rattle.i_tree.specs.Rb.Rotation.{Rehangs, Reparents}
 use Rattle.i_tree.proofs.RbLemmas.Shape.Contexts.{one_if_same-same, occurs_around, occurs-fork_on, occurs-plug, top-fork_on, length-plug}
@@ -37,11 +37,7 @@ module _ {T : Type 0} where
 
   pub taken_is : (side : Side) (above taken : ℕ) (shade : Colour) (subtree : Shape T) → occurs EMPTY_REF subtree ≡ 0
       → OnlySubtree (links_on side above (top subtree) EMPTY_REF shade) taken → taken ≡ top subtree
-  taken_is Left above taken shade leaf none only = only.none refl
-  taken_is Left above taken shade (fork other before own item after) none only =
-      let here = one_if_same-same own in
-      only.some (λ same. let moved = ap (λ handle. occurs handle (fork other before own item after)) same in omega arith)
-  taken_is Right above taken shade subtree none only = only.none refl
+  taken_is side above taken shade subtree none only = grind (arith, one_if_same-same)
 
   pub size-one : (side : Side) (colour : Colour) (subtree : Shape T) (handle : ℕ) (item : T) → length (entries (fork_on side colour subtree handle item leaf)) ≡ length (entries subtree) + 1
   size-one Left colour subtree handle item = omega (arith, length-append (entries subtree) ((handle, item) ∷ []))

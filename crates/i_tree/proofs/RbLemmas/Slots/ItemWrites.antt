@@ -1,5 +1,5 @@
 -- An item of a node in its slot is changed.
-use Rattle.std.proofs.Common.{◌≡◌, ℕ, Bool, true, false, eqb, cond, List, ◌∷◌, Some, length, slice_get, slice_set, get_or, is_some, IsSome, refl, sym, ap, ◌∙◌, subst, length-append, arith}
+use Rattle.std.proofs.Common.{◌≡◌, ℕ, Bool, eqb, cond, List, ◌∷◌, Some, length, slice_get, slice_set, get_or, is_some, IsSome, refl, sym, ap, ◌∙◌, subst, length-append, arith}
 use Rattle.std.proofs.lemmas.Bool.{eqb-true, eqb-false}
 use Rattle.std.proofs.lemmas.List.{length-set}
 use Rattle.std.proofs.lemmas.Option.{slice_get_within, slice_get-get_or}
@@ -51,17 +51,7 @@ module _ {T : Type 0} where
 
       by_test : (test : Bool) → eqb handle own ≡ test → slice_get (slice_set slots handle (Used links item)) own
           ≡ Some (Used (record { parent = above; left = top (with_item handle item before); right = top (with_item handle item after); colour = shade }) (cond (eqb handle own) item was))
-      by_test true is =
-          let Old : Links = record { parent = above; left = top before; right = top after; colour = shade } in
-          let here = eqb-true handle own is in
-          let wrote = slice_get-set_same slots handle (Used links item) (slice_get_within slots handle (Used links held) used) in
-          let linked : links ≡ Old = cc in
-          ap (slice_get (slice_set slots handle (Used links item))) (sym here) ∙ wrote ∙ ap (λ (l : Links). Some (Used l item)) (linked ∙ same_links)
-          ∙ ap (λ (b : Bool). Some (Used (record { parent = above; left = top (with_item handle item before); right = top (with_item handle item after); colour = shade }) (cond b item was))) (sym is)
-      by_test false is =
-          let apart = eqb-false handle own is in
-          slice_get-set_other slots handle own (Used links item) (λ same. apart (sym same)) ∙ at.0 ∙ ap (λ (l : Links). Some (Used l was)) same_links
-          ∙ ap (λ (b : Bool). Some (Used (record { parent = above; left = top (with_item handle item before); right = top (with_item handle item after); colour = shade }) (cond b item was))) (sym is)
+      by_test test is = grind (arith, eqb-true, slice_get-set_same, slice_get_within, same_links, eqb-false, slice_get-set_other)
 
   pub sound-item : (slots : List (Slot T)) (root first_free free handle : ℕ) (links : Links) (held item : T) (tree : Shape T) → IsSound slots root first_free free tree
       → IsHandle tree handle → slice_get slots handle ≡ Some (Used links held)

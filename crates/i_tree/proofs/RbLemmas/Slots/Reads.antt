@@ -83,12 +83,7 @@ module _ {T : Type 0} where
   -- no node has the handle that stands for none
   pub black_at_none : (tree : Shape T) (around : List (Frame T)) (subtree : Shape T) (handle : ℕ) → AreHandles tree → handle ≡ EMPTY_REF → tree ≡ plug around subtree → top subtree ≡ handle
       → is_black subtree ≡ true
-  black_at_none tree around leaf handle handles none is here = refl
-  black_at_none tree around (fork shade before own item after) handle handles none is here =
-      let own_is : own ≡ EMPTY_REF = here ∙ none in
-      let once = ap (λ other. one_if_same other own) (sym own_is) ∙ one_if_same-same own in
-      let never = handles.none_empty in
-      absurd (omega (arith, ap (occurs EMPTY_REF) is, occurs-plug EMPTY_REF around (fork shade before own item after)))
+  black_at_none tree around subtree handle handles none is here = grind (arith, one_if_same-same, occurs-plug)
 
   -- the item of a node in its frames
   pub item_at : (slots : List (Slot T)) (root first_free free handle : ℕ) (tree : Shape T) (links : Links) (held : T) (around : List (Frame T)) (shade : Colour) (before : Shape T) (item : T) (after : Shape T)
