@@ -1,5 +1,5 @@
 -- Pairs along a line: an order that is monotone along them cuts them, and what is answered stands at the cut.
-use Rattle.std.proofs.Common.{◌≡◌, ◌≢◌, ℕ, zero, suc, ◌+◌, ◌-◌, ◌<◌, ◌≤◌, Bool, true, false, not, Option, None, Some, List, [], ◌∷◌, ◌++◌, length, take, drop, get_or, slice_get, refl, sym, ap, ◌∙◌, subst, inl, inr, ⊎_elim, arith, append_assoc, length-drop}
+use Rattle.std.proofs.Common.{◌≡◌, ◌≢◌, ℕ, zero, suc, ◌-◌, ◌<◌, ◌≤◌, Bool, true, false, not, Option, None, Some, List, [], ◌∷◌, ◌++◌, length, take, drop, get_or, slice_get, refl, sym, ap, ◌∙◌, subst, inl, inr, ⊎_elim, arith, append_assoc, length-drop}
 use Rattle.std.specs.Cmp.{Equal-is}
 use Rattle.std.specs.List.{All, AllPairs, Any}
 use Rattle.std.specs.List.Sorted.{IsPartitionPoint, IsPartitionedBy}
@@ -42,14 +42,10 @@ less_from_apart r level above = grind arith
 module _ {X : Type 0} where
   -- a point of a list cuts it
   pub All-before_point : (P Q : X → Type 0) (xs : List X) (count : ℕ) → count ≤ length xs → IsPartitionPoint P Q xs count → All P (take count xs)
-  All-before_point P Q xs count within (before, from) k d inside =
-      let short = length-take-le count xs within in
-      rw (get_or-take count xs k d (omega arith)) (before k d (omega arith) (omega arith))
+  All-before_point P Q xs count within (before, from) k d inside = grind (arith, length-take-le, get_or-take)
 
   pub All-behind_point : (P Q : X → Type 0) (xs : List X) (count : ℕ) → IsPartitionPoint P Q xs count → All Q (drop count xs)
-  All-behind_point P Q xs count (before, from) k d inside =
-      let short = length-drop count xs in
-      rw (get_or-drop count xs k d) (from (count + k) d (omega arith) (omega arith))
+  All-behind_point P Q xs count (before, from) k d inside = grind (arith, length-drop, get_or-drop)
 
   module _ {R : Type 0} (of : X → R) (nothing : R) (xs : List X) (found : R) where
     -- what is read in front of a point is found at the end of the items there

@@ -1,5 +1,5 @@
 -- Chunks without copies hold no member.
-use Rattle.std.proofs.Common.{◌≡◌, ℕ, ◌+◌, ◌≤◌, List, [], ◌∷◌, ◌++◌, replicate, refl, ap, sym, ◌∙◌, subst, inl, inr}
+use Rattle.std.proofs.Common.{arith, ◌≡◌, ℕ, ◌+◌, ◌≤◌, List, [], ◌∷◌, ◌++◌, replicate, refl, ap, sym, ◌∙◌, subst}
 use Rattle.std.specs.List.Sorted.{IsPermutation}
 use Rattle.std.specs.declared.cmp.Ordering.{Ordering}
 use Rattle.std.specs.declared.option.Option.{Option}
@@ -14,11 +14,7 @@ use Rattle.i_tree.specs.Seg.Nodes.{nodes_of, meeting_set}
 
 module _ {E V : Type 0} (expiration : V → E) (cmp : E → E → Ordering) (latest : Option E) (count : ℕ) where
   no_copies : (node : ℕ) → chunk_at {V = V} node (replicate count []) ≡ []
-  no_copies node =
-      elim (cases_lt node count) [
-        | inl within ↦ get_or-replicate count node [] [] within
-        | inr past ↦ get_or_past (replicate count []) node [] (subst (λ (long : ℕ). long ≤ node) (sym (length-replicate count [])) past)
-      ]
+  no_copies node = grind (arith, cases_lt, get_or-replicate, get_or_past, length-replicate)
 
   none_found : (asked : ℕ) (nodes : List ℕ) → found_among {V = V} expiration cmp latest asked nodes (replicate count []) ≡ []
   none_found asked [] = refl

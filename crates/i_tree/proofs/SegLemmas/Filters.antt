@@ -17,11 +17,7 @@ quotient_rises : (w a b : ℕ) → 0 < w → a ≤ b → a / w ≤ b / w
 quotient_rises w a b some upwards = let most : a / w * w ≤ a = div-mul-le_self a w in le-div (a / w) b w some (omega arith)
 
 quotient_near : (w a b : ℕ) → 0 < w → a / w ≤ b / w → a < b + w
-quotient_near w a b some upwards =
-    let below : a < a / w * w + w = lt-div-mul-add some in
-    let rises : a / w * w ≤ b / w * w = mul-le (a / w) w (b / w) w upwards (omega arith) in
-    let most : b / w * w ≤ b = div-mul-le_self b w in
-    omega arith
+quotient_near w a b some upwards = grind (arith, lt-div-mul-add, mul-le, div-mul-le_self)
 
 -- a number that isn't below another lies in no earlier bucket
 pub bucket-rises : (buckets : Buckets) (low high : ℤ) → 0 < buckets.width → buckets.start ≤ℤ low → low ≤ℤ high → bucket buckets low ≤ bucket buckets high
@@ -39,9 +35,7 @@ overlap_second a b c d both = grind (arith, nat_tests)
 
 -- where one number's bucket isn't behind another's, it lies less than a width behind it at most
 near : (start low high : ℤ) (width : ℕ) → 0 < width → start ≤ℤ low → start ≤ℤ high → distance start low / width ≤ distance start high / width → low <ℤ (high +ℤ pos width)
-near start low high width some above second_above upto =
-    let less = quotient_near width (distance start low) (distance start high) some upto in
-    omega (arith, distance_is start high second_above, distance_is start low above, ints)
+near start low high width some above second_above upto = grind (arith, quotient_near, distance_is, ints)
 
 -- buckets that have a width filter
 pub filters : (buckets : Buckets) → 0 < buckets.width → Filters buckets

@@ -59,9 +59,7 @@ module _ {V : Type 0} where
 module _ {E V : Type 0} (expiration : V → E) (cmp : E → E → Ordering) (latest : Option E) where
   module _ (count : ℕ) (chunks : List (List (ℕ × V))) (members : List (Member V)) (few : count ≤ 63) (holds : Holds expiration cmp latest count chunks members) where
     all_decode : All Decodes members
-    all_decode k d within =
-        let order = holds.order k d within in
-        placed-decodes _ _ order (omega arith)
+    all_decode k d within = grind (arith, placed-decodes)
 
     -- at a node are found the members whose lowest asked node it is
     found-at : (asked node : ℕ) → node < 64 → IsPermutation (filter (λ member. first_asked asked member == node) members) (found_at expiration cmp latest asked node (chunk_at node chunks))

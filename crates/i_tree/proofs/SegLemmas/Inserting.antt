@@ -20,14 +20,10 @@ module _ (buckets : Buckets) (low high : ℤ) (wide : 0 < buckets.width) (accept
 
   -- the last bucket of the range has a chunk
   pub accepted-within : 32 + bucket buckets high ≤ chunk_count buckets
-  accepted-within =
-      let order = accepted.order in
-      omega (arith, bucket-rises buckets high buckets.end wide (omega (arith, ints)) accepted.below, accepted.above)
+  accepted-within = grind (arith, bucket-rises, ints)
 
   pub accepted-below : (mask : ℕ) → mask < 2 ^ (32 + bucket buckets high) → mask < 2 ^ chunk_count buckets
-  accepted-below mask below =
-      let rises : 2 ^ (32 + bucket buckets high) ≤ 2 ^ chunk_count buckets = pow-le-pow_right (omega arith) accepted-within in
-      omega arith
+  accepted-below mask below = grind (arith, pow-le-pow_right, accepted-within)
 
   module _ {E V : Type 0} (expiration : V → E) (cmp : E → E → Ordering) (latest : Option E) (value : V) (before after : List (List (ℕ × V))) (members : List (Member V)) (few : chunk_count buckets ≤ 63)
       (holds : Holds expiration cmp latest (chunk_count buckets) before members) (placed : PlacesCopies (canonical_nodes (interval buckets low high)) value before after) where

@@ -1,6 +1,5 @@
 -- Copies that a walk removes, which are not live.
-use Rattle.std.proofs.Common.{◌≡◌, ℕ, ◌-◌, ◌<◌, Bool, true, false, List, [], ◌∷◌, ◌++◌, length, get_or, set, take, refl, ap, sym, ◌∙◌, subst, append_assoc, arith, IsPermutation}
-use Rattle.std.specs.Bool.{◌==◌}
+use Rattle.std.proofs.Common.{◌≡◌, ℕ, ◌<◌, Bool, true, false, List, [], ◌∷◌, ◌++◌, length, get_or, take, refl, ap, sym, ◌∙◌, subst, append_assoc, arith, IsPermutation}
 use Rattle.std.specs.List.{All, filter, swap_remove}
 use Rattle.std.specs.declared.cmp.Ordering.{Ordering}
 use Rattle.std.specs.declared.option.Option.TheVariants.{Some}
@@ -18,9 +17,7 @@ use Rattle.i_tree.proofs.SegLemmas.Bags.{IsPermutation-filter}
 
 -- the items before a place stay where the one there is removed by the last one's move
 pub take-swap_remove : {X : Type 0} (xs : List X) (i : ℕ) (d : X) → i < length xs → take i (swap_remove xs i d) ≡ take i xs
-take-swap_remove xs i d within =
-    take-take i (length xs - 1) (set xs i (get_or xs (length xs - 1) d)) (omega arith)
-    ∙ take-set xs i (get_or xs (length xs - 1) d)
+take-swap_remove xs i d within = grind (arith, take-take, take-set)
 
 -- no item passes where each fails
 filter-none : {X : Type 0} (p : X → Bool) (xs : List X) → All (λ x. p x ≡ false) xs → filter p xs ≡ []
@@ -95,9 +92,7 @@ module _ {E V : Type 0} (expiration : V → E) (cmp : E → E → Ordering) (tim
 
     -- as they are where a walk has no node left
     pub Cleans-ended : (left index : ℕ) (before after : List (List (ℕ × V))) → left ≡ 0 → LosesExpiredAt expiration cmp time asked before after → HasPassed expiration cmp time asked left index after → Cleans expiration cmp time asked before after
-    Cleans-ended left index before after none loses passed =
-        Cleans-from before after loses
-        (λ node has. passed.nodes node has (ap (λ (mask : ℕ). has_node mask node) none ∙ ap (λ (bit : ℕ). bit == 1) (bit_at-zero node)))
+    Cleans-ended left index before after none loses passed = grind (arith, Cleans-from, bit_at-zero)
 
     -- also where its last part is
     pub Cleans-after : (first second third : List (List (ℕ × V))) → LosesExpiredAt expiration cmp time asked first second → Cleans expiration cmp time asked second third → Cleans expiration cmp time asked first third

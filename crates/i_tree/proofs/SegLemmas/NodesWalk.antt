@@ -19,11 +19,7 @@ use Rattle.i_tree.proofs.SegLemmas.NodesOf.{nodes_of-zero}
 
 -- two numbers are the same or not
 pub same_or_not : (one other : ℕ) → (one ≡ other) ⊎ (one ≢ other)
-same_or_not one other =
-    elim (cases_lt one other) [
-      | inl below ↦ inr (λ same. absurd (omega arith))
-      | inr upto ↦ elim (cases_lt other one) [ inl above ↦ inr (λ same. absurd (omega arith)) | inr from ↦ inl (omega arith) ]
-    ]
+same_or_not one other = grind (arith, cases_lt)
 
 -- `expiration` gives a value's expiration, `cmp` compares expirations.
 module _ {E V : Type 0} (expiration : V → E) (cmp : E → E → Ordering) (time : E) where
@@ -124,16 +120,7 @@ module _ {E V : Type 0} (expiration : V → E) (cmp : E → E → Ordering) (tim
     pub found-changed : (asked index index' : ℕ) (nodes : List ℕ) → All (λ other. other ≢ node) nodes → (taken : List (Member V))
         → IsPermutation (found_at expiration cmp (Some time) asked node (drop index (chunk_at node chunks))) (taken ++ found_at expiration cmp (Some time) asked node (drop index' after))
         → IsPermutation (found_from expiration cmp time asked index (node ∷ nodes) chunks) (taken ++ found_from expiration cmp time asked index' (node ∷ nodes) changed)
-    found-changed asked index index' nodes elsewhere taken h =
-        let there = sym (ap (λ (copies : List (ℕ × V)). found_at expiration cmp (Some time) asked node (drop index' copies)) chunk_there) in
-        let rest = sym (found_elsewhere asked nodes elsewhere) in
-        subst (λ (found : List (Member V)). IsPermutation (found_from expiration cmp time asked index (node ∷ nodes) chunks) (taken ++ found)) (
-        ap (λ (found : List (Member V)). found ++ found_among expiration cmp (Some time) asked nodes chunks) there
-        ∙ ap (λ (found : List (Member V)). found_at expiration cmp (Some time) asked node (drop index' (chunk_at node changed)) ++ found) rest
-        )
-        (subst (λ (found : List (Member V)). IsPermutation (found_from expiration cmp time asked index (node ∷ nodes) chunks) found)
-        (append_assoc taken (found_at expiration cmp (Some time) asked node (drop index' after)) (found_among expiration cmp (Some time) asked nodes chunks))
-        (IsPermutation-append_left (found_among expiration cmp (Some time) asked nodes chunks) _ _ h))
+    found-changed asked index index' nodes elsewhere taken h = grind (arith, chunk_there, found_elsewhere, append_assoc, IsPermutation-append_left)
 
     -- the counts of the part
     pub Reads-changed : {S : Type 0} (Made : S → S → Counts → Type 0) (old new : S) (index index' : ℕ) (nodes : List ℕ) → All (λ other. other ≢ node) nodes

@@ -1,6 +1,5 @@
 -- Which nodes a mask has that is made of a test, and which a list of a mask's nodes has.
 use Rattle.std.proofs.Common.{◌≡◌, ℕ, zero, suc, ◌+◌, ◌*◌, ◌^◌, ◌<◌, ◌≤◌, Bool, true, false, cond, List, [], ◌∷◌, refl, ap, sym, ◌∙◌, subst, inl, inr, arith}
-use Rattle.std.specs.Bool.{◌==◌}
 use Rattle.std.specs.List.{All, Contains}
 use Rattle.std.proofs.lemmas.Bool.{cases_lt, cond-true}
 use Rattle.std.proofs.lemmas.List.Elements.{All-nil, All-cons, Contains-append_right}
@@ -25,11 +24,7 @@ nodes_where-lt test = mask_below-lt 63 test
 
 -- a mask below a power of two has nodes below its exponent alone
 pub has_node-below : (mask bound node : ℕ) → mask < 2 ^ bound → has_node mask node ≡ true → node < bound
-has_node-below mask bound node small has =
-    elim (cases_lt node bound) [
-      | inl less ↦ less
-      | inr past ↦ let lacks = ap (λ (bit : ℕ). bit == 1) (bit_at_above mask bound node small past) in cc
-    ]
+has_node-below mask bound node small has = grind (arith, cases_lt, bit_at_above)
 
 -- the listed nodes are those that the mask has
 nodes_from-have : (more node mask : ℕ) → All (λ at. has_node mask at ≡ true) (nodes_from more node mask)

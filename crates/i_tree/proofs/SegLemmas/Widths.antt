@@ -28,9 +28,7 @@ module _ (least n power : ℕ) (start end : ℤ) (span : pos n ≡ end -ℤ star
 
   -- a span of fewer buckets than 16 has no layout
   pub too_narrow : n < 2 ^ (power + 1) → power < 4 → HasLayout least start end → ⊥
-  too_narrow greatest low layout =
-      let few : power + 1 ≤ 4 = omega arith in
-      omega (arith, subst (λ (d : ℕ). 16 ≤ d) distance_is layout.wide, pow_mono few)
+  too_narrow greatest low layout = grind (arith, distance_is, pow_mono)
 
   module _ (reached : 2 ^ power ≤ n) (high : 4 ≤ power) where
     pub layout_is : least ≤ n → HasLayout least start end

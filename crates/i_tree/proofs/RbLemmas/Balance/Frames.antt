@@ -51,10 +51,7 @@ module _ {T : Type 0} where
       leaf_inside (record { side = Left; colour = colour; handle = handle; item = item; sibling = after } ∷ around) before
 
   pub IsHandle-in : (tree : Shape T) (around : List (Frame T)) (subtree : Shape T) (handle : ℕ) → tree ≡ plug around subtree → 0 < occurs handle subtree → IsHandle tree handle
-  IsHandle-in tree around subtree handle is some =
-      let P : Shape T → Type 0 = λ whole. IsHandle whole handle in
-      let inside : IsHandle (plug around subtree) handle = omega (arith, occurs-plug handle around subtree) in
-      subst P (sym is) inside
+  IsHandle-in tree around subtree handle is some = grind (arith, occurs-plug)
 
   pub occurs-own : (side : Side) (colour : Colour) (near : Shape T) (handle : ℕ) (item : T) (far : Shape T) → 0 < occurs handle (fork_on side colour near handle item far)
   occurs-own side colour near handle item far = omega (arith, occurs-fork_on handle side colour near handle item far, one_if_same-same handle)
@@ -144,9 +141,4 @@ module _ {T : Type 0} where
   entries-rotated_subtree Right colour raised_colour outer handle item inner raised raised_item far = simp append_assoc
 
   pub entries-rotated : (handle : ℕ) (side : Side) (old new : Shape T) → CanRotation old handle side → Rotations handle side old new → entries new ≡ entries old
-  entries-rotated handle side old new can rotations =
-      let rotation = can.rotation in
-      ap entries (rotations rotation can.is)
-      ∙ entries-replaced rotation.around (rotated rotation) (unrotated rotation)
-      (entries-rotated_subtree side rotation.colour rotation.raised_colour rotation.outer handle rotation.item rotation.inner rotation.raised rotation.raised_item rotation.far)
-      ∙ sym (ap entries can.is)
+  entries-rotated handle side old new can rotations = grind (arith, entries-replaced, entries-rotated_subtree)

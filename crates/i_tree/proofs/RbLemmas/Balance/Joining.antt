@@ -118,13 +118,7 @@ module _ {T : Type 0} where
   -- there is one entry more
   pub length-joined : (tree new : Shape T) (parent : ℕ) (side : Side) (handle : ℕ) (item : T) → HasRoomOn tree parent side
       → Joins tree new parent side handle item → length (entries new) ≡ length (entries tree) + 1
-  length-joined tree new parent side handle item room joins =
-      let new_whole = ap (λ (shape : Shape T). length (entries shape)) (joins room.colour room.item room.far room.around room.is) in
-      let old_sum = length-plug room.around (fork_on side room.colour leaf parent room.item room.far) in
-      let new_sum = length-plug room.around (fork_on side room.colour (fork Red leaf handle item leaf) parent room.item room.far) in
-      let old_node = length-node side room.colour leaf parent room.item room.far in
-      let new_node = length-node side room.colour (fork Red leaf handle item leaf) parent room.item room.far in
-      omega (arith, ap (λ (shape : Shape T). length (entries shape)) room.is)
+  length-joined tree new parent side handle item room joins = grind (arith, length-plug, length-node)
 
   -- a live handle with no subtree on a side has room there
   HasRoomOn-subtree_on : (side : Side) (tree : Shape T) (handle : ℕ) → AreHandles tree → IsHandle tree handle → subtree_on side handle tree ≡ leaf → HasRoomOn tree handle side
@@ -141,6 +135,4 @@ module _ {T : Type 0} where
   -- and so in a tree that is kept
   pub HasRoomOn-kept : (side : Side) (tree kept : Shape T) (handle : ℕ) → kept ≡ tree → AreHandles tree → IsHandle tree handle → subtree_on side handle tree ≡ leaf
       → HasRoomOn kept handle side
-  HasRoomOn-kept side tree kept handle same handles live none =
-      let P : Shape T → Type 0 = λ shape. HasRoomOn shape handle side in
-      subst P (sym same) (HasRoomOn-subtree_on side tree handle handles live none)
+  HasRoomOn-kept side tree kept handle same handles live none = grind (arith, HasRoomOn-subtree_on)

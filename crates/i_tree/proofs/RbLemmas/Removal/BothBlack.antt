@@ -32,9 +32,7 @@ module _ {T : Type 0} where
         IsHandle-above_red = IsHandle-at one cut.around side cut.colour cut.near node cut.item red_far at_red
 
         pub says_node : (says : Bool) → SaysBlack one node says → says ≡ is_black_colour cut.colour
-        says_node says says_is =
-            says_is cut.around (fork_on side cut.colour cut.near node cut.item red_far) at_red (top-fork_on side cut.colour cut.near node cut.item red_far)
-            ∙ is_black-fork_on side cut.colour cut.near node cut.item red_far
+        says_node says says_is = grind (arith, red_far, at_red, top-fork_on, is_black-fork_on)
 
         red_far_subtree : IsSubtree (black_levels cut.near) red_far
         unfolding red_far

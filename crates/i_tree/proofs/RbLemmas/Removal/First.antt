@@ -1,5 +1,5 @@
 -- The descent along the left side of a subtree, to its first entry.
-use Rattle.std.proofs.Common.{◌≡◌, ℕ, List, [], ◌∷◌, ◌++◌, refl, sym, ap, ◌∙◌, subst, append-nil}
+use Rattle.std.proofs.Common.{arith, ◌≡◌, ℕ, List, [], ◌∷◌, ◌++◌, refl, sym, ap, ◌∙◌, append-nil}
 use Rattle.i_tree.specs.declared.rb.links.Colour.{Colour}
 use Rattle.i_tree.specs.declared.rb.links.Side.TheVariants.{Left}
 use Rattle.i_tree.specs.Rb.Shape.{Shape, leaf, fork, entries, subtree_at, left_subtree, left_at, IsHandle, AreHandles}
@@ -30,11 +30,7 @@ module _ {T : Type 0} where
   -- one step to the left
   pub StartsWith-left : (whole tree : Shape T) (handle : ℕ) → AreHandles tree → IsHandle tree handle
       → StartsWith whole (subtree_at handle tree) → StartsWith whole (left_at handle tree)
-  StartsWith-left whole tree handle handles live starts =
-      let cut = cut_at tree handle live in
-      let subtree_is = subtree_at-of_cut tree handle handles cut in
-      let P : Shape T → Type 0 = λ subtree. StartsWith whole subtree in
-      subst P (sym (ap left_subtree subtree_is)) (starts_left whole (subtree_at handle tree) cut.colour cut.before handle cut.item cut.after subtree_is starts)
+  StartsWith-left whole tree handle handles live starts = grind (arith, cut_at, subtree_at-of_cut, starts_left)
 
   starts_first : (whole subtree : Shape T) (colour : Colour) (before : Shape T) (handle : ℕ) (item : T) (after : Shape T)
       → subtree ≡ fork colour before handle item after → before ≡ leaf → StartsWith whole subtree → IsFirst whole handle

@@ -92,10 +92,7 @@ module _ {T : Type 0} where
 
   module _ (tree new : Shape T) (node : ℕ) (side : Side) (cut : IsShort tree node side) where
     pub entries-risen : IsRisen tree node side cut new → entries new ≡ entries tree
-    entries-risen risen =
-        ap entries risen.is
-        ∙ entries-replaced cut.around risen.subtree (fork_on side cut.colour cut.near node cut.item cut.far) risen.entries_are
-        ∙ sym (ap entries cut.is)
+    entries-risen risen = grind (arith, entries-replaced)
 
     pub balanced-ended : IsEnded tree node side cut new → IsRedBlack new
     balanced-ended ended =

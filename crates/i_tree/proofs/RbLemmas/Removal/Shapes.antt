@@ -4,9 +4,9 @@ use Rattle.i_tree.specs.declared.TheConstants.{EMPTY_REF}
 use Rattle.i_tree.specs.declared.rb.links.Colour.{Colour}
 use Rattle.i_tree.specs.declared.rb.links.Colour.TheVariants.{Red, Black}
 use Rattle.i_tree.specs.declared.rb.links.Side.{Side}
-use Rattle.i_tree.specs.Rb.Shape.{Shape, leaf, top, entries, occurs, one_if_same, black_levels, rank, IsHandle, AreHandles}
+use Rattle.i_tree.specs.Rb.Shape.{Shape, leaf, top, entries, black_levels, rank, IsHandle, AreHandles}
 use Rattle.i_tree.specs.Rb.Balance.{is_black, is_black_colour, level_of, IsRedBlack, Fits, IsShort}
-use Rattle.i_tree.specs.Rb.Context.{Frame, fork_on, fill, plug, hole_parent, Replaces, HasOneSubtree}
+use Rattle.i_tree.specs.Rb.Context.{Frame, fork_on, plug, hole_parent, Replaces, HasOneSubtree}
 use Rattle.i_tree.specs.Rb.Removal.{KeepsSubtree, RebalancesSubtree}
 use Rattle.i_tree.specs.Rb.Detaching.{TakesOut}
 use Rattle.i_tree.proofs.RbLemmas.Shape.Contexts.{one_if_same-same, occurs-plug, occurs-fork_on, top-fork_on, plug-append}
@@ -56,11 +56,7 @@ module _ {T : Type 0} where
 
   -- a node has no `EMPTY_REF` above it but the root
   pub no_frame : (old : Shape T) (frame : Frame T) (rest : List (Frame T)) (subtree : Shape T) → AreHandles old → old ≡ plug (frame ∷ rest) subtree → frame.handle ≢ EMPTY_REF
-  no_frame old frame rest subtree handles is same =
-      let inner = occurs-fork_on EMPTY_REF frame.side frame.colour subtree frame.handle frame.item frame.sibling in
-      let here = ap (λ handle. one_if_same EMPTY_REF handle) same in
-      let none = handles.none_empty in
-      omega (arith, one_if_same-same EMPTY_REF, occurs-plug EMPTY_REF rest (fill frame subtree), ap (occurs EMPTY_REF) is)
+  no_frame old frame rest subtree handles is same = grind (arith, occurs-fork_on, one_if_same-same, occurs-plug)
 
   balanced_root : (old new : Shape T) (gone : ℕ) → AreHandles old → IsRedBlack old → (around : List (Frame T)) (side : Side) (colour : Colour) (subtree : Shape T) (item : T)
       → old ≡ plug around (fork_on side colour subtree gone item leaf) → new ≡ plug around subtree → EMPTY_REF ≡ hole_parent around → IsRedBlack new
@@ -239,6 +235,4 @@ module _ {T : Type 0} where
 
   pub IsHandle-parent : (old : Shape T) (gone parent : ℕ) → HasOneSubtree old gone
       → ((around : List (Frame T)) (subtree : Shape T) → old ≡ plug around subtree → top subtree ≡ gone → parent ≡ hole_parent around) → parent ≢ EMPTY_REF → IsHandle old parent
-  IsHandle-parent old gone parent one parent_is some =
-      let node : Shape T = fork_on one.side one.colour one.subtree gone one.item leaf in
-      parent_live old parent one.around node one.is (parent_is one.around node one.is (top-fork_on one.side one.colour one.subtree gone one.item leaf)) some
+  IsHandle-parent old gone parent one parent_is some = grind (arith, parent_live, top-fork_on)

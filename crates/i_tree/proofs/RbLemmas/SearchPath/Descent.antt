@@ -35,14 +35,10 @@ module _ {T : Type 0} where
 
   module _ (tree : Shape T) (here : ℕ) (item : T) (subtrees : entries (subtree_at here tree) ≡ entries (left_at here tree) ++ (here, item) ∷ entries (right_at here tree)) where
     pub falls_left : (next : ℕ) → RanksFall tree → subtree_at next tree ≡ left_at here tree → rank (subtree_at next tree) < rank (subtree_at here tree)
-    falls_left next falls is =
-        let below = ranks_below (subtree_at here tree) (entries (left_at here tree)) (here, item) (entries (right_at here tree)) (RanksFall-subtree here tree falls) subtrees in
-        rw is below.0
+    falls_left next falls is = grind (arith, ranks_below, RanksFall-subtree)
 
     pub falls_right : (next : ℕ) → RanksFall tree → subtree_at next tree ≡ right_at here tree → rank (subtree_at next tree) < rank (subtree_at here tree)
-    falls_right next falls is =
-        let below = ranks_below (subtree_at here tree) (entries (left_at here tree)) (here, item) (entries (right_at here tree)) (RanksFall-subtree here tree falls) subtrees in
-        rw is below.1
+    falls_right next falls is = grind (arith, ranks_below, RanksFall-subtree)
 
     module _ {front back : List (ℕ × T)} (at : IsCutAt tree here front back) where
       pub cut_here : entries tree ≡ (front ++ entries (left_at here tree)) ++ (here, item) ∷ (entries (right_at here tree) ++ back)

@@ -1,5 +1,5 @@
 -- A new key among keys that rise.
-use Rattle.std.proofs.Common.{◌≡◌, ℕ, List, [], ◌∷◌, ◌++◌, length, refl, sym, ap, ◌∙◌, subst, arith, length-append}
+use Rattle.std.proofs.Common.{◌≡◌, ℕ, List, [], ◌∷◌, ◌++◌, length, refl, sym, ap, ◌∙◌, arith, length-append}
 use Rattle.std.proofs.Math.Seq.{take-append_seam, drop-append_seam}
 use Rattle.std.specs.Cmp.{IsTotalOrder}
 use Rattle.std.specs.List.{All, AllPairs, insert}
@@ -13,8 +13,8 @@ use Rattle.i_tree.specs.Root.Ends.{LastFinds, StartsIn}
 use Rattle.i_tree.specs.Root.Change.{Joins}
 use Rattle.i_tree.specs.Rb.Items.{items_of}
 use Rattle.i_tree.specs.Rb.Context.{beside}
-use Rattle.i_tree.specs.Rb.Place.{IsPlaceOf, IsPlaceBetween}
-use Rattle.i_tree.specs.Rb.Shape.{Shape, leaf, entries}
+use Rattle.i_tree.specs.Rb.Place.{IsPlaceBetween}
+use Rattle.i_tree.specs.Rb.Shape.{Shape, entries}
 use Rattle.i_tree.specs.declared.rb.links.Side.{Side}
 use Rattle.i_tree.specs.declared.rb.place.Place.{Place}
 use Rattle.i_tree.specs.declared.rb.place.Place.TheVariants.{Root, Below}
@@ -67,6 +67,4 @@ module _ {V : Type 0} (tree : Shape V) (place : Place) (old new : List (ℕ × V
   joined_below parent side is says front back between = grind (arith, common_steps)
 
   pub joined_root : place ≡ Root → new ≡ (handle, value) ∷ [] → (front back : List (ℕ × V)) → IsPlaceBetween tree front back place → new ≡ front ++ (handle, value) ∷ back
-  joined_root is says front back between =
-      let free = subst (IsPlaceOf tree leaf front back) is between.free in
-      says ∙ ap (λ pairs. (handle, value) ∷ pairs) (sym free.2) ∙ ap (λ pairs. pairs ++ (handle, value) ∷ back) (sym free.1)
+  joined_root is says front back between = grind arith

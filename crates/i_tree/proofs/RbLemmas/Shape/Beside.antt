@@ -67,14 +67,7 @@ module _ {T : Type 0} where
   -- no subtree of a node has the top of the other
   tops_apart : (tree : Shape T) (rest : List (Frame T)) (side : Side) (colour : Colour) (subtree : Shape T) (own : ℕ) (item : T) (sibling : Shape T)
       → AreHandles tree → tree ≡ plug rest (fork_on side colour subtree own item sibling) → IsHandle tree (top subtree) → top sibling ≢ top subtree
-  tops_apart tree rest side colour subtree own item sibling handles is live same =
-      let apart = live-not_empty tree (top subtree) handles live in
-      let moved : occurs (top sibling) sibling ≡ occurs (top subtree) sibling = ap (λ handle. occurs handle sibling) same in
-      let count : occurs (top subtree) tree ≡ occurs (top subtree) (plug rest (fork_on side colour subtree own item sibling)) = ap (occurs (top subtree)) is in
-      let outer = occurs-plug (top subtree) rest (fork_on side colour subtree own item sibling) in
-      let inner = occurs-fork_on (top subtree) side colour subtree own item sibling in
-      let once = handles.apart (top subtree) in
-      absurd (omega (arith, live-top sibling (λ empty. apart (sym same ∙ empty)), live-top subtree apart))
+  tops_apart tree rest side colour subtree own item sibling handles is live same = grind (arith, live-not_empty, same, occurs-plug, occurs-fork_on, live-top)
 
   -- what a read of the parent's subtree on the side says
   abbrev IsTopBelow : Side → Shape T → ℕ → ℕ → Type 0

@@ -175,27 +175,14 @@ module _ {T : Type 0} where
   pub subtree_at-cut : (around : List (Frame T)) (shade : Colour) (before : Shape T) (handle : ℕ) (item : T) (after : Shape T)
       → occurs handle (plug around (fork shade before handle item after)) ≤ 1
       → subtree_at handle (plug around (fork shade before handle item after)) ≡ fork shade before handle item after
-  subtree_at-cut around shade before handle item after once =
-      let total = occurs-plug handle around (fork shade before handle item after) in
-      let own = one_if_same-same handle in
-      subtree_at-plug around handle (fork shade before handle item after) (omega arith) ∙ subtree_at-here shade before handle item after
+  subtree_at-cut around shade before handle item after once = grind (arith, occurs-plug, one_if_same-same, subtree_at-plug, subtree_at-here)
 
   -- in a list where an item stands once, it is in one place
   pub same_cut : (handle : ℕ) (front back front' back' : List (ℕ × T)) (item item' : T) → occurs_among handle (front ++ (handle, item) ∷ back) ≤ 1
       → front ++ (handle, item) ∷ back ≡ front' ++ (handle, item') ∷ back' → (front ≡ front') × (item ≡ item') × (back ≡ back')
-  same_cut handle [] back [] back' item item' once same =
-      let Pair : Type 0 = ℕ × T in
-      let pair : ◌≡◌ {A = Pair} (handle, item) (handle, item') = cc in
-      (refl, ap (λ (entry : ℕ × T). entry.1) pair, cc)
-  same_cut handle [] back (first ∷ front') back' item item' once same =
-      let rest : back ≡ front' ++ (handle, item') ∷ back' = cc in
-      let again = ap (λ list. occurs_among handle list) rest ∙ occurs_among-append handle front' ((handle, item') ∷ back') in
-      absurd (omega (arith, one_if_same-same handle))
-  same_cut handle (first ∷ front) back [] back' item item' once same =
-      let head : first ≡ (handle, item') = cc in
-      let again = occurs_among-append handle front ((handle, item) ∷ back) in
-      let other = one_if_same-same handle in
-      absurd (omega (arith, ap (λ (entry : ℕ × T). one_if_same handle entry.0) head ∙ one_if_same-same handle))
+  same_cut handle [] back [] back' item item' once same = grind arith
+  same_cut handle [] back (first ∷ front') back' item item' once same = grind (arith, occurs_among-append, one_if_same-same)
+  same_cut handle (first ∷ front) back [] back' item item' once same = grind (arith, occurs_among-append, one_if_same-same)
   same_cut handle (first ∷ front) back (other ∷ front') back' item item' once same =
       let head : first ≡ other = cc in
       let rest : front ++ (handle, item) ∷ back ≡ front' ++ (handle, item') ∷ back' = cc in

@@ -35,9 +35,7 @@ module _ {T : Type 0} where
       subst P (sym is) whole handles
 
   pub IsTopOf-root : (tree : Shape T) (root : ℕ) → AreHandles tree → root ≡ top tree → IsTopOf tree root tree
-  IsTopOf-root tree root handles root_is =
-      let P : ℕ → Type 0 = λ handle. IsTopOf tree handle tree in
-      subst P (sym root_is) (IsTopOf-subtree tree [] tree refl handles)
+  IsTopOf-root tree root handles root_is = grind (arith, IsTopOf-subtree)
 
   -- where there is no handle, the subtree is empty
   pub IsTopOf-none : (tree : Shape T) (handle : ℕ) (subtree : Shape T) → AreHandles tree → IsTopOf tree handle subtree → handle ≡ EMPTY_REF → subtree ≡ leaf
@@ -53,9 +51,7 @@ module _ {T : Type 0} where
   -- the subtrees at a handle are those of its node
   pub subtree_at-of_cut : (tree : Shape T) (handle : ℕ) → AreHandles tree → (cut : Cut tree handle)
       → subtree_at handle tree ≡ fork cut.colour cut.before handle cut.item cut.after
-  subtree_at-of_cut tree handle handles cut =
-      let P : Shape T → Type 0 = λ whole. occurs handle whole ≤ 1 → subtree_at handle whole ≡ fork cut.colour cut.before handle cut.item cut.after in
-      subst P (sym cut.is) (subtree_at-cut cut.around cut.colour cut.before handle cut.item cut.after) (handles.apart handle)
+  subtree_at-of_cut tree handle handles cut = grind (arith, subtree_at-cut)
 
   -- a node of the tree, seen from one side
   pub record SideCut (tree : Shape T) (handle : ℕ) (side : Side) : Type 0 where
@@ -147,7 +143,4 @@ module _ {T : Type 0} where
       (omega (arith, handles.apart handle, occurs_among-entries handle tree, ap (occurs_among handle) is)) (sym is ∙ whole ∙ cuts)
 
   pub length-subtree : (tree : Shape T) (around : List (Frame T)) (subtree : Shape T) → tree ≡ plug around subtree → length (entries subtree) ≤ length (entries tree)
-  length-subtree tree around subtree is =
-      let outer = length-append (before_hole around) (entries subtree ++ after_hole around) in
-      let inner = length-append (entries subtree) (after_hole around) in
-      omega (arith, ap (λ (shape : Shape T). length (entries shape)) is ∙ ap length (entries-plug around subtree))
+  length-subtree tree around subtree is = grind (arith, length-append, before_hole, after_hole, entries-plug)

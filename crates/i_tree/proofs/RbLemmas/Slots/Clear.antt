@@ -1,5 +1,5 @@
 -- The core is cleared: the descent to a node without subtrees, and what is left where that node is gone.
-use Rattle.std.proofs.Common.{◌≡◌, ◌≢◌, ℕ, ◌+◌, List, ◌∷◌, length, refl, sym, ap, ◌∙◌, subst, length-append, arith}
+use Rattle.std.proofs.Common.{◌≡◌, ◌≢◌, ℕ, ◌+◌, List, length, refl, sym, ap, ◌∙◌, subst, length-append, arith}
 use Rattle.i_tree.specs.declared.TheConstants.{EMPTY_REF}
 use Rattle.i_tree.specs.declared.rb.links.Colour.{Colour}
 use Rattle.i_tree.specs.declared.rb.links.Side.TheVariants.{Left}
@@ -37,11 +37,7 @@ module _ {T : Type 0} where
 
   fewer_without : (around : List (Frame T)) (colour : Colour) (gone : ℕ) (item : T)
       → length (entries (plug around leaf)) + 1 ≡ length (entries (plug around (fork colour leaf gone item leaf)))
-  fewer_without around colour gone item =
-      let empty : Shape T = leaf in
-      let inner = length-append (before_hole around) ((gone, item) ∷ after_hole around) in
-      let with_it = ap length (entries-plug around (fork colour leaf gone item leaf)) in
-      omega (arith, ap length (entries-plug around empty), length-append (before_hole around) (after_hole around))
+  fewer_without around colour gone item = grind (arith, length-append, before_hole, after_hole, entries-plug)
 
   lost_inside : (around : List (Frame T)) (colour : Colour) (gone : ℕ) (item : T) (new : Shape T) → AreHandles new → new ≡ plug around leaf
       → HasLost (plug around (fork colour leaf gone item leaf)) new (hole_parent around)

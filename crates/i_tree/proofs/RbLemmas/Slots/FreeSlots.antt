@@ -36,9 +36,7 @@ module _ {T : Type 0} where
   read_free slots handle next read found free is = slice_get-get_or slots handle read (slice_get_within slots handle (Free next) free) ∙ ap Some is
 
   pub read_not_used : (slots : List (Slot T)) (handle next : ℕ) (read : Slot T) (links : Links) (item : T) → slice_get slots handle ≡ Some (Free next) → get_or slots handle read ≡ Used links item → ⊥
-  read_not_used slots handle next read links item free is =
-      let used : slice_get slots handle ≡ Some (Used links item) = slice_get-get_or slots handle read (slice_get_within slots handle (Free next) free) ∙ ap Some is in
-      let both : ◌≡◌ {A = Option (Slot T)} (Some (Free next)) (Some (Used links item)) = sym free ∙ used in cc
+  read_not_used slots handle next read links item free is = grind (arith, slice_get-get_or, slice_get_within)
 
   -- the first free slot, and the chain behind it
   pub record Head (slots : List (Slot T)) (first free : ℕ) (tree : Shape T) : Type 0 where
@@ -86,10 +84,7 @@ module _ {T : Type 0} where
 
   pub sound_back : (slots new : List (Slot T)) (root first free : ℕ) (tree : Shape T) → slots ≡ new → IsSound new root first free tree
       → IsSound slots root first free (read_tree slots (length slots) root)
-  sound_back slots new root first free tree is sound =
-      let Read : Shape T → Type 0 = λ other. IsSound slots root first free other in
-      let Placed : List (Slot T) → Type 0 = λ list. IsSound list root first free tree in
-      subst Read (sym (read_back slots new root first free tree is sound)) (subst Placed (sym is) sound)
+  sound_back slots new root first free tree is sound = grind (arith, read_back)
 
   -- a black node in the first free slot, in the empty tree
   pub sound-rooted : (old new : List (Slot T)) (root first next free : ℕ) (item : T) → IsSound old root first free leaf → 0 < free

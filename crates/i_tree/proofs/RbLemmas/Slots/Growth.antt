@@ -21,10 +21,7 @@ slice_get-append_end (y ∷ xs) zero x is = absurd (omega arith)
 slice_get-append_end (y ∷ xs) (suc i) x is = slice_get-append_end xs i x (omega arith)
 
 pub with_numbers-more : (first number : ℕ) (others : List ℕ) → first ≤ number → with_numbers first (number + 1 - first) others ≡ number ∷ with_numbers first (number - first) others
-with_numbers-more first number others below =
-    let next : number + 1 - first ≡ suc (number - first) = omega arith in
-    let greatest : first + (number - first) ≡ number = omega arith in
-    ap (λ n. with_numbers first n others) next ∙ ap (λ n. n ∷ with_numbers first (number - first) others) greatest
+with_numbers-more first number others below = grind arith
 
 pub length-with_numbers : (first count : ℕ) (others : List ℕ) → length (with_numbers first count others) ≡ count + length others
 length-with_numbers first zero others = omega arith

@@ -1,5 +1,5 @@
 -- An item of a node in its slot is changed.
-use Rattle.std.proofs.Common.{◌≡◌, ℕ, Bool, eqb, cond, List, ◌∷◌, Some, length, slice_get, slice_set, get_or, is_some, IsSome, refl, sym, ap, ◌∙◌, subst, length-append, arith}
+use Rattle.std.proofs.Common.{◌≡◌, ℕ, Bool, eqb, cond, List, ◌∷◌, Some, length, slice_get, slice_set, get_or, is_some, IsSome, refl, sym, ap, ◌∙◌, length-append, arith}
 use Rattle.std.proofs.lemmas.Bool.{eqb-true, eqb-false}
 use Rattle.std.proofs.lemmas.List.{length-set}
 use Rattle.std.proofs.lemmas.Option.{slice_get_within, slice_get-get_or}
@@ -77,10 +77,7 @@ module _ {T : Type 0} where
   pub sound-lent : (slots : List (Slot T)) (root first_free free handle : ℕ) (slot : Slot T) (item : T) (tree : Shape T) → IsSound slots root first_free free tree
       → IsHandle tree handle → slot ≡ get_or slots handle slot
       → IsSound (slice_set slots handle (with_slot_item slot item)) root first_free free (with_item handle item tree)
-  sound-lent slots root first_free free handle slot item tree sound live is =
-      let held = slot_live slots root first_free free handle slot tree sound live is in
-      let Sound : Slot T → Type 0 = λ left. IsSound (slice_set slots handle (with_slot_item left item)) root first_free free (with_item handle item tree) in
-      subst Sound (sym held.1) (sound-item slots root first_free free handle held.0.links held.0.item item tree sound live held.0.is)
+  sound-lent slots root first_free free handle slot item tree sound live is = grind (arith, slot_live, sound-item)
 
   pub used_lent : (slots : List (Slot T)) (root first_free free handle : ℕ) (slot : Slot T) (tree : Shape T) → IsSound slots root first_free free tree
       → IsHandle tree handle → slot ≡ get_or slots handle slot → IsSome (slot_links (Some slot))

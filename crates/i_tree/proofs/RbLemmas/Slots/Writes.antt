@@ -60,9 +60,7 @@ module _ {T : Type 0} where
   -- the fields hold the tree that is read from them
   pub IsSound-read : (slots : List (Slot T)) (root first_free free : ℕ) (tree : Shape T) → IsSound slots root first_free free tree
       → IsSound slots root first_free free (read_tree slots (length slots) root)
-  IsSound-read slots root first_free free tree sound =
-      let Sound : Shape T → Type 0 = λ other. IsSound slots root first_free free other in
-      subst Sound (sym (read_sound slots root first_free free tree sound)) sound
+  IsSound-read slots root first_free free tree sound = grind (arith, read_sound)
 
   pub occurs-same : (handle : ℕ) (first second : Shape T) → entries first ≡ entries second → occurs handle first ≡ occurs handle second
   occurs-same handle first second same = sym (occurs_among-entries handle first) ∙ ap (occurs_among handle) same ∙ occurs_among-entries handle second
