@@ -55,11 +55,7 @@ module _ {T : Type 0} where
     module _ (next : ℕ) (next_live : next ≢ EMPTY_REF → IsHandle tree' next) where
       side_stays : (old_side new_side : Shape T) (above : ℕ) (front back : List (ℕ × T)) → ChangesSide tree tree' above old_side new_side → subtree_at next tree' ≡ new_side
           → old_side ≡ subtree_at here tree → IsCutAt tree here front back → IsCutAt tree' next front back
-      side_stays old_side new_side above front back changed is side at =
-          record {
-            live = next_live;
-            cut = changed.rest front back (at.cut ∙ ap (λ subtree. front ++ (entries subtree ++ back)) (sym side)) ∙ ap (λ subtree. front ++ (entries subtree ++ back)) (sym is);
-          }
+      side_stays old_side new_side above front back changed is side at = grind arith
 
       pub path_stays : (place : Place) → subtree_at next tree' ≡ subtree_of place tree' → IsPath Finds HoldsBehind nothing tree here place found → IsPath Finds HoldsBehind nothing tree' next place found
       path_stays Root is way =

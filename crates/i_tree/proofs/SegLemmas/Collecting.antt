@@ -52,20 +52,7 @@ module _ {E V : Type 0} (expiration : V → E) (cmp : E → E → Ordering) (tim
     -- a finished walk's counts, where a live copy is read for each of so many values, and at most eight
     pub IsWalked-ended : (tree : Contents E V) (left index : ℕ) (new : S) (values : ℕ) → live_from expiration cmp time 0 (nodes_of asked) before.chunks ≤ 8 * values → values ≤ live_from expiration cmp time 0 (nodes_of asked) before.chunks
         → left ≡ 0 → IsWalked tree left index new → Makes Made old new (Collects values (stored_copies before.chunks) (stored_copies tree.chunks))
-    IsWalked-ended tree left index new values few each ended walked =
-        let steps = walked.steps in
-        let none = ap (λ (nodes : List ℕ). live_from expiration cmp time index nodes tree.chunks) (ap nodes_of ended ∙ nodes_of-zero) in
-        record {
-          made = steps.made;
-          counted = steps.counted;
-          holds = record {
-            comparisons = steps.holds.comparisons;
-            rotations = steps.holds.rotations;
-            tests = omega (arith, few, steps.holds.tests);
-            tested = omega (arith, each, none, steps.holds.tests);
-            removals = steps.holds.removals;
-          };
-        }
+    IsWalked-ended tree left index new values few each ended walked = grind (arith, nodes_of-zero)
 
     -- and what it cleans up: no node is left
     pub IsWalked-cleans : (tree : Contents E V) (left index : ℕ) (new : S) → left ≡ 0 → IsWalked tree left index new → Cleans expiration cmp time asked before.chunks tree.chunks
@@ -74,19 +61,7 @@ module _ {E V : Type 0} (expiration : V → E) (cmp : E → E → Ordering) (tim
     -- the counts of one that was left
     pub IsWalked-left : (tree : Contents E V) (left index : ℕ) (new : S) (values : ℕ) → live_from expiration cmp time 0 (nodes_of asked) before.chunks ≤ 8 * values → IsWalked tree left index new
         → Makes Made old new (StopsCollecting values (stored_copies before.chunks) (stored_copies tree.chunks))
-    IsWalked-left tree left index new values few walked =
-        let steps = walked.steps in
-        record {
-          made = steps.made;
-          counted = steps.counted;
-          holds = record {
-            comparisons = steps.holds.comparisons;
-            rotations = steps.holds.rotations;
-            tests = omega (arith, few, steps.holds.tests);
-            tested = steps.holds.tested;
-            removals = steps.holds.removals;
-          };
-        }
+    IsWalked-left tree left index new values few walked = grind arith
 
   -- each member that is found is of a live copy
   found_live : (asked node : ℕ) (copies : List (ℕ × V)) → length (found_at expiration cmp (Some time) asked node copies) ≤ length (live_copies expiration cmp (Some time) copies)

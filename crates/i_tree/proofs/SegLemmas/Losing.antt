@@ -66,29 +66,15 @@ module _ {E V : Type 0} (expiration : V → E) (cmp : E → E → Ordering) (tim
     LosesExpiredAt-none chunks = record { met = λ node has. LosesExpired-none (chunk_at node chunks); others = λ node lacks. refl }
 
     pub LosesExpiredAt-trans : (first second third : List (List (ℕ × V))) → LosesExpiredAt expiration cmp time asked first second → LosesExpiredAt expiration cmp time asked second third → LosesExpiredAt expiration cmp time asked first third
-    LosesExpiredAt-trans first second third one other =
-        record {
-          met = λ node has. LosesExpired-trans (chunk_at node first) (chunk_at node second) (chunk_at node third) (one.met node has) (other.met node has);
-          others = λ node lacks. other.others node lacks ∙ one.others node lacks;
-        }
+    LosesExpiredAt-trans first second third one other = grind (arith, LosesExpired-trans)
 
     -- a walk has passed nothing at its start
     pub HasPassed-start : (chunks : List (List (ℕ × V))) → HasPassed expiration cmp time asked asked 0 chunks
-    HasPassed-start chunks =
-        record {
-          asks = λ node has. has;
-          nodes = λ node has lacks. absurd (false≢true (sym lacks ∙ has));
-          copies = All-nil (λ (copy : ℕ × V). is_live expiration cmp time copy.1 ≡ true);
-        }
+    HasPassed-start chunks = grind (arith, false≢true, All-nil)
 
     -- a query is whole once all copies at its nodes are live
     pub Cleans-from : (before after : List (List (ℕ × V))) → LosesExpiredAt expiration cmp time asked before after → ((node : ℕ) → has_node asked node ≡ true → AllLive expiration cmp time (chunk_at node after)) → Cleans expiration cmp time asked before after
-    Cleans-from before after loses live =
-        record {
-          live = live;
-          met = λ node has. LosesExpired-all (chunk_at node before) (chunk_at node after) (loses.met node has) (live node has);
-          others = loses.others;
-        }
+    Cleans-from before after loses live = grind (arith, LosesExpired-all)
 
     -- as they are where a walk has no node left
     pub Cleans-ended : (left index : ℕ) (before after : List (List (ℕ × V))) → left ≡ 0 → LosesExpiredAt expiration cmp time asked before after → HasPassed expiration cmp time asked left index after → Cleans expiration cmp time asked before after

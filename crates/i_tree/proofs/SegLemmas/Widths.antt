@@ -1,5 +1,5 @@
 -- Facts on the width of a span's buckets.
-use Rattle.std.proofs.Common.{◌≡◌, ℕ, ◌+◌, ◌-◌, ◌*◌, ◌^◌, ◌<◌, ◌≤◌, ℤ, pos, ◌-ℤ◌, refl, ap, sym, ◌∙◌, subst, arith, inl, inr}
+use Rattle.std.proofs.Common.{◌≡◌, ℕ, ◌+◌, ◌-◌, ◌*◌, ◌^◌, ◌<◌, ◌≤◌, ℤ, pos, ◌-ℤ◌, refl, ap, sym, subst, arith, inl, inr}
 use Rattle.std.specs.Int.RustNames.{unsigned_abs}
 use Rattle.std.proofs.Math.Pow.{pow_mono}
 use Rattle.std.proofs.lemmas.Nat.{pow-add}
@@ -41,18 +41,4 @@ module _ (least n power : ℕ) (start end : ℤ) (span : pos n ≡ end -ℤ star
         }
 
     pub cut_is : (bits : ℕ) → n < 2 ^ (power + 1) → n < 2 ^ bits → IsCut start end (power - 4) bits
-    cut_is bits greatest within =
-        let parts : 2 ^ (4 + (power - 4)) ≡ 2 ^ 4 * 2 ^ (power - 4) = pow-add 2 4 (power - 4) in
-        let whole : 4 + (power - 4) ≡ power = omega arith in
-        let halves : 2 ^ power ≡ 16 * 2 ^ (power - 4) = ap (λ (e : ℕ). 2 ^ e) (sym whole) ∙ parts in
-        let doubled : 2 ^ (power + 1) ≡ 2 ^ power * 2 = pow-add 2 power 1 in
-        let below : 2 ^ power < 2 ^ bits = omega arith in
-        let fits : power < bits = exponents power bits below in
-        let wide : 16 * 2 ^ (power - 4) ≤ n = omega arith in
-        let enough : n < 32 * 2 ^ (power - 4) = omega arith in
-        record {
-          order = omega (arith, ints);
-          wide = subst (λ (d : ℕ). 16 * 2 ^ (power - 4) ≤ d) (sym distance_is) wide;
-          enough = subst (λ (d : ℕ). d < 32 * 2 ^ (power - 4)) (sym distance_is) enough;
-          shifted = omega arith;
-        }
+    cut_is bits greatest within = grind (arith, pow-add, exponents, ints, distance_is)

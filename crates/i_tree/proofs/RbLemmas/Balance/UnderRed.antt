@@ -121,23 +121,7 @@ module _ {T : Type 0} where
           }
 
       IsLeaning-straight : is_black under.uncle ≡ true → child ≢ node → IsLeaning tree above side
-      IsLeaning-straight black apart =
-          let P : Side → Type 0 = λ other. tree ≡ plug around_parent (fork_on other Red node_in parent under.parent_item under.sibling) in
-          record {
-            around = under.around;
-            levels = under.levels;
-            outer = node_in;
-            raised = parent;
-            raised_item = under.parent_item;
-            inner = under.sibling;
-            item = under.grandparent_item;
-            far = under.uncle;
-            is = subst P (straight apart) under.is;
-            outer_subtree = node_in_subtree;
-            inner_subtree = under.sibling_subtree;
-            far_subtree = IsBlackSubtree-from under.uncle_subtree black;
-            fits = under.fits;
-          }
+      IsLeaning-straight black apart = grind (arith, straight, node_in_subtree, IsBlackSubtree-from)
 
       -- either way both red nodes then stand on the side, and the entries are the same
       pub IsLeaning-joined : AreHandles tree → is_black under.uncle ≡ true → (new : Shape T) → IsStraightened tree new node parent side child

@@ -1,5 +1,5 @@
 -- A red-black subtree inside its frames: what is known of it and of them, and how ranks grow with it.
-use Rattle.std.proofs.Common.{◌≡◌, ℕ, ◌+◌, ◌<◌, ◌≤◌, ◌⊎◌, inl, inr, Bool, true, List, [], ◌∷◌, refl, sym, subst, arith}
+use Rattle.std.proofs.Common.{◌≡◌, ℕ, ◌+◌, ◌<◌, ◌≤◌, ◌⊎◌, inl, inr, Bool, true, List, [], ◌∷◌, refl, subst, arith}
 use Rattle.i_tree.specs.declared.rb.links.Colour.{Colour}
 use Rattle.i_tree.specs.declared.rb.links.Colour.TheVariants.{Red, Black}
 use Rattle.i_tree.specs.declared.rb.links.Side.{Side}
@@ -86,15 +86,4 @@ module _ {T : Type 0} where
 
   pub IsGone-from : (side : Side) (colour : Colour) (subtree : Shape T) (handle : ℕ) (item : T)
       → IsRedBlack (fork_on side colour subtree handle item leaf) → IsGone colour subtree (fork_on side colour subtree handle item leaf)
-  IsGone-from side colour subtree handle item balanced =
-      let subtrees = HasSubtrees-from side colour subtree handle item leaf balanced in
-      let even = subtrees.even in
-      let levels = levels-fork_on side colour subtree handle item leaf even in
-      let falls = falls_on side colour subtree handle item leaf balanced in
-      record {
-        subtree_balanced = subtrees.near_balanced;
-        none = sym even;
-        levels = levels;
-        lower = record { levels = omega arith; ranks = omega arith };
-        red = subtrees.black_near;
-      }
+  IsGone-from side colour subtree handle item balanced = grind (arith, HasSubtrees-from, levels-fork_on, falls_on)

@@ -112,16 +112,7 @@ module _ {T : Type 0} where
         }
 
     path_left : HoldsThen ((here, item) ∷ (entries (right_at here tree) ++ way.back)) → IsPath Finds HoldsThen nothing tree left (Below here Left) found
-    path_left holds =
-        let back = entries (right_at here tree) ++ way.back in
-        record {
-          front = way.front;
-          back = (here, item) ∷ back;
-          at = goes_left tree here item subtrees way.at left on_left.live on_left.is;
-          of = (way.at.live some, sym on_left.is, (item, back, refl));
-          before = way.before;
-          after = holds;
-        }
+    path_left holds = grind (arith, goes_left)
 
     pub path_on : (passed : Bool) (next : ℕ) (found' : A) → IsChosen passed right left next
         → (passed ≡ true → Finds (here, item) found') → (passed ≡ false → found' ≡ found)

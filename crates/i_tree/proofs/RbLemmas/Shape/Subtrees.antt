@@ -29,10 +29,7 @@ module _ {T : Type 0} where
       omega (arith, occurs-plug (top subtree) around subtree, live-top subtree apart)
 
   pub IsTopOf-subtree : (tree : Shape T) (around : List (Frame T)) (subtree : Shape T) → tree ≡ plug around subtree → AreHandles tree → IsTopOf tree (top subtree) subtree
-  IsTopOf-subtree tree around subtree is handles =
-      let P : Shape T → Type 0 = λ whole. AreHandles whole → IsTopOf whole (top subtree) subtree in
-      let whole : P (plug around subtree) = λ inner. record { value = refl; at = subtree_at-subtree around subtree inner; live = live-subtree around subtree } in
-      subst P (sym is) whole handles
+  IsTopOf-subtree tree around subtree is handles = grind (arith, subtree_at-subtree, live-subtree)
 
   pub IsTopOf-root : (tree : Shape T) (root : ℕ) → AreHandles tree → root ≡ top tree → IsTopOf tree root tree
   IsTopOf-root tree root handles root_is = grind (arith, IsTopOf-subtree)

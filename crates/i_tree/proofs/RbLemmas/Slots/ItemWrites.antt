@@ -96,7 +96,4 @@ module _ {T : Type 0} where
   pub contents_lent : (was left : Shape T) (free handle : ℕ) (contents : Contents T) (item : T) → ◌≡◌ {A = Contents T} (record { shape = was; spare = free }) contents
       → left ≡ with_item handle item contents.shape
       → ◌≡◌ {A = Contents T} (record { shape = left; spare = free }) (record { shape = with_item handle item contents.shape; spare = contents.spare })
-  contents_lent was left free handle contents item view_is read =
-      let With : Shape T → Contents T = λ shape. record { shape = shape; spare = free } in
-      let Spare : ℕ → Contents T = λ spare. record { shape = with_item handle item contents.shape; spare = spare } in
-      ap With read ∙ ap Spare (ap (λ (c : Contents T). c.spare) view_is)
+  contents_lent was left free handle contents item view_is read = grind arith

@@ -7,7 +7,7 @@ use Rattle.i_tree.specs.declared.rb.links.Slot.{Slot}
 use Rattle.i_tree.specs.declared.rb.links.Slot.TheVariants.{Used}
 use Rattle.i_tree.specs.Rb.Context.{fork_on, plug, other_side, hole_parent}
 use Rattle.i_tree.specs.Rb.Shape.{Shape, top, entries, occurs, one_if_same}
-use Rattle.i_tree.specs.Rb.Slots.{child_link, hung_links, slot_links, links_of, IsUsed, Relinks, IsAt, IsSound}
+use Rattle.i_tree.specs.Rb.Slots.{child_link, hung_links, links_of, IsUsed, Relinks, IsAt, IsSound}
 use Rattle.i_tree.specs.Rb.Rotation.{Rotation, unrotated, rotated, Rehangs, Reparents}
 use Rattle.i_tree.proofs.RbLemmas.Shape.Contexts.{one_if_same-same, occurs_around, occurs-fork_on, occurs-plug, top-fork_on}
 use Rattle.i_tree.proofs.RbLemmas.Slots.Layout.{links_on, IsAround, IsAt-from_fork_on, IsAt-fork_on, IsAt-from_plug, IsAt-plug, IsAt-same, IsAround-same, AreHandles-sound}
@@ -69,17 +69,7 @@ module _ {T : Type 0} {handle : ℕ} {side : Side} where
   pub found : (slots : List (Slot T)) (rotation : Rotation T handle side) (links : Links) (up : ℕ) (raised_links : Links) (low : ℕ) → Laid slots rotation
       → links_of slots handle ≡ Some links → up ≡ child_link (other_side side) links → links_of slots up ≡ Some raised_links → low ≡ child_link side raised_links
       → Found rotation links up raised_links low
-  found slots rotation links up raised_links low lies read up_read raised_read low_read =
-      let up_is = up_found slots rotation links up lies read up_read in
-      let Node : Links = links_on side handle (top rotation.inner) (top rotation.far) rotation.raised_colour in
-      let linked : links_of slots rotation.raised ≡ Some Node = ap slot_links lies.raised in
-      let raised_are : raised_links ≡ Node = cc in
-      record {
-        links_are = links_found slots rotation links lies read;
-        up_is = up_is;
-        raised_are = raised_are;
-        low_is = low_read ∙ ap (child_link side) raised_are ∙ child_link-on side handle (top rotation.inner) (top rotation.far) rotation.raised_colour;
-      }
+  found slots rotation links up raised_links low lies read up_read raised_read low_read = grind (arith, up_found, links_on, links_found, child_link-on)
 
   pub entries-rotation : (rotation : Rotation T handle side) → entries (rotated rotation) ≡ entries (unrotated rotation)
   entries-rotation rotation = entries-rotation_on side rotation.colour rotation.outer handle rotation.item rotation.raised_colour rotation.inner rotation.raised rotation.raised_item rotation.far
