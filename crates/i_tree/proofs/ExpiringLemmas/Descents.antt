@@ -49,19 +49,13 @@ module _ {T : Type 0} where
     changes_right above live_above is = gone.right above live_above (ap top is ∙ top_live tree here live)
 
     pub place_stays : (place : Place) → IsPath Finds HoldsBehind nothing tree here place found → IsPlace tree' place
-    place_stays Root way = tt
-    place_stays (Below above Left) way = (changes_left above way.of.0 way.of.1).live
-    place_stays (Below above Right) way = (changes_right above way.of.0 way.of.1).live
+    place_stays place way = grind (arith, changes_left, changes_right)
 
     -- the place is read again: what was found stays
     module _ (next : ℕ) (next_live : next ≢ EMPTY_REF → IsHandle tree' next) where
       side_stays : (old_side new_side : Shape T) (above : ℕ) (front back : List (ℕ × T)) → ChangesSide tree tree' above old_side new_side → subtree_at next tree' ≡ new_side
           → old_side ≡ subtree_at here tree → IsCutAt tree here front back → IsCutAt tree' next front back
-      side_stays old_side new_side above front back changed is side at =
-          record {
-            live = next_live;
-            cut = changed.rest front back (at.cut ∙ ap (λ subtree. front ++ (entries subtree ++ back)) (sym side)) ∙ ap (λ subtree. front ++ (entries subtree ++ back)) (sym is);
-          }
+      side_stays old_side new_side above front back changed is side at = grind arith
 
       pub path_stays : (place : Place) → subtree_at next tree' ≡ subtree_of place tree' → IsPath Finds HoldsBehind nothing tree here place found → IsPath Finds HoldsBehind nothing tree' next place found
       path_stays Root is way =

@@ -122,16 +122,12 @@ module _ {K V : Type 0} (May : K → Ordering → Type 0) (pairs : List (K × V)
 
 -- how many slots there are after a pair has joined
 pub slots_joined : {T : Type 0} (first mid last : Contents T) → slots mid ≡ slots first → slots last ≡ slots_with_room mid → length (entries last.shape) ≡ length (entries mid.shape) + 1 → slots last ≡ slots_for first (length (items last.shape))
-slots_joined first mid last same grown more =
-    let left : mid.spare ≡ slots first - length (items last.shape) = omega (arith, same, more, length-items last.shape) in
-    grown ∙ ap (slots_grown mid.spare) same ∙ ap (λ spare. slots_grown spare (slots first)) left
+slots_joined first mid last same grown more = grind (arith, length-items)
 
 -- a descent after which no slot is free has removed nothing
 pub none_removed : {S T : Type 0} {Made : S → S → Counts → Type 0} (first mid : Contents T) (old new : S) → slots mid ≡ slots first → (0 < mid.spare → false ≡ true) → TreeDescends Made old new first mid false
     → (mid.spare ≡ 0) × (length (entries mid.shape) ≡ length (entries first.shape))
-none_removed first mid old new same spare way =
-    let none : mid.spare ≡ 0 = none_spare mid.spare spare in
-    (none, omega (arith, none, same, way.stores, length-items first.shape, length-items mid.shape))
+none_removed first mid old new same spare way = grind (arith, none_spare, length-items)
 
 -- there is no less room where there are as many slots as before, or so many as a pair that joined asked for
 module _ {T : Type 0} (old new : Contents T) where

@@ -128,16 +128,10 @@ module _ {K V : Type 0} (is_live : K → Bool) where
               subst (StartsIn (λ (pair : K × V). order pair.0 ≡ Greater)) (sym starts) (sym (All-head Says entry.1 (live (values rest)) (subst (All Says) starts all) Greater may))
 
       pub is_last : (found : Option (K × V)) → LastFinds (λ pair is. is ≡ Some pair) None (live (values end.front)) found → IsLast (λ pair. order pair.0 ≢ Greater) (live (items tree)) found
-      is_last found ends =
-          subst (λ (pairs : List (K × V)). IsLast (λ pair. order pair.0 ≢ Greater) pairs found) (sym live_cut)
-          (IsLast-at_cut (λ (pair : K × V). order pair.0 ≢ Greater) (live (values end.front)) (live (values end.back)) found front_at_most
-          (All-weaker (λ (pair : K × V). order pair.0 ≡ Greater) (λ pair. ¬ (order pair.0 ≢ Greater)) (λ pair above apart. apart above) (live (values end.back)) back_above)
-          ends)
+      is_last found ends = grind (arith, live_cut, IsLast-at_cut, front_at_most, All-weaker, back_above)
 
       pub is_first : (found : Option (K × V)) → FirstFinds (λ pair is. is ≡ Some pair) None (live (values end.back)) found → IsFirst (λ pair. order pair.0 ≡ Greater) (live (items tree)) found
-      is_first found starts =
-          subst (λ (pairs : List (K × V)). IsFirst (λ pair. order pair.0 ≡ Greater) pairs found) (sym live_cut)
-          (IsFirst-at_cut (λ (pair : K × V). order pair.0 ≡ Greater) (live (values end.front)) (live (values end.back)) found front_at_most back_above starts)
+      is_first found starts = grind (arith, live_cut, IsFirst-at_cut, front_at_most, back_above)
 
     -- so a descent answers, by what was stored before it
     module _ (old : List (K × V)) (kept : Without (λ pair. is_live pair.0 ≡ false) old (items tree)) where

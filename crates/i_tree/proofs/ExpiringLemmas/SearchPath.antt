@@ -7,7 +7,7 @@ use Rattle.std.proofs.lemmas.List.Elements.{All-nil, All-cons, All-head, All-tai
 use Rattle.i_tree.proofs.RbLemmas.SearchPath.Descent.{IsChosen, IsTop}
 use Rattle.std.specs.Ordering.{is_gt, is_lt}
 use Rattle.std.specs.declared.cmp.Ordering.{Ordering}
-use Rattle.std.specs.declared.cmp.Ordering.TheVariants.{Less, Equal, Greater}
+use Rattle.std.specs.declared.cmp.Ordering.TheVariants.{Equal}
 use Rattle.i_tree.specs.Expiring.Descent.{FollowsPath, MayCall}
 use Rattle.i_tree.proofs.RootLemmas.Joined.{All-behind, All-front}
 use Rattle.i_tree.proofs.RootLemmas.Lists.{All-from_filter}
@@ -26,12 +26,7 @@ module _ {K V : Type 0} where
   -- the search path on from the top of a subtree
   path_here : (passes : K → Bool) (subtree : Shape (K × V)) (here : ℕ) (pair : K × V) → entries subtree ≡ entries (left_subtree subtree) ++ (here, pair) ∷ entries (right_subtree subtree)
       → path_by passes subtree ≡ pair ∷ (if passes pair.0 then path_by passes (right_subtree subtree) else path_by passes (left_subtree subtree))
-  path_here passes leaf here pair is = absurd (cc)
-  path_here passes (fork colour before handle item after) here pair is =
-      let rest : (handle, item) ∷ entries after ≡ (here, pair) ∷ entries after = append_cancel_left (entries before) ((handle, item) ∷ entries after) ((here, pair) ∷ entries after) is in
-      let heads : ◌≡◌ {A = ℕ × (K × V)} (handle, item) (here, pair) = cc in
-      let same : item ≡ pair = ap (λ (entry : ℕ × (K × V)). entry.1) heads in
-      ap (λ (p : K × V). p ∷ (if passes p.0 then path_by passes after else path_by passes before)) same
+  path_here passes subtree here pair is = grind (arith, append_cancel_left)
 
   module _ (is_live : K → Bool) (MayAnswer : K → Ordering → Type 0) where
     abbrev Lives : K × V → Type 0
@@ -135,6 +130,4 @@ module _ {K V : Type 0} (cmp : K → K → Ordering) (key : K) (is_live : K → 
 
 -- what isn't Greater is Less, where it isn't Equal
 pub not_gt-lt : (r : Ordering) → r ≢ Equal → not (is_gt r) ≡ is_lt r
-not_gt-lt Less differs = refl
-not_gt-lt Equal differs = absurd (differs refl)
-not_gt-lt Greater differs = refl
+not_gt-lt r differs = grind arith

@@ -1,15 +1,14 @@
 -- Facts on times and on what is live at them.
-use Rattle.std.proofs.Common.{◌≡◌, ℕ, ◌+◌, ◌<◌, true, false, not, Option, Some, List, length, get_or, take, refl, ap, ◌∙◌, subst}
-use Rattle.std.specs.Cmp.{IsTotalOrder, upto, tied_itself}
+use Rattle.std.proofs.Common.{arith, ◌≡◌, ℕ, ◌+◌, ◌<◌, true, false, Option, Some, List, length, get_or, take, refl, ap, subst}
+use Rattle.std.specs.Cmp.{IsTotalOrder, upto}
 use Rattle.std.specs.Ordering.{is_ge, is_gt, is_lt, is_some_and, ord_min, partial_ge}
 use Rattle.std.specs.declared.cmp.Ordering.{Ordering}
 use Rattle.std.specs.declared.cmp.Ordering.TheVariants.{Less, Equal, Greater}
-use Rattle.std.specs.List.{insert}
 use Rattle.std.proofs.lemmas.Bool.{cond_both, both_ways}
 use Rattle.std.proofs.lemmas.List.Elements.{All-more, All-weaker}
 use Rattle.i_tree.specs.Expiring.Live.{live_pairs, NoneExpiresBefore}
 use Rattle.i_tree.specs.Root.Live.{is_live}
-use Rattle.i_tree.proofs.RootLemmas.Lists.{All-insert, filter_all}
+use Rattle.i_tree.proofs.RootLemmas.Lists.{filter_all}
 use Rattle.i_tree.proofs.RootLemmas.Orders.{gt-reversed, ge-reversed, at_or_after-reversed, not_after-reversed}
 
 -- what `>=` answers, by `cmp`
@@ -31,10 +30,7 @@ module _ {E : Type 0} {cmp : E → E → Ordering} (o : IsTotalOrder cmp) where
 
   -- nor is it after the second
   pub not_after-min_second : (a b : E) → is_gt (cmp (ord_min cmp a b) b) ≡ false
-  not_after-min_second a b =
-      cond_both (is_lt (cmp b a)) b a (λ m. is_gt (cmp m b) ≡ false)
-      (λ _. ap is_gt (tied_itself o b))
-      (λ level. gt-reversed o a b ∙ level)
+  not_after-min_second a b = grind (arith, cond_both, gt-reversed)
 
   -- times in descending order
   ge-trans : (a b c : E) → is_ge (cmp a b) ≡ true → is_ge (cmp b c) ≡ true → is_ge (cmp a c) ≡ true
@@ -47,10 +43,7 @@ module _ {E : Type 0} {cmp : E → E → Ordering} (o : IsTotalOrder cmp) where
   module _ {K V : Type 0} (expiration : K → E) where
     -- none expires before a bound, and so none before the lesser of it and another time
     NoneExpiresBefore-min : (bound other : E) (pairs : List (K × V)) → NoneExpiresBefore expiration cmp bound pairs → NoneExpiresBefore expiration cmp (ord_min cmp bound other) pairs
-    NoneExpiresBefore-min bound other pairs =
-        All-weaker (λ pair. is_gt (cmp bound (expiration pair.0)) ≡ false) (λ pair. is_gt (cmp (ord_min cmp bound other) (expiration pair.0)) ≡ false)
-        (λ pair. not_after-min bound other (expiration pair.0))
-        pairs
+    NoneExpiresBefore-min bound other pairs = grind (arith, All-weaker, not_after-min)
 
     -- a loop's step, which takes the lesser of the bound and the next expiration
     pub NoneExpiresBefore-more : (bound : E) (pairs : List (K × V)) (i : ℕ) (pair : K × V) → i < length pairs → pair ≡ get_or pairs i pair → NoneExpiresBefore expiration cmp bound (take i pairs) → NoneExpiresBefore expiration cmp (ord_min cmp bound (expiration pair.0)) (take (i + 1) pairs)
@@ -61,17 +54,6 @@ module _ {E : Type 0} {cmp : E → E → Ordering} (o : IsTotalOrder cmp) where
         (NoneExpiresBefore-min bound (expiration pair.0) (take i pairs) h)
         (subst NotBefore is (not_after-min_second bound (expiration pair.0)))
 
-    -- a pair joins, and the bound becomes the lesser of it and the pair's expiration
-    pub NoneExpiresBefore-insert : (bound : E) (pairs : List (K × V)) (place : ℕ) (pair : K × V) → NoneExpiresBefore expiration cmp bound pairs → NoneExpiresBefore expiration cmp (ord_min cmp bound (expiration pair.0)) (insert pairs place pair)
-    NoneExpiresBefore-insert bound pairs place pair h =
-        All-insert (λ other. is_gt (cmp (ord_min cmp bound (expiration pair.0)) (expiration other.0)) ≡ false) pairs place pair
-        (NoneExpiresBefore-min bound (expiration pair.0) pairs h)
-        (not_after-min_second bound (expiration pair.0))
-
     -- up to a time before which nothing expires all are live
     pub live_pairs-early : (bound time : E) (pairs : List (K × V)) → is_ge (cmp bound time) ≡ true → NoneExpiresBefore expiration cmp bound pairs → live_pairs expiration cmp time pairs ≡ pairs
-    live_pairs-early bound time pairs early h =
-        filter_all (λ pair. is_live expiration cmp time pair.0) pairs
-        (All-weaker (λ pair. is_gt (cmp bound (expiration pair.0)) ≡ false) (λ pair. is_live expiration cmp time pair.0 ≡ true)
-        (λ pair not_after. is_live-before expiration time bound pair.0 early (ge-reversed o (expiration pair.0) bound ∙ ap not not_after))
-        pairs h)
+    live_pairs-early bound time pairs early h = grind (arith, filter_all, All-weaker, is_live-before, ge-reversed)

@@ -149,14 +149,10 @@ module _ {K V : Type 0} {cmp : K → K → Ordering} (o : IsTotalOrder cmp) (key
         Differs pair = is_live pair.0 ≡ true → cmp pair.0 key ≢ Equal
 
         lower_from : (r : Ordering) → Less ≡ (if is_lt r then Less else Greater) → r ≡ Less
-        lower_from Less is = refl
-        lower_from Equal is = absurd (cc is)
-        lower_from Greater is = absurd (cc is)
+        lower_from r is = grind arith
 
         not_lower_from : (r : Ordering) → Greater ≡ (if is_lt r then Less else Greater) → r ≢ Less
-        not_lower_from Less is equal = absurd (cc is)
-        not_lower_from Equal is equal = absurd (cc equal)
-        not_lower_from Greater is equal = absurd (cc equal)
+        not_lower_from r is equal = grind arith
 
 -- a test whether the other keys are below calls none Equal
 pub none_equal : {K V : Type 0} (cmp : K → K → Ordering) (key : K) (is_live : K → Bool) (pairs : List (K × V)) → CallsEqual is_live (λ other answer. answer ≡ (if is_lt (cmp other key) then Less else Greater)) pairs → ⊥

@@ -1,5 +1,5 @@
 -- A pair that is put into a list after the expired ones have gone.
-use Rattle.std.proofs.Common.{◌≡◌, ◌≢◌, sym, ℕ, ◌+◌, ◌<◌, ◌≤◌, Result, Ok, Err, List, length, refl, subst, ap, ◌∙◌, arith}
+use Rattle.std.proofs.Common.{◌≡◌, ◌≢◌, sym, ℕ, ◌+◌, ◌<◌, ◌≤◌, Result, Ok, Err, length, subst, arith}
 use Rattle.std.specs.Bool.{⊤}
 use Rattle.std.specs.List.{insert}
 use Rattle.std.specs.Result.{IfErr, IsOk, OnErr, OnOk}
@@ -24,23 +24,8 @@ module _ {K V E : Type 0} (expiration : K → E) (cmp : E → E → Ordering) (t
   module _ (pair : K × V) (new : Contents K V) where
     pub inserts_at : (result : Result ⊤ Refusal) (place : ℕ) → place ≤ length mid.pairs → OnOk result (new.pairs ≡ insert mid.pairs place pair) → OnErr result (new ≡ mid)
         → IfErr result (λ cause. cause ≡ OutOfMemory) → (0 < mid.spare → IsOk result) → KeyListInserts expiration cmp pair time old result new
-    inserts_at (Ok done) place within is same refused spare =
-        record {
-          joins_live = (place, subst (λ (pairs : List (K × V)). place ≤ length pairs) leaves.keeps_live within, is ∙ ap (λ (pairs : List (K × V)). insert pairs place pair) leaves.keeps_live);
-          err = tt;
-          refused = tt;
-          with_spare = λ _. refl;
-          with_expired = λ _. refl;
-        }
-    inserts_at (Err cause) place within is same refused spare =
-        let none = none_spare mid.spare spare in
-        record {
-          joins_live = tt;
-          err = same ∙ all_stayed expiration cmp time old mid leaves none;
-          refused = refused;
-          with_spare = λ room. absurd (omega (arith, room, had_no_spare expiration cmp time old mid leaves none));
-          with_expired = λ expired. absurd (false≢true (none_was_expired expiration cmp time old mid leaves none expired));
-        }
+    inserts_at (Ok done) place within is same refused spare = grind arith
+    inserts_at (Err cause) place within is same refused spare = grind (arith, none_spare, all_stayed, had_no_spare, false≢true, none_was_expired)
 
     pub gains_live : Joins pair (live_pairs expiration cmp time old.pairs) new.pairs → Gains (IsExpired expiration cmp time) pair old.pairs new.pairs
     gains_live joins = (live_pairs expiration cmp time old.pairs, Without-filter (λ (other : K × V). is_live expiration cmp time other.0) old.pairs, joins)

@@ -28,14 +28,10 @@ abbrev pub below_or_not : Ordering → Ordering
 below_or_not r = if is_lt r then Less else Greater
 
 below_less : (r : Ordering) → below_or_not r ≡ Less → r ≡ Less
-below_less Less is = refl
-below_less Equal is = absurd (cc is)
-below_less Greater is = absurd (cc is)
+below_less r is = grind arith
 
 below_apart : (r : Ordering) → below_or_not r ≢ Equal
-below_apart Less is = cc is
-below_apart Equal is = cc is
-below_apart Greater is = cc is
+below_apart r is = grind arith
 
 module _ {K V : Type 0} {cmp : K → K → Ordering} (o : IsTotalOrder cmp) (key : K) where
   -- along keys that rise, those below a key come first

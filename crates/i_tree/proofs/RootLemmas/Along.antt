@@ -1,5 +1,5 @@
 -- Pairs along a line: an order that is monotone along them cuts them, and what is answered stands at the cut.
-use Rattle.std.proofs.Common.{◌≡◌, ◌≢◌, ℕ, zero, suc, ◌+◌, ◌-◌, ◌<◌, ◌≤◌, Bool, true, false, not, Option, None, Some, List, [], ◌∷◌, ◌++◌, length, take, drop, get_or, slice_get, refl, sym, ap, ◌∙◌, subst, inl, inr, ⊎_elim, arith, append_assoc, length-drop}
+use Rattle.std.proofs.Common.{◌≡◌, ◌≢◌, ℕ, zero, suc, ◌-◌, ◌<◌, ◌≤◌, Bool, true, false, not, Option, None, Some, List, [], ◌∷◌, ◌++◌, length, take, drop, get_or, slice_get, refl, sym, ap, ◌∙◌, subst, inl, inr, ⊎_elim, arith, append_assoc, length-drop}
 use Rattle.std.specs.Cmp.{Equal-is}
 use Rattle.std.specs.List.{All, AllPairs, Any}
 use Rattle.std.specs.List.Sorted.{IsPartitionPoint, IsPartitionedBy}
@@ -22,46 +22,30 @@ pub at_most_from_test : (r : Ordering) → not (is_gt r) ≡ true → r ≢ Grea
 at_most_from_test r passes above = both_ways (not (is_gt r)) (ap (λ s. not (is_gt s)) above) passes
 
 pub above_from_test : (r : Ordering) → not (is_gt r) ≡ false → r ≡ Greater
-above_from_test Less fails = absurd (both_ways true fails refl)
-above_from_test Equal fails = absurd (both_ways true fails refl)
-above_from_test Greater fails = refl
+above_from_test r fails = grind (arith, both_ways)
 
 index_from_test : (r : Ordering) → not (is_gt r) ≡ true → ordering_index r ≤ 1
-index_from_test Less passes = omega arith
-index_from_test Equal passes = omega arith
-index_from_test Greater passes = absurd (both_ways false refl passes)
+index_from_test r passes = grind (arith, both_ways)
 
 test_from_index : (r : Ordering) → ordering_index r ≤ 1 → not (is_gt r) ≡ true
-test_from_index Less few = refl
-test_from_index Equal few = refl
-test_from_index Greater few = absurd (omega arith)
+test_from_index r few = grind arith
 
 less_from_index : (r : Ordering) → ordering_index r ≤ 0 → r ≡ Less
-less_from_index Less few = refl
-less_from_index Equal few = absurd (omega arith)
-less_from_index Greater few = absurd (omega arith)
+less_from_index r few = grind arith
 
 above_from_index : (r : Ordering) → 2 ≤ ordering_index r → r ≡ Greater
-above_from_index Less many = absurd (omega arith)
-above_from_index Equal many = absurd (omega arith)
-above_from_index Greater many = refl
+above_from_index r many = grind arith
 
 pub less_from_apart : (r : Ordering) → r ≢ Equal → r ≢ Greater → r ≡ Less
-less_from_apart Less level above = refl
-less_from_apart Equal level above = absurd (level refl)
-less_from_apart Greater level above = absurd (above refl)
+less_from_apart r level above = grind arith
 
 module _ {X : Type 0} where
   -- a point of a list cuts it
   pub All-before_point : (P Q : X → Type 0) (xs : List X) (count : ℕ) → count ≤ length xs → IsPartitionPoint P Q xs count → All P (take count xs)
-  All-before_point P Q xs count within (before, from) k d inside =
-      let short = length-take-le count xs within in
-      rw (get_or-take count xs k d (omega arith)) (before k d (omega arith) (omega arith))
+  All-before_point P Q xs count within (before, from) k d inside = grind (arith, length-take-le, get_or-take)
 
   pub All-behind_point : (P Q : X → Type 0) (xs : List X) (count : ℕ) → IsPartitionPoint P Q xs count → All Q (drop count xs)
-  All-behind_point P Q xs count (before, from) k d inside =
-      let short = length-drop count xs in
-      rw (get_or-drop count xs k d) (from (count + k) d (omega arith) (omega arith))
+  All-behind_point P Q xs count (before, from) k d inside = grind (arith, length-drop, get_or-drop)
 
   module _ {R : Type 0} (of : X → R) (nothing : R) (xs : List X) (found : R) where
     -- what is read in front of a point is found at the end of the items there
@@ -136,9 +120,7 @@ module _ {K V : Type 0} where
 module _ {K V : Type 0} (P Q : K × V → Type 0) (to : (pair : K × V) → P pair → Q pair) (from : (pair : K × V) → Q pair → P pair) where
   -- two ways to say what is met
   pub IsLast-same : (pairs : List (K × V)) (found : Option (K × V)) → IsLast P pairs found → IsLast Q pairs found
-  IsLast-same pairs None all = All-weaker (λ pair. ¬ (P pair)) (λ pair. ¬ (Q pair)) (λ pair misses too. misses (from pair too)) pairs all
-  IsLast-same pairs (Some pair) (front, back, cut, meets, behind) =
-      (front, back, cut, to pair meets, All-weaker (λ pair. ¬ (P pair)) (λ pair. ¬ (Q pair)) (λ pair misses too. misses (from pair too)) back behind)
+  IsLast-same pairs found all = grind (arith, All-weaker)
 
 module _ {K V : Type 0} (order : K → Ordering) where
   abbrev pub Rises : K × V → K × V → Type 0

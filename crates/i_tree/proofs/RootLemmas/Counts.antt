@@ -1,5 +1,5 @@
 -- Lemmas on counts of rotations, over the law of a counter.
-use Rattle.std.proofs.Common.{ℕ, ◌+◌, ◌≤◌, Bool, true, false, MatchBool, refl, arith}
+use Rattle.std.proofs.Common.{ℕ, ◌+◌, ◌≤◌, Bool, MatchBool, refl, arith}
 use Rattle.i_tree.specs.Rb.Removal.{RemovesOne}
 use Rattle.i_tree.specs.Root.Steps.{Counts, nothing, one_removal, one_rotation, together, Accumulates, OnlyRotates}
 
@@ -41,13 +41,4 @@ module _ {S : Type 0} {Made : S → S → Counts → Type 0} {old new : S} where
 
   -- fewer where the answer is false
   pub OnlyRotates-either : (most : ℕ) (ended : Bool) → MatchBool ended (OnlyRotates Made old new most) (OnlyRotates Made old new 0) → OnlyRotates Made old new most
-  OnlyRotates-either most true rotations = rotations
-  OnlyRotates-either most false rotations =
-      record {
-        made = rotations.made;
-        counted = rotations.counted;
-        comparisons = rotations.comparisons;
-        tests = rotations.tests;
-        removals = rotations.removals;
-        rotations = omega (arith, rotations.rotations);
-      }
+  OnlyRotates-either most ended rotations = grind arith

@@ -1,5 +1,5 @@
 -- Facts on lists that are filtered, and on lists in which each element stands in a relation to all later ones.
-use Rattle.std.proofs.Common.{◌≡◌, ℕ, zero, suc, ◌<◌, ◌≤◌, Bool, true, false, List, [], ◌∷◌, length, take, drop, refl, ap, ◌∙◌, subst, arith}
+use Rattle.std.proofs.Common.{◌≡◌, ℕ, zero, suc, ◌<◌, ◌≤◌, Bool, true, false, List, [], ◌∷◌, length, take, drop, refl, arith}
 use Rattle.std.specs.Bool.{MatchBool}
 use Rattle.std.specs.List.{All, AllPairs, Any, Contains, filter, insert}
 use Rattle.std.proofs.lemmas.Bool.{cond_both, both_ways}
@@ -37,10 +37,7 @@ module _ {X : Type 0} where
   module _ (p : X → Bool) where
     pub Contains-filter : (xs : List X) (x : X) → p x ≡ true → Contains xs x → Contains (filter p xs) x
     Contains-filter [] x passes (k, within, is) = absurd (omega arith)
-    Contains-filter (y ∷ ys) x passes (zero, within, is) =
-        cond_both (p y) (y ∷ filter p ys) (filter p ys) (λ zs. Contains zs x)
-        (λ _. subst (Contains (y ∷ filter p ys)) is (Contains-here y (filter p ys)))
-        (λ fails. absurd (both_ways (p y) fails (ap p is ∙ passes)))
+    Contains-filter (y ∷ ys) x passes (zero, within, is) = grind (arith, cond_both, Contains-here, both_ways)
     Contains-filter (y ∷ ys) x passes (suc k, within, is) =
         let rest = Contains-filter ys x passes (k, omega arith, is) in
         cond_both (p y) (y ∷ filter p ys) (filter p ys) (λ zs. Contains zs x) (λ _. Contains-there y (filter p ys) x rest) (λ _. rest)
@@ -99,11 +96,7 @@ module _ {X : Type 0} where
     -- a filter that leaves something out
     pub length-filter_lt : (xs : List X) → Any (λ x. p x ≡ false) xs → length (filter p xs) < length xs
     length-filter_lt [] (k, y, within, is, fails) = absurd (omega arith)
-    length-filter_lt (x ∷ xs) (zero, y, within, is, fails) =
-        let short = length-filter_le xs in
-        cond_both (p x) (x ∷ filter p xs) (filter p xs) (λ ys. length ys < suc (length xs))
-        (λ passes. absurd (both_ways (p x) (ap p is ∙ fails) passes))
-        (λ _. omega arith)
+    length-filter_lt (x ∷ xs) (zero, y, within, is, fails) = grind (arith, cond_both, both_ways, length-filter_le)
     length-filter_lt (x ∷ xs) (suc k, y, within, is, fails) =
         let rest = length-filter_lt xs (k, y, omega arith, is, fails) in
         cond_both (p x) (x ∷ filter p xs) (filter p xs) (λ ys. length ys < suc (length xs)) (λ _. omega arith) (λ _. omega arith)

@@ -1,6 +1,6 @@
 -- A closure that compares with one key is monotone.
-use Rattle.std.proofs.Common.{◌≡◌, ◌≤◌, List, get_or, refl, sym, ap, ◌∙◌, arith}
-use Rattle.std.specs.Cmp.{IsTotalOrder, alike_right}
+use Rattle.std.proofs.Common.{◌≡◌, ◌≤◌, List, get_or, refl, arith}
+use Rattle.std.specs.Cmp.{IsTotalOrder}
 use Rattle.std.specs.Ordering.{on, ordering_index}
 use Rattle.std.specs.declared.cmp.Ordering.{Ordering}
 use Rattle.std.specs.declared.cmp.Ordering.TheVariants.{Less, Equal, Greater}
@@ -19,6 +19,4 @@ module _ {K N V : Type 0} {cmp : N → N → Ordering} (o : IsTotalOrder cmp) (n
           at_most_greater Greater = omega arith
 
           by_answer : (r : Ordering) → cmp b sought ≡ r → ordering_index (cmp a sought) ≤ ordering_index (cmp b sought)
-          by_answer Less e = omega (arith, ap ordering_index (o.trans a b sought below e))
-          by_answer Equal e = omega (arith, ap ordering_index (sym (alike_right o b sought a e) ∙ below))
-          by_answer Greater e = omega (arith, ap ordering_index e, at_most_greater (cmp a sought))
+          by_answer r e = grind (arith, at_most_greater)

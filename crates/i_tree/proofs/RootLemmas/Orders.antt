@@ -1,5 +1,5 @@
 -- What a total order answers of two things by what it answers of them in the other order.
-use Rattle.std.proofs.Common.{◌≡◌, ◌≢◌, true, false, not, refl, sym, ap, ◌∙◌}
+use Rattle.std.proofs.Common.{arith, ◌≡◌, ◌≢◌, true, false, not, refl, sym, ap, ◌∙◌}
 use Rattle.std.specs.Cmp.{IsTotalOrder}
 use Rattle.std.specs.Ordering.{is_ge, is_gt, is_lt, ordering_reverse}
 use Rattle.std.specs.declared.cmp.Ordering.{Ordering}
@@ -7,14 +7,10 @@ use Rattle.std.specs.declared.cmp.Ordering.TheVariants.{Less, Equal, Greater}
 use Rattle.std.proofs.lemmas.Bool.{not-true}
 
 gt-reverse : (r : Ordering) → is_gt (ordering_reverse r) ≡ is_lt r
-gt-reverse Less = refl
-gt-reverse Equal = refl
-gt-reverse Greater = refl
+gt-reverse r = grind arith
 
 ge-reverse : (r : Ordering) → is_ge (ordering_reverse r) ≡ not (is_gt r)
-ge-reverse Less = refl
-ge-reverse Equal = refl
-ge-reverse Greater = refl
+ge-reverse r = grind arith
 
 module _ {T : Type 0} {cmp : T → T → Ordering} (o : IsTotalOrder cmp) where
   pub gt-reversed : (a b : T) → is_gt (cmp a b) ≡ is_lt (cmp b a)

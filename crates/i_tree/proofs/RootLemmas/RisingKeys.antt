@@ -1,5 +1,5 @@
 -- Facts on keys that rise, and on the place of a key among them.
-use Rattle.std.proofs.Common.{◌≡◌, ◌≢◌, ℕ, ◌+◌, ◌-◌, ◌<◌, ◌≤◌, true, false, not, None, Some, List, ◌∷◌, length, get_or, slice_get, refl, sym, ap, ◌∙◌, subst, inl, inr, ⊎_elim, arith, length-drop}
+use Rattle.std.proofs.Common.{◌≡◌, ◌≢◌, ℕ, ◌+◌, ◌-◌, ◌<◌, ◌≤◌, true, false, not, None, Some, List, ◌∷◌, length, get_or, slice_get, sym, ap, ◌∙◌, subst, inl, inr, ⊎_elim, arith, length-drop}
 use Rattle.std.specs.Cmp.{IsTotalOrder, alike_right, tied_itself}
 use Rattle.std.specs.Ordering.{is_gt, is_lt, ordering_reverse}
 use Rattle.std.specs.declared.cmp.Ordering.{Ordering}
@@ -22,9 +22,7 @@ use Rattle.i_tree.specs.Root.Answer.{Above, AtMost, GreatestOr, IsMonotone, Leas
 
 -- the test `is_lt` and the answer `Less`
 pub less_from_is_lt : (r : Ordering) → is_lt r ≡ true → r ≡ Less
-less_from_is_lt Less h = refl
-less_from_is_lt Equal h = absurd (both_ways false refl h)
-less_from_is_lt Greater h = absurd (both_ways false refl h)
+less_from_is_lt r h = grind (arith, both_ways)
 
 pub not_less_from_is_lt : (r : Ordering) → is_lt r ≡ false → r ≢ Less
 not_less_from_is_lt r h e = both_ways (is_lt r) h (ap is_lt e)
@@ -41,11 +39,7 @@ module _ {K V : Type 0} (cmp : K → K → Ordering) (pairs : List (K × V)) (or
 module _ {K V : Type 0} {cmp : K → K → Ordering} (o : IsTotalOrder cmp) where
   -- keys that rise stand in two subtrees, those below a key and the others
   pub IsPartitionedBy-rising : (pairs : List (K × V)) (key : K) → IsRising cmp pairs → IsPartitionedBy (λ pair. is_lt (cmp pair.0 key)) pairs
-  IsPartitionedBy-rising pairs key rising i j d le within below =
-      ⊎_elim
-      (λ same. subst (λ k. is_lt (cmp (get_or pairs k d).0 key) ≡ true) (sym same) below)
-      (λ apart. ap is_lt (o.trans (get_or pairs i d).0 (get_or pairs j d).0 key (rising i j d (omega arith) within) (less_from_is_lt _ below)))
-      (cases_eq i j)
+  IsPartitionedBy-rising pairs key rising i j d le within below = grind (arith, less_from_is_lt, cases_eq)
 
   -- along keys that rise, the last that meets P is the greatest
   pub GreatestOr-from_last : (P : K → Type 0) (pairs : List (K × V)) (default value : V) → IsRising cmp pairs → LastOr (λ pair. P pair.0) pairs default value → GreatestOr cmp P pairs default value
@@ -126,9 +120,7 @@ module _ {K V : Type 0} {cmp : K → K → Ordering} (o : IsTotalOrder cmp) wher
   pub NoKey-place : (pairs : List (K × V)) (key : K) (place : ℕ) → IsRising cmp pairs
       → IsPartitionPoint (λ other. cmp other.0 key ≡ Less) (λ other. cmp other.0 key ≢ Less) pairs place
       → ((d : K × V) → place < length pairs → cmp (get_or pairs place d).0 key ≢ Equal) → NoKey cmp pairs key
-  NoKey-place pairs key place rising splits at_place k d within level =
-      let same = equal_at_place pairs key place rising splits k d within level in
-      at_place d (omega (arith, within, same)) (subst (λ n. cmp (get_or pairs n d).0 key ≡ Equal) same level)
+  NoKey-place pairs key place rising splits at_place k d within level = grind (arith, equal_at_place)
 
   module _ {E : Type 0} (expiration : K → E) (cmp_time : E → E → Ordering) (time : E) where
     pub HasKey-live : (pairs : List (K × V)) (key : K) (pair : K × V) → Contains pairs pair → is_live expiration cmp_time time pair.0 ≡ true → cmp pair.0 key ≡ Equal → HasKey cmp (live_pairs expiration cmp_time time pairs) key

@@ -124,7 +124,6 @@ module _ {E V : Type 0} (expiration : V → E) (cmp : E → E → Ordering) (tim
         (subst (λ (kept : List (Member V)). IsPermutation kept (to_come expiration cmp time asked asked 0 chunks))
         (filter-same_tests (shares asked) (λ member. overlap member.interval (between first last)) members
         (λ k d inside.
-        let lies = holds.within k d inside in
         ap (λ (mask : ℕ). not (nat_eq (bit_and (canonical_nodes (get_or members k d).interval) mask) 0)) is
         ∙ ap not (placed-meets (get_or members k d).interval.first (get_or members k d).interval.last (holds.order k d inside) (omega arith) first last order within)
         ∙ twice (overlap (get_or members k d).interval (between first last))))

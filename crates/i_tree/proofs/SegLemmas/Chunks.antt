@@ -54,10 +54,7 @@ module _ {X : Type 0} (P : X → Type 0) where
   -- a write changes nothing at higher places
   pub some_at-set_higher : (xs : List X) (place : ℕ) (new : X) (places : List ℕ) → All (λ at. place < at) places
       → All (λ at. IsSomeAnd (slice_get xs at) P) places → All (λ at. IsSomeAnd (slice_get (slice_set xs place new) at) P) places
-  some_at-set_higher xs place new places higher all =
-      λ index default within.
-      let above : place < get_or places index default = higher index default within in
-      some_at-set_other xs place (get_or places index default) new (λ same. absurd (omega arith)) (all index default within)
+  some_at-set_higher xs place new places higher all = grind (arith, some_at-set_other)
 
 -- there is room in the chunk of a node
 abbrev pub HasRoomAt : {A : Type 0} {X : Type 0} → List (Vec X A) → ℕ → Type 0
@@ -123,9 +120,7 @@ module _ {V : Type 0} (copy : ℕ × V) where
       ∙ joining-none node nodes (All-tail (λ at. at ≢ node) at nodes others)
 
   joining-here : (node : ℕ) (nodes : List ℕ) → All (λ at. at ≢ node) nodes → joining node (node ∷ nodes) ≡ copy ∷ []
-  joining-here node nodes others =
-      ap (λ (same : Bool). cond same (copy ∷ joining node nodes) (joining node nodes)) (eq-eqb node node refl)
-      ∙ ap (λ (rest : List (ℕ × V)). copy ∷ rest) (joining-none node nodes others)
+  joining-here node nodes others = grind (arith, eq-eqb, joining-none)
 
   joining-one : (more start mask node : ℕ) → start ≤ node → node < start + more → has_node mask node ≡ true → joining node (nodes_from more start mask) ≡ copy ∷ []
   unfolding nodes_from
@@ -180,10 +175,4 @@ module _ {V : Type 0} (copy : ℕ × V) where
   pub joining-pushed : {A : Type 0} (chunks : List (Vec (ℕ × V) A)) (node at : ℕ) (was new : Vec (ℕ × V) A) (left rest : List ℕ) (all : List (ℕ × V)) → node < length chunks
       → new.items ≡ (get_or chunks node was).items ++ copy ∷ [] → left ≡ node ∷ rest → chunk_at at (copies_in chunks) ++ joining at left ≡ all
       → chunk_at at (copies_in (slice_set chunks node new)) ++ joining at rest ≡ all
-  joining-pushed chunks node at was new left rest all within pushed next before =
-      let many = length-map chunks (λ chunk. chunk.items) in
-      let read : chunk_at node (copies_in chunks) ≡ (get_or chunks node was).items = get_or-map (λ chunk. chunk.items) chunks node was [] within in
-      ap (λ (lists : List (List (ℕ × V))). chunk_at at lists ++ joining at rest) (map-set (λ chunk. chunk.items) chunks node new)
-      ∙ joining-step (copies_in chunks) node at new.items rest (omega arith) (pushed ∙ ap (λ (chunk : List (ℕ × V)). chunk ++ copy ∷ []) (sym read))
-      ∙ ap (λ (nodes : List ℕ). chunk_at at (copies_in chunks) ++ joining at nodes) (sym next)
-      ∙ before
+  joining-pushed chunks node at was new left rest all within pushed next before = grind (arith, length-map, get_or-map, map-set, joining-step)

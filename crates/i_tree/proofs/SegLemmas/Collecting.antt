@@ -1,15 +1,14 @@
 -- A walk that appends what it finds, one value after another.
-use Rattle.std.proofs.Common.{◌≡◌, ℕ, ◌+◌, ◌*◌, ◌^◌, ◌<◌, ◌≤◌, Some, List, [], ◌∷◌, ◌++◌, length, drop, bit_and, ap, sym, ◌∙◌, subst, append_assoc, length-append, arith, IsPermutation}
-use Rattle.std.specs.Bool.{◌==◌}
-use Rattle.std.specs.List.{filter, sum_by}
+use Rattle.std.proofs.Common.{◌≡◌, ℕ, ◌+◌, ◌*◌, ◌^◌, ◌<◌, ◌≤◌, Some, List, [], ◌∷◌, ◌++◌, length, ap, sym, ◌∙◌, subst, append_assoc, length-append, arith, IsPermutation}
+use Rattle.std.specs.List.{sum_by}
 use Rattle.std.specs.declared.cmp.Ordering.{Ordering}
 use Rattle.std.proofs.lemmas.List.{append-nil, length-map}
 use Rattle.std.proofs.lemmas.List.Sorted.{IsPermutation-trans, IsPermutation-map, IsPermutation-append_right, length_permutation}
 use Rattle.i_tree.specs.Root.Steps.{Counts, Accumulates, Makes}
 use Rattle.std.proofs.lemmas.List.Sums.{sum_by-cons}
-use Rattle.i_tree.specs.Seg.Copies.{chunk_at, found_at, found_among, live_copies, member_of, stored_copies}
+use Rattle.i_tree.specs.Seg.Copies.{chunk_at, found_at, found_among, live_copies, stored_copies}
 use Rattle.i_tree.specs.Seg.Members.{Member, live_members, values_of}
-use Rattle.i_tree.specs.Seg.Nodes.{lowest, nodes_of}
+use Rattle.i_tree.specs.Seg.Nodes.{nodes_of}
 use Rattle.i_tree.specs.Seg.Segments.{Contents}
 use Rattle.i_tree.specs.Seg.Walk.{to_come, found_from, live_from, LosesExpiredAt, Cleans, HasPassed, Reads, Collects, StopsCollecting}
 use Rattle.i_tree.proofs.RootLemmas.Lists.{length-filter_le}
@@ -53,20 +52,7 @@ module _ {E V : Type 0} (expiration : V → E) (cmp : E → E → Ordering) (tim
     -- a finished walk's counts, where a live copy is read for each of so many values, and at most eight
     pub IsWalked-ended : (tree : Contents E V) (left index : ℕ) (new : S) (values : ℕ) → live_from expiration cmp time 0 (nodes_of asked) before.chunks ≤ 8 * values → values ≤ live_from expiration cmp time 0 (nodes_of asked) before.chunks
         → left ≡ 0 → IsWalked tree left index new → Makes Made old new (Collects values (stored_copies before.chunks) (stored_copies tree.chunks))
-    IsWalked-ended tree left index new values few each ended walked =
-        let steps = walked.steps in
-        let none = ap (λ (nodes : List ℕ). live_from expiration cmp time index nodes tree.chunks) (ap nodes_of ended ∙ nodes_of-zero) in
-        record {
-          made = steps.made;
-          counted = steps.counted;
-          holds = record {
-            comparisons = steps.holds.comparisons;
-            rotations = steps.holds.rotations;
-            tests = omega (arith, few, steps.holds.tests);
-            tested = omega (arith, each, none, steps.holds.tests);
-            removals = steps.holds.removals;
-          };
-        }
+    IsWalked-ended tree left index new values few each ended walked = grind (arith, nodes_of-zero)
 
     -- and what it cleans up: no node is left
     pub IsWalked-cleans : (tree : Contents E V) (left index : ℕ) (new : S) → left ≡ 0 → IsWalked tree left index new → Cleans expiration cmp time asked before.chunks tree.chunks
@@ -75,26 +61,11 @@ module _ {E V : Type 0} (expiration : V → E) (cmp : E → E → Ordering) (tim
     -- the counts of one that was left
     pub IsWalked-left : (tree : Contents E V) (left index : ℕ) (new : S) (values : ℕ) → live_from expiration cmp time 0 (nodes_of asked) before.chunks ≤ 8 * values → IsWalked tree left index new
         → Makes Made old new (StopsCollecting values (stored_copies before.chunks) (stored_copies tree.chunks))
-    IsWalked-left tree left index new values few walked =
-        let steps = walked.steps in
-        record {
-          made = steps.made;
-          counted = steps.counted;
-          holds = record {
-            comparisons = steps.holds.comparisons;
-            rotations = steps.holds.rotations;
-            tests = omega (arith, few, steps.holds.tests);
-            tested = steps.holds.tested;
-            removals = steps.holds.removals;
-          };
-        }
+    IsWalked-left tree left index new values few walked = grind arith
 
   -- each member that is found is of a live copy
   found_live : (asked node : ℕ) (copies : List (ℕ × V)) → length (found_at expiration cmp (Some time) asked node copies) ≤ length (live_copies expiration cmp (Some time) copies)
-  found_live asked node copies =
-      let mapped = length-map (filter (λ copy. lowest (bit_and copy.0 asked) == node) (live_copies expiration cmp (Some time) copies)) member_of in
-      let fewer = length-filter_le (λ copy. lowest (bit_and copy.0 asked) == node) (live_copies expiration cmp (Some time) copies) in
-      omega (arith, mapped, fewer)
+  found_live asked node copies = grind (arith, length-map, length-filter_le)
 
   found_among-live : (asked : ℕ) (nodes : List ℕ) (chunks : List (List (ℕ × V))) → length (found_among expiration cmp (Some time) asked nodes chunks) ≤ sum_by (λ node. length (live_copies expiration cmp (Some time) (chunk_at node chunks))) nodes
   found_among-live asked [] chunks = omega arith
@@ -105,15 +76,11 @@ module _ {E V : Type 0} (expiration : V → E) (cmp : E → E → Ordering) (tim
 
   found_from-live : (asked index : ℕ) (nodes : List ℕ) (chunks : List (List (ℕ × V))) → length (found_from expiration cmp time asked index nodes chunks) ≤ live_from expiration cmp time index nodes chunks
   found_from-live asked index [] chunks = omega arith
-  found_from-live asked index (node ∷ nodes) chunks =
-      let both = length-append (found_at expiration cmp (Some time) asked node (drop index (chunk_at node chunks))) (found_among expiration cmp (Some time) asked nodes chunks) in
-      omega (arith, both, found_live asked node (drop index (chunk_at node chunks)), found_among-live asked nodes chunks)
+  found_from-live asked index (node ∷ nodes) chunks = grind (arith, length-append, found_live, found_among-live)
 
   module _ (asked : ℕ) (before after : List (List (ℕ × V))) (answers : List V) (same : after ≡ before) (found : IsPermutation answers (values_of (to_come expiration cmp time asked asked 0 after))) where
     as_many : length (to_come expiration cmp time asked asked 0 after) ≡ length answers
-    as_many =
-        sym (length-map (to_come expiration cmp time asked asked 0 after) (λ member. member.value))
-        ∙ length_permutation answers (values_of (to_come expiration cmp time asked asked 0 after)) found
+    as_many = grind (arith, length-map, length_permutation)
 
     -- at most eight live copies are read for each answer, where they are for each member that comes
     pub reads-few : live_from expiration cmp time 0 (nodes_of asked) after ≤ 8 * length (to_come expiration cmp time asked asked 0 after) → live_from expiration cmp time 0 (nodes_of asked) before ≤ 8 * length answers
@@ -122,9 +89,7 @@ module _ {E V : Type 0} (expiration : V → E) (cmp : E → E → Ordering) (tim
 
     -- and one is
     pub reads-each : length answers ≤ live_from expiration cmp time 0 (nodes_of asked) before
-    reads-each =
-        subst (λ (chunks : List (List (ℕ × V))). length answers ≤ live_from expiration cmp time 0 (nodes_of asked) chunks) same
-        (omega (arith, as_many, found_from-live asked 0 (nodes_of asked) after))
+    reads-each = grind (arith, as_many, found_from-live)
 
 -- The answers are, in some order, those that were appended to the list and those of the members that are still to come.
 pub record IsAppended {V : Type 0} (answers kept items : List V) (come : List (Member V)) : Type 0 where
@@ -148,13 +113,10 @@ module _ {V : Type 0} (answers kept items : List V) (come : List (Member V)) (so
   -- fewer were appended than there are answers, as long as one comes
   pub IsAppended-fewer : {value : V} {come' : List (Member V)} → (member : Member V) × (member.value ≡ value) × IsPermutation come (member ∷ come') → length items < length kept + length answers
   IsAppended-fewer {come' = come'} one =
-      let longer = ap length so_far.is in
-      let both = length-append kept so_far.found in
       let as_many = length_permutation answers (so_far.found ++ values_of come) so_far.rest in
-      let parts = length-append so_far.found (values_of come) in
       let values = length-map come (λ member. member.value) in
       let some = length_permutation come (one.0 ∷ come') one.2 in
-      omega arith
+      omega (arith, length-append so_far.found (values_of come), length-append kept so_far.found, ap length so_far.is)
 
   -- none is left
   pub IsAppended-all : come ≡ [] → (found : List V) × IsPermutation answers found × (items ≡ kept ++ found)

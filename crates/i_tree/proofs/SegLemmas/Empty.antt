@@ -1,6 +1,5 @@
 -- Chunks without copies hold no member.
-use Rattle.std.proofs.Common.{◌≡◌, ℕ, ◌+◌, ◌≤◌, List, [], ◌∷◌, ◌++◌, replicate, refl, ap, sym, ◌∙◌, subst, inl, inr}
-use Rattle.std.specs.List.Sorted.{IsPermutation}
+use Rattle.std.proofs.Common.{arith, ◌≡◌, ℕ, List, [], ◌∷◌, ◌++◌, replicate, refl, ap, ◌∙◌}
 use Rattle.std.specs.declared.cmp.Ordering.{Ordering}
 use Rattle.std.specs.declared.option.Option.{Option}
 use Rattle.std.proofs.lemmas.Bool.{cases_lt}
@@ -8,17 +7,12 @@ use Rattle.std.proofs.lemmas.List.{length-replicate, get_or-replicate, get_or_pa
 use Rattle.std.proofs.lemmas.List.Elements.{All-nil}
 use Rattle.std.proofs.lemmas.List.Sorted.{IsPermutation-refl}
 use Rattle.i_tree.specs.Seg.Buckets.{between}
-use Rattle.i_tree.specs.Seg.Copies.{chunk_at, live_copies, found_at, found_among, members_in, Holds}
-use Rattle.i_tree.specs.Seg.Members.{Member}
+use Rattle.i_tree.specs.Seg.Copies.{chunk_at, found_at, found_among, members_in, Holds}
 use Rattle.i_tree.specs.Seg.Nodes.{nodes_of, meeting_set}
 
 module _ {E V : Type 0} (expiration : V → E) (cmp : E → E → Ordering) (latest : Option E) (count : ℕ) where
   no_copies : (node : ℕ) → chunk_at {V = V} node (replicate count []) ≡ []
-  no_copies node =
-      elim (cases_lt node count) [
-        | inl within ↦ get_or-replicate count node [] [] within
-        | inr past ↦ get_or_past (replicate count []) node [] (subst (λ (long : ℕ). long ≤ node) (sym (length-replicate count [])) past)
-      ]
+  no_copies node = grind (arith, cases_lt, get_or-replicate, get_or_past, length-replicate)
 
   none_found : (asked : ℕ) (nodes : List ℕ) → found_among {V = V} expiration cmp latest asked nodes (replicate count []) ≡ []
   none_found asked [] = refl
@@ -29,11 +23,4 @@ module _ {E V : Type 0} (expiration : V → E) (cmp : E → E → Ordering) (lat
   members_in-empty = none_found (meeting_set (between 0 31)) (nodes_of (meeting_set (between 0 31)))
 
   pub holds-empty : Holds {V = V} expiration cmp latest count (replicate count []) (members_in expiration cmp latest (replicate count []))
-  holds-empty =
-      subst (Holds expiration cmp latest count (replicate count [])) (sym members_in-empty)
-      (record {
-        chunk_for_each = length-replicate count [];
-        copies = λ node. subst (λ (copies : List (ℕ × V)). IsPermutation [] (live_copies expiration cmp latest copies)) (sym (no_copies node)) (IsPermutation-refl []);
-        order = All-nil (λ (member : Member V). member.interval.first ≤ member.interval.last);
-        within = All-nil (λ (member : Member V). 32 + member.interval.last ≤ count);
-      })
+  holds-empty = grind (arith, members_in-empty, length-replicate, no_copies, IsPermutation-refl, All-nil)

@@ -11,19 +11,13 @@ distance_is start value upwards = omega (arith, ints)
 
 distance_rises : (start low high : ℤ) → start ≤ℤ low → low ≤ℤ high → distance start low ≤ distance start high
 distance_rises start low high above upwards =
-    let first = distance_is start low above in
-    let second : pos (distance start high) ≡ high -ℤ start = distance_is start high (omega (arith, ints)) in
     omega (arith, ints)
 
 quotient_rises : (w a b : ℕ) → 0 < w → a ≤ b → a / w ≤ b / w
 quotient_rises w a b some upwards = let most : a / w * w ≤ a = div-mul-le_self a w in le-div (a / w) b w some (omega arith)
 
 quotient_near : (w a b : ℕ) → 0 < w → a / w ≤ b / w → a < b + w
-quotient_near w a b some upwards =
-    let below : a < a / w * w + w = lt-div-mul-add some in
-    let rises : a / w * w ≤ b / w * w = mul-le (a / w) w (b / w) w upwards (omega arith) in
-    let most : b / w * w ≤ b = div-mul-le_self b w in
-    omega arith
+quotient_near w a b some upwards = grind (arith, lt-div-mul-add, mul-le, div-mul-le_self)
 
 -- a number that isn't below another lies in no earlier bucket
 pub bucket-rises : (buckets : Buckets) (low high : ℤ) → 0 < buckets.width → buckets.start ≤ℤ low → low ≤ℤ high → bucket buckets low ≤ bucket buckets high
@@ -41,11 +35,7 @@ overlap_second a b c d both = grind (arith, nat_tests)
 
 -- where one number's bucket isn't behind another's, it lies less than a width behind it at most
 near : (start low high : ℤ) (width : ℕ) → 0 < width → start ≤ℤ low → start ≤ℤ high → distance start low / width ≤ distance start high / width → low <ℤ (high +ℤ pos width)
-near start low high width some above second_above upto =
-    let first = distance_is start low above in
-    let second = distance_is start high second_above in
-    let less = quotient_near width (distance start low) (distance start high) some upto in
-    omega (arith, ints)
+near start low high width some above second_above upto = grind (arith, quotient_near, distance_is, ints)
 
 -- buckets that have a width filter
 pub filters : (buckets : Buckets) → 0 < buckets.width → Filters buckets
@@ -56,8 +46,6 @@ filters buckets some = record {
       (quotient_rises buckets.width (distance buckets.start least) (distance buckets.start high) some (distance_rises buckets.start least high accepted.above second));
   stays_near = λ low high least greatest own accepted meet.
       let above = own.above in
-      let upwards = own.order in
-      let other_above = accepted.above in
       let other_upwards = accepted.order in (
         near buckets.start low greatest buckets.width some own.above (omega (arith, ints)) (overlap_first (bucket buckets low) (bucket buckets high) (bucket buckets least) (bucket buckets greatest) meet),
         near buckets.start least high buckets.width some accepted.above (omega (arith, ints)) (overlap_second (bucket buckets low) (bucket buckets high) (bucket buckets least) (bucket buckets greatest) meet),

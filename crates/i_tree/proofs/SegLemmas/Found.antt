@@ -8,7 +8,7 @@ use Rattle.std.specs.declared.option.Option.{Option}
 use Rattle.std.proofs.lemmas.Bool.{cond-false, false_from_ne_true, eqb-true, le-leb, and_from}
 use Rattle.std.proofs.lemmas.List.Elements.{All-head, All-tail, filter_agree}
 use Rattle.std.proofs.lemmas.List.Sorted.{IsPermutation-refl, IsPermutation-sym, IsPermutation-trans, IsPermutation-append, IsPermutation-map, All-permutation}
-use Rattle.i_tree.specs.Seg.Buckets.{Interval, between}
+use Rattle.i_tree.specs.Seg.Buckets.{between}
 use Rattle.i_tree.specs.Seg.Copies.{copy_of, member_of, is_at, copies_at, chunk_at, found_at, found_among, members_in, Holds}
 use Rattle.i_tree.specs.Seg.Members.{Member}
 use Rattle.i_tree.specs.Seg.Nodes.{has_node, lowest, is_canonical, nodes_from, nodes_of, canonical_nodes, meeting_set, interval_of}
@@ -42,9 +42,7 @@ module _ {V : Type 0} where
       kept = filter (λ member. first_asked asked member == node) members
 
       own : (first : Bool) → map member_of rest ≡ kept → map member_of (cond first (copy_of member ∷ rest) rest) ≡ cond first (member ∷ kept) kept
-      own true later =
-          ap (λ (whole : Member V). whole ∷ map member_of rest) (ap (λ (buckets : Interval). record { interval = buckets; value = member.value }) (All-head Decodes member members decode)) ∙ ap (λ (found : List (Member V)). member ∷ found) later
-      own false later = later
+      own first later = grind (arith, rest, All-head)
 
       step : (at : Bool) → (at ≡ false → (first_asked asked member == node) ≡ false) → map member_of rest ≡ kept
           → map member_of (filter (λ copy. lowest (bit_and copy.0 asked) == node) (map copy_of (cond at (member ∷ filter (is_at node) members) (filter (is_at node) members)))) ≡ cond (first_asked asked member == node) (member ∷ kept) kept
@@ -61,10 +59,7 @@ module _ {V : Type 0} where
 module _ {E V : Type 0} (expiration : V → E) (cmp : E → E → Ordering) (latest : Option E) where
   module _ (count : ℕ) (chunks : List (List (ℕ × V))) (members : List (Member V)) (few : count ≤ 63) (holds : Holds expiration cmp latest count chunks members) where
     all_decode : All Decodes members
-    all_decode k d within =
-        let order = holds.order k d within in
-        let below = holds.within k d within in
-        placed-decodes _ _ order (omega arith)
+    all_decode k d within = grind (arith, placed-decodes)
 
     -- at a node are found the members whose lowest asked node it is
     found-at : (asked node : ℕ) → node < 64 → IsPermutation (filter (λ member. first_asked asked member == node) members) (found_at expiration cmp latest asked node (chunk_at node chunks))

@@ -20,16 +20,10 @@ module _ (buckets : Buckets) (low high : ℤ) (wide : 0 < buckets.width) (accept
 
   -- the last bucket of the range has a chunk
   pub accepted-within : 32 + bucket buckets high ≤ chunk_count buckets
-  accepted-within =
-      let above = accepted.above in
-      let order = accepted.order in
-      let rises = bucket-rises buckets high buckets.end wide (omega (arith, ints)) accepted.below in
-      omega arith
+  accepted-within = grind (arith, bucket-rises, ints)
 
   pub accepted-below : (mask : ℕ) → mask < 2 ^ (32 + bucket buckets high) → mask < 2 ^ chunk_count buckets
-  accepted-below mask below =
-      let rises : 2 ^ (32 + bucket buckets high) ≤ 2 ^ chunk_count buckets = pow-le-pow_right (omega arith) accepted-within in
-      omega arith
+  accepted-below mask below = grind (arith, pow-le-pow_right, accepted-within)
 
   module _ {E V : Type 0} (expiration : V → E) (cmp : E → E → Ordering) (latest : Option E) (value : V) (before after : List (List (ℕ × V))) (members : List (Member V)) (few : chunk_count buckets ≤ 63)
       (holds : Holds expiration cmp latest (chunk_count buckets) before members) (placed : PlacesCopies (canonical_nodes (interval buckets low high)) value before after) where
@@ -51,5 +45,4 @@ module _ (buckets : Buckets) (low high : ℤ) (wide : 0 < buckets.width) (accept
         let long = holds.chunk_for_each in
         let within = accepted-within in
         let more = placed-few (canonical_nodes (interval buckets low high)) value before after (omega arith) placed in
-        let eight = few-placed (bucket buckets low) (bucket buckets high) accepted-order (omega arith) in
-        omega arith
+        omega (arith, few-placed (bucket buckets low) (bucket buckets high) accepted-order (omega arith))

@@ -1,6 +1,6 @@
 -- What chunks hold at a later time, and after a walk.
-use Rattle.std.proofs.Common.{◌≡◌, ℕ, ◌+◌, ◌≤◌, Bool, true, false, cond, Option, None, Some, List, [], ◌∷◌, map, refl, ap, sym, ◌∙◌, subst, IsPermutation}
-use Rattle.std.specs.Cmp.{IsTotalOrder, upto}
+use Rattle.std.proofs.Common.{arith, ◌≡◌, ℕ, ◌+◌, ◌≤◌, Bool, true, false, cond, Option, Some, List, [], ◌∷◌, map, refl, ap, sym, ◌∙◌, subst, IsPermutation}
+use Rattle.std.specs.Cmp.{IsTotalOrder}
 use Rattle.std.specs.List.{filter}
 use Rattle.std.specs.declared.cmp.Ordering.{Ordering}
 use Rattle.std.proofs.lemmas.Bool.{cond-true, cond-false, false≢true}
@@ -51,9 +51,7 @@ module _ {X Y : Type 0} (test : Y → Bool) (f : X → Y) where
 module _ {E V : Type 0} {cmp : E → E → Ordering} (o : IsTotalOrder cmp) (expiration : V → E) where
   -- what is live at a time is live at each earlier one
   pub live-before : (latest : Option E) (time : E) → NotBefore cmp latest time → (value : V) → is_live expiration cmp time value ≡ true → is_live_yet expiration cmp latest value ≡ true
-  live-before None time later value live = refl
-  live-before (Some last) time later value live =
-      not_after-reversed o (expiration value) last (upto o last time (expiration value) (gt-reversed o last time ∙ later) (at_or_after-reversed o (expiration value) time live))
+  live-before latest time later value live = grind (arith, not_after-reversed, gt-reversed, at_or_after-reversed, live)
 
   -- chunks hold at a later time those of the members that are live then
   pub Holds-later : (latest : Option E) (time : E) (count : ℕ) (chunks : List (List (ℕ × V))) (members : List (Member V)) → NotBefore cmp latest time

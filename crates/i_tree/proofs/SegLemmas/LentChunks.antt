@@ -1,5 +1,5 @@
 -- The chunks that a vector lends to a call, and what it has once they come back.
-use Rattle.std.proofs.Common.{◌≡◌, ℕ, List, [], ◌++◌, take, length, replicate, Vec, ap, sym, ◌∙◌, subst}
+use Rattle.std.proofs.Common.{arith, ◌≡◌, ℕ, List, [], ◌++◌, take, length, replicate, Vec, ap, sym, ◌∙◌}
 use Rattle.std.proofs.lemmas.List.{length-map, length-replicate, take_at}
 use Rattle.i_tree.specs.Seg.Copies.{copies_in, PlacesCopies}
 
@@ -18,13 +18,9 @@ module _ {V A : Type 0} where
   -- copies are placed among those of the vector, which making room left as they were
   pub placed-after_room : (count mask : ℕ) (value : V) (items lent roomy behind again filled : List (Vec (ℕ × V) A)) → length lent ≡ count → lent ≡ items → copies_in roomy ≡ copies_in lent
       → again ≡ take count (roomy ++ behind) → PlacesCopies mask value (copies_in again) (copies_in filled) → PlacesCopies mask value (copies_in items) (copies_in filled)
-  placed-after_room count mask value items lent roomy behind again filled long shown same shown_again placed =
-      subst (λ (before : List (List (ℕ × V))). PlacesCopies mask value before (copies_in filled))
-      (ap copies_in (shown_again ∙ all-back count lent roomy behind long (ap length same)) ∙ same ∙ ap copies_in shown) placed
+  placed-after_room count mask value items lent roomy behind again filled long shown same shown_again placed = grind (arith, all-back)
 
   -- cleared chunks come back as the vector's
   pub all-cleared : (count chunks : ℕ) (lent back behind : List (Vec (ℕ × V) A)) → length lent ≡ count → length lent ≡ chunks → copies_in back ≡ replicate (length lent) []
       → copies_in (take count (back ++ behind)) ≡ replicate chunks []
-  all-cleared count chunks lent back behind long whole cleared =
-      ap copies_in (all-back count lent back behind long (ap length cleared ∙ length-replicate (length lent) [] ∙ sym (lengths lent)))
-      ∙ cleared ∙ ap (λ (some : ℕ). replicate some []) whole
+  all-cleared count chunks lent back behind long whole cleared = grind (arith, all-back, length-replicate, lengths)

@@ -1,6 +1,5 @@
 -- Copies that a walk removes, which are not live.
-use Rattle.std.proofs.Common.{◌≡◌, ℕ, ◌-◌, ◌<◌, Bool, true, false, List, [], ◌∷◌, ◌++◌, length, get_or, set, take, refl, ap, sym, ◌∙◌, subst, append_assoc, arith, IsPermutation}
-use Rattle.std.specs.Bool.{◌==◌}
+use Rattle.std.proofs.Common.{◌≡◌, ℕ, ◌<◌, Bool, true, false, List, [], ◌∷◌, ◌++◌, length, get_or, take, refl, ap, sym, ◌∙◌, subst, append_assoc, arith, IsPermutation}
 use Rattle.std.specs.List.{All, filter, swap_remove}
 use Rattle.std.specs.declared.cmp.Ordering.{Ordering}
 use Rattle.std.specs.declared.option.Option.TheVariants.{Some}
@@ -18,9 +17,7 @@ use Rattle.i_tree.proofs.SegLemmas.Bags.{IsPermutation-filter}
 
 -- the items before a place stay where the one there is removed by the last one's move
 pub take-swap_remove : {X : Type 0} (xs : List X) (i : ℕ) (d : X) → i < length xs → take i (swap_remove xs i d) ≡ take i xs
-take-swap_remove xs i d within =
-    take-take i (length xs - 1) (set xs i (get_or xs (length xs - 1) d)) (omega arith)
-    ∙ take-set xs i (get_or xs (length xs - 1) d)
+take-swap_remove xs i d within = grind (arith, take-take, take-set)
 
 -- no item passes where each fails
 filter-none : {X : Type 0} (p : X → Bool) (xs : List X) → All (λ x. p x ≡ false) xs → filter p xs ≡ []
@@ -69,35 +66,19 @@ module _ {E V : Type 0} (expiration : V → E) (cmp : E → E → Ordering) (tim
     LosesExpiredAt-none chunks = record { met = λ node has. LosesExpired-none (chunk_at node chunks); others = λ node lacks. refl }
 
     pub LosesExpiredAt-trans : (first second third : List (List (ℕ × V))) → LosesExpiredAt expiration cmp time asked first second → LosesExpiredAt expiration cmp time asked second third → LosesExpiredAt expiration cmp time asked first third
-    LosesExpiredAt-trans first second third one other =
-        record {
-          met = λ node has. LosesExpired-trans (chunk_at node first) (chunk_at node second) (chunk_at node third) (one.met node has) (other.met node has);
-          others = λ node lacks. other.others node lacks ∙ one.others node lacks;
-        }
+    LosesExpiredAt-trans first second third one other = grind (arith, LosesExpired-trans)
 
     -- a walk has passed nothing at its start
     pub HasPassed-start : (chunks : List (List (ℕ × V))) → HasPassed expiration cmp time asked asked 0 chunks
-    HasPassed-start chunks =
-        record {
-          asks = λ node has. has;
-          nodes = λ node has lacks. absurd (false≢true (sym lacks ∙ has));
-          copies = All-nil (λ (copy : ℕ × V). is_live expiration cmp time copy.1 ≡ true);
-        }
+    HasPassed-start chunks = grind (arith, false≢true, All-nil)
 
     -- a query is whole once all copies at its nodes are live
     pub Cleans-from : (before after : List (List (ℕ × V))) → LosesExpiredAt expiration cmp time asked before after → ((node : ℕ) → has_node asked node ≡ true → AllLive expiration cmp time (chunk_at node after)) → Cleans expiration cmp time asked before after
-    Cleans-from before after loses live =
-        record {
-          live = live;
-          met = λ node has. LosesExpired-all (chunk_at node before) (chunk_at node after) (loses.met node has) (live node has);
-          others = loses.others;
-        }
+    Cleans-from before after loses live = grind (arith, LosesExpired-all)
 
     -- as they are where a walk has no node left
     pub Cleans-ended : (left index : ℕ) (before after : List (List (ℕ × V))) → left ≡ 0 → LosesExpiredAt expiration cmp time asked before after → HasPassed expiration cmp time asked left index after → Cleans expiration cmp time asked before after
-    Cleans-ended left index before after none loses passed =
-        Cleans-from before after loses
-        (λ node has. passed.nodes node has (ap (λ (mask : ℕ). has_node mask node) none ∙ ap (λ (bit : ℕ). bit == 1) (bit_at-zero node)))
+    Cleans-ended left index before after none loses passed = grind (arith, Cleans-from, bit_at-zero)
 
     -- also where its last part is
     pub Cleans-after : (first second third : List (List (ℕ × V))) → LosesExpiredAt expiration cmp time asked first second → Cleans expiration cmp time asked second third → Cleans expiration cmp time asked first third

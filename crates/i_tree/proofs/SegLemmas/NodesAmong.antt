@@ -1,5 +1,5 @@
 -- Which numbers are among the nodes of a mask, and its lowest one.
-use Rattle.std.proofs.Common.{◌≡◌, ℕ, zero, suc, ◌+◌, ◌^◌, ◌<◌, ◌≤◌, Bool, true, false, not, ◌||◌, nat_eq, cond, List, [], ◌∷◌, get_or, bit_and, min, refl, ap, sym, ◌∙◌, subst, inl, inr, arith}
+use Rattle.std.proofs.Common.{◌≡◌, ℕ, zero, suc, ◌+◌, ◌^◌, ◌<◌, ◌≤◌, Bool, true, false, not, ◌||◌, nat_eq, cond, List, [], ◌∷◌, bit_and, min, refl, ap, sym, ◌∙◌, subst, inl, inr, arith}
 use Rattle.std.specs.Bool.{◌==◌}
 use Rattle.std.specs.Int.{bit_at}
 use Rattle.std.proofs.lemmas.Bool.{cases_lt, or_from, or_left, eq-eqb, ne_eqb, eqb-true}
@@ -70,9 +70,7 @@ pub lowest-least : (mask : ℕ) → 0 < mask → mask < 2 ^ 64 → IsLowest mask
 lowest-least mask some fits = subst (IsLowest mask) (trailing-lowest mask fits) (lowest-is mask some fits)
 
 lowest-none : (mask : ℕ) → mask ≤ 0 → lowest mask ≡ 64
-lowest-none mask none =
-    let empty : mask ≡ 0 = omega arith in
-    ap (λ (whole : ℕ). get_or (nodes_of whole) 0 64) empty ∙ ap (λ (nodes : List ℕ). get_or nodes 0 64) nodes_of-zero
+lowest-none mask none = grind (arith, nodes_of-zero)
 
 module _ (placed asked : ℕ) (fits : placed < 2 ^ 63) where
   shared_fits : bit_and placed asked < 2 ^ 64

@@ -11,7 +11,6 @@ use Rattle.std.proofs.lemmas.List.Sorted.{IsPermutation-refl, IsPermutation-tran
 use Rattle.i_tree.specs.Root.Steps.{Counts, Makes}
 use Rattle.i_tree.specs.Seg.Copies.{chunk_at, found_at, found_among, live_copies, stored_copies}
 use Rattle.i_tree.specs.Seg.Members.{Member}
-use Rattle.i_tree.specs.Root.Live.{is_live}
 use Rattle.i_tree.specs.Seg.Nodes.{has_node, lowest as first, nodes_of}
 use Rattle.i_tree.specs.Seg.Walk.{found_from, to_come, live_from, AllLive, LosesExpired, LosesExpiredAt, HasPassed, SameLive, Reads}
 use Rattle.i_tree.proofs.SegLemmas.Losing.{LosesExpired-none}
@@ -19,11 +18,7 @@ use Rattle.i_tree.proofs.SegLemmas.NodesOf.{nodes_of-zero}
 
 -- two numbers are the same or not
 pub same_or_not : (one other : ℕ) → (one ≡ other) ⊎ (one ≢ other)
-same_or_not one other =
-    elim (cases_lt one other) [
-      | inl below ↦ inr (λ same. absurd (omega arith))
-      | inr upto ↦ elim (cases_lt other one) [ inl above ↦ inr (λ same. absurd (omega arith)) | inr from ↦ inl (omega arith) ]
-    ]
+same_or_not one other = grind (arith, cases_lt)
 
 -- `expiration` gives a value's expiration, `cmp` compares expirations.
 module _ {E V : Type 0} (expiration : V → E) (cmp : E → E → Ordering) (time : E) where
@@ -61,47 +56,17 @@ module _ {E V : Type 0} (expiration : V → E) (cmp : E → E → Ordering) (tim
 
     -- where copies went at the node that are not live, no others did anywhere
     pub LosesExpiredAt-changed : (asked : ℕ) → has_node asked node ≡ true → LosesExpired expiration cmp time (chunk_at node chunks) after → LosesExpiredAt expiration cmp time asked chunks changed
-    LosesExpiredAt-changed asked has loses =
-        record {
-          met = λ other _. elim (same_or_not other node) [
-            | inl here ↦
-                subst (λ (at : ℕ). LosesExpired expiration cmp time (chunk_at at chunks) (chunk_at at changed)) (sym here)
-                (subst (λ (copies : List (ℕ × V)). LosesExpired expiration cmp time (chunk_at node chunks) copies) (sym chunk_there) loses)
-            | inr elsewhere ↦
-                subst (λ (copies : List (ℕ × V)). LosesExpired expiration cmp time (chunk_at other chunks) copies) (sym (chunk_elsewhere other elsewhere))
-                (LosesExpired-none expiration cmp time (chunk_at other chunks))
-          ];
-          others = λ other lacks. chunk_elsewhere other (λ same. absurd (false≢true (sym lacks ∙ ap (has_node asked) same ∙ has)));
-        }
+    LosesExpiredAt-changed asked has loses = grind (arith, same_or_not, chunk_there, chunk_elsewhere, LosesExpired-none, false≢true)
 
     module _ (asked left index : ℕ) (has : has_node left node ≡ true) (passed : HasPassed expiration cmp time asked left index chunks) where
       -- the walk stands further on at the node
       pub HasPassed-at : (index' : ℕ) → first left ≡ node → AllLive expiration cmp time (take index' after) → HasPassed expiration cmp time asked left index' changed
-      HasPassed-at index' low live =
-          record {
-            asks = passed.asks;
-            nodes = λ other asks gone.
-                subst (λ (copies : List (ℕ × V)). AllLive expiration cmp time copies) (sym (chunk_elsewhere other (λ same. absurd (false≢true (sym gone ∙ ap (has_node left) same ∙ has)))))
-                (passed.nodes other asks gone);
-            copies =
-                subst (λ (copies : List (ℕ × V)). AllLive expiration cmp time (take index' copies)) (sym (ap (λ (at : ℕ). chunk_at at changed) low ∙ chunk_there)) live;
-          }
+      HasPassed-at index' low live = grind (arith, chunk_elsewhere, false≢true, chunk_there)
 
       -- or leaves it
       pub HasPassed-next : (without : ℕ) → ((other : ℕ) → has_node without other ≡ true → has_node left other ≡ true) → ((other : ℕ) → other ≢ node → has_node without other ≡ has_node left other)
           → AllLive expiration cmp time after → HasPassed expiration cmp time asked without 0 changed
-      HasPassed-next without fewer same live =
-          record {
-            asks = λ other there. passed.asks other (fewer other there);
-            nodes = λ other asks gone. elim (same_or_not other node) [
-              | inl here ↦
-                  subst (λ (copies : List (ℕ × V)). AllLive expiration cmp time copies) (sym (ap (λ (at : ℕ). chunk_at at changed) here ∙ chunk_there)) live
-              | inr elsewhere ↦
-                  subst (λ (copies : List (ℕ × V)). AllLive expiration cmp time copies) (sym (chunk_elsewhere other elsewhere))
-                  (passed.nodes other asks (sym (same other elsewhere) ∙ gone))
-            ];
-            copies = All-nil (λ (copy : ℕ × V). is_live expiration cmp time copy.1 ≡ true);
-          }
+      HasPassed-next without fewer same live = grind (arith, same_or_not, chunk_there, chunk_elsewhere, All-nil)
 
     -- what is found at other nodes, and the live copies there, are as they were
     found_elsewhere : (asked : ℕ) (nodes : List ℕ) → All (λ other. other ≢ node) nodes → found_among expiration cmp (Some time) asked nodes changed ≡ found_among expiration cmp (Some time) asked nodes chunks
@@ -124,36 +89,13 @@ module _ {E V : Type 0} (expiration : V → E) (cmp : E → E → Ordering) (tim
     pub found-changed : (asked index index' : ℕ) (nodes : List ℕ) → All (λ other. other ≢ node) nodes → (taken : List (Member V))
         → IsPermutation (found_at expiration cmp (Some time) asked node (drop index (chunk_at node chunks))) (taken ++ found_at expiration cmp (Some time) asked node (drop index' after))
         → IsPermutation (found_from expiration cmp time asked index (node ∷ nodes) chunks) (taken ++ found_from expiration cmp time asked index' (node ∷ nodes) changed)
-    found-changed asked index index' nodes elsewhere taken h =
-        let there = sym (ap (λ (copies : List (ℕ × V)). found_at expiration cmp (Some time) asked node (drop index' copies)) chunk_there) in
-        let rest = sym (found_elsewhere asked nodes elsewhere) in
-        subst (λ (found : List (Member V)). IsPermutation (found_from expiration cmp time asked index (node ∷ nodes) chunks) (taken ++ found)) (
-        ap (λ (found : List (Member V)). found ++ found_among expiration cmp (Some time) asked nodes chunks) there
-        ∙ ap (λ (found : List (Member V)). found_at expiration cmp (Some time) asked node (drop index' (chunk_at node changed)) ++ found) rest
-        )
-        (subst (λ (found : List (Member V)). IsPermutation (found_from expiration cmp time asked index (node ∷ nodes) chunks) found)
-        (append_assoc taken (found_at expiration cmp (Some time) asked node (drop index' after)) (found_among expiration cmp (Some time) asked nodes chunks))
-        (IsPermutation-append_left (found_among expiration cmp (Some time) asked nodes chunks) _ _ h))
+    found-changed asked index index' nodes elsewhere taken h = grind (arith, chunk_there, found_elsewhere, append_assoc, IsPermutation-append_left)
 
     -- the counts of the part
     pub Reads-changed : {S : Type 0} (Made : S → S → Counts → Type 0) (old new : S) (index index' : ℕ) (nodes : List ℕ) → All (λ other. other ≢ node) nodes
         → Makes Made old new (Reads (length (live_copies expiration cmp (Some time) (drop index (chunk_at node chunks)))) (length (live_copies expiration cmp (Some time) (drop index' after))) (length (chunk_at node chunks)) (length after))
         → Makes Made old new (Reads (live_from expiration cmp time index (node ∷ nodes) chunks) (live_from expiration cmp time index' (node ∷ nodes) changed) (stored_copies chunks) (stored_copies changed))
-    Reads-changed Made old new index index' nodes elsewhere part =
-        let there = ap (λ (copies : List (ℕ × V)). length (live_copies expiration cmp (Some time) (drop index' copies))) chunk_there in
-        let rest = live_elsewhere nodes elsewhere in
-        let stored = sum_by-set length chunks node after [] within in
-        record {
-          made = part.made;
-          counted = part.counted;
-          holds = record {
-            comparisons = part.holds.comparisons;
-            rotations = part.holds.rotations;
-            tests = omega (arith, part.holds.tests, there, rest);
-            tested = part.holds.tested;
-            removals = omega (arith, part.holds.removals, stored);
-          };
-        }
+    Reads-changed Made old new index index' nodes elsewhere part = grind (arith, chunk_there, live_elsewhere, sum_by-set)
 
   -- at the end of a node's copies the walk stands at the next node's first one
   module _ (node index : ℕ) (nodes : List ℕ) (chunks : List (List (ℕ × V))) (ended : length (chunk_at node chunks) ≤ index) where

@@ -1,12 +1,10 @@
 -- Which nodes a mask has that is made of a test, and which a list of a mask's nodes has.
-use Rattle.std.proofs.Common.{◌≡◌, ℕ, zero, suc, ◌+◌, ◌-◌, ◌*◌, ◌^◌, ◌<◌, ◌≤◌, Bool, true, false, cond, List, [], ◌∷◌, refl, ap, sym, ◌∙◌, subst, inl, inr, arith}
-use Rattle.std.specs.Bool.{◌==◌}
-use Rattle.std.specs.Int.{bit_at}
+use Rattle.std.proofs.Common.{◌≡◌, ℕ, zero, suc, ◌+◌, ◌*◌, ◌^◌, ◌<◌, ◌≤◌, Bool, true, false, cond, List, [], ◌∷◌, refl, ap, sym, ◌∙◌, subst, inl, inr, arith}
 use Rattle.std.specs.List.{All, Contains}
 use Rattle.std.proofs.lemmas.Bool.{cases_lt, cond-true}
 use Rattle.std.proofs.lemmas.List.Elements.{All-nil, All-cons, Contains-append_right}
 use Rattle.std.proofs.lemmas.Nat.{pow-add}
-use Rattle.std.proofs.lemmas.Nat.Bits.{bit_at_above, bit_at_cat_low, bit_at_cat_high}
+use Rattle.std.proofs.lemmas.Nat.Bits.{bit_at_above}
 use Rattle.i_tree.specs.Seg.Nodes.{has_node, mask_below, nodes_where, nodes_from, nodes_of}
 
 mask_below-lt : (bound : ℕ) (test : ℕ → Bool) → mask_below bound test < 2 ^ bound
@@ -20,42 +18,13 @@ mask_below-lt (suc bound) test =
     added true mask half whole doubled below = omega arith
     added false mask half whole doubled below = omega arith
 
--- a further node changes no lower bit, and its own bit says whether it passes
-lower_bit : (passes : Bool) (mask bound node : ℕ) → node < bound → bit_at (mask + cond passes (2 ^ bound) 0) node ≡ bit_at mask node
-lower_bit true mask bound node below = ap (λ (whole : ℕ). bit_at whole node) (let sum : mask + 2 ^ bound ≡ 1 * 2 ^ bound + mask = omega arith in sum) ∙ bit_at_cat_low 1 bound mask node below
-lower_bit false mask bound node below = ap (λ (whole : ℕ). bit_at whole node) (let sum : mask + 0 ≡ mask = omega arith in sum)
-
-own_bit : (passes : Bool) (mask bound : ℕ) → mask < 2 ^ bound → bit_at (mask + cond passes (2 ^ bound) 0) bound ≡ cond passes 1 0
-own_bit true mask bound below =
-    ap (λ (whole : ℕ). bit_at whole bound) (let sum : mask + 2 ^ bound ≡ 1 * 2 ^ bound + mask = omega arith in sum)
-    ∙ bit_at_cat_high 1 bound mask bound below (omega arith)
-    ∙ ap (λ (at : ℕ). bit_at 1 at) (let none : bound - bound ≡ 0 = omega arith in none)
-own_bit false mask bound below =
-    ap (λ (whole : ℕ). bit_at whole bound) (let sum : mask + 0 ≡ mask = omega arith in sum)
-    ∙ bit_at_above mask bound bound below (omega arith)
-
-mask_below-bit : (bound : ℕ) (test : ℕ → Bool) (node : ℕ) → node < bound → bit_at (mask_below bound test) node ≡ cond (test node) 1 0
-unfolding mask_below
-mask_below-bit zero test node below = absurd (omega arith)
-mask_below-bit (suc bound) test node below =
-    elim (cases_lt node bound) [
-      | inl less ↦ lower_bit (test bound) (mask_below bound test) bound node less ∙ mask_below-bit bound test node less
-      | inr upto ↦
-          subst (λ (at : ℕ). bit_at (mask_below bound test + cond (test bound) (2 ^ bound) 0) at ≡ cond (test at) 1 0) (let same : bound ≡ node = omega arith in same)
-          (own_bit (test bound) (mask_below bound test) bound (mask_below-lt bound test))
-    ]
-
 pub nodes_where-lt : (test : ℕ → Bool) → nodes_where test < 2 ^ 63
 unfolding nodes_where
 nodes_where-lt test = mask_below-lt 63 test
 
 -- a mask below a power of two has nodes below its exponent alone
 pub has_node-below : (mask bound node : ℕ) → mask < 2 ^ bound → has_node mask node ≡ true → node < bound
-has_node-below mask bound node small has =
-    elim (cases_lt node bound) [
-      | inl less ↦ less
-      | inr past ↦ let lacks = ap (λ (bit : ℕ). bit == 1) (bit_at_above mask bound node small past) in cc
-    ]
+has_node-below mask bound node small has = grind (arith, cases_lt, bit_at_above)
 
 -- the listed nodes are those that the mask has
 nodes_from-have : (more node mask : ℕ) → All (λ at. has_node mask at ≡ true) (nodes_from more node mask)

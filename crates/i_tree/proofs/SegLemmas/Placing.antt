@@ -1,5 +1,5 @@
 -- What chunks hold once a value's copies are placed, and how many copies that adds.
-use Rattle.std.proofs.Common.{◌≡◌, ℕ, zero, suc, ◌+◌, ◌<◌, ◌≤◌, Bool, true, false, cond, List, [], ◌∷◌, ◌++◌, map, length, refl, ap, sym, ◌∙◌, subst, inl, inr, arith}
+use Rattle.std.proofs.Common.{◌≡◌, ℕ, zero, suc, ◌+◌, ◌<◌, ◌≤◌, Bool, true, false, cond, List, [], ◌∷◌, ◌++◌, map, length, refl, ap, sym, ◌∙◌, subst, arith}
 use Rattle.std.specs.List.{All, filter}
 use Rattle.std.specs.List.Sorted.{IsPermutation}
 use Rattle.std.specs.declared.cmp.Ordering.{Ordering}
@@ -56,23 +56,11 @@ module _ {E V : Type 0} (expiration : V → E) (cmp : E → E → Ordering) (lat
       (holds : Holds expiration cmp latest count before members) (placed : PlacesCopies (canonical_nodes member.interval) member.value before after) where
     -- nodes without a chunk are not in the mask
     no_chunk : (node : ℕ) → length before ≤ node → is_at node member ≡ false
-    no_chunk node past =
-        false_from_ne_true (is_at node member) (λ has.
-        let long = holds.chunk_for_each in
-        let small = placed-below member.interval.first member.interval.last order (omega arith) in
-        let within = has_node-below (canonical_nodes member.interval) (32 + member.interval.last) node small has in
-        absurd (omega arith))
+    no_chunk node past = grind (arith, false_from_ne_true, placed-below, has_node-below)
 
     -- what joins the chunk of any node, also where there is no chunk
     joined : (node : ℕ) → chunk_at node after ≡ chunk_at node before ++ joining (canonical_nodes member.interval) member.value node
-    joined node =
-        elim (cases_lt node (length before)) [
-          | inl less ↦ placed.chunks node less
-          | inr past ↦
-              let long = placed.count in
-              get_or_past after node [] (omega arith)
-              ∙ sym (ap (λ (has : Bool). chunk_at node before ++ cond has (copy_of member ∷ []) []) (no_chunk node past) ∙ append-nil (chunk_at node before) ∙ get_or_past before node [] past)
-        ]
+    joined node = grind (arith, cases_lt, get_or_past, no_chunk, append-nil)
 
     -- a live member's copy joins the live ones at each of its nodes, and none does where the member isn't live
     live_joined : (node : ℕ) → IsPermutation (copies_at node (with_member expiration cmp latest member members)) (live_copies expiration cmp latest (chunk_at node after))

@@ -1,5 +1,5 @@
 -- What a removal by the last item's move leaves behind a place.
-use Rattle.std.proofs.Common.{◌≡◌, ℕ, ◌+◌, ◌-◌, ◌<◌, List, ◌∷◌, length, get_or, set, take, drop, ap, sym, ◌∙◌, subst, arith, IsPermutation}
+use Rattle.std.proofs.Common.{◌≡◌, ℕ, ◌+◌, ◌-◌, ◌<◌, List, ◌∷◌, length, get_or, set, take, drop, ap, sym, ◌∙◌, arith, IsPermutation}
 use Rattle.std.specs.List.{swap_remove}
 use Rattle.std.proofs.lemmas.List.{drop-set, drop-take, drop_more, get_or-drop, length-drop}
 use Rattle.std.proofs.lemmas.List.Sorted.{IsPermutation-swap_remove}
@@ -21,6 +21,4 @@ module _ {X : Type 0} where
 
   -- the items from the removed one on are it and those that are there then
   pub removed-behind : (xs : List X) (i : ℕ) (x : X) → i < length xs → x ≡ get_or xs i x → IsPermutation (drop i xs) (x ∷ drop i (swap_remove xs i x))
-  removed-behind xs i x within is =
-      subst (λ (rest : List X). IsPermutation (drop i xs) (x ∷ rest)) (sym (drop-swap_remove xs i x within))
-      (IsPermutation-swap_remove (drop i xs) 0 x (omega (arith, length-drop i xs)) (is ∙ ap (λ (at : ℕ). get_or xs at x) (omega arith) ∙ sym (get_or-drop i xs 0 x)))
+  removed-behind xs i x within is = grind (arith, drop-swap_remove, IsPermutation-swap_remove, length-drop, get_or-drop)

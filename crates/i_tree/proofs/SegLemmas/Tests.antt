@@ -1,5 +1,5 @@
 -- Tests that are computed for each bucket and for each interval.
-use Rattle.std.proofs.Common.{◌≡◌, ℕ, zero, suc, ◌<◌, ◌≤◌, Bool, true, false, not, ◌&&◌, nat_eq, List, get_or, arith, refl, sym, subst, inl, inr}
+use Rattle.std.proofs.Common.{◌≡◌, ℕ, zero, suc, ◌<◌, ◌≤◌, Bool, true, false, not, ◌&&◌, nat_eq, List, get_or, arith, subst, inl, inr}
 use Rattle.std.proofs.lemmas.Bool.{cases_lt, and_parts}
 use Rattle.std.proofs.lemmas.Bool.Decides.{nat_tests}
 
@@ -42,6 +42,4 @@ same true other = other
 same false other = not other
 
 pub same-is : (one other : Bool) → same one other ≡ true → one ≡ other
-same-is true other yes_same = sym yes_same
-same-is false true yes_same = cc
-same-is false false yes_same = refl
+same-is one other yes_same = grind arith

@@ -101,9 +101,7 @@ module _ {E V : Type 0} (expiration : V → E) (cmp : E → E → Ordering) (tim
   found_of asked node live = map member_of (filter (λ copy. lowest (bit_and copy.0 asked) == node) live)
 
   pub IsPermutation-found : (asked node : ℕ) (live live' : List (ℕ × V)) → IsPermutation live live' → IsPermutation (found_of asked node live) (found_of asked node live')
-  IsPermutation-found asked node live live' h =
-      IsPermutation-map member_of (filter (λ copy. lowest (bit_and copy.0 asked) == node) live) (filter (λ copy. lowest (bit_and copy.0 asked) == node) live')
-      (IsPermutation-filter (λ copy. lowest (bit_and copy.0 asked) == node) live live' h)
+  IsPermutation-found asked node live live' h = grind (arith, IsPermutation-map, IsPermutation-filter)
 
   -- `Made` says of two states of a counter which counts were made from the one to the other.
   module _ {S : Type 0} (Made : S → S → Counts → Type 0) (asked node : ℕ) where

@@ -1,5 +1,5 @@
 -- Facts on the width of a span's buckets.
-use Rattle.std.proofs.Common.{◌≡◌, ℕ, ◌+◌, ◌-◌, ◌*◌, ◌^◌, ◌<◌, ◌≤◌, ℤ, pos, ◌-ℤ◌, refl, ap, sym, ◌∙◌, subst, arith, inl, inr}
+use Rattle.std.proofs.Common.{◌≡◌, ℕ, ◌+◌, ◌-◌, ◌*◌, ◌^◌, ◌<◌, ◌≤◌, ℤ, pos, ◌-ℤ◌, refl, ap, sym, subst, arith, inl, inr}
 use Rattle.std.specs.Int.RustNames.{unsigned_abs}
 use Rattle.std.proofs.Math.Pow.{pow_mono}
 use Rattle.std.proofs.lemmas.Nat.{pow-add}
@@ -17,10 +17,8 @@ width_of_exponent span scale wide enough = record {
   power = (scale, refl);
   enough = enough;
   least = λ exponent more.
-      let doubled : 2 ^ (1 + exponent) ≡ 2 * 2 ^ exponent = pow-add 2 1 exponent in
-      let below : 2 ^ scale < 2 ^ (1 + exponent) = omega arith in
-      let less : scale < 1 + exponent = exponents scale (1 + exponent) below in
-      let most : scale ≤ exponent = omega arith in
+      let below : 2 ^ scale < 2 ^ (1 + exponent) = omega (arith, pow-add 2 1 exponent) in
+      let most : scale ≤ exponent = omega (arith, exponents scale (1 + exponent) below, pow-add 2 1 exponent) in
       pow_mono most;
 }
 
@@ -30,36 +28,17 @@ module _ (least n power : ℕ) (start end : ℤ) (span : pos n ≡ end -ℤ star
 
   -- a span of fewer buckets than 16 has no layout
   pub too_narrow : n < 2 ^ (power + 1) → power < 4 → HasLayout least start end → ⊥
-  too_narrow greatest low layout =
-      let few : power + 1 ≤ 4 = omega arith in
-      let small : 2 ^ (power + 1) ≤ 2 ^ 4 = pow_mono few in
-      let wide : 16 ≤ n = subst (λ (d : ℕ). 16 ≤ d) distance_is layout.wide in
-      omega arith
+  too_narrow greatest low layout = grind (arith, distance_is, pow_mono)
 
   module _ (reached : 2 ^ power ≤ n) (high : 4 ≤ power) where
     pub layout_is : least ≤ n → HasLayout least start end
     layout_is allowed =
-        let large : 2 ^ 4 ≤ 2 ^ power = pow_mono high in
-        let wide : 16 ≤ n = omega arith in
+        let wide : 16 ≤ n = omega (arith, pow_mono high) in
         record {
-          order = omega (arith, ints);
+          order = omega (arith, pow_mono high, ints);
           wide = subst (λ (d : ℕ). 16 ≤ d) (sym distance_is) wide;
           allowed = subst (λ (d : ℕ). least ≤ d) (sym distance_is) allowed;
         }
 
     pub cut_is : (bits : ℕ) → n < 2 ^ (power + 1) → n < 2 ^ bits → IsCut start end (power - 4) bits
-    cut_is bits greatest within =
-        let parts : 2 ^ (4 + (power - 4)) ≡ 2 ^ 4 * 2 ^ (power - 4) = pow-add 2 4 (power - 4) in
-        let whole : 4 + (power - 4) ≡ power = omega arith in
-        let halves : 2 ^ power ≡ 16 * 2 ^ (power - 4) = ap (λ (e : ℕ). 2 ^ e) (sym whole) ∙ parts in
-        let doubled : 2 ^ (power + 1) ≡ 2 ^ power * 2 = pow-add 2 power 1 in
-        let below : 2 ^ power < 2 ^ bits = omega arith in
-        let fits : power < bits = exponents power bits below in
-        let wide : 16 * 2 ^ (power - 4) ≤ n = omega arith in
-        let enough : n < 32 * 2 ^ (power - 4) = omega arith in
-        record {
-          order = omega (arith, ints);
-          wide = subst (λ (d : ℕ). 16 * 2 ^ (power - 4) ≤ d) (sym distance_is) wide;
-          enough = subst (λ (d : ℕ). d < 32 * 2 ^ (power - 4)) (sym distance_is) enough;
-          shifted = omega arith;
-        }
+    cut_is bits greatest within = grind (arith, pow-add, exponents, ints, distance_is)

@@ -2,13 +2,11 @@
 use Rattle.std.specs.Prelude.{⊤, Result, Option, OnErr, OnOk}
 use Rattle.std.specs.declared.option.Option.TheVariants.{None, Some}
 use Rattle.std.specs.declared.result.Result.TheVariants.{Ok, Err}
-use Rattle.std.proofs.Common.{◌≡◌, subst}
+use Rattle.std.proofs.Common.{arith, ◌≡◌, subst}
 use Rattle.i_tree.specs.Set.Insertion.{IfAbsent, IfPresent}
 
 pub IfAbsent-weaker : {V E : Type 0} {P Q : Result ⊤ E → Type 0} (result : Result (Option V) E) → ((insertion : Result ⊤ E) → P insertion → Q insertion) → IfAbsent result P → IfAbsent result Q
-IfAbsent-weaker (Ok (Some given)) weaker holds = tt
-IfAbsent-weaker (Ok None) weaker holds = weaker (Ok tt) holds
-IfAbsent-weaker (Err refused) weaker holds = weaker (Err refused) holds
+IfAbsent-weaker result weaker holds = grind arith
 
 -- what follows from either end of a call follows from the call
 pub on_either : {R E : Type 0} {P Q Goal : Type 0} (result : Result R E) → OnOk result P → OnErr result Q → (P → Goal) → (Q → Goal) → Goal

@@ -6,7 +6,7 @@ use Rattle.std.specs.List.{All, AllPairs, insert, remove, enumerate_from}
 use Rattle.std.specs.List.Sorted.{IsPartitionPoint, IsPartitionedBy}
 use Rattle.std.specs.Ordering.{is_ge, is_gt, is_lt}
 use Rattle.std.specs.declared.cmp.Ordering.{Ordering}
-use Rattle.std.specs.declared.cmp.Ordering.TheVariants.{Less, Equal, Greater}
+use Rattle.std.specs.declared.cmp.Ordering.TheVariants.{Less, Equal}
 use Rattle.std.proofs.Math.Nat.{min-le_left, min-le_right}
 use Rattle.std.proofs.Math.Seq.{get_or-append_seam}
 use Rattle.std.proofs.lemmas.Bool.{both_ways, cases_eq}
@@ -30,11 +30,7 @@ module _ {V : Type 0} where
 
   -- fewer are stored than there is room, so one more has a handle and a place
   pub has_room : (xs : List V) (most spare : ℕ) → length (numbered xs) < min most (length xs + spare) → (length xs < most) × (0 < spare)
-  has_room xs most spare few =
-      let same = length-numbered xs in
-      let first = min-le_left most (length xs + spare) in
-      let second = min-le_right most (length xs + spare) in
-      (omega (arith, few, same, first), omega (arith, few, same, second))
+  has_room xs most spare few = grind (arith, length-numbered, min-le_left, min-le_right)
 
   -- the pair at a position
   pub numbered_at : (xs : List V) (k : ℕ) (d : ℕ × V) → k < length xs → get_or (numbered xs) k d ≡ (0 + k, get_or xs k d.1)
@@ -45,11 +41,7 @@ module _ {V : Type 0} where
 
   -- handles that are positions are apart
   pub AreApart-numbered : (xs : List V) → length xs ≤ EMPTY_REF → AreApart (numbered xs)
-  AreApart-numbered xs short =
-      let same = length-numbered xs in (
-        λ i j d below within equal. absurd (omega (arith, handle_at xs i d (omega arith), equal, handle_at xs j d (omega arith))),
-        λ k d inside equal. absurd (omega (arith, handle_at xs k d (omega arith), equal)),
-      )
+  AreApart-numbered xs short = grind (arith, length-numbered, handle_at)
 
   values_from : (n : ℕ) (xs : List V) → values (enumerate_from n xs) ≡ xs
   values_from n [] = refl
@@ -72,20 +64,14 @@ module _ {V : Type 0} where
 
   -- the position before a count of values is a handle
   pub HasHandle-counted : (xs : List V) (count before : ℕ) → count ≤ length xs → (count ≡ 0 → before ≡ EMPTY_REF) → (0 < count → before ≡ count - 1) → before ≢ EMPTY_REF → HasHandle (numbered xs) before
-  HasHandle-counted xs zero before within first later some = absurd (some (first refl))
-  HasHandle-counted xs (suc k) before within first later some =
-      let is : before ≡ suc k - 1 = later (omega arith) in
-      HasHandle-inside xs before (omega (arith, is, within))
+  HasHandle-counted xs count before within first later some = grind (arith, HasHandle-inside)
 
   pub inside_from_HasHandle : (xs : List V) (handle : ℕ) → HasHandle (numbered xs) handle → handle < length xs
-  inside_from_HasHandle xs handle (k, pair, within, at, is) =
-      let same = length-numbered xs in
-      omega (arith, is, ap (λ (pair : ℕ × V). pair.0) at, handle_at xs k pair (omega arith))
+  inside_from_HasHandle xs handle (k, pair, within, at, is) = grind (arith, length-numbered, handle_at)
 
   pub LacksHandle-outside : (xs : List V) (handle : ℕ) → length xs ≤ handle → LacksHandle (numbered xs) handle
   LacksHandle-outside xs handle outside k d inside is =
-      let same = length-numbered xs in
-      absurd (omega (arith, is, handle_at xs k d (omega arith)))
+      absurd (omega (arith, length-numbered xs, is, handle_at xs k d (omega (arith, length-numbered xs))))
 
   -- a pair of the list stands at its handle
   module _ (xs : List V) (front : List (ℕ × V)) (handle : ℕ) (value : V) (back : List (ℕ × V)) (cut : numbered xs ≡ front ++ (handle, value) ∷ back) where
@@ -246,17 +232,13 @@ pub AreApart-viewed : {V : Type 0} {inside contents : Contents V} → inside ≡
 AreApart-viewed {V} {inside} {contents} is short = subst (λ (list : Contents V). AreApart (numbered list.values)) is (AreApart-numbered inside.values short)
 
 less_from_is_ge : (r : Ordering) → is_ge r ≡ false → r ≡ Less
-less_from_is_ge Less h = refl
-less_from_is_ge Equal h = absurd (both_ways true h refl)
-less_from_is_ge Greater h = absurd (both_ways true h refl)
+less_from_is_ge r h = grind (arith, both_ways)
 
 module _ {K V : Type 0} (key_of : V → K) (cmp : K → K → Ordering) where
   -- two neighbours, as they were read
   read_neighbours : (xs : List V) (k next : ℕ) (d x y : V) (a b : K) → k < length xs → next < length xs → x ≡ get_or xs k x → y ≡ get_or xs next y → a ≡ key_of x → b ≡ key_of y
       → cmp a b ≡ cmp (key_of (get_or xs k d)) (key_of (get_or xs next d))
-  read_neighbours xs k next d x y a b inside within x_is y_is a_is b_is =
-      ap (λ key. cmp key b) (a_is ∙ ap key_of (x_is ∙ get_or_default xs k x d inside))
-      ∙ ap (λ key. cmp (key_of (get_or xs k d)) key) (b_is ∙ ap key_of (y_is ∙ get_or_default xs next y d within))
+  read_neighbours xs k next d x y a b inside within x_is y_is a_is b_is = grind (arith, get_or_default)
 
   pub neighbours_rise : (xs : List V) (k next : ℕ) (d x y : V) (a b : K) → k < length xs → next < length xs → x ≡ get_or xs k x → y ≡ get_or xs next y → a ≡ key_of x → b ≡ key_of y
       → is_ge (cmp a b) ≡ false → cmp (key_of (get_or xs k d)) (key_of (get_or xs next d)) ≡ Less

@@ -1,5 +1,5 @@
 -- A pair that joins a tree between live ones that were called Less and live ones that were called Greater.
-use Rattle.std.proofs.Common.{◌≡◌, ◌≤◌, ◌+◌, Bool, true, false, Result, Ok, Err, length, arith, List, [], ◌∷◌, ◌++◌, refl, sym, ap, ◌∙◌, subst, inl, inr}
+use Rattle.std.proofs.Common.{◌≡◌, ◌≤◌, ◌+◌, Bool, true, false, Result, length, arith, List, [], ◌∷◌, ◌++◌, refl, sym, ap, ◌∙◌, subst, inl, inr}
 use Rattle.std.specs.Bool.{MatchBool}
 use Rattle.std.specs.List.{All, AllPairs, filter}
 use Rattle.std.specs.declared.cmp.Ordering.{Ordering}
@@ -99,9 +99,7 @@ module _ {K V : Type 0} (is_live : K → Bool) (May : K → Ordering → Type 0)
   -- an insertion leaves no less room
   pub room_kept : (old : Contents (K × V)) (result : Result Bool Refusal) (new : Contents (K × V)) → StatusTreeInserts is_live May old result new
       → length (items old.shape) + old.spare ≤ length (items new.shape) + new.spare
-  room_kept old (Ok true) new inserts = room_grown old new inserts.slots
-  room_kept old (Ok false) new inserts = room_same old new inserts.slots
-  room_kept old (Err cause) new inserts = rw inserts.err (omega arith)
+  room_kept old result new inserts = grind (arith, room_grown, room_same)
 
   -- what an insertion answers
   module _ (pair : K × V) (before after : List (K × V)) where

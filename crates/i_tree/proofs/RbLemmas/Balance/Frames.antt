@@ -1,5 +1,5 @@
 -- Red-black subtrees inside their frames, and what painting and rotating a node keeps.
-use Rattle.std.proofs.Common.{◌≡◌, ◌≢◌, ℕ, ◌+◌, ◌<◌, ◌≤◌, ◌⊎◌, inl, inr, true, List, [], ◌∷◌, ◌++◌, refl, sym, ap, ◌∙◌, subst, append_assoc, arith}
+use Rattle.std.proofs.Common.{◌≡◌, ◌≢◌, ℕ, ◌+◌, ◌<◌, ◌≤◌, ◌⊎◌, true, List, [], ◌∷◌, ◌++◌, refl, sym, ap, ◌∙◌, subst, append_assoc, arith}
 use Rattle.i_tree.specs.declared.TheConstants.{EMPTY_REF}
 use Rattle.i_tree.specs.declared.rb.links.Colour.{Colour}
 use Rattle.i_tree.specs.declared.rb.links.Colour.TheVariants.{Red, Black}
@@ -22,31 +22,19 @@ module _ {T : Type 0} where
   -- a red node over black subtrees
   pub IsSubtree-red : {levels : ℕ} {near far : Shape T} (side : Side) (handle : ℕ) (item : T) → IsBlackSubtree levels near → IsBlackSubtree levels far
       → IsSubtree levels (fork_on side Red near handle item far)
-  IsSubtree-red Left handle item near_subtree far_subtree =
-      record { balanced = (near_subtree.balanced, far_subtree.balanced, near_subtree.deep ∙ sym far_subtree.deep, (near_subtree.black, far_subtree.black)); deep = near_subtree.deep }
-  IsSubtree-red Right handle item near_subtree far_subtree =
-      record { balanced = (far_subtree.balanced, near_subtree.balanced, far_subtree.deep ∙ sym near_subtree.deep, (far_subtree.black, near_subtree.black)); deep = far_subtree.deep }
+  IsSubtree-red side handle item near_subtree far_subtree = grind arith
 
   -- a black node over any subtrees
   pub IsBlackSubtree-black : {levels : ℕ} {near far : Shape T} (side : Side) (handle : ℕ) (item : T) → IsSubtree levels near → IsSubtree levels far
       → IsBlackSubtree (levels + 1) (fork_on side Black near handle item far)
-  IsBlackSubtree-black Left handle item near_subtree far_subtree =
-      record { balanced = (near_subtree.balanced, far_subtree.balanced, near_subtree.deep ∙ sym far_subtree.deep, tt); deep = ap (λ n. n + 1) near_subtree.deep; black = refl }
-  IsBlackSubtree-black Right handle item near_subtree far_subtree =
-      record { balanced = (far_subtree.balanced, near_subtree.balanced, far_subtree.deep ∙ sym near_subtree.deep, tt); deep = ap (λ n. n + 1) far_subtree.deep; black = refl }
+  IsBlackSubtree-black side handle item near_subtree far_subtree = grind arith
 
   -- one frame around a subtree that fits
   fills : (side : Side) (colour : Colour) (near : Shape T) (handle : ℕ) (item : T) (far : Shape T) (around : List (Frame T)) (levels : ℕ)
       → IsSubtree levels near → IsSubtree levels far → MayStand colour far around → (is_black near ≡ true) ⊎ (is_black_colour colour ≡ true)
       → IsSubtree (levels + level_of colour) (fork_on side colour near handle item far)
       × ((is_black (fork_on side colour near handle item far) ≡ true) ⊎ (is_black_around around ≡ true))
-  fills side Red near handle item far around levels near_subtree far_subtree stands (inr black) = cc
-  fills side Red near handle item far around levels near_subtree far_subtree stands (inl black) =
-      let filled = IsSubtree-red side handle item (IsBlackSubtree-from near_subtree black) (IsBlackSubtree-from far_subtree stands.0) in
-      (record { balanced = filled.balanced; deep = omega (arith, filled.deep) }, inr stands.1)
-  fills side Black near handle item far around levels near_subtree far_subtree stands either =
-      let filled = IsBlackSubtree-black side handle item near_subtree far_subtree in
-      (record { balanced = filled.balanced; deep = filled.deep }, inl filled.black)
+  fills side colour near handle item far around levels near_subtree far_subtree stands either = grind (arith, IsSubtree-red, IsBlackSubtree-from, IsBlackSubtree-black)
 
   -- the frames make a red-black tree of a subtree that fits
   pub IsRedBlack-plug : (around : List (Frame T)) (levels : ℕ) (subtree : Shape T) → Fits around levels → IsSubtree levels subtree
@@ -63,10 +51,7 @@ module _ {T : Type 0} where
       leaf_inside (record { side = Left; colour = colour; handle = handle; item = item; sibling = after } ∷ around) before
 
   pub IsHandle-in : (tree : Shape T) (around : List (Frame T)) (subtree : Shape T) (handle : ℕ) → tree ≡ plug around subtree → 0 < occurs handle subtree → IsHandle tree handle
-  IsHandle-in tree around subtree handle is some =
-      let P : Shape T → Type 0 = λ whole. IsHandle whole handle in
-      let inside : IsHandle (plug around subtree) handle = omega (arith, occurs-plug handle around subtree) in
-      subst P (sym is) inside
+  IsHandle-in tree around subtree handle is some = grind (arith, occurs-plug)
 
   pub occurs-own : (side : Side) (colour : Colour) (near : Shape T) (handle : ℕ) (item : T) (far : Shape T) → 0 < occurs handle (fork_on side colour near handle item far)
   occurs-own side colour near handle item far = omega (arith, occurs-fork_on handle side colour near handle item far, one_if_same-same handle)
@@ -95,11 +80,9 @@ module _ {T : Type 0} where
     where
       by_far : (subtree : Shape T) → top subtree ≡ wanted → occurs wanted subtree ≡ 0 → occurs EMPTY_REF near ≡ 0 → ⊥
       by_far leaf same none none_empty =
-          let e = ap (λ h. occurs h near) same in
-          omega arith
+          omega (arith, ap (λ h. occurs h near) same)
       by_far (fork shade before own thing after) same none none_empty =
-          let e = ap (λ h. one_if_same wanted h) same in
-          omega (arith, one_if_same-same wanted)
+          omega (arith, ap (λ h. one_if_same wanted h) same, one_if_same-same wanted)
 
   -- the number of red nodes in the frames
   abbrev pub red_around : List (Frame T) → ℕ
@@ -114,9 +97,8 @@ module _ {T : Type 0} where
   pub red_nodes-plug : (around : List (Frame T)) (subtree : Shape T) → red_nodes (plug around subtree) ≡ red_around around + red_nodes subtree
   red_nodes-plug [] subtree = omega arith
   red_nodes-plug (frame ∷ around) subtree =
-      let inner = red_nodes-fork_on frame.side frame.colour subtree frame.handle frame.item frame.sibling in
       let outer = red_nodes-plug around (fill frame subtree) in
-      omega arith
+      omega (arith, red_nodes-fork_on frame.side frame.colour subtree frame.handle frame.item frame.sibling)
 
   -- the tree with another colour at the handle
   abbrev pub Paints : Colour → ℕ → Shape T → Shape T → Type 0
@@ -159,9 +141,4 @@ module _ {T : Type 0} where
   entries-rotated_subtree Right colour raised_colour outer handle item inner raised raised_item far = simp append_assoc
 
   pub entries-rotated : (handle : ℕ) (side : Side) (old new : Shape T) → CanRotation old handle side → Rotations handle side old new → entries new ≡ entries old
-  entries-rotated handle side old new can rotations =
-      let rotation = can.rotation in
-      ap entries (rotations rotation can.is)
-      ∙ entries-replaced rotation.around (rotated rotation) (unrotated rotation)
-      (entries-rotated_subtree side rotation.colour rotation.raised_colour rotation.outer handle rotation.item rotation.inner rotation.raised rotation.raised_item rotation.far)
-      ∙ sym (ap entries can.is)
+  entries-rotated handle side old new can rotations = grind (arith, entries-replaced, entries-rotated_subtree)

@@ -1,5 +1,5 @@
 -- The steps of the rebalancing after an insertion.
-use Rattle.std.proofs.Common.{◌≡◌, ◌≢◌, ℕ, ◌+◌, ◌<◌, ◌⊎◌, inl, inr, Bool, true, false, List, [], ◌∷◌, refl, sym, ap, ◌∙◌, subst, add-zero, arith}
+use Rattle.std.proofs.Common.{◌≡◌, ◌≢◌, ℕ, ◌+◌, ◌<◌, ◌⊎◌, inl, inr, Bool, true, false, List, [], ◌∷◌, refl, sym, ap, ◌∙◌, subst, arith}
 use Rattle.i_tree.specs.declared.TheConstants.{EMPTY_REF}
 use Rattle.i_tree.specs.declared.rb.links.Colour.{Colour}
 use Rattle.i_tree.specs.declared.rb.links.Colour.TheVariants.{Red, Black}
@@ -33,14 +33,10 @@ module _ {T : Type 0} where
 
   -- the side is found by the subtree on the left
   pub side_left : (tree : Shape T) (parent child left : ℕ) → IsChild tree parent Left left → left ≡ child → IsSide tree parent child Left
-  side_left tree parent child left left_is same around Left colour near item far is near_is far_apart = refl
-  side_left tree parent child left left_is same around Right colour near item far is near_is far_apart =
-      absurd (far_apart (sym (left_is around colour far item near is) ∙ same))
+  side_left tree parent child left left_is same around either colour near item far is near_is far_apart = grind arith
 
   pub side_right : (tree : Shape T) (parent child left : ℕ) → IsChild tree parent Left left → left ≢ child → IsSide tree parent child Right
-  side_right tree parent child left left_is apart around Left colour near item far is near_is far_apart =
-      absurd (apart (left_is around colour near item far is ∙ near_is))
-  side_right tree parent child left left_is apart around Right colour near item far is near_is far_apart = refl
+  side_right tree parent child left left_is apart around either colour near item far is near_is far_apart = grind arith
 
   -- the red node's parent is red
   pub record HasRedParent (tree : Shape T) (node parent : ℕ) : Type 0 where
@@ -87,23 +83,7 @@ module _ {T : Type 0} where
       → tree ≡ plug around (fork_on side colour (fork Red before node item after) parent parent_item sibling)
       → IsRedBlack (fork Red before node item after) → IsSubtree (black_levels before) sibling → MayStand colour sibling around → Fits around (black_levels before + level_of colour)
       → is_black_colour colour ≡ false → HasRedParent tree node parent
-  red_parent-at tree around side Black before node item after parent parent_item sibling is subtree sibling_subtree stands fits red = cc
-  red_parent-at tree around side Red before node item after parent parent_item sibling is subtree sibling_subtree stands fits red =
-      let P : ℕ → Type 0 = λ levels. Fits around levels in
-      record {
-        around = around;
-        side = side;
-        before = before;
-        item = item;
-        after = after;
-        parent_item = parent_item;
-        sibling = sibling;
-        is = is;
-        subtree = subtree;
-        sibling_subtree = IsBlackSubtree-from sibling_subtree stands.0;
-        black_above = stands.1;
-        fits = subst P (add-zero (black_levels before)) fits;
-      }
+  red_parent-at tree around side colour before node item after parent parent_item sibling is subtree sibling_subtree stands fits red = grind (arith, IsBlackSubtree-from)
 
   pub HasRedParent-from : {tree : Shape T} {node : ℕ} {says : Bool} → IsRaised tree node → (parent : ℕ) → IsParent tree node parent → SaysBlack tree parent says → says ≡ false → HasRedParent tree node parent
   HasRedParent-from {tree} {node} {says} raised parent parent_is says_is red =
@@ -138,14 +118,7 @@ module _ {T : Type 0} where
       node_subtree = fork Red under.before node under.item under.after
 
       by_around : (around : List (Frame T)) → tree ≡ plug around (fork_on under.side Red node_subtree parent under.parent_item under.sibling) → above ≡ hole_parent around → IsRedBlack new
-      by_around [] is same =
-          let whole : IsBlackSubtree (black_levels under.before + 1) (fork_on under.side Black node_subtree parent under.parent_item under.sibling) =
-          IsBlackSubtree-black under.side parent under.parent_item (record { balanced = under.subtree; deep = refl }) (IsSubtree-from_black under.sibling_subtree) in
-          subst IsRedBlack (sym (painted under.side Black parent tree new paints [] Red node_subtree under.parent_item under.sibling is)) whole.balanced
-      by_around (frame ∷ around) is same =
-          let live = IsHandle-at tree around frame.side frame.colour (fork_on under.side Red node_subtree parent under.parent_item under.sibling) frame.handle frame.item frame.sibling is in
-          let empty = ap (λ handle. occurs handle tree) (sym same ∙ root) in
-          absurd (omega (arith, handles.none_empty))
+      by_around around is same = grind (arith, node_subtree, IsBlackSubtree-black, IsSubtree-from_black, painted, IsHandle-at)
 
   -- the parent's parent, on whichever side the parent is
   under_red-at : (tree : Shape T) (around : List (Frame T)) (side : Side) (colour : Colour) (rotation : Side) (before : Shape T) (node : ℕ) (item : T) (after : Shape T) (parent : ℕ) (parent_item : T) (sibling : Shape T) (above : ℕ) (above_item : T) (uncle : Shape T)
@@ -201,14 +174,7 @@ module _ {T : Type 0} where
 
       by_around : (around : List (Frame T)) → tree ≡ plug around (fork_on under.side Red node_subtree parent under.parent_item under.sibling) → above ≡ hole_parent around
           → is_black_around around ≡ true → Fits around (black_levels under.before) → (side : Side) × IsUnderRed tree node parent above side
-      by_around [] is same black fits = absurd (inner same)
-      by_around (frame ∷ around) is same black fits =
-          let P : ℕ → Type 0 = λ handle. IsUnderRed tree node parent handle frame.side in (
-            frame.side,
-            subst P (sym same)
-                (under_red-at tree around frame.side frame.colour under.side under.before node under.item under.after parent under.parent_item under.sibling frame.handle frame.item frame.sibling is under.subtree under.sibling_subtree
-                (record { balanced = fits.0; deep = fits.1 }) fits.3 black),
-          )
+      by_around around is same black fits = grind (arith, under_red-at)
 
   -- a red top, and what it stands over
   pub red_top : (subtree : Shape T) → is_black subtree ≡ false → (before : Shape T) × (item : T) × (after : Shape T) × (subtree ≡ fork Red before (top subtree) item after)
@@ -227,12 +193,7 @@ module _ {T : Type 0} where
 
   pub IsRaised-from : (tree : Shape T) (levels : ℕ) (around : List (Frame T)) (side : Side) (near : Shape T) (handle : ℕ) (item : T) (far : Shape T)
       → tree ≡ plug around (fork_on side Red near handle item far) → IsBlackSubtree levels near → IsBlackSubtree levels far → Fits around levels → IsRaised tree handle
-  IsRaised-from tree levels around Left near handle item far is near_subtree far_subtree fits =
-      let subtree : IsSubtree levels (fork_on Left Red near handle item far) = IsSubtree-red Left handle item near_subtree far_subtree in
-      record { around = around; before = near; item = item; after = far; is = is; subtree = subtree.balanced; fits = subst (Fits around) (sym near_subtree.deep) fits }
-  IsRaised-from tree levels around Right near handle item far is near_subtree far_subtree fits =
-      let subtree : IsSubtree levels (fork_on Right Red near handle item far) = IsSubtree-red Right handle item near_subtree far_subtree in
-      record { around = around; before = far; item = item; after = near; is = is; subtree = subtree.balanced; fits = subst (Fits around) (sym far_subtree.deep) fits }
+  IsRaised-from tree levels around side near handle item far is near_subtree far_subtree fits = grind (arith, IsSubtree-red)
 
   -- two red nodes on the same side, under a black one whose other subtree is black
   pub record IsLeaning (tree : Shape T) (above : ℕ) (side : Side) : Type 0 where

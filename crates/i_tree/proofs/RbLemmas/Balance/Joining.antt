@@ -35,10 +35,7 @@ module _ {T : Type 0} where
   holder_black Black near far may red = refl
 
   black_around : (around : List (Frame T)) (subtree : Shape T) → IsRedBlack (plug around subtree) → is_black subtree ≡ false → is_black_around around ≡ true
-  black_around [] subtree balanced red = refl
-  black_around (frame ∷ around) subtree balanced red =
-      holder_black frame.colour subtree frame.sibling
-      (near_balanced frame.side frame.colour subtree frame.handle frame.item frame.sibling (subtree_balanced around (fill frame subtree) balanced)).3 red
+  black_around around subtree balanced red = grind (arith, holder_black, near_balanced, subtree_balanced)
 
   is_red-fork_on : (side : Side) (near : Shape T) (handle : ℕ) (item : T) (far : Shape T) → is_black (fork_on side Red near handle item far) ≡ false
   is_red-fork_on Left near handle item far = refl
@@ -46,11 +43,7 @@ module _ {T : Type 0} where
 
   stands : (colour : Colour) (side : Side) (near : Shape T) (handle : ℕ) (item : T) (far : Shape T) (around : List (Frame T))
       → IsRedBlack (plug around (fork_on side colour near handle item far)) → MayStand colour far around
-  stands Red side near handle item far around balanced = (
-    (near_balanced side Red near handle item far (subtree_balanced around (fork_on side Red near handle item far) balanced)).3.1,
-    black_around around (fork_on side Red near handle item far) balanced (is_red-fork_on side near handle item far),
-  )
-  stands Black side near handle item far around balanced = tt
+  stands colour side near handle item far around balanced = grind (arith, near_balanced, subtree_balanced, black_around, is_red-fork_on)
 
   -- what is around a subtree of a red-black tree fits it
   pub Fits-from_red_black : (around : List (Frame T)) (subtree : Shape T) → IsRedBlack (plug around subtree) → Fits around (black_levels subtree)
@@ -125,14 +118,7 @@ module _ {T : Type 0} where
   -- there is one entry more
   pub length-joined : (tree new : Shape T) (parent : ℕ) (side : Side) (handle : ℕ) (item : T) → HasRoomOn tree parent side
       → Joins tree new parent side handle item → length (entries new) ≡ length (entries tree) + 1
-  length-joined tree new parent side handle item room joins =
-      let old_whole = ap (λ (shape : Shape T). length (entries shape)) room.is in
-      let new_whole = ap (λ (shape : Shape T). length (entries shape)) (joins room.colour room.item room.far room.around room.is) in
-      let old_sum = length-plug room.around (fork_on side room.colour leaf parent room.item room.far) in
-      let new_sum = length-plug room.around (fork_on side room.colour (fork Red leaf handle item leaf) parent room.item room.far) in
-      let old_node = length-node side room.colour leaf parent room.item room.far in
-      let new_node = length-node side room.colour (fork Red leaf handle item leaf) parent room.item room.far in
-      omega arith
+  length-joined tree new parent side handle item room joins = grind (arith, length-plug, length-node)
 
   -- a live handle with no subtree on a side has room there
   HasRoomOn-subtree_on : (side : Side) (tree : Shape T) (handle : ℕ) → AreHandles tree → IsHandle tree handle → subtree_on side handle tree ≡ leaf → HasRoomOn tree handle side
@@ -149,6 +135,4 @@ module _ {T : Type 0} where
   -- and so in a tree that is kept
   pub HasRoomOn-kept : (side : Side) (tree kept : Shape T) (handle : ℕ) → kept ≡ tree → AreHandles tree → IsHandle tree handle → subtree_on side handle tree ≡ leaf
       → HasRoomOn kept handle side
-  HasRoomOn-kept side tree kept handle same handles live none =
-      let P : Shape T → Type 0 = λ shape. HasRoomOn shape handle side in
-      subst P (sym same) (HasRoomOn-subtree_on side tree handle handles live none)
+  HasRoomOn-kept side tree kept handle same handles live none = grind (arith, HasRoomOn-subtree_on)

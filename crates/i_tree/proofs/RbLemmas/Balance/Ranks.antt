@@ -32,10 +32,7 @@ module _ {T : Type 0} where
   -- how many levels a node has, along its near side
   pub levels-fork_on : (side : Side) (colour : Colour) (near : Shape T) (handle : ℕ) (item : T) (far : Shape T)
       → black_levels far ≡ black_levels near → black_levels (fork_on side colour near handle item far) ≡ black_levels near + level_of colour
-  levels-fork_on Left Red near handle item far even = omega arith
-  levels-fork_on Left Black near handle item far even = refl
-  levels-fork_on Right Red near handle item far even = omega arith
-  levels-fork_on Right Black near handle item far even = ap (λ (levels : ℕ). levels + 1) even
+  levels-fork_on side colour near handle item far even = grind arith
 
   -- what a red node asks of its surroundings
   pub red_stands : (colour : Colour) (sibling : Shape T) (around : List (Frame T)) → MayStand colour sibling around → colour ≡ Red → (is_black sibling ≡ true) × (is_black_around around ≡ true)
@@ -43,14 +40,10 @@ module _ {T : Type 0} where
   red_stands Black sibling around stands red = cc
 
   pub rank-black : (tree : Shape T) → is_black tree ≡ true → rank tree ≡ 2 * black_levels tree
-  rank-black leaf black = refl
-  rank-black (fork Red before handle item after) black = cc
-  rank-black (fork Black before handle item after) black = refl
+  rank-black tree black = grind arith
 
   pub rank-at_most : (tree : Shape T) → rank tree ≤ 2 * black_levels tree + 1
-  rank-at_most leaf = omega arith
-  rank-at_most (fork Red before handle item after) = omega arith
-  rank-at_most (fork Black before handle item after) = omega arith
+  rank-at_most tree = grind arith
 
   pub RanksFall-from_red_black : (tree : Shape T) → IsRedBlack tree → RanksFall tree
   RanksFall-from_red_black leaf balanced = tt
@@ -70,9 +63,7 @@ module _ {T : Type 0} where
   height-at_most : (tree : Shape T) → RanksFall tree → height tree ≤ rank tree
   height-at_most leaf falls = omega arith
   height-at_most (fork colour before handle item after) falls =
-      let left = height-at_most before falls.2 in
-      let right = height-at_most after falls.3 in
-      omega (arith, falls.0, falls.1)
+      omega (arith, height-at_most after falls.3, height-at_most before falls.2, falls.0, falls.1)
 
   length-fork : (colour : Colour) (before : Shape T) (handle : ℕ) (item : T) (after : Shape T)
       → length (entries (fork colour before handle item after)) ≡ length (entries before) + length (entries after) + 1
@@ -84,32 +75,20 @@ module _ {T : Type 0} where
   levels-filled (fork Red before handle item after) balanced =
       omega (arith, length-fork Red before handle item after, levels-filled before balanced.0)
   levels-filled (fork Black before handle item after) balanced =
-      let left = levels-filled before balanced.0 in
-      let right = levels-filled after balanced.1 in
       let even = ap (λ levels. 2 ^ levels) balanced.2 in
       let double = pow_more (black_levels before) in
-      omega (arith, length-fork Black before handle item after)
+      omega (arith, levels-filled after balanced.1, levels-filled before balanced.0, length-fork Black before handle item after)
 
   -- a red top adds a level
   levels-filled_red : (before : Shape T) (handle : ℕ) (item : T) (after : Shape T) → IsRedBlack (fork Red before handle item after)
       → 2 ^ (black_levels before + 1) ≤ length (entries (fork Red before handle item after)) + 1
   levels-filled_red before handle item after balanced =
-      let left = levels-filled before balanced.0 in
-      let right = levels-filled after balanced.1 in
       let even = ap (λ levels. 2 ^ levels) balanced.2 in
       let double = pow_more (black_levels before) in
-      omega (arith, length-fork Red before handle item after)
+      omega (arith, levels-filled after balanced.1, levels-filled before balanced.0, length-fork Red before handle item after)
 
   rank-bounded : (tree : Shape T) → IsRedBlack tree → (levels : ℕ) → length (entries tree) + 1 < 2 ^ (levels + 1) → rank tree ≤ 2 * levels
-  rank-bounded leaf balanced levels few = omega arith
-  rank-bounded (fork Red before handle item after) balanced levels few =
-      let filled = levels-filled_red before handle item after balanced in
-      let below : 2 ^ (black_levels before + 1) < 2 ^ (levels + 1) = omega arith in
-      omega (arith, pow_below_pow (black_levels before + 1) (levels + 1) below)
-  rank-bounded (fork Black before handle item after) balanced levels few =
-      let filled = levels-filled (fork Black before handle item after) balanced in
-      let below : 2 ^ (black_levels before + 1) < 2 ^ (levels + 1) = omega arith in
-      omega (arith, pow_below_pow (black_levels before + 1) (levels + 1) below)
+  rank-bounded tree balanced levels few = grind (arith, levels-filled_red, pow_below_pow, levels-filled)
 
   pub IsCore-from_red_black : (tree : Shape T) → AreHandles tree → IsRedBlack tree → IsCore tree
   IsCore-from_red_black tree handles balanced =

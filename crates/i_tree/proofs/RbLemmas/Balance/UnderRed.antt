@@ -37,10 +37,7 @@ module _ {T : Type 0} where
 
     -- the tree seen from the parent's other side
     other_rotation : (way : Side) → under.rotation ≡ other_side way → tree ≡ plug around_parent (fork_on way Red under.sibling parent under.parent_item node_in)
-    other_rotation way rotation_is =
-        let P : Side → Type 0 = λ other. tree ≡ plug around_parent (fork_on other Red under.sibling parent under.parent_item node_in) in
-        subst P (ap other_side rotation_is ∙ other_other way)
-        (under.is ∙ ap (plug around_parent) (fork_on-other under.rotation Red node_in parent under.parent_item under.sibling))
+    other_rotation way rotation_is = grind (arith, other_other, fork_on-other)
 
     pub IsHandle-above : IsHandle tree above
     IsHandle-above = IsHandle-at tree under.around side Black (parent_in Red) above under.grandparent_item under.uncle under.is
@@ -56,9 +53,7 @@ module _ {T : Type 0} where
         (occurs-own under.rotation Red node_in parent under.parent_item under.sibling))
 
     pub uncle_is : (other : Side) → other ≡ other_side side → (uncle : ℕ) → IsChild tree above other uncle → uncle ≡ top under.uncle
-    uncle_is other is_other uncle child_is =
-        let P : Side → Type 0 = λ way. tree ≡ plug under.around (fork_on way Black under.uncle above under.grandparent_item (parent_in Red)) in
-        child_is under.around Black under.uncle under.grandparent_item (parent_in Red) (subst P (sym is_other) other_way)
+    uncle_is other is_other uncle child_is = grind (arith, other_way)
 
     pub IsHandle-uncle : {uncle : ℕ} → uncle ≡ top under.uncle → uncle ≢ EMPTY_REF → IsHandle tree uncle
     IsHandle-uncle {uncle} is_uncle some =
@@ -126,32 +121,12 @@ module _ {T : Type 0} where
           }
 
       IsLeaning-straight : is_black under.uncle ≡ true → child ≢ node → IsLeaning tree above side
-      IsLeaning-straight black apart =
-          let P : Side → Type 0 = λ other. tree ≡ plug around_parent (fork_on other Red node_in parent under.parent_item under.sibling) in
-          record {
-            around = under.around;
-            levels = under.levels;
-            outer = node_in;
-            raised = parent;
-            raised_item = under.parent_item;
-            inner = under.sibling;
-            item = under.grandparent_item;
-            far = under.uncle;
-            is = subst P (straight apart) under.is;
-            outer_subtree = node_in_subtree;
-            inner_subtree = under.sibling_subtree;
-            far_subtree = IsBlackSubtree-from under.uncle_subtree black;
-            fits = under.fits;
-          }
+      IsLeaning-straight black apart = grind (arith, straight, node_in_subtree, IsBlackSubtree-from)
 
       -- either way both red nodes then stand on the side, and the entries are the same
       pub IsLeaning-joined : AreHandles tree → is_black under.uncle ≡ true → (new : Shape T) → IsStraightened tree new node parent side child
           → IsLeaning new above side × (entries new ≡ entries tree)
-      IsLeaning-joined handles black new (inl (same, rotations)) =
-          (IsLeaning-rotated handles black same new rotations, entries-rotated parent side tree new (CanRotation-inner handles same) rotations)
-      IsLeaning-joined handles black new (inr (apart, kept)) =
-          let P : Shape T → Type 0 = λ whole. IsLeaning whole above side in
-          (subst P (sym kept) (IsLeaning-straight black apart), ap entries kept)
+      IsLeaning-joined handles black new either = grind (arith, IsLeaning-rotated, entries-rotated, CanRotation-inner, IsLeaning, IsLeaning-straight)
 
   -- the node under red, at the side that was found
   pub IsUnderRed-found : {tree : Shape T} {node parent : ℕ} → HasRedParent tree node parent → AreHandles tree → (above : ℕ) → IsParent tree parent above → above ≢ EMPTY_REF

@@ -2,7 +2,7 @@
 use Rattle.std.proofs.Common.{◌≡◌, ℕ, ◌+◌, Bool, true, false, [], refl, sym, ap, ◌∙◌, arith}
 use Rattle.i_tree.specs.declared.rb.links.Colour.TheVariants.{Red, Black}
 use Rattle.i_tree.specs.declared.rb.links.Side.{Side}
-use Rattle.i_tree.specs.Rb.Balance.{is_black, is_black_colour, level_of, IsShort}
+use Rattle.i_tree.specs.Rb.Balance.{is_black, is_black_colour, IsShort}
 use Rattle.i_tree.specs.Rb.Context.{fork_on, plug}
 use Rattle.i_tree.specs.Rb.Rebalancing.{red_nodes, IsSubtree, IsBlackSubtree}
 use Rattle.i_tree.specs.Rb.ShortSides.{IsEnded, IsRisen}
@@ -32,9 +32,7 @@ module _ {T : Type 0} where
         IsHandle-above_red = IsHandle-at one cut.around side cut.colour cut.near node cut.item red_far at_red
 
         pub says_node : (says : Bool) → SaysBlack one node says → says ≡ is_black_colour cut.colour
-        says_node says says_is =
-            says_is cut.around (fork_on side cut.colour cut.near node cut.item red_far) at_red (top-fork_on side cut.colour cut.near node cut.item red_far)
-            ∙ is_black-fork_on side cut.colour cut.near node cut.item red_far
+        says_node says says_is = grind (arith, red_far, at_red, top-fork_on, is_black-fork_on)
 
         red_far_subtree : IsSubtree (black_levels cut.near) red_far
         unfolding red_far
@@ -54,11 +52,10 @@ module _ {T : Type 0} where
         more_red_nodes =
             let old = ap red_nodes ((at tree node side cut) sibling Black subtrees) ∙ red_nodes-plug cut.around (fork_on side cut.colour cut.near node cut.item (fork_on side Black subtrees.inner sibling subtrees.item subtrees.outer)) in
             let old_here = red_nodes-fork_on side cut.colour cut.near node cut.item (fork_on side Black subtrees.inner sibling subtrees.item subtrees.outer) in
-            let old_far = red_nodes-fork_on side Black subtrees.inner sibling subtrees.item subtrees.outer in
             let new = ap red_nodes at_red ∙ red_nodes-plug cut.around (fork_on side cut.colour cut.near node cut.item red_far) in
             let new_here = red_nodes-fork_on side cut.colour cut.near node cut.item red_far in
             let new_far = red_nodes-fork_on side Red subtrees.inner sibling subtrees.item subtrees.outer in
-            omega arith
+            omega (arith, red_nodes-fork_on side Black subtrees.inner sibling subtrees.item subtrees.outer)
 
         black_node : is_black_colour cut.colour ≡ true → cut.colour ≡ Black
         black_node black = black_colour cut.colour (λ red. let same = ap is_black_colour red in cc)
@@ -80,12 +77,11 @@ module _ {T : Type 0} where
 
         pub IsEnded-red : (two : Shape T) → Paints Black node one two → is_black_colour cut.colour ≡ false → IsEnded tree node side cut two
         IsEnded-red two paints_node red =
-            let level : level_of cut.colour ≡ 0 = level_red cut.colour red in
             record {
               subtree = fork_on side Black cut.near node cut.item red_far;
               is = painted side Black node one two paints_node cut.around cut.colour cut.near cut.item red_far at_red;
               balanced = node_subtree.balanced;
-              levels = omega (arith, node_subtree.deep, cut.one_less);
+              levels = omega (arith, level_red cut.colour red, node_subtree.deep, cut.one_less);
               black = λ _. node_subtree.black;
               entries_are = entries-red;
               kept = record { around = []; colour = Black; far = red_far; is = refl };

@@ -1,8 +1,8 @@
 -- The descent along the left side of a subtree, to its first entry.
-use Rattle.std.proofs.Common.{◌≡◌, ℕ, List, [], ◌∷◌, ◌++◌, refl, sym, ap, ◌∙◌, subst, append-nil}
+use Rattle.std.proofs.Common.{arith, ◌≡◌, ℕ, List, [], ◌∷◌, refl, sym, ap, ◌∙◌, append-nil}
 use Rattle.i_tree.specs.declared.rb.links.Colour.{Colour}
 use Rattle.i_tree.specs.declared.rb.links.Side.TheVariants.{Left}
-use Rattle.i_tree.specs.Rb.Shape.{Shape, leaf, fork, entries, subtree_at, left_subtree, left_at, IsHandle, AreHandles}
+use Rattle.i_tree.specs.Rb.Shape.{Shape, leaf, fork, subtree_at, left_subtree, left_at, IsHandle, AreHandles}
 use Rattle.i_tree.specs.Rb.Context.{Frame, plug}
 use Rattle.i_tree.specs.Rb.Detaching.{IsFirst}
 use Rattle.i_tree.proofs.RbLemmas.Shape.Contexts.{cut_at, before_hole, after_hole, entries-plug}
@@ -30,29 +30,11 @@ module _ {T : Type 0} where
   -- one step to the left
   pub StartsWith-left : (whole tree : Shape T) (handle : ℕ) → AreHandles tree → IsHandle tree handle
       → StartsWith whole (subtree_at handle tree) → StartsWith whole (left_at handle tree)
-  StartsWith-left whole tree handle handles live starts =
-      let cut = cut_at tree handle live in
-      let subtree_is = subtree_at-of_cut tree handle handles cut in
-      let P : Shape T → Type 0 = λ subtree. StartsWith whole subtree in
-      subst P (sym (ap left_subtree subtree_is)) (starts_left whole (subtree_at handle tree) cut.colour cut.before handle cut.item cut.after subtree_is starts)
+  StartsWith-left whole tree handle handles live starts = grind (arith, cut_at, subtree_at-of_cut, starts_left)
 
   starts_first : (whole subtree : Shape T) (colour : Colour) (before : Shape T) (handle : ℕ) (item : T) (after : Shape T)
       → subtree ≡ fork colour before handle item after → before ≡ leaf → StartsWith whole subtree → IsFirst whole handle
-  starts_first whole subtree colour before handle item after subtree_is empty starts =
-      let node : subtree ≡ fork colour leaf handle item after = subtree_is ∙ ap (λ (near : Shape T). fork colour near handle item after) empty in
-      let is : whole ≡ plug starts.inner (fork colour leaf handle item after) = starts.is ∙ ap (plug starts.inner) node in
-      let list : entries whole ≡ before_hole starts.inner ++ ((handle, item) ∷ entries after ++ after_hole starts.inner)
-      = ap (λ (shape : Shape T). entries shape) is ∙ entries-plug starts.inner (fork colour leaf handle item after) in
-      let rest : entries (plug starts.inner after) ≡ before_hole starts.inner ++ (entries after ++ after_hole starts.inner) = entries-plug starts.inner after in
-      record {
-        inner = starts.inner;
-        colour = colour;
-        item = item;
-        after = after;
-        is = is;
-        list = list ∙ ap (λ front. front ++ ((handle, item) ∷ entries after ++ after_hole starts.inner)) starts.none
-            ∙ sym (ap (λ back. (handle, item) ∷ back) (rest ∙ ap (λ front. front ++ (entries after ++ after_hole starts.inner)) starts.none));
-      }
+  starts_first whole subtree colour before handle item after subtree_is empty starts = grind (arith, before_hole, after_hole, entries-plug)
 
   -- where nothing is on the left any more
   pub IsFirst-here : (whole tree : Shape T) (handle : ℕ) → AreHandles tree → IsHandle tree handle → left_at handle tree ≡ leaf

@@ -1,5 +1,5 @@
 -- A red-black subtree inside its frames: what is known of it and of them, and how ranks grow with it.
-use Rattle.std.proofs.Common.{◌≡◌, ℕ, ◌+◌, ◌<◌, ◌≤◌, ◌⊎◌, inl, inr, Bool, true, List, [], ◌∷◌, refl, sym, subst, arith}
+use Rattle.std.proofs.Common.{◌≡◌, ℕ, ◌+◌, ◌<◌, ◌≤◌, ◌⊎◌, inl, inr, Bool, true, List, [], ◌∷◌, refl, subst, arith}
 use Rattle.i_tree.specs.declared.rb.links.Colour.{Colour}
 use Rattle.i_tree.specs.declared.rb.links.Colour.TheVariants.{Red, Black}
 use Rattle.i_tree.specs.declared.rb.links.Side.{Side}
@@ -20,14 +20,7 @@ module _ {T : Type 0} where
 
   pub HasSubtrees-from : (side : Side) (colour : Colour) (near : Shape T) (handle : ℕ) (item : T) (far : Shape T)
       → IsRedBlack (fork_on side colour near handle item far) → HasSubtrees colour near far
-  HasSubtrees-from Left Red near handle item far balanced =
-      record { near_balanced = balanced.0; far_balanced = balanced.1; even = sym balanced.2; black_near = λ _. balanced.3.0; black_far = λ _. balanced.3.1 }
-  HasSubtrees-from Left Black near handle item far balanced =
-      record { near_balanced = balanced.0; far_balanced = balanced.1; even = sym balanced.2; black_near = λ red. cc; black_far = λ red. cc }
-  HasSubtrees-from Right Red near handle item far balanced =
-      record { near_balanced = balanced.1; far_balanced = balanced.0; even = balanced.2; black_near = λ _. balanced.3.1; black_far = λ _. balanced.3.0 }
-  HasSubtrees-from Right Black near handle item far balanced =
-      record { near_balanced = balanced.1; far_balanced = balanced.0; even = balanced.2; black_near = λ red. cc; black_far = λ red. cc }
+  HasSubtrees-from side colour near handle item far balanced = grind arith
 
   -- what frames and their subtree are, where they make a red-black tree
   pub record IsSplit (around : List (Frame T)) (subtree : Shape T) : Type 0 where
@@ -37,9 +30,7 @@ module _ {T : Type 0} where
 
   stands : (colour : Colour) (sibling : Shape T) (around : List (Frame T)) (black : Bool) → (colour ≡ Red → is_black sibling ≡ true)
       → black ≡ is_black_colour colour → (black ≡ true) ⊎ (is_black_around around ≡ true) → MayStand colour sibling around
-  stands Red sibling around black black_far is (inl raised) = cc
-  stands Red sibling around black black_far is (inr around_black) = (black_far refl, around_black)
-  stands Black sibling around black black_far is either = tt
+  stands colour sibling around black black_far is either = grind arith
 
   one_black : (colour : Colour) (subtree : Shape T) → (colour ≡ Red → is_black subtree ≡ true) → (is_black subtree ≡ true) ⊎ (is_black_colour colour ≡ true)
   one_black Red subtree black_near = inl (black_near refl)
@@ -73,10 +64,7 @@ module _ {T : Type 0} where
 
   lower_fill : (side : Side) (colour : Colour) (one other : Shape T) (handle : ℕ) (item : T) (far : Shape T) → IsLower one other
       → IsLower (fork_on side colour one handle item far) (fork_on side colour other handle item far)
-  lower_fill Left Red one other handle item far lower = let levels = lower.levels in record { levels = levels; ranks = omega arith }
-  lower_fill Left Black one other handle item far lower = let levels = lower.levels in record { levels = omega arith; ranks = omega arith }
-  lower_fill Right Red one other handle item far lower = record { levels = omega arith; ranks = omega arith }
-  lower_fill Right Black one other handle item far lower = record { levels = omega arith; ranks = omega arith }
+  lower_fill side colour one other handle item far lower = grind arith
 
   pub IsLower-plug : (around : List (Frame T)) (one other : Shape T) → IsLower one other → IsLower (plug around one) (plug around other)
   IsLower-plug [] one other lower = lower
@@ -98,15 +86,4 @@ module _ {T : Type 0} where
 
   pub IsGone-from : (side : Side) (colour : Colour) (subtree : Shape T) (handle : ℕ) (item : T)
       → IsRedBlack (fork_on side colour subtree handle item leaf) → IsGone colour subtree (fork_on side colour subtree handle item leaf)
-  IsGone-from side colour subtree handle item balanced =
-      let subtrees = HasSubtrees-from side colour subtree handle item leaf balanced in
-      let even = subtrees.even in
-      let levels = levels-fork_on side colour subtree handle item leaf even in
-      let falls = falls_on side colour subtree handle item leaf balanced in
-      record {
-        subtree_balanced = subtrees.near_balanced;
-        none = sym even;
-        levels = levels;
-        lower = record { levels = omega arith; ranks = omega arith };
-        red = subtrees.black_near;
-      }
+  IsGone-from side colour subtree handle item balanced = grind (arith, HasSubtrees-from, levels-fork_on, falls_on)

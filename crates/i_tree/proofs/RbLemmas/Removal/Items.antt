@@ -1,7 +1,6 @@
 -- A tree in which an item is replaced: its list, its subtrees and its ranks.
-use Rattle.std.proofs.Common.{◌≡◌, ◌≢◌, ℕ, ◌+◌, ◌*◌, ◌≤◌, Bool, true, false, eqb, cond, max, List, [], ◌∷◌, ◌++◌, length, refl, sym, ap, ◌∙◌, arith}
+use Rattle.std.proofs.Common.{◌≡◌, ◌≢◌, ℕ, ◌+◌, ◌≤◌, Bool, true, false, eqb, cond, max, List, [], ◌∷◌, ◌++◌, length, refl, sym, ap, ◌∙◌, arith}
 use Rattle.std.specs.Prelude.{◌==◌, if◌then◌else◌}
-use Rattle.i_tree.specs.declared.rb.links.Colour.TheVariants.{Red, Black}
 use Rattle.i_tree.specs.Rb.Balance.{IsCore}
 use Rattle.i_tree.specs.Rb.Shape.{Shape, leaf, fork, entries, subtree_at, left_subtree, right_subtree, or_else, rank, height, RanksFall, with_item, one_if_same}
 use Rattle.i_tree.proofs.RbLemmas.Shape.Contexts.{eqb-apart, one_if_same-cases, one_if_same-same, occurs_among, occurs_among-append}
@@ -82,9 +81,7 @@ module _ {T : Type 0} (at : ℕ) (new : T) where
   right_subtree-with_item (fork _ _ _ _ _) = refl
 
   pub rank-with_item : (tree : Shape T) → rank (with_item at new tree) ≡ rank tree
-  rank-with_item leaf = refl
-  rank-with_item (fork Red before own held after) = ap (λ (levels : ℕ). 2 * levels + 1) (black_levels-with_item at new before)
-  rank-with_item (fork Black before own held after) = ap (λ (levels : ℕ). 2 * (levels + 1)) (black_levels-with_item at new before)
+  rank-with_item tree = grind (arith, black_levels-with_item)
 
   height-with_item : (tree : Shape T) → height (with_item at new tree) ≡ height tree
   height-with_item leaf = refl
@@ -109,13 +106,12 @@ module _ {T : Type 0} (at : ℕ) (new : T) where
   pub IsCore-with_item : (tree : Shape T) → IsCore tree → IsCore (with_item at new tree)
   IsCore-with_item tree core =
       let same : length (entries (with_item at new tree)) ≡ length (entries tree) = ap (λ (list : List (ℕ × T)). length list) (entries-with_item tree) ∙ length-set_item (entries tree) in
-      let ranks = rank-with_item tree in
       let heights = height-with_item tree in
       let low = core.low in
       record {
         handles = AreHandles-with_item at new tree core.handles;
         balanced = IsRedBlack-with_item at new tree core.balanced;
         falls = RanksFall-with_item tree core.falls;
-        low = omega arith;
-        bounded = λ levels few. omega (arith, core.bounded levels (omega arith));
+        low = omega (arith, rank-with_item tree);
+        bounded = λ levels few. omega (arith, rank-with_item tree, core.bounded levels (omega (arith, rank-with_item tree)));
       }

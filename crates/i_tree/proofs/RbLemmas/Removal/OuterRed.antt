@@ -19,9 +19,7 @@ module _ {T : Type 0} where
       -- the far subtree comes up, where its outer subtree is red: that is black then
       module _ (outer : ℕ) (outer_is : outer ≡ top subtrees.outer) (outer_red : is_black subtrees.outer ≡ false) where
         outer_subtrees : Subtrees Left Red subtrees.outer outer
-        outer_subtrees =
-            let P : ℕ → Type 0 = λ handle. Subtrees Left Red subtrees.outer handle in
-            subst P (sym outer_is) (Subtrees-red Left subtrees.outer outer_red)
+        outer_subtrees = grind (arith, Subtrees, Subtrees-red)
 
         outer_black : Shape T
         outer_black = fork Black outer_subtrees.inner outer outer_subtrees.item outer_subtrees.outer

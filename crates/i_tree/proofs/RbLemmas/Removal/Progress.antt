@@ -113,8 +113,7 @@ module _ {T : Type 0} where
             entries_are = same;
             outer = λ inner frame outer fuller split deep. absurd (some_not_none inner frame outer split);
             whole = λ fuller deep.
-                let is = rank-fork_on short first.colour fuller parent first.item first.far (deep ∙ sym first.one_less) in
-                omega arith;
+                omega (arith, rank-fork_on short first.colour fuller parent first.item first.far (deep ∙ sym first.one_less));
           };
         }
 
@@ -155,7 +154,6 @@ module _ {T : Type 0} where
 
           short_above : IsShort new frame.handle frame.side
           short_above =
-              let level = ap level_of risen.was_black in
               let P : ℕ → Type 0 = λ levels. Fits rest (levels + level_of frame.colour) in
               record {
                 around = rest;
@@ -166,7 +164,7 @@ module _ {T : Type 0} where
                 is = at_frame tree new node side progress.present risen frame rest around_is;
                 near_balanced = risen.balanced;
                 far_balanced = fits.0;
-                one_less = omega (arith, fits.1, risen.levels);
+                one_less = omega (arith, ap level_of risen.was_black, fits.1, risen.levels);
                 red_holds = red_stands frame.colour frame.sibling rest fits.2;
                 fits = subst P (sym fits.1) fits.3;
               }

@@ -52,10 +52,7 @@ module _ {T : Type 0} where
 
   pub rank-fork_on : (side : Side) (colour : Colour) (near : Shape T) (handle : ℕ) (item : T) (far : Shape T) → black_levels near ≡ black_levels far
       → rank (fork_on side colour near handle item far) ≡ 2 * (black_levels far + level_of colour) + one_if_red colour
-  rank-fork_on Left Red near handle item far even = omega arith
-  rank-fork_on Left Black near handle item far even = omega arith
-  rank-fork_on Right Red near handle item far even = omega arith
-  rank-fork_on Right Black near handle item far even = omega arith
+  rank-fork_on side colour near handle item far even = grind arith
 
   -- a node's levels and rank, by its subtree's levels
   pub levels-same_near : (side : Side) (colour : Colour) (one other : Shape T) (handle : ℕ) (item : T) (far : Shape T) → black_levels one ≡ black_levels other
@@ -70,10 +67,7 @@ module _ {T : Type 0} where
 
   pub rank-same_near : (side : Side) (colour : Colour) (one other : Shape T) (handle : ℕ) (item : T) (far : Shape T) → black_levels one ≡ black_levels other
       → rank (fork_on side colour one handle item far) ≡ rank (fork_on side colour other handle item far)
-  rank-same_near Left Red one other handle item far same = ap (λ n. 2 * n + 1) same
-  rank-same_near Left Black one other handle item far same = ap (λ n. 2 * (n + 1)) same
-  rank-same_near Right Red one other handle item far same = refl
-  rank-same_near Right Black one other handle item far same = refl
+  rank-same_near side colour one other handle item far same = grind arith
 
   -- no more nodes are red than there are
   pub red_nodes-few : (tree : Shape T) → red_nodes tree ≤ length (entries tree)
@@ -98,10 +92,7 @@ module _ {T : Type 0} where
 
   module _ (tree new : Shape T) (node : ℕ) (side : Side) (cut : IsShort tree node side) where
     pub entries-risen : IsRisen tree node side cut new → entries new ≡ entries tree
-    entries-risen risen =
-        ap entries risen.is
-        ∙ entries-replaced cut.around risen.subtree (fork_on side cut.colour cut.near node cut.item cut.far) risen.entries_are
-        ∙ sym (ap entries cut.is)
+    entries-risen risen = grind (arith, entries-replaced)
 
     pub balanced-ended : IsEnded tree node side cut new → IsRedBlack new
     balanced-ended ended =
@@ -141,8 +132,7 @@ module _ {T : Type 0} where
             by_around [] around_is same = around_is
             by_around (frame ∷ rest) around_is same =
                 let live = IsHandle-at new rest frame.side frame.colour risen.subtree frame.handle frame.item frame.sibling (at_frame frame rest around_is) in
-                let also = ap (λ handle. occurs handle new) (sym same ∙ empty) in
-                absurd (omega (arith, handles.none_empty))
+                absurd (omega (arith, ap (λ handle. occurs handle new) (sym same ∙ empty), handles.none_empty))
 
         pub frame_above : above ≢ EMPTY_REF → (frame : Frame T) × (rest : List (Frame T)) × (cut.around ≡ frame ∷ rest) × (above ≡ frame.handle)
         frame_above some = by_around cut.around refl hole_is

@@ -18,9 +18,7 @@ module _ {T : Type 0} where
     -- the sibling is red: it comes up, and the node stands under it, beside a black subtree
     module _ (sibling : ℕ) (subtrees : Subtrees side Red cut.far sibling) (far_red : is_black cut.far ≡ false) (one : Shape T) (rotations : Rotations node side tree one) where
       over_red : IsBlackSubtree (black_levels cut.near + 1) subtrees.inner × IsBlackSubtree (black_levels cut.near + 1) subtrees.outer
-      over_red =
-          let P : Shape T → Type 0 = λ subtree. IsSubtree (black_levels cut.near + 1) subtree in
-          IsSubtree-below_red side sibling subtrees.item (black_levels cut.near + 1) (subst P subtrees.is (far_subtree tree node side cut))
+      over_red = grind (arith, IsSubtree-below_red, far_subtree)
 
       colour_is : cut.colour ≡ Black
       colour_is = black_colour cut.colour (λ red. let black = (cut.red_holds red).0 in cc)

@@ -90,13 +90,12 @@ module _ {T : Type 0} where
           let is_own : old ≡ plug (frame ∷ around) own = is ∙ ap (λ (subtree : Shape T). plug around (fork_on side colour subtree above item far)) (here ∙ node_is) in
           let rebalances = takes.sides [] frame around one.side one.colour one.subtree one.item is_own in
           let has = HasOnSide-from new above side item (entries one.subtree) (rank own) new_handles rebalances in
-          let same : rank (subtree_at handle old) ≡ rank own = ap (λ (subtree : Shape T). rank subtree) (here ∙ node_is) in
           let ranks = has.ranks in
           record {
             live = has.live;
             list = takes.list (frame ∷ around) one.side one.colour one.subtree one.item is_own ∙ entries-plug (frame ∷ around) one.subtree
                 ∙ ap (λ list. before_hole (frame ∷ around) ++ (list ++ after_hole (frame ∷ around))) (sym has.entries_are);
-            ranks = omega arith;
+            ranks = omega (arith, ap (λ (subtree : Shape T). rank subtree) (here ∙ node_is));
           }
 
   -- a node with two subtrees, and the next entry's node, inside its right subtree
@@ -245,7 +244,6 @@ module _ {T : Type 0} where
       let own = own_once handle live in
       let front_same : set_item handle taken front ≡ front = set_item-none handle taken front (omega arith) in
       let back_same : set_item handle taken back ≡ back = set_item-none handle taken back (omega arith) in
-      let same : rank (subtree_at handle old) ≡ rank (plug inner node) = ap (λ (subtree : Shape T). rank subtree) here in
       let ranks = new_has.ranks in
       record {
         live = new_has.live;
@@ -254,16 +252,15 @@ module _ {T : Type 0} where
             ∙ ap (λ before. before ++ (set_item handle taken list ++ set_item handle taken back)) front_same
             ∙ ap (λ after. front ++ (set_item handle taken list ++ after)) back_same
             ∙ ap (λ middle. front ++ (middle ++ back)) (sym new_has.entries_are);
-        ranks = omega arith;
+        ranks = omega (arith, ap (λ (subtree : Shape T). rank subtree) here);
       }
     where
       own_once : (handle : ℕ) → IsHandle old handle → 0 < occurs_among handle (entries (subtree_at handle old))
       own_once handle live =
           let cut = cut_at old handle live in
           let here = ap (λ (subtree : Shape T). occurs_among handle (entries subtree)) (subtree_at-of_cut old handle handles cut) in
-          let sum = occurs_among-append handle (entries cut.before) ((handle, cut.item) ∷ entries cut.after) in
           let one = one_if_same-same handle in
-          omega arith
+          omega (arith, occurs_among-append handle (entries cut.before) ((handle, cut.item) ∷ entries cut.after))
 
   pub removed_two_side : (old mid : Shape T) (handle next : ℕ) (taken : T) → AreHandles old → AreHandles mid → HasNext old handle next → TakesOut old next mid
       → (side : Side) (above : ℕ) → IsHandle old above → top (subtree_on side above old) ≡ handle
@@ -275,6 +272,4 @@ module _ {T : Type 0} where
 
   pub removed_two_rank : (old mid : Shape T) (handle next : ℕ) (taken : T) → TakesOut old next mid → rank (with_item handle taken mid) ≤ rank old
   removed_two_rank old mid handle next taken takes =
-      let same = rank-with_item handle taken mid in
-      let ranks = takes.rank in
-      omega arith
+      omega (arith, takes.rank, rank-with_item handle taken mid)

@@ -1,12 +1,12 @@
 -- How a tree changes where a node with an empty subtree is taken out, with the rebalancing or without.
-use Rattle.std.proofs.Common.{◌≡◌, ◌≢◌, ℕ, ◌+◌, ◌≤◌, ◌⊎◌, inl, inr, Bool, true, false, List, [], ◌∷◌, ◌++◌, refl, sym, ap, ◌∙◌, subst, arith}
+use Rattle.std.proofs.Common.{◌≡◌, ◌≢◌, ℕ, ◌+◌, ◌≤◌, ◌⊎◌, inl, Bool, true, false, List, [], ◌∷◌, ◌++◌, refl, sym, ap, ◌∙◌, subst, arith}
 use Rattle.i_tree.specs.declared.TheConstants.{EMPTY_REF}
 use Rattle.i_tree.specs.declared.rb.links.Colour.{Colour}
 use Rattle.i_tree.specs.declared.rb.links.Colour.TheVariants.{Red, Black}
 use Rattle.i_tree.specs.declared.rb.links.Side.{Side}
-use Rattle.i_tree.specs.Rb.Shape.{Shape, leaf, top, entries, occurs, one_if_same, black_levels, rank, IsHandle, AreHandles}
+use Rattle.i_tree.specs.Rb.Shape.{Shape, leaf, top, entries, black_levels, rank, IsHandle, AreHandles}
 use Rattle.i_tree.specs.Rb.Balance.{is_black, is_black_colour, level_of, IsRedBlack, Fits, IsShort}
-use Rattle.i_tree.specs.Rb.Context.{Frame, fork_on, fill, plug, hole_parent, Replaces, HasOneSubtree}
+use Rattle.i_tree.specs.Rb.Context.{Frame, fork_on, plug, hole_parent, Replaces, HasOneSubtree}
 use Rattle.i_tree.specs.Rb.Removal.{KeepsSubtree, RebalancesSubtree}
 use Rattle.i_tree.specs.Rb.Detaching.{TakesOut}
 use Rattle.i_tree.proofs.RbLemmas.Shape.Contexts.{one_if_same-same, occurs-plug, occurs-fork_on, top-fork_on, plug-append}
@@ -39,7 +39,6 @@ module _ {T : Type 0} where
       let whole = gone_in old gone balanced one.around one.side one.colour one.subtree one.item one.is in
       let lower = IsLower-plug one.around one.subtree node whole.lower in
       let ranks = lower.ranks in
-      let was : rank old ≡ rank (plug one.around node) = ap (λ (shape : Shape T). rank shape) one.is in
       let now : rank new ≡ rank (plug one.around one.subtree) = ap (λ (shape : Shape T). rank shape) (detaches one.side one.colour one.subtree one.item one.around one.is) in
       record {
         list = λ around side colour subtree item is. ap (λ (shape : Shape T). entries shape) (detaches side colour subtree item around is);
@@ -52,26 +51,16 @@ module _ {T : Type 0} where
           entries_are = refl;
           ranks = (IsLower-plug inner subtree (fork_on side colour subtree gone item leaf) (gone_in old gone balanced (inner ++ frame ∷ outer) side colour subtree item is).lower).ranks;
         };
-        rank = omega arith;
+        rank = omega (arith, ap (λ (shape : Shape T). rank shape) one.is);
       }
 
   -- a node has no `EMPTY_REF` above it but the root
   pub no_frame : (old : Shape T) (frame : Frame T) (rest : List (Frame T)) (subtree : Shape T) → AreHandles old → old ≡ plug (frame ∷ rest) subtree → frame.handle ≢ EMPTY_REF
-  no_frame old frame rest subtree handles is same =
-      let count : occurs EMPTY_REF old ≡ occurs EMPTY_REF (plug rest (fill frame subtree)) = ap (occurs EMPTY_REF) is in
-      let outer = occurs-plug EMPTY_REF rest (fill frame subtree) in
-      let inner = occurs-fork_on EMPTY_REF frame.side frame.colour subtree frame.handle frame.item frame.sibling in
-      let here = ap (λ handle. one_if_same EMPTY_REF handle) same in
-      let one = one_if_same-same EMPTY_REF in
-      let none = handles.none_empty in
-      omega arith
+  no_frame old frame rest subtree handles is same = grind (arith, occurs-fork_on, one_if_same-same, occurs-plug)
 
   balanced_root : (old new : Shape T) (gone : ℕ) → AreHandles old → IsRedBlack old → (around : List (Frame T)) (side : Side) (colour : Colour) (subtree : Shape T) (item : T)
       → old ≡ plug around (fork_on side colour subtree gone item leaf) → new ≡ plug around subtree → EMPTY_REF ≡ hole_parent around → IsRedBlack new
-  balanced_root old new gone handles balanced [] side colour subtree item is now at =
-      subst IsRedBlack (sym now) (gone_in old gone balanced [] side colour subtree item is).subtree_balanced
-  balanced_root old new gone handles balanced (frame ∷ rest) side colour subtree item is now at =
-      absurd (no_frame old frame rest (fork_on side colour subtree gone item leaf) handles is (sym at))
+  balanced_root old new gone handles balanced around side colour subtree item is now at = grind (arith, gone_in, no_frame)
 
   balanced_red : (old new : Shape T) (gone : ℕ) → IsRedBlack old → (around : List (Frame T)) (side : Side) (colour : Colour) (subtree : Shape T) (item : T)
       → old ≡ plug around (fork_on side colour subtree gone item leaf) → new ≡ plug around subtree → colour ≡ Red → IsRedBlack new
@@ -79,8 +68,7 @@ module _ {T : Type 0} where
       let node : Shape T = fork_on side colour subtree gone item leaf in
       let split = IsSplit-of old around node is balanced in
       let whole = gone_in old gone balanced around side colour subtree item is in
-      let level : level_of colour ≡ 0 = ap level_of red in
-      let levels : black_levels node ≡ black_levels subtree = let e = whole.levels in omega arith in
+      let levels : black_levels node ≡ black_levels subtree = let e = whole.levels in omega (arith, ap level_of red) in
       let P : ℕ → Type 0 = λ count. Fits around count in
       subst IsRedBlack (sym now)
       (IsRedBlack-plug around (black_levels subtree) subtree (subst P levels split.fits) (record { balanced = whole.subtree_balanced; deep = refl }) (inl (whole.red red)))
@@ -90,15 +78,7 @@ module _ {T : Type 0} where
       → ((around : List (Frame T)) (subtree : Shape T) → old ≡ plug around subtree → top subtree ≡ gone → parent ≡ hole_parent around)
       → ((around : List (Frame T)) (subtree : Shape T) → old ≡ plug around subtree → top subtree ≡ gone → was_black ≡ is_black subtree)
       → (parent ≡ EMPTY_REF) ⊎ ((parent ≢ EMPTY_REF) × (was_black ≡ false)) → IsRedBlack new
-  IsRedBlack-unbalanced old new gone parent was_black handles balanced one detaches parent_is black_is (inl none) =
-      let node : Shape T = fork_on one.side one.colour one.subtree gone one.item leaf in
-      balanced_root old new gone handles balanced one.around one.side one.colour one.subtree one.item one.is (detaches one.side one.colour one.subtree one.item one.around one.is)
-      (sym none ∙ parent_is one.around node one.is (top-fork_on one.side one.colour one.subtree gone one.item leaf))
-  IsRedBlack-unbalanced old new gone parent was_black handles balanced one detaches parent_is black_is (inr red) =
-      let node : Shape T = fork_on one.side one.colour one.subtree gone one.item leaf in
-      let black = black_is one.around node one.is (top-fork_on one.side one.colour one.subtree gone one.item leaf) in
-      balanced_red old new gone balanced one.around one.side one.colour one.subtree one.item one.is (detaches one.side one.colour one.subtree one.item one.around one.is)
-      (red_colour one.colour (sym (is_black-fork_on one.side one.colour one.subtree gone one.item leaf) ∙ sym black ∙ red.1))
+  IsRedBlack-unbalanced old new gone parent was_black handles balanced one detaches parent_is black_is either = grind (arith, balanced_root, top-fork_on, balanced_red, red_colour, is_black-fork_on)
 
   -- a black node below this parent was taken out, on this side
   pub record LeavesShort (old : Shape T) (gone parent : ℕ) (short : Side) (mid : Shape T) : Type 0 where
@@ -142,9 +122,7 @@ module _ {T : Type 0} where
       let place = place_of old mid gone parent short leaves frame rest side colour subtree item is in
       let split = IsSplit-of old (frame ∷ rest) node is leaves.balanced in
       let whole = gone_in old gone leaves.balanced (frame ∷ rest) side colour subtree item is in
-      let level : level_of colour ≡ 1 = ap level_of place.black in
       let deep : black_levels frame.sibling ≡ black_levels node = split.fits.1 in
-      let levels : black_levels node ≡ black_levels subtree + level_of colour = whole.levels in
       let P : ℕ → Type 0 = λ count. Fits rest (count + level_of frame.colour) in
       let Q : ℕ → Type 0 = λ own. mid ≡ plug rest (fork_on short frame.colour subtree own frame.item frame.sibling) in
       let R : Side → Type 0 = λ toward. mid ≡ plug rest (fork_on toward frame.colour subtree frame.handle frame.item frame.sibling) in
@@ -157,7 +135,7 @@ module _ {T : Type 0} where
         is = subst Q place.handle (subst R place.side (leaves.detaches side colour subtree item (frame ∷ rest) is));
         near_balanced = whole.subtree_balanced;
         far_balanced = split.fits.0;
-        one_less = omega arith;
+        one_less = omega (arith, whole.levels, ap level_of place.black);
         red_holds = red_stands frame.colour frame.sibling rest split.fits.2;
         fits = subst P (sym deep) split.fits.3;
       }
@@ -189,9 +167,7 @@ module _ {T : Type 0} where
   full_levels old mid gone parent short leaves frame rest side colour subtree item is =
       let place = place_of old mid gone parent short leaves frame rest side colour subtree item is in
       let whole = gone_in old gone leaves.balanced (frame ∷ rest) side colour subtree item is in
-      let level : level_of colour ≡ 1 = ap level_of place.black in
-      let levels = whole.levels in
-      omega arith
+      omega (arith, whole.levels, ap level_of place.black)
 
   rebalanced_side : (old mid new : Shape T) (gone parent : ℕ) (short : Side) → LeavesShort old gone parent short mid → IsRebalanced mid parent short new
       → (inner : List (Frame T)) (frame : Frame T) (outer : List (Frame T)) (side : Side) (colour : Colour) (subtree : Shape T) (item : T)
@@ -255,13 +231,8 @@ module _ {T : Type 0} where
   IsHandle-gone old gone one = IsHandle-at old one.around one.side one.colour one.subtree gone one.item leaf one.is
 
   parent_live : (old : Shape T) (parent : ℕ) (around : List (Frame T)) (subtree : Shape T) → old ≡ plug around subtree → parent ≡ hole_parent around → parent ≢ EMPTY_REF → IsHandle old parent
-  parent_live old parent [] subtree is at some = absurd (some at)
-  parent_live old parent (frame ∷ rest) subtree is at some =
-      let P : ℕ → Type 0 = λ handle. IsHandle old handle in
-      subst P (sym at) (IsHandle-at old rest frame.side frame.colour subtree frame.handle frame.item frame.sibling is)
+  parent_live old parent around subtree is at some = grind (arith, IsHandle-at)
 
   pub IsHandle-parent : (old : Shape T) (gone parent : ℕ) → HasOneSubtree old gone
       → ((around : List (Frame T)) (subtree : Shape T) → old ≡ plug around subtree → top subtree ≡ gone → parent ≡ hole_parent around) → parent ≢ EMPTY_REF → IsHandle old parent
-  IsHandle-parent old gone parent one parent_is some =
-      let node : Shape T = fork_on one.side one.colour one.subtree gone one.item leaf in
-      parent_live old parent one.around node one.is (parent_is one.around node one.is (top-fork_on one.side one.colour one.subtree gone one.item leaf)) some
+  IsHandle-parent old gone parent one parent_is some = grind (arith, parent_live, top-fork_on)

@@ -21,9 +21,7 @@ module _ {T : Type 0} where
     IsHandle-short = IsHandle-at tree cut.around side cut.colour cut.near node cut.item cut.far cut.is
 
     far_away : (away : Side) → away ≡ other_side side → tree ≡ plug cut.around (fork_on away cut.colour cut.far node cut.item cut.near)
-    far_away away away_is =
-        let P : Side → Type 0 = λ way. tree ≡ plug cut.around (fork_on way cut.colour cut.far node cut.item cut.near) in
-        subst P (sym away_is) (cut.is ∙ ap (plug cut.around) (fork_on-other side cut.colour cut.near node cut.item cut.far))
+    far_away away away_is = grind (arith, fork_on-other)
 
     pub far_top : (away : Side) (sibling : ℕ) → away ≡ other_side side → IsChild tree node away sibling → sibling ≡ top cut.far
     far_top away sibling away_is sibling_is = sibling_is cut.around cut.colour cut.far cut.item cut.near (far_away away away_is)
@@ -52,9 +50,7 @@ module _ {T : Type 0} where
     subtrees_beside black away sibling away_is sibling_is = black_subtrees sibling (far_top away sibling away_is sibling_is) black
 
     pub red_subtrees : (sibling : ℕ) → sibling ≡ top cut.far → is_black cut.far ≡ false → Subtrees side Red cut.far sibling
-    red_subtrees sibling same red =
-        let P : ℕ → Type 0 = λ handle. Subtrees side Red cut.far handle in
-        subst P (sym same) (Subtrees-red side cut.far red)
+    red_subtrees sibling same red = grind (arith, Subtrees, Subtrees-red)
 
     pub far_subtree : IsSubtree (black_levels cut.near + 1) cut.far
     far_subtree = record { balanced = cut.far_balanced; deep = cut.one_less }
@@ -90,9 +86,7 @@ module _ {T : Type 0} where
 
     module _ (sibling : ℕ) (subtrees : Subtrees side Black cut.far sibling) where
       pub below : IsSubtree (black_levels cut.near) subtrees.inner × IsSubtree (black_levels cut.near) subtrees.outer
-      below =
-          let P : Shape T → Type 0 = λ subtree. IsSubtree (black_levels cut.near + 1) subtree in
-          IsSubtree-below_black side sibling subtrees.item (black_levels cut.near) (subst P subtrees.is far_subtree)
+      below = grind (arith, IsSubtree-below_black, far_subtree)
 
       pub at_sibling : tree ≡ plug far_frames (fork_on side Black subtrees.inner sibling subtrees.item subtrees.outer)
       unfolding far_frames
@@ -105,9 +99,7 @@ module _ {T : Type 0} where
       inner_frames = record { side = side; colour = Black; handle = sibling; item = subtrees.item; sibling = subtrees.outer } ∷ far_frames
 
       outer_away : (away : Side) → away ≡ other_side side → tree ≡ plug far_frames (fork_on away Black subtrees.outer sibling subtrees.item subtrees.inner)
-      outer_away away away_is =
-          let P : Side → Type 0 = λ way. tree ≡ plug far_frames (fork_on way Black subtrees.outer sibling subtrees.item subtrees.inner) in
-          subst P (sym away_is) (at_sibling ∙ ap (plug far_frames) (fork_on-other side Black subtrees.inner sibling subtrees.item subtrees.outer))
+      outer_away away away_is = grind (arith, at_sibling, fork_on-other)
 
       at_outer : tree ≡ plug outer_frames subtrees.outer
       unfolding outer_frames
@@ -127,16 +119,10 @@ module _ {T : Type 0} where
       inner_top inner inner_is = inner_is far_frames Black subtrees.inner subtrees.item subtrees.outer at_sibling
 
       pub IsHandle-outer : (outer : ℕ) → outer ≡ top subtrees.outer → outer ≢ EMPTY_REF → IsHandle tree outer
-      IsHandle-outer outer same some =
-          let P : ℕ → Type 0 = λ handle. IsHandle tree handle in
-          let top_some : top subtrees.outer ≢ EMPTY_REF = λ empty. some (same ∙ empty) in
-          subst P (sym same) (IsHandle-in tree outer_frames subtrees.outer (top subtrees.outer) at_outer (occurs_top subtrees.outer top_some))
+      IsHandle-outer outer same some = grind (arith, IsHandle-in, outer_frames, at_outer, occurs_top)
 
       pub IsHandle-inner : (inner : ℕ) → inner ≡ top subtrees.inner → inner ≢ EMPTY_REF → IsHandle tree inner
-      IsHandle-inner inner same some =
-          let P : ℕ → Type 0 = λ handle. IsHandle tree handle in
-          let top_some : top subtrees.inner ≢ EMPTY_REF = λ empty. some (same ∙ empty) in
-          subst P (sym same) (IsHandle-in tree inner_frames subtrees.inner (top subtrees.inner) at_inner (occurs_top subtrees.inner top_some))
+      IsHandle-inner inner same some = grind (arith, IsHandle-in, inner_frames, at_inner, occurs_top)
 
       pub says_outer : (outer : ℕ) (says : Bool) → outer ≡ top subtrees.outer → SaysBlack tree outer says → says ≡ is_black subtrees.outer
       says_outer outer says same says_is = says_is outer_frames subtrees.outer at_outer (sym same)
@@ -147,23 +133,14 @@ module _ {T : Type 0} where
       -- what stands between the node and its sibling comes up, where it is red
       module _ (inner : ℕ) (inner_is : inner ≡ top subtrees.inner) (inner_red : is_black subtrees.inner ≡ false) where
         inner_subtrees : Subtrees side Red subtrees.inner inner
-        inner_subtrees =
-            let P : ℕ → Type 0 = λ handle. Subtrees side Red subtrees.inner handle in
-            subst P (sym inner_is) (Subtrees-red side subtrees.inner inner_red)
+        inner_subtrees = grind (arith, Subtrees, Subtrees-red)
 
         inner_below : IsBlackSubtree (black_levels cut.near) inner_subtrees.inner × IsBlackSubtree (black_levels cut.near) inner_subtrees.outer
-        inner_below =
-            let P : Shape T → Type 0 = λ subtree. IsSubtree (black_levels cut.near) subtree in
-            IsSubtree-below_red side inner inner_subtrees.item (black_levels cut.near) (subst P inner_subtrees.is below.0)
+        inner_below = grind (arith, IsSubtree-below_red, inner_subtrees, below)
 
         at_between : (away : Side) → away ≡ other_side side
             → tree ≡ plug far_frames (fork_on away Black subtrees.outer sibling subtrees.item (fork_on away Red inner_subtrees.outer inner inner_subtrees.item inner_subtrees.inner))
-        at_between away away_is =
-            let P : Side → Type 0 = λ way. tree ≡ plug far_frames (fork_on way Black subtrees.outer sibling subtrees.item (fork_on way Red inner_subtrees.outer inner inner_subtrees.item inner_subtrees.inner)) in
-            subst P (sym away_is)
-            (outer_away (other_side side) refl
-            ∙ ap (λ (subtree : Shape T). plug far_frames (fork_on (other_side side) Black subtrees.outer sibling subtrees.item subtree)) inner_subtrees.is
-            ∙ ap (λ (subtree : Shape T). plug far_frames (fork_on (other_side side) Black subtrees.outer sibling subtrees.item subtree)) (fork_on-other side Red inner_subtrees.inner inner inner_subtrees.item inner_subtrees.outer))
+        at_between away away_is = grind (arith, inner_subtrees, outer_away, fork_on-other)
 
         pub CanRotation-sibling : (away : Side) → away ≡ other_side side → CanRotation tree sibling away
         CanRotation-sibling away away_is =

@@ -40,15 +40,7 @@ module _ {T : Type 0} where
 
   pub HasOnSide-from : (tree : Shape T) (handle : ℕ) (side : Side) (item : T) (list : List (ℕ × T)) (most : ℕ)
       → AreHandles tree → RebalancesSubtree tree handle side item list most → HasOnSide tree handle side list most
-  HasOnSide-from tree handle side item list most handles rebalances =
-      let near = subtree_on-cut tree handles rebalances.around side rebalances.colour rebalances.subtree handle item rebalances.far rebalances.is in
-      let same : rank (subtree_on side handle tree) ≡ rank rebalances.subtree = ap (λ (subtree : Shape T). rank subtree) near in
-      let ranks = rebalances.ranks in
-      record {
-        live = IsHandle-at tree rebalances.around side rebalances.colour rebalances.subtree handle item rebalances.far rebalances.is;
-        entries_are = ap (λ (subtree : Shape T). entries subtree) near ∙ rebalances.entries_are;
-        ranks = omega arith;
-      }
+  HasOnSide-from tree handle side item list most handles rebalances = grind (arith, subtree_on-cut, IsHandle-at)
 
   subtree_on-with_item : (side : Side) (at : ℕ) (new : T) (handle : ℕ) (tree : Shape T) → subtree_on side handle (with_item at new tree) ≡ with_item at new (subtree_on side handle tree)
   subtree_on-with_item Left at new handle tree = ap left_subtree (subtree_at-with_item at new handle tree) ∙ left_subtree-with_item at new (subtree_at handle tree)
@@ -56,18 +48,7 @@ module _ {T : Type 0} where
 
   pub HasOnSide-with_item : (at : ℕ) (new : T) (tree : Shape T) (handle : ℕ) (side : Side) (list : List (ℕ × T)) (most : ℕ)
       → HasOnSide tree handle side list most → HasOnSide (with_item at new tree) handle side (set_item at new list) most
-  HasOnSide-with_item at new tree handle side list most has =
-      let near = subtree_on-with_item side at new handle tree in
-      let same : rank (subtree_on side handle (with_item at new tree)) ≡ rank (subtree_on side handle tree)
-      = ap (λ (subtree : Shape T). rank subtree) near ∙ rank-with_item at new (subtree_on side handle tree) in
-      let ranks = has.ranks in
-      let live = has.live in
-      let count = occurs-with_item at new handle tree in
-      record {
-        live = omega arith;
-        entries_are = ap (λ (subtree : Shape T). entries subtree) near ∙ entries-with_item at new (subtree_on side handle tree) ∙ ap (set_item at new) has.entries_are;
-        ranks = omega arith;
-      }
+  HasOnSide-with_item at new tree handle side list most has = grind (arith, subtree_on-with_item, rank-with_item, occurs-with_item, entries-with_item, set_item)
 
   -- what the side of a node is made, and what stands around it in the list
   pub record MakesSide (new : Shape T) (above : ℕ) (side : Side) (front back : List (ℕ × T)) (most : ℕ) : Type 0 where

@@ -8,7 +8,7 @@ use Rattle.i_tree.specs.Rb.Balance.{is_black, is_black_colour, level_of}
 use Rattle.i_tree.specs.Rb.Context.{Frame, fork_on, plug}
 use Rattle.i_tree.specs.Rb.Rebalancing.{IsSubtree, IsBlackSubtree}
 use Rattle.i_tree.specs.Rb.Removal.{KeepsSubtree}
-use Rattle.i_tree.specs.Rb.Shape.{Shape, leaf, fork, top, entries, black_levels}
+use Rattle.i_tree.specs.Rb.Shape.{Shape, fork, top, entries, black_levels}
 use Rattle.i_tree.proofs.RbLemmas.Shape.Contexts.{plug-append}
 use Rattle.i_tree.proofs.RbLemmas.Balance.Ranks.{is_black-fork_on}
 use Rattle.i_tree.proofs.RbLemmas.Balance.Frames.{IsSubtree-from_black, IsSubtree-red, IsBlackSubtree-black}
@@ -34,40 +34,23 @@ module _ {T : Type 0} where
   Subtrees-of Right colour before handle item after = record { inner = after; item = item; outer = before; is = refl }
 
   pub Subtrees-black : (side : Side) (tree : Shape T) (levels : ℕ) → is_black tree ≡ true → black_levels tree ≡ levels + 1 → Subtrees side Black tree (top tree)
-  Subtrees-black side leaf levels black deep = absurd (omega arith)
-  Subtrees-black side (fork Red before handle item after) levels black deep = cc
-  Subtrees-black side (fork Black before handle item after) levels black deep = Subtrees-of side Black before handle item after
+  Subtrees-black side tree levels black deep = grind (arith, Subtrees-of)
 
   pub Subtrees-red : (side : Side) (tree : Shape T) → is_black tree ≡ false → Subtrees side Red tree (top tree)
-  Subtrees-red side leaf red = cc
-  Subtrees-red side (fork Red before handle item after) red = Subtrees-of side Red before handle item after
-  Subtrees-red side (fork Black before handle item after) red = cc
+  Subtrees-red side tree red = grind (arith, Subtrees-of)
 
   pub IsSubtree-below_black : {near far : Shape T} (side : Side) (handle : ℕ) (item : T) (levels : ℕ) → IsSubtree (levels + 1) (fork_on side Black near handle item far)
       → IsSubtree levels near × IsSubtree levels far
-  IsSubtree-below_black Left handle item levels subtree =
-      (record { balanced = subtree.balanced.0; deep = omega (arith, subtree.deep) }, record { balanced = subtree.balanced.1; deep = omega (arith, subtree.deep, subtree.balanced.2) })
-  IsSubtree-below_black Right handle item levels subtree =
-      (record { balanced = subtree.balanced.1; deep = omega (arith, subtree.deep, subtree.balanced.2) }, record { balanced = subtree.balanced.0; deep = omega (arith, subtree.deep) })
+  IsSubtree-below_black side handle item levels subtree = grind arith
 
   pub IsSubtree-below_red : {near far : Shape T} (side : Side) (handle : ℕ) (item : T) (levels : ℕ) → IsSubtree levels (fork_on side Red near handle item far)
       → IsBlackSubtree levels near × IsBlackSubtree levels far
-  IsSubtree-below_red Left handle item levels subtree = (
-    record { balanced = subtree.balanced.0; deep = subtree.deep; black = subtree.balanced.3.0 },
-    record { balanced = subtree.balanced.1; deep = omega (arith, subtree.deep, subtree.balanced.2); black = subtree.balanced.3.1 },
-  )
-  IsSubtree-below_red Right handle item levels subtree = (
-    record { balanced = subtree.balanced.1; deep = omega (arith, subtree.deep, subtree.balanced.2); black = subtree.balanced.3.1 },
-    record { balanced = subtree.balanced.0; deep = subtree.deep; black = subtree.balanced.3.0 },
-  )
+  IsSubtree-below_red side handle item levels subtree = grind arith
 
   -- a node of any colour over black subtrees
   pub IsSubtree-over : {levels : ℕ} {near far : Shape T} (side : Side) (colour : Colour) (handle : ℕ) (item : T) → IsBlackSubtree levels near → IsBlackSubtree levels far
       → IsSubtree (levels + level_of colour) (fork_on side colour near handle item far)
-  IsSubtree-over side Red handle item near_subtree far_subtree =
-      let subtree = IsSubtree-red side handle item near_subtree far_subtree in
-      record { balanced = subtree.balanced; deep = omega (arith, subtree.deep) }
-  IsSubtree-over side Black handle item near_subtree far_subtree = IsSubtree-from_black (IsBlackSubtree-black side handle item (IsSubtree-from_black near_subtree) (IsSubtree-from_black far_subtree))
+  IsSubtree-over side colour handle item near_subtree far_subtree = grind (arith, IsSubtree-red, IsSubtree-from_black, IsBlackSubtree-black)
 
   pub black_over : (side : Side) (colour : Colour) (near : Shape T) (handle : ℕ) (item : T) (far : Shape T) → colour ≡ Black → is_black (fork_on side colour near handle item far) ≡ true
   black_over side colour near handle item far black = is_black-fork_on side colour near handle item far ∙ ap is_black_colour black

@@ -57,9 +57,4 @@ module _ {S T : Type 0} {Made : S → S → Counts → Type 0} (law : Accumulate
 
   -- the path has ended
   pub asked_all : (old new : S) (rest : Shape T) → rest ≡ leaf → Holds → IsAsked Made May Holds first old new rest → AsksAlong Made May old new first
-  asked_all old new rest empty holds so_far =
-      record {
-        made = so_far.made;
-        counted = so_far.counted;
-        asked = λ passes answers. omega (arith, so_far.asked holds passes answers, ap (λ subtree. length (way_by passes subtree)) empty);
-      }
+  asked_all old new rest empty holds so_far = grind arith

@@ -27,17 +27,7 @@ module _ {S : Type 0} (Made : S → S → Counts → Type 0) where
 
 -- a search that has come to no key that compares Equal
 pub searches_past : {S : Type 0} {Made : S → S → Counts → Type 0} (old new : S) (entries : ℕ) {IsStored IsMissing : Type 0} → (IsStored → ⊥) → Searches Made old new entries 0 0 → SearchesFor Made old new entries IsStored IsMissing
-searches_past old new entries missing searched =
-    record {
-      made = searched.made;
-      counted = searched.counted;
-      compares = searched.compares;
-      tests = omega (arith, searched.tests);
-      tests_one = λ stored. absurd (missing stored);
-      tests_none = λ _. omega (arith, searched.tests);
-      removals = searched.removals;
-      rotations = omega (arith, searched.rotations);
-    }
+searches_past old new entries missing searched = grind arith
 
 module _ {S : Type 0} {Made : S → S → Counts → Type 0} (law : Accumulates Made) where
   pub compared_none : (state : S) (most left : ℕ) → left ≤ most → IsCompared Made state state most left
@@ -57,15 +47,7 @@ module _ {S : Type 0} {Made : S → S → Counts → Type 0} (law : Accumulates 
 
   -- the search has ended, where the rank was that of the tree at first
   pub compared_all : {T : Type 0} (tree : Shape T) (old new : S) (left : ℕ) → IsCore tree → IsCompared Made old new (rank tree) left → Searches Made old new (length (entries tree)) 0 0
-  compared_all tree old new left core so_far =
-      record {
-        made = so_far.made;
-        counted = so_far.counted;
-        compares = λ levels small. let bound = core.bounded levels small in omega (arith, so_far.compares, bound);
-        tests = omega (arith, so_far.tests);
-        removals = so_far.removals;
-        rotations = omega (arith, so_far.rotations);
-      }
+  compared_all tree old new left core so_far = grind arith
 
   -- a search that has found a key that compares Equal, and then one test
   pub searches_at : (old mid new : S) (entries : ℕ) {IsStored IsMissing : Type 0} → (IsMissing → ⊥) → Searches Made old mid entries 0 0 → Made mid new one_test → SearchesFor Made old new entries IsStored IsMissing
@@ -127,15 +109,7 @@ module _ {S : Type 0} {Made : S → S → Counts → Type 0} (law : Accumulates 
 
   -- the way has ended, where the rank was that of the core at first
   pub counted_all : {T : Type 0} (tree : Shape T) (old new : S) (left stored : ℕ) → IsCore tree → IsCounted Made old new (rank tree) left (length (entries tree)) stored → Descends Made old new (length (entries tree)) stored 0
-  counted_all tree old new left stored core so_far =
-      record {
-        made = so_far.made;
-        counted = so_far.counted;
-        compares = λ levels small. let bound = core.bounded levels small in omega (arith, so_far.compares, bound);
-        tests = so_far.tests;
-        rotations = omega (arith, so_far.rotations);
-        stores = omega (arith, so_far.stores);
-      }
+  counted_all tree old new left stored core so_far = grind arith
 
   -- an entry has joined after a descent
   pub counted_join : (old mid new : S) (entries stored stored' : ℕ) → Descends Made old mid entries stored 0 → OnlyRotates Made mid new 2 → stored' ≡ stored + 1 → Descends Made old new entries stored' 1

@@ -1,5 +1,5 @@
 -- A descent of a tree: what stands in front of the subtree that it has come to, what stands behind it, and what was found so far.
-use Rattle.std.proofs.Common.{◌≡◌, ◌≢◌, ℕ, ◌<◌, Bool, true, false, List, [], ◌∷◌, ◌++◌, if◌then◌else◌, refl, sym, ap, ◌∙◌, subst, inl, inr, append_assoc}
+use Rattle.std.proofs.Common.{arith, ◌≡◌, ◌≢◌, ℕ, ◌<◌, Bool, true, false, List, [], ◌∷◌, ◌++◌, if◌then◌else◌, refl, sym, ap, ◌∙◌, subst, inl, inr, append_assoc}
 use Rattle.std.proofs.lemmas.List.{append-nil}
 use Rattle.std.proofs.lemmas.Bool.{ne_eqb}
 use Rattle.i_tree.proofs.RbLemmas.Shape.SubtreeHandles.{RanksFall-subtree, ranks_below}
@@ -35,14 +35,10 @@ module _ {T : Type 0} where
 
   module _ (tree : Shape T) (here : ℕ) (item : T) (subtrees : entries (subtree_at here tree) ≡ entries (left_at here tree) ++ (here, item) ∷ entries (right_at here tree)) where
     pub falls_left : (next : ℕ) → RanksFall tree → subtree_at next tree ≡ left_at here tree → rank (subtree_at next tree) < rank (subtree_at here tree)
-    falls_left next falls is =
-        let below = ranks_below (subtree_at here tree) (entries (left_at here tree)) (here, item) (entries (right_at here tree)) (RanksFall-subtree here tree falls) subtrees in
-        rw is below.0
+    falls_left next falls is = grind (arith, ranks_below, RanksFall-subtree)
 
     pub falls_right : (next : ℕ) → RanksFall tree → subtree_at next tree ≡ right_at here tree → rank (subtree_at next tree) < rank (subtree_at here tree)
-    falls_right next falls is =
-        let below = ranks_below (subtree_at here tree) (entries (left_at here tree)) (here, item) (entries (right_at here tree)) (RanksFall-subtree here tree falls) subtrees in
-        rw is below.1
+    falls_right next falls is = grind (arith, ranks_below, RanksFall-subtree)
 
     module _ {front back : List (ℕ × T)} (at : IsCutAt tree here front back) where
       pub cut_here : entries tree ≡ (front ++ entries (left_at here tree)) ++ (here, item) ∷ (entries (right_at here tree) ++ back)
@@ -116,28 +112,13 @@ module _ {T : Type 0} where
         }
 
     path_left : HoldsThen ((here, item) ∷ (entries (right_at here tree) ++ way.back)) → IsPath Finds HoldsThen nothing tree left (Below here Left) found
-    path_left holds =
-        let back = entries (right_at here tree) ++ way.back in
-        record {
-          front = way.front;
-          back = (here, item) ∷ back;
-          at = goes_left tree here item subtrees way.at left on_left.live on_left.is;
-          of = (way.at.live some, sym on_left.is, (item, back, refl));
-          before = way.before;
-          after = holds;
-        }
+    path_left holds = grind (arith, goes_left)
 
     pub path_on : (passed : Bool) (next : ℕ) (found' : A) → IsChosen passed right left next
         → (passed ≡ true → Finds (here, item) found') → (passed ≡ false → found' ≡ found)
         → (passed ≡ true → (back : List (ℕ × T)) → HoldsBehind back → HoldsThen back) → (passed ≡ false → (back : List (ℕ × T)) → HoldsThen ((here, item) ∷ back))
         → IsPath Finds HoldsThen nothing tree next (place_below here passed) found'
-    path_on true next found' chosen finds stays holds misses =
-        subst (λ (place : Place). IsPath Finds HoldsThen nothing tree next place found') (sym (place_below-some here true some))
-        (subst (λ (child : ℕ). IsPath Finds HoldsThen nothing tree child (Below here Right) found') (sym (chosen.0 refl)) (path_right found' (finds refl) (holds refl way.back way.after)))
-    path_on false next found' chosen finds stays holds misses =
-        subst (λ (place : Place). IsPath Finds HoldsThen nothing tree next place found') (sym (place_below-some here false some))
-        (subst (λ (child : ℕ). IsPath Finds HoldsThen nothing tree child (Below here Left) found') (sym (chosen.1 refl))
-        (subst (λ (value : A). IsPath Finds HoldsThen nothing tree left (Below here Left) value) (sym (stays refl)) (path_left (misses refl (entries (right_at here tree) ++ way.back)))))
+    path_on passed next found' chosen finds stays holds misses = grind (arith, place_below-some, path_right, path_left)
 
   -- either way the rank falls
   module _ (tree : Shape T) (here : ℕ) (item : T) (subtrees : entries (subtree_at here tree) ≡ entries (left_at here tree) ++ (here, item) ∷ entries (right_at here tree)) (falls : RanksFall tree)

@@ -1,5 +1,5 @@
 -- Facts on entries, by the keys of their items and by their handles.
-use Rattle.std.proofs.Common.{◌≡◌, ℕ, List, [], ◌∷◌, ◌++◌, sym, ap, ◌∙◌, ⊎_elim}
+use Rattle.std.proofs.Common.{arith, ◌≡◌, ℕ, List, [], ◌∷◌, ◌++◌}
 use Rattle.std.specs.Cmp.{IsTotalOrder}
 use Rattle.std.specs.List.{All}
 use Rattle.std.specs.declared.cmp.Ordering.{Ordering}
@@ -26,8 +26,4 @@ module _ {V : Type 0} where
 
   -- a list that loses the pair at a handle loses its value, and no other one
   pub values-LosesAt : (handle : ℕ) (front back after : List (ℕ × V)) → LosesAt handle front back after → items_of after ≡ items_of front ++ items_of back
-  values-LosesAt handle front back after =
-      ⊎_elim
-      (λ is. ap items_of is ∙ values-append front back)
-      (λ (next, item, rest, back_is, after_is).
-      ap items_of after_is ∙ values-append front ((handle, item) ∷ rest) ∙ ap (λ pairs. items_of front ++ items_of pairs) (sym back_is))
+  values-LosesAt handle front back after = grind (arith, values-append)

@@ -1,21 +1,21 @@
 -- A new key among keys that rise.
-use Rattle.std.proofs.Common.{◌≡◌, ℕ, List, [], ◌∷◌, ◌++◌, length, refl, sym, ap, ◌∙◌, subst, arith, append_assoc, length-append}
+use Rattle.std.proofs.Common.{◌≡◌, ℕ, List, [], ◌∷◌, ◌++◌, length, refl, sym, ap, ◌∙◌, arith, length-append}
 use Rattle.std.proofs.Math.Seq.{take-append_seam, drop-append_seam}
 use Rattle.std.specs.Cmp.{IsTotalOrder}
 use Rattle.std.specs.List.{All, AllPairs, insert}
 use Rattle.std.specs.declared.cmp.Ordering.{Ordering}
 use Rattle.std.specs.declared.cmp.Ordering.TheVariants.{Less}
 use Rattle.std.proofs.lemmas.List.{map-append}
+use Rattle.std.proofs.lemmas.Grind.{common_steps}
 use Rattle.i_tree.proofs.RootLemmas.Joined.{All-front, All-behind, AllPairs-front, AllPairs-behind, AllPairs-joined, All-from_end, All-from_start}
 use Rattle.i_tree.proofs.RbLemmas.SearchPath.Entries.{IsBelow, StartsIn-with}
 use Rattle.i_tree.specs.Root.Ends.{LastFinds, StartsIn}
 use Rattle.i_tree.specs.Root.Change.{Joins}
 use Rattle.i_tree.specs.Rb.Items.{items_of}
 use Rattle.i_tree.specs.Rb.Context.{beside}
-use Rattle.i_tree.specs.Rb.Place.{IsPlaceOf, IsPlaceBetween}
-use Rattle.i_tree.specs.Rb.Shape.{Shape, leaf, entries}
+use Rattle.i_tree.specs.Rb.Place.{IsPlaceBetween}
+use Rattle.i_tree.specs.Rb.Shape.{Shape, entries}
 use Rattle.i_tree.specs.declared.rb.links.Side.{Side}
-use Rattle.i_tree.specs.declared.rb.links.Side.TheVariants.{Left, Right}
 use Rattle.i_tree.specs.declared.rb.place.Place.{Place}
 use Rattle.i_tree.specs.declared.rb.place.Place.TheVariants.{Root, Below}
 
@@ -64,20 +64,7 @@ module _ {V : Type 0} (tree : Shape V) (place : Place) (old new : List (ℕ × V
   pub joined_below : (parent : ℕ) (side : Side) → place ≡ Below parent side
       → ((front : List (ℕ × V)) (at : V) (back : List (ℕ × V)) → old ≡ front ++ (parent, at) ∷ back → new ≡ front ++ beside side (handle, value) (parent, at) back)
       → (front back : List (ℕ × V)) → IsPlaceBetween tree front back place → new ≡ front ++ (handle, value) ∷ back
-  joined_below parent Left is says front back between =
-      let free = subst (IsPlaceOf tree leaf front back) is between.free in
-      let back_is = free.2.2 in
-      says front free.2.0 free.2.1 (old_is ∙ between.cut ∙ ap (λ pairs. front ++ pairs) back_is) ∙ ap (λ pairs. front ++ (handle, value) ∷ pairs) (sym back_is)
-  joined_below parent Right is says front back between =
-      let free = subst (IsPlaceOf tree leaf front back) is between.free in
-      let rest = free.2.0 in
-      let last : ℕ × V = (parent, free.2.1) in
-      let front_is = free.2.2 in
-      says rest free.2.1 back (old_is ∙ between.cut ∙ ap (λ pairs. pairs ++ back) front_is ∙ append_assoc rest (last ∷ []) back)
-      ∙ sym (append_assoc rest (last ∷ []) ((handle, value) ∷ back))
-      ∙ ap (λ pairs. pairs ++ (handle, value) ∷ back) (sym front_is)
+  joined_below parent side is says front back between = grind (arith, common_steps)
 
   pub joined_root : place ≡ Root → new ≡ (handle, value) ∷ [] → (front back : List (ℕ × V)) → IsPlaceBetween tree front back place → new ≡ front ++ (handle, value) ∷ back
-  joined_root is says front back between =
-      let free = subst (IsPlaceOf tree leaf front back) is between.free in
-      says ∙ ap (λ pairs. (handle, value) ∷ pairs) (sym free.2) ∙ ap (λ pairs. pairs ++ (handle, value) ∷ back) (sym free.1)
+  joined_root is says front back between = grind arith

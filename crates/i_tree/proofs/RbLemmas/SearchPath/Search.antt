@@ -1,5 +1,5 @@
 -- A search that removes nothing.
-use Rattle.std.proofs.Common.{◌≡◌, ◌≢◌, ℕ, Bool, true, false, not, List, [], ◌∷◌, ◌++◌, refl, sym, ap, ◌∙◌, subst, inl, inr, append_assoc}
+use Rattle.std.proofs.Common.{arith, ◌≡◌, ◌≢◌, ℕ, Bool, true, false, not, List, [], ◌∷◌, ◌++◌, sym, ap, ◌∙◌, subst, inl, inr, append_assoc}
 use Rattle.std.specs.Borrow.{Bor}
 use Rattle.std.specs.Cmp.{IsTotalOrder}
 use Rattle.std.specs.List.{All, AllPairs}
@@ -32,14 +32,10 @@ takes_item {T} MayAsk pairs front handle item back is takes =
 
 -- the test whether an answer isn't Greater
 not_above : (answer : Ordering) → is_le answer ≡ true → is_gt answer ≡ false
-not_above Less test = refl
-not_above Equal test = refl
-not_above Greater test = cc
+not_above answer test = grind arith
 
 above_only : (answer : Ordering) → is_le answer ≡ false → answer ≡ Greater
-above_only Less test = cc
-above_only Equal test = cc
-above_only Greater test = refl
+above_only answer test = grind arith
 
 -- what a selection takes
 abbrev pub IsSelected : {X : Type 0} → Bool → X → X → X → Type 0
@@ -47,9 +43,7 @@ IsSelected takes_first first other selected = (takes_first ≡ true → selected
 
 -- a test that passes is one whose answer isn't Greater
 pub le-not_gt : (answer : Ordering) → is_le answer ≡ not (is_gt answer)
-le-not_gt Less = refl
-le-not_gt Equal = refl
-le-not_gt Greater = refl
+le-not_gt answer = grind arith
 
 -- From an entry that was asked about, a search goes on: what holds of the entries behind it then, it holds where the entry passed,
 -- and where it was called Greater.
@@ -74,18 +68,14 @@ module _ {T : Type 0} (May : T → Ordering → Type 0) (HoldsBehind HoldsThen :
 
 -- the tests whether an answer is Equal
 pub equal_from : (r : Ordering) → is_eq r ≡ true → r ≡ Equal
-equal_from Less test = cc
-equal_from Equal test = refl
-equal_from Greater test = cc
+equal_from r test = grind arith
 
 pub not_equal_from : (r : Ordering) → is_eq r ≡ false → r ≢ Equal
 not_equal_from r test equal = both_ways (is_eq r) test (ap is_eq equal)
 
 -- what is not called Greater and isn't Equal either
 pub less_left : (r : Ordering) → is_gt r ≡ false → r ≢ Equal → r ≡ Less
-less_left Less test differs = refl
-less_left Equal test differs = absurd (differs refl)
-less_left Greater test differs = cc
+less_left r test differs = grind arith
 
 -- A search by how the keys stand to one has come to its place.
 module _ {K T : Type 0} (key_of : T → K) {cmp : K → K → Ordering} (o : IsTotalOrder cmp) (key : K) (tree : Shape T) (place : Place) (found : ℕ) (said : Ordering)

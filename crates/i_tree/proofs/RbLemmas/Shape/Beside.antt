@@ -4,7 +4,7 @@ use Rattle.i_tree.specs.declared.TheConstants.{EMPTY_REF}
 use Rattle.i_tree.specs.declared.rb.links.Colour.{Colour}
 use Rattle.i_tree.specs.declared.rb.links.Side.{Side}
 use Rattle.i_tree.specs.declared.rb.links.Side.TheVariants.{Left, Right}
-use Rattle.i_tree.specs.Rb.Shape.{Shape, leaf, fork, top, entries, subtree_at, left_subtree, right_subtree, first_handle, last_handle, occurs, one_if_same, IsHandle, AreHandles}
+use Rattle.i_tree.specs.Rb.Shape.{Shape, leaf, fork, top, entries, subtree_at, left_subtree, right_subtree, first_handle, last_handle, occurs, IsHandle, AreHandles}
 use Rattle.i_tree.specs.Rb.Context.{Frame, fork_on, fill, plug, hole_parent, other_side, subtree_on}
 use Rattle.i_tree.specs.Rb.Neighbours.{next_handle}
 use Rattle.i_tree.proofs.RbLemmas.Shape.Contexts.{Cut, cut_at, one_if_same-same, occurs-plug, occurs-fork_on, before_hole, after_hole, own_before, own_after, top-fork_on}
@@ -62,30 +62,12 @@ module _ {T : Type 0} where
   -- where no frame is left, nothing is next on either side
   pub nothing_next : (side : Side) (tree : Shape T) (around : List (Frame T)) (subtree : Shape T) → AreHandles tree → tree ≡ plug around subtree → EMPTY_REF ≡ hole_parent around
       → next_to_hole side around ≡ EMPTY_REF
-  nothing_next Left tree [] subtree handles is at = refl
-  nothing_next Right tree [] subtree handles is at = refl
-  nothing_next side tree (frame ∷ rest) subtree handles is at =
-      let count : occurs EMPTY_REF tree ≡ occurs EMPTY_REF (plug rest (fill frame subtree)) = ap (occurs EMPTY_REF) is in
-      let outer = occurs-plug EMPTY_REF rest (fill frame subtree) in
-      let inner = occurs-fork_on EMPTY_REF frame.side frame.colour subtree frame.handle frame.item frame.sibling in
-      let here = ap (λ handle. one_if_same EMPTY_REF handle) at in
-      let one = one_if_same-same EMPTY_REF in
-      let none = handles.none_empty in
-      absurd (omega arith)
+  nothing_next side tree around subtree handles is at = grind (arith, occurs-fork_on, one_if_same-same, occurs-plug)
 
   -- no subtree of a node has the top of the other
   tops_apart : (tree : Shape T) (rest : List (Frame T)) (side : Side) (colour : Colour) (subtree : Shape T) (own : ℕ) (item : T) (sibling : Shape T)
       → AreHandles tree → tree ≡ plug rest (fork_on side colour subtree own item sibling) → IsHandle tree (top subtree) → top sibling ≢ top subtree
-  tops_apart tree rest side colour subtree own item sibling handles is live same =
-      let apart = live-not_empty tree (top subtree) handles live in
-      let one = live-top subtree apart in
-      let other = live-top sibling (λ empty. apart (sym same ∙ empty)) in
-      let moved : occurs (top sibling) sibling ≡ occurs (top subtree) sibling = ap (λ handle. occurs handle sibling) same in
-      let count : occurs (top subtree) tree ≡ occurs (top subtree) (plug rest (fork_on side colour subtree own item sibling)) = ap (occurs (top subtree)) is in
-      let outer = occurs-plug (top subtree) rest (fork_on side colour subtree own item sibling) in
-      let inner = occurs-fork_on (top subtree) side colour subtree own item sibling in
-      let once = handles.apart (top subtree) in
-      absurd (omega arith)
+  tops_apart tree rest side colour subtree own item sibling handles is live same = grind (arith, live-not_empty, same, occurs-plug, occurs-fork_on, live-top)
 
   -- what a read of the parent's subtree on the side says
   abbrev IsTopBelow : Side → Shape T → ℕ → ℕ → Type 0

@@ -1,5 +1,5 @@
 -- A subtree of a tree inside its frames: what stands in the whole, and where a handle is.
-use Rattle.std.proofs.Common.{◌≡◌, ◌≢◌, ℕ, ◌+◌, ◌<◌, ◌≤◌, ◌⊎◌, inl, inr, Bool, true, false, eqb, cond, List, [], ◌∷◌, ◌++◌, zero, suc, append-nil, refl, sym, ap, ◌∙◌, subst, append_assoc, arith, length, length-append}
+use Rattle.std.proofs.Common.{◌≡◌, ◌≢◌, ℕ, ◌+◌, ◌<◌, ◌≤◌, ◌⊎◌, Bool, true, false, eqb, cond, List, [], ◌∷◌, ◌++◌, append-nil, refl, sym, ap, ◌∙◌, subst, append_assoc, arith, length, length-append}
 use Rattle.std.proofs.lemmas.Bool.{eqb-true, eqb-false, eq-eqb}
 use Rattle.i_tree.specs.declared.rb.links.Colour.{Colour}
 use Rattle.i_tree.specs.declared.rb.links.Side.{Side}
@@ -9,13 +9,6 @@ use Rattle.i_tree.specs.Rb.Context.{Frame, fork_on, fill, plug, other_side}
 
 pub one_if_same-same : (handle : ℕ) → one_if_same handle handle ≡ 1
 one_if_same-same handle = ap (λ b. cond b 1 0) (eq-eqb handle handle refl)
-
-pub one_if_same-other : (first second : ℕ) → first ≢ second → one_if_same first second ≡ 0
-one_if_same-other first second apart = by_test (eqb first second) refl
-  where
-    by_test : (b : Bool) → eqb first second ≡ b → one_if_same first second ≡ 0
-    by_test true is = absurd (apart (eqb-true first second is))
-    by_test false is = ap (λ t. cond t 1 0) is
 
 -- the test is one of the two
 pub one_if_same-cases : (first second : ℕ) → (one_if_same first second ≡ 0 → first ≢ second) × (0 < one_if_same first second → first ≡ second)
@@ -28,9 +21,7 @@ one_if_same-cases first second = by_test (eqb first second) refl
 -- a handle of a node is its own, or stands in one of its subtrees
 pub occurs_where : (own handle before after : ℕ) (Goal : Type 0) → 0 < before + one_if_same handle own + after
     → (0 < before → Goal) → (handle ≡ own → Goal) → (0 < after → Goal) → Goal
-occurs_where own handle (suc _) after Goal some in_before here in_after = in_before (omega arith)
-occurs_where own handle zero (suc _) Goal some in_before here in_after = in_after (omega arith)
-occurs_where own handle zero zero Goal some in_before here in_after = here ((one_if_same-cases handle own).1 (omega arith))
+occurs_where own handle before after Goal some in_before here in_after = grind (arith, one_if_same-cases)
 
 pub eqb-apart : (first second : ℕ) → first ≢ second → eqb first second ≡ false
 eqb-apart first second apart = by_test (eqb first second) refl
@@ -45,10 +36,7 @@ other_other Left = refl
 other_other Right = refl
 
 pub same_or_other : (side other : Side) → (other ≡ side) ⊎ (other ≡ other_side side)
-same_or_other Left Left = inl refl
-same_or_other Left Right = inr refl
-same_or_other Right Left = inr refl
-same_or_other Right Right = inl refl
+same_or_other side other = grind arith
 
 module _ {T : Type 0} where
   -- how often the handle stands in the frames
@@ -96,9 +84,8 @@ module _ {T : Type 0} where
   pub occurs-plug : (wanted : ℕ) (around : List (Frame T)) (subtree : Shape T) → occurs wanted (plug around subtree) ≡ occurs_around wanted around + occurs wanted subtree
   occurs-plug wanted [] subtree = omega arith
   occurs-plug wanted (frame ∷ around) subtree =
-      let inner = occurs-fork_on wanted frame.side frame.colour subtree frame.handle frame.item frame.sibling in
       let outer = occurs-plug wanted around (fill frame subtree) in
-      omega arith
+      omega (arith, occurs-fork_on wanted frame.side frame.colour subtree frame.handle frame.item frame.sibling)
 
   pub entries-fork_on : (side : Side) (colour : Colour) (near : Shape T) (handle : ℕ) (item : T) (far : Shape T) →
       entries (fork_on side colour near handle item far) ≡ own_before side (handle, item) (entries far) ++ (entries near ++ own_after side (handle, item) (entries far))
@@ -175,13 +162,7 @@ module _ {T : Type 0} where
 
   pub subtree_at-fork_on : (wanted : ℕ) (side : Side) (shade : Colour) (near : Shape T) (own : ℕ) (item : T) (far : Shape T) → one_if_same wanted own + occurs wanted far ≡ 0
       → subtree_at wanted (fork_on side shade near own item far) ≡ subtree_at wanted near
-  subtree_at-fork_on wanted Left shade near own item far none =
-      subtree_at-below wanted shade near own item far ((one_if_same-cases wanted own).0 (omega arith))
-      ∙ ap (λ tree. or_else (subtree_at wanted near) tree) (subtree_at-none wanted far (omega arith))
-      ∙ or_else-leaf (subtree_at wanted near)
-  subtree_at-fork_on wanted Right shade near own item far none =
-      subtree_at-below wanted shade far own item near ((one_if_same-cases wanted own).0 (omega arith))
-      ∙ ap (λ tree. or_else tree (subtree_at wanted near)) (subtree_at-none wanted far (omega arith))
+  subtree_at-fork_on wanted side shade near own item far none = grind (arith, subtree_at-below, one_if_same-cases, subtree_at-none, or_else-leaf)
 
   -- a handle that isn't in the frames is found inside them
   pub subtree_at-plug : (around : List (Frame T)) (handle : ℕ) (subtree : Shape T) → occurs_around handle around ≡ 0 → subtree_at handle (plug around subtree) ≡ subtree_at handle subtree
@@ -194,29 +175,14 @@ module _ {T : Type 0} where
   pub subtree_at-cut : (around : List (Frame T)) (shade : Colour) (before : Shape T) (handle : ℕ) (item : T) (after : Shape T)
       → occurs handle (plug around (fork shade before handle item after)) ≤ 1
       → subtree_at handle (plug around (fork shade before handle item after)) ≡ fork shade before handle item after
-  subtree_at-cut around shade before handle item after once =
-      let total = occurs-plug handle around (fork shade before handle item after) in
-      let own = one_if_same-same handle in
-      subtree_at-plug around handle (fork shade before handle item after) (omega arith) ∙ subtree_at-here shade before handle item after
+  subtree_at-cut around shade before handle item after once = grind (arith, occurs-plug, one_if_same-same, subtree_at-plug, subtree_at-here)
 
   -- in a list where an item stands once, it is in one place
   pub same_cut : (handle : ℕ) (front back front' back' : List (ℕ × T)) (item item' : T) → occurs_among handle (front ++ (handle, item) ∷ back) ≤ 1
       → front ++ (handle, item) ∷ back ≡ front' ++ (handle, item') ∷ back' → (front ≡ front') × (item ≡ item') × (back ≡ back')
-  same_cut handle [] back [] back' item item' once same =
-      let Pair : Type 0 = ℕ × T in
-      let pair : ◌≡◌ {A = Pair} (handle, item) (handle, item') = cc in
-      (refl, ap (λ (entry : ℕ × T). entry.1) pair, cc)
-  same_cut handle [] back (first ∷ front') back' item item' once same =
-      let rest : back ≡ front' ++ (handle, item') ∷ back' = cc in
-      let again = ap (λ list. occurs_among handle list) rest ∙ occurs_among-append handle front' ((handle, item') ∷ back') in
-      let own = one_if_same-same handle in
-      absurd (omega arith)
-  same_cut handle (first ∷ front) back [] back' item item' once same =
-      let head : first ≡ (handle, item') = cc in
-      let own = ap (λ (entry : ℕ × T). one_if_same handle entry.0) head ∙ one_if_same-same handle in
-      let again = occurs_among-append handle front ((handle, item) ∷ back) in
-      let other = one_if_same-same handle in
-      absurd (omega arith)
+  same_cut handle [] back [] back' item item' once same = grind arith
+  same_cut handle [] back (first ∷ front') back' item item' once same = grind (arith, occurs_among-append, one_if_same-same)
+  same_cut handle (first ∷ front) back [] back' item item' once same = grind (arith, occurs_among-append, one_if_same-same)
   same_cut handle (first ∷ front) back (other ∷ front') back' item item' once same =
       let head : first ≡ other = cc in
       let rest : front ++ (handle, item) ∷ back ≡ front' ++ (handle, item') ∷ back' = cc in

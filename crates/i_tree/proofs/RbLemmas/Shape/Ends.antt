@@ -38,9 +38,7 @@ module _ {T : Type 0} where
   -- a node ends on the side as its subtree there does
   end_near : (side : Side) (colour : Colour) (near : Shape T) (handle : ℕ) (item : T) (far : Shape T) → 0 < length (entries near)
       → end_handle side (entries near) ≡ end_handle side (entries (fork_on side colour near handle item far))
-  end_near Left colour near handle item far some = sym (first_handle-of_append (entries near) ((handle, item) ∷ entries far) some)
-  end_near Right colour near handle item far some =
-      sym (last_handle-append (entries far) (handle, item) (entries near) ∙ last_handle-of_append ((handle, item) ∷ []) (entries near) some)
+  end_near side colour near handle item far some = grind (arith, first_handle-of_append, last_handle-append, last_handle-of_append)
 
   -- or with its own entry
   end_own : (side : Side) (colour : Colour) (handle : ℕ) (item : T) (far : Shape T) → end_handle side (entries (fork_on side colour leaf handle item far)) ≡ handle

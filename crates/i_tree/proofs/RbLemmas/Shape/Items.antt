@@ -1,6 +1,5 @@
 -- A tree in which an item is replaced keeps its handles and its balance.
 use Rattle.std.proofs.Common.{◌≡◌, ℕ, ◌+◌, refl, sym, ap, ◌∙◌, arith}
-use Rattle.i_tree.specs.declared.TheConstants.{EMPTY_REF}
 use Rattle.i_tree.specs.declared.rb.links.Colour.{Colour}
 use Rattle.i_tree.specs.declared.rb.links.Colour.TheVariants.{Red, Black}
 use Rattle.i_tree.specs.Rb.Shape.{Shape, leaf, fork, occurs, black_levels, with_item, AreHandles}
@@ -35,9 +34,4 @@ module _ {T : Type 0} (at : ℕ) (item : T) where
   )
 
   pub AreHandles-with_item : (tree : Shape T) → AreHandles tree → AreHandles (with_item at item tree)
-  AreHandles-with_item tree handles =
-      record {
-        apart = λ handle. omega (arith, occurs-with_item handle tree, handles.apart handle);
-        none_empty = occurs-with_item EMPTY_REF tree ∙ handles.none_empty;
-        none_reserved = occurs-with_item 0 tree ∙ handles.none_reserved;
-      }
+  AreHandles-with_item tree handles = grind (arith, occurs-with_item)

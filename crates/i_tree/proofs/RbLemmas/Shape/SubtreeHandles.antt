@@ -122,13 +122,8 @@ module _ {V : Type 0} where
       → occurs_among wanted (front ++ (wanted, value) ∷ back) ≤ 1 → front ++ (wanted, value) ∷ back ≡ front_too ++ (wanted, value_too) ∷ back_too → value ≡ value_too
   same_value wanted [] value back [] value_too back_too once same =
       let first : (wanted, value) ≡ (wanted, value_too) = cc in ap (λ (pair : ℕ × V). pair.1) first
-  same_value wanted [] value back (pair ∷ front_too) value_too back_too once same =
-      let rest : back ≡ front_too ++ (wanted, value_too) ∷ back_too = cc in
-      absurd (omega (arith, once, one_from_same wanted wanted refl, ap (occurs_among wanted) rest, occurs_among-middle wanted front_too value_too back_too))
-  same_value wanted (pair ∷ front) value back [] value_too back_too once same =
-      let rest : front ++ (wanted, value) ∷ back ≡ back_too = cc in
-      let first : pair ≡ (wanted, value_too) = cc in
-      absurd (omega (arith, once, one_from_same wanted pair.0 (sym (ap (λ (other : ℕ × V). other.0) first)), occurs_among-middle wanted front value back))
+  same_value wanted [] value back (pair ∷ front_too) value_too back_too once same = grind (arith, one_from_same, occurs_among, occurs_among-middle)
+  same_value wanted (pair ∷ front) value back [] value_too back_too once same = grind (arith, one_from_same, occurs_among-middle)
   same_value wanted (pair ∷ front) value back (other ∷ front_too) value_too back_too once same =
       let rest : front ++ (wanted, value) ∷ back ≡ front_too ++ (wanted, value_too) ∷ back_too = cc in
       same_value wanted front value back front_too value_too back_too (omega (arith, once)) rest

@@ -6,13 +6,9 @@ use Rattle.i_tree.specs.declared.rb.links.Side.{Side}
 use Rattle.i_tree.specs.declared.rb.links.Side.TheVariants.{Left, Right}
 use Rattle.i_tree.specs.Rb.Shape.{Shape, leaf, fork, top, entries, subtree_at, left_subtree, right_subtree, left_at, right_at, first_handle, last_handle, occurs, IsHandle, AreHandles}
 use Rattle.i_tree.specs.Rb.Context.{Frame, fork_on, plug, subtree_on}
-use Rattle.i_tree.proofs.RbLemmas.Shape.Contexts.{Cut, cut_at, one_if_same-same, occurs-plug, subtree_at-here, subtree_at-none, subtree_at-cut, before_hole, after_hole, entries-plug, same_cut, occurs_among-entries, occurs_among}
+use Rattle.i_tree.proofs.RbLemmas.Shape.Contexts.{Cut, cut_at, one_if_same-same, occurs-plug, subtree_at-none, subtree_at-cut, before_hole, after_hole, entries-plug, same_cut, occurs_among-entries, occurs_among}
 
 module _ {T : Type 0} where
-  pub subtree_at-top : (tree : Shape T) → subtree_at (top tree) tree ≡ tree
-  subtree_at-top leaf = refl
-  subtree_at-top (fork shade before own item after) = subtree_at-here shade before own item after
-
   pub live-top : (tree : Shape T) → top tree ≢ EMPTY_REF → IsHandle tree (top tree)
   live-top leaf apart = absurd (apart refl)
   live-top (fork shade before own item after) apart = let here = one_if_same-same own in omega arith
@@ -30,20 +26,13 @@ module _ {T : Type 0} where
 
   pub live-subtree : (around : List (Frame T)) (subtree : Shape T) → top subtree ≢ EMPTY_REF → IsHandle (plug around subtree) (top subtree)
   live-subtree around subtree apart =
-      let inside = live-top subtree apart in
-      let total = occurs-plug (top subtree) around subtree in
-      omega arith
+      omega (arith, occurs-plug (top subtree) around subtree, live-top subtree apart)
 
   pub IsTopOf-subtree : (tree : Shape T) (around : List (Frame T)) (subtree : Shape T) → tree ≡ plug around subtree → AreHandles tree → IsTopOf tree (top subtree) subtree
-  IsTopOf-subtree tree around subtree is handles =
-      let P : Shape T → Type 0 = λ whole. AreHandles whole → IsTopOf whole (top subtree) subtree in
-      let whole : P (plug around subtree) = λ inner. record { value = refl; at = subtree_at-subtree around subtree inner; live = live-subtree around subtree } in
-      subst P (sym is) whole handles
+  IsTopOf-subtree tree around subtree is handles = grind (arith, subtree_at-subtree, live-subtree)
 
   pub IsTopOf-root : (tree : Shape T) (root : ℕ) → AreHandles tree → root ≡ top tree → IsTopOf tree root tree
-  IsTopOf-root tree root handles root_is =
-      let P : ℕ → Type 0 = λ handle. IsTopOf tree handle tree in
-      subst P (sym root_is) (IsTopOf-subtree tree [] tree refl handles)
+  IsTopOf-root tree root handles root_is = grind (arith, IsTopOf-subtree)
 
   -- where there is no handle, the subtree is empty
   pub IsTopOf-none : (tree : Shape T) (handle : ℕ) (subtree : Shape T) → AreHandles tree → IsTopOf tree handle subtree → handle ≡ EMPTY_REF → subtree ≡ leaf
@@ -59,9 +48,7 @@ module _ {T : Type 0} where
   -- the subtrees at a handle are those of its node
   pub subtree_at-of_cut : (tree : Shape T) (handle : ℕ) → AreHandles tree → (cut : Cut tree handle)
       → subtree_at handle tree ≡ fork cut.colour cut.before handle cut.item cut.after
-  subtree_at-of_cut tree handle handles cut =
-      let P : Shape T → Type 0 = λ whole. occurs handle whole ≤ 1 → subtree_at handle whole ≡ fork cut.colour cut.before handle cut.item cut.after in
-      subst P (sym cut.is) (subtree_at-cut cut.around cut.colour cut.before handle cut.item cut.after) (handles.apart handle)
+  subtree_at-of_cut tree handle handles cut = grind (arith, subtree_at-cut)
 
   -- a node of the tree, seen from one side
   pub record SideCut (tree : Shape T) (handle : ℕ) (side : Side) : Type 0 where
@@ -149,15 +136,8 @@ module _ {T : Type 0} where
       let whole : entries tree ≡ before_hole cut.around ++ (entries node ++ after_hole cut.around) = ap (λ (subtree : Shape T). entries subtree) cut.is ∙ entries-plug cut.around node in
       let cuts : before_hole cut.around ++ (entries node ++ after_hole cut.around)
       ≡ (before_hole cut.around ++ entries cut.before) ++ (handle, cut.item) ∷ (entries cut.after ++ after_hole cut.around) = simp append_assoc in
-      let count : occurs_among handle (entries tree) ≡ occurs_among handle (front ++ (handle, item) ∷ back) = ap (occurs_among handle) is in
-      let total = occurs_among-entries handle tree in
-      let apart = handles.apart handle in
       same_cut handle front back (before_hole cut.around ++ entries cut.before) (entries cut.after ++ after_hole cut.around) item cut.item
-      (omega arith) (sym is ∙ whole ∙ cuts)
+      (omega (arith, handles.apart handle, occurs_among-entries handle tree, ap (occurs_among handle) is)) (sym is ∙ whole ∙ cuts)
 
   pub length-subtree : (tree : Shape T) (around : List (Frame T)) (subtree : Shape T) → tree ≡ plug around subtree → length (entries subtree) ≤ length (entries tree)
-  length-subtree tree around subtree is =
-      let whole : length (entries tree) ≡ length (before_hole around ++ (entries subtree ++ after_hole around)) = ap (λ (shape : Shape T). length (entries shape)) is ∙ ap length (entries-plug around subtree) in
-      let outer = length-append (before_hole around) (entries subtree ++ after_hole around) in
-      let inner = length-append (entries subtree) (after_hole around) in
-      omega arith
+  length-subtree tree around subtree is = grind (arith, length-append, before_hole, after_hole, entries-plug)

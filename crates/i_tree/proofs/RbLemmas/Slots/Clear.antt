@@ -1,5 +1,5 @@
 -- The core is cleared: the descent to a node without subtrees, and what is left where that node is gone.
-use Rattle.std.proofs.Common.{◌≡◌, ◌≢◌, ℕ, ◌+◌, List, [], ◌∷◌, length, refl, sym, ap, ◌∙◌, subst, length-append, arith}
+use Rattle.std.proofs.Common.{◌≡◌, ◌≢◌, ℕ, ◌+◌, List, length, refl, sym, ap, ◌∙◌, subst, length-append, arith}
 use Rattle.i_tree.specs.declared.TheConstants.{EMPTY_REF}
 use Rattle.i_tree.specs.declared.rb.links.Colour.{Colour}
 use Rattle.i_tree.specs.declared.rb.links.Side.TheVariants.{Left}
@@ -37,28 +37,11 @@ module _ {T : Type 0} where
 
   fewer_without : (around : List (Frame T)) (colour : Colour) (gone : ℕ) (item : T)
       → length (entries (plug around leaf)) + 1 ≡ length (entries (plug around (fork colour leaf gone item leaf)))
-  fewer_without around colour gone item =
-      let empty : Shape T = leaf in
-      let outer = length-append (before_hole around) (after_hole around) in
-      let inner = length-append (before_hole around) ((gone, item) ∷ after_hole around) in
-      let without = ap length (entries-plug around empty) in
-      let with_it = ap length (entries-plug around (fork colour leaf gone item leaf)) in
-      omega arith
+  fewer_without around colour gone item = grind (arith, length-append, before_hole, after_hole, entries-plug)
 
   lost_inside : (around : List (Frame T)) (colour : Colour) (gone : ℕ) (item : T) (new : Shape T) → AreHandles new → new ≡ plug around leaf
       → HasLost (plug around (fork colour leaf gone item leaf)) new (hole_parent around)
-  lost_inside [] colour gone item new handles is = record {
-    live = λ some. absurd (some refl);
-    ended = λ _. is;
-    fewer = let count = ap (λ (tree : Shape T). length (entries tree)) is in omega arith;
-  }
-  lost_inside (frame ∷ rest) colour gone item new handles is =
-      let live : IsHandle new frame.handle = IsHandle-at new rest frame.side frame.colour leaf frame.handle frame.item frame.sibling is in
-      record {
-        live = λ _. live;
-        ended = λ none. absurd (live-not_empty new frame.handle handles live none);
-        fewer = let count = ap (λ (tree : Shape T). length (entries tree)) is in omega (arith, fewer_without (frame ∷ rest) colour gone item);
-      }
+  lost_inside around colour gone item new handles is = grind (arith, IsHandle-at, live-not_empty, fewer_without)
 
   pub HasLost-detached : (old new : Shape T) (gone parent : ℕ) → AreHandles new → (childless : IsChildless old gone)
       → ((around : List (Frame T)) (subtree : Shape T) → old ≡ plug around subtree → top subtree ≡ gone → parent ≡ hole_parent around)

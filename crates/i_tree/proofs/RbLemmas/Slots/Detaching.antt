@@ -1,5 +1,5 @@
 -- A node with one subtree is taken out of the slots: its subtree takes its place, and its slot stands before the free ones.
-use Rattle.std.proofs.Common.{◌≡◌, ◌≢◌, ℕ, ◌+◌, ◌≤◌, List, [], ◌∷◌, ◌++◌, Option, Some, length, slice_get, get_or, take, drop, refl, sym, ap, ◌∙◌, subst, length-append, arith}
+use Rattle.std.proofs.Common.{◌≡◌, ◌≢◌, ℕ, ◌+◌, ◌≤◌, List, [], ◌∷◌, ◌++◌, Some, length, slice_get, get_or, take, drop, refl, sym, ap, ◌∙◌, subst, length-append, arith}
 use Rattle.std.proofs.lemmas.Option.{slice_get_within, slice_get-get_or}
 use Rattle.i_tree.specs.declared.TheConstants.{EMPTY_REF}
 use Rattle.i_tree.specs.declared.rb.links.Colour.{Colour}
@@ -9,8 +9,8 @@ use Rattle.i_tree.specs.declared.rb.links.Side.TheVariants.{Left, Right}
 use Rattle.i_tree.specs.declared.rb.links.Slot.{Slot}
 use Rattle.i_tree.specs.declared.rb.links.Slot.TheVariants.{Free, Used}
 use Rattle.i_tree.specs.Rb.Context.{Frame, fork_on, plug, hole_parent, HasOneSubtree}
-use Rattle.i_tree.specs.Rb.Shape.{Shape, leaf, fork, top, entries, occurs, one_if_same}
-use Rattle.i_tree.specs.Rb.Slots.{slot_links, links_of, IsUsed, IsAt, IsSound, one_if_slot}
+use Rattle.i_tree.specs.Rb.Shape.{Shape, leaf, top, entries, occurs, one_if_same}
+use Rattle.i_tree.specs.Rb.Slots.{links_of, IsUsed, IsAt, IsSound, one_if_slot}
 use Rattle.i_tree.specs.Rb.Rotation.{Rehangs, Reparents}
 use Rattle.i_tree.proofs.RbLemmas.Shape.Contexts.{one_if_same-same, occurs_around, occurs-fork_on, occurs-plug, top-fork_on, length-plug}
 use Rattle.i_tree.proofs.RbLemmas.Slots.Layout.{links_on, one_if_slot-le, IsAround, IsAt-from_fork_on, IsAt-from_plug, IsAt-plug, IsAt-same, IsAround-same, AreHandles-sound, IsChain-same}
@@ -31,17 +31,11 @@ module _ {T : Type 0} where
   -- the item of a node is the one that was read
   pub read_item : (slots : List (Slot T)) (handle : ℕ) (read : Slot T) (found links : Links) (held item : T) → get_or slots handle read ≡ Used found held
       → slice_get slots handle ≡ Some (Used links item) → held ≡ item
-  read_item slots handle read found links held item is at =
-      let both : ◌≡◌ {A = Option (Slot T)} (Some (Used found held)) (Some (Used links item)) =
-      sym (slice_get-get_or slots handle read (slice_get_within slots handle (Used links item) at) ∙ ap Some is) ∙ at in cc
+  read_item slots handle read found links held item is at = grind (arith, slice_get-get_or, slice_get_within)
 
   pub taken_is : (side : Side) (above taken : ℕ) (shade : Colour) (subtree : Shape T) → occurs EMPTY_REF subtree ≡ 0
       → OnlySubtree (links_on side above (top subtree) EMPTY_REF shade) taken → taken ≡ top subtree
-  taken_is Left above taken shade leaf none only = only.none refl
-  taken_is Left above taken shade (fork other before own item after) none only =
-      let here = one_if_same-same own in
-      only.some (λ same. let moved = ap (λ handle. occurs handle (fork other before own item after)) same in omega arith)
-  taken_is Right above taken shade subtree none only = only.none refl
+  taken_is side above taken shade subtree none only = grind (arith, one_if_same-same)
 
   pub size-one : (side : Side) (colour : Colour) (subtree : Shape T) (handle : ℕ) (item : T) → length (entries (fork_on side colour subtree handle item leaf)) ≡ length (entries subtree) + 1
   size-one Left colour subtree handle item = omega (arith, length-append (entries subtree) ((handle, item) ∷ []))
@@ -86,10 +80,7 @@ module _ {T : Type 0} where
   -- what the code read of the node
   pub links_alone : (slots : List (Slot T)) (around : List (Frame T)) (side : Side) (colour : Colour) (subtree : Shape T) (handle : ℕ) (item : T) (links : Links)
       → Alone slots around side colour subtree handle item → links_of slots handle ≡ Some links → links ≡ links_on side (hole_parent around) (top subtree) EMPTY_REF colour
-  links_alone slots around side colour subtree handle item links lies read =
-      let Node : Links = links_on side (hole_parent around) (top subtree) EMPTY_REF colour in
-      let linked : links_of slots handle ≡ Some Node = ap slot_links lies.own in
-      let same : Some Node ≡ Some links = sym linked ∙ read in cc
+  links_alone slots around side colour subtree handle item links lies read = grind (arith, links_on)
 
   pub parent_alone : (slots : List (Slot T)) (around : List (Frame T)) (side : Side) (colour : Colour) (subtree : Shape T) (handle : ℕ) (item : T) (links : Links)
       → Alone slots around side colour subtree handle item → links_of slots handle ≡ Some links → links.parent ≡ hole_parent around
@@ -98,9 +89,7 @@ module _ {T : Type 0} where
 
   pub taken_alone : (slots : List (Slot T)) (around : List (Frame T)) (side : Side) (colour : Colour) (subtree : Shape T) (handle : ℕ) (item : T) (links : Links) (taken : ℕ)
       → Alone slots around side colour subtree handle item → links_of slots handle ≡ Some links → OnlySubtree links taken → taken ≡ top subtree
-  taken_alone slots around side colour subtree handle item links taken lies read only =
-      let Read : Links → Type 0 = λ l. OnlySubtree l taken in
-      taken_is side (hole_parent around) taken colour subtree (omega (arith, lies.none)) (subst Read (links_alone slots around side colour subtree handle item links lies read) only)
+  taken_alone slots around side colour subtree handle item links taken lies read only = grind (arith, taken_is, links_alone)
 
   -- the frames have the subtree in their hole
   pub hung_alone : (s0 s1 : List (Slot T)) (root new_root : ℕ) (around : List (Frame T)) (side : Side) (colour : Colour) (subtree : Shape T) (handle : ℕ) (item : T)
@@ -165,25 +154,16 @@ module _ {T : Type 0} where
   pub rehangs_alone : (s0 s1 : List (Slot T)) (root new_root : ℕ) (around : List (Frame T)) (side : Side) (colour : Colour) (subtree : Shape T) (handle : ℕ) (item : T) (links : Links) (taken : ℕ)
       → Alone s0 around side colour subtree handle item → links_of s0 handle ≡ Some links → OnlySubtree links taken
       → Rehangs s0 s1 root new_root links.parent handle taken → Rehangs s0 s1 root new_root (hole_parent around) handle (top subtree)
-  rehangs_alone s0 s1 root new_root around side colour subtree handle item links taken lies read only rehangs =
-      let Above : ℕ → Type 0 = λ parent. Rehangs s0 s1 root new_root parent handle (top subtree) in
-      let Other : ℕ → Type 0 = λ other. Rehangs s0 s1 root new_root links.parent handle other in
-      subst Above (parent_alone s0 around side colour subtree handle item links lies read) (subst Other (taken_alone s0 around side colour subtree handle item links taken lies read only) rehangs)
+  rehangs_alone s0 s1 root new_root around side colour subtree handle item links taken lies read only rehangs = grind (arith, parent_alone, taken_alone)
 
   pub reparents_alone : (s0 s1 s2 : List (Slot T)) (around : List (Frame T)) (side : Side) (colour : Colour) (subtree : Shape T) (handle : ℕ) (item : T) (links : Links) (taken : ℕ)
       → Alone s0 around side colour subtree handle item → links_of s0 handle ≡ Some links → OnlySubtree links taken
       → Reparents s1 s2 taken links.parent → Reparents s1 s2 (top subtree) (hole_parent around)
-  reparents_alone s0 s1 s2 around side colour subtree handle item links taken lies read only moves =
-      let Above : ℕ → Type 0 = λ parent. Reparents s1 s2 (top subtree) parent in
-      let Other : ℕ → Type 0 = λ other. Reparents s1 s2 other links.parent in
-      subst Above (parent_alone s0 around side colour subtree handle item links lies read) (subst Other (taken_alone s0 around side colour subtree handle item links taken lies read only) moves)
+  reparents_alone s0 s1 s2 around side colour subtree handle item links taken lies read only moves = grind (arith, parent_alone, taken_alone)
 
   pub hung_used : (s0 : List (Slot T)) (around : List (Frame T)) (side : Side) (colour : Colour) (subtree : Shape T) (handle : ℕ) (item : T) (links : Links)
       → Alone s0 around side colour subtree handle item → links_of s0 handle ≡ Some links → links.parent ≢ EMPTY_REF → IsUsed s0 links.parent
-  hung_used s0 around side colour subtree handle item links lies read some =
-      let parent_is = parent_alone s0 around side colour subtree handle item links lies read in
-      let Used_at : ℕ → Type 0 = λ other. IsUsed s0 other in
-      subst Used_at (sym parent_is) (IsUsed-hole s0 around handle lies.held (λ same. some (parent_is ∙ same)))
+  hung_used s0 around side colour subtree handle item links lies read some = grind (arith, parent_alone, IsUsed-hole)
 
   pub subtree_used : (s0 s1 : List (Slot T)) (root new_root : ℕ) (around : List (Frame T)) (side : Side) (colour : Colour) (subtree : Shape T) (handle : ℕ) (item : T) (links : Links) (taken : ℕ)
       → Alone s0 around side colour subtree handle item → links_of s0 handle ≡ Some links → OnlySubtree links taken

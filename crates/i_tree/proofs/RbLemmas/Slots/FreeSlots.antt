@@ -36,9 +36,7 @@ module _ {T : Type 0} where
   read_free slots handle next read found free is = slice_get-get_or slots handle read (slice_get_within slots handle (Free next) free) ∙ ap Some is
 
   pub read_not_used : (slots : List (Slot T)) (handle next : ℕ) (read : Slot T) (links : Links) (item : T) → slice_get slots handle ≡ Some (Free next) → get_or slots handle read ≡ Used links item → ⊥
-  read_not_used slots handle next read links item free is =
-      let used : slice_get slots handle ≡ Some (Used links item) = slice_get-get_or slots handle read (slice_get_within slots handle (Free next) free) ∙ ap Some is in
-      let both : ◌≡◌ {A = Option (Slot T)} (Some (Free next)) (Some (Used links item)) = sym free ∙ used in cc
+  read_not_used slots handle next read links item free is = grind (arith, slice_get-get_or, slice_get_within)
 
   -- the first free slot, and the chain behind it
   pub record Head (slots : List (Slot T)) (first free : ℕ) (tree : Shape T) : Type 0 where
@@ -73,9 +71,7 @@ module _ {T : Type 0} where
 
   pub head_not_reserved : (slots : List (Slot T)) (first free : ℕ) (tree : Shape T) → Head slots first free tree → 0 ≢ first
   head_not_reserved slots first free tree head same =
-      let at_zero : occurs 0 tree + (one_if_same 0 first + occurs_in 0 head.rest) ≡ 0 = head.each_once 0 in
-      let own : one_if_same 0 first ≡ 1 = ap (one_if_same 0) (sym same) ∙ one_if_same-same 0 in
-      omega arith
+      omega (arith, ap (one_if_same 0) (sym same) ∙ one_if_same-same 0, head.each_once 0)
 
   pub same_next : (slots : List (Slot T)) (handle next other : ℕ) → slice_get slots handle ≡ Some (Free next) → slice_get slots handle ≡ Some (Free other) → next ≡ other
   same_next slots handle next other first second =
@@ -88,10 +84,7 @@ module _ {T : Type 0} where
 
   pub sound_back : (slots new : List (Slot T)) (root first free : ℕ) (tree : Shape T) → slots ≡ new → IsSound new root first free tree
       → IsSound slots root first free (read_tree slots (length slots) root)
-  sound_back slots new root first free tree is sound =
-      let Read : Shape T → Type 0 = λ other. IsSound slots root first free other in
-      let Placed : List (Slot T) → Type 0 = λ list. IsSound list root first free tree in
-      subst Read (sym (read_back slots new root first free tree is sound)) (subst Placed (sym is) sound)
+  sound_back slots new root first free tree is sound = grind (arith, read_back)
 
   -- a black node in the first free slot, in the empty tree
   pub sound-rooted : (old new : List (Slot T)) (root first next free : ℕ) (item : T) → IsSound old root first free leaf → 0 < free

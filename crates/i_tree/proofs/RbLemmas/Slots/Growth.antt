@@ -1,5 +1,5 @@
 -- Slots that are added to the arena: the tree stays, and the new slots are free.
-use Rattle.std.proofs.Common.{◌≡◌, ℕ, zero, suc, ◌+◌, ◌-◌, ◌<◌, ◌≤◌, List, [], ◌∷◌, ◌++◌, Some, length, slice_get, refl, sym, ap, ◌∙◌, subst, lit≤, arith}
+use Rattle.std.proofs.Common.{◌≡◌, ℕ, zero, suc, ◌+◌, ◌-◌, ◌<◌, ◌≤◌, List, [], ◌∷◌, ◌++◌, Some, length, slice_get, refl, sym, ap, ◌∙◌, subst, arith}
 use Rattle.std.proofs.lemmas.Bool.Decides.{nat_tests}
 use Rattle.i_tree.specs.declared.TheConstants.{EMPTY_REF}
 use Rattle.i_tree.specs.declared.rb.links.Slot.{Slot}
@@ -21,10 +21,7 @@ slice_get-append_end (y ∷ xs) zero x is = absurd (omega arith)
 slice_get-append_end (y ∷ xs) (suc i) x is = slice_get-append_end xs i x (omega arith)
 
 pub with_numbers-more : (first number : ℕ) (others : List ℕ) → first ≤ number → with_numbers first (number + 1 - first) others ≡ number ∷ with_numbers first (number - first) others
-with_numbers-more first number others below =
-    let next : number + 1 - first ≡ suc (number - first) = omega arith in
-    let greatest : first + (number - first) ≡ number = omega arith in
-    ap (λ n. with_numbers first n others) next ∙ ap (λ n. n ∷ with_numbers first (number - first) others) greatest
+with_numbers-more first number others below = grind arith
 
 pub length-with_numbers : (first count : ℕ) (others : List ℕ) → length (with_numbers first count others) ≡ count + length others
 length-with_numbers first zero others = omega arith
@@ -96,17 +93,7 @@ module _ {T : Type 0} where
 
   -- the reserved slot alone
   pub sound_first : IsSound {T = T} (Free EMPTY_REF ∷ []) EMPTY_REF EMPTY_REF 0 leaf
-  sound_first = record {
-    at = tt;
-    root_is = refl;
-    chain = [];
-    linked = refl;
-    counted = refl;
-    each_once = λ handle. sym (one_if_slot-first handle);
-    total = refl;
-    few = lit≤ tt;
-    reserved = refl;
-  }
+  sound_first = grind (arith, one_if_slot-first)
 
   -- the slots of an arena without nodes
   pub sound-made : (old new : List (Slot T)) (first size count : ℕ) → old ≡ Free EMPTY_REF ∷ [] → Keeps old new

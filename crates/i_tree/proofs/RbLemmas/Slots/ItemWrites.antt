@@ -1,5 +1,5 @@
 -- An item of a node in its slot is changed.
-use Rattle.std.proofs.Common.{◌≡◌, ℕ, Bool, true, false, eqb, cond, List, ◌∷◌, Some, length, slice_get, slice_set, get_or, is_some, IsSome, refl, sym, ap, ◌∙◌, subst, length-append, arith}
+use Rattle.std.proofs.Common.{◌≡◌, ℕ, Bool, eqb, cond, List, ◌∷◌, Some, length, slice_get, slice_set, get_or, is_some, IsSome, refl, sym, ap, ◌∙◌, length-append, arith}
 use Rattle.std.proofs.lemmas.Bool.{eqb-true, eqb-false}
 use Rattle.std.proofs.lemmas.List.{length-set}
 use Rattle.std.proofs.lemmas.Option.{slice_get_within, slice_get-get_or}
@@ -51,18 +51,7 @@ module _ {T : Type 0} where
 
       by_test : (test : Bool) → eqb handle own ≡ test → slice_get (slice_set slots handle (Used links item)) own
           ≡ Some (Used (record { parent = above; left = top (with_item handle item before); right = top (with_item handle item after); colour = shade }) (cond (eqb handle own) item was))
-      by_test true is =
-          let Old : Links = record { parent = above; left = top before; right = top after; colour = shade } in
-          let here = eqb-true handle own is in
-          let wrote = slice_get-set_same slots handle (Used links item) (slice_get_within slots handle (Used links held) used) in
-          let both : Some (Used links held) ≡ Some (Used Old was) = sym used ∙ ap (slice_get slots) here ∙ at.0 in
-          let linked : links ≡ Old = cc in
-          ap (slice_get (slice_set slots handle (Used links item))) (sym here) ∙ wrote ∙ ap (λ (l : Links). Some (Used l item)) (linked ∙ same_links)
-          ∙ ap (λ (b : Bool). Some (Used (record { parent = above; left = top (with_item handle item before); right = top (with_item handle item after); colour = shade }) (cond b item was))) (sym is)
-      by_test false is =
-          let apart = eqb-false handle own is in
-          slice_get-set_other slots handle own (Used links item) (λ same. apart (sym same)) ∙ at.0 ∙ ap (λ (l : Links). Some (Used l was)) same_links
-          ∙ ap (λ (b : Bool). Some (Used (record { parent = above; left = top (with_item handle item before); right = top (with_item handle item after); colour = shade }) (cond b item was))) (sym is)
+      by_test test is = grind (arith, eqb-true, slice_get-set_same, slice_get_within, same_links, eqb-false, slice_get-set_other)
 
   pub sound-item : (slots : List (Slot T)) (root first_free free handle : ℕ) (links : Links) (held item : T) (tree : Shape T) → IsSound slots root first_free free tree
       → IsHandle tree handle → slice_get slots handle ≡ Some (Used links held)
@@ -88,10 +77,7 @@ module _ {T : Type 0} where
   pub sound-lent : (slots : List (Slot T)) (root first_free free handle : ℕ) (slot : Slot T) (item : T) (tree : Shape T) → IsSound slots root first_free free tree
       → IsHandle tree handle → slot ≡ get_or slots handle slot
       → IsSound (slice_set slots handle (with_slot_item slot item)) root first_free free (with_item handle item tree)
-  sound-lent slots root first_free free handle slot item tree sound live is =
-      let held = slot_live slots root first_free free handle slot tree sound live is in
-      let Sound : Slot T → Type 0 = λ left. IsSound (slice_set slots handle (with_slot_item left item)) root first_free free (with_item handle item tree) in
-      subst Sound (sym held.1) (sound-item slots root first_free free handle held.0.links held.0.item item tree sound live held.0.is)
+  sound-lent slots root first_free free handle slot item tree sound live is = grind (arith, slot_live, sound-item)
 
   pub used_lent : (slots : List (Slot T)) (root first_free free handle : ℕ) (slot : Slot T) (tree : Shape T) → IsSound slots root first_free free tree
       → IsHandle tree handle → slot ≡ get_or slots handle slot → IsSome (slot_links (Some slot))
@@ -103,7 +89,6 @@ module _ {T : Type 0} where
       → IsHandle tree handle → slot ≡ get_or slots handle slot → slot_item slot ≡ Some lent → tree ≡ plug around (fork shade before handle item after) → lent ≡ item
   item_lent slots root first_free free handle slot lent tree around shade before item after sound live is lends cut =
       let held = slot_live slots root first_free free handle slot tree sound live is in
-      let same : Some held.0.item ≡ Some lent = sym (ap slot_item held.1) ∙ lends in
       let equal : lent ≡ held.0.item = cc in
       equal ∙ item_at slots root first_free free handle tree held.0.links held.0.item around shade before item after sound held.0.is cut
 
@@ -111,7 +96,4 @@ module _ {T : Type 0} where
   pub contents_lent : (was left : Shape T) (free handle : ℕ) (contents : Contents T) (item : T) → ◌≡◌ {A = Contents T} (record { shape = was; spare = free }) contents
       → left ≡ with_item handle item contents.shape
       → ◌≡◌ {A = Contents T} (record { shape = left; spare = free }) (record { shape = with_item handle item contents.shape; spare = contents.spare })
-  contents_lent was left free handle contents item view_is read =
-      let With : Shape T → Contents T = λ shape. record { shape = shape; spare = free } in
-      let Spare : ℕ → Contents T = λ spare. record { shape = with_item handle item contents.shape; spare = spare } in
-      ap With read ∙ ap Spare (ap (λ (c : Contents T). c.spare) view_is)
+  contents_lent was left free handle contents item view_is read = grind arith

@@ -154,11 +154,7 @@ module _ {T : Type 0} where
 
   -- handles of sound slots
   pub AreHandles-sound : (slots : List (Slot T)) (root first_free free : ℕ) (tree : Shape T) → IsSound slots root first_free free tree → AreHandles tree
-  AreHandles-sound slots root first_free free tree sound = record {
-    apart = λ handle. omega (arith, sound.each_once handle, one_if_slot-le (length slots) handle);
-    none_empty = omega (arith, sound.each_once EMPTY_REF, one_if_slot-past (length slots) EMPTY_REF sound.few);
-    none_reserved = omega (arith, sound.each_once 0);
-  }
+  AreHandles-sound slots root first_free free tree sound = grind (arith, one_if_slot-le, one_if_slot-past)
 
   -- sound slots are read as the tree that they hold
   pub read_sound : (slots : List (Slot T)) (root first_free free : ℕ) (tree : Shape T) → IsSound slots root first_free free tree

@@ -1,5 +1,5 @@
 -- What a reader of the arena finds in the slot of a node.
-use Rattle.std.proofs.Common.{◌≡◌, ◌≢◌, ℕ, zero, suc, ◌<◌, true, List, [], ◌∷◌, Some, length, slice_get, refl, sym, ap, ◌∙◌, subst, arith}
+use Rattle.std.proofs.Common.{◌≡◌, ◌≢◌, ℕ, zero, suc, ◌<◌, true, List, [], ◌∷◌, Some, length, slice_get, refl, sym, ap, ◌∙◌, arith}
 use Rattle.std.proofs.lemmas.Option.{slice_get_within}
 use Rattle.i_tree.specs.declared.TheConstants.{EMPTY_REF}
 use Rattle.i_tree.specs.declared.rb.links.Colour.{Colour}
@@ -12,7 +12,7 @@ use Rattle.i_tree.specs.Rb.Balance.{is_black, is_black_colour}
 use Rattle.i_tree.specs.Rb.Context.{Frame, fork_on, plug, hole_parent}
 use Rattle.i_tree.specs.Rb.RbTree.{Contents}
 use Rattle.i_tree.specs.Rb.Shape.{Shape, leaf, fork, top, occurs, one_if_same, IsHandle, AreHandles}
-use Rattle.i_tree.specs.Rb.Slots.{child_link, slot_links, links_of, IsUsed, IsAt, IsChain, IsSound, read_tree, occurs_in}
+use Rattle.i_tree.specs.Rb.Slots.{child_link, slot_links, links_of, IsUsed, IsChain, IsSound, read_tree, occurs_in}
 use Rattle.i_tree.proofs.RbLemmas.Shape.Contexts.{one_if_same-same, one_if_same-cases, occurs-plug}
 use Rattle.i_tree.proofs.RbLemmas.Slots.Layout.{one_if_slot-inside, links_on, IsAt-from_fork_on, IsAt-from_plug, IsUsed-live, AreHandles-sound}
 use Rattle.i_tree.proofs.RbLemmas.Slots.Writes.{not_free}
@@ -27,30 +27,21 @@ module _ {T : Type 0} where
       → IsSound slots root first_free free (read_tree slots (length slots) root)
       → ◌≡◌ {A = Contents T} (record { shape = read_tree slots (length slots) root; spare = spare }) contents
       → IsSound slots root first_free free contents.shape
-  IsSound-view slots root first_free free spare contents sound same =
-      let Sound : Contents T → Type 0 = λ other. IsSound slots root first_free free other.shape in
-      subst Sound same sound
+  IsSound-view slots root first_free free spare contents sound same = grind arith
 
   pub IsSound-as : (slots : List (Slot T)) (root first_free free : ℕ) (tree other : Shape T) → tree ≡ other → IsSound slots root first_free free tree → IsSound slots root first_free free other
-  IsSound-as slots root first_free free tree other same sound =
-      let Sound : Shape T → Type 0 = λ held. IsSound slots root first_free free held in
-      subst Sound same sound
+  IsSound-as slots root first_free free tree other same sound = grind arith
 
   -- the slot of a node in its frames
   pub node_at : (slots : List (Slot T)) (root first_free free : ℕ) (tree : Shape T) (around : List (Frame T)) (shade : Colour) (before : Shape T) (own : ℕ) (item : T) (after : Shape T)
       → IsSound slots root first_free free tree → tree ≡ plug around (fork shade before own item after)
       → slice_get slots own ≡ Some (Used (record { parent = hole_parent around; left = top before; right = top after; colour = shade }) item)
-  node_at slots root first_free free tree around shade before own item after sound is =
-      let Held : Shape T → Type 0 = λ other. IsAt slots EMPTY_REF other in
-      (IsAt-from_plug slots around (fork shade before own item after) (subst Held is sound.at)).1.0
+  node_at slots root first_free free tree around shade before own item after sound is = grind (arith, IsAt-from_plug)
 
   pub node_on : (slots : List (Slot T)) (root first_free free : ℕ) (tree : Shape T) (around : List (Frame T)) (side : Side) (shade : Colour) (near : Shape T) (own : ℕ) (item : T) (far : Shape T)
       → IsSound slots root first_free free tree → tree ≡ plug around (fork_on side shade near own item far)
       → slice_get slots own ≡ Some (Used (links_on side (hole_parent around) (top near) (top far) shade) item)
-  node_on slots root first_free free tree around side shade near own item far sound is =
-      let Held : Shape T → Type 0 = λ other. IsAt slots EMPTY_REF other in
-      let inside = IsAt-from_plug slots around (fork_on side shade near own item far) (subst Held is sound.at) in
-      (IsAt-from_fork_on slots (hole_parent around) side shade near own item far inside.1).0
+  node_on slots root first_free free tree around side shade near own item far sound is = grind (arith, IsAt-from_plug, IsAt-from_fork_on)
 
   pub IsUsed-sound : (slots : List (Slot T)) (root first_free free handle : ℕ) (tree : Shape T) → IsSound slots root first_free free tree → IsHandle tree handle → IsUsed slots handle
   IsUsed-sound slots root first_free free handle tree sound live = IsUsed-live slots EMPTY_REF handle tree sound.at live
@@ -59,10 +50,7 @@ module _ {T : Type 0} where
   pub top_links : (slots : List (Slot T)) (root first_free free handle : ℕ) (tree : Shape T) (links : Links) (around : List (Frame T)) (subtree : Shape T)
       → IsSound slots root first_free free tree → IsHandle tree handle → links_of slots handle ≡ Some links → tree ≡ plug around subtree → top subtree ≡ handle
       → (links.parent ≡ hole_parent around) × (is_black_colour links.colour ≡ is_black subtree)
-  top_links slots root first_free free handle tree links around leaf sound live read is here =
-      let none = (AreHandles-sound slots root first_free free tree sound).none_empty in
-      let moved = ap (λ other. occurs other tree) here in
-      absurd (omega arith)
+  top_links slots root first_free free handle tree links around leaf sound live read is here = grind (arith, AreHandles-sound)
   top_links slots root first_free free handle tree links around (fork shade before own item after) sound live read is here =
       let at = node_at slots root first_free free tree around shade before own item after sound is in
       let Node : Links = record { parent = hole_parent around; left = top before; right = top after; colour = shade } in
@@ -78,21 +66,13 @@ module _ {T : Type 0} where
       let at = node_on slots root first_free free tree around side shade near handle item far sound is in
       let Node : Links = links_on side (hole_parent around) (top near) (top far) shade in
       let linked : links_of slots handle ≡ Some Node = ap slot_links at in
-      let same : Some Node ≡ Some links = sym linked ∙ read in
       let equal : links ≡ Node = cc in
       ap (child_link side) equal ∙ child_link-on side (hole_parent around) (top near) (top far) shade
 
   -- no node has the handle that stands for none
   pub black_at_none : (tree : Shape T) (around : List (Frame T)) (subtree : Shape T) (handle : ℕ) → AreHandles tree → handle ≡ EMPTY_REF → tree ≡ plug around subtree → top subtree ≡ handle
       → is_black subtree ≡ true
-  black_at_none tree around leaf handle handles none is here = refl
-  black_at_none tree around (fork shade before own item after) handle handles none is here =
-      let total = occurs-plug EMPTY_REF around (fork shade before own item after) in
-      let moved = ap (occurs EMPTY_REF) is in
-      let own_is : own ≡ EMPTY_REF = here ∙ none in
-      let once = ap (λ other. one_if_same other own) (sym own_is) ∙ one_if_same-same own in
-      let never = handles.none_empty in
-      absurd (omega arith)
+  black_at_none tree around subtree handle handles none is here = grind (arith, one_if_same-same, occurs-plug)
 
   -- the item of a node in its frames
   pub item_at : (slots : List (Slot T)) (root first_free free handle : ℕ) (tree : Shape T) (links : Links) (held : T) (around : List (Frame T)) (shade : Colour) (before : Shape T) (item : T) (after : Shape T)

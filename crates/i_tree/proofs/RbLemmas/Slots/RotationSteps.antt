@@ -1,5 +1,5 @@
 -- For a rotation in slots: what each single write leaves of frames, subtrees and links.
-use Rattle.std.proofs.Common.{◌≡◌, ◌≢◌, ℕ, ◌+◌, ◌≤◌, List, [], ◌∷◌, Option, Some, is_some, slice_get, refl, sym, ap, ◌∙◌, append_assoc, arith}
+use Rattle.std.proofs.Common.{◌≡◌, ◌≢◌, ℕ, ◌+◌, ◌≤◌, List, [], ◌∷◌, Option, Some, is_some, slice_get, refl, ap, append_assoc, arith}
 use Rattle.i_tree.specs.declared.TheConstants.{EMPTY_REF}
 use Rattle.i_tree.specs.declared.rb.links.Colour.{Colour}
 use Rattle.i_tree.specs.declared.rb.links.Links.{Links}
@@ -52,9 +52,7 @@ module _ {T : Type 0} where
 
   -- no subtree has the top of another at its own top
   pub top-apart : (subtree : Shape T) (handle : ℕ) → occurs handle subtree ≡ 0 → handle ≢ EMPTY_REF → top subtree ≢ handle
-  top-apart leaf handle none some = λ same. some (sym same)
-  top-apart (fork shade before own item after) handle none some = λ same.
-      let here = one_if_same-same own in let moved = ap (λ h. occurs h (fork shade before own item after)) same in omega arith
+  top-apart subtree handle none some = grind (arith, one_if_same-same)
 
   -- a child of a node has another handle
   pub relinked : (old new : List (Slot T)) (side : Side) (parent above child other far : ℕ) (shade : Colour) (item : T)
@@ -91,10 +89,7 @@ module _ {T : Type 0} where
   pub rehung-root : (old new : List (Slot T)) (old_root new_root child other : ℕ) (around : List (Frame T)) (first second : Shape T)
       → Rehangs old new old_root new_root (hole_parent around) child other → occurs_around EMPTY_REF around ≡ 0 → old_root ≡ top (plug around first) → top second ≡ other
       → new_root ≡ top (plug around second)
-  rehung-root old new old_root new_root child other [] first second rehangs none root_is top_is = rehangs.root refl ∙ sym top_is
-  rehung-root old new old_root new_root child other (frame ∷ around) first second rehangs none root_is top_is =
-      let here = one_if_same-same frame.handle in
-      rehangs.same_root (λ same. let moved = ap (λ h. occurs_around h (frame ∷ around)) same in omega arith) ∙ root_is ∙ top-plug frame around first second
+  rehung-root old new old_root new_root child other around first second rehangs none root_is top_is = grind (arith, one_if_same-same, occurs_around, top-plug)
 
   -- a subtree that has another parent
   pub reparented : (old new : List (Slot T)) (above other : ℕ) (subtree : Shape T) → Reparents old new (top subtree) other

@@ -7,7 +7,7 @@ use Rattle.i_tree.specs.declared.rb.links.Slot.{Slot}
 use Rattle.i_tree.specs.declared.rb.links.Slot.TheVariants.{Used}
 use Rattle.i_tree.specs.Rb.Context.{fork_on, plug, other_side, hole_parent}
 use Rattle.i_tree.specs.Rb.Shape.{Shape, top, entries, occurs, one_if_same}
-use Rattle.i_tree.specs.Rb.Slots.{child_link, hung_links, slot_links, links_of, IsUsed, Relinks, IsAt, IsSound}
+use Rattle.i_tree.specs.Rb.Slots.{child_link, hung_links, links_of, IsUsed, Relinks, IsAt, IsSound}
 use Rattle.i_tree.specs.Rb.Rotation.{Rotation, unrotated, rotated, Rehangs, Reparents}
 use Rattle.i_tree.proofs.RbLemmas.Shape.Contexts.{one_if_same-same, occurs_around, occurs-fork_on, occurs-plug, top-fork_on}
 use Rattle.i_tree.proofs.RbLemmas.Slots.Layout.{links_on, IsAround, IsAt-from_fork_on, IsAt-fork_on, IsAt-from_plug, IsAt-plug, IsAt-same, IsAround-same, AreHandles-sound}
@@ -29,12 +29,7 @@ module _ {T : Type 0} {handle : ℕ} {side : Side} where
 
   pub occurs-rotation : (other : ℕ) (rotation : Rotation T handle side) → occurs other (plug rotation.around (unrotated rotation))
       ≡ occurs_around other rotation.around + one_if_same other handle + occurs other rotation.outer + one_if_same other rotation.raised + occurs other rotation.inner + occurs other rotation.far
-  occurs-rotation other rotation =
-      let whole = occurs-plug other rotation.around (unrotated rotation) in
-      let below : Shape T = fork_on side rotation.raised_colour rotation.inner rotation.raised rotation.raised_item rotation.far in
-      let node = occurs-fork_on other side rotation.colour rotation.outer handle rotation.item below in
-      let raised = occurs-fork_on other side rotation.raised_colour rotation.inner rotation.raised rotation.raised_item rotation.far in
-      omega arith
+  occurs-rotation other rotation = grind (arith, occurs-fork_on, occurs-plug)
 
   pub laid : (slots : List (Slot T)) (root first_free free : ℕ) (rotation : Rotation T handle side) → IsSound slots root first_free free (plug rotation.around (unrotated rotation)) → Laid slots rotation
   laid slots root first_free free rotation sound =
@@ -65,32 +60,16 @@ module _ {T : Type 0} {handle : ℕ} {side : Side} where
 
   pub links_found : (slots : List (Slot T)) (rotation : Rotation T handle side) (links : Links) → Laid slots rotation → links_of slots handle ≡ Some links
       → links ≡ links_on side (hole_parent rotation.around) (top rotation.outer) rotation.raised rotation.colour
-  links_found slots rotation links lies read =
-      let Node : Links = links_on side (hole_parent rotation.around) (top rotation.outer) rotation.raised rotation.colour in
-      let linked : links_of slots handle ≡ Some Node = ap slot_links lies.own in
-      let same : Some Node ≡ Some links = sym linked ∙ read in cc
+  links_found slots rotation links lies read = grind (arith, links_on)
 
   pub up_found : (slots : List (Slot T)) (rotation : Rotation T handle side) (links : Links) (up : ℕ) → Laid slots rotation → links_of slots handle ≡ Some links → up ≡ child_link (other_side side) links
       → up ≡ rotation.raised
-  up_found slots rotation links up lies read up_is =
-      up_is ∙ ap (child_link (other_side side)) (links_found slots rotation links lies read)
-      ∙ child_link-other side (hole_parent rotation.around) (top rotation.outer) rotation.raised rotation.colour
+  up_found slots rotation links up lies read up_is = grind (arith, links_found, child_link-other)
 
   pub found : (slots : List (Slot T)) (rotation : Rotation T handle side) (links : Links) (up : ℕ) (raised_links : Links) (low : ℕ) → Laid slots rotation
       → links_of slots handle ≡ Some links → up ≡ child_link (other_side side) links → links_of slots up ≡ Some raised_links → low ≡ child_link side raised_links
       → Found rotation links up raised_links low
-  found slots rotation links up raised_links low lies read up_read raised_read low_read =
-      let up_is = up_found slots rotation links up lies read up_read in
-      let Node : Links = links_on side handle (top rotation.inner) (top rotation.far) rotation.raised_colour in
-      let linked : links_of slots rotation.raised ≡ Some Node = ap slot_links lies.raised in
-      let same : Some Node ≡ Some raised_links = sym linked ∙ ap (links_of slots) (sym up_is) ∙ raised_read in
-      let raised_are : raised_links ≡ Node = cc in
-      record {
-        links_are = links_found slots rotation links lies read;
-        up_is = up_is;
-        raised_are = raised_are;
-        low_is = low_read ∙ ap (child_link side) raised_are ∙ child_link-on side handle (top rotation.inner) (top rotation.far) rotation.raised_colour;
-      }
+  found slots rotation links up raised_links low lies read up_read raised_read low_read = grind (arith, up_found, links_on, links_found, child_link-on)
 
   pub entries-rotation : (rotation : Rotation T handle side) → entries (rotated rotation) ≡ entries (unrotated rotation)
   entries-rotation rotation = entries-rotation_on side rotation.colour rotation.outer handle rotation.item rotation.raised_colour rotation.inner rotation.raised rotation.raised_item rotation.far
@@ -98,18 +77,12 @@ module _ {T : Type 0} {handle : ℕ} {side : Side} where
   -- the frames have the raised node in their hole, and the other slots are the same
   pub hung_at : (s0 s1 : List (Slot T)) (root new_root : ℕ) (rotation : Rotation T handle side) (links : Links) (up : ℕ) (raised_links : Links) (low : ℕ)
       → Found rotation links up raised_links low → Rehangs s0 s1 root new_root links.parent handle up → Rehangs s0 s1 root new_root (hole_parent rotation.around) handle rotation.raised
-  hung_at s0 s1 root new_root rotation links up raised_links low values rehangs =
-      let parent_is = ap (λ (l : Links). l.parent) values.links_are ∙ parent-on side (hole_parent rotation.around) (top rotation.outer) rotation.raised rotation.colour in
-      let Above : ℕ → Type 0 = λ parent. Rehangs s0 s1 root new_root parent handle rotation.raised in
-      let Other : ℕ → Type 0 = λ other. Rehangs s0 s1 root new_root links.parent handle other in
-      subst Above parent_is (subst Other values.up_is rehangs)
+  hung_at s0 s1 root new_root rotation links up raised_links low values rehangs = grind (arith, parent-on)
 
   pub hung : (s0 s1 : List (Slot T)) (root new_root : ℕ) (rotation : Rotation T handle side) (links : Links) (up : ℕ) (raised_links : Links) (low : ℕ) → Laid s0 rotation
       → Found rotation links up raised_links low → Rehangs s0 s1 root new_root links.parent handle up
       → IsAround s1 rotation.around rotation.raised × ((other : ℕ) → occurs_around other rotation.around ≡ 0 → slice_get s1 other ≡ slice_get s0 other)
-  hung s0 s1 root new_root rotation links up raised_links low lies values rehangs =
-      rehung s0 s1 root new_root handle rotation.raised rotation.around (hung_at s0 s1 root new_root rotation links up raised_links low values rehangs) lies.around
-      (λ other. let once = lies.once other in omega arith) (let none = lies.none in omega arith)
+  hung s0 s1 root new_root rotation links up raised_links low lies values rehangs = grind (arith, rehung, hung_at)
 
   pub used_hung : (s0 s1 : List (Slot T)) (root new_root : ℕ) (rotation : Rotation T handle side) (links : Links) (up : ℕ) (raised_links : Links) (low : ℕ) → Laid s0 rotation
       → Found rotation links up raised_links low → Rehangs s0 s1 root new_root links.parent handle up → IsUsed s1 handle
@@ -169,38 +142,19 @@ module _ {T : Type 0} {handle : ℕ} {side : Side} where
   pub lowered_links : (rotation : Rotation T handle side) (links : Links) (up : ℕ) (raised_links : Links) (low : ℕ) (away : Side) → Found rotation links up raised_links low → away ≡ other_side side
       → hung_links up raised_links.colour away low (links_on side (hole_parent rotation.around) (top rotation.outer) rotation.raised rotation.colour)
       ≡ links_on side rotation.raised (top rotation.outer) (top rotation.inner) rotation.raised_colour
-  lowered_links rotation links up raised_links low away values is =
-      let Node : Links = links_on side (hole_parent rotation.around) (top rotation.outer) rotation.raised rotation.colour in
-      let shade_is = ap (λ (l : Links). l.colour) values.raised_are ∙ colour-on side handle (top rotation.inner) (top rotation.far) rotation.raised_colour in
-      ap (λ (to : Side). hung_links up raised_links.colour to low Node) is
-      ∙ ap (λ (child : ℕ). hung_links up raised_links.colour (other_side side) child Node) values.low_is
-      ∙ hung_links-far side (hole_parent rotation.around) (top rotation.outer) rotation.raised (top rotation.inner) up rotation.colour raised_links.colour
-      ∙ ap (λ (parent : ℕ). links_on side parent (top rotation.outer) (top rotation.inner) raised_links.colour) values.up_is
-      ∙ ap (links_on side rotation.raised (top rotation.outer) (top rotation.inner)) shade_is
+  lowered_links rotation links up raised_links low away values is = grind (arith, links_on, colour-on, hung_links-far)
 
   pub lifted_links : (rotation : Rotation T handle side) (links : Links) (up : ℕ) (raised_links : Links) (low : ℕ) → Found rotation links up raised_links low
       → hung_links links.parent links.colour side handle (links_on side handle (top rotation.inner) (top rotation.far) rotation.raised_colour)
       ≡ links_on side (hole_parent rotation.around) handle (top rotation.far) rotation.colour
-  lifted_links rotation links up raised_links low values =
-      let shade_is = ap (λ (l : Links). l.colour) values.links_are ∙ colour-on side (hole_parent rotation.around) (top rotation.outer) rotation.raised rotation.colour in
-      let parent_is = ap (λ (l : Links). l.parent) values.links_are ∙ parent-on side (hole_parent rotation.around) (top rotation.outer) rotation.raised rotation.colour in
-      hung_links-near side handle (top rotation.inner) (top rotation.far) handle links.parent rotation.raised_colour links.colour
-      ∙ ap (λ (parent : ℕ). links_on side parent handle (top rotation.far) links.colour) parent_is
-      ∙ ap (links_on side (hole_parent rotation.around) handle (top rotation.far)) shade_is
+  lifted_links rotation links up raised_links low values = grind (arith, colour-on, parent-on, hung_links-near, links_on)
 
   -- the rotated tree, from its subtrees
   pub rotated_at : (slots : List (Slot T)) (rotation : Rotation T handle side) → IsAround slots rotation.around rotation.raised
       → slice_get slots handle ≡ Some (Used (links_on side rotation.raised (top rotation.outer) (top rotation.inner) rotation.raised_colour) rotation.item)
       → slice_get slots rotation.raised ≡ Some (Used (links_on side (hole_parent rotation.around) handle (top rotation.far) rotation.colour) rotation.raised_item)
       → IsAt slots handle rotation.outer → IsAt slots handle rotation.inner → IsAt slots rotation.raised rotation.far → IsAt slots EMPTY_REF (plug rotation.around (rotated rotation))
-  rotated_at slots rotation held own raised outer inner far =
-      let below : Shape T = fork_on side rotation.raised_colour rotation.outer handle rotation.item rotation.inner in
-      let below_top = top-fork_on side rotation.raised_colour rotation.outer handle rotation.item rotation.inner in
-      let Held : ℕ → Type 0 = λ child. IsAround slots rotation.around child in
-      IsAt-plug slots rotation.around (rotated rotation) (subst Held (sym (top-fork_on side rotation.colour below rotation.raised rotation.raised_item rotation.far)) held)
-      (IsAt-fork_on slots (hole_parent rotation.around) side rotation.colour below rotation.raised rotation.raised_item rotation.far
-      (raised ∙ ap (λ near. Some (Used (links_on side (hole_parent rotation.around) near (top rotation.far) rotation.colour) rotation.raised_item)) (sym below_top))
-      (IsAt-fork_on slots rotation.raised side rotation.raised_colour rotation.outer handle rotation.item rotation.inner own outer inner) far)
+  rotated_at slots rotation held own raised outer inner far = grind (arith, top-fork_on, IsAround, IsAt-plug, IsAt-fork_on, links_on)
 
   pub sound-rotated : (s0 s1 s2 s3 s4 : List (Slot T)) (root new_root first_free free : ℕ) (rotation : Rotation T handle side) (links : Links) (up : ℕ) (raised_links : Links) (low : ℕ) (away : Side)
       → IsSound s0 root first_free free (plug rotation.around (unrotated rotation)) → Found rotation links up raised_links low → Rehangs s0 s1 root new_root links.parent handle up
@@ -244,7 +198,4 @@ module _ {T : Type 0} {handle : ℕ} {side : Side} where
 
   pub hung_used : (slots : List (Slot T)) (rotation : Rotation T handle side) (links : Links) (up : ℕ) (raised_links : Links) (low : ℕ) → Laid slots rotation
       → Found rotation links up raised_links low → links.parent ≢ EMPTY_REF → IsUsed slots links.parent
-  hung_used slots rotation links up raised_links low lies values some =
-      let parent_is = ap (λ (l : Links). l.parent) values.links_are ∙ parent-on side (hole_parent rotation.around) (top rotation.outer) rotation.raised rotation.colour in
-      let Used_at : ℕ → Type 0 = λ other. IsUsed slots other in
-      subst Used_at (sym parent_is) (IsUsed-hole slots rotation.around handle lies.around (λ same. some (parent_is ∙ same)))
+  hung_used slots rotation links up raised_links low lies values some = grind (arith, parent-on, IsUsed-hole)

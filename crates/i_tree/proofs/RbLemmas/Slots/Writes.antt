@@ -8,7 +8,7 @@ use Rattle.i_tree.specs.declared.rb.links.Slot.{Slot}
 use Rattle.i_tree.specs.declared.rb.links.Slot.TheVariants.{Free, Used}
 use Rattle.i_tree.specs.Rb.Context.{Frame, plug, hole_parent}
 use Rattle.i_tree.specs.Rb.Shape.{Shape, fork, top, entries, occurs}
-use Rattle.i_tree.specs.Rb.Slots.{slot_links, IsUsed, Relinks, IsAt, IsSound, with_colour, read_tree, one_if_slot}
+use Rattle.i_tree.specs.Rb.Slots.{slot_links, IsUsed, Relinks, IsAt, IsSound, with_colour, read_tree}
 use Rattle.i_tree.proofs.RbLemmas.Shape.Contexts.{one_if_same-same, occurs_around, occurs_among, occurs_among-entries, occurs-plug, before_hole, after_hole, entries-plug}
 use Rattle.i_tree.proofs.RbLemmas.Slots.Layout.{one_if_slot-le, IsAt-from_plug, IsAt-plug, top-plug, IsAt-same, IsAround-same, AreHandles-sound, read_sound, IsChain-same}
 
@@ -48,22 +48,12 @@ module _ {T : Type 0} where
   -- a write of a node's links
   pub Relinks-set : (slots : List (Slot T)) (handle : ℕ) (was links : Links) (change : Links → Links) (item : T) → slice_get slots handle ≡ Some (Used was item) → links ≡ change was
       → Relinks slots (slice_set slots handle (Used links item)) handle change
-  Relinks-set slots handle was links change item at is = record {
-    at = λ before own same.
-        let held : Some (Used was item) ≡ Some (Used before own) = sym at ∙ same in
-        let equal : was ≡ before = cc in
-        let kept : item ≡ own = cc in
-        slice_get-set_same slots handle (Used links item) (slice_get_within slots handle _ at)
-        ∙ ap (λ (l : Links). Some (Used l item)) (is ∙ ap change equal) ∙ ap (λ (i : T). Some (Used (change before) i)) kept;
-    others = λ other apart. slice_get-set_other slots handle other (Used links item) apart;
-  }
+  Relinks-set slots handle was links change item at is = grind (arith, slice_get-set_same, slice_get_within, slice_get-set_other)
 
   -- the fields hold the tree that is read from them
   pub IsSound-read : (slots : List (Slot T)) (root first_free free : ℕ) (tree : Shape T) → IsSound slots root first_free free tree
       → IsSound slots root first_free free (read_tree slots (length slots) root)
-  IsSound-read slots root first_free free tree sound =
-      let Sound : Shape T → Type 0 = λ other. IsSound slots root first_free free other in
-      subst Sound (sym (read_sound slots root first_free free tree sound)) sound
+  IsSound-read slots root first_free free tree sound = grind (arith, read_sound)
 
   pub occurs-same : (handle : ℕ) (first second : Shape T) → entries first ≡ entries second → occurs handle first ≡ occurs handle second
   occurs-same handle first second same = sym (occurs_among-entries handle first) ∙ ap (occurs_among handle) same ∙ occurs_among-entries handle second
@@ -73,19 +63,7 @@ module _ {T : Type 0} where
       → IsSound slots root first_free free tree → length new ≡ length slots → ((handle : ℕ) → occurs handle tree ≡ 0 → slice_get new handle ≡ slice_get slots handle)
       → IsAt new EMPTY_REF new_tree → new_root ≡ top new_tree → ((handle : ℕ) → occurs handle new_tree ≡ occurs handle tree)
       → length (entries new_tree) ≡ length (entries tree) → IsSound new new_root first_free free new_tree
-  IsSound-kept slots new root new_root first_free free tree new_tree sound long off at root_is same size = record {
-    at = at;
-    root_is = root_is;
-    chain = sound.chain;
-    linked = IsChain-same slots new first_free sound.chain
-        (λ handle some. off handle (let once = sound.each_once handle in let most = one_if_slot-le (length slots) handle in omega arith)) sound.linked;
-    counted = sound.counted;
-    each_once = λ handle. let once = sound.each_once handle in let moved = same handle in
-        let slots_same = ap (λ count. one_if_slot count handle) long in omega arith;
-    total = let whole = sound.total in omega arith;
-    few = let few = sound.few in omega arith;
-    reserved = off 0 (AreHandles-sound slots root first_free free tree sound).none_reserved ∙ sound.reserved;
-  }
+  IsSound-kept slots new root new_root first_free free tree new_tree sound long off at root_is same size = grind (arith, IsChain-same, one_if_slot-le, AreHandles-sound)
 
   -- the same for a tree with the same entries
   pub IsSound-changed : (slots new : List (Slot T)) (root new_root first_free free : ℕ) (tree new_tree : Shape T)

@@ -32,15 +32,6 @@ module _ {T : Type 0} where
           ∙ ap (λ k. take a xs ++ remove ((take n rest ++ x ∷ []) ++ drop n rest) k) far
           ∙ ap (λ zs. take a xs ++ zs) (part ∙ sym behind)
 
-pub loop-gone-init : goal.loop-gone-init
-loop-gone-init g c = record { inside = c.requires; left = refl; len = refl; capacity = refl }
-
-pub overflow_sub-len : goal.overflow_sub-len
-overflow_sub-len g c = omega (arith, c.loop-gone.invariant.inside, c.len.ensures)
-
-pub loop-gone-smaller : goal.loop-gone-smaller
-loop-gone-smaller g c = omega (arith, c.loop-gone-test.true, c.len.ensures, c.max-block.ensures, c.loop-gone.invariant.inside)
-
 pub loop-gone-preserved : goal.loop-gone-preserved
 loop-gone-preserved g c =
     let gone = c.loop-gone.gone in
@@ -62,15 +53,3 @@ loop-gone-preserved g c =
       len = c.loop-gone.invariant.len;
       capacity = c.loop-gone.invariant.capacity;
     }
-
-pub remove-requires : goal.remove-requires
-remove-requires g c = c.loop-gone.invariant.inside
-
-pub returns-clause-items : goal.returns-clause-items
-returns-clause-items g c = c.remove.ensures.items ∙ c.loop-gone.invariant.left
-
-pub returns-clause-len : goal.returns-clause-len
-returns-clause-len g c = omega (arith, c.remove.ensures.len, c.loop-gone.invariant.len)
-
-pub returns-clause-capacity : goal.returns-clause-capacity
-returns-clause-capacity g c = c.remove.ensures.capacity ∙ c.loop-gone.invariant.capacity

@@ -1,12 +1,8 @@
-use Rattle.std.proofs.Common.{not, ◌∙◌, ap, subst, sym}
+use Rattle.std.proofs.Common.{not, ◌∙◌, ap, subst}
 use Rattle.std.specs.Ordering.{is_gt}
 use Rattle.std.specs.declared.cmp.Ordering.{Ordering}
 use Rattle.i_tree.proofs.RootLemmas.Along.{IsPartitionedBy-along}
 use Rattle.i_tree.proofs.expiring.along.count_at_most.Goals as goal
-
-pub count_passing-requires : goal.count_passing-requires
-count_passing-requires g c k d within reference at =
-    subst (λ (pair : g.row.K.Denot × g.row.V.Denot). goal.F-pre g c.args.f.now pair.0) (sym at) (c.requires k d within)
 
 pub returns-clause-splits : goal.returns-clause-splits
 returns-clause-splits g c order answers monotone =

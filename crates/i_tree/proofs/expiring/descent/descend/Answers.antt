@@ -32,12 +32,6 @@ loop-here-init g c =
       first = c.root-here.ensures.core;
     }
 
-pub item-requires : goal.item-requires
-item-requires g c = c.loop-here.invariant.way.at.live c.loop-here-test.true
-
-pub remove-requires : goal.remove-requires
-remove-requires g c = c.loop-here.invariant.way.at.live c.loop-here-test.true
-
 pub top_below-here-requires : goal.top_below-here-requires
 top_below-here-requires g c =
     let gone : IsRemoved c.loop-here.core.shape c.loop-here.here c.remove.new.self.shape = record { left = c.remove.ensures.left; right = c.remove.ensures.right; rank = c.remove.ensures.rank } in
@@ -92,12 +86,6 @@ loop-here-preserved-then-not-is_live g c =
       first = c.loop-here.invariant.first;
     }
 
-pub left-left-requires : goal.left-left-requires
-left-left-requires g c = c.loop-here.invariant.way.at.live c.loop-here-test.true
-
-pub right-right-requires : goal.right-right-requires
-right-right-requires g c = c.loop-here.invariant.way.at.live c.loop-here-test.true
-
 pub stands-answer-requires : goal.stands-answer-requires
 stands-answer-requires g c =
     let tree = c.loop-here.core.shape in
@@ -121,9 +109,6 @@ loop-here-preserved g c =
     let tree = c.loop-here.core.shape in
     let here = c.loop-here.here in
     let pair = c.item.result.now in
-    let passed = c.is_le-on_right.result in
-    let last = c.loop-here.last in
-    let next = c.loop-here.next in
     let on_left : IsTop tree (left_at here tree) c.left-left.result = record { live = c.left-left.ensures.live; is = c.left-left.ensures.part } in
     let on_right : IsTop tree (right_at here tree) c.right-right.result = record { live = c.right-right.ensures.live; is = c.right-right.ensures.part } in
     let live = g.L.Liveness.live c.args.lives.now in
@@ -131,8 +116,8 @@ loop-here-preserved g c =
     let answer = c.stands-answer.result in
     let called : MayCall live May pair answer = (sym c.is_live.ensures ∙ c.if-not-is_live.false, c.stands-answer.ensures) in
     record {
-      way = search_on (MayCall live May) (λ back. FirstFinds (FindsAbove live May) EMPTY_REF back next) (λ back. FirstFinds (FindsAbove live May) EMPTY_REF back c.select-next.result) tree here c.loop-here-test.true pair c.item.ensures.value
-          c.left-left.result c.right-right.result on_left on_right _ last c.loop-here.said c.loop-here.invariant.way answer called passed c.is_le-on_right.ensures
+      way = search_on (MayCall live May) (λ back. FirstFinds (FindsAbove live May) EMPTY_REF back _) (λ back. FirstFinds (FindsAbove live May) EMPTY_REF back c.select-next.result) tree here c.loop-here-test.true pair c.item.ensures.value
+          c.left-left.result c.right-right.result on_left on_right _ _ c.loop-here.said c.loop-here.invariant.way answer called _ c.is_le-on_right.ensures
           (λ is back holds. subst (FirstFinds (FindsAbove live May) EMPTY_REF back) (sym (c.select-next.ensures.first is)) holds)
           (λ is above back. (above, c.select-next.ensures.other is))
           c.select-last.result c.select-said.result c.select-here.result (c.select-last.ensures.first, c.select-last.ensures.other)
@@ -141,9 +126,9 @@ loop-here-preserved g c =
       slots = c.loop-here.invariant.slots;
       same = c.loop-here.invariant.same;
       follows = followed_on live May c.args.core.now c.loop-here.core here pair c.item.ensures.value c.loop-here.invariant.follows
-          c.left-left.result c.right-right.result on_left on_right answer passed (c.is_le-on_right.ensures ∙ le-not_gt answer) c.select-here.result (c.select-here.ensures.first, c.select-here.ensures.other) called;
+          c.left-left.result c.right-right.result on_left on_right answer _ (c.is_le-on_right.ensures ∙ le-not_gt answer) c.select-here.result (c.select-here.ensures.first, c.select-here.ensures.other) called;
       asked = asked_on g.met.C.Counter.law (MayCall live May) (length (entries tree) ≡ length (entries c.args.core.now.shape)) c.args.core.now.shape tree here pair c.item.ensures.value c.left-left.result c.right-right.result on_left on_right
-          answer called passed c.is_le-on_right.ensures c.select-here.result (c.select-here.ensures.first, c.select-here.ensures.other) _ c.loop-here.steps c.add_comparison.new.self c.loop-here.invariant.asked
+          answer called _ c.is_le-on_right.ensures c.select-here.result (c.select-here.ensures.first, c.select-here.ensures.other) _ c.loop-here.steps c.add_comparison.new.self c.loop-here.invariant.asked
           (together one_test one_comparison) (g.met.C.Counter.law.both c.loop-here.steps c.add_test.new.self c.add_comparison.new.self one_test one_comparison c.add_test.ensures c.add_comparison.ensures) refl;
       counted = counted_compare g.met.C.Counter.law _ c.loop-here.steps c.add_test.new.self c.add_comparison.new.self _ (rank (subtree_at here tree)) (rank (subtree_at c.select-here.result tree)) _ _ c.loop-here.invariant.counted (falls g c)
           c.add_test.ensures c.add_comparison.ensures;

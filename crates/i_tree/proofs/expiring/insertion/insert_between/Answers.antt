@@ -14,11 +14,6 @@ use Rattle.i_tree.specs.Rb.Shape.{entries}
 use Rattle.i_tree.specs.Set.Pairs.{values}
 use Rattle.i_tree.proofs.expiring.insertion.insert_between.Goals as goal
 
-pub insert_at-requires : goal.insert_at-requires
-insert_at-requires g c =
-    let end = c.descend-end.ensures.end in
-    (end.front, end.back, subst (IsPlaceBetween c.descend-end.new.core.shape end.front end.back) (sym c.place_below-place.ensures) end.between)
-
 -- a live key was called Equal, and nothing joins
 pub returns-then-is_eq-clause-pairs : goal.returns-then-is_eq-clause-pairs
 returns-then-is_eq-clause-pairs g c =
@@ -30,22 +25,6 @@ returns-then-is_eq-clause-pairs g c =
       refused = tt;
     }
 
-pub returns-then-is_eq-clause-inserts : goal.returns-then-is_eq-clause-inserts
-returns-then-is_eq-clause-inserts g c =
-    record {
-      core = c.descend-end.ensures.core;
-      err = tt;
-      with_spare = λ _. refl;
-      err_way = tt;
-      full = λ none full passes answers all. refl;
-      no_handle = λ _. tt;
-      refused = λ _. tt;
-      slots = c.descend-end.ensures.slots;
-    }
-
-pub returns-then-is_eq-clause-steps : goal.returns-then-is_eq-clause-steps
-returns-then-is_eq-clause-steps g c = c.descend-end.ensures.steps
-
 -- a refusal means that nothing was removed
 none_gone : (g : _) (c : goal.In-Err g) → (c.descend-end.new.core.spare ≡ 0) × (length (entries c.descend-end.new.core.shape) ≡ length (entries c.args.core.now.shape))
 none_gone g c = none_removed c.args.core.now c.descend-end.new.core c.args.steps.now c.descend-end.new.steps c.descend-end.ensures.slots (c.in-Err.ensures).takes.with_spare c.descend-end.ensures.steps
@@ -56,18 +35,14 @@ held g c = c.descend-end.ensures.same (none_gone g c).1
 pub returns-in-Err-clause-pairs : goal.returns-in-Err-clause-pairs
 returns-in-Err-clause-pairs g c =
     let end = c.descend-end.ensures.end in
-    let last = c.descend-end.result.last in
-    let next = c.descend-end.result.next in
     let live = g.L.Liveness.live c.args.lives.now in
     let May = goal.F-post g c.args.stands.now in
-    let tree = c.descend-end.new.core.shape in
     let place = place_below c.descend-end.result.above c.descend-end.result.on_right in
-    let said = c.descend-end.result.said in
     record {
       joins = tt;
       equal = tt;
       refused = subst (λ (contents : Contents (g.row.K.Denot × g.row.V.Denot)). HasPlace live May (items contents.shape)) (held g c)
-          (values end.front, values end.back, items_cut live May tree place last said next end, place_between live May tree place last said next end (not_equal_from said (sym c.is_eq.ensures ∙ c.if-is_eq.false)));
+          (values end.front, values end.back, items_cut live May _ place _ _ _ end, place_between live May _ place _ _ _ end (not_equal_from _ (sym c.is_eq.ensures ∙ c.if-is_eq.false)));
     }
 
 pub returns-in-Err-clause-inserts : goal.returns-in-Err-clause-inserts
@@ -84,9 +59,6 @@ returns-in-Err-clause-inserts g c =
       slots = tt;
     }
 
-pub returns-in-Err-clause-err_steps : goal.returns-in-Err-clause-err_steps
-returns-in-Err-clause-err_steps g c = rw ((c.in-Err.ensures).takes.err, (c.in-Err.ensures).err_steps) c.descend-end.ensures.steps
-
 -- the pair has joined
 joined : (g : _) (c : goal.In_default g) → entries c.insert_at.new.self.shape ≡ c.descend-end.ensures.end.front ++ (c.in_default.field-0, c.args.pair) ∷ c.descend-end.ensures.end.back
 joined g c =
@@ -101,19 +73,15 @@ more g c =
 pub returns-clause-pairs : goal.returns-clause-pairs
 returns-clause-pairs g c =
     let end = c.descend-end.ensures.end in
-    let last = c.descend-end.result.last in
-    let next = c.descend-end.result.next in
     let live = g.L.Liveness.live c.args.lives.now in
     let May = goal.F-post g c.args.stands.now in
-    let tree = c.descend-end.new.core.shape in
     let place = place_below c.descend-end.result.above c.descend-end.result.on_right in
-    let said = c.descend-end.result.said in
     record {
       joins = (
         values end.front,
         values end.back,
-        subst (Without (λ (other : g.row.K.Denot × g.row.V.Denot). live other.0 ≡ false) (items c.args.core.now.shape)) (items_cut live May tree place last said next end) c.descend-end.ensures.kept,
-        place_between live May tree place last said next end (not_equal_from said (sym c.is_eq.ensures ∙ c.if-is_eq.false)),
+        subst (Without (λ (other : g.row.K.Denot × g.row.V.Denot). live other.0 ≡ false) (items c.args.core.now.shape)) (items_cut live May _ place _ _ _ end) c.descend-end.ensures.kept,
+        place_between live May _ place _ _ _ end (not_equal_from _ (sym c.is_eq.ensures ∙ c.if-is_eq.false)),
         ap values (joined g c) ∙ values-append end.front ((c.in_default.field-0, c.args.pair) ∷ end.back),
       );
       equal = λ is. absurd (cc is);
@@ -139,24 +107,20 @@ returns-clause-inserts g c =
 pub returns-clause-last : goal.returns-clause-last
 returns-clause-last g c some =
     let end = c.descend-end.ensures.end in
-    let last = c.descend-end.result.last in
-    handle_still c.descend-end.new.core.shape c.insert_at.new.self.shape end.front (c.in_default.field-0, c.args.pair) end.back end.between.cut (joined g c) last (c.descend-end.ensures.last some)
+    handle_still c.descend-end.new.core.shape c.insert_at.new.self.shape end.front (c.in_default.field-0, c.args.pair) end.back end.between.cut (joined g c) _ (c.descend-end.ensures.last some)
 
 pub returns-clause-next : goal.returns-clause-next
 returns-clause-next g c some =
     let end = c.descend-end.ensures.end in
-    let next = c.descend-end.result.next in
-    handle_still c.descend-end.new.core.shape c.insert_at.new.self.shape end.front (c.in_default.field-0, c.args.pair) end.back end.between.cut (joined g c) next (c.descend-end.ensures.next some)
+    handle_still c.descend-end.new.core.shape c.insert_at.new.self.shape end.front (c.in_default.field-0, c.args.pair) end.back end.between.cut (joined g c) _ (c.descend-end.ensures.next some)
 
 pub returns-clause-neighbours : goal.returns-clause-neighbours
 returns-clause-neighbours g c found at =
     let end = c.descend-end.ensures.end in
-    let last = c.descend-end.result.last in
-    let next = c.descend-end.result.next in
     let reads = reads_still c.descend-end.new.core.shape c.insert_at.new.self.shape end.front (c.in_default.field-0, c.args.pair) end.back end.between.cut (joined g c) c.descend-end.ensures.core.handles.none_empty in
     answer_neighbours (g.L.Liveness.live c.args.lives.now) (goal.F-post g c.args.stands.now) c.descend-end.new.core.shape (place_below c.descend-end.result.above c.descend-end.result.on_right)
-    last c.descend-end.result.said next end (items c.args.core.now.shape) c.descend-end.ensures.kept
-    found.0 found.1 (reads last found.0 at.0) (reads next found.1 at.1)
+    c.descend-end.result.last c.descend-end.result.said _ end (items c.args.core.now.shape) c.descend-end.ensures.kept
+    found.0 found.1 (reads c.descend-end.result.last found.0 at.0) (reads _ found.1 at.1)
 
 pub returns-clause-steps : goal.returns-clause-steps
 returns-clause-steps g c =

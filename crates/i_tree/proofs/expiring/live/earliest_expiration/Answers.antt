@@ -1,6 +1,3 @@
-use Rattle.std.proofs.Common.{subst}
-use Rattle.std.proofs.lemmas.List.{take_all}
-use Rattle.i_tree.specs.Expiring.Live.{NoneExpiresBefore}
 use Rattle.i_tree.proofs.ExpiringLemmas.Times.{NoneExpiresBefore-more}
 use Rattle.i_tree.proofs.expiring.live.earliest_expiration.Goals as goal
 
@@ -8,7 +5,3 @@ pub loop-pair-preserved : goal.loop-pair-preserved
 loop-pair-preserved g c =
     rw (c.min-earliest.ensures, c.expiration.ensures)
     (NoneExpiresBefore-more g.met.E.Ord.total g.X.Expires.expiration c.loop-pair.earliest c.args.pairs.now c.loop-pair.pair-index c.pair-item.result c.loop-pair-test.true c.pair-item.is c.loop-pair.invariant)
-
-pub returns : goal.returns
-returns g c =
-    subst (NoneExpiresBefore g.X.Expires.expiration g.E.Ord.cmp c.loop-pair.earliest) (take_all c.loop-pair.pair-index c.args.pairs.now c.loop-pair-test.false) c.loop-pair.invariant

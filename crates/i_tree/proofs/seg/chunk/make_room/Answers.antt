@@ -39,9 +39,6 @@ pub returns-in_err-reserve-clause-copies : goal.returns-in_err-reserve-clause-co
 returns-in_err-reserve-clause-copies g c =
     map-set_same (λ chunk. chunk.items) c.loop-node.chunks c.in-Some.node c.reserve.new.self c.index-chunks-node.result c.reserve.ensures.items ∙ c.loop-node.invariant.copies
 
-pub returns-clause-copies : goal.returns-clause-copies
-returns-clause-copies g c = c.loop-node.invariant.copies
-
 pub returns-clause-room : goal.returns-clause-room
 returns-clause-room g c =
     all-gone (HasRoomAt c.loop-node.chunks) c.args.mask c.loop-node.yielded (nodes_of c.loop-node.node-iterator.mask)

@@ -22,13 +22,12 @@ loop-index-init g c =
 
 pub loop-index-preserved-then-lt : goal.loop-index-preserved-then-lt
 loop-index-preserved-then-lt g c =
-    let copies = c.loop-index.chunk.items in
-    let within : c.loop-index.index < length copies = omega arith in
+    let within : c.loop-index.index < length _ = omega arith in
     let same : c.index.result.now ≡ c.swap_remove.result =
-    c.index.ensures ∙ get_or_default copies c.loop-index.index c.index.result.now c.swap_remove.result within ∙ sym c.swap_remove.ensures.value in
+    c.index.ensures ∙ get_or_default _ c.loop-index.index c.index.result.now c.swap_remove.result within ∙ sym c.swap_remove.ensures.value in
     let dead = ap (is_live g.V.ExpiredVal.expiration g.E.Ord.cmp c.args.time) (ap (λ (copy : ℕ × g.row.V.Denot). copy.1) (sym same)) ∙ live_from_lt g.E.PartialOrd.partial_cmp g.E.Ord.cmp g.met.E.Ord.matches_partial_cmp g.V.ExpiredVal.expiration c.args.time c.index.result.now.1 c.expiration.result c.expiration.ensures c.lt.result c.lt.ensures true c.if-lt.true in
     subst (λ (after : List (ℕ × g.row.V.Denot)). InChunk g.V.ExpiredVal.expiration g.E.Ord.cmp c.args.time g.C.Counter.made c.args.asked c.args.node c.args.steps.now c.add_removal.new.self c.args.chunk.now.items c.args.index.now after c.loop-index.index) (sym c.swap_remove.ensures.items)
-    (InChunk-removed g.V.ExpiredVal.expiration g.E.Ord.cmp c.args.time g.C.Counter.made c.args.asked c.args.node g.met.C.Counter.law c.args.steps.now c.loop-index.steps c.args.chunk.now.items c.args.index.now copies c.loop-index.index c.loop-index.invariant c.swap_remove.result within c.swap_remove.ensures.value
+    (InChunk-removed g.V.ExpiredVal.expiration g.E.Ord.cmp c.args.time g.C.Counter.made c.args.asked c.args.node g.met.C.Counter.law c.args.steps.now c.loop-index.steps c.args.chunk.now.items c.args.index.now _ c.loop-index.index c.loop-index.invariant c.swap_remove.result within c.swap_remove.ensures.value
     c.add_test.new.self c.add_removal.new.self c.add_test.ensures c.add_removal.ensures dead)
 
 pub returns-then-lowest_node-node : goal.returns-then-lowest_node-node

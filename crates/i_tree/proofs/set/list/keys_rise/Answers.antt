@@ -4,9 +4,6 @@ use Rattle.std.proofs.lemmas.Bool.{cases_eq}
 use Rattle.i_tree.proofs.SetLemmas.Positions.{neighbours_fall, neighbours_rise, ordered_from_neighbours}
 use Rattle.i_tree.proofs.set.list.keys_rise.Goals as goal
 
-pub loop-next-init : goal.loop-next-init
-loop-next-init g c = λ k next d is below. absurd (omega (arith, is, below))
-
 pub returns-then-ge : goal.returns-then-ge
 returns-then-ge g c =
     neighbours_fall g.V.KeyValue.key_of g.K.Ord.cmp c.args.values.now (c.loop-next.next - 1) c.loop-next.next c.index-values-next.result c.index-values-next-in-loop-next.result c.key.result.now c.key-in-loop-next.result.now

@@ -1,5 +1,5 @@
 use Rattle.std.proofs.Common.{◌≡◌, ◌+◌, ◌-◌, sym, subst, ap, ◌∙◌, length, vec_capacity, vec_len, arith, rules}
-use Rattle.i_tree.specs.Expiring.Live.{IsExpired, live_pairs, NoneExpiresBefore}
+use Rattle.i_tree.specs.Expiring.Live.{IsExpired, live_pairs}
 use Rattle.i_tree.specs.Root.Change.{Without}
 use Rattle.i_tree.specs.Root.Live.{is_live}
 use Rattle.i_tree.proofs.RootLemmas.Lists.{length-filter_le, Without-filter}
@@ -18,10 +18,6 @@ pub returns-then-ge-clause-kept : goal.returns-then-ge-clause-kept
 returns-then-ge-clause-kept g c =
     subst (Without (IsExpired g.X.Expires.expiration g.E.Ord.cmp c.args.time) c.args.self.now.pairs) (all_live g c)
     (Without-filter (λ pair. is_live g.X.Expires.expiration g.E.Ord.cmp c.args.time pair.0) c.args.self.now.pairs)
-
-pub invariant_of-self : goal.invariant_of-self
-invariant_of-self g c =
-    subst (NoneExpiresBefore g.X.Expires.expiration g.E.Ord.cmp c.earliest_expiration-self-inside.result) c.deref.ensures.value c.earliest_expiration-self-inside.ensures
 
 -- the pairs that went left their room
 room : (g : _) (c : goal.After-self-1 g) → length c.keep_live.new.pairs.items + (vec_capacity c.keep_live.new.pairs - vec_len c.keep_live.new.pairs) ≡ length c.args.self.now.pairs + c.args.self.now.spare

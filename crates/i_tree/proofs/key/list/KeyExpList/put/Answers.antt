@@ -5,9 +5,6 @@ use Rattle.i_tree.proofs.KeyLemmas.ListInsertion.{rising_put}
 use Rattle.i_tree.specs.Root.Pairs.{IsRising, NoKey}
 use Rattle.i_tree.proofs.key.list.KeyExpList.put.Goals as goal
 
-pub put-requires : goal.put-requires
-put-requires g c = subst (λ list. c.args.place ≤ length list.pairs) (sym c.self.view_is) c.requires.within
-
 rising : (g : _) (c : goal.After-put g) → IsRising g.K.Ord.cmp c.put.new.self.pairs
 rising g c =
     rising_put g.met.K.Ord.total c.self.inside.held c.put.new.self (c.args.key, c.args.val) c.args.place c.put.result c.put.ensures.ok c.put.ensures.err c.self.invariant

@@ -1,7 +1,4 @@
 use Rattle.i_tree.proofs.key.list.KeyExpListKeyExpCollection.contains_key.Goals as goal
 
-pub has_live_key-requires : goal.has_live_key-requires
-has_live_key-requires g c = rw c.pairs.ensures.value c.pairs.ensures.rising
-
 pub returns-clause-cases : goal.returns-clause-cases
 returns-clause-cases g c = rw (← c.pairs.ensures.value) c.has_live_key.ensures

@@ -1,8 +1,5 @@
 use Rattle.i_tree.proofs.key.list.KeyExpListKeyExpCollection.first_less.Goals as goal
 
-pub value_below-requires : goal.value_below-requires
-value_below-requires g c = rw c.pairs.ensures.value c.pairs.ensures.rising
-
 -- what is searched is what is live
 pub returns-clause-value : goal.returns-clause-value
 returns-clause-value g c = rw (← c.remove_expired.ensures.leaves.keeps_live, ← c.pairs.ensures.value) c.value_below.ensures

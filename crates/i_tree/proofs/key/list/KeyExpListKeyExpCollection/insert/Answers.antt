@@ -4,18 +4,6 @@ use Rattle.std.proofs.lemmas.Result.{on_err_weaker, on_ok_weaker}
 use Rattle.i_tree.specs.Key.KeyExpList.{KeyListInserts}
 use Rattle.i_tree.proofs.key.list.KeyExpListKeyExpCollection.insert.Goals as goal
 
-pub place_of-place-requires : goal.place_of-place-requires
-place_of-place-requires g c = rw c.pairs.ensures.value c.pairs.ensures.rising
-
-pub put-requires-clause-within : goal.put-requires-clause-within
-put-requires-clause-within g c = rw (← c.pairs.ensures.value) c.place_of-place.ensures.within
-
-pub put-requires-clause-splits : goal.put-requires-clause-splits
-put-requires-clause-splits g c = rw (← c.pairs.ensures.value) c.place_of-place.ensures.splits
-
-pub put-requires-clause-free : goal.put-requires-clause-free
-put-requires-clause-free g c = rw c.remove_expired.ensures.leaves.keeps_live c.requires
-
 inserts : (g : _) (c : goal.After-put g) → KeyListInserts g.K.ExpiredKey.expiration g.E.Ord.cmp (c.args.key, c.args.val) c.args.time c.args.self.now c.put.result c.put.new.self
 inserts g c =
     inserts_at g.K.ExpiredKey.expiration g.E.Ord.cmp c.args.time c.args.self.now c.remove_expired.new.self c.remove_expired.ensures.leaves (c.args.key, c.args.val) c.put.new.self c.put.result c.place_of-place.result

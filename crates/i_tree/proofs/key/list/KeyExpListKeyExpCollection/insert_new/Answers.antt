@@ -2,28 +2,9 @@ use Rattle.std.proofs.Common.{ap, length, Ok, Err}
 use Rattle.i_tree.proofs.KeyLemmas.ListInsertion.{gains_live, has_spare, inserts_at, keeps_room}
 use Rattle.i_tree.proofs.key.list.KeyExpListKeyExpCollection.insert_new.Goals as goal
 
-pub place_of-place-requires : goal.place_of-place-requires
-place_of-place-requires g c = rw c.pairs.ensures.value c.pairs.ensures.rising
-
-pub has_key_at-requires-clause-rising : goal.has_key_at-requires-clause-rising
-has_key_at-requires-clause-rising g c = rw c.pairs-2.ensures.value c.pairs-2.ensures.rising
-
-pub has_key_at-requires-clause-splits : goal.has_key_at-requires-clause-splits
-has_key_at-requires-clause-splits g c = rw (c.pairs-2.ensures.value, ← c.pairs.ensures.value) c.place_of-place.ensures.splits
-
 -- a key that is left compares Equal
 pub returns-then-has_key_at-clause-cases : goal.returns-then-has_key_at-clause-cases
 returns-then-has_key_at-clause-cases g c = rw (← c.remove_expired.ensures.leaves.keeps_live, ← c.pairs-2.ensures.value) (c.if-has_key_at.ensures)
-
--- none that is left does
-pub put-requires-clause-within : goal.put-requires-clause-within
-put-requires-clause-within g c = rw (← c.pairs.ensures.value) c.place_of-place.ensures.within
-
-pub put-requires-clause-splits : goal.put-requires-clause-splits
-put-requires-clause-splits g c = rw (← c.pairs.ensures.value) c.place_of-place.ensures.splits
-
-pub put-requires-clause-free : goal.put-requires-clause-free
-put-requires-clause-free g c = rw (← c.pairs-2.ensures.value) (c.if-has_key_at.ensures)
 
 pub returns-in-Err-clause-inserts : goal.returns-in-Err-clause-inserts
 returns-in-Err-clause-inserts g c =
@@ -33,9 +14,6 @@ returns-in-Err-clause-inserts g c =
 
 pub returns-in-Err-clause-err : goal.returns-in-Err-clause-err
 returns-in-Err-clause-err g c = ap (λ list. list.pairs) (returns-in-Err-clause-inserts g c).err
-
-pub returns-in-Err-clause-err_new : goal.returns-in-Err-clause-err_new
-returns-in-Err-clause-err_new g c = rw (← c.remove_expired.ensures.leaves.keeps_live, ← c.pairs-2.ensures.value) (c.if-has_key_at.ensures)
 
 pub returns-in-Err-clause-with_room : goal.returns-in-Err-clause-with_room
 returns-in-Err-clause-with_room g c few = (returns-in-Err-clause-inserts g c).with_spare (has_spare (length c.args.self.now.pairs) c.args.self.now.spare few)
@@ -49,9 +27,6 @@ returns-clause-inserts g c =
     inserts_at g.K.ExpiredKey.expiration g.E.Ord.cmp c.args.time c.args.self.now c.remove_expired.new.self c.remove_expired.ensures.leaves (c.args.key, c.args.val) c.put.new.self (Ok c.in_default.field-0) c.place_of-place.result
     (rw c.pairs.ensures.value at c.place_of-place.ensures.within)
     (c.in_default.ensures).ok (c.in_default.ensures).err (c.in_default.ensures).refused (c.in_default.ensures).with_spare
-
-pub returns-clause-cases : goal.returns-clause-cases
-returns-clause-cases g c = rw (← c.remove_expired.ensures.leaves.keeps_live, ← c.pairs-2.ensures.value) (c.if-has_key_at.ensures)
 
 pub returns-clause-ok : goal.returns-clause-ok
 returns-clause-ok g c =

@@ -11,7 +11,7 @@ use Rattle.i_tree.specs.Root.Descent.{SearchesFor}
 use Rattle.i_tree.specs.Expiring.Tree.{items}
 use Rattle.i_tree.specs.Expiring.Live.{live_pairs}
 use Rattle.i_tree.specs.Root.Live.{is_live}
-use Rattle.i_tree.specs.Root.Pairs.{HasKey, NoKey, IsRising}
+use Rattle.i_tree.specs.Root.Pairs.{HasKey, NoKey}
 use Rattle.i_tree.specs.Rb.RbTree.{Contents}
 use Rattle.i_tree.specs.Rb.Place.{place_below}
 use Rattle.i_tree.specs.Rb.Shape.{entries}
@@ -32,9 +32,6 @@ returns-then-not-is_eq-clause-cases g c =
     subst (λ (contents : Contents (g.row.K.Denot × g.row.V.Denot)). NoKey g.K.Ord.cmp (live_pairs g.K.ExpiredKey.expiration g.E.Ord.cmp c.args.time (items contents.shape)) c.args.key) c.self.view_is
     (absent_between g.met.K.Ord.total c.args.key (λ (pair : (g.row.K.Denot × g.row.V.Denot)). is_live g.K.ExpiredKey.expiration g.E.Ord.cmp c.args.time pair.0) c.self.inside.core.shape end.front end.back end.between.cut (around g c))
 
-pub returns-then-not-is_eq-clause-rising : goal.returns-then-not-is_eq-clause-rising
-returns-then-not-is_eq-clause-rising g c = subst (λ (contents : Contents (g.row.K.Denot × g.row.V.Denot)). IsRising g.K.Ord.cmp (items contents.shape)) c.self.view_is c.self.invariant
-
 pub returns-then-not-is_eq-clause-steps : goal.returns-then-not-is_eq-clause-steps
 returns-then-not-is_eq-clause-steps g c =
     let tree = c.self.inside.core.shape in
@@ -43,9 +40,6 @@ returns-then-not-is_eq-clause-steps g c =
     subst (λ (contents : Contents (g.row.K.Denot × g.row.V.Denot)). SearchesFor g.C.Counter.made c.args.steps.now c.search_down-ended.new.steps (length (items contents.shape)) (HasKey g.K.Ord.cmp (items contents.shape) c.args.key) (NoKey g.K.Ord.cmp (items contents.shape) c.args.key)) c.self.view_is
     (subst (λ (count : ℕ). SearchesFor g.C.Counter.made c.args.steps.now c.search_down-ended.new.steps count (HasKey g.K.Ord.cmp (items tree) c.args.key) (NoKey g.K.Ord.cmp (items tree) c.args.key)) (sym (length-items tree))
     (searches_past c.args.steps.now c.search_down-ended.new.steps (length (entries tree)) (λ stored. not_both g.K.Ord.cmp (items tree) c.args.key stored missing) c.search_down-ended.ensures.steps))
-
-pub returns-then-not-is_eq-clause-core : goal.returns-then-not-is_eq-clause-core
-returns-then-not-is_eq-clause-core g c = rw (← c.self.view_is) c.search_down-ended.ensures.core
 
 pub item-requires : goal.item-requires
 item-requires g c =
@@ -68,9 +62,6 @@ returns-clause-cases g c =
     (cases_equal g.met.K.Ord.total c.args.key g.K.ExpiredKey.expiration g.E.Ord.cmp c.args.time tree at.0 (ended.found, at.1) at.2 at.3 c.self.invariant at.4 c.is_live.result
     (c.is_live.ensures ∙ ap (λ (pair : g.row.K.Denot × g.row.V.Denot). is_live g.K.ExpiredKey.expiration g.E.Ord.cmp c.args.time pair.0) held))
 
-pub returns-clause-rising : goal.returns-clause-rising
-returns-clause-rising g c = subst (λ (contents : Contents (g.row.K.Denot × g.row.V.Denot)). IsRising g.K.Ord.cmp (items contents.shape)) c.self.view_is c.self.invariant
-
 pub returns-clause-steps : goal.returns-clause-steps
 returns-clause-steps g c =
     let tree = c.self.inside.core.shape in
@@ -82,6 +73,3 @@ returns-clause-steps g c =
     subst (λ (contents : Contents (g.row.K.Denot × g.row.V.Denot)). SearchesFor g.C.Counter.made c.args.steps.now c.add_test.new.self (length (items contents.shape)) (HasKey g.K.Ord.cmp (items contents.shape) c.args.key) (NoKey g.K.Ord.cmp (items contents.shape) c.args.key)) c.self.view_is
     (subst (λ (count : ℕ). SearchesFor g.C.Counter.made c.args.steps.now c.add_test.new.self count (HasKey g.K.Ord.cmp (items tree) c.args.key) (NoKey g.K.Ord.cmp (items tree) c.args.key)) (sym (length-items tree))
     (searches_at g.met.C.Counter.law c.args.steps.now c.search_down-ended.new.steps c.add_test.new.self (length (entries tree)) (λ missing. not_both g.K.Ord.cmp (items tree) c.args.key stored missing) c.search_down-ended.ensures.steps c.add_test.ensures))
-
-pub returns-clause-core : goal.returns-clause-core
-returns-clause-core g c = rw (← c.self.view_is) c.search_down-ended.ensures.core

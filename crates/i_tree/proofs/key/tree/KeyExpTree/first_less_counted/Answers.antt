@@ -20,6 +20,3 @@ returns-clause-rising g c = IsRising-without g.K.Ord.cmp c.descend-end.ensures.k
 
 pub returns-clause-kept : goal.returns-clause-kept
 returns-clause-kept g c = rw (← c.self.view_is) c.descend-end.ensures.kept
-
-pub returns-clause-slots : goal.returns-clause-slots
-returns-clause-slots g c = rw (← c.self.view_is) c.descend-end.ensures.slots

@@ -48,13 +48,7 @@ returns-clause-full g c none full all =
     (λ other answer says. rw says (below-passes (is_lt (g.K.Ord.cmp other c.args.key)))) (rw c.self.view_is all) in
     sym refused ∙ joined g c
 
-pub returns-in-Err-clause-err : goal.returns-in-Err-clause-err
-returns-in-Err-clause-err g c = (c.in-Err.ensures).inserts.err ∙ c.self.view_is
-
 pub returns-in-Err-clause-err_way : goal.returns-in-Err-clause-err_way
 returns-in-Err-clause-err_way g c =
     rw (← c.self.view_is)
     ((c.in-Err.ensures).inserts.err_way (λ other. is_lt (g.K.Ord.cmp other c.args.key)) (λ other answer says. rw says (below-passes (is_lt (g.K.Ord.cmp other c.args.key)))))
-
-pub returns-in-Err-clause-err_steps : goal.returns-in-Err-clause-err_steps
-returns-in-Err-clause-err_steps g c = rw (← c.self.view_is) (c.in-Err.ensures).err_steps

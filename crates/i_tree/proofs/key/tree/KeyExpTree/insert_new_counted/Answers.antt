@@ -1,4 +1,4 @@
-use Rattle.std.proofs.Common.{◌≡◌, true, false, not, is_some, Option, None, Some, Result, Ok, Err, refl, sym, ap, ◌∙◌}
+use Rattle.std.proofs.Common.{◌≡◌, true, false, not, is_some, Option, None, Some, Result, Ok, Err, refl, sym, ap}
 use Rattle.std.specs.Ordering.{is_gt, is_lt}
 use Rattle.i_tree.proofs.ExpiringLemmas.Insertion.{IfOk-joined, OnErr-joined}
 use Rattle.i_tree.proofs.KeyLemmas.Insertion.{gains_or_loses, is_new, new_or_present, refused_new, rising_after}
@@ -25,10 +25,6 @@ returns-clause-ok g c =
     rw (c.has_joined.ensures, ← c.self.view_is)
     (IfOk-both (has_joined c.insert_between.result) c.insert_between.ensures.pairs.joins c.insert_between.ensures.pairs.equal
     (λ is_new joins equal. gains_or_loses g.met.K.Ord.total c.args.key (is_live g.K.ExpiredKey.expiration g.E.Ord.cmp c.args.time) c.args.val (items c.self.inside.core.shape) (items c.insert_between.new.core.shape) c.self.invariant is_new joins))
-
-pub returns-clause-err : goal.returns-clause-err
-returns-clause-err g c =
-    rw c.has_joined.ensures (on_err_weaker (has_joined c.insert_between.result) (λ same. same ∙ c.self.view_is) c.insert_between.ensures.inserts.err)
 
 pub returns-clause-err_new : goal.returns-clause-err_new
 returns-clause-err_new g c =
@@ -90,9 +86,6 @@ adds g c (Err cause) is =
 
 pub returns-clause-inserts : goal.returns-clause-inserts
 returns-clause-inserts g c = rw (c.has_joined.ensures, ← c.self.view_is) (adds g c c.insert_between.result refl)
-
-pub returns-clause-with_spare : goal.returns-clause-with_spare
-returns-clause-with_spare g c spare = rw c.has_joined.ensures (c.insert_between.ensures.inserts.with_spare (rw c.self.view_is spare))
 
 pub returns-clause-steps : goal.returns-clause-steps
 returns-clause-steps g c = rw (c.has_joined.ensures, ← c.self.view_is) (IfOk-joined c.insert_between.result _ c.insert_between.ensures.steps)

@@ -46,7 +46,6 @@ attached g c colour at far around is =
     let inside = c.self.inside in
     let items = inside.slots.items in
     let taken = c.take_slot-handle in
-    let lent = c.deref_mut.ensures.value in
     let spare : inside.free ≡ c.args.self.now.spare = ap (λ contents. contents.spare) c.self.view_is in
     let frame : Frame g.row.T.Denot = record { side = c.args.side; colour = colour; handle = c.args.parent; item = at; sibling = far } in
     let Holds : Shape g.row.T.Denot → Type 0 = λ tree. IsSound items inside.root inside.first_free inside.free tree in
@@ -55,11 +54,11 @@ attached g c colour at far around is =
     let From : List (Slot g.row.T.Denot) → Type 0 = λ list. Relinks list c.write_child.new.slots c.args.parent (with_child_link c.args.side taken.result) in
     sound-attached items taken.new.slots c.write_child.new.slots inside.root taken.result taken.new.first_free inside.free frame around c.args.item
     sound (omega (arith, c.requires.spare))
-    (ap (λ list. slice_get list taken.result) (sym lent) ∙ taken.ensures.next)
+    (ap (λ list. slice_get list taken.result) (sym c.deref_mut.ensures.value) ∙ taken.ensures.next)
     taken.ensures.used
-    (λ other apart. taken.ensures.others other apart ∙ ap (λ list. slice_get list other) lent)
+    (λ other apart. taken.ensures.others other apart ∙ ap (λ list. slice_get list other) c.deref_mut.ensures.value)
     (subst From (lent_again g c) c.write_child.ensures)
-    (c.write_child.auto.slots ∙ ap length (lent_again g c) ∙ taken.auto.slots ∙ ap length lent)
+    (c.write_child.auto.slots ∙ ap length (lent_again g c) ∙ taken.auto.slots ∙ ap length c.deref_mut.ensures.value)
 
 -- they are given back whole
 given_back : (g : _) (c : goal.After-self-3-1 g) → length c.write_child.new.slots ≡ length c.deref_mut-2.result.now

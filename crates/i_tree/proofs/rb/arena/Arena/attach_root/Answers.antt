@@ -20,16 +20,15 @@ rooted g c =
     let inside = c.self.inside in
     let items = inside.slots.items in
     let taken = c.take_slot-handle in
-    let lent = c.deref_mut.ensures.value in
     let spare : inside.free ≡ c.args.self.now.spare = ap (λ contents. contents.spare) c.self.view_is in
     let Holds : Shape g.row.T.Denot → Type 0 = λ tree. IsSound items inside.root inside.first_free inside.free tree in
     let Begins : ℕ → Type 0 = λ first. IsSound items inside.root first inside.free leaf in
     let sound = subst Begins (sym taken.ensures.handle) (subst Holds (ap (λ contents. contents.shape) c.self.view_is ∙ c.requires.empty) c.self.invariant) in
     sound-rooted items taken.new.slots inside.root taken.result taken.new.first_free inside.free c.args.item sound (omega (arith, c.requires.spare))
-    (ap (λ list. slice_get list taken.result) (sym lent) ∙ taken.ensures.next)
+    (ap (λ list. slice_get list taken.result) (sym c.deref_mut.ensures.value) ∙ taken.ensures.next)
     taken.ensures.used
-    (λ other apart. taken.ensures.others other apart ∙ ap (λ list. slice_get list other) lent)
-    (taken.auto.slots ∙ ap length lent)
+    (λ other apart. taken.ensures.others other apart ∙ ap (λ list. slice_get list other) c.deref_mut.ensures.value)
+    (taken.auto.slots ∙ ap length c.deref_mut.ensures.value)
 
 -- they are given back whole
 whole : (g : _) (c : goal.After-self-3-1 g) → length c.take_slot-handle.new.slots ≡ length c.self.inside.slots.items

@@ -1,4 +1,4 @@
-use Rattle.std.proofs.Common.{◌≡◌, ◌*◌, ◌<◌, ℕ, min, max, sym, ap, ◌∙◌, arith, rules}
+use Rattle.std.proofs.Common.{◌≡◌, ◌*◌, ◌<◌, ℕ, min, max, sym, ap, ◌∙◌, arith}
 use Rattle.std.specs.Prelude.{⊤, Result, Ok, Err, IfErr}
 use Rattle.std.proofs.lemmas.Result.{on_ok_weaker}
 use Rattle.i_tree.specs.Rb.RbTree.{Contents, slots, slots_grown, slots_with_room}
@@ -31,15 +31,4 @@ returns-clause-takes g c =
       no_handle = λ _ full. absurd (omega (arith, counted g c, full));
       refused = λ _. c.reserve.ensures.reserves.refused (omega arith);
       slots = on_ok_weaker c.reserve.result (λ is. is ∙ grown g c) c.reserve.ensures.reserves.slots;
-    }
-
-pub returns-then-count-clause-takes : goal.returns-then-count-clause-takes
-returns-then-count-clause-takes g c =
-    record {
-      with_spare = λ some. absurd (omega (arith, some, c.requires));
-      err = search rules;
-      handed = search rules;
-      no_handle = search rules;
-      refused = λ more. absurd (more (omega (arith, sym (ap (λ (contents : Contents g.row.T.Denot). slots contents) c.self.view_is) ∙ c.self.invariant.total ∙ sym c.self.inside.slots.ok.0 ∙ sym c.len-count.ensures, c.self.invariant.few)));
-      slots = search rules;
     }

@@ -21,6 +21,3 @@ returns-then-self-gt0-clause-takes g c =
       refused = search rules;
       slots = with_spare c.args.self.now some;
     }
-
-pub returns-then-self-gt0-clause-room : goal.returns-then-self-gt0-clause-room
-returns-then-self-gt0-clause-room g c = subst (λ (contents : Contents g.row.T.Denot). 0 < contents.spare) c.self.view_is c.if-self-gt0.true

@@ -1,27 +1,11 @@
-use Rattle.std.proofs.Common.{◌≡◌, ◌+◌, ◌-◌, ℕ, List, length, sym, ap, ◌∙◌, subst, refl, arith, rules}
-use Rattle.std.proofs.lemmas.Result.{MatchResult-from_err, err_from_is_err_and}
+use Rattle.std.proofs.Common.{◌≡◌, ◌+◌, ◌-◌, ℕ, List, sym, ap, ◌∙◌, subst, refl, arith, rules}
 use Rattle.i_tree.specs.declared.rb.links.Slot.{Slot}
-use Rattle.i_tree.specs.Rb.RbTree.{Contents, slots}
+use Rattle.i_tree.specs.Rb.RbTree.{slots}
 use Rattle.i_tree.specs.Rb.Shape.{Shape}
-use Rattle.i_tree.specs.Rb.Slots.{IsSound, read_tree}
+use Rattle.i_tree.specs.Rb.Slots.{IsSound}
 use Rattle.i_tree.proofs.RbLemmas.Slots.FreeSlots.{read_back, sound_back}
 use Rattle.i_tree.proofs.RbLemmas.Slots.Growth.{sound-grown}
 use Rattle.i_tree.proofs.rb.arena.Arena.reserve.Goals as goal
-
--- there are at most `EMPTY_REF` slots
-pub returns-then-capacity : goal.returns-then-capacity
-returns-then-capacity g c =
-    let as_seen = ap (λ contents. slots contents) c.self.view_is in
-    record {
-      reserves = record {
-        shape = search rules;
-        err = search rules;
-        with_slots = λ enough. absurd (omega (arith, c.self.invariant.total, c.self.invariant.few));
-        no_handle = search rules;
-        refused = λ few. absurd (omega (arith, few));
-        slots = search rules;
-      };
-    }
 
 -- the old tree is in the slots
 grown : (g : _) (c : goal.After-self-then-capacity-before-1 g)
@@ -55,28 +39,5 @@ returns-in_ok-reserve_exact g c =
         no_handle = λ many. absurd (omega (arith, many));
         refused = search rules;
         slots = (invariant_of-self-then-capacity-before g c).total ∙ sym added.ok.0 ∙ omega (arith, c.self.invariant.total, c.add_slots-self-inside.ensures.len);
-      };
-    }
-
--- a refusal leaves the slots as they are
-pub invariant_of-self : goal.invariant_of-self
-invariant_of-self g c =
-    let inside = c.self.inside in
-    subst (λ (list : List (Slot g.row.T.Denot)). IsSound list inside.root inside.first_free inside.free (read_tree list (length list) inside.root)) (sym (c.in_err-reserve_exact.ensures).items) c.self.invariant
-
-pub returns-in_err-reserve_exact : goal.returns-in_err-reserve_exact
-returns-in_err-reserve_exact g c =
-    let inside = c.self.inside in
-    let as_seen = ap (λ contents. slots contents) c.self.view_is in
-    let Seen : List (Slot g.row.T.Denot) → Contents g.row.T.Denot = λ list. record { shape = read_tree list (length list) inside.root; spare = inside.free } in
-    let same = ap Seen (c.in_err-reserve_exact.ensures).items ∙ c.self.view_is in
-    record {
-      reserves = record {
-        shape = ap (λ (contents : Contents g.row.T.Denot). contents.shape) same;
-        err = let p = err_from_is_err_and c.from_residual.result c.from_residual.ensures.1 in rw p.1 same;
-        with_slots = λ enough. absurd (omega (arith, c.self.invariant.total, enough));
-        no_handle = λ many. absurd (omega (arith, many));
-        refused = λ _. let p = err_from_is_err_and c.from_residual.result c.from_residual.ensures.1 in rw p.1 p.2;
-        slots = MatchResult-from_err c.from_residual.result _ _ c.from_residual.ensures.0 (λ _. tt);
       };
     }

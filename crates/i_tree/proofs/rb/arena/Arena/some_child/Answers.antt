@@ -10,18 +10,16 @@ returns-then-left-clause-live g c =
 
 pub returns-then-left-clause-fewer : goal.returns-then-left-clause-fewer
 returns-then-left-clause-fewer g c some =
-    let tree = c.args.self.now.shape in
-    let below = IsTopOf-on Left tree c.args.node c.child-left.result c.requires.handles c.requires.live c.child-left.ensures in
-    rw below.at (fewer-further Left tree c.args.node c.requires.handles c.requires.live)
+    let below = IsTopOf-on Left _ c.args.node c.child-left.result c.requires.handles c.requires.live c.child-left.ensures in
+    rw below.at (fewer-further Left _ c.args.node c.requires.handles c.requires.live)
 
 pub returns-clause-none : goal.returns-clause-none
 returns-clause-none g c none =
-    let tree = c.args.self.now.shape in
-    let on_left = IsTopOf-on Left tree c.args.node c.child-left.result c.requires.handles c.requires.live c.child-left.ensures in
-    let on_right = IsTopOf-on Right tree c.args.node c.child.result c.requires.handles c.requires.live c.child.ensures in
-    IsChildless-here tree c.args.node c.requires.handles c.requires.live
-    (IsTopOf-none tree c.child-left.result _ c.requires.handles on_left c.if-left.false)
-    (IsTopOf-none tree c.child.result _ c.requires.handles on_right none)
+    let on_left = IsTopOf-on Left _ c.args.node c.child-left.result c.requires.handles c.requires.live c.child-left.ensures in
+    let on_right = IsTopOf-on Right _ c.args.node c.child.result c.requires.handles c.requires.live c.child.ensures in
+    IsChildless-here _ c.args.node c.requires.handles c.requires.live
+    (IsTopOf-none _ c.child-left.result _ c.requires.handles on_left c.if-left.false)
+    (IsTopOf-none _ c.child.result _ c.requires.handles on_right none)
 
 pub returns-clause-live : goal.returns-clause-live
 returns-clause-live g c =
@@ -29,6 +27,5 @@ returns-clause-live g c =
 
 pub returns-clause-fewer : goal.returns-clause-fewer
 returns-clause-fewer g c some =
-    let tree = c.args.self.now.shape in
-    let below = IsTopOf-on Right tree c.args.node c.child.result c.requires.handles c.requires.live c.child.ensures in
-    rw below.at (fewer-further Right tree c.args.node c.requires.handles c.requires.live)
+    let below = IsTopOf-on Right _ c.args.node c.child.result c.requires.handles c.requires.live c.child.ensures in
+    rw below.at (fewer-further Right _ c.args.node c.requires.handles c.requires.live)

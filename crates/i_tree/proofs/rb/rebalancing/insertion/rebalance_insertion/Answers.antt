@@ -1,13 +1,10 @@
-use Rattle.std.proofs.Common.{refl, ◌∙◌}
+use Rattle.std.proofs.Common.{◌∙◌}
 use Rattle.i_tree.specs.declared.rb.links.Colour.TheVariants.{Black}
 use Rattle.i_tree.proofs.RbLemmas.Balance.Frames.{entries-painted}
 use Rattle.i_tree.proofs.RbLemmas.Balance.Insertion.{IsHandle-raised, IsHandle-parent, balanced-under_black, HasRedParent-from, IsHandle-red_parent, balanced-painted_root, IsUnderRed-from}
 use Rattle.i_tree.proofs.RbLemmas.Balance.UnderRed.{IsUnderRed-found, IsHandle-above, uncle_is, IsHandle-uncle, SeesUncle-from, IsHandle-uncle_then, IsHandle-above_then, entries-recoloured, IsRaised-recoloured}
 use Rattle.i_tree.proofs.RootLemmas.Counts.{OnlyRotates-none}
 use Rattle.i_tree.proofs.rb.rebalancing.insertion.rebalance_insertion.Goals as goal
-
-pub loop-added-init : goal.loop-added-init
-loop-added-init g c = record { raised = c.requires; same_entries = refl; same_spare = refl; same_steps = refl }
 
 pub parent-parent-requires : goal.parent-parent-requires
 parent-parent-requires g c = IsHandle-raised c.loop-added.invariant.raised
@@ -68,16 +65,6 @@ lift-requires-clause-uncle g c =
     let under = IsUnderRed-found red c.parent-parent.ensures.handles c.parent-grandparent.result c.parent-grandparent.ensures.value c.if-grandparent.false c.side_of-side.result c.side_of-side.ensures in
     let sees = SeesUncle-from under c.other.result c.other.ensures c.child-uncle.result c.child-uncle.ensures c.is_black-in-loop-added.result c.is_black-in-loop-added.ensures.value in
     (sees.under, sees.says_is ∙ c.if-is_black-2.true)
-
-pub returns-then-is_black-2-clause-entries : goal.returns-then-is_black-2-clause-entries
-returns-then-is_black-2-clause-entries g c = c.lift.ensures.entries ∙ c.loop-added.invariant.same_entries
-
-pub returns-then-is_black-2-clause-spare : goal.returns-then-is_black-2-clause-spare
-returns-then-is_black-2-clause-spare g c = c.lift.ensures.spare ∙ c.loop-added.invariant.same_spare
-
-pub returns-then-is_black-2-clause-steps : goal.returns-then-is_black-2-clause-steps
-returns-then-is_black-2-clause-steps g c =
-    rw (← c.loop-added.invariant.same_steps) c.lift.ensures.steps
 
 pub paint-requires-in-loop-added : goal.paint-requires-in-loop-added
 paint-requires-in-loop-added g c =

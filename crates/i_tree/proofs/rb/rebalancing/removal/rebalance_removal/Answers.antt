@@ -72,19 +72,15 @@ returns-then-above g c =
 
 pub side_of-side-requires : goal.side_of-side-requires
 side_of-side-requires g c =
-    let tree = c.loop-parent.arena.shape in
-    let new = c.rebalance_short_side.new.arena.shape in
-    let cut = c.requires in
-    let progress = c.loop-parent.invariant.rebalances cut in
+    let progress = c.loop-parent.invariant.rebalances c.requires in
     let risen = c.if-rebalance_short_side.ensures.rebalanced progress.present in
-    IsHandle-above tree new c.loop-parent.node c.loop-parent.side progress.present risen c.parent-above.result c.parent-above.ensures.value c.if-above.false
+    IsHandle-above _ _ c.loop-parent.node c.loop-parent.side progress.present risen c.parent-above.result c.parent-above.ensures.value c.if-above.false
 
 pub loop-parent-smaller : goal.loop-parent-smaller
 loop-parent-smaller g c =
     let tree = c.loop-parent.arena.shape in
     let new = c.rebalance_short_side.new.arena.shape in
-    let cut = c.requires in
-    let progress = c.loop-parent.invariant.rebalances cut in
+    let progress = c.loop-parent.invariant.rebalances c.requires in
     let risen = c.if-rebalance_short_side.ensures.rebalanced progress.present in
     let same = ap length (entries-risen tree new c.loop-parent.node c.loop-parent.side progress.present risen) in
     omega (arith, same, risen.more_red, red_nodes-few new)
@@ -93,11 +89,9 @@ pub loop-parent-preserved : goal.loop-parent-preserved
 loop-parent-preserved g c =
     record {
       rebalances = λ cut.
-          let tree = c.loop-parent.arena.shape in
-          let new = c.rebalance_short_side.new.arena.shape in
           let progress = c.loop-parent.invariant.rebalances cut in
           let risen = c.if-rebalance_short_side.ensures.rebalanced progress.present in
-          Progress-next c.args.arena.now.shape c.args.parent c.args.short cut tree new c.loop-parent.node c.loop-parent.side progress risen c.rebalance_short_side.ensures.handles
+          Progress-next c.args.arena.now.shape c.args.parent c.args.short cut _ _ c.loop-parent.node c.loop-parent.side progress risen c.rebalance_short_side.ensures.handles
           c.parent-above.result c.parent-above.ensures.value c.if-above.false c.side_of-side.result c.side_of-side.ensures;
       spare = c.rebalance_short_side.ensures.spare ∙ c.loop-parent.invariant.spare;
       steps = OnlyRotates-both g.met.C.Counter.law 0 (omega arith) c.loop-parent.invariant.steps c.if-rebalance_short_side.ensures.steps;

@@ -11,49 +11,43 @@ child-sibling-requires g c =
 
 pub is_black-requires : goal.is_black-requires
 is_black-requires g c =
-    let tree = c.args.arena.now.shape in
     let cut = c.requires in
-    let far = far_top tree c.args.node c.args.short cut c.other.result c.child-sibling.result c.other.ensures c.child-sibling.ensures in
-    IsHandle-far tree c.args.node c.args.short cut c.child-sibling.result far
+    let far = far_top _ c.args.node c.args.short cut c.other.result c.child-sibling.result c.other.ensures c.child-sibling.ensures in
+    IsHandle-far _ c.args.node c.args.short cut c.child-sibling.result far
 
 pub rebalance_beside_black-requires : goal.rebalance_beside_black-requires
 rebalance_beside_black-requires g c =
-    let tree = c.args.arena.now.shape in
     let cut = c.requires in
-    let far = far_top tree c.args.node c.args.short cut c.other.result c.child-sibling.result c.other.ensures c.child-sibling.ensures in
-    record { cut = cut; black = sym (says_far tree c.args.node c.args.short cut c.child-sibling.result true far c.if-is_black.ensures.value) }
+    let far = far_top _ c.args.node c.args.short cut c.other.result c.child-sibling.result c.other.ensures c.child-sibling.ensures in
+    record { cut = cut; black = sym (says_far _ c.args.node c.args.short cut c.child-sibling.result true far c.if-is_black.ensures.value) }
 
 pub returns-then-is_black-clause-rebalanced : goal.returns-then-is_black-clause-rebalanced
 returns-then-is_black-clause-rebalanced g c cut =
-    let tree = c.args.arena.now.shape in
-    let far = far_top tree c.args.node c.args.short cut c.other.result c.child-sibling.result c.other.ensures c.child-sibling.ensures in
-    c.rebalance_beside_black.ensures.rebalanced cut (sym (says_far tree c.args.node c.args.short cut c.child-sibling.result true far c.if-is_black.ensures.value))
+    let far = far_top _ c.args.node c.args.short cut c.other.result c.child-sibling.result c.other.ensures c.child-sibling.ensures in
+    c.rebalance_beside_black.ensures.rebalanced cut (sym (says_far _ c.args.node c.args.short cut c.child-sibling.result true far c.if-is_black.ensures.value))
 
 pub rotate-requires : goal.rotate-requires
 rotate-requires g c =
-    let tree = c.args.arena.now.shape in
     let cut = c.requires in
-    let far = far_top tree c.args.node c.args.short cut c.other.result c.child-sibling.result c.other.ensures c.child-sibling.ensures in
-    let red = sym (says_far tree c.args.node c.args.short cut c.child-sibling.result false far c.if-is_black.ensures.value) in
-    let subtrees = red_subtrees tree c.args.node c.args.short cut c.child-sibling.result far red in
-    CanRotation-short tree c.args.node c.args.short cut c.child-sibling.result Red subtrees
+    let far = far_top _ c.args.node c.args.short cut c.other.result c.child-sibling.result c.other.ensures c.child-sibling.ensures in
+    let red = sym (says_far _ c.args.node c.args.short cut c.child-sibling.result false far c.if-is_black.ensures.value) in
+    let subtrees = red_subtrees _ c.args.node c.args.short cut c.child-sibling.result far red in
+    CanRotation-short _ c.args.node c.args.short cut c.child-sibling.result Red subtrees
 
 pub rebalance_beside_black-requires-2 : goal.rebalance_beside_black-requires-2
 rebalance_beside_black-requires-2 g c =
-    let tree = c.args.arena.now.shape in
     let cut = c.requires in
-    let far = far_top tree c.args.node c.args.short cut c.other.result c.child-sibling.result c.other.ensures c.child-sibling.ensures in
-    let red = sym (says_far tree c.args.node c.args.short cut c.child-sibling.result false far c.if-is_black.ensures.value) in
-    let subtrees = red_subtrees tree c.args.node c.args.short cut c.child-sibling.result far red in
-    HasBlackSibling-folded tree c.args.node c.args.short cut c.child-sibling.result subtrees red c.rotate.new.self.shape c.rotate.ensures.shape
+    let far = far_top _ c.args.node c.args.short cut c.other.result c.child-sibling.result c.other.ensures c.child-sibling.ensures in
+    let red = sym (says_far _ c.args.node c.args.short cut c.child-sibling.result false far c.if-is_black.ensures.value) in
+    let subtrees = red_subtrees _ c.args.node c.args.short cut c.child-sibling.result far red in
+    HasBlackSibling-folded _ c.args.node c.args.short cut c.child-sibling.result subtrees red c.rotate.new.self.shape c.rotate.ensures.shape
 
 pub returns-clause-rebalanced : goal.returns-clause-rebalanced
 returns-clause-rebalanced g c cut =
-    let tree = c.args.arena.now.shape in
-    let far = far_top tree c.args.node c.args.short cut c.other.result c.child-sibling.result c.other.ensures c.child-sibling.ensures in
-    let red = sym (says_far tree c.args.node c.args.short cut c.child-sibling.result false far c.if-is_black.ensures.value) in
-    let subtrees = red_subtrees tree c.args.node c.args.short cut c.child-sibling.result far red in
-    IsEnded-from_folded tree c.args.node c.args.short cut c.child-sibling.result subtrees red c.rotate.new.self.shape c.rotate.ensures.shape c.rebalance_beside_black-2.new.arena.shape c.rebalance_beside_black-2.result c.rebalance_beside_black-2.ensures.rebalanced
+    let far = far_top _ c.args.node c.args.short cut c.other.result c.child-sibling.result c.other.ensures c.child-sibling.ensures in
+    let red = sym (says_far _ c.args.node c.args.short cut c.child-sibling.result false far c.if-is_black.ensures.value) in
+    let subtrees = red_subtrees _ c.args.node c.args.short cut c.child-sibling.result far red in
+    IsEnded-from_folded _ c.args.node c.args.short cut c.child-sibling.result subtrees red c.rotate.new.self.shape c.rotate.ensures.shape c.rebalance_beside_black-2.new.arena.shape c.rebalance_beside_black-2.result c.rebalance_beside_black-2.ensures.rebalanced
 
 pub returns-clause-steps : goal.returns-clause-steps
 returns-clause-steps g c =

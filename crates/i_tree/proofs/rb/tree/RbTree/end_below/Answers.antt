@@ -14,14 +14,12 @@ returns-then-child g c =
 
 pub loop-side-smaller : goal.loop-side-smaller
 loop-side-smaller g c =
-    let tree = c.args.self.now.shape in
-    let fewer = fewer-further c.args.side tree c.loop-side.end c.child-child.ensures.core.handles c.loop-side.invariant.live in
+    let fewer = fewer-further c.args.side _ c.loop-side.end c.child-child.ensures.core.handles c.loop-side.invariant.live in
     rw c.child-child.ensures.part fewer
 
 pub loop-side-preserved : goal.loop-side-preserved
 loop-side-preserved g c =
-    let tree = c.args.self.now.shape in
-    let same = end_handle-further c.args.side tree c.loop-side.end c.child-child.ensures.core.handles c.loop-side.invariant.live (λ empty. c.if-child.false (c.child-child.ensures.value ∙ empty)) in
+    let same = end_handle-further c.args.side _ c.loop-side.end c.child-child.ensures.core.handles c.loop-side.invariant.live (λ empty. c.if-child.false (c.child-child.ensures.value ∙ empty)) in
     record {
       live = c.child-child.ensures.live c.if-child.false;
       same = ap (λ subtree. end_handle c.args.side (entries subtree)) c.child-child.ensures.part ∙ same ∙ c.loop-side.invariant.same;

@@ -18,12 +18,10 @@ returns-then-left g c =
 
 pub loop-subtree-smaller : goal.loop-subtree-smaller
 loop-subtree-smaller g c =
-    let tree = c.args.self.now.shape in
-    let fewer = fewer-further Left tree c.loop-subtree.first c.left-left.ensures.core.handles c.loop-subtree.invariant.live in
+    let fewer = fewer-further Left _ c.loop-subtree.first c.left-left.ensures.core.handles c.loop-subtree.invariant.live in
     rw c.left-left.ensures.part fewer
 
 pub loop-subtree-preserved : goal.loop-subtree-preserved
 loop-subtree-preserved g c =
-    let tree = c.args.self.now.shape in
-    let starts = StartsWith-left (subtree_at c.args.subtree tree) tree c.loop-subtree.first c.left-left.ensures.core.handles c.loop-subtree.invariant.live c.loop-subtree.invariant.starts in
+    let starts = StartsWith-left (subtree_at c.args.subtree _) _ c.loop-subtree.first c.left-left.ensures.core.handles c.loop-subtree.invariant.live c.loop-subtree.invariant.starts in
     record { live = c.left-left.ensures.live c.if-left.false; starts = rw c.left-left.ensures.part starts }

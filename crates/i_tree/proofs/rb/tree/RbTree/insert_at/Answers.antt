@@ -1,18 +1,9 @@
-use Rattle.std.proofs.Common.{refl, ap, subst}
+use Rattle.std.proofs.Common.{refl, ap}
 use Rattle.std.proofs.lemmas.Result.{IfOk-weaker}
 use Rattle.i_tree.proofs.RbLemmas.SearchPath.Insertion.{joined_below, joined_root}
-use Rattle.i_tree.specs.Rb.Place.{IsPlaceOf}
-use Rattle.i_tree.specs.Rb.Shape.{leaf, entries, occurs}
+use Rattle.i_tree.specs.Rb.Shape.{entries}
 use Rattle.i_tree.proofs.RootLemmas.Counts.{OnlyRotates-none}
 use Rattle.i_tree.proofs.rb.tree.RbTree.insert_at.Goals as goal
-
-pub insert_on-requires : goal.insert_on-requires
-insert_on-requires g c =
-    let free = subst (IsPlaceOf c.args.self.now.shape leaf c.requires.0 c.requires.1) c.in-Below.is c.requires.2.free in
-    record { live = free.0; room = free.1 }
-
-pub insert_root-requires : goal.insert_root-requires
-insert_root-requires g c = (subst (IsPlaceOf c.args.self.now.shape leaf c.requires.0 c.requires.1) c.in-Root.is c.requires.2.free).0
 
 pub returns-in-Below-clause-joins : goal.returns-in-Below-clause-joins
 returns-in-Below-clause-joins g c =
@@ -21,11 +12,6 @@ returns-in-Below-clause-joins g c =
 pub returns-in-Root-clause-joins : goal.returns-in-Root-clause-joins
 returns-in-Root-clause-joins g c =
     IfOk-weaker c.insert_root.result _ _ (λ handle is. joined_root c.args.self.now.shape c.args.place (entries c.args.self.now.shape) (entries c.insert_root.new.self.shape) refl handle c.args.item c.in-Root.is (ap entries is)) c.insert_root.ensures.shape
-
-pub returns-in-Root-clause-fresh : goal.returns-in-Root-clause-fresh
-returns-in-Root-clause-fresh g c =
-    let free = subst (IsPlaceOf c.args.self.now.shape leaf c.requires.0 c.requires.1) c.in-Root.is c.requires.2.free in
-    IfOk-weaker c.insert_root.result _ _ (λ handle _. ap (occurs handle) free.0) c.insert_root.ensures.shape
 
 pub returns-in-Root-clause-steps : goal.returns-in-Root-clause-steps
 returns-in-Root-clause-steps g c = rw c.insert_root.ensures.steps (OnlyRotates-none g.met.C.Counter.law c.args.steps.now 2)

@@ -1,6 +1,6 @@
-use Rattle.std.proofs.Common.{◌≡◌, ◌<◌, sym, ap, ◌∙◌, subst, length, arith, rules}
+use Rattle.std.proofs.Common.{◌≡◌, ap, ◌∙◌, length, arith, rules}
 use Rattle.i_tree.specs.Rb.RbTree.{Contents, slots, slots_with_room}
-use Rattle.i_tree.specs.Rb.Shape.{Shape, entries, occurs, AreHandles}
+use Rattle.i_tree.specs.Rb.Shape.{Shape, entries, AreHandles}
 use Rattle.i_tree.specs.Rb.Balance.{IsRedBlack}
 use Rattle.i_tree.proofs.RbLemmas.Balance.Ranks.{IsCore-from_red_black}
 use Rattle.i_tree.proofs.RbLemmas.Balance.Joining.{HasRoomOn-kept, IsRaised-joined, entries-joined, length-joined}
@@ -37,10 +37,9 @@ returns-clause-entries g c front at back is =
 
 pub returns-clause-takes : goal.returns-clause-takes
 returns-clause-takes g c =
-    let kept = c.make_room.new.self.shape in
-    let room = HasRoomOn-kept c.args.side c.self.inside.arena.shape kept c.args.parent c.make_room.ensures.shape c.self.invariant.1
+    let room = HasRoomOn-kept c.args.side c.self.inside.arena.shape _ c.args.parent c.make_room.ensures.shape c.self.invariant.1
     (rw c.self.view_is c.requires.live) (rw c.self.view_is c.requires.room) in
-    let more = length-joined kept c.attach-handle.new.self.shape c.args.parent c.args.side c.attach-handle.result c.args.item room c.attach-handle.ensures.shape in
+    let more = length-joined _ c.attach-handle.new.self.shape c.args.parent c.args.side c.attach-handle.result c.args.item room c.attach-handle.ensures.shape in
     let same_entries = ap length c.rebalance_insertion.ensures.entries in
     let spare = c.attach-handle.ensures.spare in
     let same_spare = c.rebalance_insertion.ensures.spare in
@@ -56,37 +55,8 @@ returns-clause-takes g c =
       slots = total ∙ takes.slots ∙ ap (λ (contents : Contents g.row.T.Denot). slots_with_room contents) as_before;
     }
 
-pub returns-in-Err-clause-takes : goal.returns-in-Err-clause-takes
-returns-in-Err-clause-takes g c =
-    let as_before = c.self.view_is in
-    let takes = (c.in-Err.ensures).takes in
-    record {
-      with_spare = λ spare. takes.with_spare (subst (λ (contents : Contents g.row.T.Denot). 0 < contents.spare) (sym as_before) spare);
-      err = takes.err ∙ as_before;
-      handed = search rules;
-      no_handle = λ none full. takes.no_handle (ap (λ (contents : Contents g.row.T.Denot). contents.spare) as_before ∙ none) (ap (λ (contents : Contents g.row.T.Denot). slots contents) as_before ∙ full);
-      refused = λ more. takes.refused (λ full. more (ap (λ (contents : Contents g.row.T.Denot). slots contents) (sym as_before) ∙ full));
-      slots = search rules;
-    }
-
 pub returns-clause-core : goal.returns-clause-core
 returns-clause-core g c = IsCore-from_red_black c.rebalance_insertion.new.arena.shape c.rebalance_insertion.ensures.handles c.rebalance_insertion.ensures.balanced
-
-pub invariant_of-self : goal.invariant_of-self
-invariant_of-self g c = subst (λ (tree : Shape g.row.T.Denot). IsRedBlack tree × AreHandles tree) (sym c.make_room.ensures.shape) c.self.invariant
-
-pub attach-handle-requires-clause-spare : goal.attach-handle-requires-clause-spare
-attach-handle-requires-clause-spare g c = (c.in_default.ensures).room
-
-pub invariant_of-self-2 : goal.invariant_of-self-2
-invariant_of-self-2 g c = (c.rebalance_insertion.ensures.balanced, c.rebalance_insertion.ensures.handles)
-
-pub returns-clause-fresh : goal.returns-clause-fresh
-returns-clause-fresh g c =
-    ap (λ (tree : Shape g.row.T.Denot). occurs c.attach-handle.result tree) (sym (c.make_room.ensures.shape ∙ ap (λ (contents : Contents g.row.T.Denot). contents.shape) c.self.view_is)) ∙ c.attach-handle.ensures.fresh
-
-pub returns-clause-steps : goal.returns-clause-steps
-returns-clause-steps g c = c.rebalance_insertion.ensures.steps
 
 pub returns-in-Err-clause-steps : goal.returns-in-Err-clause-steps
 returns-in-Err-clause-steps g c = OnlyRotates-none g.met.C.Counter.law c.args.steps.now 2

@@ -13,8 +13,7 @@ invariant_of-self-lent g c w = (
 
 pub returns : goal.returns
 returns g c =
-    let tree = c.self.inside.arena.shape in
-    let own = entries-subtree_at tree c.args.handle c.item_mut.result.now c.self.invariant.1 (rw c.self.view_is c.requires) c.item_mut.ensures.value in (
+    let own = entries-subtree_at _ c.args.handle c.item_mut.result.now c.self.invariant.1 (rw c.self.view_is c.requires) c.item_mut.ensures.value in (
       (refl, λ w. ap (λ (contents : Contents g.row.T.Denot). contents_with_item c.args.handle contents w) c.self.view_is),
-      rw (← c.self.view_is) (record { writes_back = tt; value = own; core = IsCore-from_red_black tree c.self.invariant.1 c.self.invariant.0 }),
+      rw (← c.self.view_is) (record { writes_back = tt; value = own; core = IsCore-from_red_black _ c.self.invariant.1 c.self.invariant.0 }),
     )

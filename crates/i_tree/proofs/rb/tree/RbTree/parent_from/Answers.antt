@@ -8,10 +8,9 @@ loop-self-init g c =
 
 pub returns-then-parent : goal.returns-then-parent
 returns-then-parent g c =
-    let tree = c.self.inside.arena.shape in
     let here = c.loop-self.invariant in
     let parent_is = c.parent-parent.ensures.value here.around here.subtree here.is here.at in
-    let nothing = nothing_next c.args.side tree here.around here.subtree c.self.invariant.1 here.is (sym c.if-parent.true ∙ parent_is) in
+    let nothing = nothing_next c.args.side _ here.around here.subtree c.self.invariant.1 here.is (sym c.if-parent.true ∙ parent_is) in
     rw (← c.self.view_is) (λ front item back is. sym (here.same front item back is ∙ nothing))
 
 pub child-requires : goal.child-requires

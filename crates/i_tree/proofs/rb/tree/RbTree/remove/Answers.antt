@@ -33,15 +33,13 @@ returns-then-left-clause-right g c =
 
 pub remove_at-item-requires : goal.remove_at-item-requires
 remove_at-item-requires g c =
-    let tree = c.args.self.now.shape in
-    HasOneSubtree-next tree c.args.handle c.first_below-next.result
-    (HasNext-from tree c.args.handle c.right-right.result c.first_below-next.result c.left-left.ensures.core.handles c.requires c.right-right.ensures.part c.first_below-next.ensures)
+    HasOneSubtree-next _ c.args.handle c.first_below-next.result
+    (HasNext-from _ c.args.handle c.right-right.result c.first_below-next.result c.left-left.ensures.core.handles c.requires c.right-right.ensures.part c.first_below-next.ensures)
 
 pub item_mut-requires : goal.item_mut-requires
 item_mut-requires g c =
-    let tree = c.args.self.now.shape in
-    IsHandle-next tree c.remove_at-item.new.self.shape c.args.handle c.first_below-next.result
-    (HasNext-from tree c.args.handle c.right-right.result c.first_below-next.result c.left-left.ensures.core.handles c.requires c.right-right.ensures.part c.first_below-next.ensures)
+    IsHandle-next _ c.remove_at-item.new.self.shape c.args.handle c.first_below-next.result
+    (HasNext-from _ c.args.handle c.right-right.result c.first_below-next.result c.left-left.ensures.core.handles c.requires c.right-right.ensures.part c.first_below-next.ensures)
     c.remove_at-item.ensures.shape
 
 pub returns-clause-list : goal.returns-clause-list

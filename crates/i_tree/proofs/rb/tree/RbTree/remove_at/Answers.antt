@@ -3,6 +3,7 @@ use Rattle.i_tree.specs.Rb.Context.{HasOneSubtree}
 use Rattle.i_tree.proofs.RbLemmas.Balance.Ranks.{IsCore-from_red_black}
 use Rattle.i_tree.proofs.RbLemmas.Removal.Shapes.{TakesOut-plain, TakesOut-rebalanced, IsRedBlack-unbalanced, LeavesShort, IsRebalanced, IsShort-at, IsHandle-gone, IsHandle-parent}
 use Rattle.i_tree.proofs.RootLemmas.Counts.{OnlyRotates-none}
+use Rattle.i_tree.proofs.rb.tree.RbTree.remove_at.Goals.{After-detach-item}
 use Rattle.i_tree.proofs.rb.tree.RbTree.remove_at.Goals as goal
 
 pub parent-parent-requires : goal.parent-parent-requires
@@ -13,66 +14,51 @@ is_black-was_black-requires g c = λ _. rw c.self.view_is (IsHandle-gone c.args.
 
 pub invariant_of-self : goal.invariant_of-self
 invariant_of-self g c =
-    let tree = c.self.inside.arena.shape in
-    let one : HasOneSubtree tree c.args.gone = rw c.self.view_is c.requires in
-    let balanced = IsRedBlack-unbalanced tree c.detach.new.self.shape c.args.gone c.parent-parent.result c.is_black-was_black.result c.self.invariant.1 c.self.invariant.0 one
+    let one : HasOneSubtree c.self.inside.arena.shape c.args.gone = rw c.self.view_is c.requires in
+    let balanced = IsRedBlack-unbalanced _ c.detach.new.self.shape c.args.gone c.parent-parent.result c.is_black-was_black.result c.self.invariant.1 c.self.invariant.0 one
     c.detach.ensures.shape c.parent-parent.ensures.value c.is_black-was_black.ensures.value c.then-parent.either in
     (balanced, c.detach.ensures.handles)
 
 pub returns-then-parent-clause-shape : goal.returns-then-parent-clause-shape
 returns-then-parent-clause-shape g c =
-    let tree = c.self.inside.arena.shape in
-    let one : HasOneSubtree tree c.args.gone = rw c.self.view_is c.requires in
-    rw (← c.self.view_is) (TakesOut-plain tree c.args.gone c.detach.new.self.shape c.self.invariant.0 one c.detach.ensures.shape)
+    let one : HasOneSubtree c.self.inside.arena.shape c.args.gone = rw c.self.view_is c.requires in
+    rw (← c.self.view_is) (TakesOut-plain _ c.args.gone c.detach.new.self.shape c.self.invariant.0 one c.detach.ensures.shape)
 
 pub returns-then-parent-clause-core : goal.returns-then-parent-clause-core
-returns-then-parent-clause-core g c =
-    let tree = c.self.inside.arena.shape in
-    let one : HasOneSubtree tree c.args.gone = rw c.self.view_is c.requires in
-    let balanced = IsRedBlack-unbalanced tree c.detach.new.self.shape c.args.gone c.parent-parent.result c.is_black-was_black.result c.self.invariant.1 c.self.invariant.0 one
-    c.detach.ensures.shape c.parent-parent.ensures.value c.is_black-was_black.ensures.value c.then-parent.either in
-    IsCore-from_red_black c.detach.new.self.shape c.detach.ensures.handles balanced
+returns-then-parent-clause-core g c = IsCore-from_red_black c.detach.new.self.shape c.detach.ensures.handles (invariant_of-self g c).0
 
 pub side_of-side-requires : goal.side_of-side-requires
 side_of-side-requires g c =
-    let tree = c.self.inside.arena.shape in
-    let one : HasOneSubtree tree c.args.gone = rw c.self.view_is c.requires in
-    IsHandle-parent tree c.args.gone c.parent-parent.result one c.parent-parent.ensures.value c.if-parent.false
+    let one : HasOneSubtree c.self.inside.arena.shape c.args.gone = rw c.self.view_is c.requires in
+    IsHandle-parent _ c.args.gone c.parent-parent.result one c.parent-parent.ensures.value c.if-parent.false
+
+leaves : (g : _) (c : goal.After-detach-item g) → LeavesShort c.self.inside.arena.shape c.args.gone c.parent-parent.result c.side_of-side.result c.detach-item.new.self.shape
+leaves g c =
+    record {
+      handles = c.self.invariant.1;
+      balanced = c.self.invariant.0;
+      detaches = c.detach-item.ensures.shape;
+      some = c.if-parent.false;
+      parent_is = c.parent-parent.ensures.value;
+      black_is = λ around subtree is at. sym c.if-not-was_black.false ∙ c.is_black-was_black.ensures.value around subtree is at;
+      side_is = c.side_of-side.ensures;
+    }
 
 pub rebalance_removal-requires : goal.rebalance_removal-requires
 rebalance_removal-requires g c =
-    let tree = c.self.inside.arena.shape in
-    let one : HasOneSubtree tree c.args.gone = rw c.self.view_is c.requires in
-    IsShort-at tree c.detach-item.new.self.shape c.args.gone c.parent-parent.result c.side_of-side.result one (record {
-      handles = c.self.invariant.1;
-      balanced = c.self.invariant.0;
-      detaches = c.detach-item.ensures.shape;
-      some = c.if-parent.false;
-      parent_is = c.parent-parent.ensures.value;
-      black_is = λ around subtree is at. sym c.if-not-was_black.false ∙ c.is_black-was_black.ensures.value around subtree is at;
-      side_is = c.side_of-side.ensures;
-    })
+    let one : HasOneSubtree c.self.inside.arena.shape c.args.gone = rw c.self.view_is c.requires in
+    IsShort-at _ c.detach-item.new.self.shape c.args.gone c.parent-parent.result c.side_of-side.result one (leaves g (goal.at.rebalance_removal-requires g c).After-detach-item)
 
 pub returns-clause-shape : goal.returns-clause-shape
 returns-clause-shape g c =
-    let tree = c.self.inside.arena.shape in
-    let one : HasOneSubtree tree c.args.gone = rw c.self.view_is c.requires in
-    let leaves : LeavesShort tree c.args.gone c.parent-parent.result c.side_of-side.result c.detach-item.new.self.shape = record {
-      handles = c.self.invariant.1;
-      balanced = c.self.invariant.0;
-      detaches = c.detach-item.ensures.shape;
-      some = c.if-parent.false;
-      parent_is = c.parent-parent.ensures.value;
-      black_is = λ around subtree is at. sym c.if-not-was_black.false ∙ c.is_black-was_black.ensures.value around subtree is at;
-      side_is = c.side_of-side.ensures;
-    } in
+    let one : HasOneSubtree c.self.inside.arena.shape c.args.gone = rw c.self.view_is c.requires in
     let rebalanced : IsRebalanced c.detach-item.new.self.shape c.parent-parent.result c.side_of-side.result c.rebalance_removal.new.arena.shape = record {
       list = c.rebalance_removal.ensures.entries;
       own = c.rebalance_removal.ensures.own;
       outer = c.rebalance_removal.ensures.outer;
       whole = c.rebalance_removal.ensures.whole;
     } in
-    rw (← c.self.view_is) (TakesOut-rebalanced tree c.detach-item.new.self.shape c.rebalance_removal.new.arena.shape c.args.gone c.parent-parent.result c.side_of-side.result one leaves rebalanced)
+    rw (← c.self.view_is) (TakesOut-rebalanced _ c.detach-item.new.self.shape c.rebalance_removal.new.arena.shape c.args.gone c.parent-parent.result c.side_of-side.result one (leaves g (goal.at.returns-clause-shape g c).After-detach-item) rebalanced)
 
 pub returns-clause-core : goal.returns-clause-core
 returns-clause-core g c = IsCore-from_red_black c.rebalance_removal.new.arena.shape c.rebalance_removal.ensures.handles c.rebalance_removal.ensures.balanced

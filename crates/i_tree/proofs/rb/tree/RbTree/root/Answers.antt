@@ -4,12 +4,11 @@ use Rattle.i_tree.proofs.rb.tree.RbTree.root.Goals as goal
 
 pub returns : goal.returns
 returns g c =
-    let tree = c.self.inside.arena.shape in
-    let whole = IsTopOf-root tree c.root.result c.self.invariant.1 c.root.ensures.value in
+    let whole = IsTopOf-root _ c.root.result c.self.invariant.1 c.root.ensures.value in
     rw (← c.self.view_is) (record {
       value = whole.value;
       part = whole.at;
       live = whole.live;
-      empty = IsTopOf-none tree c.root.result tree c.self.invariant.1 whole;
-      core = IsCore-from_red_black tree c.self.invariant.1 c.self.invariant.0;
+      empty = IsTopOf-none _ c.root.result _ c.self.invariant.1 whole;
+      core = IsCore-from_red_black _ c.self.invariant.1 c.self.invariant.0;
     })

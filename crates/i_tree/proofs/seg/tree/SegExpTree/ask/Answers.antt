@@ -1,4 +1,4 @@
-use Rattle.std.proofs.Common.{ℕ, ◌^◌, ◌<◌, ◌≤◌, Some, sym, subst, arith}
+use Rattle.std.proofs.Common.{ℕ, ◌^◌, ◌<◌, ◌≤◌, Some, sym, subst}
 use Rattle.i_tree.specs.Seg.Buckets.{Accepts, chunk_count}
 use Rattle.i_tree.specs.Seg.Copies.{copies_in, members_in, Holds}
 use Rattle.i_tree.specs.Seg.Members.{live_members}
@@ -32,12 +32,6 @@ later g c =
 pub invariant_of-self : goal.invariant_of-self
 invariant_of-self g c =
     holds-own g.V.ExpiredVal.expiration g.E.Ord.cmp (Some c.args.time) (chunk_count c.self.inside.layout) (copies_in c.self.inside.chunks.items) _ c.bucket-first.ensures.chunks (later g c)
-
-pub returns-clause-few : goal.returns-clause-few
-returns-clause-few g c = let long = c.self.invariant.chunk_for_each in let few = c.bucket-first.ensures.chunks in omega arith
-
-pub returns-clause-asked : goal.returns-clause-asked
-returns-clause-asked g c = rw (← c.self.view_is, ← c.bucket-first.ensures.value, ← c.bucket-last.ensures.value) c.meeting_mask.ensures.value
 
 pub returns-clause-within : goal.returns-clause-within
 returns-clause-within g c =

@@ -14,8 +14,7 @@ kept g c = all-back c.self.inside.chunks.len c.deref_mut.result.now c.next_value
 small : (g : _) (c : goal.After-self-1 g) → chunk_count c.self.inside.layout ≤ 63
 small g c =
     let few : length (copies_in c.self.inside.chunks.items) ≤ 63 = rw (← c.self.view_is) at c.requires.few in
-    let long = c.self.invariant.chunk_for_each in
-    omega (arith, few, long)
+    omega (arith, few, c.self.invariant.chunk_for_each)
 
 -- they hold what they held
 holds : (g : _) (c : goal.After-self-1 g) → Holds g.V.ExpiredVal.expiration g.E.Ord.cmp c.self.inside.latest (chunk_count c.self.inside.layout) (copies_in c.next_value.new.chunks) (members_in g.V.ExpiredVal.expiration g.E.Ord.cmp c.self.inside.latest (copies_in c.self.inside.chunks.items))
@@ -23,9 +22,6 @@ holds g c =
     Holds-walked g.V.ExpiredVal.expiration g.E.Ord.cmp c.self.inside.latest c.args.time (chunk_count c.self.inside.layout) (copies_in c.self.inside.chunks.items) (copies_in c.next_value.new.chunks) (members_in g.V.ExpiredVal.expiration g.E.Ord.cmp c.self.inside.latest (copies_in c.self.inside.chunks.items))
     (rw (← c.self.view_is) at c.requires.latest) c.self.invariant
     (subst (λ (chunks : List (Vec (ℕ × g.row.V.Denot) g.row.A.Denot)). SameLive g.V.ExpiredVal.expiration g.E.Ord.cmp c.args.time (copies_in chunks) (copies_in c.next_value.new.chunks)) c.deref_mut.ensures.value c.next_value.ensures.live)
-
-pub next_value-requires-clause-passed : goal.next_value-requires-clause-passed
-next_value-requires-clause-passed g c = rw c.deref_mut.ensures.value (rw (← c.self.view_is) at c.requires.passed)
 
 pub invariant_of-self : goal.invariant_of-self
 invariant_of-self g c =

@@ -7,13 +7,6 @@ use Rattle.i_tree.proofs.SetLemmas.Insertion.{on_either}
 use Rattle.i_tree.proofs.SetLemmas.Positions.{has_room, joins_numbered, ordered-insert}
 use Rattle.i_tree.proofs.set.list.SetListSetCollection.insert.Goals as goal
 
-pub put-requires : goal.put-requires
-put-requires g c =
-    record {
-      within = rw (← c.self.view_is, ← c.deref.ensures.value) c.place_of-place.ensures.within;
-      place = rw (← c.key.ensures, ← c.self.view_is, ← c.deref.ensures.value) c.place_of-place.ensures.splits;
-    }
-
 pub returns-clause-ok : goal.returns-clause-ok
 returns-clause-ok g c =
     on_ok_weaker c.put.result (λ joins. joins_numbered c.args.self.now.values c.put.new.self.values joins.0 c.args.val joins.1 joins.3) c.put.ensures.inserts.joins

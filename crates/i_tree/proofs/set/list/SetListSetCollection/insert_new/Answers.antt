@@ -1,35 +1,15 @@
 use Rattle.std.proofs.Common.{refl}
-use Rattle.std.proofs.lemmas.Result.{err_from_is_err_and}
 use Rattle.i_tree.specs.Set.Pairs.{LacksKey}
 use Rattle.i_tree.specs.Set.SetList.{numbered}
 use Rattle.i_tree.specs.declared.TheConstants.{EMPTY_REF}
 use Rattle.i_tree.proofs.SetLemmas.Positions.{AreApart-viewed, has_room, joins_numbered, ordered-insert}
 use Rattle.i_tree.proofs.set.list.SetListSetCollection.insert_new.Goals as goal
 
-pub has_key_at-requires : goal.has_key_at-requires
-has_key_at-requires g c =
-    record {
-      in_order = rw c.deref-2.ensures.value (rw (← c.self.view_is) at c.requires);
-      within = rw (c.deref-2.ensures.value, ← c.deref.ensures.value) c.place_of-place.ensures.within;
-      place = rw (c.deref-2.ensures.value, ← c.deref.ensures.value, c.key-2.ensures, ← c.key.ensures) c.place_of-place.ensures.splits;
-    }
-
 pub returns-then-has_key_at-clause-present : goal.returns-then-has_key_at-clause-present
 returns-then-has_key_at-clause-present g c = (refl, rw (← c.key-2.ensures, ← c.self.view_is, ← c.deref-2.ensures.value) c.if-has_key_at.ensures, refl)
 
 pub returns-then-has_key_at-clause-handles : goal.returns-then-has_key_at-clause-handles
 returns-then-has_key_at-clause-handles g c = AreApart-viewed c.self.view_is c.self.invariant
-
-pub put-requires : goal.put-requires
-put-requires g c =
-    record {
-      within = rw (← c.self.view_is, ← c.deref.ensures.value) c.place_of-place.ensures.within;
-      place = rw (← c.key.ensures, ← c.self.view_is, ← c.deref.ensures.value) c.place_of-place.ensures.splits;
-    }
-
--- the key was not found
-pub returns-clause-absent : goal.returns-clause-absent
-returns-clause-absent g c = rw (← c.key-2.ensures, ← c.self.view_is, ← c.deref-2.ensures.value) c.if-has_key_at.ensures
 
 pub returns-clause-ok : goal.returns-clause-ok
 returns-clause-ok g c =
@@ -42,23 +22,7 @@ returns-clause-in_order g c =
     let absent : LacksKey g.V.KeyValue.key_of g.K.Ord.cmp (numbered c.args.self.now.values) (g.V.KeyValue.key_of c.args.val) = rw (← c.key-2.ensures, ← c.self.view_is, ← c.deref-2.ensures.value) c.if-has_key_at.ensures in
     rw joins.3 (ordered-insert g.V.KeyValue.key_of g.met.K.Ord.total c.args.self.now.values c.args.val joins.0 c.requires absent joins.2 joins.1)
 
-pub returns-clause-inserts : goal.returns-clause-inserts
-returns-clause-inserts g c = c.in_ok-put.ensures.inserts
-
-pub returns-in_err-put-clause-absent : goal.returns-in_err-put-clause-absent
-returns-in_err-put-clause-absent g c =
-    let exit = err_from_is_err_and c.from_residual.result c.from_residual.ensures.1 in
-    rw (exit.1, ← c.key-2.ensures, ← c.self.view_is, ← c.deref-2.ensures.value) c.if-has_key_at.ensures
-
-pub returns-in_err-put-clause-in_order : goal.returns-in_err-put-clause-in_order
-returns-in_err-put-clause-in_order g c = rw c.in_err-put.ensures.inserts.err c.requires
-
 pub returns-in_err-put-clause-with_room : goal.returns-in_err-put-clause-with_room
 returns-in_err-put-clause-with_room g c few =
     let (short, some) = has_room c.args.self.now.values EMPTY_REF c.args.self.now.spare few in
     absurd (cc (c.in_err-put.ensures.inserts.with_spare short some))
-
-pub returns-in_err-put-clause-inserts : goal.returns-in_err-put-clause-inserts
-returns-in_err-put-clause-inserts g c =
-    let exit = err_from_is_err_and c.from_residual.result c.from_residual.ensures.1 in
-    rw (exit.1, exit.2) c.in_err-put.ensures.inserts

@@ -25,13 +25,12 @@ pub returns-clause-cases : goal.returns-clause-cases
 returns-clause-cases g c =
     let pairs = g.Self.SetCollection.pairs c.args.self.now in
     let order = λ (other : g.row.K.Denot). g.K.Ord.cmp other c.args.key.now in
-    let value = c.value_by_index.result.now in
-    let compared : c.cmp.result ≡ order (g.V.KeyValue.key_of value) = c.cmp.ensures ∙ ap order c.key.ensures in
+    let compared : c.cmp.result ≡ order (g.V.KeyValue.key_of _) = c.cmp.ensures ∙ ap order c.key.ensures in
     MatchBool-by _ _ _
-    (λ test. HoldsKey-found g.V.KeyValue.key_of g.K.Ord.cmp c.args.key.now pairs c.first_index_less_by-found.result value
+    (λ test. HoldsKey-found g.V.KeyValue.key_of g.K.Ord.cmp c.args.key.now pairs c.first_index_less_by-found.result _
     (c.first_index_less_by-found.ensures.live c.if-found.false) c.value_by_index.ensures.value
     (sym compared ∙ equal_from c.cmp.result (sym c.is_eq.ensures ∙ test)))
-    (λ test. LacksKey-other g.V.KeyValue.key_of g.K.Ord.cmp c.args.key.now pairs c.first_index_less_by-found.result value c.value_by_index.ensures.value
+    (λ test. LacksKey-other g.V.KeyValue.key_of g.K.Ord.cmp c.args.key.now pairs c.first_index_less_by-found.result _ c.value_by_index.ensures.value
     (λ equal. let is_equal : is_eq c.cmp.result ≡ true = ap is_eq (compared ∙ equal) in let is_not : is_eq c.cmp.result ≡ false = sym c.is_eq.ensures ∙ test in cc)
     (c.first_index_less_by-found.ensures.value order (λ k d within answer says. search rules)
     (IsMonotone-compare g.met.K.Ord.total (λ (key : g.row.K.Denot). key) c.args.key.now (by_key g.V.KeyValue.key_of pairs))))

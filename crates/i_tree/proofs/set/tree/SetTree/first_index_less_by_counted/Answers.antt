@@ -1,4 +1,4 @@
-use Rattle.std.proofs.Common.{length, sym, ap, ◌∙◌, subst}
+use Rattle.std.proofs.Common.{sym, ap, ◌∙◌, subst}
 use Rattle.std.specs.Fn.{FnReturnsAt}
 use Rattle.std.specs.declared.cmp.Ordering.{Ordering}
 use Rattle.i_tree.proofs.SetLemmas.Live.{HasHandle-found}
@@ -7,7 +7,6 @@ use Rattle.i_tree.specs.Rb.RbTree.{Contents}
 use Rattle.i_tree.specs.Rb.Place.{place_below}
 use Rattle.i_tree.specs.Rb.Shape.{entries}
 use Rattle.i_tree.specs.Root.Answer.{AnswersBy, IsMonotone}
-use Rattle.i_tree.specs.Root.Descent.{Searches}
 use Rattle.i_tree.specs.Set.Pairs.{by_key, HasHandle, IsFoundBy, IsOrdered, TakesKeys}
 use Rattle.i_tree.proofs.set.tree.SetTree.first_index_less_by_counted.Goals as goal
 
@@ -31,10 +30,3 @@ returns-clause-live g c some =
     let ended = c.search_down.result in
     subst (λ (contents : Contents g.row.V.Denot). HasHandle (entries contents.shape) ended.found) c.self.view_is
     (HasHandle-found _ c.self.inside.core.shape (place_below ended.above ended.on_right) ended.found ended.said c.search_down.ensures.end some)
-
-pub returns-clause-steps : goal.returns-clause-steps
-returns-clause-steps g c =
-    subst (λ (contents : Contents g.row.V.Denot). Searches g.C.Counter.made c.args.steps.now c.search_down.new.steps (length (entries contents.shape)) 0 0) c.self.view_is c.search_down.ensures.steps
-
-pub returns-clause-core : goal.returns-clause-core
-returns-clause-core g c = rw (← c.self.view_is) c.search_down.ensures.core

@@ -1,4 +1,4 @@
-use Rattle.std.proofs.Common.{rules, length, refl, sym, ◌∙◌, subst}
+use Rattle.std.proofs.Common.{length, refl, sym, ◌∙◌, subst}
 use Rattle.std.specs.List.{All}
 use Rattle.i_tree.proofs.RbLemmas.SearchPath.Counts.{searches_rotation}
 use Rattle.i_tree.proofs.RbLemmas.SearchPath.Insertion.{IsLower, IsHigher}
@@ -21,20 +21,6 @@ put-requires g c =
     record {
       in_order = c.requires;
       place = (found.0, found.1, found.2, subst (λ key. All (IsLower key_of total key) found.0) c.key.ensures found.3, subst (λ key. All (IsHigher key_of total key) found.1) c.key.ensures found.4);
-    }
-
-pub returns-clause-inserts : goal.returns-clause-inserts
-returns-clause-inserts g c =
-    let put = c.in_ok-put.ensures in
-    record {
-      joins = put.joins;
-      keeps = put.keeps;
-      core = put.core;
-      with_spare = search rules;
-      err = search rules;
-      no_handle = put.takes.no_handle;
-      refused = search rules;
-      slots = put.takes.slots;
     }
 
 pub returns-clause-absent : goal.returns-clause-absent

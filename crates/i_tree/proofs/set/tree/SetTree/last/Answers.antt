@@ -12,22 +12,17 @@ pub loop-here-init : goal.loop-here-init
 loop-here-init g c =
     ([], IsCutAt-top c.self.inside.core.shape c.root-here.result c.root-here.ensures.part c.root-here.ensures.live, refl)
 
-pub right-here-requires : goal.right-here-requires
-right-here-requires g c = c.loop-here.invariant.1.live c.loop-here-test.true
-
 pub loop-here-smaller : goal.loop-here-smaller
 loop-here-smaller g c =
-    let tree = c.self.inside.core.shape in
-    let found = subtrees_live c.loop-here.here tree (c.loop-here.invariant.1.live c.loop-here-test.true) in
-    falls_right tree c.loop-here.here found.0 found.1 c.right-here.result c.right-here.ensures.core.falls c.right-here.ensures.part
+    let found = subtrees_live c.loop-here.here _ (c.loop-here.invariant.1.live c.loop-here-test.true) in
+    falls_right _ c.loop-here.here found.0 found.1 c.right-here.result c.right-here.ensures.core.falls c.right-here.ensures.part
 
 pub loop-here-preserved : goal.loop-here-preserved
 loop-here-preserved g c =
-    let tree = c.self.inside.core.shape in
-    let found = subtrees_live c.loop-here.here tree (c.loop-here.invariant.1.live c.loop-here-test.true) in
-    let front = c.loop-here.invariant.0 ++ entries (left_at c.loop-here.here tree) in (
+    let found = subtrees_live c.loop-here.here _ (c.loop-here.invariant.1.live c.loop-here-test.true) in
+    let front = c.loop-here.invariant.0 ++ entries (left_at c.loop-here.here _) in (
       front ++ (c.loop-here.here, found.0) ∷ [],
-      goes_right tree c.loop-here.here found.0 found.1 c.loop-here.invariant.1 c.right-here.result c.right-here.ensures.live c.right-here.ensures.part,
+      goes_right _ c.loop-here.here found.0 found.1 c.loop-here.invariant.1 c.right-here.result c.right-here.ensures.live c.right-here.ensures.part,
       sym (last_handle-end front (c.loop-here.here, found.0)),
     )
 

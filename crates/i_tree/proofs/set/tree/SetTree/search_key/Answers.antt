@@ -50,6 +50,3 @@ returns-clause-place g c apart =
     let ended = c.search_down.result in
     let found = around g c apart in
     (end.front, end.back, subst (λ (contents : Contents g.row.V.Denot). IsPlaceBetween contents.shape end.front end.back (place_below ended.above ended.on_right)) c.self.view_is end.between, found.0, found.1)
-
-pub returns-clause-steps : goal.returns-clause-steps
-returns-clause-steps g c = rw (← c.self.view_is) c.search_down.ensures.steps

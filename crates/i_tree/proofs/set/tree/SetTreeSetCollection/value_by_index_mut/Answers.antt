@@ -12,13 +12,12 @@ item_mut-requires g c =
 
 pub returns : goal.returns
 returns g c =
-    let tree = c.self.inside.core.shape in
     let live = subst (λ (contents : Contents g.row.V.Denot). IsHandle contents.shape c.args.index) (sym c.self.view_is) (live-HasHandle c.args.index c.args.self.now.shape c.requires) in
     let pairs_are = ap (λ (contents : Contents g.row.V.Denot). entries contents.shape) c.self.view_is in (
       (refl, λ value. ap (λ (contents : Contents g.row.V.Denot). contents_with_item c.args.index contents value) c.self.view_is),
       record {
         writes_back = tt;
-        value = λ front value back is. value_at c.args.index tree c.item_mut.result.now (c.item_mut.ensures.core.handles.apart c.args.index) live c.item_mut.ensures.value front value back (pairs_are ∙ is);
-        handles = rw (← c.self.view_is) (AreApart-from_handles tree c.item_mut.ensures.core.handles);
+        value = λ front value back is. value_at c.args.index _ c.item_mut.result.now (c.item_mut.ensures.core.handles.apart c.args.index) live c.item_mut.ensures.value front value back (pairs_are ∙ is);
+        handles = rw (← c.self.view_is) (AreApart-from_handles _ c.item_mut.ensures.core.handles);
       },
     )

@@ -1,8 +1,4 @@
 use Rattle.i_tree.proofs.status.list.StatusListStatusCollection.first_greater_by.Goals as goal
 
--- what is searched is what is live
-pub value_above-requires : goal.value_above-requires
-value_above-requires g c = rw (c.pairs.ensures, c.remove_expired.ensures.leaves.keeps_live, c.self.view_is) c.requires
-
 pub returns-clause-value : goal.returns-clause-value
 returns-clause-value g c = rw (← c.self.view_is, ← c.remove_expired.ensures.leaves.keeps_live, ← c.pairs.ensures) c.value_above.ensures

@@ -11,9 +11,6 @@ use Rattle.i_tree.specs.Root.Live.{is_live}
 use Rattle.i_tree.specs.Status.Insertion.{JoinsAlong}
 use Rattle.i_tree.proofs.status.list.StatusListStatusCollection.insert_between.Goals as goal
 
-pub place_by-requires : goal.place_by-requires
-place_by-requires g c = rw (c.pairs.ensures, c.remove_expired.ensures.leaves.keeps_live, c.self.view_is) c.requires
-
 -- a live key is called Equal
 pub returns-in_default-clause-cases : goal.returns-in_default-clause-cases
 returns-in_default-clause-cases g c = rw (← c.self.view_is, ← c.remove_expired.ensures.leaves.keeps_live, ← c.pairs.ensures) c.in_default.ensures.place

@@ -15,6 +15,3 @@ returns-clause-err_new g c = rw c.has_joined.ensures (OnErr-joined c.insert_betw
 
 pub returns-clause-with_room : goal.returns-clause-with_room
 returns-clause-with_room g c few = rw c.has_joined.ensures (IsOk-joined c.insert_between.result (c.insert_between.ensures.with_room few))
-
-pub returns-clause-inserts : goal.returns-clause-inserts
-returns-clause-inserts g c = rw c.has_joined.ensures c.insert_between.ensures.inserts

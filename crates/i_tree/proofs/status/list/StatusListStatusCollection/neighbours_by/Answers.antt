@@ -1,8 +1,4 @@
 use Rattle.i_tree.proofs.status.list.StatusListStatusCollection.neighbours_by.Goals as goal
 
--- what is searched is what is live
-pub neighbours-requires : goal.neighbours-requires
-neighbours-requires g c = rw (c.pairs.ensures, c.remove_expired.ensures.leaves.keeps_live, c.self.view_is) c.requires
-
 pub returns-clause-value : goal.returns-clause-value
 returns-clause-value g c = rw (← c.self.view_is, ← c.remove_expired.ensures.leaves.keeps_live, ← c.pairs.ensures) c.neighbours.ensures

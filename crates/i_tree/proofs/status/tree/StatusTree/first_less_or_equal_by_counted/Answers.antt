@@ -12,6 +12,3 @@ returns-clause-value g c =
 
 pub returns-clause-kept : goal.returns-clause-kept
 returns-clause-kept g c = rw (← c.self.view_is) c.descend-end.ensures.kept
-
-pub returns-clause-slots : goal.returns-clause-slots
-returns-clause-slots g c = rw (← c.self.view_is) c.descend-end.ensures.slots

@@ -7,9 +7,6 @@ use Rattle.i_tree.specs.Expiring.Tree.{items}
 use Rattle.i_tree.specs.Root.Live.{is_live}
 use Rattle.i_tree.proofs.status.tree.StatusTree.insert_between_counted.Goals as goal
 
-pub insert_between-requires : goal.insert_between-requires
-insert_between-requires g c = rw c.self.view_is c.requires
-
 pub returns-clause-cases : goal.returns-clause-cases
 returns-clause-cases g c =
     rw (c.pairs_beside.ensures.same, ← c.self.view_is)
@@ -40,8 +37,3 @@ returns-in_err-told-clause-err_new g c =
     let p = err_from_is_err_and c.from_residual.result c.from_residual.ensures.1 in
     rw (p.1, ← c.self.view_is)
     (refused_none (is_live g.K.ExpiredVal.expiration g.E.Ord.cmp c.args.time) (goal.F-post g c.args.f) (items c.self.inside.core.shape) c.in_err-told.ensures.pairs.refused)
-
-pub returns-in_err-told-clause-inserts : goal.returns-in_err-told-clause-inserts
-returns-in_err-told-clause-inserts g c =
-    let p = err_from_is_err_and c.from_residual.result c.from_residual.ensures.1 in
-    rw (p.1, p.2, ← c.self.view_is) c.in_err-told.ensures.inserts

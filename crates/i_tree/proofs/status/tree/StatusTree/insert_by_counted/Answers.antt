@@ -1,4 +1,3 @@
-use Rattle.std.proofs.Common.{◌∙◌}
 use Rattle.i_tree.proofs.ExpiringLemmas.Insertion.{IfOk-joined, OnErr-joined}
 use Rattle.std.proofs.lemmas.Result.{on_err_weaker}
 use Rattle.i_tree.proofs.RootLemmas.Results.{IfOk-both}
@@ -20,10 +19,6 @@ returns-clause-ok g c =
     (IfOk-both (has_joined c.insert_between.result) c.insert_between.ensures.pairs.joins c.insert_between.ensures.pairs.equal
     (λ is_new joins equal. joins_or_leaves (is_live g.K.ExpiredVal.expiration g.E.Ord.cmp c.args.time) (goal.F-post g c.args.f) (c.args.key, c.args.val) (items c.self.inside.core.shape) (items c.insert_between.new.core.shape) is_new joins))
 
-pub returns-clause-err : goal.returns-clause-err
-returns-clause-err g c =
-    rw c.has_joined.ensures (on_err_weaker (has_joined c.insert_between.result) (λ same. same ∙ c.self.view_is) c.insert_between.ensures.inserts.err)
-
 pub returns-clause-err_new : goal.returns-clause-err_new
 returns-clause-err_new g c =
     rw (c.has_joined.ensures, ← c.self.view_is)
@@ -34,14 +29,8 @@ pub returns-clause-inserts : goal.returns-clause-inserts
 returns-clause-inserts g c =
     rw (c.has_joined.ensures, ← c.self.view_is) c.insert_between.ensures.inserts
 
-pub returns-clause-with_spare : goal.returns-clause-with_spare
-returns-clause-with_spare g c spare = rw c.has_joined.ensures (c.insert_between.ensures.inserts.with_spare (rw c.self.view_is spare))
-
 pub returns-clause-steps : goal.returns-clause-steps
 returns-clause-steps g c = rw (c.has_joined.ensures, ← c.self.view_is) (IfOk-joined c.insert_between.result _ c.insert_between.ensures.steps)
 
 pub returns-clause-err_steps : goal.returns-clause-err_steps
 returns-clause-err_steps g c = rw (c.has_joined.ensures, ← c.self.view_is) (OnErr-joined c.insert_between.result _ c.insert_between.ensures.err_steps)
-
-pub returns-clause-core : goal.returns-clause-core
-returns-clause-core g c = c.insert_between.ensures.inserts.core

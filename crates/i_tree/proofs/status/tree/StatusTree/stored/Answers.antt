@@ -4,6 +4,3 @@ use Rattle.i_tree.proofs.status.tree.StatusTree.stored.Goals as goal
 
 pub returns-clause-value : goal.returns-clause-value
 returns-clause-value g c = rw (← c.self.view_is) (c.len.ensures.value ∙ sym (length-items c.self.inside.core.shape))
-
-pub returns-clause-core : goal.returns-clause-core
-returns-clause-core g c = rw (← c.self.view_is) c.len.ensures.core
