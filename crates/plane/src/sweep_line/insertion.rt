@@ -21,7 +21,7 @@ pub type Neighbours = (Option<(ActiveEdge, ())>, Option<(ActiveEdge, ())>);
 /// x, as long as no two of them cross (`sorted`). Expired edges may go. It is refused where the status gets no room for
 /// the edge, never while fewer are stored than there is room for; then what is stored stays as it was. There is no less room
 /// than before, whatever the answer.
-#[inline]
+#[inline(always)]
 pub fn insert_beginning<C: StatusCollection<ActiveEdge, i64, ()>>(
     status: &mut C,
     beginning: ActiveEdge,
