@@ -20,6 +20,7 @@ use plane::sweep_line::ActiveEdge;
 use std::alloc::Allocator;
 
 mod appending;
+mod below;
 mod directions;
 mod edges;
 mod homes;
