@@ -2,13 +2,11 @@
 use Rattle.std.proofs.Common.{ap, arith, inl, inr, pos, subst, sym, ℕ, ℤ, ◌*ℤ◌, ◌*◌, ◌+ℤ◌, ◌-ℤ◌, ◌<◌, ◌∙◌, ◌≡◌, ◌≤ℤ◌, ◌≤◌, ◌⊎◌}
 use Rattle.std.proofs.lemmas.Int.{by_lt_z, clamps, ints}
 use Rattle.std.specs.Int.{int_min, int_max}
-use Rattle.plane.specs.declared.pairs.items.Bounds.{Bounds}
-use Rattle.plane.specs.Meet.Boxes.{bounds_of}
-use Rattle.plane.specs.Pairs.Bounds.{BoundsMeet}
 use Rattle.plane.specs.declared.edge.Edge.{Edge}
 use Rattle.plane.specs.declared.point.Point.{Point}
 use Rattle.plane.specs.Meet.Edges.{IsAtShare, RationalPoint}
 use Rattle.overlay.specs.Snap.Chains.{Passes, Upto, UptoOn}
+use Rattle.overlay.specs.Snap.Close.{InBox}
 use Rattle.overlay.specs.Snap.Rounding.{RoundsOn, RoundsTo}
 use Rattle.overlay.proofs.SnapLemmas.Numbers.{n_of}
 use Rattle.overlay.proofs.SnapLemmas.Rounding.{RoundsTo-itself, RoundsOn-monotone, whole}
@@ -148,17 +146,8 @@ within from to c first second =
     let low = second.falling down in
     let high = first.falling down in (omega (arith, ints, clamps, low), omega (arith, ints, clamps, high)))
 
--- the box of a whole point
-abbrev pub at_point : ℤ → ℤ → Bounds
-at_point x y = record {
-  left = x;
-  right = x;
-  low = y;
-  high = y;
-}
-
 -- what an edge passes lies in its box
-pub Passes-in_box : (edge : Edge) (x y : ℤ) → Passes edge x y → BoundsMeet (bounds_of edge) (at_point x y)
+pub Passes-in_box : (edge : Edge) (x y : ℤ) → Passes edge x y → InBox edge x y
 Passes-in_box edge x y passes =
     let first = Upto-from_start edge x y passes in
     let second = Upto-to_end edge x y passes in

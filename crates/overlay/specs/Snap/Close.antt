@@ -1,9 +1,20 @@
 -- Edges that come close to each other. For private contracts.
 use Rattle.std.specs.Prelude.{◌⊎◌, ℤ}
 use Rattle.plane.specs.declared.edge.Edge.{Edge}
+use Rattle.plane.specs.declared.pairs.items.Bounds.{Bounds}
+use Rattle.plane.specs.Meet.Boxes.{bounds_of}
 use Rattle.plane.specs.Meet.Edges.{Meet}
+use Rattle.plane.specs.Pairs.Bounds.{BoundsMeet}
 use Rattle.overlay.specs.Snap.Chains.{IsEnd, Passes}
 use Rattle.overlay.specs.declared.snap.close.CloseEdge.{CloseEdge}
+
+-- The box of a whole point.
+abbrev pub at_point : ℤ → ℤ → Bounds
+at_point x y = record { left = x; right = x; low = y; high = y }
+
+-- The whole point (x, y) lies in the edge's box.
+abbrev pub InBox : Edge → ℤ → ℤ → Type 0
+InBox edge x y = BoundsMeet (bounds_of edge) (at_point x y)
 
 -- The edge passes the whole point (x, y) between its ends.
 abbrev pub PassesInside : Edge → ℤ → ℤ → Type 0

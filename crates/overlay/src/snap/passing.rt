@@ -2,17 +2,32 @@
 
 ghost use Rattle.std.specs.Prelude.{◌≡◌, ◌*◌, pos, ◌-ℤ◌, ◌≤ℤ◌, MatchBool};
 ghost use Rattle.overlay.specs.Snap.Chains.{IsEnd, Passes};
-ghost use Rattle.overlay.specs.Snap.Close.{PassesInside};
+ghost use Rattle.overlay.specs.Snap.Close.{InBox, PassesInside};
 ghost use Rattle.overlay.specs.Snap.Tests.{IsPassed};
 
 use crate::edges::reverse;
 use plane::edge::Edge;
+use plane::pairs::items::Boxed;
 
-/// Whether the edge passes the whole point (x, y) between its ends.
+/// Whether the edge passes the whole point (x, y) between its ends. Most points that are asked for lie beside its box, so that
+/// this is told where it is asked.
+#[inline(always)]
 pub fn passes_inside(edge: Edge, x: i32, y: i32) -> bool
     ensures { MatchBool result (PassesInside edge x y) (¬ (PassesInside edge x y)) }
 {
+    if !is_in_box(edge, x, y) {
+        return false;
+    }
     !is_end(edge, x, y) && passes(edge, x, y)
+}
+
+// Whether the whole point (x, y) lies in the edge's box.
+#[inline(always)]
+fn is_in_box(edge: Edge, x: i32, y: i32) -> bool
+    ensures { MatchBool result (InBox edge x y) (¬ (InBox edge x y)) }
+{
+    let bounds = edge.bounds();
+    is_between(bounds.left, bounds.right, x) & is_between(bounds.low, bounds.high, y)
 }
 
 /// Whether the whole point (x, y) is an end of the edge.
