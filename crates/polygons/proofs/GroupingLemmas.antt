@@ -1,5 +1,6 @@
 pub mod Bags
 pub mod Begins
+pub mod Below
 pub mod Callers
 pub mod Edges
 pub mod Filling

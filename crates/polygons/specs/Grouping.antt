@@ -1,5 +1,5 @@
 -- Rings of closed edges as polygons. For private contracts.
-use Rattle.std.specs.Prelude.{ℕ, ◌≡◌, ◌+◌, ◌*◌, ◌<◌, ◌≤◌, ⊤, Bool, true, false, not, cond, ◌&&◌, List, [], ◌∷◌, ◌++◌, All, Option, Some, get_or, length, map}
+use Rattle.std.specs.Prelude.{ℕ, ◌≡◌, ◌+◌, ◌*◌, ◌<◌, ◌≤◌, ◌<ℤ◌, ⊤, Bool, true, false, not, cond, ◌&&◌, List, [], ◌∷◌, ◌++◌, All, Option, Some, get_or, length, map}
 use Rattle.std.specs.List.{between}
 use Rattle.std.specs.List.Sorted.{IsPermutation}
 use Rattle.std.specs.Ordering.{int_eq}
@@ -38,6 +38,18 @@ pub record AreSides (edges : List Edge) (count : ℕ) (sides : List Side) : Type
   pub pieces : IsPermutation (turned Subject edges) (pieces_of sides)
   pub order : BeginInOrder (pieces_of sides)
   pub numbered : AreNumbered count sides
+
+-- It goes rightwards.
+abbrev pub IsRightward : Side → Type 0
+IsRightward side = side.piece.edge.x0 <ℤ side.piece.edge.x1
+
+-- It goes rightwards, and belongs to a ring of a number below this one.
+abbrev pub IsSideAmong : ℕ → Side → Type 0
+IsSideAmong count side = (side.ring < count) × IsRightward side
+
+-- It goes rightwards, and belongs to the ring of this number.
+abbrev pub IsSideOf : ℕ → Side → Type 0
+IsSideOf ring side = (side.ring ≡ ring) × IsRightward side
 
 -- ---- homes
 

@@ -1,7 +1,7 @@
 -- Of edges that bound a region some ring runs counterclockwise.
 use Rattle.std.proofs.Common.{◌≡◌, ◌≢◌, ◌<◌, ◌++◌, [], ◌∷◌, inl, inr, ℕ, zero, suc, length, get_or, map, Bool, true, false, not, ◌&&◌, cond, ℤ, pos, ◌<ℤ◌, List, Option, Some, None, refl, sym, subst, ◌∙◌, append_assoc, append-nil, arith}
 use Rattle.std.specs.List.{Contains, flat_map, position, position_or_len}
-use Rattle.std.specs.Prelude.{nat_lt}
+use Rattle.std.specs.Prelude.{IfSome, nat_lt}
 use Rattle.std.specs.Int.Signed.{lt_z}
 use Rattle.std.specs.Ordering.{int_eq}
 use Rattle.std.proofs.lemmas.Bool.{ltb-false}
@@ -109,6 +109,14 @@ told-from done (edge ∷ edges) best told =
 
 told-all : (edges : List Edge) → Told edges (first_sloped None edges)
 told-all edges = told-from [] edges None (λ other held is. (let (k, within, at) = held in absurd (omega (arith, within))))
+
+-- the one that begins first isn't vertical
+pub first-is_sloped : (edges : List Edge) → IfSome (first_sloped None edges) (λ edge. edge.x0 ≢ edge.x1)
+first-is_sloped edges = by (first_sloped None edges) (told-all edges)
+  where
+    by : (best : Option Edge) → Told edges best → IfSome best (λ edge. edge.x0 ≢ edge.x1)
+    by None told = tt
+    by (Some first) told = λ same. told.sloped (sym same)
 
 -- ---- rings
 

@@ -1,8 +1,9 @@
 //! Which way rings run.
 
-ghost use Rattle.std.specs.Prelude.{◌≡◌, IfOk, length, map};
+ghost use Rattle.std.specs.Prelude.{◌≡◌, ◌≢◌, IfOk, IfSome, None, length, map};
+ghost use Rattle.overlay.specs.Contours.Rings.{ring_edges};
 ghost use Rattle.polygons.specs.Grouping.{sooner};
-ghost use Rattle.polygons.specs.Polygons.{begins_before, is_counterclockwise, runs_rightwards};
+ghost use Rattle.polygons.specs.Polygons.{begins_before, first_sloped, is_counterclockwise, runs_rightwards};
 ghost use Rattle.polygons.specs.Rings.{AreEnds, rings_of};
 
 use super::edges::edge_at;
@@ -35,11 +36,19 @@ pub fn directions<A: Allocator>(
 pub fn is_counterclockwise(ring: &[Point]) -> bool
     ensures { result ≡ is_counterclockwise ring.now }
 {
+    runs_rightwards(first_edge(ring))
+}
+
+/// Of the ring's edges that aren't vertical the one that begins first.
+pub fn first_edge(ring: &[Point]) -> Option<Edge>
+    ensures first { result ≡ first_sloped None (ring_edges ring.now) }
+    ensures sloped { IfSome result (λ edge. edge.x0 ≢ edge.x1) }
+{
     let mut best = None;
     for place in 0..ring.len() {
         best = sooner(best, edge_at(ring, place));
     }
-    runs_rightwards(best)
+    best
 }
 
 // Of the best edge so far and this one, the one that begins first. A vertical one doesn't count.

@@ -8,18 +8,23 @@ ghost use Rattle.polygons.specs.Grouping.{AreHomes, AreNumbered, home_of, is_out
 ghost use Rattle.polygons.specs.Polygons.{BoundsSome};
 ghost use Rattle.polygons.specs.Rings.{AreEnds, rings_of};
 
-use super::sides::{Side, sides_in_order};
+use super::below::ring_below;
+use super::sides::{Side, first_sides_in_order, sides_in_order};
 use i_tree::Refusal;
 use i_tree::status::exp::StatusCollection;
 use plane::edge::Edge;
 use plane::point::Point;
 use plane::sweep_line::{ActiveEdge, insert_beginning};
-use std::alloc::Allocator;
+use std::alloc::{AllocError, Allocator};
+
+// Up to so many holes each has a pass over all edges of its own. That takes some 2 ns for an edge, and the sweep more than
+// 200.
+const FEW_HOLES: usize = 64;
 
 /// For each ring the number of an outer ring: for a hole, that of its polygon. An outer ring is its own, whatever stands there.
 ///
-/// The edges are those of the rings. Before the sweep, `outer` stands for each. It begins with an empty status, and is refused
-/// where memory or the status has no room.
+/// The edges are those of the rings. Before any home is found, `outer` stands for each. It begins with an empty status, and
+/// is refused where memory or the status has no room.
 pub fn homes<C, A>(
     alloc: A,
     status: &mut C,
@@ -42,7 +47,8 @@ where
     ensures { IfOk result (λ homes. AreHomes are_outer.now homes.items) }
 {
     let mut homes = vec![in alloc; outer; are_outer.len()]?;
-    if are_outer.iter().all(|is| *is) {
+    if count_of_holes(are_outer) <= FEW_HOLES {
+        settle_few(alloc, points, ends, are_outer, &mut homes)?;
         return Ok(homes);
     }
     let sides = sides_in_order(alloc, edges, points, ends)?;
@@ -50,8 +56,36 @@ where
     Ok(homes)
 }
 
-// Finds the homes of holes. A side that runs leftwards has the polygon below it, and so the side just below it is of that
-// polygon too.
+// How many rings aren't outer ones.
+fn count_of_holes(are_outer: &[bool]) -> usize {
+    are_outer.iter().filter(|is| !**is).count()
+}
+
+// Finds the homes of holes one by one, in the order in which they begin: what is below the first side of a hole belongs to an
+// outer ring, or to a hole that begins before it.
+fn settle_few<A: Allocator>(
+    alloc: A,
+    points: &[Point],
+    ends: &[usize],
+    are_outer: &[bool],
+    homes: &mut [usize],
+) -> Result<(), AllocError>
+    requires ends { AreEnds 0 ends.now (length points.now) }
+    requires each { length are_outer.now ≡ length ends.now }
+    requires homes { AreHomes are_outer.now homes.old }
+    ensures { AreHomes are_outer.now homes.new }
+{
+    let sides = first_sides_in_order(alloc, points, ends, are_outer)?;
+    for side in &sides {
+        if let Some(below) = ring_below(*side, points, ends) {
+            settle_one(*side, below, are_outer, homes);
+        }
+    }
+    Ok(())
+}
+
+// Finds the homes of holes by a sweep. A side that runs leftwards has the polygon below it, and so the side just below it is
+// of that polygon too.
 fn settle<C>(
     status: &mut C,
     sides: &[Side],

@@ -1,13 +1,14 @@
 //! The sides of rings: their edges that aren't vertical, in the order in which they begin.
 
-ghost use Rattle.std.specs.Prelude.{◌≡◌, ◌<◌, ◌^◌, ◌++◌, ◌∷◌, [], ℕ, IfOk, OnOk, length};
+ghost use Rattle.std.specs.Prelude.{◌≡◌, ◌≢◌, ◌<◌, ◌^◌, ◌++◌, ◌∷◌, [], ℕ, All, IfOk, OnOk, length};
 ghost use Rattle.std.specs.List.{flat_map};
 ghost use Rattle.overlay.specs.declared.fill.pieces.Role.TheVariants.{Subject};
 ghost use Rattle.overlay.specs.Contours.Rings.{ring_edges};
-ghost use Rattle.overlay.specs.Fill.Turned.{turned};
-ghost use Rattle.polygons.specs.Grouping.{AreNumbered, AreSides, pieces_of};
+ghost use Rattle.overlay.specs.Fill.Turned.{piece_of, turned};
+ghost use Rattle.polygons.specs.Grouping.{AreNumbered, AreSides, IsRightward, IsSideAmong, pieces_of};
 ghost use Rattle.polygons.specs.Rings.{AreEnds, rings_of};
 
+use super::directions::first_edge;
 use super::edges::edge_at;
 use overlay::fill::pieces::{Piece, Role, compare_begins, is_sloped, piece_of, room_for};
 use plane::edge::Edge;
@@ -91,7 +92,71 @@ fn append_side<A: Allocator>(
     if !is_sloped(edge) {
         return Ok(());
     }
+    sides.push(side_of(edge, ring))?;
+    Ok(())
+}
+
+/// The edge as a side of the ring of this number.
+pub fn side_of(edge: Edge, ring: usize) -> Side
+    requires { edge.x0 ≢ edge.x1 }
+    ensures piece { result.piece ≡ piece_of Subject edge }
+    ensures ring { result.ring ≡ ring }
+    ensures right { IsRightward result }
+{
     let piece = piece_of(edge, Role::Subject);
-    sides.push(Side { piece, ring })?;
+    Side { piece, ring }
+}
+
+/// The first side of each hole, in the order in which they begin.
+pub fn first_sides_in_order<A: Allocator>(
+    alloc: A,
+    points: &[Point],
+    ends: &[usize],
+    are_outer: &[bool],
+) -> Result<Vec<Side, A>, AllocError>
+    requires ends { AreEnds 0 ends.now (length points.now) }
+    requires each { length are_outer.now ≡ length ends.now }
+    ensures { IfOk result (λ sides. All (IsSideAmong (length ends.now)) sides.items) }
+{
+    let mut sides = first_sides(alloc, points, ends, are_outer)?;
+    sides.sort_unstable_by(|one: &Side, other: &Side| -> Ordering {
+        compare_begins(one.piece.edge, other.piece.edge)
+    });
+    Ok(sides)
+}
+
+// The first side of each hole, ring by ring.
+fn first_sides<A: Allocator>(
+    alloc: A,
+    points: &[Point],
+    ends: &[usize],
+    are_outer: &[bool],
+) -> Result<Vec<Side, A>, AllocError>
+    requires ends { AreEnds 0 ends.now (length points.now) }
+    requires each { length are_outer.now ≡ length ends.now }
+    ensures { IfOk result (λ sides. All (IsSideAmong (length ends.now)) sides.items) }
+{
+    let mut sides = Vec::new(alloc);
+    let mut start = 0;
+    for (ring, end) in ends.iter().enumerate() {
+        if !are_outer[ring] {
+            append_first(&mut sides, &points[start..*end], ring)?;
+        }
+        start = *end;
+    }
+    Ok(sides)
+}
+
+// Appends the side of the ring of this number that begins first.
+fn append_first<A: Allocator>(
+    sides: &mut Vec<Side, A>,
+    points: &[Point],
+    ring: usize,
+) -> Result<(), AllocError>
+    ensures { OnOk result ((count : ℕ) → ring < count → All (IsSideAmong count) sides.old.items → All (IsSideAmong count) sides.new.items) }
+{
+    if let Some(edge) = first_edge(points) {
+        sides.push(side_of(edge, ring))?;
+    }
     Ok(())
 }

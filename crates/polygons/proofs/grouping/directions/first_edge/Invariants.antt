@@ -4,7 +4,7 @@ use Rattle.overlay.specs.Contours.Rings.{ring_edges}
 use Rattle.polygons.specs.Grouping.{edges_from}
 use Rattle.polygons.specs.Polygons.{first_sloped}
 use Rattle.std.specs.Prelude.{None}
-use Rattle.polygons.proofs.grouping.directions.is_counterclockwise.Given as goal
+use Rattle.polygons.proofs.grouping.directions.first_edge.Given as goal
 
 -- of the best one so far and the edges left the first one is that of all
 abbrev pub invariant-loop-place : goal.invariant-loop-place
