@@ -264,6 +264,41 @@ def points(count=MANY // 20):
     yield answered(f"a ring with each point {count} times in a row", mode, lines(still), wanted, Looked(in_order))
 
 
+# ---- holes in holes
+
+
+def box(left, low, right, high):
+    return [(left, low), (right, low), (right, high), (left, high)]
+
+
+def on_corner(ring):
+    """The ring turned by an eighth, and larger."""
+    return [(x - y, x + y) for x, y in ring]
+
+
+def plate(columns, rows):
+    """The rings of polygons: a plate with holes in columns, and in each hole an island, with one hole over another."""
+    cells = [(12 * column, 12 * row) for column in range(columns) for row in range(rows)]
+    yield [box(0, 0, 12 * columns, 12 * rows), *(box(x + 1, y + 1, x + 11, y + 11) for x, y in cells)]
+    for x, y in cells:
+        yield [box(x + 2, y + 2, x + 10, y + 10), box(x + 3, y + 3, x + 9, y + 5), box(x + 3, y + 6, x + 9, y + 9)]
+
+
+def nested():
+    """Cases of holes over holes and in holes: few, each of which is looked for by itself, and many, found by a sweep."""
+    random = Random(SEED)
+    for columns, rows in ((1, 1), (3, 7), (9, 14)):
+        for how, turn in (("along the axes", list), ("on its corner", on_corner)):
+            polygons = [list(map(turn, polygon)) for polygon in plate(columns, rows)]
+            said = [line_of("subject", ring) for polygon in polygons for ring in polygon]
+            random.shuffle(said)
+            told = []
+            for outer, *holes in polygons:
+                told += [line_of("polygon", outer), *(line_of("hole", hole[::-1]) for hole in holes)]
+            name = f"a plate {how} with {columns * rows} holes, and two in each island"
+            yield answered(name, "overlay union evenodd", lines(*said), in_order(lines(*told)), Looked(in_order))
+
+
 class InOrder(refusals.Preloaded):
     """Runs whose replies are put in order."""
 
@@ -281,6 +316,6 @@ def memory():
 
 
 PARTS = (
-    *(worked, faulty, texts, odd_texts, many, points, memory, partial(streams.each_mode, [PLAIN])),
+    *(worked, faulty, texts, odd_texts, many, points, nested, memory, partial(streams.each_mode, [PLAIN])),
     *(partial(by_chance, mode, seed) for seed, mode in enumerate(MODES)),
 )

@@ -36,7 +36,7 @@ PARTS = (
 )
 TEXTS = text.empty_texts, text.plain_lines, text.faulty_lines, text.numbers
 # Those of modes that the help in docs/COMMANDS.md may not list yet.
-WHERE_LISTED = {"snap": (snaps.worked,), "overlay OPERATION RULE": (overlays.worked, overlays.faulty)}
+WHERE_LISTED = {"snap": (snaps.worked,), "overlay OPERATION RULE": (overlays.worked, overlays.faulty, overlays.nested)}
 READ = "keytree", "setlist", "seg"
 
 CRATE = os.path.normpath(os.path.join(os.path.dirname(os.path.abspath(__file__)), "..", "crates", "itree"))

@@ -17,13 +17,14 @@ use plane::point::Point;
 use plane::sweep_line::{ActiveEdge, insert_beginning};
 use std::alloc::{AllocError, Allocator};
 
-// Up to so many holes each is looked for by itself, in a pass over all edges.
+// Up to so many holes each has a pass over all edges of its own. That takes some 2 ns for an edge, and the sweep more than
+// 200.
 const FEW_HOLES: usize = 64;
 
 /// For each ring the number of an outer ring: for a hole, that of its polygon. An outer ring is its own, whatever stands there.
 ///
-/// The edges are those of the rings. Before the sweep, `outer` stands for each. It begins with an empty status, and is refused
-/// where memory or the status has no room.
+/// The edges are those of the rings. Before any home is found, `outer` stands for each. It begins with an empty status, and
+/// is refused where memory or the status has no room.
 pub fn homes<C, A>(
     alloc: A,
     status: &mut C,
@@ -55,6 +56,7 @@ where
     Ok(homes)
 }
 
+// How many rings aren't outer ones.
 fn count_of_holes(are_outer: &[bool]) -> usize {
     are_outer.iter().filter(|is| !**is).count()
 }
@@ -82,8 +84,8 @@ fn settle_few<A: Allocator>(
     Ok(())
 }
 
-// Finds the homes of holes. A side that runs leftwards has the polygon below it, and so the side just below it is of that
-// polygon too.
+// Finds the homes of holes by a sweep. A side that runs leftwards has the polygon below it, and so the side just below it is
+// of that polygon too.
 fn settle<C>(
     status: &mut C,
     sides: &[Side],
