@@ -69,7 +69,7 @@ fn append_all<X: Meets<Y>, Y: Boxed, A: Allocator + Copy>(
 }
 
 // How many bits the rows are narrower than strips would be: a point stands in one row however narrow.
-const NARROWER: u32 = 4;
+const NARROWER: u32 = 3;
 
 // Rows of heights from the lowest point on. They are cut as the strips of items, or of points where these are wider, but
 // narrower. So there are few rows for each point, and few that an item reaches.
