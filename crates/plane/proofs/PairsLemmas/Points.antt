@@ -42,6 +42,10 @@ module _ (row : ℕ) (left : ℤ) where
             ⊎_elim (λ less. omega (arith, ints, less, behind)) (λ (is, _). omega (arith, ints, is, behind)) order;
       }
 
+  -- what begins in the row or above, and not before the x, isn't short
+  pub not_short : (part : Part) → row ≤ part.strip → left ≤ℤ part.left → ¬ (IsShort row left part)
+  not_short part above behind short = ⊎_elim (λ below. omega (arith, below, above)) (λ (_, less). omega (arith, ints, less, behind)) short
+
   -- what isn't short is so
   from_not_short : (part : Part) → ¬ (IsShort row left part) → IsFrom row left part
   from_not_short part none = record {
@@ -91,6 +95,13 @@ module _ (parts : List Part) where
         absurd (omega (arith, below, above))
     | inr upto ↦ upto
   ]
+
+  -- between them stands what is in the row
+  pub in_row : (row start end : ℕ) → IsStart parts row start → IsStart parts (row + 1) end → (at : ℕ) (part : Part) → slice_get parts at ≡ Some part → start ≤ at → at < end → part.strip ≡ row
+  in_row row start end starts ends at part listed from upto =
+      let above = starts.above at part listed from in
+      let below = ends.below at part listed upto in
+      omega (arith, above, below)
 
   -- what stands behind the row isn't in it
   pub from_end : (row end : ℕ) (left : ℤ) → IsStart parts (row + 1) end → (at : ℕ) (part : Part) → slice_get parts at ≡ Some part → end ≤ at → IsFrom row left part
@@ -367,12 +378,18 @@ module _ {Y : Type 0} (bounds : Y → Bounds) (points : List Y) (alone : All (λ
               | inr behind ↦ absurd (none told (from_there part.strip part.left parts in_order next part listed (λ short. ⊎_elim (λ below. omega (arith, below)) (λ (_, less). omega (arith, ints, less)) short) told.at told.part told.listed behind))
             ]
 
-      -- all parts are done
-      pub told_all : (next : ℕ) → length parts ≤ next → (i j : ℕ) → Told (λ _ one. one.strip ≡ row) i j ↔ Told (InRow next) i j
-      told_all next all i j = (
-        λ (at_place, told). (at_place, weaker (λ _ one. one.strip ≡ row) (InRow next) j told (let inside = slice_get_within parts told.at told.part told.listed in omega (arith, inside, all), told.wanted)),
-        λ (at_place, told). (at_place, weaker (InRow next) (λ _ one. one.strip ≡ row) j told told.wanted.1),
-      )
+      -- where the next row begins, all are done
+      pub told_all : (end next : ℕ) → IsStart parts (row + 1) end → end ≤ next → (i j : ℕ) → Told (λ _ one. one.strip ≡ row) i j ↔ Told (InRow next) i j
+      told_all end next ends all i j = (λ (at_place, told). (at_place, weaker (λ _ one. one.strip ≡ row) (InRow next) j told (before told, told.wanted)), λ (at_place, told). (at_place, weaker (InRow next) (λ _ one. one.strip ≡ row) j told told.wanted.1))
+        where
+          before : (told : MeetsPart Meeting points parts (λ _ one. one.strip ≡ row) j) → told.at < next
+          before told = elim (cases_lt told.at next) [
+            | inl below ↦ below
+            | inr behind ↦
+                let above = ends.above told.at told.part told.listed (omega (arith, behind, all)) in
+                let in_row = told.wanted in
+                absurd (omega (arith, above, in_row))
+          ]
 
     -- Of rows one after another, from the base on or from the box's low side.
     module _ (over : All (λ point. rows.base ≤ℤ (bounds point).low) points) where

@@ -1,11 +1,11 @@
 //! Pairs of items and of points.
 
-ghost use Rattle.std.specs.Prelude.{◌≡◌, ◌++◌, ◌<◌, ◌≤◌, ◌+◌, ◌<ℤ◌, ◌≤ℤ◌, ℕ, List, All, AllPairs, MatchBool, Some, drop, length, slice_get, OnOk, OnErr, IfErr, IfOk};
+ghost use Rattle.std.specs.Prelude.{◌≡◌, ◌⊎◌, ◌++◌, ◌<◌, ◌≤◌, ◌+◌, ◌<ℤ◌, ◌≤ℤ◌, ℕ, List, All, AllPairs, MatchBool, Some, drop, length, slice_get, OnOk, OnErr, IfErr, IfOk};
 ghost use Rattle.i_tree.specs.declared.Refusal.TheVariants.{OutOfMemory};
 ghost use Rattle.plane.specs.Pairs.Bounds.{IsBox, IsPoint, MeetInBoxesAcross};
 ghost use Rattle.plane.specs.Pairs.Pairs.{ArePairsBetween, PairBetween};
 ghost use Rattle.plane.specs.Pairs.Parts.{AreParts, NotBehind};
-ghost use Rattle.plane.specs.Pairs.Points.{AreStarts, Gains, IsFirstFrom, IsStart, IsShort, MeetsAt, MeetsPart};
+ghost use Rattle.plane.specs.Pairs.Points.{AreStarts, Gains, IsFirstFrom, IsStart, MeetsAt, MeetsPart};
 ghost use Rattle.plane.specs.Pairs.Sweep.{Extends};
 
 use super::cut::strips_for;
@@ -69,7 +69,7 @@ fn append_all<X: Meets<Y>, Y: Boxed, A: Allocator + Copy>(
 }
 
 // How many bits the rows are narrower than strips would be: a point stands in one row however narrow.
-const NARROWER: u32 = 4;
+const NARROWER: u32 = 3;
 
 // Rows of heights from the lowest point on. They are cut as the strips of items, or of points where these are wider, but
 // narrower. So there are few rows for each point, and few that an item reaches.
@@ -178,12 +178,10 @@ fn append_in_row<X: Meets<Y>, Y: Boxed, A: Allocator>(
     ensures err { OnErr result (Extends out.old.items out.new.items) }
 {
     let bounds = item.bounds();
-    let start = start_of(starts, parts, row);
-    let end = start_of(starts, parts, row + 1);
-    let from = first_from(parts, start, end, row, bounds.left);
-    for next in from..parts.len() {
+    let from = first_from(parts, starts, row, bounds.left);
+    for next in from..start_of(starts, parts, row + 1) {
         let part = parts[next];
-        if is_past(part, row, bounds.right) {
+        if is_past(part, bounds.right) {
             return Ok(());
         }
         append_if_met(item, place, points[part.place], part.place, out)?;
@@ -209,40 +207,41 @@ fn append_if_met<X: Meets<Y>, Y: Boxed, A: Allocator>(
     Ok(())
 }
 
-// The place of the first part in the row from the x on, or in a row above, by halves of what stands in the row.
-fn first_from(parts: &[Part], start: usize, end: usize, row: usize, left: i32) -> usize
+// The place of the first part in the row from the x on, or in a row above, by halves of what stands in the row. Every
+// other comparison there would be guessed wrongly, so no branch depends on one.
+fn first_from(parts: &[Part], starts: &[usize], row: usize, left: i32) -> usize
     requires in_order { AllPairs NotBehind parts.now }
-    requires starts { IsStart parts.now row start }
-    requires ends { IsStart parts.now (row + 1) end }
-    ensures within { result ≤ length parts.now }
-    ensures first { IsFirstFrom parts.now row left result }
+    requires starts { AreStarts parts.now (length parts.now) starts.now }
+    requires reached { row < length starts.now }
+    ensures { IsFirstFrom parts.now row left result }
 {
+    let start = start_of(starts, parts, row);
+    let end = start_of(starts, parts, row + 1);
     let mut first = start;
     let mut size = end - start;
-    while size > 0 {
+    while size > 1 {
         let half = size / 2;
         let middle = first + half;
-        if is_short(parts[middle], row, left) {
-            first = middle + 1;
-            size -= half + 1;
-        } else {
-            size = half;
-        }
+        first += half * count_before(parts[middle], left);
+        size -= half;
+    }
+    if size == 1 {
+        first += count_before(parts[first], left);
     }
     first
 }
 
-// Whether the part stands in the row before the x, or in a row below.
-fn is_short(part: Part, row: usize, left: i32) -> bool
-    ensures { let short = IsShort row left part in MatchBool result short (¬ short) }
+// How many of this one part begin before the x: one or none, by the difference.
+fn count_before(part: Part, left: i32) -> usize
+    ensures { ((result ≡ 1) × (part.left <ℤ left)) ⊎ ((result ≡ 0) × (left ≤ℤ part.left)) }
 {
-    let strip = part.strip as usize;
-    strip < row || (strip == row && part.left < left)
+    let above = (left as i64 - part.left as i64 + 0xffff_ffff) as u64;
+    (above / 0x1_0000_0000) as usize
 }
 
-// Whether the part stands in another row than this, or there beyond the x.
-fn is_past(part: Part, row: usize, right: i32) -> bool
-    ensures { MatchBool result (part.strip ≡ row → right <ℤ part.left) (part.strip ≡ row) }
+// Whether the part begins beyond the x.
+fn is_past(part: Part, right: i32) -> bool
+    ensures { MatchBool result (right <ℤ part.left) (part.left ≤ℤ right) }
 {
-    part.strip as usize != row || right < part.left
+    right < part.left
 }

@@ -1,4 +1,4 @@
-use Rattle.std.proofs.Common.{◌≡◌, ◌<ℤ◌, ◌<◌, ◌+◌, ℤ, Some, SFits, w32, to_z, of_z, get_or, ap, sym, ◌∙◌, subst, arith, rules}
+use Rattle.std.proofs.Common.{◌≡◌, ◌<ℤ◌, ◌<◌, ◌+◌, ℤ, Some, SFits, w32, to_z, of_z, length, get_or, ap, sym, ◌∙◌, subst, arith, rules}
 use Rattle.std.proofs.lemmas.Int.{to_z-of_z}
 use Rattle.std.proofs.lemmas.Option.{slice_get-get_or}
 use Rattle.plane.specs.Pairs.Points.{IsFirstFrom, MeetsPart}
@@ -17,7 +17,7 @@ loop-next-init g c =
     let from = c.first_from-from.result in
     let fits : SFits w32 c.bounds-bounds.result.left = search rules in
     let left = to_z-of_z w32 c.bounds-bounds.result.left fits ∙ ap (λ (bounds : Bounds). bounds.left) c.bounds-bounds.ensures in
-    let first = subst (λ (left : ℤ). IsFirstFrom parts row left from) left c.first_from-from.ensures.first in
+    let first = subst (λ (left : ℤ). IsFirstFrom parts row left from) left c.first_from-from.ensures in
     Gains-none (λ i j. (i ≡ c.args.place) × MeetsPart Meeting points parts (λ at part. (at < from) × (part.strip ≡ row)) j) c.args.out.now.items
     (told_none g.Y.Boxed.bounds points c.requires.points c.args.rows parts c.requires.parts Meeting box (c.requires.boxed.near c.args.item) c.args.place row from first)
 
@@ -31,29 +31,38 @@ returns-then-is_past-clause-ok g c =
     let from = c.first_from-from.result in
     let fits : SFits w32 c.bounds-bounds.result.left = search rules in
     let left = to_z-of_z w32 c.bounds-bounds.result.left fits ∙ ap (λ (bounds : Bounds). bounds.left) c.bounds-bounds.ensures in
-    let first = subst (λ (left : ℤ). IsFirstFrom parts row left from) left c.first_from-from.ensures.first in
+    let first = subst (λ (left : ℤ). IsFirstFrom parts row left from) left c.first_from-from.ensures in
     let next = c.loop-next.next in
     let part = get_or parts next nothing in
     let upto = c.loop-next.auto.next in
     let right_fits : SFits w32 c.bounds-bounds.result.right = search rules in
     let right : to_z w32 (of_z w32 c.bounds-bounds.result.right) ≡ box.right = to_z-of_z w32 c.bounds-bounds.result.right right_fits ∙ ap (λ (bounds : Bounds). bounds.right) c.bounds-bounds.ensures in
-    let beyond = subst (λ (right : ℤ). part.strip ≡ row → right <ℤ part.left) right c.if-is_past.ensures in
+    let past = subst (λ (right : ℤ). right <ℤ part.left) right c.if-is_past.ensures in
+    let test = c.loop-next-test.true in
+    let ends = c.start_of-next-end.ensures.within in
+    let inside : next < length parts = omega (arith, test, ends) in
     Gains-same (λ i j. (i ≡ c.args.place) × MeetsPart Meeting points parts (λ at part. (at < next) × (part.strip ≡ row)) j) (λ i j. (i ≡ c.args.place) × MeetsPart Meeting points parts (λ _ part. part.strip ≡ row) j)
-    (told_upto g.Y.Boxed.bounds points c.requires.points c.args.rows parts c.requires.parts Meeting box (c.requires.boxed.near c.args.item) c.args.place row from first next part (slice_get-get_or parts next nothing c.loop-next-test.true) c.requires.parts.in_order upto beyond)
+    (told_upto g.Y.Boxed.bounds points c.requires.points c.args.rows parts c.requires.parts Meeting box (c.requires.boxed.near c.args.item) c.args.place row from first next part (slice_get-get_or parts next nothing inside) c.requires.parts.in_order upto (λ _. past))
     c.args.out.now.items c.loop-next.out.items c.loop-next.invariant
 
 pub offset_bounds-points-part : goal.offset_bounds-points-part
 offset_bounds-points-part g c =
     let points = c.args.points.now in
     let parts = c.args.parts.now in
-    let within = place_within g.Y.Boxed.bounds points c.requires.points c.args.rows parts c.requires.parts c.loop-next.next (get_or parts c.loop-next.next nothing) (slice_get-get_or parts c.loop-next.next nothing c.loop-next-test.true) in
+    let test = c.loop-next-test.true in
+    let ends = c.start_of-next-end.ensures.within in
+    let inside : c.loop-next.next < length parts = omega (arith, test, ends) in
+    let within = place_within g.Y.Boxed.bounds points c.requires.points c.args.rows parts c.requires.parts c.loop-next.next (get_or parts c.loop-next.next nothing) (slice_get-get_or parts c.loop-next.next nothing inside) in
     omega (arith, within)
 
 pub bounds-points-part : goal.bounds-points-part
 bounds-points-part g c =
     let points = c.args.points.now in
     let parts = c.args.parts.now in
-    place_within g.Y.Boxed.bounds points c.requires.points c.args.rows parts c.requires.parts c.loop-next.next (get_or parts c.loop-next.next nothing) (slice_get-get_or parts c.loop-next.next nothing c.loop-next-test.true)
+    let test = c.loop-next-test.true in
+    let ends = c.start_of-next-end.ensures.within in
+    let inside : c.loop-next.next < length parts = omega (arith, test, ends) in
+    place_within g.Y.Boxed.bounds points c.requires.points c.args.rows parts c.requires.parts c.loop-next.next (get_or parts c.loop-next.next nothing) (slice_get-get_or parts c.loop-next.next nothing inside)
 
 pub returns-in_err-append_if_met-clause-err : goal.returns-in_err-append_if_met-clause-err
 returns-in_err-append_if_met-clause-err g c =
@@ -70,17 +79,24 @@ loop-next-preserved g c =
     let from = c.first_from-from.result in
     let fits : SFits w32 c.bounds-bounds.result.left = search rules in
     let left = to_z-of_z w32 c.bounds-bounds.result.left fits ∙ ap (λ (bounds : Bounds). bounds.left) c.bounds-bounds.ensures in
-    let first = subst (λ (left : ℤ). IsFirstFrom parts row left from) left c.first_from-from.ensures.first in
+    let first = subst (λ (left : ℤ). IsFirstFrom parts row left from) left c.first_from-from.ensures in
     let next = c.loop-next.next in
     let part = get_or parts next nothing in
-    let listed = slice_get-get_or parts next nothing c.loop-next-test.true in
+    let test = c.loop-next-test.true in
+    let ends = c.start_of-next-end.ensures in
+    let within = ends.within in
+    let inside : next < length parts = omega (arith, test, within) in
+    let listed = slice_get-get_or parts next nothing inside in
     let point = c.index-points-part.result in
-    let within = place_within g.Y.Boxed.bounds points c.requires.points c.args.rows parts c.requires.parts next part listed in
-    let stands = slice_get-get_or points part.place point within ∙ ap (λ (one : g.row.Y.Denot). Some one) (sym c.index-points-part.is) in
+    let above = (first.from next part listed c.loop-next.auto.next).above in
+    let below = ends.below next part listed test in
+    let in_row : part.strip ≡ row = omega (arith, above, below) in
+    let stands_within = place_within g.Y.Boxed.bounds points c.requires.points c.args.rows parts c.requires.parts next part listed in
+    let stands = slice_get-get_or points part.place point stands_within ∙ ap (λ (one : g.row.Y.Denot). Some one) (sym c.index-points-part.is) in
     Gains-then (λ i j. (i ≡ c.args.place) × MeetsPart Meeting points parts (λ at part. (at < next) × (part.strip ≡ row)) j) (λ i j. (i ≡ c.args.place) × (j ≡ part.place) × Meeting point)
     (λ i j. (i ≡ c.args.place) × MeetsPart Meeting points parts (λ at part. (at < (next + 1)) × (part.strip ≡ row)) j)
     (told_apart g.Y.Boxed.bounds points c.requires.points c.args.rows parts c.requires.parts Meeting box (c.requires.boxed.near c.args.item) c.args.place row from first next part listed point)
-    (told_more g.Y.Boxed.bounds points c.requires.points c.args.rows parts c.requires.parts Meeting box (c.requires.boxed.near c.args.item) c.args.place row from first next part listed point stands c.if-is_past.ensures)
+    (told_more g.Y.Boxed.bounds points c.requires.points c.args.rows parts c.requires.parts Meeting box (c.requires.boxed.near c.args.item) c.args.place row from first next part listed point stands in_row)
     c.args.out.now.items c.loop-next.out.items c.append_if_met.new.out.items c.loop-next.invariant (c.in_ok-append_if_met.ensures).ok
 
 pub returns-clause-ok : goal.returns-clause-ok
@@ -93,8 +109,8 @@ returns-clause-ok g c =
     let from = c.first_from-from.result in
     let fits : SFits w32 c.bounds-bounds.result.left = search rules in
     let left = to_z-of_z w32 c.bounds-bounds.result.left fits ∙ ap (λ (bounds : Bounds). bounds.left) c.bounds-bounds.ensures in
-    let first = subst (λ (left : ℤ). IsFirstFrom parts row left from) left c.first_from-from.ensures.first in
+    let first = subst (λ (left : ℤ). IsFirstFrom parts row left from) left c.first_from-from.ensures in
     let next = c.loop-next.next in
     Gains-same (λ i j. (i ≡ c.args.place) × MeetsPart Meeting points parts (λ at part. (at < next) × (part.strip ≡ row)) j) (λ i j. (i ≡ c.args.place) × MeetsPart Meeting points parts (λ _ part. part.strip ≡ row) j)
-    (told_all g.Y.Boxed.bounds points c.requires.points c.args.rows parts c.requires.parts Meeting box (c.requires.boxed.near c.args.item) c.args.place row from first next c.loop-next-test.false)
+    (told_all g.Y.Boxed.bounds points c.requires.points c.args.rows parts c.requires.parts Meeting box (c.requires.boxed.near c.args.item) c.args.place row from first c.start_of-next-end.result next c.start_of-next-end.ensures c.loop-next-test.false)
     c.args.out.now.items c.loop-next.out.items c.loop-next.invariant

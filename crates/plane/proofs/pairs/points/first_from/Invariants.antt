@@ -1,13 +1,14 @@
-use Rattle.std.proofs.Common.{◌≡◌, ℕ, ◌+◌, ◌<◌, ◌≤◌, Some, length}
+use Rattle.std.proofs.Common.{◌≡◌, ℕ, ◌+◌, ◌<◌, ◌≤◌, Some}
 use Rattle.std.specs.List.{slice_get}
 use Rattle.plane.specs.Pairs.Points.{IsFrom, IsShort}
 use Rattle.plane.specs.declared.pairs.parts.Part.{Part}
 use Rattle.plane.proofs.pairs.points.first_from.Given as goal
 
--- the first part from the x on is among so many, or behind them
+-- the first part from the x on is among so many of the row, or behind them
 abbrev pub invariant-loop-size : goal.invariant-loop-size
 invariant-loop-size l = record {
-  within : l.first + l.size ≤ length l.parts;
+  behind : l.start ≤ l.first;
+  upto : l.first + l.size ≤ l.end;
   short : (at : ℕ) (part : Part) → slice_get l.parts at ≡ Some part → at < l.first → IsShort l.row l.left part;
   from : (at : ℕ) (part : Part) → slice_get l.parts at ≡ Some part → l.first + l.size ≤ at → IsFrom l.row l.left part;
 }
