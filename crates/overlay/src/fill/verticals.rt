@@ -44,9 +44,28 @@ pub fn append_verticals<A: Allocator + Copy>(
 fn ends_of<A: Allocator>(alloc: A, edges: &[Edge]) -> Result<Vec<End, A>, AllocError>
     ensures { IfOk result (λ ends. ends.items ≡ map left_end edges.now ++ map right_end edges.now) }
 {
-    let left = edges.iter().map(|edge| left_end(*edge));
-    let right = edges.iter().map(|edge| right_end(*edge));
-    left.chain(right).collect(alloc)
+    let mut ends = Vec::with_capacity(alloc, 2 * edges.len())?;
+    append_left_ends(edges, &mut ends)?;
+    append_right_ends(edges, &mut ends)?;
+    Ok(ends)
+}
+
+fn append_left_ends<A: Allocator>(edges: &[Edge], ends: &mut Vec<End, A>) -> Result<(), AllocError>
+    ensures { OnOk result (ends.new.items ≡ ends.old.items ++ map left_end edges.now) }
+{
+    for edge in edges {
+        ends.push(left_end(*edge))?;
+    }
+    Ok(())
+}
+
+fn append_right_ends<A: Allocator>(edges: &[Edge], ends: &mut Vec<End, A>) -> Result<(), AllocError>
+    ensures { OnOk result (ends.new.items ≡ ends.old.items ++ map right_end edges.now) }
+{
+    for edge in edges {
+        ends.push(right_end(*edge))?;
+    }
+    Ok(())
 }
 
 // Of the two ends of the edge the one that isn't further right.
