@@ -8,8 +8,8 @@ use uses::clipped_roads::clipped_roads;
 
 type Road = (i32, i32, i32, i32);
 
-// A square with a hole, and a spike whose sides fall together from (90, 101) on, where the last road crosses both of them near
-// the tip.
+// A square with a hole, and a spike whose sides both pass (95, 101) where the last road crosses them: from there on to the tip
+// they fall together.
 const CORNERS: [(i32, i32); 11] = [
     (0, 0),
     (12, 0),
@@ -19,9 +19,9 @@ const CORNERS: [(i32, i32); 11] = [
     (4, 8),
     (8, 8),
     (8, 4),
-    (0, 100),
     (100, 101),
     (0, 101),
+    (0, 100),
 ];
 
 // A road, and its pieces inside.
@@ -88,7 +88,7 @@ const ROWS: [Row; 12] = [
         inside: &[(12, 0, 8, 4), (4, 8, 0, 12)],
     },
     Row {
-        name: "up from the spike's tip",
+        name: "up through the spike, near its tip",
         road: (90, 90, 99, 110),
         inside: &[],
     },
