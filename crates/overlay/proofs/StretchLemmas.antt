@@ -1,0 +1,2 @@
+-- Lemmas on stretches of rings, their chords, and what is overlaid in their place.
+pub mod Placed
