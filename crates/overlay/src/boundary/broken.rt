@@ -31,8 +31,8 @@ pub fn broken<A: Allocator + Copy>(
     Ok((pieces, count))
 }
 
-// The subject's edges and then the clip's.
-fn all_edges<A: Allocator>(
+/// The subject's edges and then the clip's.
+pub fn all_edges<A: Allocator>(
     alloc: A,
     subject: &[Edge],
     clip: &[Edge],
