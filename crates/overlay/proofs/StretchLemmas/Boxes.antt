@@ -1,5 +1,5 @@
 -- Points of stretches, their chords' ends, and where boxes of clear ones meet.
-use Rattle.std.proofs.Common.{◌≡◌, ◌≢◌, ◌⊎◌, inl, inr, ⊎_elim, ℕ, ◌<◌, ◌-◌, ℤ, ◌≤ℤ◌, ◌<ℤ◌, List, [], length, get_or, refl, sym, ap, ◌∙◌, subst, arith}
+use Rattle.std.proofs.Common.{◌≡◌, ◌≢◌, ◌⊎◌, inl, inr, ⊎_elim, ℕ, ◌<◌, ◌-◌, ℤ, ◌≤ℤ◌, ◌<ℤ◌, List, [], length, get_or, refl, sym, ap, ap₂, ◌∙◌, subst, arith}
 use Rattle.std.specs.Int.{int_max, int_min}
 use Rattle.std.specs.List.{AllPairs, Contains}
 use Rattle.std.proofs.lemmas.Bool.{cases_lt}
@@ -12,6 +12,7 @@ use Rattle.overlay.specs.Snap.Chains.{IsEnd}
 use Rattle.overlay.specs.Snap.Close.{InBox}
 use Rattle.overlay.specs.Snap.Windings.{end_of, start_of}
 use Rattle.overlay.specs.Stretches.{AreApart, AreBelow, AreClear, AreLeftOf, Falls, GoesOn, IsLong, IsStretch, Rises, chord}
+use Rattle.overlay.proofs.SnapLemmas.Along.{point_at}
 use Rattle.overlay.proofs.StretchLemmas.Placed.{BoxHas}
 
 -- ---- any two of a list
@@ -232,3 +233,20 @@ boxes-share_tip s t is is_too clear x y box other =
 pub IsEnd-tip : (s : List Point) (p : Point) → IsTip s p → IsEnd (chord s) p.x p.y
 IsEnd-tip s p (inl is) = inl (ap (λ (q : Point). q.x) is, ap (λ (q : Point). q.y) is)
 IsEnd-tip s p (inr is) = inr (ap (λ (q : Point). q.x) is, ap (λ (q : Point). q.y) is)
+
+pub tip-IsEnd : (s : List Point) (p : Point) → IsEnd (chord s) p.x p.y → IsTip s p
+tip-IsEnd s p (inl (is_x, is_y)) = inl (ap₂ point_at is_x is_y)
+tip-IsEnd s p (inr (is_x, is_y)) = inr (ap₂ point_at is_x is_y)
+
+-- its points lie in its box, and so do those ends
+pub box-held : (s : List Point) (p : Point) → Contains s p → BoxHas s p.x p.y
+box-held s p held = record {
+  left = (p, held, omega (arith, ints));
+  right = (p, held, omega (arith, ints));
+  low = (p, held, omega (arith, ints));
+  high = (p, held, omega (arith, ints));
+}
+
+pub tip-held : (s : List Point) → IsStretch s → (p : Point) → IsTip s p → Contains s p
+tip-held s is p (inl same) = subst (Contains s) (sym same) (chord-from s is)
+tip-held s is p (inr same) = subst (Contains s) (sym same) (chord-to s is)
