@@ -18,9 +18,9 @@ use Rattle.overlay.proofs.ChainLemmas.Zips.{AllZip-flat_map}
 use Rattle.overlay.proofs.SnapLemmas.Noded.{IsPiece-chain}
 use Rattle.overlay.proofs.StretchLemmas.Boxes.{ClearIfLong}
 use Rattle.overlay.proofs.StretchLemmas.Placed.{IsPlaced, LiesIn}
-use Rattle.overlay.proofs.StretchLemmas.Unbroken.{passed-in_box, pieces-unbroken}
+use Rattle.overlay.proofs.StretchLemmas.Unbroken.{pieces-unbroken}
 
--- of a long stretch the one piece is its chord, of one of a single edge the pieces lie in its box
+-- of a long stretch the one piece is its chord, of one of a single edge the pieces lie along it
 abbrev pub ArePlaced : List Point → List Point → Type 0
 ArePlaced s chain = (IsLong s → pieces chain ≡ chord s ∷ []) × ((¬ (IsLong s)) → All (LiesIn s) (pieces chain))
 
@@ -40,8 +40,8 @@ module _ (all : List (List Point)) (each : All IsStretch all) (clear : AllPairs 
   pub pieces-lie : (t : List Point) → Contains all t → (chain : List Point) → IsChain (map chord all) (chord t) chain → All (LiesIn t) (pieces chain)
   pieces-lie t among chain is k d within =
       let piece = IsPiece-chain (map chord all) (chord t) chain is _ (Contains-get_or (pieces chain) k d within) in (
-        passed-in_box all each clear t among _ _ piece.from_passes,
-        passed-in_box all each clear t among _ _ piece.to_passes,
+        piece.from_passes,
+        piece.to_passes,
       )
 
   zip_placed : (some : List (List Point)) (chains : List (List Point)) → ((s : List Point) → Contains some s → Contains all s) → AllZip (IsChain (map chord all)) (map chord some) chains → AllZip ArePlaced some chains

@@ -1,5 +1,5 @@
 -- The chain of a long stretch's chord is its two ends.
-use Rattle.std.proofs.Common.{◌≡◌, ◌≢◌, ◌⊎◌, inl, inr, ⊎_elim, ℤ, List, [], ◌∷◌, map, sym, ap, ap₂, ◌∙◌, subst, arith}
+use Rattle.std.proofs.Common.{◌≡◌, ◌≢◌, ◌⊎◌, inl, inr, ⊎_elim, List, [], ◌∷◌, map, sym, ap, ap₂, ◌∙◌, subst, arith}
 use Rattle.std.specs.List.{All, AllPairs, Contains}
 use Rattle.std.proofs.lemmas.List.Elements.{All-contains}
 use Rattle.i_tree.proofs.RootLemmas.Lists.{Contains-here, Contains-there}
@@ -10,12 +10,12 @@ use Rattle.overlay.specs.Snap.Chains.{CrossAt, IsChain, IsEnd, IsHot, Passes}
 use Rattle.overlay.specs.Snap.Windings.{end_of, pieces, start_of}
 use Rattle.overlay.specs.Stretches.{IsLong, IsStretch, chord}
 use Rattle.overlay.proofs.ChainLemmas.Crossings.{CrossAt-end}
-use Rattle.overlay.proofs.SnapLemmas.Along.{Passes-in_box, point_at}
+use Rattle.overlay.proofs.SnapLemmas.Along.{point_at}
 use Rattle.overlay.proofs.SnapLemmas.Callers.{end-hot}
 use Rattle.overlay.proofs.SnapLemmas.Crossing.{CrossAt-itself}
 use Rattle.overlay.proofs.SnapLemmas.Paths.{IsPath, IsPath-chain}
-use Rattle.overlay.proofs.StretchLemmas.Boxes.{Adjoin, ClearIfLong, IsEnd-tip, IsTip, box-chord, boxes-share_tip, chord-sloped, clear-any, tip-IsEnd, tip-held}
-use Rattle.overlay.proofs.StretchLemmas.Placed.{BoxHas}
+use Rattle.overlay.proofs.StretchLemmas.Adjoin.{Adjoin, passed-adjoin}
+use Rattle.overlay.proofs.StretchLemmas.Boxes.{BoxHas, ClearIfLong, IsEnd-tip, IsTip, box-passed, chord-sloped, clear-any, tip-IsEnd, tip-held}
 
 -- ---- a chain of which each point is an end of its edge
 
@@ -35,15 +35,11 @@ module _ (all : List (List Point)) (each : All IsStretch all) (clear : AllPairs 
   is_stretch : (s : List Point) → Contains all s → IsStretch s
   is_stretch s among = All-contains IsStretch all s each among
 
-  -- what the chord of a stretch passes lies in the stretch's box
-  pub passed-in_box : (t : List Point) → Contains all t → (x y : ℤ) → Passes (chord t) x y → BoxHas t x y
-  passed-in_box t among x y passes = box-chord t (is_stretch t among) x y (Passes-in_box (chord t) x y passes)
-
   module _ (s : List Point) (among : Contains all s) (long : IsLong s) (h : Point) (passes : Passes (chord s) h.x h.y) where
     -- a stretch whose chord passes it too is this one, or adjoins it
     beside : (t : List Point) → Contains all t → Passes (chord t) h.x h.y → (s ≡ t) ⊎ Adjoin s t h.x
     beside t among_too passes_too =
-        ⊎_elim inl (λ clear_if. inr (boxes-share_tip s t (is_stretch s among) (is_stretch t among_too) (clear_if (inl long)) h.x h.y (passed-in_box s among h.x h.y passes) (passed-in_box t among_too h.x h.y passes_too)))
+        ⊎_elim inl (λ clear_if. inr (passed-adjoin s t (is_stretch s among) (is_stretch t among_too) (clear_if (inl long)) h.x h.y passes passes_too))
         (clear-any all clear s t among among_too)
 
     -- an end of a chord
@@ -89,7 +85,7 @@ module _ (all : List (List Point)) (each : All IsStretch all) (clear : AllPairs 
 
   -- the chain of a chord lies in the box of its stretch
   pub chain-in_box : (t : List Point) → Contains all t → (chain : List Point) → IsChain (map chord all) (chord t) chain → (c : Point) → Contains chain c → BoxHas t c.x c.y
-  chain-in_box t among chain is c held = passed-in_box t among c.x c.y ((is.exact c).0 held).1
+  chain-in_box t among chain is c held = box-passed t (is_stretch t among) c.x c.y ((is.exact c).0 held).1
 
   -- where that is long, the chain is the chord's two ends
   pub chain-unbroken : (s : List Point) → Contains all s → IsLong s → (chain : List Point) → IsChain (map chord all) (chord s) chain → chain ≡ start_of (chord s) ∷ end_of (chord s) ∷ []
