@@ -1,0 +1,235 @@
+-- Points of stretches, their chords' ends, and where boxes of clear ones meet.
+use Rattle.std.proofs.Common.{◌≡◌, ◌≢◌, ◌⊎◌, inl, inr, ⊎_elim, ℕ, ◌<◌, ◌-◌, ℤ, ◌≤ℤ◌, ◌<ℤ◌, List, [], length, get_or, refl, sym, ap, ◌∙◌, subst, arith}
+use Rattle.std.specs.Int.{int_max, int_min}
+use Rattle.std.specs.List.{AllPairs, Contains}
+use Rattle.std.proofs.lemmas.Bool.{cases_lt}
+use Rattle.std.proofs.lemmas.Int.{by_lt_z, clamps, ints}
+use Rattle.std.proofs.lemmas.List.{get_or_default}
+use Rattle.std.proofs.lemmas.List.Elements.{Contains-get_or}
+use Rattle.plane.specs.declared.edge.Edge.{Edge}
+use Rattle.plane.specs.declared.point.Point.{Point}
+use Rattle.overlay.specs.Contours.Outlines.{ring_point}
+use Rattle.overlay.specs.Snap.Chains.{IsEnd}
+use Rattle.overlay.specs.Snap.Close.{InBox}
+use Rattle.overlay.specs.Snap.Windings.{end_of, start_of}
+use Rattle.overlay.specs.Stretches.{AreApart, AreBelow, AreClear, AreLeftOf, Falls, GoesOn, IsLong, IsStretch, Rises, chord}
+use Rattle.overlay.proofs.StretchLemmas.Placed.{BoxHas}
+
+-- ---- any two of a list
+
+-- two of a list are one, or stand in a relation that holds either way round
+pub AllPairs-any : {X : Type 0} (R : X → X → Type 0) → ((x y : X) → R x y → R y x) → (xs : List X) → AllPairs R xs → (x y : X) → Contains xs x → Contains xs y → (x ≡ y) ⊎ R x y
+AllPairs-any {X} R turned xs all x y (i, first, is) (j, second, is_too) = elim (cases_lt i j) [
+  | inl before ↦ inr (at i j x y first second is is_too before)
+  | inr upto ↦ elim (cases_lt j i) [
+    | inl behind ↦ inr (turned y x (at j i y x second first is_too is behind))
+    | inr low ↦ inl (one (omega (arith, upto, low)))
+  ]
+]
+  where
+    at : (k l : ℕ) (a b : X) → k < length xs → l < length xs → get_or xs k a ≡ a → get_or xs l b ≡ b → k < l → R a b
+    at k l a b inside other here there before =
+        subst (λ (c : X). R c b) here (subst (λ (c : X). R (get_or xs k a) c) (get_or_default xs l a b other ∙ there) (all k l a before other))
+
+    one : i ≡ j → x ≡ y
+    one same = sym is ∙ get_or_default xs i x y first ∙ ap (λ (k : ℕ). get_or xs k y) same ∙ is_too
+
+-- ---- clear of each other, whichever is named first
+
+AreApart-exchanged : (s t : List Point) → AreApart s t → AreApart t s
+AreApart-exchanged s t (inl (inl left)) = inl (inr left)
+AreApart-exchanged s t (inl (inr right)) = inl (inl right)
+AreApart-exchanged s t (inr (inl below)) = inr (inr below)
+AreApart-exchanged s t (inr (inr above)) = inr (inl above)
+
+pub AreClear-exchanged : (s t : List Point) → AreClear s t → AreClear t s
+AreClear-exchanged s t (inl apart) = inl (AreApart-exchanged s t apart)
+AreClear-exchanged s t (inr (inl onwards)) = inr (inr onwards)
+AreClear-exchanged s t (inr (inr back)) = inr (inl back)
+
+abbrev pub ClearIfLong : List Point → List Point → Type 0
+ClearIfLong one other = IsLong one ⊎ IsLong other → AreClear one other
+
+-- any two of the stretches are one, or clear of each other where one is long
+pub clear-any : (all : List (List Point)) → AllPairs ClearIfLong all → (s t : List Point) → Contains all s → Contains all t → (s ≡ t) ⊎ ClearIfLong s t
+clear-any all clear s t first second =
+    AllPairs-any ClearIfLong (λ one other if_long long. AreClear-exchanged one other (if_long (⊎_elim inr inl long))) all clear s t first second
+
+-- ---- the points of a stretch
+
+-- the point is one of its chord's ends
+abbrev pub IsTip : List Point → Point → Type 0
+IsTip s p = (p ≡ start_of (chord s)) ⊎ (p ≡ end_of (chord s))
+
+-- x is strictly between those of its chord's ends
+abbrev pub IsAmid : List Point → ℤ → Type 0
+IsAmid s x = ((chord s).x0 <ℤ x) × (x <ℤ (chord s).x1) ⊎ ((chord s).x1 <ℤ x) × (x <ℤ (chord s).x0)
+
+module _ (s : List Point) (is : IsStretch s) where
+  -- its chord's ends are points of it
+  pub chord-from : Contains s (start_of (chord s))
+  chord-from = let some = is.some in Contains-get_or s 0 (ring_point [] 0) (omega (arith, some))
+
+  pub chord-to : Contains s (end_of (chord s))
+  chord-to = let some = is.some in Contains-get_or s (length s - 1) (ring_point [] 0) (omega (arith, some))
+
+  -- the lesser end is at most what the lesser of both is, the greater at least
+  least : (f : Point → ℤ) (z : ℤ) → int_min (f (start_of (chord s))) (f (end_of (chord s))) ≤ℤ z → (p : Point) × Contains s p × (f p ≤ℤ z)
+  least f z upto = by_lt_z (f (start_of (chord s))) (f (end_of (chord s)))
+      (λ less. (start_of (chord s), chord-from, omega (arith, ints, clamps, upto, less)))
+      (λ more. (end_of (chord s), chord-to, omega (arith, ints, clamps, upto, more)))
+
+  greatest : (f : Point → ℤ) (z : ℤ) → z ≤ℤ int_max (f (start_of (chord s))) (f (end_of (chord s))) → (p : Point) × Contains s p × (z ≤ℤ f p)
+  greatest f z from = by_lt_z (f (start_of (chord s))) (f (end_of (chord s)))
+      (λ less. (end_of (chord s), chord-to, omega (arith, ints, clamps, from, less)))
+      (λ more. (start_of (chord s), chord-from, omega (arith, ints, clamps, from, more)))
+
+  -- what lies in its chord's box lies in its own
+  pub box-chord : (x y : ℤ) → InBox (chord s) x y → BoxHas s x y
+  box-chord x y box = record {
+    left = least (λ (p : Point). p.x) x box.left;
+    right = greatest (λ (p : Point). p.x) x box.right;
+    low = least (λ (p : Point). p.y) y box.low;
+    high = greatest (λ (p : Point). p.y) y box.high;
+  }
+
+  -- it rises or falls where it is long
+  pub long-ways : IsLong s → Rises s ⊎ Falls s
+  long-ways long = ⊎_elim (λ two. absurd (omega (arith, two, long))) (λ ways. ways) is.along
+
+  -- where it rises its chord goes rightwards, and leftwards where it falls
+  pub rising-chord : Rises s → (chord s).x0 <ℤ (chord s).x1
+  rising-chord rises = let some = is.some in rises 0 (length s - 1) (ring_point [] 0) (omega (arith, some)) (omega (arith, some))
+
+  pub falling-chord : Falls s → (chord s).x1 <ℤ (chord s).x0
+  falling-chord falls = let some = is.some in falls 0 (length s - 1) (ring_point [] 0) (omega (arith, some)) (omega (arith, some))
+
+  -- so it isn't vertical where the stretch is long
+  pub chord-sloped : IsLong s → (chord s).x1 ≢ (chord s).x0
+  chord-sloped long same =
+      ⊎_elim (λ rises. let less = rising-chord rises in omega (arith, ints, less, same)) (λ falls. let less = falling-chord falls in omega (arith, ints, less, same)) (long-ways long)
+
+  -- ---- each point of it is one of its chord's ends, or strictly between them along x
+
+  tip_at : (p : Point) (k n : ℕ) → k < length s → get_or s k p ≡ p → k ≡ n → p ≡ ring_point s n
+  tip_at p k n inside is_at same = sym is_at ∙ get_or_default s k p (ring_point [] 0) inside ∙ ap (λ (i : ℕ). ring_point s i) same
+
+  amid_at : (p : Point) (k : ℕ) → Rises s ⊎ Falls s → 0 < k → k < length s - 1 → get_or s k p ≡ p → IsAmid s p.x
+  amid_at p k ways after before is_at =
+      subst (λ (q : Point). IsAmid s q.x) (sym (tip_at p k k (omega (arith, before)) is_at refl))
+      (⊎_elim
+      (λ rises. inl (rises 0 k (ring_point [] 0) after (omega (arith, before)), rises k (length s - 1) (ring_point [] 0) before (omega (arith, before))))
+      (λ falls. inr (falls k (length s - 1) (ring_point [] 0) before (omega (arith, before)), falls 0 k (ring_point [] 0) after (omega (arith, before))))
+      ways)
+
+  pub tip-or_amid : (p : Point) → Contains s p → IsTip s p ⊎ IsAmid s p.x
+  tip-or_amid p (k, inside, is_at) = elim (cases_lt 0 k) [
+    | inr none ↦ inl (inl (tip_at p k 0 inside is_at (omega (arith, none))))
+    | inl after ↦ elim (cases_lt k (length s - 1)) [
+      | inr last ↦ inl (inr (tip_at p k (length s - 1) inside is_at (omega (arith, last, inside))))
+      | inl before ↦ inr (amid_at p k (⊎_elim (λ two. absurd (omega (arith, two, after, before))) (λ ways. ways) is.along) after before is_at)
+    ]
+  ]
+
+  -- a point of it beyond which it has none, on one side, is one of its chord's ends
+  pub outmost-tip : (c : Point) → Contains s c → ((p : Point) → Contains s p → (p ≡ c) ⊎ (p.x <ℤ c.x)) ⊎ ((p : Point) → Contains s p → (p ≡ c) ⊎ (c.x <ℤ p.x)) → IsTip s c
+  outmost-tip c of (inl left) = ⊎_elim (λ tip. tip) (λ amid. absurd (none amid)) (tip-or_amid c of)
+    where
+      upto : (p : Point) → Contains s p → p.x ≤ℤ c.x
+      upto p held = ⊎_elim (λ same. let x = ap (λ (q : Point). q.x) same in omega (arith, ints, x)) (λ less. omega (arith, ints, less)) (left p held)
+
+      none : IsAmid s c.x → ⊥
+      none (inl (from, to)) = let end = upto (end_of (chord s)) chord-to in omega (arith, ints, to, end)
+      none (inr (from, to)) = let start = upto (start_of (chord s)) chord-from in omega (arith, ints, to, start)
+  outmost-tip c of (inr right) = ⊎_elim (λ tip. tip) (λ amid. absurd (none amid)) (tip-or_amid c of)
+    where
+      from_on : (p : Point) → Contains s p → c.x ≤ℤ p.x
+      from_on p held = ⊎_elim (λ same. let x = ap (λ (q : Point). q.x) same in omega (arith, ints, x)) (λ less. omega (arith, ints, less)) (right p held)
+
+      none : IsAmid s c.x → ⊥
+      none (inl (from, to)) = let start = from_on (start_of (chord s)) chord-from in omega (arith, ints, from, start)
+      none (inr (from, to)) = let end = from_on (end_of (chord s)) chord-to in omega (arith, ints, from, end)
+
+-- ---- where boxes of clear stretches meet
+
+-- the one goes on as the other at this x
+abbrev pub GoesOnAt : List Point → List Point → ℤ → Type 0
+GoesOnAt s t x = (goes : GoesOn s t) × (x ≡ goes.at.x)
+
+module _ (s t : List Point) (x y : ℤ) (box : BoxHas s x y) (other : BoxHas t x y) where
+  not_left : ¬ (AreLeftOf s t)
+  not_left left =
+      let (p, of, upto) = box.right in
+      let (q, of_too, from) = other.left in
+      let less = left p q of of_too in
+      omega (arith, ints, upto, from, less)
+
+  not_below : ¬ (AreBelow s t)
+  not_below below =
+      let (p, of, upto) = box.high in
+      let (q, of_too, from) = other.low in
+      let less = below p q of of_too in
+      omega (arith, ints, upto, from, less)
+
+  goes_at : (goes : GoesOn s t) → x ≡ goes.at.x
+  goes_at goes =
+      let (p, of, upto) = box.right in
+      let (q, of_too, from) = other.left in
+      let left : p.x ≤ℤ goes.at.x = ⊎_elim (λ same. let e = ap (λ (r : Point). r.x) same in omega (arith, ints, e)) (λ less. omega (arith, ints, less)) (goes.left p of) in
+      let right : goes.at.x ≤ℤ q.x = ⊎_elim (λ same. let e = ap (λ (r : Point). r.x) same in omega (arith, ints, e)) (λ less. omega (arith, ints, less)) (goes.right q of_too) in
+      omega (arith, ints, upto, from, left, right)
+
+-- a point of both boxes has the x at which they adjoin
+pub boxes-adjoin : (s t : List Point) → AreClear s t → (x y : ℤ) → BoxHas s x y → BoxHas t x y → GoesOnAt s t x ⊎ GoesOnAt t s x
+boxes-adjoin s t (inl (inl (inl left))) x y box other = absurd (not_left s t x y box other left)
+boxes-adjoin s t (inl (inl (inr right))) x y box other = absurd (not_left t s x y other box right)
+boxes-adjoin s t (inl (inr (inl below))) x y box other = absurd (not_below s t x y box other below)
+boxes-adjoin s t (inl (inr (inr above))) x y box other = absurd (not_below t s x y other box above)
+boxes-adjoin s t (inr (inl goes)) x y box other = inl (goes, goes_at s t x y box other goes)
+boxes-adjoin s t (inr (inr back)) x y box other = inr (back, goes_at t s x y other box back)
+
+-- at x they share a point, at which each has no other one, and which is an end of both chords
+pub record Adjoin (s t : List Point) (x : ℤ) : Type 0 where
+  pub at : Point
+  pub x_is : x ≡ at.x
+  pub of : Contains s at
+  pub of_other : Contains t at
+  pub only : (p : Point) → Contains s p → p.x ≡ at.x → p ≡ at
+  pub only_other : (p : Point) → Contains t p → p.x ≡ at.x → p ≡ at
+  pub tip : IsTip s at
+  pub tip_other : IsTip t at
+
+pub Adjoin-exchanged : (s t : List Point) (x : ℤ) → Adjoin s t x → Adjoin t s x
+Adjoin-exchanged s t x adjoin = record {
+  at = adjoin.at;
+  x_is = adjoin.x_is;
+  of = adjoin.of_other;
+  of_other = adjoin.of;
+  only = adjoin.only_other;
+  only_other = adjoin.only;
+  tip = adjoin.tip_other;
+  tip_other = adjoin.tip;
+}
+
+-- where one goes on as the other they adjoin there
+pub adjoin-on : (s t : List Point) → IsStretch s → IsStretch t → (x : ℤ) → GoesOnAt s t x → Adjoin s t x
+adjoin-on s t is is_too x (goes, same) = record {
+  at = goes.at;
+  x_is = same;
+  of = goes.of;
+  of_other = goes.of_others;
+  only = λ p held level. ⊎_elim (λ one. one) (λ less. absurd (omega (arith, ints, less, level))) (goes.left p held);
+  only_other = λ p held level. ⊎_elim (λ one. one) (λ less. absurd (omega (arith, ints, less, level))) (goes.right p held);
+  tip = outmost-tip s is goes.at goes.of (inl goes.left);
+  tip_other = outmost-tip t is_too goes.at goes.of_others (inr goes.right);
+}
+
+-- so they do at a point of both boxes
+pub boxes-share_tip : (s t : List Point) → IsStretch s → IsStretch t → AreClear s t → (x y : ℤ) → BoxHas s x y → BoxHas t x y → Adjoin s t x
+boxes-share_tip s t is is_too clear x y box other =
+    ⊎_elim (λ goes. adjoin-on s t is is_too x goes) (λ back. Adjoin-exchanged t s x (adjoin-on t s is_too is x back)) (boxes-adjoin s t clear x y box other)
+
+-- one of its chord's ends, as ends of edges are said
+pub IsEnd-tip : (s : List Point) (p : Point) → IsTip s p → IsEnd (chord s) p.x p.y
+IsEnd-tip s p (inl is) = inl (ap (λ (q : Point). q.x) is, ap (λ (q : Point). q.y) is)
+IsEnd-tip s p (inr is) = inr (ap (λ (q : Point). q.x) is, ap (λ (q : Point). q.y) is)
