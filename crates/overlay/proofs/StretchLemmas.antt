@@ -2,3 +2,4 @@
 pub mod Boxes
 pub mod Inner
 pub mod Placed
+pub mod Sides

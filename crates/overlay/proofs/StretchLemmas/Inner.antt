@@ -47,22 +47,29 @@ amid-right : (s : List Point) (x : ℤ) → IsStretch s → IsAmid s x → (p : 
 amid-right s x is (inl (from, to)) = (_, chord-to s is, to)
 amid-right s x is (inr (to, from)) = (_, chord-from s is, from)
 
+-- all of the one that goes on as the other come upto where they adjoin, all of the other from there on
+pub goes-upto : (s t : List Point) (goes : GoesOn s t) (p : Point) → Contains s p → p.x ≤ℤ goes.at.x
+goes-upto s t goes p of = ⊎_elim (λ same. let x = ap (λ (q : Point). q.x) same in omega (arith, ints, x)) (λ less. omega (arith, ints, less)) (goes.left p of)
+
+pub goes-from : (s t : List Point) (goes : GoesOn s t) (p : Point) → Contains t p → goes.at.x ≤ℤ p.x
+goes-from s t goes p of = ⊎_elim (λ same. let x = ap (λ (q : Point). q.x) same in omega (arith, ints, x)) (λ less. omega (arith, ints, less)) (goes.right p of)
+
 module _ (s t : List Point) (is : IsStretch s) (x y : ℤ) (box : BoxHas t x y) (amid : IsAmid s x) where
   -- it doesn't go on as the other, nor the other as it
   not_onwards : ¬ (GoesOn s t)
   not_onwards goes =
       let (p, of, after) = amid-right s x is amid in
       let (q, of_other, upto) = box.left in
-      let left : p.x ≤ℤ goes.at.x = ⊎_elim (λ same. let e = ap (λ (r : Point). r.x) same in omega (arith, ints, e)) (λ less. omega (arith, ints, less)) (goes.left p of) in
-      let right : goes.at.x ≤ℤ q.x = ⊎_elim (λ same. let e = ap (λ (r : Point). r.x) same in omega (arith, ints, e)) (λ less. omega (arith, ints, less)) (goes.right q of_other) in
+      let left = goes-upto s t goes p of in
+      let right = goes-from s t goes q of_other in
       omega (arith, ints, after, upto, left, right)
 
   not_back : ¬ (GoesOn t s)
   not_back goes =
       let (p, of, before) = amid-left s x is amid in
       let (q, of_other, from) = box.right in
-      let left : q.x ≤ℤ goes.at.x = ⊎_elim (λ same. let e = ap (λ (r : Point). r.x) same in omega (arith, ints, e)) (λ less. omega (arith, ints, less)) (goes.left q of_other) in
-      let right : goes.at.x ≤ℤ p.x = ⊎_elim (λ same. let e = ap (λ (r : Point). r.x) same in omega (arith, ints, e)) (λ less. omega (arith, ints, less)) (goes.right p of) in
+      let left = goes-upto t s goes q of_other in
+      let right = goes-from t s goes p of in
       omega (arith, ints, before, from, left, right)
 
   -- so the stretch lies below, or above
