@@ -1,5 +1,9 @@
 -- Lemmas on stretches of rings, their chords, and what is overlaid in their place.
 pub mod Boxes
+pub mod Hulls
 pub mod Inner
+pub mod Near
+pub mod NodedKinds
+pub mod NodedWays
 pub mod Placed
 pub mod Sides

@@ -6,14 +6,13 @@ use Rattle.std.proofs.lemmas.Bool.{cases_lt}
 use Rattle.std.proofs.lemmas.Int.{by_lt_z, clamps, ints}
 use Rattle.std.proofs.lemmas.List.{get_or_default}
 use Rattle.std.proofs.lemmas.List.Elements.{Contains-get_or}
-use Rattle.plane.specs.declared.edge.Edge.{Edge}
 use Rattle.plane.specs.declared.point.Point.{Point}
 use Rattle.overlay.specs.Contours.Outlines.{ring_point}
 use Rattle.overlay.specs.Snap.Chains.{IsEnd}
 use Rattle.overlay.specs.Snap.Close.{InBox}
 use Rattle.overlay.specs.Snap.Windings.{end_of, start_of}
-use Rattle.overlay.specs.Stretches.{AreApart, AreBelow, AreClear, AreLeftOf, Falls, GoesOn, IsLong, IsStretch, Rises, chord}
-use Rattle.overlay.proofs.StretchLemmas.Placed.{BoxHas}
+use Rattle.overlay.specs.Stretches.{AreClear, Falls, GoesOn, IsLong, IsStretch, Rises, chord}
+use Rattle.overlay.proofs.StretchLemmas.Hulls.{AreApart-exchanged}
 
 -- ---- any two of a list
 
@@ -35,12 +34,6 @@ AllPairs-any {X} R turned xs all x y (i, first, is) (j, second, is_too) = elim (
     one same = sym is ∙ get_or_default xs i x y first ∙ ap (λ (k : ℕ). get_or xs k y) same ∙ is_too
 
 -- ---- clear of each other, whichever is named first
-
-AreApart-exchanged : (s t : List Point) → AreApart s t → AreApart t s
-AreApart-exchanged s t (inl (inl left)) = inl (inr left)
-AreApart-exchanged s t (inl (inr right)) = inl (inl right)
-AreApart-exchanged s t (inr (inl below)) = inr (inr below)
-AreApart-exchanged s t (inr (inr above)) = inr (inl above)
 
 pub AreClear-exchanged : (s t : List Point) → AreClear s t → AreClear t s
 AreClear-exchanged s t (inl apart) = inl (AreApart-exchanged s t apart)
@@ -83,15 +76,6 @@ module _ (s : List Point) (is : IsStretch s) where
   greatest f z from = by_lt_z (f (start_of (chord s))) (f (end_of (chord s)))
       (λ less. (end_of (chord s), chord-to, omega (arith, ints, clamps, from, less)))
       (λ more. (start_of (chord s), chord-from, omega (arith, ints, clamps, from, more)))
-
-  -- what lies in its chord's box lies in its own
-  pub box-chord : (x y : ℤ) → InBox (chord s) x y → BoxHas s x y
-  box-chord x y box = record {
-    left = least (λ (p : Point). p.x) x box.left;
-    right = greatest (λ (p : Point). p.x) x box.right;
-    low = least (λ (p : Point). p.y) y box.low;
-    high = greatest (λ (p : Point). p.y) y box.high;
-  }
 
   -- it rises or falls where it is long
   pub long-ways : IsLong s → Rises s ⊎ Falls s
@@ -150,86 +134,3 @@ module _ (s : List Point) (is : IsStretch s) where
       none (inl (from, to)) = let start = from_on (start_of (chord s)) chord-from in omega (arith, ints, from, start)
       none (inr (from, to)) = let end = from_on (end_of (chord s)) chord-to in omega (arith, ints, from, end)
 
--- ---- where boxes of clear stretches meet
-
--- the one goes on as the other at this x
-abbrev pub GoesOnAt : List Point → List Point → ℤ → Type 0
-GoesOnAt s t x = (goes : GoesOn s t) × (x ≡ goes.at.x)
-
-module _ (s t : List Point) (x y : ℤ) (box : BoxHas s x y) (other : BoxHas t x y) where
-  not_left : ¬ (AreLeftOf s t)
-  not_left left =
-      let (p, of, upto) = box.right in
-      let (q, of_too, from) = other.left in
-      let less = left p q of of_too in
-      omega (arith, ints, upto, from, less)
-
-  not_below : ¬ (AreBelow s t)
-  not_below below =
-      let (p, of, upto) = box.high in
-      let (q, of_too, from) = other.low in
-      let less = below p q of of_too in
-      omega (arith, ints, upto, from, less)
-
-  goes_at : (goes : GoesOn s t) → x ≡ goes.at.x
-  goes_at goes =
-      let (p, of, upto) = box.right in
-      let (q, of_too, from) = other.left in
-      let left : p.x ≤ℤ goes.at.x = ⊎_elim (λ same. let e = ap (λ (r : Point). r.x) same in omega (arith, ints, e)) (λ less. omega (arith, ints, less)) (goes.left p of) in
-      let right : goes.at.x ≤ℤ q.x = ⊎_elim (λ same. let e = ap (λ (r : Point). r.x) same in omega (arith, ints, e)) (λ less. omega (arith, ints, less)) (goes.right q of_too) in
-      omega (arith, ints, upto, from, left, right)
-
--- a point of both boxes has the x at which they adjoin
-pub boxes-adjoin : (s t : List Point) → AreClear s t → (x y : ℤ) → BoxHas s x y → BoxHas t x y → GoesOnAt s t x ⊎ GoesOnAt t s x
-boxes-adjoin s t (inl (inl (inl left))) x y box other = absurd (not_left s t x y box other left)
-boxes-adjoin s t (inl (inl (inr right))) x y box other = absurd (not_left t s x y other box right)
-boxes-adjoin s t (inl (inr (inl below))) x y box other = absurd (not_below s t x y box other below)
-boxes-adjoin s t (inl (inr (inr above))) x y box other = absurd (not_below t s x y other box above)
-boxes-adjoin s t (inr (inl goes)) x y box other = inl (goes, goes_at s t x y box other goes)
-boxes-adjoin s t (inr (inr back)) x y box other = inr (back, goes_at t s x y other box back)
-
--- at x they share a point, at which each has no other one, and which is an end of both chords
-pub record Adjoin (s t : List Point) (x : ℤ) : Type 0 where
-  pub at : Point
-  pub x_is : x ≡ at.x
-  pub of : Contains s at
-  pub of_other : Contains t at
-  pub only : (p : Point) → Contains s p → p.x ≡ at.x → p ≡ at
-  pub only_other : (p : Point) → Contains t p → p.x ≡ at.x → p ≡ at
-  pub tip : IsTip s at
-  pub tip_other : IsTip t at
-
-pub Adjoin-exchanged : (s t : List Point) (x : ℤ) → Adjoin s t x → Adjoin t s x
-Adjoin-exchanged s t x adjoin = record {
-  at = adjoin.at;
-  x_is = adjoin.x_is;
-  of = adjoin.of_other;
-  of_other = adjoin.of;
-  only = adjoin.only_other;
-  only_other = adjoin.only;
-  tip = adjoin.tip_other;
-  tip_other = adjoin.tip;
-}
-
--- where one goes on as the other they adjoin there
-pub adjoin-on : (s t : List Point) → IsStretch s → IsStretch t → (x : ℤ) → GoesOnAt s t x → Adjoin s t x
-adjoin-on s t is is_too x (goes, same) = record {
-  at = goes.at;
-  x_is = same;
-  of = goes.of;
-  of_other = goes.of_others;
-  only = λ p held level. ⊎_elim (λ one. one) (λ less. absurd (omega (arith, ints, less, level))) (goes.left p held);
-  only_other = λ p held level. ⊎_elim (λ one. one) (λ less. absurd (omega (arith, ints, less, level))) (goes.right p held);
-  tip = outmost-tip s is goes.at goes.of (inl goes.left);
-  tip_other = outmost-tip t is_too goes.at goes.of_others (inr goes.right);
-}
-
--- so they do at a point of both boxes
-pub boxes-share_tip : (s t : List Point) → IsStretch s → IsStretch t → AreClear s t → (x y : ℤ) → BoxHas s x y → BoxHas t x y → Adjoin s t x
-boxes-share_tip s t is is_too clear x y box other =
-    ⊎_elim (λ goes. adjoin-on s t is is_too x goes) (λ back. Adjoin-exchanged t s x (adjoin-on t s is_too is x back)) (boxes-adjoin s t clear x y box other)
-
--- one of its chord's ends, as ends of edges are said
-pub IsEnd-tip : (s : List Point) (p : Point) → IsTip s p → IsEnd (chord s) p.x p.y
-IsEnd-tip s p (inl is) = inl (ap (λ (q : Point). q.x) is, ap (λ (q : Point). q.y) is)
-IsEnd-tip s p (inr is) = inr (ap (λ (q : Point). q.x) is, ap (λ (q : Point). q.y) is)

@@ -1,20 +1,21 @@
--- Edges on both sides of a column, as those are that lie in the boxes of clear stretches.
-use Rattle.std.proofs.Common.{◌≡◌, ◌≢◌, ◌⊎◌, inl, inr, ℕ, ◌<◌, ◌≤◌, ℤ, pos, ◌+ℤ◌, ◌-ℤ◌, ◌*ℤ◌, ◌≤ℤ◌, ◌<ℤ◌, List, sym, ap, ◌∙◌, arith}
+-- Edges on both sides of a column, or one beyond the other, as those of clear stretches are.
+use Rattle.std.proofs.Common.{◌≡◌, ◌≢◌, ◌⊎◌, inl, inr, ℕ, ◌<◌, ◌≤◌, ℤ, pos, ◌+ℤ◌, ◌-ℤ◌, ◌*ℤ◌, ◌≤ℤ◌, ◌<ℤ◌, List, sym, ap, ap₂, ◌∙◌, arith}
 use Rattle.std.specs.Int.{int_max, int_min}
 use Rattle.std.proofs.lemmas.Int.{by_lt_z, clamps, ints}
 use Rattle.plane.specs.declared.edge.Edge.{Edge}
 use Rattle.plane.specs.declared.point.Point.{Point}
-use Rattle.plane.specs.Meet.Edges.{IsOf, RationalPoint}
+use Rattle.plane.specs.Meet.Edges.{IsAtShare, IsOf, RationalPoint}
 use Rattle.plane.specs.Meet.Kinds.{IsEnd}
 use Rattle.plane.proofs.MeetLemmas.Boxes.{way_above, way_below}
-use Rattle.plane.proofs.MeetLemmas.Identities.{identity, minus, number, plus, times, unscaled}
+use Rattle.plane.proofs.MeetLemmas.Identities.{Term, identity, minus, number, plus, times, unscaled}
 use Rattle.overlay.specs.Snap.Meeting.{MeetAtEnds}
-use Rattle.overlay.specs.Snap.Windings.{reversed}
-use Rattle.overlay.specs.Stretches.{AreBelow, AreClear, AreLeftOf, GoesOn}
+use Rattle.overlay.specs.Snap.Windings.{end_of, reversed, start_of}
+use Rattle.overlay.specs.Stretches.{AreClear, GoesOn, further}
+use Rattle.overlay.proofs.SnapLemmas.Hobby.Ends.{exchange_meet}
 use Rattle.overlay.proofs.SnapLemmas.Numbers.{n_of, natural}
 use Rattle.overlay.proofs.SnapLemmas.Reversed.{IsOf-reversed}
 use Rattle.overlay.proofs.StretchLemmas.Inner.{goes-from, goes-upto}
-use Rattle.overlay.proofs.StretchLemmas.Placed.{LiesIn}
+use Rattle.overlay.proofs.StretchLemmas.Near.{AreNear, HasEnds, near-from, near-further, near-upto}
 
 -- ---- a point of an edge in the column of one of its ends
 
@@ -102,7 +103,7 @@ beside-meet one other point (x, left, right) sloped other_sloped (a, share) (b, 
     let at : point.x ≡ (pos point.n *ℤ x) = omega (arith, ints, upto, from, is, is_too) in
     inl (end-column one point x sloped (inl left) (a, share) at, end-column other point x other_sloped (inr right) (b, other_share) at)
 
--- each of the first two numbers is less than each of the others
+-- each of the first two numbers is less than both others
 pub record AreLess (a b c d : ℤ) : Type 0 where
   pub first : a <ℤ c
   pub first_too : a <ℤ d
@@ -117,62 +118,65 @@ less-apart n a b p z0 z1 w0 w1 some share other_share is is_too less =
     let most = unscaled n (int_min w0 w1) (int_max z0 z1) some (omega (arith, ints, upto, from, is, is_too)) in
     omega (arith, ints, clamps, most, less)
 
--- all of the one edge lies below the other
-abbrev pub IsLower : Edge → Edge → Type 0
-IsLower one other = AreLess one.y0 one.y1 other.y0 other.y1
+-- ---- two edges, in some direction one beyond the other
 
-pub lower-apart : (one other : Edge) (point : RationalPoint) → IsLower one other → IsOf one point → IsOf other point → ⊥
-lower-apart one other point less (a, share) (b, other_share) =
-    less-apart point.n a b point.y one.y0 one.y1 other.y0 other.y1 point.positive share.share other_share.share share.y other_share.y less
+-- both ends of the other lie further than both of the one
+pub record Parted (one other : Edge) : Type 0 where
+  pub u : ℤ
+  pub v : ℤ
+  pub less : AreLess (further u v (start_of one)) (further u v (end_of one)) (further u v (start_of other)) (further u v (end_of other))
 
--- ---- in the boxes of clear stretches
+-- how far a point of an edge lies
+further-share : (u v : ℤ) (edge : Edge) (point : RationalPoint) (a : ℕ) → IsAtShare edge point a
+    → ((u *ℤ point.x) +ℤ (v *ℤ point.y)) ≡ ((pos point.n *ℤ further u v (start_of edge)) +ℤ (pos a *ℤ (further u v (end_of edge) -ℤ further u v (start_of edge))))
+further-share u v edge point a share =
+    let at : ℤ → ℤ → Term = λ z w. plus (times (n_of point.n) (number z)) (times (n_of a) (minus (number w) (number z))) in
+    let far : ℤ → ℤ → Term = λ x y. plus (times (number u) (number x)) (times (number v) (number y)) in
+    ap₂ (λ x y. (u *ℤ x) +ℤ (v *ℤ y)) share.x share.y
+    ∙ identity (plus (times (number u) (at edge.x0 edge.x1)) (times (number v) (at edge.y0 edge.y1)))
+    (plus (times (n_of point.n) (far edge.x0 edge.y0)) (times (n_of a) (minus (far edge.x1 edge.y1) (far edge.x0 edge.y0)))) (omega arith)
 
-module _ (s t : List Point) (one other : Edge) (lies : LiesIn s one) (other_lies : LiesIn t other) where
-  left-beside : AreLeftOf s t → AreBeside one other
-  left-beside left =
-      let (p, of, upto) = lies.0.right in
-      let (q, of_too, upto_too) = lies.1.right in
-      let (r, of_other, from) = other_lies.0.left in
-      let (u, of_other_too, from_too) = other_lies.1.left in
-      let first = left p r of of_other in
-      let second = left p u of of_other_too in
-      let third = left q r of_too of_other in
-      let fourth = left q u of_too of_other_too in
-      (int_max one.x0 one.x1, (omega (arith, ints, clamps), omega (arith, ints, clamps)), (omega (arith, ints, clamps, upto, upto_too, from, first, third), omega (arith, ints, clamps, upto, upto_too, from_too, second, fourth)))
+parted-apart : (one other : Edge) (point : RationalPoint) → Parted one other → IsOf one point → IsOf other point → ⊥
+parted-apart one other point parted (a, share) (b, other_share) =
+    let u = parted.u in
+    let v = parted.v in
+    less-apart point.n a b ((u *ℤ point.x) +ℤ (v *ℤ point.y)) (further u v (start_of one)) (further u v (end_of one)) (further u v (start_of other)) (further u v (end_of other))
+    point.positive share.share other_share.share (further-share u v one point a share) (further-share u v other point b other_share) parted.less
 
-  goes-beside : GoesOn s t → AreBeside one other
-  goes-beside goes =
-      let (p, of, upto) = lies.0.right in
-      let (q, of_too, upto_too) = lies.1.right in
-      let (r, of_other, from) = other_lies.0.left in
-      let (u, of_other_too, from_too) = other_lies.1.left in
-      let first = goes-upto s t goes p of in
-      let second = goes-upto s t goes q of_too in
-      let third = goes-from s t goes r of_other in
-      let fourth = goes-from s t goes u of_other_too in
-      (goes.at.x, (omega (arith, ints, upto, first), omega (arith, ints, upto_too, second)), (omega (arith, ints, from, third), omega (arith, ints, from_too, fourth)))
+-- ---- of clear stretches
 
-  below-lower : AreBelow s t → IsLower one other
-  below-lower below =
-      let (p, of, upto) = lies.0.high in
-      let (q, of_too, upto_too) = lies.1.high in
-      let (r, of_other, from) = other_lies.0.low in
-      let (u, of_other_too, from_too) = other_lies.1.low in
-      let first = below p r of of_other in
-      let second = below p u of of_other_too in
-      let third = below q r of_too of_other in
-      let fourth = below q u of_too of_other_too in record {
-        first = omega (arith, ints, upto, from, first);
-        first_too = omega (arith, ints, upto, from_too, second);
-        second = omega (arith, ints, upto_too, from, third);
-        second_too = omega (arith, ints, upto_too, from_too, fourth);
-      }
+-- an edge between points of the one, and one whose ends are near the other
+pub clear-sides : (s t : List Point) (one other : Edge) → AreClear s t → HasEnds s one → AreNear t other → (AreBeside one other ⊎ AreBeside other one) ⊎ Parted one other
+clear-sides s t one other (inl apart) (from, to) (near_from, near_to) =
+    inr (record {
+      u = apart.u;
+      v = apart.v;
+      less = record {
+        first = near-further s t apart (start_of one) other.x0 other.y0 from near_from;
+        first_too = near-further s t apart (start_of one) other.x1 other.y1 from near_to;
+        second = near-further s t apart (end_of one) other.x0 other.y0 to near_from;
+        second_too = near-further s t apart (end_of one) other.x1 other.y1 to near_to;
+      };
+    })
+clear-sides s t one other (inr (inl goes)) (from, to) (near_from, near_to) =
+    inl (inl (goes.at.x, (goes-upto s t goes (start_of one) from, goes-upto s t goes (end_of one) to),
+      (near-from t other.x0 other.y0 goes.at.x near_from (goes-from s t goes), near-from t other.x1 other.y1 goes.at.x near_to (goes-from s t goes))))
+clear-sides s t one other (inr (inr goes)) (from, to) (near_from, near_to) =
+    inl (inr (goes.at.x, (near-upto t other.x0 other.y0 goes.at.x near_from (goes-upto t s goes), near-upto t other.x1 other.y1 goes.at.x near_to (goes-upto t s goes)),
+      (goes-from t s goes (start_of one) from, goes-from t s goes (end_of one) to)))
 
--- edges in their boxes stand on both sides of a column, or one lies below the other
-pub clear-sides : (s t : List Point) (one other : Edge) → AreClear s t → LiesIn s one → LiesIn t other → (AreBeside one other ⊎ AreBeside other one) ⊎ (IsLower one other ⊎ IsLower other one)
-clear-sides s t one other (inl (inl (inl left))) lies other_lies = inl (inl (left-beside s t one other lies other_lies left))
-clear-sides s t one other (inl (inl (inr right))) lies other_lies = inl (inr (left-beside t s other one other_lies lies right))
-clear-sides s t one other (inl (inr (inl below))) lies other_lies = inr (inl (below-lower s t one other lies other_lies below))
-clear-sides s t one other (inl (inr (inr above))) lies other_lies = inr (inr (below-lower t s other one other_lies lies above))
-clear-sides s t one other (inr (inl goes)) lies other_lies = inl (inl (goes-beside s t one other lies other_lies goes))
-clear-sides s t one other (inr (inr back)) lies other_lies = inl (inr (goes-beside t s other one other_lies lies back))
+-- two such edges that aren't vertical meet only at common ends
+pub clear-meet : (s t : List Point) (one other : Edge) (point : RationalPoint) → AreClear s t → HasEnds s one → AreNear t other → one.x1 ≢ one.x0 → other.x1 ≢ other.x0 → IsOf one point → IsOf other point → MeetAtEnds one other point
+clear-meet s t one other point clear ends near sloped other_sloped of_one of_other = elim (clear-sides s t one other clear ends near) [
+  | inl (inl beside) ↦ beside-meet one other point beside sloped other_sloped of_one of_other
+  | inl (inr beside) ↦ exchange_meet one other point (beside-meet other one point beside other_sloped sloped of_other of_one)
+  | inr parted ↦ absurd (parted-apart one other point parted of_one of_other)
+]
+
+-- no edge that isn't vertical is both
+pub clear-upright : (s t : List Point) (edge : Edge) → AreClear s t → HasEnds s edge → AreNear t edge → edge.x1 ≡ edge.x0
+clear-upright s t edge clear ends near = elim (clear-sides s t edge edge clear ends near) [
+  | inl (inl (x, left, right)) ↦ omega (arith, ints, left.0, left.1, right.0, right.1)
+  | inl (inr (x, left, right)) ↦ omega (arith, ints, left.0, left.1, right.0, right.1)
+  | inr parted ↦ let less = parted.less.first in absurd (omega (arith, ints, less))
+]
