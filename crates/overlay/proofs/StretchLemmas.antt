@@ -1,4 +1,5 @@
 -- Lemmas on stretches of rings, their chords, and what is overlaid in their place.
+pub mod Apart
 pub mod Boxes
 pub mod Hulls
 pub mod Inner

@@ -1,4 +1,4 @@
--- Whole points near the hull of a stretch, as those are that its chord passes, and edges between them.
+-- Edges between points near the hull of a stretch, or between points of it.
 use Rattle.std.proofs.Common.{◌≡◌, ◌⊎◌, inl, inr, ℕ, ◌+◌, ◌*◌, ℤ, pos, negsuc, ◌+ℤ◌, ◌-ℤ◌, ◌*ℤ◌, ◌≤ℤ◌, ◌<ℤ◌, List, sym, ap, ◌∙◌, subst, arith}
 use Rattle.std.specs.Int.RustNames.{unsigned_abs}
 use Rattle.std.specs.List.{All, Contains}
@@ -8,16 +8,16 @@ use Rattle.plane.specs.declared.edge.Edge.{Edge}
 use Rattle.plane.specs.declared.point.Point.{Point}
 use Rattle.plane.proofs.MeetLemmas.Identities.{identity, minus, number, plus, times}
 use Rattle.overlay.specs.Fill.Filled.{HaveSameEnds}
-use Rattle.overlay.specs.Snap.Chains.{IsEnd, Passes}
-use Rattle.overlay.specs.Snap.Windings.{edge_between, end_of, start_of}
+use Rattle.overlay.specs.Snap.Chains.{IsEnd}
+use Rattle.overlay.specs.Snap.Windings.{end_of, start_of}
 use Rattle.overlay.specs.Stretches.{AreApart, IsLong, IsStretch, chord, further}
-use Rattle.overlay.proofs.SnapLemmas.Along.{from_at, point_at}
-use Rattle.overlay.proofs.SnapLemmas.Near.{IsNear-piece}
+use Rattle.overlay.proofs.SnapLemmas.Along.{point_at}
 use Rattle.overlay.proofs.SnapLemmas.Numbers.{n_of}
 use Rattle.overlay.proofs.SnapLemmas.Rounding.{whole}
-use Rattle.overlay.proofs.StretchLemmas.Boxes.{chord-from, chord-to}
-use Rattle.overlay.proofs.StretchLemmas.Hulls.{IsNearHull, hull-edge, hull-held, hulls-apart, reach, within-half, within-of_hull}
-use Rattle.overlay.proofs.StretchLemmas.Placed.{IsPlaced, LiesIn}
+use Rattle.overlay.proofs.StretchLemmas.Apart.{hulls-apart}
+use Rattle.overlay.proofs.StretchLemmas.Boxes.{chord-from, chord-to, passed-near}
+use Rattle.overlay.proofs.StretchLemmas.Hulls.{IsNearHull, hull-held, within-of_hull}
+use Rattle.overlay.proofs.StretchLemmas.Placed.{IsPlaced}
 
 -- Both ends of the edge are near the hull.
 abbrev pub AreNear : List Point → Edge → Type 0
@@ -46,12 +46,6 @@ near-same s one other (inr same) near = subst (AreNear s) (sym same) (near.1, ne
 pub near-end : (s : List Point) (edge : Edge) (x y : ℤ) → AreNear s edge → IsEnd edge x y → IsNearHull s (whole x y)
 near-end s edge x y near (inl (at_x, at_y)) = subst (λ (a : ℤ). IsNearHull s (whole a y)) (sym at_x) (subst (λ (b : ℤ). IsNearHull s (whole edge.x0 b)) (sym at_y) near.0)
 near-end s edge x y near (inr (at_x, at_y)) = subst (λ (a : ℤ). IsNearHull s (whole a y)) (sym at_x) (subst (λ (b : ℤ). IsNearHull s (whole edge.x1 b)) (sym at_y) near.1)
-
--- what its chord passes
-pub near-passes : (t : List Point) → IsStretch t → (x y : ℤ) → Passes (chord t) x y → IsNearHull t (whole x y)
-near-passes t is x y passes =
-    let (q, of, near_x, near_y) = IsNear-piece (chord t) (edge_between (point_at x y) (point_at x y)) (whole x y) passes passes (0, from_at (edge_between (point_at x y) (point_at x y))) in
-    within-half t (whole x y) 0 q (within-of_hull t q (hull-edge t (chord t) q (chord-from t is) (chord-to t is) of)) near_x near_y
 
 -- it comes to no point of what is apart
 pub near-further : (s t : List Point) (apart : AreApart s t) (p : Point) (x y : ℤ) → Contains s p → IsNearHull t (whole x y) → further apart.u apart.v p <ℤ further apart.u apart.v (point_at x y)
@@ -96,4 +90,4 @@ module _ (all : List (List Point)) (each : All IsStretch all) where
       (t, of_all, near-same t edge (chord t) same (near-ends t (chord t) (chord-from t is, chord-to t is)), λ _. same)
   placed-near edge (inr (t, of_all, short, lies)) =
       let is = All-contains IsStretch all t each of_all in
-      (t, of_all, (near-passes t is edge.x0 edge.y0 lies.0, near-passes t is edge.x1 edge.y1 lies.1), λ long. absurd (short long))
+      (t, of_all, (passed-near t is edge.x0 edge.y0 lies.0, passed-near t is edge.x1 edge.y1 lies.1), λ long. absurd (short long))
