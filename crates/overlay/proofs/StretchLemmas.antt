@@ -4,6 +4,7 @@ pub mod Boxes
 pub mod Hulls
 pub mod Inner
 pub mod Near
+pub mod NodedColumns
 pub mod NodedKinds
 pub mod NodedWays
 pub mod Placed
