@@ -4,8 +4,10 @@ pub mod Boxes
 pub mod Hulls
 pub mod Inner
 pub mod Near
+pub mod Noded
 pub mod NodedColumns
 pub mod NodedKinds
+pub mod NodedUpright
 pub mod NodedWays
 pub mod Placed
 pub mod Sides
