@@ -1,6 +1,7 @@
 -- Lemmas on stretches of rings, their chords, and what is overlaid in their place.
 pub mod Apart
 pub mod Boxes
+pub mod Distinct
 pub mod Hulls
 pub mod Inner
 pub mod Near
