@@ -1,4 +1,4 @@
--- Points of stretches, their chords' ends, and where clear ones adjoin.
+-- Points of stretches, and their chords' ends.
 use Rattle.std.proofs.Common.{◌≡◌, ◌≢◌, ◌⊎◌, inl, inr, ⊎_elim, ℕ, ◌<◌, ◌-◌, ℤ, ◌≤ℤ◌, ◌<ℤ◌, List, [], length, get_or, refl, sym, ap, ap₂, ◌∙◌, subst, arith}
 use Rattle.std.specs.Int.{int_max, int_min}
 use Rattle.std.specs.List.{AllPairs, Contains}
@@ -13,11 +13,11 @@ use Rattle.overlay.specs.Contours.Outlines.{ring_point}
 use Rattle.overlay.specs.Snap.Chains.{IsEnd, Passes}
 use Rattle.overlay.specs.Snap.Close.{InBox}
 use Rattle.overlay.specs.Snap.Windings.{edge_between, end_of, start_of}
-use Rattle.overlay.specs.Stretches.{AreClear, Falls, GoesOn, IsLong, IsStretch, Rises, chord}
+use Rattle.overlay.specs.Stretches.{AreClear, Falls, IsLong, IsStretch, Rises, chord}
 use Rattle.overlay.proofs.SnapLemmas.Along.{Passes-in_box, from_at, point_at}
 use Rattle.overlay.proofs.SnapLemmas.Near.{IsNear-piece}
 use Rattle.overlay.proofs.SnapLemmas.Rounding.{whole}
-use Rattle.overlay.proofs.StretchLemmas.Apart.{AreApart-exchanged, hulls-differ}
+use Rattle.overlay.proofs.StretchLemmas.Apart.{AreApart-exchanged}
 use Rattle.overlay.proofs.StretchLemmas.Hulls.{IsNearHull, near-hull}
 use Rattle.overlay.proofs.StretchLemmas.Placed.{LiesIn}
 
@@ -54,11 +54,6 @@ ClearIfLong one other = IsLong one ⊎ IsLong other → AreClear one other
 pub clear-any : (all : List (List Point)) → AllPairs ClearIfLong all → (s t : List Point) → Contains all s → Contains all t → (s ≡ t) ⊎ ClearIfLong s t
 clear-any all clear s t first second =
     AllPairs-any ClearIfLong (λ one other if_long long. AreClear-exchanged one other (if_long (⊎_elim inr inl long))) all clear s t first second
-
--- what is near the hulls of both is where one goes on as the other
-pub near-adjoin : (s t : List Point) → AreClear s t → (point : RationalPoint) → IsNearHull s point → IsNearHull t point → GoesOn s t ⊎ GoesOn t s
-near-adjoin s t (inl apart) point first second = absurd (hulls-differ s t apart point point first second (record { x = refl; y = refl }))
-near-adjoin s t (inr goes) point first second = goes
 
 -- ---- the points of a stretch
 
@@ -176,71 +171,9 @@ module _ (s : List Point) (is : IsStretch s) where
       none (inl (from, to)) = let start = from_on (start_of (chord s)) chord-from in omega (arith, ints, from, start)
       none (inr (from, to)) = let end = from_on (end_of (chord s)) chord-to in omega (arith, ints, from, end)
 
--- ---- where clear stretches adjoin
+-- ---- its chord's ends
 
--- the one goes on as the other at this x
-abbrev pub GoesOnAt : List Point → List Point → ℤ → Type 0
-GoesOnAt s t x = (goes : GoesOn s t) × (x ≡ goes.at.x)
-
-goes_at : (s t : List Point) (x y : ℤ) → BoxHas s x y → BoxHas t x y → (goes : GoesOn s t) → x ≡ goes.at.x
-goes_at s t x y box other goes =
-    let (p, of, upto) = box.right in
-    let (q, of_too, from) = other.left in
-    let left : p.x ≤ℤ goes.at.x = ⊎_elim (λ same. let e = ap (λ (r : Point). r.x) same in omega (arith, ints, e)) (λ less. omega (arith, ints, less)) (goes.left p of) in
-    let right : goes.at.x ≤ℤ q.x = ⊎_elim (λ same. let e = ap (λ (r : Point). r.x) same in omega (arith, ints, e)) (λ less. omega (arith, ints, less)) (goes.right q of_too) in
-    omega (arith, ints, upto, from, left, right)
-
--- what both chords pass has the x at which one stretch goes on as the other
-pub passed-goes : (s t : List Point) → IsStretch s → IsStretch t → AreClear s t → (x y : ℤ) → Passes (chord s) x y → Passes (chord t) x y → GoesOnAt s t x ⊎ GoesOnAt t s x
-passed-goes s t is is_too clear x y passes passes_too =
-    go (near-adjoin s t clear (whole x y) (passed-near s is x y passes) (passed-near t is_too x y passes_too))
-  where
-    go : GoesOn s t ⊎ GoesOn t s → GoesOnAt s t x ⊎ GoesOnAt t s x
-    go (inl goes) = inl (goes, goes_at s t x y (box-passed s is x y passes) (box-passed t is_too x y passes_too) goes)
-    go (inr back) = inr (back, goes_at t s x y (box-passed t is_too x y passes_too) (box-passed s is x y passes) back)
-
--- at x they share a point, at which each has no other one, and which is an end of both chords
-pub record Adjoin (s t : List Point) (x : ℤ) : Type 0 where
-  pub at : Point
-  pub x_is : x ≡ at.x
-  pub of : Contains s at
-  pub of_other : Contains t at
-  pub only : (p : Point) → Contains s p → p.x ≡ at.x → p ≡ at
-  pub only_other : (p : Point) → Contains t p → p.x ≡ at.x → p ≡ at
-  pub tip : IsTip s at
-  pub tip_other : IsTip t at
-
-pub Adjoin-exchanged : (s t : List Point) (x : ℤ) → Adjoin s t x → Adjoin t s x
-Adjoin-exchanged s t x adjoin = record {
-  at = adjoin.at;
-  x_is = adjoin.x_is;
-  of = adjoin.of_other;
-  of_other = adjoin.of;
-  only = adjoin.only_other;
-  only_other = adjoin.only;
-  tip = adjoin.tip_other;
-  tip_other = adjoin.tip;
-}
-
--- where one goes on as the other they adjoin there
-pub adjoin-on : (s t : List Point) → IsStretch s → IsStretch t → (x : ℤ) → GoesOnAt s t x → Adjoin s t x
-adjoin-on s t is is_too x (goes, same) = record {
-  at = goes.at;
-  x_is = same;
-  of = goes.of;
-  of_other = goes.of_others;
-  only = λ p held level. ⊎_elim (λ one. one) (λ less. absurd (omega (arith, ints, less, level))) (goes.left p held);
-  only_other = λ p held level. ⊎_elim (λ one. one) (λ less. absurd (omega (arith, ints, less, level))) (goes.right p held);
-  tip = outmost-tip s is goes.at goes.of (inl goes.left);
-  tip_other = outmost-tip t is_too goes.at goes.of_others (inr goes.right);
-}
-
--- so they do at what both chords pass
-pub passed-adjoin : (s t : List Point) → IsStretch s → IsStretch t → AreClear s t → (x y : ℤ) → Passes (chord s) x y → Passes (chord t) x y → Adjoin s t x
-passed-adjoin s t is is_too clear x y passes passes_too =
-    ⊎_elim (λ goes. adjoin-on s t is is_too x goes) (λ back. Adjoin-exchanged t s x (adjoin-on t s is_too is x back)) (passed-goes s t is is_too clear x y passes passes_too)
-
--- one of its chord's ends, as ends of edges are said
+-- one of them, as ends of edges are said
 pub IsEnd-tip : (s : List Point) (p : Point) → IsTip s p → IsEnd (chord s) p.x p.y
 IsEnd-tip s p (inl is) = inl (ap (λ (q : Point). q.x) is, ap (λ (q : Point). q.y) is)
 IsEnd-tip s p (inr is) = inr (ap (λ (q : Point). q.x) is, ap (λ (q : Point). q.y) is)

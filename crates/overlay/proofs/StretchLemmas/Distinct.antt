@@ -1,5 +1,5 @@
 -- No two of such edges have the same ends, with the points of stretches in place of their chords.
-use Rattle.std.proofs.Common.{◌≡◌, ◌≢◌, ◌⊎◌, inl, inr, List, [], ◌∷◌, length, get_or, sym, ap, ◌∙◌, subst, arith}
+use Rattle.std.proofs.Common.{◌≡◌, ◌≢◌, ◌⊎◌, inl, inr, List, [], ◌∷◌, get_or, sym, ap, ◌∙◌, subst, arith}
 use Rattle.std.specs.List.{All, AllPairs, AllZip, Contains, flat_map}
 use Rattle.std.proofs.lemmas.List.Elements.{All-contains, All-head, All-tail, Contains-get_or}
 use Rattle.i_tree.proofs.RootLemmas.Joined.{AllPairs-append, AllPairs-nil}
@@ -11,12 +11,12 @@ use Rattle.overlay.specs.Snap.Windings.{pieces}
 use Rattle.overlay.specs.Stretches.{GoesAlong, IsLong, IsStretch, chord}
 use Rattle.overlay.proofs.FillLemmas.Kept.{same-exchanged}
 use Rattle.overlay.proofs.StretchLemmas.Boxes.{ClearIfLong, clear-any}
-use Rattle.overlay.proofs.StretchLemmas.Near.{AreNear, near-ends, near-same, placed-near}
-use Rattle.overlay.proofs.StretchLemmas.Noded.{PieceOf, alone-piece, piece-of, same-both}
+use Rattle.overlay.proofs.StretchLemmas.NodedNear.{AreNear, near-ends, near-same, placed-near}
+use Rattle.overlay.proofs.StretchLemmas.Noded.{alone-piece, piece-of, same-both}
 use Rattle.overlay.proofs.StretchLemmas.NodedKinds.{GoesAlone, GoesLong, long-ends, long-rises, way-kind}
 use Rattle.overlay.proofs.StretchLemmas.NodedWays.{piece-sloped, way-distinct}
 use Rattle.overlay.proofs.StretchLemmas.Placed.{IsPlaced}
-use Rattle.overlay.proofs.StretchLemmas.Sides.{clear-upright}
+use Rattle.overlay.proofs.StretchLemmas.NodedSides.{clear-upright}
 
 -- an edge with the ends of one that isn't vertical isn't either
 same-sloped : (one other : Edge) → HaveSameEnds one other → one.x1 ≢ one.x0 → other.x1 ≢ other.x0

@@ -1,5 +1,5 @@
 -- Ends of edges among stretches: none is an inner point of a long one, and inside its columns they lie beyond all its points.
-use Rattle.std.proofs.Common.{◌≡◌, ◌≢◌, ◌⊎◌, inl, inr, ⊎_elim, ℤ, ◌≤ℤ◌, ◌<ℤ◌, List, sym, ap, ◌∙◌, subst, arith}
+use Rattle.std.proofs.Common.{◌≡◌, ◌≢◌, inl, inr, ⊎_elim, ℤ, ◌≤ℤ◌, ◌<ℤ◌, List, sym, ap, ◌∙◌, subst, arith}
 use Rattle.std.specs.List.{All, AllPairs, Contains}
 use Rattle.std.proofs.lemmas.Int.{by_lt_z, ints}
 use Rattle.std.proofs.lemmas.List.Elements.{All-contains}
@@ -12,7 +12,7 @@ use Rattle.overlay.proofs.SnapLemmas.Along.{point_at}
 use Rattle.overlay.proofs.SnapLemmas.Rounding.{whole}
 use Rattle.overlay.proofs.StretchLemmas.Boxes.{ClearIfLong, IsAmid, IsTip, chord-from, chord-to, clear-any, tip-or_amid}
 use Rattle.overlay.proofs.StretchLemmas.Hulls.{IsNearHull}
-use Rattle.overlay.proofs.StretchLemmas.Near.{near-end, near-from, near-further, near-upto, placed-near}
+use Rattle.overlay.proofs.StretchLemmas.NodedNear.{near-end, near-from, near-further, near-upto, placed-near}
 use Rattle.overlay.proofs.StretchLemmas.Placed.{IsPlaced}
 
 -- ---- what comes to the inside of the columns of a clear stretch

@@ -14,12 +14,13 @@ use Rattle.overlay.specs.Stretches.{GoesAlong, IsLong, IsStretch, chord}
 use Rattle.overlay.proofs.FillLemmas.Kept.{same-exchanged}
 use Rattle.overlay.proofs.SnapLemmas.Hobby.Ends.{exchange_meet}
 use Rattle.overlay.proofs.StretchLemmas.Boxes.{AllPairs-any, ClearIfLong, clear-any}
-use Rattle.overlay.proofs.StretchLemmas.Near.{HasEnds, near-ends, placed-near}
+use Rattle.overlay.proofs.StretchLemmas.NodedNear.{HasEnds, near-ends, placed-near}
 use Rattle.overlay.proofs.StretchLemmas.NodedKinds.{GoesAlone, GoesLong, long-ends, long-rises, sloped-chord, way-kind}
 use Rattle.overlay.proofs.StretchLemmas.NodedUpright.{upright-meets}
-use Rattle.overlay.proofs.StretchLemmas.NodedWays.{chord-reverse, piece-sloped, way-noded}
+use Rattle.overlay.proofs.StretchLemmas.NodedWays.{piece-sloped, way-noded}
 use Rattle.overlay.proofs.StretchLemmas.Placed.{IsPlaced}
-use Rattle.overlay.proofs.StretchLemmas.Sides.{clear-meet}
+use Rattle.overlay.proofs.StretchLemmas.Reverse.{chord-reverse}
+use Rattle.overlay.proofs.StretchLemmas.NodedSides.{clear-meet}
 
 -- ---- the edge of which a piece is
 

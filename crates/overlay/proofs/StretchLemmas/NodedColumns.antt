@@ -1,6 +1,5 @@
 -- In a column strictly inside a stretch, what lies beyond all its points lies above all edges between them, or below.
-use Rattle.std.proofs.Common.{◌≡◌, ◌⊎◌, inl, inr, ℕ, ◌<◌, ◌*◌, ℤ, pos, ◌+ℤ◌, ◌-ℤ◌, ◌*ℤ◌, ◌≤ℤ◌, ◌<ℤ◌, List, refl, ap, ◌∙◌, arith}
-use Rattle.std.specs.List.{Contains}
+use Rattle.std.proofs.Common.{◌≡◌, ◌⊎◌, inl, inr, ℕ, ◌<◌, ℤ, pos, ◌+ℤ◌, ◌-ℤ◌, ◌*ℤ◌, ◌≤ℤ◌, ◌<ℤ◌, List, refl, ap, ◌∙◌, arith}
 use Rattle.std.proofs.lemmas.Int.{by_lt_z, ints}
 use Rattle.plane.specs.declared.edge.Edge.{Edge}
 use Rattle.plane.specs.declared.point.Point.{Point}
@@ -14,7 +13,7 @@ use Rattle.overlay.proofs.SnapLemmas.Numbers.{n_of, natural}
 use Rattle.overlay.proofs.StretchLemmas.Boxes.{IsAmid}
 use Rattle.overlay.proofs.StretchLemmas.Hulls.{hull-edge}
 use Rattle.overlay.proofs.StretchLemmas.Inner.{IsBeyond, amid-left, amid-right}
-use Rattle.overlay.proofs.StretchLemmas.Near.{HasEnds}
+use Rattle.overlay.proofs.StretchLemmas.NodedNear.{HasEnds}
 use Rattle.overlay.proofs.VerticalLemmas.Crossed.{IsOf-column, at_column}
 
 -- (x, y) lies above each point, in the column x, of an edge between two of the points

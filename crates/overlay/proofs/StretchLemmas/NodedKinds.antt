@@ -10,9 +10,10 @@ use Rattle.overlay.specs.Fill.Filled.{HaveSameEnds}
 use Rattle.overlay.specs.Snap.Windings.{end_of, pieces, reversed, start_of}
 use Rattle.overlay.specs.Stretches.{Falls, GoesAlong, IsLong, IsStretch, Rises, chord}
 use Rattle.overlay.proofs.StretchLemmas.Boxes.{ClearIfLong, chord-from, chord-sloped, chord-to, clear-any, long-ways}
-use Rattle.overlay.proofs.StretchLemmas.Near.{HasEnds, near-ends}
-use Rattle.overlay.proofs.StretchLemmas.NodedWays.{Contains-reversed, chord-reverse, piece-points, ways-reverse}
-use Rattle.overlay.proofs.StretchLemmas.Sides.{clear-upright}
+use Rattle.overlay.proofs.StretchLemmas.NodedNear.{HasEnds, near-ends}
+use Rattle.overlay.proofs.StretchLemmas.NodedWays.{piece-points}
+use Rattle.overlay.proofs.StretchLemmas.Reverse.{Contains-reversed, chord-reverse, ways-reverse}
+use Rattle.overlay.proofs.StretchLemmas.NodedSides.{clear-upright}
 
 -- The way goes along a long stretch, whose chord is the edge, each one way or the other.
 pub record GoesLong (all : List (List Point)) (edge : Edge) (way : List Point) : Type 0 where
@@ -57,7 +58,7 @@ module _ (all : List (List Point)) (each : All IsStretch all) (clear : AllPairs 
   short-chord s t edge of_all of_all_too short long same other = elim (clear-any all clear s t of_all of_all_too) [
     | inl one ↦ short (subst IsLong (sym one) long)
     | inr clear_if ↦ sloped-chord t edge (stretch-is t of_all_too) long other
-      (clear-upright s t edge (clear_if (inr long)) (ends-chord s edge (stretch-is s of_all) same) (near-ends t edge (ends-chord t edge (stretch-is t of_all_too) other)))
+        (clear-upright s t edge (clear_if (inr long)) (ends-chord s edge (stretch-is s of_all) same) (near-ends t edge (ends-chord t edge (stretch-is t of_all_too) other)))
   ]
 
   -- along a stretch

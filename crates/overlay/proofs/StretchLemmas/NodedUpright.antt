@@ -1,5 +1,5 @@
 -- Vertical edges meet pieces of long stretches only at common ends.
-use Rattle.std.proofs.Common.{◌≡◌, ◌≢◌, ◌⊎◌, inl, inr, ⊎_elim, ℤ, pos, ◌*ℤ◌, ◌≤ℤ◌, ◌<ℤ◌, Bool, true, false, List, refl, sym, ap, ◌∙◌, subst, arith}
+use Rattle.std.proofs.Common.{◌≡◌, ◌≢◌, ◌⊎◌, inl, inr, ℤ, pos, ◌*ℤ◌, ◌≤ℤ◌, ◌<ℤ◌, true, false, List, refl, sym, ap, ◌∙◌, subst, arith}
 use Rattle.std.specs.Int.{int_max, int_min}
 use Rattle.std.specs.List.{All, AllPairs, Contains}
 use Rattle.std.proofs.lemmas.Int.{by_lt_z, clamps, ints}
@@ -25,11 +25,11 @@ use Rattle.overlay.proofs.FillLemmas.Uncrossed.{MeetOnly-exchanged, MeetOnly-rev
 use Rattle.overlay.proofs.SnapLemmas.Hobby.Ends.{reverse_meet_other}
 use Rattle.overlay.proofs.StretchLemmas.Boxes.{ClearIfLong, IsAmid, IsTip, chord-from, chord-to, tip-or_amid}
 use Rattle.overlay.proofs.StretchLemmas.Inner.{end-sloped, off-end}
-use Rattle.overlay.proofs.StretchLemmas.Near.{HasEnds}
+use Rattle.overlay.proofs.StretchLemmas.NodedNear.{HasEnds}
 use Rattle.overlay.proofs.StretchLemmas.NodedColumns.{IsOver, IsUnder, beyond-side, over-height, under-height}
 use Rattle.overlay.proofs.StretchLemmas.NodedKinds.{sloped-chord}
 use Rattle.overlay.proofs.StretchLemmas.Placed.{IsPlaced}
-use Rattle.overlay.proofs.StretchLemmas.Sides.{StaysLeft, StaysRight, end-column}
+use Rattle.overlay.proofs.StretchLemmas.NodedSides.{StaysLeft, StaysRight, end-column}
 use Rattle.overlay.proofs.VerticalLemmas.Crossed.{IsOf-turned}
 
 -- an edge meets another as it meets one with the same ends

@@ -10,12 +10,12 @@ use Rattle.plane.proofs.MeetLemmas.Boxes.{way_above, way_below}
 use Rattle.plane.proofs.MeetLemmas.Identities.{Term, identity, minus, number, plus, times, unscaled}
 use Rattle.overlay.specs.Snap.Meeting.{MeetAtEnds}
 use Rattle.overlay.specs.Snap.Windings.{end_of, reversed, start_of}
-use Rattle.overlay.specs.Stretches.{AreClear, GoesOn, further}
+use Rattle.overlay.specs.Stretches.{AreClear, further}
 use Rattle.overlay.proofs.SnapLemmas.Hobby.Ends.{exchange_meet}
 use Rattle.overlay.proofs.SnapLemmas.Numbers.{n_of, natural}
 use Rattle.overlay.proofs.SnapLemmas.Reversed.{IsOf-reversed}
 use Rattle.overlay.proofs.StretchLemmas.Inner.{goes-from, goes-upto}
-use Rattle.overlay.proofs.StretchLemmas.Near.{AreNear, HasEnds, near-from, near-further, near-upto}
+use Rattle.overlay.proofs.StretchLemmas.NodedNear.{AreNear, HasEnds, near-from, near-further, near-upto}
 
 -- ---- a point of an edge in the column of one of its ends
 
@@ -159,11 +159,17 @@ clear-sides s t one other (inl apart) (from, to) (near_from, near_to) =
       };
     })
 clear-sides s t one other (inr (inl goes)) (from, to) (near_from, near_to) =
-    inl (inl (goes.at.x, (goes-upto s t goes (start_of one) from, goes-upto s t goes (end_of one) to),
-      (near-from t other.x0 other.y0 goes.at.x near_from (goes-from s t goes), near-from t other.x1 other.y1 goes.at.x near_to (goes-from s t goes))))
+    inl (inl (
+      goes.at.x,
+      (goes-upto s t goes (start_of one) from, goes-upto s t goes (end_of one) to),
+      (near-from t other.x0 other.y0 goes.at.x near_from (goes-from s t goes), near-from t other.x1 other.y1 goes.at.x near_to (goes-from s t goes)),
+    ))
 clear-sides s t one other (inr (inr goes)) (from, to) (near_from, near_to) =
-    inl (inr (goes.at.x, (near-upto t other.x0 other.y0 goes.at.x near_from (goes-upto t s goes), near-upto t other.x1 other.y1 goes.at.x near_to (goes-upto t s goes)),
-      (goes-from t s goes (start_of one) from, goes-from t s goes (end_of one) to)))
+    inl (inr (
+      goes.at.x,
+      (near-upto t other.x0 other.y0 goes.at.x near_from (goes-upto t s goes), near-upto t other.x1 other.y1 goes.at.x near_to (goes-upto t s goes)),
+      (goes-from t s goes (start_of one) from, goes-from t s goes (end_of one) to),
+    ))
 
 -- two such edges that aren't vertical meet only at common ends
 pub clear-meet : (s t : List Point) (one other : Edge) (point : RationalPoint) → AreClear s t → HasEnds s one → AreNear t other → one.x1 ≢ one.x0 → other.x1 ≢ other.x0 → IsOf one point → IsOf other point → MeetAtEnds one other point
