@@ -1,4 +1,5 @@
 -- Lemmas on stretches of rings, their chords, and what is overlaid in their place.
+pub mod Columns
 pub mod Placed
 pub mod Rising
 pub mod Sides

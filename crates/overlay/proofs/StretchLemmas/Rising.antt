@@ -48,6 +48,14 @@ rises-last from (to ∷ others) rises =
     let upto = rises-last to others (rises-rest from (to ∷ others) rises) in
     omega (arith, ints, next, upto)
 
+-- so a chord doesn't go leftwards
+pub rising-onwards : (points : List Point) → Rises points → (chord points).x0 ≤ℤ (chord points).x1
+rising-onwards [] rises = omega (arith, ints)
+rising-onwards (from ∷ others) rises =
+    let upto = rises-last from others rises in
+    let last = chord-last from others in
+    omega (arith, ints, upto, last)
+
 -- The piece that covers the point's x, and what all pieces count there.
 pub record Crossed (points : List Point) (point : RationalPoint) : Type 0 where
   pub piece : Edge
