@@ -135,3 +135,11 @@ module _ (edge : Edge) (point : RationalPoint) (c : Covering edge point) (u v k 
           let one = identity (times (number a) (n_of r)) (times (n_of r) (number a)) (omega arith) in
           let other = identity (times (number b) (n_of r)) (times (n_of r) (number b)) (omega arith) in
           unscaled r a b wide (omega (arith, ints, there, one, other))
+
+-- so a point between two edges isn't beyond a line that no end of either is beyond
+pub between-upto : (low high : Edge) (point : RationalPoint) → Covering low point → Covering high point → height_at low point ≤ℤ (point.y *ℤ run low) → (point.y *ℤ run high) ≤ℤ height_at high point → (u v k : ℤ)
+    → along u v low.x0 low.y0 ≤ℤ k → along u v low.x1 low.y1 ≤ℤ k → along u v high.x0 high.y0 ≤ℤ k → along u v high.x1 high.y1 ≤ℤ k → along u v point.x point.y ≤ℤ (pos point.n *ℤ k)
+between-upto low high point c d under over u v k low_from low_to high_from high_to =
+    by_lt_z v (pos 0)
+    (λ down. upto-point low point c u v k low_from low_to (inr (omega (arith, ints, down), under)))
+    (λ up. upto-point high point d u v k high_from high_to (inl (up, over)))
