@@ -2,6 +2,7 @@
 pub mod Adjoin
 pub mod Apart
 pub mod Aside
+pub mod Bounding
 pub mod Boxes
 pub mod Columns
 pub mod Hulls
@@ -14,3 +15,4 @@ pub mod Shifts
 pub mod Sides
 pub mod Turned
 pub mod Unbroken
+pub mod Wound
