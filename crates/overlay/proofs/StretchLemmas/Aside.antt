@@ -1,5 +1,5 @@
 -- What is clear of a long stretch is aside of a point between the stretch and its chord, and of the point that stands for it.
-use Rattle.std.proofs.Common.{◌≡◌, ◌⊎◌, inl, inr, ⊎_elim, ℕ, ◌+◌, ◌*◌, ◌<◌, ◌-◌, ℤ, pos, negsuc, ◌+ℤ◌, ◌-ℤ◌, ◌*ℤ◌, ◌<ℤ◌, ◌≤ℤ◌, List, [], length, arith, ap, ap₂, refl, sym, ◌∙◌, subst}
+use Rattle.std.proofs.Common.{◌≡◌, inl, inr, ⊎_elim, ℕ, ◌+◌, ◌*◌, ◌<◌, ◌-◌, ℤ, pos, negsuc, ◌+ℤ◌, ◌-ℤ◌, ◌*ℤ◌, ◌<ℤ◌, ◌≤ℤ◌, List, [], length, arith, ap, ap₂, ◌∙◌}
 use Rattle.std.specs.Int.{int_max}
 use Rattle.std.specs.Int.RustNames.{unsigned_abs}
 use Rattle.std.specs.List.{Contains}
@@ -14,11 +14,9 @@ use Rattle.overlay.specs.Snap.Chains.{Passes}
 use Rattle.overlay.specs.Snap.Windings.{end_of, start_of}
 use Rattle.overlay.specs.Stretches.{AreApart, AreClear, GoesOn, IsStretch, chord, further}
 use Rattle.overlay.proofs.SnapLemmas.Numbers.{n_of}
-use Rattle.overlay.proofs.SnapLemmas.Rounding.{whole}
 use Rattle.overlay.proofs.StretchLemmas.Adjoin.{lies-left, lies-right}
 use Rattle.overlay.proofs.StretchLemmas.Boxes.{passed-near}
 use Rattle.overlay.proofs.StretchLemmas.Columns.{AreAside, AreTold, IsAside, IsTold}
-use Rattle.overlay.proofs.StretchLemmas.Hulls.{IsNearHull}
 use Rattle.overlay.proofs.StretchLemmas.Lowered.{IsShiftOf, half_more}
 use Rattle.overlay.proofs.StretchLemmas.Placed.{LiesIn}
 use Rattle.overlay.proofs.StretchLemmas.Sides.{along}

@@ -1,5 +1,5 @@
 -- Edges in which long stretches stand for their chords bound what is made of the stretches, as if there had been no chords.
-use Rattle.std.proofs.Common.{◌≡◌, ◌⊎◌, ◌++◌, ◌∷◌, [], inl, inr, ℤ, pos, List, map, ap, ap₂, refl, sym, ◌∙◌, subst}
+use Rattle.std.proofs.Common.{◌≡◌, ◌⊎◌, ◌++◌, ◌∷◌, [], ℤ, pos, List, map, ap, ap₂, sym, ◌∙◌, subst}
 use Rattle.std.specs.List.{All, AllZip, Contains, flat_map}
 use Rattle.std.proofs.lemmas.List.Elements.{Contains-append_left, Contains-append_right}
 use Rattle.i_tree.proofs.RootLemmas.Joined.{All-behind, All-front}

@@ -1,6 +1,5 @@
 -- What edges and stretches count for two points in one column, where they are aside of both, or the same line tells them from both.
-use Rattle.std.proofs.Common.{◌≡◌, ◌⊎◌, inl, inr, ⊎_elim, ℕ, ◌+◌, ◌*◌, ◌<◌, ◌-◌, ℤ, pos, ◌+ℤ◌, ◌-ℤ◌, ◌*ℤ◌, ◌<ℤ◌, ◌≤ℤ◌, List, [], ◌∷◌, length, arith, ap, refl, sym, ◌∙◌, subst}
-use Rattle.std.specs.Int.RustNames.{unsigned_abs}
+use Rattle.std.proofs.Common.{◌≡◌, ◌⊎◌, inl, inr, ℕ, ◌*◌, ◌<◌, ◌-◌, ℤ, pos, ◌+ℤ◌, ◌*ℤ◌, ◌<ℤ◌, ◌≤ℤ◌, List, [], ◌∷◌, length, arith, ap, sym, ◌∙◌}
 use Rattle.std.specs.List.{Contains}
 use Rattle.std.proofs.lemmas.Int.{by_lt_z, ints}
 use Rattle.std.proofs.lemmas.List.Elements.{Contains-get_or}
@@ -11,8 +10,8 @@ use Rattle.plane.proofs.MeetLemmas.Identities.{identity, number, plus, scaled, t
 use Rattle.overlay.specs.Contours.Outlines.{ring_point}
 use Rattle.overlay.specs.Fill.Rules.{count}
 use Rattle.overlay.specs.Snap.Windings.{end_of, pieces, reversed, start_of, winding}
-use Rattle.overlay.specs.Stretches.{Rises, chord, further}
-use Rattle.overlay.proofs.SnapLemmas.Counted.{counted, is_low, under}
+use Rattle.overlay.specs.Stretches.{Rises, chord}
+use Rattle.overlay.proofs.SnapLemmas.Counted.{counted, is_low}
 use Rattle.overlay.proofs.SnapLemmas.Heights.{Covering}
 use Rattle.overlay.proofs.SnapLemmas.Numbers.{n_of}
 use Rattle.overlay.proofs.SnapLemmas.Windings.{after, before, under-right, winding-added, within}

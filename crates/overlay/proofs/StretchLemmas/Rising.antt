@@ -1,9 +1,8 @@
 -- Points along which x rises: of their pieces just one covers an x between the first and the last.
-use Rattle.std.proofs.Common.{◌≡◌, ℕ, zero, suc, ◌<◌, ◌-◌, ℤ, pos, ◌+ℤ◌, ◌-ℤ◌, ◌*ℤ◌, ◌<ℤ◌, ◌≤ℤ◌, List, [], ◌∷◌, length, arith, ap, refl, sym, ◌∙◌}
-use Rattle.std.specs.List.{All, AllPairs, Contains}
+use Rattle.std.proofs.Common.{◌≡◌, ℕ, ◌<◌, ◌-◌, pos, ◌*ℤ◌, ◌<ℤ◌, ◌≤ℤ◌, List, [], ◌∷◌, length, arith, ap, refl, ◌∙◌}
+use Rattle.std.specs.List.{Contains}
 use Rattle.std.proofs.lemmas.Int.{by_lt_z, ints}
-use Rattle.std.proofs.lemmas.List.Elements.{All-head}
-use Rattle.i_tree.proofs.RootLemmas.Lists.{AllPairs-head, AllPairs-tail, Contains-here, Contains-there}
+use Rattle.i_tree.proofs.RootLemmas.Lists.{AllPairs-tail, Contains-here, Contains-there}
 use Rattle.plane.specs.declared.edge.Edge.{Edge}
 use Rattle.plane.specs.declared.point.Point.{Point}
 use Rattle.plane.specs.Meet.Edges.{RationalPoint}

@@ -1,5 +1,5 @@
 -- The point that stands for a point where long stretches are replaced by their chords.
-use Rattle.std.proofs.Common.{◌≡◌, ◌≢◌, ◌⊎◌, inl, inr, ⊎_elim, ℕ, ◌<◌, ◌≤◌, ℤ, pos, ◌<ℤ◌, ◌≤ℤ◌, List, [], ◌∷◌, length, reverse, arith, ap, refl, sym, ◌∙◌, subst}
+use Rattle.std.proofs.Common.{◌≡◌, ◌⊎◌, inl, inr, ⊎_elim, ◌<◌, List, [], ◌∷◌, length, reverse, arith, refl, subst}
 use Rattle.std.specs.List.{All, AllPairs, Contains}
 use Rattle.std.proofs.lemmas.Bool.{cases_lt}
 use Rattle.std.proofs.lemmas.Int.{by_lt_z, ints}
@@ -10,7 +10,7 @@ use Rattle.plane.specs.declared.edge.Edge.{Edge}
 use Rattle.plane.specs.declared.point.Point.{Point}
 use Rattle.plane.specs.Meet.Edges.{RationalPoint}
 use Rattle.overlay.specs.Snap.Windings.{pieces, reversed, winding}
-use Rattle.overlay.specs.Stretches.{AreClear, Falls, IsLong, IsStretch, Rises, chord}
+use Rattle.overlay.specs.Stretches.{AreClear, IsLong, IsStretch, Rises, chord}
 use Rattle.overlay.proofs.StretchLemmas.Aside.{edge-aside, points-aside}
 use Rattle.overlay.proofs.StretchLemmas.Boxes.{ClearIfLong, clear-any, long-ways}
 use Rattle.overlay.proofs.StretchLemmas.Columns.{AreAside, rising-aside, winding-aside}

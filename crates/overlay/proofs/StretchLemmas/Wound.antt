@@ -1,6 +1,6 @@
 -- How often edges wind where long stretches stand for their chords, told at the point that stands for the point.
-use Rattle.std.proofs.Common.{◌≡◌, ◌≢◌, ◌⊎◌, inl, inr, ⊎_elim, ℕ, zero, suc, ◌<◌, ◌≤◌, ◌-◌, ℤ, pos, ◌+ℤ◌, ◌-ℤ◌, ◌≤ℤ◌, ◌<ℤ◌, List, [], ◌∷◌, ◌++◌, length, map, reverse, arith, ap, refl, sym, ◌∙◌, subst}
-use Rattle.std.specs.List.{All, AllPairs, AllZip, Contains, flat_map}
+use Rattle.std.proofs.Common.{◌≡◌, ◌≢◌, inl, inr, ⊎_elim, pos, List, [], ◌∷◌, length, map, reverse, arith, ap, refl, sym, ◌∙◌, subst}
+use Rattle.std.specs.List.{All, AllZip, Contains, flat_map}
 use Rattle.std.proofs.lemmas.Bool.{cases_lt}
 use Rattle.std.proofs.lemmas.Int.{by_lt_z, ints}
 use Rattle.std.proofs.lemmas.List.{length-reverse}
@@ -11,7 +11,7 @@ use Rattle.plane.specs.declared.edge.Edge.{Edge}
 use Rattle.plane.specs.declared.point.Point.{Point}
 use Rattle.plane.specs.Meet.Edges.{RationalPoint}
 use Rattle.overlay.specs.Snap.Chains.{IsChain}
-use Rattle.overlay.specs.Snap.Windings.{end_of, pieces, reversed, start_of, winding}
+use Rattle.overlay.specs.Snap.Windings.{pieces, reversed, winding}
 use Rattle.overlay.specs.Stretches.{GoesAlong, IsLong, IsStretch, chord}
 use Rattle.overlay.proofs.SnapLemmas.Along.{Passes-end, Passes-start}
 use Rattle.overlay.proofs.SnapLemmas.Numbers.{both}
