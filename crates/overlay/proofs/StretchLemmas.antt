@@ -1,10 +1,14 @@
 -- Lemmas on stretches of rings, their chords, and what is overlaid in their place.
 pub mod Adjoin
 pub mod Apart
+pub mod Aside
+pub mod Bounding
 pub mod Boxes
+pub mod Columns
 pub mod Distinct
 pub mod Hulls
 pub mod Inner
+pub mod Lowered
 pub mod Noded
 pub mod NodedColumns
 pub mod NodedKinds
@@ -16,4 +20,9 @@ pub mod Permuted
 pub mod Pieces
 pub mod Placed
 pub mod Reverse
+pub mod Rising
+pub mod Shifts
+pub mod Sides
+pub mod Turned
 pub mod Unbroken
+pub mod Wound
