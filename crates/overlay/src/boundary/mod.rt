@@ -21,7 +21,7 @@ use plane::point::Point;
 use plane::sweep_line::ActiveEdge;
 use std::alloc::Allocator;
 
-mod broken;
+pub mod broken;
 
 /// Appends rings that bound what the operation makes of the inside of the subject and that of the clip to `points`, one after
 /// another, and to `ring_ends` where each stops among these.

@@ -1,6 +1,6 @@
 //! The sides of rings: their edges that aren't vertical, in the order in which they begin.
 
-ghost use Rattle.std.specs.Prelude.{◌≡◌, ◌≢◌, ◌<◌, ◌^◌, ◌++◌, ◌∷◌, [], ℕ, All, IfOk, IsPermutation, OnOk, length};
+ghost use Rattle.std.specs.Prelude.{◌≡◌, ◌≢◌, ◌<◌, ◌++◌, ◌∷◌, [], ℕ, All, IfOk, IsPermutation, OnOk, length};
 ghost use Rattle.overlay.specs.declared.fill.pieces.Role.TheVariants.{Subject};
 ghost use Rattle.overlay.specs.Contours.Rings.{ring_edges};
 ghost use Rattle.overlay.specs.Fill.Begins.{BeginInOrder};
@@ -30,8 +30,7 @@ pub fn sides_in_order<A: Allocator>(
     ends: &[usize],
 ) -> Result<Vec<Side, A>, AllocError>
     requires { AreEnds 0 ends.now (length points.now) }
-    ensures sides { IfOk result (λ sides. AreSides (edges_in points.now ends.now) (length ends.now) sides.items) }
-    ensures countable { length (edges_in points.now ends.now) < 2 ^ 63 }
+    ensures { IfOk result (λ sides. AreSides (edges_in points.now ends.now) (length ends.now) sides.items) }
 {
     let mut sides = all_sides(alloc, points, ends)?;
     sort_sides(&mut sides);

@@ -1,9 +1,8 @@
-use Rattle.std.proofs.Common.{◌≡◌, ℕ, Bool, List, length, map, ap, sym, subst, subst₂, ◌∙◌}
+use Rattle.std.proofs.Common.{ℕ, Bool, List, length, ap, sym, subst, subst₂, ◌∙◌}
 use Rattle.std.specs.List.{All, position}
-use Rattle.plane.specs.declared.point.Point.{Point}
 use Rattle.overlay.specs.Contours.Rings.{AreContours}
 use Rattle.polygons.specs.Grouping.{AreHomes, AreWithin, placed_polygons}
-use Rattle.polygons.specs.Polygons.{IsPolygon, is_counterclockwise}
+use Rattle.polygons.specs.Polygons.{IsPolygon}
 use Rattle.polygons.specs.Polygons.{rings_of as rings_of_all}
 use Rattle.polygons.specs.Rings.{edges_in, rings_of}
 use Rattle.polygons.specs.declared.grouping.order.PlacedRing.{PlacedRing}

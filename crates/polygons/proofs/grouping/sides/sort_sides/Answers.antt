@@ -4,5 +4,4 @@ use Rattle.polygons.proofs.GroupingLemmas.Edges.{side_before, side_order, sides-
 use Rattle.polygons.proofs.grouping.sides.sort_sides.Goals as goal
 
 pub returns-clause-order : goal.returns-clause-order
-returns-clause-order c =
-    sides-begin c.sort_unstable_by.new.self.items (c.sort_unstable_by.ensures.sorted side_before side_order (answers_always _ _ _ (λ f a r f' called. search rules)))
+returns-clause-order c = sides-begin c.sort_unstable_by.new.self (c.sort_unstable_by.ensures.sorted side_before side_order (answers_always _ _ _ (λ f a r f' called. search rules)))
