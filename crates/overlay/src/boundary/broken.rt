@@ -14,6 +14,9 @@ use plane::edge::Edge;
 use std::alloc::{AllocError, Allocator};
 
 /// The pieces of the subject's edges and then of the clip's, and how many of them are the subject's.
+///
+/// The edges of both are broken together where they meet, and rounded, as `snap` does it. They needn't be closed. It is refused
+/// where memory has no room.
 pub fn broken<A: Allocator + Copy>(
     alloc: A,
     subject: &[Edge],
