@@ -1,3 +1,4 @@
 -- Lemmas on the boundary of a result.
 pub mod Broken
 pub mod Bounding
+pub mod Sloped

@@ -1,4 +1,10 @@
 -- Lemmas on stretches of rings, their chords, and what is overlaid in their place.
+pub mod Adjoin
+pub mod Apart
+pub mod Aside
+pub mod Bounding
+pub mod Boxes
+pub mod Columns
 pub mod CutCallers
 pub mod CutClear
 pub mod CutCounts
@@ -6,4 +12,24 @@ pub mod CutGroups
 pub mod CutLists
 pub mod CutSpans
 pub mod CutWays
+pub mod Distinct
+pub mod Hulls
+pub mod Inner
+pub mod Lowered
+pub mod Noded
+pub mod NodedColumns
+pub mod NodedKinds
+pub mod NodedNear
+pub mod NodedSides
+pub mod NodedUpright
+pub mod NodedWays
+pub mod Permuted
+pub mod Pieces
 pub mod Placed
+pub mod Reverse
+pub mod Rising
+pub mod Shifts
+pub mod Sides
+pub mod Turned
+pub mod Unbroken
+pub mod Wound

@@ -1,6 +1,6 @@
 -- The boundary of what an operation makes of two sets of closed edges, on the grid again.
 use Rattle.std.specs.List.{AllZip, flat_map}
-use Rattle.std.specs.Prelude.{◌≡◌, ◌⊎◌, ◌++◌, ◌<◌, ◌≤◌, List, All, ℕ, ℤ, pos, length}
+use Rattle.std.specs.Prelude.{◌≡◌, ◌≢◌, ◌⊎◌, ◌++◌, ◌<◌, ◌≤◌, List, [], All, Contains, ℕ, ℤ, pos, length}
 use Rattle.plane.specs.declared.edge.Edge.{Edge}
 use Rattle.plane.specs.declared.point.Point.{Point}
 use Rattle.plane.specs.Meet.Edges.{RationalPoint}
@@ -31,6 +31,10 @@ pub record BoundsResult (rule : FillRule) (operation : Operation) (subject clip 
 pub record IsBoundary (rule : FillRule) (operation : Operation) (subject clip : List Edge) (rings : List (List Point)) : Type 0 where
   pub each : All IsRing rings
   pub bounds : BoundsResult rule operation subject clip (flat_map ring_edges rings)
+
+-- Some edge isn't vertical, if there are any.
+abbrev pub HasSloped : List Edge → Type 0
+HasSloped edges = edges ≢ [] → (edge : Edge) × Contains edges edge × (edge.x0 ≢ edge.x1)
 
 -- The pieces of the subject's edges and of the clip's, which are broken together.
 pub record AreBroken (subject clip broken broken_clip : List Edge) : Type 0 where

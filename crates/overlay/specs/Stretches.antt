@@ -1,7 +1,7 @@
 -- Stretches: edges that follow each other along x, where nothing else comes to, and the chord from the first point to the last.
 pub mod Cut
 pub mod Spans
-use Rattle.std.specs.Prelude.{◌≡◌, ◌≢◌, ◌⊎◌, ◌++◌, ◌∷◌, [], ℕ, ◌+◌, ◌-◌, ◌≤◌, ◌<◌, ℤ, pos, ◌+ℤ◌, ◌*ℤ◌, ◌<ℤ◌, List, All, AllPairs, Contains, length, reverse, take, unsigned_abs}
+use Rattle.std.specs.Prelude.{◌≡◌, ◌≢◌, ◌⊎◌, ◌++◌, ◌∷◌, [], ◌+◌, ◌-◌, ◌≤◌, ◌<◌, ℤ, pos, ◌+ℤ◌, ◌*ℤ◌, ◌<ℤ◌, List, All, AllPairs, Contains, length, reverse, take, unsigned_abs}
 use Rattle.std.specs.List.{AllZip, flat_map}
 use Rattle.plane.specs.declared.edge.Edge.{Edge}
 use Rattle.plane.specs.declared.point.Point.{Point}
@@ -30,7 +30,7 @@ abbrev pub further : ℤ → ℤ → Point → ℤ
 further u v point = (u *ℤ point.x) +ℤ (v *ℤ point.y)
 
 -- Some line keeps the points from the others: in a direction (u, v), all of the others lie further than each of these, by more
--- than a unit on both axes. (Changed by the leader at 04:18: read /root/h/CHANGE.md.)
+-- than a unit on both axes.
 pub record AreApart (points others : List Point) : Type 0 where
   pub u : ℤ
   pub v : ℤ

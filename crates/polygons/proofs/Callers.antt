@@ -7,6 +7,14 @@ use Rattle.polygons.specs.Polygons.{AreAppended, rings_of as rings_in}
 use Rattle.polygons.specs.Rings.{AreEnds, rings_of}
 use Rattle.polygons.proofs.GroupingLemmas.Placed.{ends-right, rings-back}
 
+-- Rings that are appended to nothing are joined, and so is what is read of them.
+pub AreJoined-first : (rings : List (List Point)) (old new points : List Point) (old_ends new_ends ends : List ℕ) → old ≡ [] → old_ends ≡ [] → new ≡ old ++ joined rings → new_ends ≡ old_ends ++ offsets (length old) rings → points ≡ new → ends ≡ new_ends
+    → AreJoined rings points ends
+AreJoined-first rings old new points old_ends new_ends ends none no_ends points_are ends_are is ends_is = (
+  is ∙ points_are ∙ ap (λ (before : List Point). before ++ joined rings) none,
+  ends_is ∙ ends_are ∙ ap₂ (λ (before : List ℕ) (all : List Point). before ++ offsets (length all) rings) no_ends none,
+)
+
 -- Rings that are joined stop where they begin or later, and none behind the points.
 pub AreEnds-joined : (rings : List (List Point)) (points : List Point) (ends : List ℕ) → AreJoined rings points ends → AreEnds 0 ends (length points)
 AreEnds-joined rings points ends (points_are, ends_are) =

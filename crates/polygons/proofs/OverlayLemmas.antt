@@ -1,21 +1,16 @@
 -- Polygons of the edges that bound a result are an overlay.
-use Rattle.std.proofs.Common.{◌≡◌, ◌≢◌, ◌⊎◌, ◌++◌, [], ◌∷◌, inl, inr, true, false, List, ℤ, pos, map, refl, ap₂, sym, subst, ◌∙◌, arith}
-use Rattle.std.specs.List.{All, Contains}
-use Rattle.std.specs.Ordering.{int_eq}
-use Rattle.std.proofs.lemmas.Bool.{cases_Bool}
-use Rattle.std.proofs.lemmas.Bool.Decides.{Decides-int_eq}
+use Rattle.std.proofs.Common.{◌≡◌, ◌⊎◌, ◌++◌, List, ℤ, pos, map, refl, ap₂, sym, subst, ◌∙◌}
+use Rattle.std.specs.List.{All}
 use Rattle.std.proofs.lemmas.List.Elements.{All-append, All-filter}
 use Rattle.i_tree.proofs.RootLemmas.Joined.{All-front, All-behind}
-use Rattle.i_tree.proofs.RootLemmas.Lists.{Contains-here}
 use Rattle.plane.specs.declared.edge.Edge.{Edge}
 use Rattle.plane.specs.declared.point.Point.{Point}
 use Rattle.plane.specs.Meet.Edges.{RationalPoint}
 use Rattle.overlay.specs.declared.fill.rules.FillRule.{FillRule}
 use Rattle.overlay.specs.declared.fill.rules.Operation.{Operation}
-use Rattle.overlay.specs.Boundary.{BoundsResult, result_at}
+use Rattle.overlay.specs.Boundary.{BoundsResult, HasSloped, result_at}
 use Rattle.overlay.specs.Contours.Outlines.{AreOutlines, outline}
 use Rattle.overlay.specs.Contours.Rings.{AreContours}
-use Rattle.overlay.specs.Fill.Filled.{IsNextInColumn}
 use Rattle.overlay.specs.Fill.Rules.{count, is_result}
 use Rattle.overlay.specs.Snap.Near.{IsNear}
 use Rattle.overlay.specs.Snap.Windings.{IsAlongAxis}
@@ -27,26 +22,13 @@ use Rattle.polygons.specs.Polygons.{BoundsSome, IsPolygon, rings_of}
 use Rattle.polygons.specs.Rings.{has_two_ends, real_edges}
 use Rattle.polygons.proofs.RingLemmas.{winding-real}
 
--- where one is vertical, another isn't
-some-sloped : (edges : List Edge) → All (λ edge. edge.x1 ≡ edge.x0 → IsNextInColumn edges edge) edges → edges ≢ [] → (edge : Edge) × Contains edges edge × (edge.x0 ≢ edge.x1)
-some-sloped [] next some = absurd (some refl)
-some-sloped (first ∷ others) next some = elim (cases_Bool (int_eq first.x1 first.x0)) [
-  | inl is ↦
-      let (edge, held, sloped, _) = (next 0 first (omega arith) ((Decides-int_eq first.x1 first.x0).0 is)).from in
-      (edge, held, λ (same : edge.x0 ≡ edge.x1). sloped (sym same))
-  | inr isnt ↦ (first, Contains-here first others, λ (same : first.x0 ≡ first.x1). never (sym ((Decides-int_eq first.x1 first.x0).1 (sym same)) ∙ isnt))
-]
-  where
-    never : true ≡ false → ⊥
-    never h = cc
-
 -- edges that bound a result bound something
-pub bounds-some : (rule : FillRule) (operation : Operation) (subject clip edges : List Edge) → BoundsResult rule operation subject clip edges → All (λ edge. edge.x1 ≡ edge.x0 → IsNextInColumn edges edge) edges → BoundsSome edges
-bounds-some rule operation subject clip edges bounds next = record {
+pub bounds-some : (rule : FillRule) (operation : Operation) (subject clip edges : List Edge) → BoundsResult rule operation subject clip edges → HasSloped edges → BoundsSome edges
+bounds-some rule operation subject clip edges bounds sloped = record {
   noded = bounds.noded;
   distinct = bounds.distinct;
   once = bounds.once;
-  sloped = some-sloped edges next;
+  sloped = sloped;
 }
 
 -- what bounds the result of real edges bounds that of all

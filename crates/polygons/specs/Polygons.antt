@@ -1,11 +1,12 @@
 -- Polygons: an outer ring that runs counterclockwise, and holes that run clockwise.
-use Rattle.std.specs.Prelude.{ℕ, ◌≡◌, ◌≢◌, ◌⊎◌, pos, Contains, ◌++◌, Bool, true, false, ◌&&◌, not, cond, List, [], ◌∷◌, All, Option, Some, None, length}
+use Rattle.std.specs.Prelude.{ℕ, ◌≡◌, ◌⊎◌, pos, ◌++◌, Bool, true, false, ◌&&◌, not, cond, List, [], ◌∷◌, All, Option, Some, None, length}
 use Rattle.std.specs.List.{flat_map}
 use Rattle.std.specs.Int.Signed.{lt_z}
 use Rattle.std.specs.Ordering.{int_eq, is_lt}
 use Rattle.plane.specs.declared.edge.Edge.{Edge}
 use Rattle.plane.specs.declared.point.Point.{Point}
 use Rattle.plane.specs.SweepLine.Heights.{rightwards}
+use Rattle.overlay.specs.Boundary.{HasSloped}
 use Rattle.overlay.specs.Contours.Rings.{ring_edges}
 use Rattle.plane.specs.Meet.Edges.{RationalPoint}
 use Rattle.overlay.specs.Fill.Begins.{cmp_begins}
@@ -69,4 +70,4 @@ pub record BoundsSome (edges : List Edge) : Type 0 where
   pub noded : AreNoded edges
   pub distinct : AreDistinct edges
   pub once : (point : RationalPoint) → (winding edges point ≡ pos 0) ⊎ (winding edges point ≡ pos 1)
-  pub sloped : edges ≢ [] → (edge : Edge) × Contains edges edge × (edge.x0 ≢ edge.x1)
+  pub sloped : HasSloped edges

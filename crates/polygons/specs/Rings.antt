@@ -21,9 +21,13 @@ rings_of points start (end ∷ ends) = between start end points ∷ rings_of poi
 abbrev pub HasEnds : Rings → Type 0
 HasEnds rings = AreEnds 0 rings.ends.now (length rings.points.now)
 
+-- The edges of rings that stop at these ends.
+abbrev pub edges_in : List Point → List ℕ → List Edge
+edges_in points ends = flat_map ring_edges (rings_of points 0 ends)
+
 -- The edges of all rings. A ring may end with its first point again: then that edge goes nowhere.
 abbrev pub edges_of : Rings → List Edge
-edges_of rings = flat_map ring_edges (rings_of rings.points.now 0 rings.ends.now)
+edges_of rings = edges_in rings.points.now rings.ends.now
 
 -- The edge goes from one point to another.
 abbrev pub has_two_ends : Edge → Bool

@@ -13,7 +13,7 @@ use crate::rings::{Polygons, Rings, are_ends, real_edges_of};
 use i_tree::Refusal;
 use i_tree::status::exp::StatusCollection;
 use i_tree::status::tree::StatusTree;
-use overlay::boundary::bounding_edges;
+use overlay::boundary::boundary;
 use overlay::fill::{FillRule, Operation};
 use plane::sweep_line::ActiveEdge;
 use std::alloc::Allocator;
@@ -91,7 +91,7 @@ where
     Ok(())
 }
 
-// As `overlay_over`, from an empty status and right ends on. Where it is refused, it may have appended something.
+// As `overlay_over`, from right ends on. Where it is refused, it may have appended something.
 fn append_overlay<C, A>(
     subject: Rings,
     clip: Rings,
@@ -103,7 +103,6 @@ fn append_overlay<C, A>(
 where
     C: StatusCollection<ActiveEdge, i64, ()>,
     A: Allocator + Copy,
-    requires empty { C.stored status.old ≡ [] }
     requires ends { HasEnds subject }
     requires clip_ends { HasEnds clip }
     ensures ok { OnOk result ((polygons : List (List (List Point)))
@@ -114,8 +113,18 @@ where
     let alloc = *out.points.allocator();
     let subject_edges = real_edges_of(alloc, subject)?;
     let clip_edges = real_edges_of(alloc, clip)?;
-    let edges = bounding_edges(alloc, &subject_edges, &clip_edges, rule, operation, status)?;
-    append_polygons(status, &edges, out)
+    let mut points = Vec::new(alloc);
+    let mut ends = Vec::new(alloc);
+    boundary(
+        &subject_edges,
+        &clip_edges,
+        rule,
+        operation,
+        status,
+        &mut points,
+        &mut ends,
+    )?;
+    append_polygons(status, &points, &ends, out)
 }
 
 /// The polygons of what is inside of the rings by the rule: the union of them with nothing. So rings that cross themselves

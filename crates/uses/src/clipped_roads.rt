@@ -1,15 +1,13 @@
 //! Roads that are clipped to polygons: the pieces of them that lie inside.
 
-ghost use Rattle.std.specs.Prelude.{◌≡◌, ◌≤◌, ◌+ℤ◌, IfOk, drop, length, map, take};
-ghost use Rattle.overlay.specs.Boundary.{AreBroken};
+ghost use Rattle.std.specs.Prelude.{◌≡◌, ◌+ℤ◌, IfOk, map};
 ghost use Rattle.polygons.specs.Rings.{edges_of};
 ghost use Rattle.uses.specs.Roads.{AreClipped, double, goes_rightwards, kept, twice_middle};
 
 use i_tree::Refusal;
 use i_tree::status::tree::StatusTree;
+use overlay::boundary::broken::broken;
 use overlay::fill::fill;
-use overlay::snap::pieces::pieces_of;
-use overlay::snap::snap;
 use plane::edge::Edge;
 use plane::locate::{LocateFault, Point, locate};
 use polygons::rings::{are_ends, edges_of};
@@ -70,26 +68,6 @@ pub fn clipped_roads(alloc: Global, roads: &[Edge], rings: Rings) -> Result<Vec<
         // edges that meet only at common ends don't cross
         Err(LocateFault::Cross(_, _)) => unreachable!(),
     }
-}
-
-// The pieces of the roads and then of the rings, and how many of them are the roads'.
-fn broken(alloc: Global, roads: &[Edge], rings: &[Edge]) -> Result<(Vec<Edge>, usize), Refusal>
-    ensures { IfOk result (λ told. (told.1 ≤ length told.0.items)
-        × AreBroken roads.now rings.now (take told.1 told.0.items) (drop told.1 told.0.items)) }
-{
-    let mut edges = Vec::new(alloc);
-    edges.extend_from_slice(roads)?;
-    edges.extend_from_slice(rings)?;
-    let mut points = Vec::new(alloc);
-    let mut ends = Vec::new(alloc);
-    snap(&edges, &mut points, &mut ends)?;
-    let pieces = pieces_of(alloc, &points, &ends)?;
-    // each chain has a piece less than it has points
-    let count = match roads.len() {
-        0 => 0,
-        chains => ends[chains - 1] - chains,
-    };
-    Ok((pieces, count))
 }
 
 // The edges at twice their places.

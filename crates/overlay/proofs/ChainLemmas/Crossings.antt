@@ -30,7 +30,7 @@ end-of_edge edge x y (inr (same_x, same_y)) =
     subst (λ (a : ℤ). IsOf edge (whole a y)) (sym same_x) (subst (λ (b : ℤ). IsOf edge (whole edge.x1 b)) (sym same_y) (1, to_at edge))
 
 -- edges that share an end cross there, if they do
-CrossAt-end : (one other : Edge) (x y : ℤ) → ShareEnd one other → CrossAt one other x y → IsEnd one x y
+pub CrossAt-end : (one other : Edge) (x y : ℤ) → ShareEnd one other → CrossAt one other x y → IsEnd one x y
 CrossAt-end one other x y (end_x, end_y, of_one, of_other) cross =
     let there : CrossAt one other end_x end_y = (cross.0, (whole end_x end_y, end-of_edge one end_x end_y of_one, end-of_edge other end_x end_y of_other, RoundsTo-itself end_x end_y)) in
     let (same_x, same_y) = CrossAt-unique one other end_x end_y x y there cross in

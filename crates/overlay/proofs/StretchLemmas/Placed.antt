@@ -7,7 +7,7 @@ use Rattle.overlay.specs.Snap.Chains.{Passes}
 use Rattle.overlay.specs.Snap.Windings.{reversed}
 use Rattle.overlay.specs.Stretches.{IsLong, chord}
 
--- both ends of the edge are points that the chord of the stretch passes (changed by the leader at 04:18: read /root/h/CHANGE.md)
+-- both ends of the edge are points that the chord of the stretch passes
 abbrev pub LiesIn : List Point → Edge → Type 0
 LiesIn points edge = Passes (chord points) edge.x0 edge.y0 × Passes (chord points) edge.x1 edge.y1
 

@@ -14,6 +14,9 @@ use plane::edge::Edge;
 use std::alloc::{AllocError, Allocator};
 
 /// The pieces of the subject's edges and then of the clip's, and how many of them are the subject's.
+///
+/// The edges of both are broken together where they meet, and rounded, as `snap` does it. They needn't be closed. It is refused
+/// where memory has no room.
 pub fn broken<A: Allocator + Copy>(
     alloc: A,
     subject: &[Edge],
@@ -31,8 +34,8 @@ pub fn broken<A: Allocator + Copy>(
     Ok((pieces, count))
 }
 
-/// The subject's edges and then the clip's.
-pub fn all_edges<A: Allocator>(
+// The subject's edges and then the clip's.
+pub(crate) fn all_edges<A: Allocator>(
     alloc: A,
     subject: &[Edge],
     clip: &[Edge],

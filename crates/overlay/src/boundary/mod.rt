@@ -1,10 +1,12 @@
 //! The boundary of what an operation makes of two sets of closed edges, as rings of whole points.
 
-ghost use Rattle.std.specs.Prelude.{◌≡◌, ◌++◌, [], All, List, IfOk, OnOk, OnErr, length};
+ghost use Rattle.std.specs.Prelude.{◌≡◌, ◌++◌, [], List, IfOk, OnOk, OnErr, length};
 ghost use Rattle.std.specs.List.{flat_map};
+ghost use Rattle.plane.specs.declared.edge.Edge.{Edge};
 ghost use Rattle.plane.specs.declared.point.Point.{Point};
-ghost use Rattle.overlay.specs.Boundary.{BoundsResult, IsBoundary};
-ghost use Rattle.overlay.specs.Fill.Filled.{IsNextInColumn};
+ghost use Rattle.overlay.specs.Boundary.{AreBroken, HasSloped, IsBoundary};
+ghost use Rattle.overlay.specs.Contours.Rings.{ring_edges};
+ghost use Rattle.overlay.specs.Fill.Filled.{IsFilled};
 ghost use Rattle.overlay.specs.Snap.Offsets.{offsets};
 ghost use Rattle.overlay.specs.Snap.Windings.{IsClosed};
 
@@ -19,7 +21,7 @@ use plane::point::Point;
 use plane::sweep_line::ActiveEdge;
 use std::alloc::Allocator;
 
-pub(crate) mod broken;
+pub mod broken;
 
 /// Appends rings that bound what the operation makes of the inside of the subject and that of the clip to `points`, one after
 /// another, and to `ring_ends` where each stops among these.
@@ -31,7 +33,7 @@ pub(crate) mod broken;
 /// The rings have the result on their left. None visits a point twice, and no two of their edges cross, or share more than an
 /// end. Around each point that isn't within half a unit, on both axes, of an edge given, they wind once where it is of the
 /// result, and not at all where it isn't; and so they do around every point where all edges run along the axes. Around no
-/// point do they wind more often.
+/// point do they wind more often. If there are any rings, some edge of theirs isn't vertical.
 ///
 /// It is refused where memory or the status has no room, and leaves `points` and `ring_ends` as they were then. What the status
 /// holds is removed before and after, in every case. The memory is that of `points` and `ring_ends`.
@@ -50,6 +52,7 @@ where
     requires closed { IsClosed subject.now }
     requires clip_closed { IsClosed clip.now }
     ensures ok { OnOk result ((rings : List (List Point)) × IsBoundary rule operation subject.now clip.now rings
+        × HasSloped (flat_map ring_edges rings)
         × (points.new.items ≡ points.old.items ++ flat_map (λ ring. ring) rings)
         × (ring_ends.new.items ≡ ring_ends.old.items ++ offsets (length points.old.items) rings)) }
     ensures err { OnErr result ((points.new.items ≡ points.old.items) × (ring_ends.new.items ≡ ring_ends.old.items)) }
@@ -62,12 +65,8 @@ where
     Ok(())
 }
 
-/// The edges of the boundary: they are closed, meet only at common ends, and have the result on their left. A vertical one goes
-/// from an end of those that aren't vertical to the next one in its column.
-///
-/// It begins with an empty status, and leaves an empty one, in every case. It is refused where memory or the status has no
-/// room.
-pub fn bounding_edges<C, A>(
+// The edges of the boundary: those that the operation keeps of the pieces of subject and clip.
+fn bounding_edges<C, A>(
     alloc: A,
     subject: &[Edge],
     clip: &[Edge],
@@ -81,9 +80,8 @@ where
     requires empty { C.stored status.old ≡ [] }
     requires closed { IsClosed subject.now }
     requires clip_closed { IsClosed clip.now }
-    ensures closed { IfOk result (λ edges. IsClosed edges.items) }
-    ensures bounds { IfOk result (λ edges. BoundsResult rule operation subject.now clip.now edges.items) }
-    ensures vertical { IfOk result (λ edges. All (λ edge. edge.x1 ≡ edge.x0 → IsNextInColumn edges.items edge) edges.items) }
+    ensures filled { IfOk result (λ edges. (broken broken_clip : List Edge) × AreBroken subject.now clip.now broken broken_clip
+        × IsFilled rule operation broken broken_clip edges.items) }
     ensures empty { C.stored status.new ≡ [] }
 {
     let (pieces, count) = broken(alloc, subject, clip)?;

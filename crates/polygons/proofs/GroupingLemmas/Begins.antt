@@ -1,6 +1,6 @@
 -- Of edges that bound a region some ring runs counterclockwise.
 use Rattle.std.proofs.Common.{◌≡◌, ◌≢◌, ◌<◌, ◌++◌, [], ◌∷◌, inl, inr, ℕ, zero, suc, length, get_or, map, Bool, true, false, not, ◌&&◌, cond, ℤ, pos, ◌<ℤ◌, List, Option, Some, None, refl, sym, subst, ◌∙◌, append_assoc, append-nil, arith}
-use Rattle.std.specs.List.{Contains, flat_map, position, position_or_len}
+use Rattle.std.specs.List.{All, Contains, flat_map, position, position_or_len}
 use Rattle.std.specs.Prelude.{IfSome, nat_lt}
 use Rattle.std.specs.Int.Signed.{lt_z}
 use Rattle.std.specs.Ordering.{int_eq}
@@ -8,7 +8,6 @@ use Rattle.std.proofs.lemmas.Bool.{ltb-false}
 use Rattle.std.proofs.lemmas.Int.{ints}
 use Rattle.std.proofs.lemmas.List.Elements.{All-head, Contains-append_cases, Contains-append_left, Contains-append_right}
 use Rattle.std.proofs.lemmas.List.Sums.{fails_before_first}
-use Rattle.std.proofs.lemmas.List.Sorted.{Contains-permutation, IsPermutation-sym}
 use Rattle.i_tree.proofs.RootLemmas.Lists.{Contains-here}
 use Rattle.plane.specs.declared.edge.Edge.{Edge}
 use Rattle.plane.specs.declared.point.Point.{Point}
@@ -16,7 +15,7 @@ use Rattle.plane.specs.SweepLine.Heights.{rightwards}
 use Rattle.plane.proofs.PairsLemmas.Bags.{Contains-map}
 use Rattle.overlay.specs.declared.fill.pieces.Piece.{Piece}
 use Rattle.overlay.specs.Contours.Outlines.{next_or}
-use Rattle.overlay.specs.Contours.Rings.{AreContours, IsRing, ring_edges}
+use Rattle.overlay.specs.Contours.Rings.{IsRing, ring_edges}
 use Rattle.overlay.specs.Fill.Begins.{BeginsUpto}
 use Rattle.overlay.specs.Snap.Windings.{edge_between}
 use Rattle.overlay.proofs.KeptLemmas.First.{first-rightwards}
@@ -127,10 +126,9 @@ less-true x y less = by (lt_z x y) refl
     by true e = e
     by false e = absurd (omega (arith, ints, e, less))
 
-module _ (edges : List Edge) (bounds : BoundsSome edges) (rings : List (List Point)) (are : AreContours edges rings) where
-  -- an edge of a ring is one of the edges
-  of-ring : (ring : List Point) (edge : Edge) → Contains rings ring → Contains (ring_edges ring) edge → Contains edges edge
-  of-ring ring edge inside held = Contains-permutation (flat_map ring_edges rings) edges edge are.all (Contains-in_flat_map ring_edges rings ring edge inside held)
+module _ (rings : List (List Point)) (bounds : BoundsSome (flat_map ring_edges rings)) where
+  abbrev edges : List Edge
+  edges = flat_map ring_edges rings
 
   first-of : (some : Edge) → Contains edges some → some.x0 ≢ some.x1 → (best : Option Edge) → Told edges best → (first : Edge) × IsFirst edges first
   first-of some among sloped None told = absurd (told some among (λ same. sloped (sym same)))
@@ -139,7 +137,7 @@ module _ (edges : List Edge) (bounds : BoundsSome edges) (rings : List (List Poi
   rightwards-of : (first : Edge) → IsFirst edges first → (ring : List Point) → Contains rings ring → Contains (ring_edges ring) first → (best : Option Edge) → Told (ring_edges ring) best → runs_rightwards best ≡ true
   rightwards-of first is ring inside held None told = absurd (told first held is.sloped)
   rightwards-of first is ring inside held (Some other) told =
-      let less = first-rightwards edges bounds.noded bounds.distinct bounds.once other (of-ring ring other inside told.among) told.sloped
+      let less = first-rightwards edges bounds.noded bounds.distinct bounds.once other (Contains-in_flat_map ring_edges rings ring other inside told.among) told.sloped
       (λ one among sloped. BeginsUpto-trans (rightwards other) (rightwards first) (rightwards one) (told.begins first held is.sloped) (is.begins one among sloped)) in
       less-true other.x0 other.x1 less
 
@@ -147,7 +145,7 @@ module _ (edges : List Edge) (bounds : BoundsSome edges) (rings : List (List Poi
   some-outer : (some : Edge) → Contains edges some → some.x0 ≢ some.x1 → (ring : List Point) × Contains rings ring × (is_counterclockwise ring ≡ true)
   some-outer some among sloped =
       let (first, is) = first-of some among sloped (first_sloped None edges) (told-all edges) in
-      let (ring, inside, held) = Contains-flat_map ring_edges rings first (Contains-permutation edges (flat_map ring_edges rings) first (IsPermutation-sym (flat_map ring_edges rings) edges are.all) is.among) in
+      let (ring, inside, held) = Contains-flat_map ring_edges rings first is.among in
       (ring, inside, rightwards-of first is ring inside held (first_sloped None (ring_edges ring)) (told-all (ring_edges ring)))
 
 has-edge : (ring : List Point) → ring ≢ [] → (edge : Edge) × Contains (ring_edges ring) edge
@@ -167,14 +165,14 @@ none-passes xs none k d within = fails_before_first (λ is. is) xs k d (by (nat_
     by false e is = let upto = ltb-false (position_or_len (λ is. is) xs) (length xs) e in omega (arith, within, upto)
 
 -- where no ring runs counterclockwise, there is none
-pub no-rings : (edges : List Edge) → BoundsSome edges → (rings : List (List Point)) → AreContours edges rings → position (λ is. is) (map is_counterclockwise rings) ≡ None → rings ≡ []
-no-rings edges bounds [] are none = refl
-no-rings edges bounds (ring ∷ rings) are none =
+pub no-rings : (rings : List (List Point)) → All IsRing rings → BoundsSome (flat_map ring_edges rings) → position (λ is. is) (map is_counterclockwise rings) ≡ None → rings ≡ []
+no-rings [] each bounds none = refl
+no-rings (ring ∷ rings) each bounds none =
     let all = ring ∷ rings in
-    let (edge, held) = has-edge ring (All-head IsRing ring rings are.each).some in
-    let among = of-ring edges bounds all are ring edge (Contains-here ring rings) held in
+    let (edge, held) = has-edge ring (All-head IsRing ring rings each).some in
+    let among = Contains-in_flat_map ring_edges all ring edge (Contains-here ring rings) held in
     let (some, of, sloped) = bounds.sloped (λ empty. some_edge edge (subst (λ (list : List Edge). Contains list edge) empty among)) in
-    let (outer, inside, runs) = some-outer edges bounds all are some of sloped in
+    let (outer, inside, runs) = some-outer all bounds some of sloped in
     let (k, within, at) = Contains-map is_counterclockwise all outer inside in
     absurd (never (sym runs ∙ sym at ∙ none-passes (map is_counterclockwise all) none k (is_counterclockwise outer) within))
   where

@@ -1,10 +1,11 @@
 -- The edges of a ring, from one of its points on, and the sides among them.
-use Rattle.std.proofs.Common.{◌≡◌, ◌<◌, ◌+◌, ◌++◌, [], ◌∷◌, ℕ, Bool, true, false, cond, List, drop, length, refl, ap, ap₂, sym, subst, ◌∙◌, append_assoc, arith}
+use Rattle.std.proofs.Common.{◌≡◌, ◌<◌, ◌≤◌, ◌+◌, ◌++◌, [], ◌∷◌, ℕ, suc, Bool, true, false, cond, List, drop, length, refl, ap, ap₂, sym, subst, ◌∙◌, append_assoc, arith}
 use Rattle.std.specs.Cmp.{IsStrictWeakOrder}
-use Rattle.std.specs.List.{flat_map}
+use Rattle.std.specs.List.{between, flat_map}
 use Rattle.std.specs.List.Sorted.{IsPermutation, IsSortedBy}
 use Rattle.std.specs.Ordering.{int_eq}
-use Rattle.std.proofs.lemmas.List.{at_drop_more, get_or-map, length-map}
+use Rattle.std.proofs.lemmas.List.{at_drop_more, get_or-map, length-append, length-map}
+use Rattle.std.proofs.lemmas.List.Edits.{length-between}
 use Rattle.std.proofs.lemmas.List.Sorted.{All-permutation, IsPermutation-map}
 use Rattle.plane.specs.declared.edge.Edge.{Edge}
 use Rattle.plane.specs.declared.point.Point.{Point}
@@ -18,6 +19,7 @@ use Rattle.overlay.specs.Snap.Windings.{edge_between, pieces}
 use Rattle.overlay.proofs.PieceLemmas.Begins.{begins_before, weak_order}
 use Rattle.overlay.proofs.PieceLemmas.Made.{sorted-order}
 use Rattle.polygons.specs.Grouping.{AreNumbered, AreSides, edges_from, pieces_of}
+use Rattle.polygons.specs.Rings.{AreEnds, edges_in, rings_of}
 use Rattle.polygons.specs.declared.grouping.sides.Side.{Side}
 use Rattle.polygons.proofs.GroupingLemmas.Sweep.{no_side}
 
@@ -34,6 +36,30 @@ edges_from-first (first ∷ others) = along first others first
 pub edges_from-more : (ring : List Point) (behind : Point) (place : ℕ) → place < length ring
     → edges_from (drop place ring) behind ≡ edge_between (ring_point ring place) (next_or (drop (place + 1) ring) behind) ∷ edges_from (drop (place + 1) ring) behind
 edges_from-more ring behind place inside = at_drop_more (λ (points : List Point). edges_from points behind) ring place _ inside
+
+-- ---- how many there are
+
+length-edges_from : (points : List Point) (behind : Point) → length (edges_from points behind) ≡ length points
+length-edges_from [] behind = refl
+length-edges_from (at ∷ points) behind = ap (λ (n : ℕ). suc n) (length-edges_from points behind)
+
+length-ring_edges : (ring : List Point) → length (ring_edges ring) ≡ length ring
+length-ring_edges ring = ap (λ (edges : List Edge). length edges) (edges_from-first ring) ∙ length-edges_from ring (ring_point ring 0)
+
+few-edges : (points : List Point) (start : ℕ) (ends : List ℕ) → AreEnds start ends (length points) → start ≤ length points → start + length (flat_map ring_edges (rings_of points start ends)) ≤ length points
+few-edges points start [] right upto = omega (arith, upto)
+few-edges points start (end ∷ ends) (rising, within, others) upto =
+    let ring = between start end points in
+    let rest = flat_map ring_edges (rings_of points end ends) in
+    let later = few-edges points end ends others within in
+    let sum = length-append (ring_edges ring) rest in
+    let first = length-ring_edges ring in
+    let size = length-between points start end within in
+    omega (arith, rising, within, later, sum, first, size)
+
+-- no more than points
+pub length-edges_in : (points : List Point) (ends : List ℕ) → AreEnds 0 ends (length points) → length (edges_in points ends) ≤ length points
+length-edges_in points ends right = let few = few-edges points 0 ends right (omega arith) in omega (arith, few)
 
 -- ---- sides
 
@@ -69,17 +95,17 @@ side_order = record {
   chain = λ one other third first second. weak_order.chain one.piece other.piece third.piece first second;
 }
 
-sides-begin : (sides : List Side) → IsSortedBy side_before sides → BeginInOrder (pieces_of sides)
+pub sides-begin : (sides : List Side) → IsSortedBy side_before sides → BeginInOrder (pieces_of sides)
 sides-begin sides up =
     sorted-order (pieces_of sides) (λ k d from within.
     (let size = length-map sides (λ (side : Side). side.piece) in
     ap₂ (λ (one other : Piece). begins_before one other) (get_or-map (λ (side : Side). side.piece) sides (k + 1) no_side d (omega (arith, size, within))) (get_or-map (λ (side : Side). side.piece) sides k no_side d (omega (arith, size, within)))
     ∙ up k no_side from (omega (arith, size, within))))
 
-pub AreSides-sorted : (edges : List Edge) (count : ℕ) (sides sorted : List Side) → pieces_of sides ≡ turned Subject edges → AreNumbered count sides → IsPermutation sides sorted → IsSortedBy side_before sorted
+pub AreSides-sorted : (edges : List Edge) (count : ℕ) (sides sorted : List Side) → pieces_of sides ≡ turned Subject edges → AreNumbered count sides → IsPermutation sides sorted → BeginInOrder (pieces_of sorted)
     → AreSides edges count sorted
-AreSides-sorted edges count sides sorted pieces numbered moved up = record {
+AreSides-sorted edges count sides sorted pieces numbered moved order = record {
   pieces = subst (λ (list : List Piece). IsPermutation list (pieces_of sorted)) pieces (IsPermutation-map (λ (side : Side). side.piece) sides sorted moved);
-  order = sides-begin sorted up;
+  order = order;
   numbered = All-permutation (λ (side : Side). side.ring < count) sides sorted moved numbered;
 }

@@ -1,19 +1,17 @@
 -- The sides of rings as the pieces of a fill.
-use Rattle.std.proofs.Common.{◌≡◌, ◌≢◌, ◌<◌, ◌^◌, ◌≤◌, ◌++◌, [], ◌∷◌, ℕ, Bool, true, false, cond, List, length, get_or, refl, ap, sym, subst, ◌∙◌, append-nil, arith}
-use Rattle.std.specs.List.{All, AllPairs, Contains, flat_map}
+use Rattle.std.proofs.Common.{◌≡◌, ◌≢◌, ◌<◌, ◌^◌, ◌≤◌, ◌++◌, [], ◌∷◌, ℕ, Bool, true, false, cond, List, length, get_or, refl, sym, subst, ◌∙◌, append-nil, arith}
+use Rattle.std.specs.List.{All, AllPairs, Contains}
 use Rattle.std.specs.List.Sorted.{IsPermutation}
 use Rattle.std.specs.Ordering.{int_eq}
 use Rattle.std.proofs.lemmas.Int.{ints}
 use Rattle.std.proofs.lemmas.List.Elements.{All-contains, All-contains_itself, All-weaker}
 use Rattle.std.proofs.lemmas.List.Kept.{AllPairs-cons}
-use Rattle.std.proofs.lemmas.List.Sorted.{IsPermutation-refl, IsPermutation-sym, IsPermutation-trans}
+use Rattle.std.proofs.lemmas.List.Sorted.{IsPermutation-refl}
 use Rattle.i_tree.proofs.RootLemmas.Lists.{AllPairs-head, AllPairs-tail}
 use Rattle.plane.specs.declared.edge.Edge.{Edge}
-use Rattle.plane.specs.declared.point.Point.{Point}
 use Rattle.plane.proofs.PairsLemmas.Bags.{AllPairs-permutation}
 use Rattle.overlay.specs.declared.fill.pieces.Piece.{Piece}
 use Rattle.overlay.specs.declared.fill.pieces.Role.TheVariants.{Subject}
-use Rattle.overlay.specs.Contours.Rings.{AreContours, ring_edges}
 use Rattle.overlay.specs.Fill.Filled.{AreDistinct, AreNoded, HaveSameEnds}
 use Rattle.overlay.specs.Fill.Begins.{BeginInOrder}
 use Rattle.overlay.specs.Fill.Sweep.{AreFillPieces}
@@ -23,24 +21,6 @@ use Rattle.overlay.proofs.KeptLemmas.First.{turned-same}
 use Rattle.overlay.proofs.PieceLemmas.Made.{AreTurned-all, IsTurned, joined-pieces, turned-units}
 use Rattle.polygons.specs.Grouping.{AreSides, pieces_of}
 use Rattle.polygons.specs.declared.grouping.sides.Side.{Side}
-use Rattle.polygons.proofs.GroupingLemmas.Bags.{IsPermutation-flat_map}
-
--- an edge as a piece, if it isn't vertical
-abbrev pieces_one : Edge → List Piece
-pieces_one edge = turned Subject (edge ∷ [])
-
-by_one : (edge : Edge) (rest all : List Piece) (t : Bool) → rest ≡ all → cond t rest (piece_of Subject edge ∷ rest) ≡ cond t [] (piece_of Subject edge ∷ []) ++ all
-by_one edge rest all true is = is
-by_one edge rest all false is = ap (λ (list : List Piece). piece_of Subject edge ∷ list) is
-
-turned-flat : (edges : List Edge) → turned Subject edges ≡ flat_map pieces_one edges
-turned-flat [] = refl
-turned-flat (edge ∷ edges) = by_one edge (turned Subject edges) (flat_map pieces_one edges) (int_eq edge.x0 edge.x1) (turned-flat edges)
-
-turned-permuted : (edges others : List Edge) → IsPermutation edges others → IsPermutation (turned Subject edges) (turned Subject others)
-turned-permuted edges others moved =
-    subst (λ (list : List Piece). IsPermutation list (turned Subject others)) (sym (turned-flat edges))
-    (subst (λ (list : List Piece). IsPermutation (flat_map pieces_one edges) list) (sym (turned-flat others)) (IsPermutation-flat_map pieces_one edges others moved))
 
 -- ---- no two of them are of one edge
 
@@ -90,22 +70,18 @@ join-none pieces order distinct units = record {
 differ-exchanged : (one other : Piece) → Differ one other → Differ other one
 differ-exchanged one other differ same = differ (sym same)
 
-pub AreFillPieces-sides : (edges : List Edge) (rings : List (List Point)) (count : ℕ) (sides : List Side) → IsClosed edges → AreNoded edges → AreDistinct edges → AreContours edges rings
-    → AreSides (flat_map ring_edges rings) count sides → length edges < 2 ^ 63 → AreFillPieces (pieces_of sides)
-AreFillPieces-sides edges rings count sides closed noded distinct are of countable = record {
+pub AreFillPieces-sides : (edges : List Edge) (count : ℕ) (sides : List Side) → IsClosed edges → AreNoded edges → AreDistinct edges → AreSides edges count sides → length edges < 2 ^ 63 → AreFillPieces (pieces_of sides)
+AreFillPieces-sides edges count sides closed noded distinct of countable = record {
   subject = edges;
   clip = [];
   closed = closed;
   clip_closed = λ test. refl;
   noded = subst AreNoded (sym (append-nil edges)) noded;
   are = joined-pieces edges [] (pieces_of sides) (pieces_of sides) turned_all
-      (join-none (pieces_of sides) of.order (AllPairs-permutation Differ differ-exchanged (turned Subject edges) (pieces_of sides) moved (distinct-pieces edges distinct)) (turned-units (edges ++ []) (pieces_of sides) (AreTurned-all edges [] (pieces_of sides) turned_all)));
+      (join-none (pieces_of sides) of.order (AllPairs-permutation Differ differ-exchanged (turned Subject edges) (pieces_of sides) of.pieces (distinct-pieces edges distinct)) (turned-units (edges ++ []) (pieces_of sides) (AreTurned-all edges [] (pieces_of sides) turned_all)));
   order = of.order;
   countable = omega (arith, countable);
 }
   where
-    moved : IsPermutation (turned Subject edges) (pieces_of sides)
-    moved = IsPermutation-trans (turned Subject edges) (turned Subject (flat_map ring_edges rings)) (pieces_of sides) (turned-permuted edges (flat_map ring_edges rings) (IsPermutation-sym (flat_map ring_edges rings) edges are.all)) of.pieces
-
     turned_all : AreTurned edges [] (pieces_of sides)
-    turned_all = subst (λ (list : List Piece). IsPermutation list (pieces_of sides)) (sym (append-nil (turned Subject edges))) moved
+    turned_all = subst (λ (list : List Piece). IsPermutation list (pieces_of sides)) (sym (append-nil (turned Subject edges))) of.pieces

@@ -1,18 +1,15 @@
 //! To which outer ring each ring belongs.
 
 ghost use Rattle.std.specs.Prelude.{◌≡◌, ◌<◌, [], true, IfOk, length};
-ghost use Rattle.overlay.specs.Contours.Rings.{AreContours};
 ghost use Rattle.overlay.specs.Fill.Sweep.{AreFillPieces};
-ghost use Rattle.overlay.specs.Snap.Windings.{IsClosed};
 ghost use Rattle.polygons.specs.Grouping.{AreHomes, AreNumbered, home_of, is_outer, pieces_of};
 ghost use Rattle.polygons.specs.Polygons.{BoundsSome};
-ghost use Rattle.polygons.specs.Rings.{AreEnds, rings_of};
+ghost use Rattle.polygons.specs.Rings.{AreEnds, edges_in};
 
 use super::below::ring_below;
 use super::sides::{Side, first_sides_in_order, sides_in_order};
 use i_tree::Refusal;
 use i_tree::status::exp::StatusCollection;
-use plane::edge::Edge;
 use plane::point::Point;
 use plane::sweep_line::{ActiveEdge, insert_beginning};
 use std::alloc::{AllocError, Allocator};
@@ -23,12 +20,11 @@ const FEW_HOLES: usize = 64;
 
 /// For each ring the number of an outer ring: for a hole, that of its polygon. An outer ring is its own, whatever stands there.
 ///
-/// The edges are those of the rings. Before any home is found, `outer` stands for each. It begins with an empty status, and
-/// is refused where memory or the status has no room.
+/// Before any home is found, `outer` stands for each. It begins with an empty status, and is refused where memory or the status
+/// has no room.
 pub fn homes<C, A>(
     alloc: A,
     status: &mut C,
-    edges: &[Edge],
     points: &[Point],
     ends: &[usize],
     are_outer: &[bool],
@@ -38,10 +34,8 @@ where
     C: StatusCollection<ActiveEdge, i64, ()>,
     A: Allocator + Copy,
     requires empty { C.stored status.old ≡ [] }
-    requires closed { IsClosed edges.now }
-    requires bounding { BoundsSome edges.now }
     requires ends { AreEnds 0 ends.now (length points.now) }
-    requires rings { AreContours edges.now (rings_of points.now 0 ends.now) }
+    requires bounding { BoundsSome (edges_in points.now ends.now) }
     requires each { length are_outer.now ≡ length ends.now }
     requires outer { is_outer are_outer.now outer ≡ true }
     ensures { IfOk result (λ homes. AreHomes are_outer.now homes.items) }
@@ -51,7 +45,7 @@ where
         settle_few(alloc, points, ends, are_outer, &mut homes)?;
         return Ok(homes);
     }
-    let sides = sides_in_order(alloc, edges, points, ends)?;
+    let sides = sides_in_order(alloc, points, ends)?;
     settle(status, &sides, are_outer, &mut homes)?;
     Ok(homes)
 }

@@ -1,16 +1,16 @@
 //! The sides of rings: their edges that aren't vertical, in the order in which they begin.
 
-ghost use Rattle.std.specs.Prelude.{◌≡◌, ◌≢◌, ◌<◌, ◌^◌, ◌++◌, ◌∷◌, [], ℕ, All, IfOk, OnOk, length};
-ghost use Rattle.std.specs.List.{flat_map};
+ghost use Rattle.std.specs.Prelude.{◌≡◌, ◌≢◌, ◌<◌, ◌++◌, ◌∷◌, [], ℕ, All, IfOk, IsPermutation, OnOk, length};
 ghost use Rattle.overlay.specs.declared.fill.pieces.Role.TheVariants.{Subject};
 ghost use Rattle.overlay.specs.Contours.Rings.{ring_edges};
+ghost use Rattle.overlay.specs.Fill.Begins.{BeginInOrder};
 ghost use Rattle.overlay.specs.Fill.Turned.{piece_of, turned};
 ghost use Rattle.polygons.specs.Grouping.{AreNumbered, AreSides, IsRightward, IsSideAmong, pieces_of};
-ghost use Rattle.polygons.specs.Rings.{AreEnds, rings_of};
+ghost use Rattle.polygons.specs.Rings.{AreEnds, edges_in};
 
 use super::directions::first_edge;
 use super::edges::edge_at;
-use overlay::fill::pieces::{Piece, Role, compare_begins, is_sloped, piece_of, room_for};
+use overlay::fill::pieces::{Piece, Role, compare_begins, is_sloped, piece_of};
 use plane::edge::Edge;
 use plane::point::Point;
 use std::alloc::{AllocError, Allocator};
@@ -23,38 +23,42 @@ pub struct Side {
     pub ring: usize,
 }
 
-/// The sides of all rings, which are those of the edges, in the order in which they begin.
+/// The sides of all rings, in the order in which they begin.
 pub fn sides_in_order<A: Allocator>(
     alloc: A,
-    edges: &[Edge],
     points: &[Point],
     ends: &[usize],
 ) -> Result<Vec<Side, A>, AllocError>
     requires { AreEnds 0 ends.now (length points.now) }
-    ensures sides { IfOk result (λ sides. AreSides (flat_map ring_edges (rings_of points.now 0 ends.now)) (length ends.now) sides.items) }
-    ensures countable { IfOk result (λ _. length edges.now < 2 ^ 63) }
+    ensures { IfOk result (λ sides. AreSides (edges_in points.now ends.now) (length ends.now) sides.items) }
 {
-    let room = room_for(edges, &[])?;
-    let mut sides = all_sides(alloc, room, points, ends)?;
+    let mut sides = all_sides(alloc, points, ends)?;
+    sort_sides(&mut sides);
+    Ok(sides)
+}
+
+// Puts the sides in the order in which they begin.
+fn sort_sides(sides: &mut [Side])
+    ensures same { IsPermutation sides.old sides.new }
+    ensures order { BeginInOrder (pieces_of sides.new) }
+{
     sides.sort_unstable_by(|one: &Side, other: &Side| -> Ordering {
         compare_begins(one.piece.edge, other.piece.edge)
     });
-    Ok(sides)
 }
 
 // The sides of each ring, ring by ring.
 fn all_sides<A: Allocator>(
     alloc: A,
-    room: usize,
     points: &[Point],
     ends: &[usize],
 ) -> Result<Vec<Side, A>, AllocError>
     requires { AreEnds 0 ends.now (length points.now) }
     ensures pieces { IfOk result (λ sides. pieces_of sides.items
-        ≡ turned Subject (flat_map ring_edges (rings_of points.now 0 ends.now))) }
+        ≡ turned Subject (edges_in points.now ends.now)) }
     ensures numbered { IfOk result (λ sides. AreNumbered (length ends.now) sides.items) }
 {
-    let mut sides = Vec::with_capacity(alloc, room)?;
+    let mut sides = Vec::with_capacity(alloc, points.len())?;
     let mut start = 0;
     for (ring, end) in ends.iter().enumerate() {
         append_sides(&mut sides, &points[start..*end], ring)?;
@@ -119,9 +123,7 @@ pub fn first_sides_in_order<A: Allocator>(
     ensures { IfOk result (λ sides. All (IsSideAmong (length ends.now)) sides.items) }
 {
     let mut sides = first_sides(alloc, points, ends, are_outer)?;
-    sides.sort_unstable_by(|one: &Side, other: &Side| -> Ordering {
-        compare_begins(one.piece.edge, other.piece.edge)
-    });
+    sort_sides(&mut sides);
     Ok(sides)
 }
 

@@ -1,18 +1,28 @@
 use Rattle.std.proofs.Common.{List, sym, subst}
+use Rattle.std.specs.List.{flat_map}
 use Rattle.plane.specs.declared.edge.Edge.{Edge}
-use Rattle.overlay.specs.Contours.Rings.{AreContours}
+use Rattle.overlay.specs.Contours.Rings.{AreContours, ring_edges}
 use Rattle.overlay.specs.Snap.Windings.{IsClosed}
-use Rattle.overlay.proofs.BoundaryLemmas.Bounding.{rings-bound}
+use Rattle.overlay.proofs.BoundaryLemmas.Bounding.{filled-bounds, rings-bound}
+use Rattle.overlay.proofs.BoundaryLemmas.Sloped.{HasSloped-next, HasSloped-permuted}
 use Rattle.overlay.proofs.boundary.boundary.Goals as goal
 
 pub contours-requires : goal.contours-requires
-contours-requires g c = subst IsClosed (sym c.deref.ensures.value) c.in_ok-edges.ensures.closed
+contours-requires g c =
+    let (pieces, clip_pieces, are, filled) = c.in_ok-edges.ensures.filled in
+    subst IsClosed (sym c.deref.ensures.value) filled.closed
 
 pub returns-clause-ok : goal.returns-clause-ok
 returns-clause-ok g c =
-    let (rings, are, points, ends) = c.in_ok-contours.ensures.ok in (
+    let subject = c.args.subject.now in
+    let clip = c.args.clip.now in
+    let edges = c.in_ok-edges.edges.items in
+    let (pieces, clip_pieces, broken, filled) = c.in_ok-edges.ensures.filled in
+    let (rings, told, points, ends) = c.in_ok-contours.ensures.ok in
+    let are = subst (λ (list : List Edge). AreContours list rings) c.deref.ensures.value told in (
       rings,
-      rings-bound c.args.rule c.args.operation c.args.subject.now c.args.clip.now c.in_ok-edges.edges.items rings c.in_ok-edges.ensures.bounds (subst (λ (edges : List Edge). AreContours edges rings) c.deref.ensures.value are),
+      rings-bound c.args.rule c.args.operation subject clip edges rings (filled-bounds subject clip pieces clip_pieces broken c.args.rule c.args.operation edges filled) are,
+      HasSloped-permuted (flat_map ring_edges rings) edges are.all (HasSloped-next edges filled.vertical),
       points,
       ends,
     )

@@ -1,10 +1,9 @@
-use Rattle.std.proofs.Common.{◌≡◌, ◌++◌, ◌-◌, ℕ, List, All, length, take, drop, ap, ap₂, sym, subst, ◌∙◌, arith}
+use Rattle.std.proofs.Common.{◌≡◌, ◌++◌, ◌-◌, ℕ, List, length, take, drop, ap, ap₂, sym, subst, subst₂, ◌∙◌, arith}
 use Rattle.std.proofs.lemmas.List.{length-drop, take_all}
 use Rattle.plane.specs.declared.edge.Edge.{Edge}
-use Rattle.overlay.specs.Boundary.{BoundsResult}
-use Rattle.overlay.specs.Fill.Filled.{AreNoded, IsFilled, IsNextInColumn}
+use Rattle.overlay.specs.Fill.Filled.{AreNoded, IsFilled}
 use Rattle.overlay.specs.Snap.Windings.{IsClosed}
-use Rattle.overlay.proofs.BoundaryLemmas.Bounding.{broken-closed, broken-noded, clip-closed, filled-bounds}
+use Rattle.overlay.proofs.BoundaryLemmas.Bounding.{broken-closed, broken-noded, clip-closed}
 use Rattle.overlay.proofs.boundary.bounding_edges.Goals as goal
 
 -- what a slice to its list's end is
@@ -32,24 +31,16 @@ fill-requires-clause-noded g c =
     subst AreNoded (sym (ap₂ (λ (one other : List Edge). one ++ other) first (rest-is items c.deref-2.result.now count c.deref-2.ensures.value)))
     (broken-noded c.args.subject.now c.args.clip.now (take count items) (drop count items) c.in_ok-pieces.ensures.1)
 
-pub returns-clause-closed : goal.returns-clause-closed
-returns-clause-closed g c =
-    let (edges, is, filled) = c.in_ok-fill.ensures.ok in
-    subst IsClosed (sym (is ∙ ap (λ (before : List Edge). before ++ edges) c.new-edges.ensures.items)) filled.closed
-
-pub returns-clause-bounds : goal.returns-clause-bounds
-returns-clause-bounds g c =
+pub returns-clause-filled : goal.returns-clause-filled
+returns-clause-filled g c =
     let count = c.in_ok-pieces.count in
     let items = c.in_ok-pieces.pieces.items in
     let (edges, is, filled) = c.in_ok-fill.ensures.ok in
     let first : take count c.deref.result.now ≡ take count items = ap (λ (list : List Edge). take count list) c.deref.ensures.value in
-    let second = rest-is items c.deref-2.result.now count c.deref-2.ensures.value in
-    subst (BoundsResult c.args.rule c.args.operation c.args.subject.now c.args.clip.now) (sym (is ∙ ap (λ (before : List Edge). before ++ edges) c.new-edges.ensures.items))
-    (filled-bounds c.args.subject.now c.args.clip.now (take count items) (drop count items) c.in_ok-pieces.ensures.1 c.args.rule c.args.operation edges
-    (subst (λ (list : List Edge). IsFilled c.args.rule c.args.operation (take count items) list edges) second
-    (subst (λ (list : List Edge). IsFilled c.args.rule c.args.operation list (take (length c.deref-2.result.now - count) (drop count c.deref-2.result.now)) edges) first filled)))
-
-pub returns-clause-vertical : goal.returns-clause-vertical
-returns-clause-vertical g c =
-    let (edges, is, filled) = c.in_ok-fill.ensures.ok in
-    subst (λ (list : List Edge). All (λ edge. edge.x1 ≡ edge.x0 → IsNextInColumn list edge) list) (sym (is ∙ ap (λ (before : List Edge). before ++ edges) c.new-edges.ensures.items)) filled.vertical
+    let second = rest-is items c.deref-2.result.now count c.deref-2.ensures.value in (
+      take count items,
+      drop count items,
+      c.in_ok-pieces.ensures.1,
+      subst (IsFilled c.args.rule c.args.operation (take count items) (drop count items)) (sym (is ∙ ap (λ (before : List Edge). before ++ edges) c.new-edges.ensures.items))
+          (subst₂ (λ (one other : List Edge). IsFilled c.args.rule c.args.operation one other edges) first second filled),
+    )

@@ -1,14 +1,20 @@
-use Rattle.std.proofs.Common.{List, length, subst, sym}
+use Rattle.std.proofs.Common.{◌*◌, Fits, w64, List, length, subst, sym, arith, rules}
 use Rattle.overlay.specs.Fill.Sweep.{AreFillPieces}
+use Rattle.overlay.proofs.ContourLemmas.Counts.{rings-closed}
 use Rattle.polygons.specs.Grouping.{pieces_of}
-use Rattle.polygons.specs.Rings.{rings_of}
+use Rattle.polygons.specs.Rings.{edges_in, rings_of}
 use Rattle.polygons.specs.declared.grouping.sides.Side.{Side}
+use Rattle.polygons.proofs.GroupingLemmas.Edges.{length-edges_in}
 use Rattle.polygons.proofs.GroupingLemmas.Filling.{AreFillPieces-sides}
 use Rattle.polygons.proofs.grouping.homes.homes.Goals as goal
 
 pub settle-requires-clause-pieces : goal.settle-requires-clause-pieces
 settle-requires-clause-pieces g c =
+    let points = c.args.points.now in
+    let ends = c.args.ends.now in
     let bounds = c.requires.bounding in
+    let wide : Fits w64 (length points * 8) = search rules in
+    let few = length-edges_in points ends c.requires.ends in
     subst (λ (sides : List Side). AreFillPieces (pieces_of sides)) (sym c.deref.ensures.value)
-    (AreFillPieces-sides c.args.edges.now (rings_of c.args.points.now 0 c.args.ends.now) (length c.args.ends.now) c.in_ok-sides.sides.items c.requires.closed bounds.noded bounds.distinct c.requires.rings
-    c.in_ok-sides.ensures.sides c.in_ok-sides.ensures.countable)
+    (AreFillPieces-sides (edges_in points ends) (length ends) c.in_ok-sides.sides.items (λ test. rings-closed test (rings_of points 0 ends)) bounds.noded bounds.distinct c.in_ok-sides.ensures
+    (omega (arith, wide, few)))

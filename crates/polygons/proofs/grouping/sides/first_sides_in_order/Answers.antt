@@ -1,7 +1,13 @@
-use Rattle.std.proofs.Common.{length}
+use Rattle.std.proofs.Common.{◌∙◌, List, length, subst}
+use Rattle.std.specs.List.Sorted.{IsPermutation}
 use Rattle.std.proofs.lemmas.List.Sorted.{All-permutation}
+use Rattle.std.proofs.lemmas.List.{take_at}
 use Rattle.polygons.specs.Grouping.{IsSideAmong}
+use Rattle.polygons.specs.declared.grouping.sides.Side.{Side}
 use Rattle.polygons.proofs.grouping.sides.first_sides_in_order.Goals as goal
 
 pub returns : goal.returns
-returns g c = All-permutation (IsSideAmong (length c.args.ends.now)) c.in_ok-sides.sides.items c.sort_unstable_by.new.self.items c.sort_unstable_by.ensures.permutation c.in_ok-sides.ensures
+returns g c =
+    rw (take_at c.sort_sides.new.sides _ c.in_ok-sides.sides.len (c.sort_sides.auto.sides ∙ c.deref_mut.ensures.len))
+    (All-permutation (IsSideAmong (length c.args.ends.now)) c.in_ok-sides.sides.items c.sort_sides.new.sides
+    (subst (λ (sides : List Side). IsPermutation sides c.sort_sides.new.sides) c.deref_mut.ensures.value c.sort_sides.ensures.same) c.in_ok-sides.ensures)

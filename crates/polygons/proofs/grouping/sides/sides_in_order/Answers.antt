@@ -1,13 +1,13 @@
-use Rattle.std.proofs.Common.{length, rules}
-use Rattle.std.specs.List.{flat_map}
-use Rattle.std.proofs.lemmas.List.Sorted.{answers_always}
-use Rattle.overlay.specs.Contours.Rings.{ring_edges}
-use Rattle.polygons.specs.Rings.{rings_of}
-use Rattle.polygons.proofs.GroupingLemmas.Edges.{AreSides-sorted, side_before, side_order}
+use Rattle.std.proofs.Common.{◌∙◌, List, length, subst}
+use Rattle.std.specs.List.Sorted.{IsPermutation}
+use Rattle.std.proofs.lemmas.List.{take_at}
+use Rattle.polygons.specs.Rings.{edges_in}
+use Rattle.polygons.specs.declared.grouping.sides.Side.{Side}
+use Rattle.polygons.proofs.GroupingLemmas.Edges.{AreSides-sorted}
 use Rattle.polygons.proofs.grouping.sides.sides_in_order.Goals as goal
 
-pub returns-clause-sides : goal.returns-clause-sides
-returns-clause-sides g c =
-    AreSides-sorted (flat_map ring_edges (rings_of c.args.points.now 0 c.args.ends.now)) (length c.args.ends.now) c.in_ok-sides.sides.items c.sort_unstable_by.new.self.items
-    c.in_ok-sides.ensures.pieces c.in_ok-sides.ensures.numbered c.sort_unstable_by.ensures.permutation
-    (c.sort_unstable_by.ensures.sorted side_before side_order (answers_always _ _ _ (λ f a r f' called. search rules)))
+pub returns : goal.returns
+returns g c =
+    rw (take_at c.sort_sides.new.sides _ c.in_ok-sides.sides.len (c.sort_sides.auto.sides ∙ c.deref_mut.ensures.len))
+    (AreSides-sorted (edges_in c.args.points.now c.args.ends.now) (length c.args.ends.now) c.in_ok-sides.sides.items c.sort_sides.new.sides c.in_ok-sides.ensures.pieces c.in_ok-sides.ensures.numbered
+    (subst (λ (sides : List Side). IsPermutation sides c.sort_sides.new.sides) c.deref_mut.ensures.value c.sort_sides.ensures.same) c.sort_sides.ensures.order)
