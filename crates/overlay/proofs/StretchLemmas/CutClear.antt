@@ -14,6 +14,7 @@ use Rattle.overlay.specs.Stretches.{AreClear, AreApart, GoesOn, further}
 use Rattle.overlay.specs.Stretches.Cut.{AreClearParts, way}
 use Rattle.overlay.specs.Stretches.Spans.{AreSeveral, ComeNear, IsSpan, IsWithin, LeadsTo, SpansMeet, beside, bounds_of_span}
 use Rattle.overlay.specs.declared.stretches.spans.Span.{Span}
+use Rattle.overlay.proofs.StretchLemmas.Apart.{AreApart-exchanged}
 
 -- ---- as the sweep asks it
 
@@ -108,9 +109,9 @@ leads_or one other = elim (bool_or one.closes) [
       | inl same ↦ inl (record { closes = closes; opens = opens; at = same })
       | inr differs ↦ inr (λ leads. differs leads.at)
     ]
-    | inr no ↦ inr (λ leads. no leads.opens)
+    | inr none ↦ inr (λ leads. none leads.opens)
   ]
-  | inr no ↦ inr (λ leads. no leads.closes)
+  | inr none ↦ inr (λ leads. none leads.closes)
 ]
 
 -- ---- apart, or going on
@@ -132,9 +133,6 @@ apart_right some others order = record {
   v = pos 0;
   beyond = λ p q held held'. let a = order p q held held' in omega (arith, ints, a);
 }
-
-apart_back : (some others : List Point) → AreApart others some → AreApart some others
-apart_back some others apart = ?
 
 module _ (one other : List Edge) (span next : Span) (is : IsSpan one span) (is_next : IsSpan other next)
     (some others : List Point) (of : All (Contains (way one)) some) (of_others : All (Contains (way other)) others) where
@@ -235,7 +233,7 @@ clear-of_spans one other span next is is_next apart = λ several some others of 
     forth some others (inr goes) = inr (inl goes)
 
     back : (some others : List Point) → (AreApart others some) ⊎ (GoesOn others some) → AreClear some others
-    back some others (inl apart) = inl (apart_back some others apart)
+    back some others (inl apart) = inl (AreApart-exchanged others some apart)
     back some others (inr goes) = inr (inr goes)
 
     many : (1 < length one) ⊎ (1 < length other) → AreSeveral span next

@@ -1,10 +1,11 @@
 -- Where parts of edges lie, and when two of them come to each other. For private contracts.
-use Rattle.std.specs.Prelude.{◌≡◌, ◌⊎◌, ℕ, ◌<◌, ℤ, pos, ◌+ℤ◌, ◌<ℤ◌, ◌≤ℤ◌, Bool, cond, IsTrue, List, All, Contains, length}
+use Rattle.std.specs.Prelude.{◌≡◌, ◌⊎◌, ℕ, ◌<◌, ◌+◌, ℤ, pos, ◌+ℤ◌, ◌-ℤ◌, ◌<ℤ◌, ◌≤ℤ◌, Bool, cond, IsTrue, List, All, Contains, length, unsigned_abs}
 use Rattle.std.specs.Int.{int_min, int_max}
 use Rattle.std.specs.Int.Signed.{lt_z}
 use Rattle.plane.specs.declared.edge.Edge.{Edge}
 use Rattle.plane.specs.declared.pairs.items.Bounds.{Bounds}
 use Rattle.plane.specs.declared.point.Point.{Point}
+use Rattle.plane.specs.Meet.Crosses.{cross}
 use Rattle.plane.specs.Pairs.Bounds.{BoundsMeet}
 use Rattle.overlay.specs.Stretches.Cut.{way}
 use Rattle.overlay.specs.declared.stretches.spans.Heights.{Heights}
@@ -37,6 +38,13 @@ pub record LeadsTo (one other : Span) : Type 0 where
   pub closes : IsTrue one.closes
   pub opens : IsTrue other.opens
   pub at : one.right ≡ other.left
+
+-- How far the point lies to the left of the line, times its length; and a unit on both axes, times that.
+abbrev pub height_over : Edge → Point → ℤ
+height_over line point = cross (line.x1 -ℤ line.x0) (line.y1 -ℤ line.y0) (point.x -ℤ line.x0) (point.y -ℤ line.y0)
+
+abbrev pub margin_of : Edge → ℤ
+margin_of line = pos (unsigned_abs (line.x1 -ℤ line.x0) + unsigned_abs (line.y1 -ℤ line.y0))
 
 -- One of them has several edges.
 abbrev pub AreSeveral : Span → Span → Type 0

@@ -1,10 +1,11 @@
 //! Where parts of edges lie, and whether two of them come to each other.
 
-ghost use Rattle.std.specs.Prelude.{◌≡◌, ◌≢◌, ◌⊎◌, ◌<◌, ◌≤◌, List, All, IfOk, MatchBool, length};
+ghost use Rattle.std.specs.Prelude.{◌≡◌, ◌⊎◌, ◌<◌, ◌≤◌, [], List, All, IfOk, MatchBool, get_or, length, take};
 ghost use Rattle.std.specs.Bool.{OnTrue};
-ghost use Rattle.std.specs.List.{AllZip, between};
+ghost use Rattle.std.specs.List.{AllZip, between, flat_map};
 ghost use Rattle.plane.specs.declared.edge.Edge.{Edge};
 ghost use Rattle.plane.specs.Pairs.Bounds.{BoundsMeet};
+ghost use Rattle.overlay.specs.Snap.Offsets.{offsets};
 ghost use Rattle.overlay.specs.Stretches.Cut.{AreParts, IsPart, way};
 ghost use Rattle.overlay.specs.Stretches.Spans.{AreSeveral, ComeNear, HasHeights, IsFar, IsSpan, LeadsTo, ShareSome, SpansMeet, beside, bounds_of_span};
 
@@ -100,15 +101,24 @@ fn adjoin(one: Span, other: Span) -> bool
 fn boxes_meet(one: Bounds, other: Bounds) -> bool
     ensures { MatchBool result (BoundsMeet one other) (¬ (BoundsMeet one other)) }
 {
-    ranges_meet(one.left, one.right, other.left, other.right)
-        && ranges_meet(one.low, one.high, other.low, other.high)
+    if !columns_meet(one, other) {
+        return false;
+    }
+    rows_meet(one, other)
 }
 
-// Whether the ranges share a number.
-fn ranges_meet(from: i32, upto: i32, other_from: i32, other_upto: i32) -> bool
-    ensures { let meet = ShareSome from upto other_from other_upto in MatchBool result meet (¬ meet) }
+// Whether the boxes share an x.
+fn columns_meet(one: Bounds, other: Bounds) -> bool
+    ensures { let meet = ShareSome one.left one.right other.left other.right in MatchBool result meet (¬ meet) }
 {
-    from <= other_upto && other_from <= upto
+    one.left <= other.right && other.left <= one.right
+}
+
+// Whether they share a y.
+fn rows_meet(one: Bounds, other: Bounds) -> bool
+    ensures { let meet = ShareSome one.low one.high other.low other.high in MatchBool result meet (¬ meet) }
+{
+    one.low <= other.high && other.low <= one.high
 }
 
 // Whether the other part begins where the one ends, and both have no other points near there.
@@ -135,6 +145,26 @@ pub fn spans_of<A: Allocator>(
         start = *end;
     }
     Ok(spans)
+}
+
+/// The part at this place.
+pub fn part_of<'a>(edges: &'a [Edge], ends: &[usize], place: usize) -> &'a [Edge]
+    requires parts { (parts : List (List Edge)) × AreParts edges.now ends.now parts }
+    requires within { place < length ends.now }
+    ensures { (parts : List (List Edge)) → AreParts edges.now ends.now parts → result.now ≡ get_or parts place [] }
+{
+    part_at(edges, begin_of(ends, place), ends[place])
+}
+
+// Where the list at this place begins among all items, by where the lists stop.
+fn begin_of(ends: &[usize], place: usize) -> usize
+    requires { place < length ends.now }
+    ensures { (parts : List (List Edge)) → ends.now ≡ offsets 0 parts → result ≡ length (flat_map (λ part. part) (take place parts)) }
+{
+    if place == 0 {
+        return 0;
+    }
+    ends[place - 1]
 }
 
 /// The edges from the one place on, and before the other.
