@@ -1,5 +1,5 @@
 -- What the code that cuts edges asks, as lemmas over plain variables.
-use Rattle.std.proofs.Common.{◌≡◌, ◌⊎◌, inl, inr, ℕ, zero, suc, ◌+◌, ◌-◌, ◌<◌, ◌≤◌, Bool, true, false, leb, List, [], ◌∷◌, ◌++◌, length, get_or, map, take, drop, refl, sym, ap, ap₂, ◌∙◌, subst, append-nil, append_assoc, arith}
+use Rattle.std.proofs.Common.{◌≡◌, ◌⊎◌, inl, inr, ℕ, zero, suc, ◌+◌, ◌-◌, ◌<◌, ◌≤◌, Bool, true, false, leb, List, [], ◌∷◌, ◌++◌, length, get_or, map, take, drop, refl, sym, ap, ap₂, ◌∙◌, subst, subst₂, append-nil, append_assoc, arith}
 use Rattle.std.specs.List.{All, AllPairs, AllZip, between, count_by, flat_map}
 use Rattle.std.proofs.lemmas.List.{flat_map_more, length-append, length-drop, length-map, length-take-le, map-append, take-append-drop, take_all, take_more}
 use Rattle.std.proofs.lemmas.List.Elements.{All-append, All-push, All-weaker}
@@ -171,6 +171,30 @@ ways-more lists i part points points' ends ends' inside is gained stops (are, at
         let b = length-append points (way part) in
         let c = ap (λ (list : List Point). length list) are in
         omega (arith, a, b, c)
+
+-- ---- one round after another
+
+-- the parts of both sides, where the edges and the ends are read as these
+pub given-parts : (edges given : List Edge) (ends given_ends : List ℕ) (bound : ℕ) → given ≡ edges → given_ends ≡ ends
+    → (front : List (List Edge)) × (back : List (List Edge)) × AreSplit edges bound ends front back → (parts : List (List Edge)) × AreParts given given_ends parts
+given-parts edges given ends given_ends bound same same_ends (front, back, split) =
+    (front ++ back, subst₂ (λ (list : List Edge) (stops : List ℕ). AreParts list stops (front ++ back)) (sym same) (sym same_ends) (AreParts-split edges bound ends front back split))
+
+-- what they are cut into
+pub given-cut : (edges given : List Edge) (ends given_ends refined : List ℕ) (bound most : ℕ) → given ≡ edges → given_ends ≡ ends
+    → ((parts : List (List Edge)) → AreParts given given_ends parts → (groups : List (List (List Edge))) × AreRelieved most parts groups × (refined ≡ offsets 0 (joined groups)))
+    → (front back : List (List Edge)) → AreSplit edges bound ends front back
+    → (groups : List (List (List Edge))) × AreRelieved most (front ++ back) groups × (refined ≡ offsets 0 (joined groups))
+given-cut edges given ends given_ends refined bound most same same_ends cuts front back split =
+    cuts (front ++ back) (subst₂ (λ (list : List Edge) (stops : List ℕ). AreParts list stops (front ++ back)) (sym same) (sym same_ends) (AreParts-split edges bound ends front back split))
+
+pub next-split : (edges given : List Edge) (ends given_ends refined : List ℕ) (bound most : ℕ) → given ≡ edges → given_ends ≡ ends
+    → ((parts : List (List Edge)) → AreParts given given_ends parts → (groups : List (List (List Edge))) × AreRelieved most parts groups × (refined ≡ offsets 0 (joined groups)))
+    → (front : List (List Edge)) × (back : List (List Edge)) × AreSplit edges bound ends front back
+    → (front : List (List Edge)) × (back : List (List Edge)) × AreSplit edges bound refined front back
+next-split edges given ends given_ends refined bound most same same_ends cuts (front, back, split) =
+    let (groups, relieved, stops) = given-cut edges given ends given_ends refined bound most same same_ends cuts front back split in
+    (joined (take (length front) groups), joined (drop (length front) groups), AreSplit-cut edges bound ends refined front back groups split relieved.refined.cut stops)
 
 -- ---- the result
 

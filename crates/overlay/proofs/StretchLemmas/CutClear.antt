@@ -1,10 +1,11 @@
 -- Parts whose spans don't meet are clear of each other, and so are points of the one and points of the other.
 use Rattle.std.proofs.Common.{◌≡◌, ◌⊎◌, inl, inr, ⊎_elim, Bool, true, false, not, ℕ, suc, ℤ, pos, negsuc, ◌+◌, ◌+ℤ◌, ◌*ℤ◌, cond, ◌<◌, ◌<ℤ◌, ◌≤ℤ◌, IsTrue, List, [], ◌∷◌, length, get_or, sym, ap, ap₂, subst, arith, rules}
-use Rattle.std.specs.Bool.{MatchBool}
+use Rattle.std.specs.Bool.{MatchBool, OnTrue}
 use Rattle.std.specs.Int.{int_max, int_min}
 use Rattle.std.specs.Int.RustNames.{unsigned_abs}
 use Rattle.std.specs.Int.Signed.{lt_z}
 use Rattle.std.specs.List.{All, Contains}
+use Rattle.std.proofs.lemmas.Bool.{OnTrue_at, OnTrue_from}
 use Rattle.std.proofs.lemmas.Int.{by_lt_z, clamps, ints}
 use Rattle.std.proofs.lemmas.List.Elements.{All-nil, All-cons, All-contains, All-head, All-tail, All-weaker}
 use Rattle.plane.specs.declared.edge.Edge.{Edge}
@@ -27,7 +28,7 @@ beside-from side = by (lt_z side (pos 2147483647))
 
 -- what lies beyond the next number lies more than a unit away
 beside-beyond : (side z : ℤ) → z ≤ℤ pos 2147483647 → beside side <ℤ z → (side +ℤ pos 1) <ℤ z
-beside-beyond side z fits = 
+beside-beyond side z fits =
     by_lt_z side (pos 2147483647)
     (λ less. λ beyond. subst (λ (b : Bool). cond b (side +ℤ pos 1) side <ℤ z) (true_of less) beyond)
     (λ most. λ beyond. let from = beside-from side in absurd (omega (arith, ints, most, fits, beyond, from)))
@@ -74,6 +75,10 @@ both_tested false second P Q R one other makes is said same = absurd (cc)
 pub first_fails : (first : Bool) (P R : Type 0) → (R → P) → MatchBool first P (¬ P) → first ≡ false → MatchBool false R (¬ R)
 first_fails false P R one none same = λ r. none (one r)
 first_fails true P R one is same = absurd (cc)
+
+-- what a test shows shows what follows from that
+pub OnTrue-weaker : (b : Bool) (P Q : Type 0) → (P → Q) → OnTrue b P → OnTrue b Q
+OnTrue-weaker b P Q makes is = OnTrue_from b Q (λ set. makes (OnTrue_at set is))
 
 pub denied : (b : Bool) (P : Type 0) → MatchBool b P (¬ P) → MatchBool (not b) (¬ P) (¬ (¬ P))
 denied true P is = λ none. none is

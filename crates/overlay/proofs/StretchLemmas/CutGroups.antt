@@ -5,7 +5,7 @@ use Rattle.std.proofs.lemmas.Bool.{cases_Bool, cases_eq}
 use Rattle.std.proofs.lemmas.Grind.{flat_map-append}
 use Rattle.std.proofs.lemmas.List.{get_or_default, length-append, map-append, take-append-drop}
 use Rattle.std.proofs.lemmas.List.Elements.{All-append, All-contains, All-from_get_or, All-weaker, Contains-get_or}
-use Rattle.std.proofs.lemmas.Option.{slice_get-get_or}
+use Rattle.std.proofs.lemmas.Option.{slice_get-get_or, slice_get_within}
 use Rattle.std.proofs.Math.Seq.{drop-append_seam, take-append_seam}
 use Rattle.i_tree.proofs.RootLemmas.Joined.{All-behind, All-front, All-to_map, AllPairs-to_map}
 use Rattle.plane.specs.declared.edge.Edge.{Edge}
@@ -121,6 +121,13 @@ Contains-or (first ∷ pairs) pair = on (same_pair first.0 first.1 pair.0 pair.1
         neither : Contains (first ∷ pairs) pair → ⊥
         neither (zero, within, at) = differs at
         neither (suc k, within, at) = none (k, omega (arith, within), at)
+
+-- places of pairs that meet are places of spans
+pub pairs-within : (spans : List Span) (pairs : List (ℕ × ℕ)) → ArePairs SpansMeet spans pairs → All (λ pair. (pair.0 < length spans) × (pair.1 < length spans)) pairs
+pairs-within spans pairs are k d within =
+    let pair = get_or pairs k d in
+    let is = (are.exact pair.0 pair.1).0 (Contains-get_or pairs k d within) in
+    (slice_get_within spans pair.0 is.one is.first, slice_get_within spans pair.1 is.other is.second)
 
 -- where pairs that meet are settled
 pub AreSettled-pairs : (parts : List (List Edge)) (spans : List Span) (pairs : List (ℕ × ℕ)) (busy : List Bool)

@@ -56,9 +56,19 @@ fn greatest_over(line: Edge, part: &[Edge]) -> i128
 {
     let mut most = height_over(line, start_of(part[0]));
     for edge in part {
-        most = most.max(height_over(line, end_of(*edge)));
+        most = higher(line, most, end_of(*edge));
     }
     most
+}
+
+// The number, or how far the point lies to the left of the line, times its length, if that is greater.
+fn higher(line: Edge, most: i128, point: Point) -> i128
+    requires { IsWithin (2 ^ 65) most }
+    ensures within { IsWithin (2 ^ 65) result }
+    ensures most { most ≤ℤ result }
+    ensures point { height_over line point ≤ℤ result }
+{
+    most.max(height_over(line, point))
 }
 
 // Whether all of the part's points lie further than that to the left of the line, by more than a unit.
@@ -67,16 +77,23 @@ fn all_above(line: Edge, top: i128, part: &[Edge]) -> bool
     requires some { 0 < length part.now }
     ensures { OnTrue result (All (λ point. (top +ℤ margin_of line) <ℤ height_over line point) (way part.now)) }
 {
-    let bound = top + margin_of(line);
-    if height_over(line, start_of(part[0])) <= bound {
+    if !is_above(line, top, start_of(part[0])) {
         return false;
     }
     for edge in part {
-        if height_over(line, end_of(*edge)) <= bound {
+        if !is_above(line, top, end_of(*edge)) {
             return false;
         }
     }
     true
+}
+
+// Whether the point lies further than that to the left of the line, by more than a unit.
+fn is_above(line: Edge, top: i128, point: Point) -> bool
+    requires { IsWithin (2 ^ 65) top }
+    ensures { OnTrue result ((top +ℤ margin_of line) <ℤ height_over line point) }
+{
+    top + margin_of(line) < height_over(line, point)
 }
 
 // How far the point lies to the left of the line, times its length.
@@ -84,7 +101,10 @@ fn height_over(line: Edge, point: Point) -> i128
     ensures value { result ≡ height_over line point }
     ensures within { IsWithin (2 ^ 65) result }
 {
-    cross_product(way_along(line), way_along(edge_between(start_of(line), point)))
+    cross_product(
+        way_along(line),
+        way_along(edge_between(start_of(line), point)),
+    )
 }
 
 // A unit on both axes, times the line's length.

@@ -1,15 +1,15 @@
 //! Where parts of edges lie, and whether two of them come to each other.
 
-ghost use Rattle.std.specs.Prelude.{◌≡◌, ◌⊎◌, ◌<◌, ◌≤◌, [], List, All, IfOk, MatchBool, get_or, length, take};
+ghost use Rattle.std.specs.Prelude.{◌≡◌, ◌⊎◌, ◌<◌, ◌≤◌, [], pos, ◌+ℤ◌, ◌<ℤ◌, List, All, IfOk, MatchBool, get_or, length, take};
 ghost use Rattle.std.specs.Bool.{OnTrue};
 ghost use Rattle.std.specs.List.{AllZip, between, flat_map};
 ghost use Rattle.plane.specs.declared.edge.Edge.{Edge};
 ghost use Rattle.plane.specs.Pairs.Bounds.{BoundsMeet};
 ghost use Rattle.overlay.specs.Snap.Offsets.{offsets};
 ghost use Rattle.overlay.specs.Stretches.Cut.{AreParts, IsPart, way};
-ghost use Rattle.overlay.specs.Stretches.Spans.{AreSeveral, ComeNear, HasHeights, IsFar, IsSpan, LeadsTo, ShareSome, SpansMeet, beside, bounds_of_span};
+ghost use Rattle.overlay.specs.Stretches.Spans.{AreSeveral, ComeNear, HasHeights, IsFar, IsSpan, LeadsTo, ShareSome, SpansMeet, beside, bounds_of_span, box_of, widened};
 
-use crate::edges::{end_of, start_of};
+use crate::edges::{end_of, reverse, start_of};
 use plane::edge::Edge;
 use plane::pairs::items::{Bounds, Boxed, Meets};
 use plane::point::Point;
@@ -39,19 +39,32 @@ impl Boxed for Span {
     ghost bounds = { bounds_of_span };
 
     fn bounds(self) -> Bounds {
-        let corners = Edge {
-            x0: self.left.x,
-            y0: self.low,
-            x1: self.right.x,
-            y1: self.high,
-        };
-        let bounds = corners.bounds();
-        Bounds {
-            left: bounds.left,
-            right: beside(bounds.right),
-            low: bounds.low,
-            high: beside(bounds.high),
-        }
+        widened(box_of(self))
+    }
+}
+
+// The least box that has the part's points.
+fn box_of(span: Span) -> Bounds
+    ensures { result ≡ box_of span }
+{
+    let corners = Edge {
+        x0: span.left.x,
+        y0: span.low,
+        x1: span.right.x,
+        y1: span.high,
+    };
+    corners.bounds()
+}
+
+// The box, a unit wider and higher.
+fn widened(bounds: Bounds) -> Bounds
+    ensures { result ≡ widened bounds }
+{
+    Bounds {
+        left: bounds.left,
+        right: beside(bounds.right),
+        low: bounds.low,
+        high: beside(bounds.high),
     }
 }
 
@@ -215,7 +228,17 @@ fn span_of(part: &[Edge]) -> Span
 fn is_far(edge: Edge) -> bool
     ensures { OnTrue result (IsFar edge) }
 {
-    (edge.x0 as i64) + 1 < edge.x1 as i64 || (edge.x1 as i64) + 1 < edge.x0 as i64
+    if goes_far(edge) {
+        return true;
+    }
+    goes_far(reverse(edge))
+}
+
+// Whether the edge goes rightwards by more than a unit.
+fn goes_far(edge: Edge) -> bool
+    ensures { OnTrue result ((edge.x0 +ℤ pos 1) <ℤ edge.x1) }
+{
+    (edge.x0 as i64) + 1 < edge.x1 as i64
 }
 
 // The least and the greatest y of the part's points.

@@ -1,10 +1,6 @@
-use Rattle.std.proofs.Common.{◌≡◌, ◌<◌, ◌-◌, ◌+◌, ℕ, suc, zero, List, ap, sym, ◌∙◌, get_or, length, take, arith}
-use Rattle.plane.specs.declared.edge.Edge.{Edge}
+use Rattle.std.proofs.Common.{arith}
 use Rattle.overlay.proofs.StretchLemmas.CutCallers.{begins-at}
 use Rattle.overlay.proofs.stretches.spans.begin_of.Goals as goal
 
-pub returns-then-place-eq0 : goal.returns-then-place-eq0
-returns-then-place-eq0 c = ?
-
-pub returns-else-place-eq0 : goal.returns-else-place-eq0
-returns-else-place-eq0 c = ?
+pub returns : goal.returns
+returns c = λ parts are. let some = c.if-place-eq0.false in begins-at parts c.args.ends.now c.args.place 0 are c.requires (omega (arith, some))

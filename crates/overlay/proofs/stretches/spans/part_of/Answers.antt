@@ -1,5 +1,4 @@
-use Rattle.std.proofs.Common.{◌≡◌, ◌<◌, ◌≤◌, List, ap, sym, ◌∙◌, get_or, length, take, arith}
-use Rattle.plane.specs.declared.edge.Edge.{Edge}
+use Rattle.std.proofs.Common.{◌∙◌}
 use Rattle.overlay.proofs.SnapLemmas.Standing.{IsNext-at}
 use Rattle.overlay.proofs.stretches.spans.part_of.Goals as goal
 
@@ -12,4 +11,4 @@ part_at-requires c =
 pub returns : goal.returns
 returns c = λ parts are.
     let next = IsNext-at parts c.args.edges.now c.args.ends.now c.args.place c.begin_of.result are.0 c.requires.within (c.begin_of.ensures parts are.0.1) in
-    ?
+    c.part_at.ensures ∙ next.is
