@@ -15,4 +15,5 @@ pub mod Serving
 pub mod Status
 pub mod Strips
 pub mod Told
+pub mod Upto
 pub mod Within
