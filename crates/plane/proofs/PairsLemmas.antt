@@ -6,6 +6,7 @@ pub mod Extends
 pub mod Few
 pub mod First
 pub mod Order
+pub mod Ordered
 pub mod Pairs
 pub mod Parts
 pub mod Points

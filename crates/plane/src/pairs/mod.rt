@@ -25,6 +25,7 @@ mod parts;
 mod points;
 mod read_ahead;
 mod roles;
+mod rows;
 mod strips;
 mod sweep;
 mod two;
