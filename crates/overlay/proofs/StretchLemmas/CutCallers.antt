@@ -1,12 +1,11 @@
 -- What the code that cuts edges asks, as lemmas over plain variables.
 use Rattle.std.proofs.Common.{◌≡◌, ◌⊎◌, inl, inr, ℕ, zero, suc, ◌+◌, ◌-◌, ◌<◌, ◌≤◌, Bool, true, false, leb, List, [], ◌∷◌, ◌++◌, length, get_or, map, take, drop, refl, sym, ap, ap₂, ◌∙◌, subst, subst₂, append-nil, append_assoc, arith}
-use Rattle.std.specs.List.{All, AllPairs, AllZip, between, count_by, flat_map}
+use Rattle.std.specs.List.{All, AllPairs, between, count_by}
 use Rattle.std.proofs.lemmas.List.{flat_map_more, length-append, length-drop, length-map, length-take-le, map-append, take-append-drop, take_all, take_more}
 use Rattle.std.proofs.lemmas.List.Elements.{All-append, All-nil, All-push, All-weaker}
 use Rattle.std.proofs.Math.Seq.{drop-append_seam, take-append_seam}
 use Rattle.plane.specs.declared.edge.Edge.{Edge}
 use Rattle.plane.specs.declared.point.Point.{Point}
-use Rattle.overlay.specs.Boundary.{AllSome}
 use Rattle.overlay.specs.Snap.Offsets.{AreJoined, offsets}
 use Rattle.overlay.specs.Stretches.{AreClear, IsLong}
 use Rattle.overlay.specs.Stretches.Cut.{AreCut, AreParts, AreRefined, AreRelieved, AreSplit, Follows, IsCutInParts, IsCutInto, IsPart, IsSettled, way}

@@ -1,4 +1,3 @@
-use Rattle.std.proofs.Common.{◌≤◌, length}
 use Rattle.overlay.proofs.StretchLemmas.CutCallers.{AreSplit-both}
 use Rattle.overlay.proofs.stretches.cutting.parts_of.Goals as goal
 

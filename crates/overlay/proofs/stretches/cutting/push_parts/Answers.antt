@@ -1,4 +1,4 @@
-use Rattle.std.proofs.Common.{◌≤◌, ◌<◌, arith}
+use Rattle.std.proofs.Common.{arith}
 use Rattle.overlay.proofs.StretchLemmas.CutCallers.{IsPart-within, cut-more, cut-none}
 use Rattle.overlay.proofs.stretches.cutting.push_parts.Goals as goal
 

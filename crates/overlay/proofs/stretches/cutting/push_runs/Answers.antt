@@ -1,4 +1,4 @@
-use Rattle.std.proofs.Common.{◌≤◌, ◌<◌, arith}
+use Rattle.std.proofs.Common.{arith}
 use Rattle.overlay.proofs.StretchLemmas.CutCallers.{cut-none, cut-then}
 use Rattle.overlay.proofs.stretches.cutting.push_runs.Goals as goal
 

@@ -1,4 +1,4 @@
-use Rattle.std.proofs.Common.{◌≡◌, ◌<◌, ◌≤◌, ◌++◌, inl, ℕ, List, Bool, true, false, ap, subst, subst₂, sym, ◌∙◌, get_or, length, drop, take, arith}
+use Rattle.std.proofs.Common.{◌≡◌, ◌<◌, ◌≤◌, ◌++◌, inl, ℕ, List, Bool, true, false, ap, subst, subst₂, sym, ◌∙◌, length, drop, take, arith}
 use Rattle.std.specs.Bool.{MatchBool}
 use Rattle.std.specs.List.{All, AllZip}
 use Rattle.std.proofs.lemmas.List.{take_at}

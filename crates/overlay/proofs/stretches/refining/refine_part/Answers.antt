@@ -1,4 +1,4 @@
-use Rattle.std.proofs.Common.{◌<◌, ◌≤◌, arith}
+use Rattle.std.proofs.Common.{arith}
 use Rattle.overlay.proofs.ChainLemmas.Runs.{length-between}
 use Rattle.overlay.proofs.StretchLemmas.CutCallers.{cut-anew, cut-kept}
 use Rattle.overlay.proofs.stretches.refining.refine_part.Goals as goal
