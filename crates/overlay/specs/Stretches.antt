@@ -1,5 +1,6 @@
 -- Stretches: edges that follow each other along x, where nothing else comes to, and the chord from the first point to the last.
-use Rattle.std.specs.Prelude.{◌≡◌, ◌≢◌, ◌⊎◌, ◌++◌, ◌∷◌, [], ℕ, ◌-◌, ◌≤◌, ◌<◌, ◌<ℤ◌, List, All, AllPairs, Contains, length, reverse, take}
+pub mod Widening
+use Rattle.std.specs.Prelude.{◌≡◌, ◌≢◌, ◌⊎◌, ◌++◌, ◌∷◌, [], ℕ, ◌+◌, ◌-◌, ◌≤◌, ◌<◌, ℤ, pos, ◌+ℤ◌, ◌*ℤ◌, ◌<ℤ◌, List, All, AllPairs, Contains, length, reverse, take, unsigned_abs}
 use Rattle.std.specs.List.{AllZip, flat_map}
 use Rattle.plane.specs.declared.edge.Edge.{Edge}
 use Rattle.plane.specs.declared.point.Point.{Point}
@@ -23,16 +24,16 @@ pub record IsStretch (points : List Point) : Type 0 where
 abbrev pub IsLong : List Point → Type 0
 IsLong points = 2 < length points
 
--- Each of the points lies to the left of each of the others; below it.
-abbrev pub AreLeftOf : List Point → List Point → Type 0
-AreLeftOf points others = (p q : Point) → Contains points p → Contains others q → p.x <ℤ q.x
+-- how far the point lies in the direction (u, v)
+abbrev pub further : ℤ → ℤ → Point → ℤ
+further u v point = (u *ℤ point.x) +ℤ (v *ℤ point.y)
 
-abbrev pub AreBelow : List Point → List Point → Type 0
-AreBelow points others = (p q : Point) → Contains points p → Contains others q → p.y <ℤ q.y
-
--- The boxes of the points and of the others share no point.
-abbrev pub AreApart : List Point → List Point → Type 0
-AreApart points others = (AreLeftOf points others ⊎ AreLeftOf others points) ⊎ (AreBelow points others ⊎ AreBelow others points)
+-- Some line keeps the points from the others: in a direction (u, v), all of the others lie further than each of these, by more
+-- than a unit on both axes. (Changed by the leader at 04:18: read /root/h/CHANGE.md.)
+pub record AreApart (points others : List Point) : Type 0 where
+  pub u : ℤ
+  pub v : ℤ
+  pub beyond : (p q : Point) → Contains points p → Contains others q → (further u v p +ℤ pos (unsigned_abs u + unsigned_abs v)) <ℤ further u v q
 
 -- They share a point, and all others of the first lie to the left of it, all others of the second to the right.
 pub record GoesOn (points others : List Point) : Type 0 where
