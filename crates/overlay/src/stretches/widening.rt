@@ -58,7 +58,8 @@ pub fn append_widened<A: Allocator + Copy>(
     let table = table_of(*points.allocator(), stretch_points, stretch_ends)?;
     let mut start = 0;
     for end in ring_ends {
-        append_ring(stretch_points, &table, &ring_points[start..*end], points)?;
+        let ring = points_between(ring_points, start, *end);
+        append_ring(stretch_points, &table, ring, points)?;
         ends.push(points.len())?;
         start = *end;
     }
@@ -72,7 +73,7 @@ fn append_ring<A: Allocator>(
     ring: &[Point],
     points: &mut Vec<Point, A>,
 ) -> Result<(), AllocError>
-    requires { (stretches : List (List Point)) × IsTable stretches stretch_points.now table.now }
+    requires { (stretches : List (List Point)) × All IsStretch stretches × IsTable stretches stretch_points.now table.now }
     ensures ok { (stretches : List (List Point)) → All IsStretch stretches
         → IsTable stretches stretch_points.now table.now → OnOk result ((widened : List Point)
         × IsWidened stretches ring.now widened × (points.new.items ≡ points.old.items ++ widened)) }
@@ -92,17 +93,30 @@ fn append_way<A: Allocator>(
     to: Point,
     points: &mut Vec<Point, A>,
 ) -> Result<(), AllocError>
-    requires { (stretches : List (List Point)) × IsTable stretches stretch_points.now table.now }
+    requires { (stretches : List (List Point)) × All IsStretch stretches × IsTable stretches stretch_points.now table.now }
     ensures ok { (stretches : List (List Point)) → All IsStretch stretches
         → IsTable stretches stretch_points.now table.now → OnOk result ((way : List Point)
         × GoesAlong stretches (edge_between from to) way × (points.new.items ≡ points.old.items ++ but_last way)) }
     ensures err { OnErr result (Extends points.old.items points.new.items) }
 {
-    if let Some(stretch) = stretch_between(table, from, to) {
-        return append_stretch(&stretch_points[stretch.start..stretch.end], from, points);
+    match stretch_between(table, from, to) {
+        Some(stretch) => {
+            let along = points_between(stretch_points, stretch.start, stretch.end);
+            append_stretch(along, from, points)
+        }
+        None => {
+            points.push(from)?;
+            Ok(())
+        }
     }
-    points.push(from)?;
-    Ok(())
+}
+
+// The points from the one place on, and before the other.
+fn points_between(points: &[Point], start: usize, end: usize) -> &[Point]
+    requires { (start ≤ end) × (end ≤ length points.now) }
+    ensures { result.now ≡ between start end points.now }
+{
+    &points[start..end]
 }
 
 // The stretch whose chord goes from the one point to the other, or back.

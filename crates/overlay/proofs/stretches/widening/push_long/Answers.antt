@@ -1,25 +1,30 @@
-use Rattle.std.proofs.Common.{rules, ◌≡◌, ◌≢◌, ◌++◌, ◌∷◌, [], ◌<◌, ◌≤◌, ◌-◌, List, All, Contains, IfOk, MatchOption, OnErr, OnOk, length, reverse, ℕ, ◌+◌, ◌*◌, ◌/◌, ◌%◌, Bool, true, false, nat_eq, nat_lt, slice_index_or, slice_set, bit_and, bit_or, Fits, w8, w32, w64, Bor, MutBor}
-use Rattle.std.specs.List.{AllZip, between, flat_map}
-use Rattle.plane.specs.declared.point.Point.{Point}
-use Rattle.overlay.specs.Contours.Outlines.{ring_point}
-use Rattle.overlay.specs.Snap.Offsets.{AreJoined, Extends, offsets}
-use Rattle.overlay.specs.Snap.Windings.{edge_between}
-use Rattle.overlay.specs.Stretches.{GoesAlong, IsStretch, IsWidened, but_last}
-use Rattle.overlay.specs.Stretches.Widening.{AreInOrder, HasLong, IsTable, chord_of, entry_of}
+use Rattle.std.proofs.Common.{ℕ, List, length, refl, sym, ap, subst, arith}
+use Rattle.overlay.specs.Stretches.Widening.{HasLong}
+use Rattle.overlay.proofs.SnapLemmas.Standing.{IsNext-at, length-offsets}
+use Rattle.overlay.proofs.StretchLemmas.LongOnes.{HasLong-all, HasLong-more, HasLong-none}
 use Rattle.overlay.proofs.stretches.widening.push_long.Goals as goal
 
--- src/stretches/widening.rt:207:5
 pub loop-end-init : goal.loop-end-init
-loop-end-init g c = ?
+loop-end-init g c = λ stretches are. (refl, subst (HasLong stretches 0) (sym c.requires.none) (HasLong-none stretches))
 
--- src/stretches/widening.rt:208:9
 pub push_if_long-requires : goal.push_if_long-requires
-push_if_long-requires g c = ?
+push_if_long-requires g c =
+    let (stretches, are) = c.requires.joined in
+    let next = IsNext-at stretches c.args.points.now c.args.ends.now c.loop-end.end-index c.loop-end.start are c.loop-end-test.true (c.loop-end.invariant stretches are).0 in
+    (next.rising, next.within)
 
--- src/stretches/widening.rt:207:5
 pub loop-end-preserved : goal.loop-end-preserved
-loop-end-preserved g c = ?
+loop-end-preserved g c = λ stretches are.
+    (let (begins, has) = c.loop-end.invariant stretches are in
+    let next = IsNext-at stretches c.args.points.now c.args.ends.now c.loop-end.end-index c.loop-end.start are c.loop-end-test.true begins in (
+      next.stops,
+      HasLong-more stretches c.args.points.now c.args.ends.now c.loop-end.end-index c.loop-end.start c.loop-end.table.items c.push_if_long.new.table.items next begins has
+      c.in_ok-push_if_long.ensures.long c.in_ok-push_if_long.ensures.short,
+    ))
 
--- src/stretches/widening.rt:196:1
 pub returns : goal.returns
-returns g c = ?
+returns g c = λ stretches are.
+    (let past = c.loop-end-test.false in
+    let size = length-offsets 0 stretches in
+    let ends = ap (λ (list : List ℕ). length list) are.1 in
+    HasLong-all stretches c.loop-end.end-index c.loop-end.table.items (omega (arith, past, size, ends)) (c.loop-end.invariant stretches are).1)

@@ -1,12 +1,12 @@
-use Rattle.std.proofs.Common.{◌≡◌, ◌≢◌, ◌++◌, ◌∷◌, [], ◌<◌, ◌≤◌, ◌-◌, List, All, Contains, IfOk, MatchOption, OnErr, OnOk, length, reverse, ℕ, ◌+◌, ◌*◌}
-use Rattle.std.specs.List.{AllZip, between, flat_map}
+use Rattle.std.proofs.Common.{◌≡◌, List, length, take}
 use Rattle.plane.specs.declared.point.Point.{Point}
-use Rattle.overlay.specs.Contours.Outlines.{ring_point}
-use Rattle.overlay.specs.Snap.Offsets.{AreJoined, Extends, offsets}
-use Rattle.overlay.specs.Snap.Windings.{edge_between}
-use Rattle.overlay.specs.Stretches.{GoesAlong, IsStretch, IsWidened, but_last}
-use Rattle.overlay.specs.Stretches.Widening.{AreInOrder, HasLong, IsTable, chord_of, entry_of}
+use Rattle.overlay.specs.Snap.Offsets.{AreJoined}
+use Rattle.overlay.specs.Stretches.Widening.{HasLong}
+use Rattle.overlay.proofs.ChainLemmas.Offsets.{joined}
 use Rattle.overlay.proofs.stretches.widening.push_long.Given as goal
 
+-- the long ones of the stretches so far are appended, and the next one begins behind these
 abbrev pub invariant-loop-end : goal.invariant-loop-end
-invariant-loop-end g l = ?
+invariant-loop-end g l =
+    (stretches : List (List Point)) → AreJoined stretches l.points l.ends
+    → (l.start ≡ length (joined (take l.end-index stretches))) × HasLong stretches l.end-index l.table.items
