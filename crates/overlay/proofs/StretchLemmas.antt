@@ -9,6 +9,8 @@ pub mod LongOnes
 pub mod Placed
 pub mod RingEdges
 pub mod Rings
+pub mod RingsKept
+pub mod RingsOnce
 pub mod Table
 pub mod Ways
 pub mod Widened
