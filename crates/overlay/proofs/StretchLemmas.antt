@@ -1,5 +1,4 @@
 -- Lemmas on stretches of rings, their chords, and what is overlaid in their place.
-pub mod Adjoin
 pub mod Apart
 pub mod Boxes
 pub mod Directed

@@ -28,9 +28,6 @@ module _ (first : Point) (inner : List Point) (last : Point) where
   last-at : ring_point (first ∷ (inner ++ last ∷ [])) (length (first ∷ (inner ++ last ∷ [])) - 1) ≡ last
   last-at = ap (λ (n : ℕ). ring_point (first ∷ (inner ++ last ∷ [])) n) long ∙ get_or_at inner last [] _ (length inner) refl
 
-  pub chord-start : start_of (chord (first ∷ (inner ++ last ∷ []))) ≡ first
-  chord-start = refl
-
   pub chord-end : end_of (chord (first ∷ (inner ++ last ∷ []))) ≡ last
   chord-end = last-at
 
