@@ -5,9 +5,12 @@ pub mod Aside
 pub mod Bounding
 pub mod Boxes
 pub mod Columns
+pub mod Directed
 pub mod Distinct
+pub mod Entries
 pub mod Hulls
 pub mod Inner
+pub mod LongOnes
 pub mod Lowered
 pub mod Noded
 pub mod NodedColumns
@@ -20,9 +23,14 @@ pub mod Permuted
 pub mod Pieces
 pub mod Placed
 pub mod Reverse
+pub mod RingEdges
+pub mod Rings
 pub mod Rising
 pub mod Shifts
 pub mod Sides
+pub mod Table
 pub mod Turned
 pub mod Unbroken
+pub mod Ways
+pub mod Widened
 pub mod Wound

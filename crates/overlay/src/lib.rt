@@ -9,3 +9,4 @@ pub mod contours;
 mod edges;
 pub mod fill;
 pub mod snap;
+pub mod stretches;

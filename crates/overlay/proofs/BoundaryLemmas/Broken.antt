@@ -16,7 +16,7 @@ use Rattle.overlay.proofs.ChainLemmas.Offsets.{joined, offset-at}
 use Rattle.overlay.proofs.ChainLemmas.Zips.{AllZip-at, AllZip-length}
 use Rattle.overlay.proofs.SnapLemmas.Callers.{starts}
 
-zip-append : {A B : Type 0} (R : A → B → Type 0) (xs xs' : List A) (ys ys' : List B) → AllZip R xs ys → AllZip R xs' ys' → AllZip R (xs ++ xs') (ys ++ ys')
+pub zip-append : {A B : Type 0} (R : A → B → Type 0) (xs xs' : List A) (ys ys' : List B) → AllZip R xs ys → AllZip R xs' ys' → AllZip R (xs ++ xs') (ys ++ ys')
 zip-append R [] xs' [] ys' first second = second
 zip-append R (x ∷ xs) xs' (y ∷ ys) ys' first second = (first.0, zip-append R xs xs' ys ys' first.1 second)
 zip-append R [] xs' (y ∷ ys) ys' first second = absurd first
