@@ -4,6 +4,8 @@ pub mod Apart
 pub mod Aside
 pub mod Bounding
 pub mod Boxes
+pub mod Callers
+pub mod Closed
 pub mod Columns
 pub mod Directed
 pub mod Distinct
@@ -28,6 +30,7 @@ pub mod Rings
 pub mod Rising
 pub mod Shifts
 pub mod Sides
+pub mod Sloped
 pub mod Table
 pub mod Turned
 pub mod Unbroken
