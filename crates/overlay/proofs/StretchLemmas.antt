@@ -7,6 +7,13 @@ pub mod Boxes
 pub mod Callers
 pub mod Closed
 pub mod Columns
+pub mod CutCallers
+pub mod CutClear
+pub mod CutCounts
+pub mod CutGroups
+pub mod CutLists
+pub mod CutSpans
+pub mod CutWays
 pub mod Directed
 pub mod Distinct
 pub mod Entries

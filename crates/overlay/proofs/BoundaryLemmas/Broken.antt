@@ -22,12 +22,13 @@ zip-append R (x ∷ xs) xs' (y ∷ ys) ys' first second = (first.0, zip-append R
 zip-append R [] xs' (y ∷ ys) ys' first second = absurd first
 zip-append R (x ∷ xs) xs' [] ys' first second = absurd first
 
-zip-front : {A B : Type 0} (R : A → B → Type 0) (xs xs' : List A) (ys : List B) → AllZip R (xs ++ xs') ys → AllZip R xs (take (length xs) ys)
+-- what the first list of two that are joined is zipped with, and what the second one is
+pub zip-front : {A B : Type 0} (R : A → B → Type 0) (xs xs' : List A) (ys : List B) → AllZip R (xs ++ xs') ys → AllZip R xs (take (length xs) ys)
 zip-front R [] xs' ys zip = tt
 zip-front R (x ∷ xs) xs' (y ∷ ys) zip = (zip.0, zip-front R xs xs' ys zip.1)
 zip-front R (x ∷ xs) xs' [] zip = absurd zip
 
-zip-back : {A B : Type 0} (R : A → B → Type 0) (xs xs' : List A) (ys : List B) → AllZip R (xs ++ xs') ys → AllZip R xs' (drop (length xs) ys)
+pub zip-back : {A B : Type 0} (R : A → B → Type 0) (xs xs' : List A) (ys : List B) → AllZip R (xs ++ xs') ys → AllZip R xs' (drop (length xs) ys)
 zip-back R [] xs' ys zip = zip
 zip-back R (x ∷ xs) xs' (y ∷ ys) zip = zip-back R xs xs' ys zip.1
 zip-back R (x ∷ xs) xs' [] zip = absurd zip
