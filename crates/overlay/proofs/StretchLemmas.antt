@@ -1,5 +1,4 @@
 -- Lemmas on stretches of rings, their chords, and what is overlaid in their place.
-pub mod Adjoin
 pub mod Apart
 pub mod Aside
 pub mod Bounding
@@ -34,6 +33,8 @@ pub mod Placed
 pub mod Reverse
 pub mod RingEdges
 pub mod Rings
+pub mod RingsKept
+pub mod RingsOnce
 pub mod Rising
 pub mod Shifts
 pub mod Sides

@@ -1,32 +1,28 @@
 -- The chord of a stretch goes along an edge one way or the other, where both are one if they are turned rightwards.
-use Rattle.std.proofs.Common.{◌≡◌, ◌≢◌, ◌⊎◌, inl, inr, ℕ, ◌-◌, ◌<◌, ℤ, Bool, true, false, List, length, reverse, refl, sym, ap, ap₂, ◌∙◌, subst, arith}
+use Rattle.std.proofs.Common.{◌≡◌, ◌≢◌, inl, inr, ℕ, ◌-◌, ◌<◌, Bool, true, false, List, length, reverse, refl, sym, ap, ap₂, ◌∙◌, subst, arith}
 use Rattle.std.specs.Int.Signed.{lt_z}
-use Rattle.std.proofs.lemmas.Int.{by_lt_z, ints}
-use Rattle.std.proofs.lemmas.List.{get_or-reverse, length-reverse, reverse-reverse}
-use Rattle.std.specs.List.{Contains}
+use Rattle.std.proofs.lemmas.Int.{ints}
+use Rattle.std.proofs.lemmas.List.{get_or-reverse, length-reverse}
 use Rattle.plane.specs.SweepLine.Heights.{rightwards}
 use Rattle.plane.specs.declared.edge.Edge.{Edge}
 use Rattle.plane.specs.declared.point.Point.{Point}
 use Rattle.plane.proofs.SweepLineLemmas.Rightwards.{rightwards-left, rightwards-right}
 use Rattle.overlay.specs.Contours.Outlines.{ring_point}
+use Rattle.overlay.specs.Fill.Filled.{HaveSameEnds}
 use Rattle.overlay.specs.Snap.Windings.{edge_between, reversed}
-use Rattle.overlay.specs.Stretches.{GoesAlong, chord}
+use Rattle.overlay.specs.Stretches.{chord}
 use Rattle.overlay.specs.Stretches.Widening.{chord_of}
 use Rattle.overlay.specs.declared.stretches.widening.Chord.{Chord}
+use Rattle.overlay.proofs.FillLemmas.Kept.{same-exchanged, same-rightwards, same-trans}
 
 -- ---- edges turned rightwards
 
 -- two edges that are one if turned so are one, or each is the other back
-turned-same : (one other : Edge) → rightwards one ≡ rightwards other → (one ≡ other) ⊎ (one ≡ reversed other)
-turned-same one other same = go (lt_z one.x1 one.x0) (lt_z other.x1 other.x0) refl refl
-  where
-    go : (b d : Bool) → lt_z one.x1 one.x0 ≡ b → lt_z other.x1 other.x0 ≡ d → (one ≡ other) ⊎ (one ≡ reversed other)
-    go true true e f = inl (ap reversed (sym (rightwards-left one e) ∙ same ∙ rightwards-left other f))
-    go true false e f = inr (ap reversed (sym (rightwards-left one e) ∙ same ∙ rightwards-right other f))
-    go false true e f = inr (sym (rightwards-right one e) ∙ same ∙ rightwards-left other f)
-    go false false e f = inl (sym (rightwards-right one e) ∙ same ∙ rightwards-right other f)
+turned-same : (one other : Edge) → rightwards one ≡ rightwards other → HaveSameEnds one other
+turned-same one other same =
+    same-trans one (rightwards one) other (same-exchanged (rightwards one) one (same-rightwards one)) (subst (λ (edge : Edge). HaveSameEnds edge other) (sym same) (same-rightwards other))
 
-pub chord_of-same : (one other : Edge) → chord_of one ≡ chord_of other → (one ≡ other) ⊎ (one ≡ reversed other)
+pub chord_of-same : (one other : Edge) → chord_of one ≡ chord_of other → HaveSameEnds one other
 chord_of-same one other same = turned-same one other (ap (λ (c : Chord). let is : Edge = record { x0 = c.x0; y0 = c.y0; x1 = c.x1; y1 = c.y1 } in is) same)
 
 -- an edge that isn't vertical and the same back are one if turned so

@@ -1,12 +1,12 @@
 -- The table of long stretches, stretch by stretch.
 use Rattle.std.proofs.Common.{◌≡◌, inl, inr, ℕ, ◌+◌, ◌-◌, ◌<◌, ◌≤◌, List, [], ◌∷◌, ◌++◌, get_or, length, take, refl, sym, ap, ap₂, ◌∙◌, subst, arith, IsPermutation}
-use Rattle.std.specs.List.{All, Contains}
+use Rattle.std.specs.List.{Contains}
 use Rattle.std.proofs.lemmas.Bool.{cases_lt}
 use Rattle.std.proofs.lemmas.List.{get_or_past}
 use Rattle.std.proofs.lemmas.List.Elements.{All-nil, All-push, All-weaker, Contains-append_left, Contains-push}
 use Rattle.std.proofs.lemmas.List.Sorted.{All-permutation, Contains-permutation}
 use Rattle.plane.specs.declared.point.Point.{Point}
-use Rattle.overlay.specs.Snap.Offsets.{AreJoined, between}
+use Rattle.overlay.specs.Snap.Offsets.{between}
 use Rattle.overlay.specs.Stretches.{IsLong}
 use Rattle.overlay.specs.Stretches.Widening.{HasLong, entry_at, entry_of}
 use Rattle.overlay.specs.declared.stretches.widening.LongStretch.{LongStretch}

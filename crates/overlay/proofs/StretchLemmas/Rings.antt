@@ -1,11 +1,11 @@
 -- Widened rings: their edges are the pieces of the ways of the rings' edges.
-use Rattle.std.proofs.Common.{◌≡◌, List, [], ◌∷◌, ◌++◌, append-nil, append_assoc, refl, sym, ap, ap₂, ◌∙◌, subst}
+use Rattle.std.proofs.Common.{◌≡◌, ◌≢◌, List, [], ◌∷◌, ◌++◌, append-nil, append_assoc, refl, sym, ap, ap₂, ◌∙◌}
 use Rattle.std.specs.List.{All, AllZip, flat_map}
 use Rattle.std.proofs.lemmas.List.Concat.{flat_map-append}
 use Rattle.plane.specs.declared.edge.Edge.{Edge}
 use Rattle.plane.specs.declared.point.Point.{Point}
 use Rattle.overlay.specs.Contours.Rings.{ring_edges}
-use Rattle.overlay.specs.Snap.Windings.{end_of, pieces, start_of}
+use Rattle.overlay.specs.Snap.Windings.{pieces}
 use Rattle.overlay.specs.Stretches.{GoesAlong, IsStretch, IsWidened, but_last}
 use Rattle.overlay.proofs.BoundaryLemmas.Broken.{zip-append}
 use Rattle.overlay.proofs.ContourLemmas.Rings.{pieces-append}
@@ -51,6 +51,14 @@ widened-edges stretches [] (way ∷ ways) widened each zip is = absurd zip
 widened-edges stretches (first ∷ others) ways widened each zip is =
     let linked = path-linked first others first ways (goes-ways stretches (ring_edges (first ∷ others)) ways each zip) in
     ap ring_edges (is ∙ linked.starts) ∙ linked.are
+
+-- it has a point if the ring does
+pub widened-some : (stretches : List (List Point)) (ring : List Point) (ways : List (List Point)) (widened : List Point) → All IsStretch stretches → AllZip (GoesAlong stretches) (ring_edges ring) ways
+    → widened ≡ flat_map but_last ways → ring ≢ [] → widened ≢ []
+widened-some stretches [] ways widened each zip is some none = absurd (some refl)
+widened-some stretches (first ∷ others) ways widened each zip is some none =
+    let linked = path-linked first others first ways (goes-ways stretches (ring_edges (first ∷ others)) ways each zip) in
+    let starts = sym none ∙ is ∙ linked.starts in cc
 
 -- So those of all widened rings.
 pub widened-ways : (stretches rings widened : List (List Point)) → All IsStretch stretches → AllZip (IsWidened stretches) rings widened

@@ -1,5 +1,5 @@
 -- The ways of edges: from the start of an edge to its end, along the points of a stretch where it is a chord.
-use Rattle.std.proofs.Common.{◌≡◌, ◌⊎◌, inl, inr, ℕ, suc, ◌+◌, ◌-◌, ◌<◌, ◌≤◌, List, [], ◌∷◌, ◌++◌, length, get_or, take, drop, reverse, refl, sym, ap, ◌∙◌, subst, arith}
+use Rattle.std.proofs.Common.{◌≡◌, ◌⊎◌, inl, inr, ℕ, suc, ◌-◌, ◌≤◌, List, [], ◌∷◌, ◌++◌, length, drop, reverse, refl, sym, ap, ◌∙◌, subst, arith}
 use Rattle.std.specs.List.{All, Contains}
 use Rattle.std.proofs.lemmas.List.{get_or_at, length_push, length-reverse, reverse-append, take_at}
 use Rattle.std.proofs.lemmas.List.Elements.{All-contains}
@@ -8,7 +8,7 @@ use Rattle.plane.specs.declared.edge.Edge.{Edge}
 use Rattle.plane.specs.declared.point.Point.{Point}
 use Rattle.overlay.specs.Contours.Outlines.{ring_point}
 use Rattle.overlay.specs.Snap.Windings.{end_of, start_of}
-use Rattle.overlay.specs.Stretches.{GoesAlong, IsLong, IsStretch, but_last, chord}
+use Rattle.overlay.specs.Stretches.{GoesAlong, IsStretch, but_last, chord}
 
 -- ---- all points but the last
 
@@ -27,9 +27,6 @@ module _ (first : Point) (inner : List Point) (last : Point) where
 
   last-at : ring_point (first ∷ (inner ++ last ∷ [])) (length (first ∷ (inner ++ last ∷ [])) - 1) ≡ last
   last-at = ap (λ (n : ℕ). ring_point (first ∷ (inner ++ last ∷ [])) n) long ∙ get_or_at inner last [] _ (length inner) refl
-
-  pub chord-start : start_of (chord (first ∷ (inner ++ last ∷ []))) ≡ first
-  chord-start = refl
 
   pub chord-end : end_of (chord (first ∷ (inner ++ last ∷ []))) ≡ last
   chord-end = last-at

@@ -1,9 +1,9 @@
-use Rattle.std.proofs.Common.{◌≡◌, ◌≢◌, ◌++◌, ◌<◌, List, length, reverse, sym, ap, ◌∙◌, subst, arith}
+use Rattle.std.proofs.Common.{◌≡◌, ◌≢◌, ◌++◌, List, length, reverse, sym, ap, ◌∙◌, subst, arith}
 use Rattle.std.specs.Result.{OnOk}
 use Rattle.plane.specs.declared.point.Point.{Point}
 use Rattle.overlay.specs.Contours.Outlines.{ring_point}
 use Rattle.overlay.specs.Stretches.{but_last}
-use Rattle.overlay.proofs.StretchLemmas.Entries.{Stands, entry-stands, straight-goes, stretch-goes}
+use Rattle.overlay.proofs.StretchLemmas.Entries.{entry-stands, straight-goes, stretch-goes}
 use Rattle.overlay.proofs.stretches.widening.append_way.Goals as goal
 
 pub points_between-along-requires : goal.points_between-along-requires

@@ -19,7 +19,7 @@ loop-end-preserved g c = λ stretches are.
     let next = IsNext-at stretches c.args.points.now c.args.ends.now c.loop-end.end-index c.loop-end.start are c.loop-end-test.true begins in (
       next.stops,
       HasLong-more stretches c.args.points.now c.args.ends.now c.loop-end.end-index c.loop-end.start c.loop-end.table.items c.push_if_long.new.table.items next begins has
-      c.in_ok-push_if_long.ensures.long c.in_ok-push_if_long.ensures.short,
+          c.in_ok-push_if_long.ensures.long c.in_ok-push_if_long.ensures.short,
     ))
 
 pub returns : goal.returns
