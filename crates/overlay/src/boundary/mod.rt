@@ -173,7 +173,14 @@ where
     let mut rings = Vec::new(alloc);
     let mut ends = Vec::new(alloc);
     contours(&edges, &mut rings, &mut ends)?;
-    append_widened(stretch_points, stretch_ends, &rings, &ends, points, ring_ends)?;
+    append_widened(
+        stretch_points,
+        stretch_ends,
+        &rings,
+        &ends,
+        points,
+        ring_ends,
+    )?;
     Ok(())
 }
 
