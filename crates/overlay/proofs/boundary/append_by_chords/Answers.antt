@@ -6,7 +6,7 @@ use Rattle.plane.specs.declared.edge.Edge.{Edge}
 use Rattle.plane.specs.declared.point.Point.{Point}
 use Rattle.overlay.specs.Boundary.{AreBroken}
 use Rattle.overlay.specs.Contours.Rings.{AreContours}
-use Rattle.overlay.specs.Snap.Offsets.{AreJoined, offsets}
+use Rattle.overlay.specs.Snap.Offsets.{offsets}
 use Rattle.overlay.specs.Snap.Windings.{IsClosed}
 use Rattle.overlay.specs.Stretches.{IsStretch, chord}
 use Rattle.overlay.proofs.BoundaryLemmas.Broken.{rest-is}

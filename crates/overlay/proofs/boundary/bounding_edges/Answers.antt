@@ -1,4 +1,4 @@
-use Rattle.std.proofs.Common.{◌≡◌, ◌++◌, ◌-◌, ℕ, List, length, take, drop, ap, ap₂, sym, subst, subst₂, ◌∙◌, arith}
+use Rattle.std.proofs.Common.{◌≡◌, ◌++◌, List, take, drop, ap, ap₂, sym, subst, subst₂, ◌∙◌}
 use Rattle.plane.specs.declared.edge.Edge.{Edge}
 use Rattle.overlay.specs.Fill.Filled.{AreNoded, IsFilled}
 use Rattle.overlay.specs.Snap.Windings.{IsClosed}
