@@ -11,6 +11,7 @@ pub mod CutCallers
 pub mod CutClear
 pub mod CutCounts
 pub mod CutGroups
+pub mod CutLines
 pub mod CutLists
 pub mod CutSpans
 pub mod CutWays

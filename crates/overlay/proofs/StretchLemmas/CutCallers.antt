@@ -1,5 +1,5 @@
 -- What the code that cuts edges asks, as lemmas over plain variables.
-use Rattle.std.proofs.Common.{◌≡◌, ◌⊎◌, ℕ, zero, suc, ◌+◌, ◌-◌, ◌<◌, ◌≤◌, Bool, true, false, leb, List, [], ◌∷◌, ◌++◌, length, get_or, map, take, drop, refl, sym, ap, ap₂, ◌∙◌, subst, append-nil, append_assoc, arith}
+use Rattle.std.proofs.Common.{◌≡◌, ◌⊎◌, inl, inr, ℕ, zero, suc, ◌+◌, ◌-◌, ◌<◌, ◌≤◌, Bool, true, false, leb, List, [], ◌∷◌, ◌++◌, length, get_or, map, take, drop, refl, sym, ap, ap₂, ◌∙◌, subst, subst₂, append-nil, append_assoc, arith}
 use Rattle.std.specs.List.{All, AllPairs, AllZip, between, count_by, flat_map}
 use Rattle.std.proofs.lemmas.List.{flat_map_more, length-append, length-drop, length-map, length-take-le, map-append, take-append-drop, take_all, take_more}
 use Rattle.std.proofs.lemmas.List.Elements.{All-append, All-push, All-weaker}
@@ -9,9 +9,10 @@ use Rattle.plane.specs.declared.point.Point.{Point}
 use Rattle.overlay.specs.Boundary.{AllSome}
 use Rattle.overlay.specs.Snap.Offsets.{AreJoined, offsets}
 use Rattle.overlay.specs.Stretches.{AreClear, IsLong}
-use Rattle.overlay.specs.Stretches.Cut.{AreCut, AreParts, AreRefined, AreRelieved, AreSplit, IsCutInto, IsPart, way}
-use Rattle.overlay.proofs.ChainLemmas.Offsets.{joined}
+use Rattle.overlay.specs.Stretches.Cut.{AreCut, AreParts, AreRefined, AreRelieved, AreSplit, IsCutInto, IsPart, IsSettled, way}
+use Rattle.overlay.proofs.ChainLemmas.Offsets.{joined, offset-at}
 use Rattle.overlay.proofs.ChainLemmas.Runs.{length-between, offsets-more}
+use Rattle.overlay.proofs.SnapLemmas.Standing.{length-offsets}
 use Rattle.overlay.proofs.StretchLemmas.CutCounts.{count-upto}
 use Rattle.overlay.proofs.StretchLemmas.CutGroups.{AreRefined-more, AreSplit-cut, AreStretches-ways, clear-parts}
 use Rattle.overlay.proofs.StretchLemmas.CutLists.{between-joined, joined-append, joined-cut, offsets-append}
@@ -94,7 +95,7 @@ cut-kept edges start end most busy before after rising inside is quiet pushed = 
     single (suc k) d within = absurd (omega (arith, within))
 
     differ : (b : Bool) → b ≡ true → b ≡ false → ⊥
-    differ b yes no = cc
+    differ b set unset = cc
 
 pub cut-anew : (edges : List Edge) (start end most : ℕ) (busy : Bool) (before after : List ℕ) → busy ≡ true → IsCutSoFar edges start end most before after
     → (group : List (List Edge)) × IsCutInto (between start end edges) group × (busy ≡ false → group ≡ between start end edges ∷ [])
@@ -103,7 +104,7 @@ cut-anew edges start end most busy before after marked (parts, cut, each, few, s
     (parts, record { is = cut; each = each }, (λ quiet. absurd (differ busy marked quiet)), (λ same. few), stops)
   where
     differ : (b : Bool) → b ≡ true → b ≡ false → ⊥
-    differ b yes no = cc
+    differ b set unset = cc
 
 -- ---- all parts
 
@@ -133,6 +134,22 @@ refined-more most parts busy i start part mark refined refined' inside begins is
         let same = ap (λ (list : List Edge). length list) (joined-cut IsCutInto (λ list group is. is.is) (take i parts) groups so_far.cut) in
         omega (arith, begins, same)
 
+-- where the list at a place begins
+pub begins-at : (parts : List (List Edge)) (ends : List ℕ) (place d : ℕ) → ends ≡ offsets 0 parts → place < length ends → 0 < place → get_or ends (place - 1) d ≡ length (joined (take place parts))
+begins-at parts ends place d are within some =
+    let size = length-offsets 0 parts in
+    let same = ap (λ (list : List ℕ). length list) are in
+    let at = offset-at 0 parts (place - 1) d (omega (arith, within, size, same, some)) in
+    let back : suc (place - 1) ≡ place = omega (arith, some) in
+    let here = ap (λ (n : ℕ). length (joined (take n parts))) back in
+    let read = ap (λ (list : List ℕ). get_or list (place - 1) d) are in
+    omega (arith, at, here, read)
+
+-- a pair stays settled where marks stay
+pub IsSettled-kept : (parts : List (List Edge)) (before after : List Bool) (pair : ℕ × ℕ) → ((k : ℕ) → get_or before k false ≡ true → get_or after k false ≡ true) → IsSettled parts before pair → IsSettled parts after pair
+IsSettled-kept parts before after pair keeps (inl (one, other)) = inl (keeps pair.0 one, keeps pair.1 other)
+IsSettled-kept parts before after pair keeps (inr apart) = inr apart
+
 -- ---- ways
 
 pub ways-more : (lists : List (List Edge)) (i : ℕ) (part : List Edge) (points points' : List Point) (ends ends' : List ℕ) → i < length lists → part ≡ get_or lists i []
@@ -154,6 +171,30 @@ ways-more lists i part points points' ends ends' inside is gained stops (are, at
         let b = length-append points (way part) in
         let c = ap (λ (list : List Point). length list) are in
         omega (arith, a, b, c)
+
+-- ---- one round after another
+
+-- the parts of both sides, where the edges and the ends are read as these
+pub given-parts : (edges given : List Edge) (ends given_ends : List ℕ) (bound : ℕ) → given ≡ edges → given_ends ≡ ends
+    → (front : List (List Edge)) × (back : List (List Edge)) × AreSplit edges bound ends front back → (parts : List (List Edge)) × AreParts given given_ends parts
+given-parts edges given ends given_ends bound same same_ends (front, back, split) =
+    (front ++ back, subst₂ (λ (list : List Edge) (stops : List ℕ). AreParts list stops (front ++ back)) (sym same) (sym same_ends) (AreParts-split edges bound ends front back split))
+
+-- what they are cut into
+pub given-cut : (edges given : List Edge) (ends given_ends refined : List ℕ) (bound most : ℕ) → given ≡ edges → given_ends ≡ ends
+    → ((parts : List (List Edge)) → AreParts given given_ends parts → (groups : List (List (List Edge))) × AreRelieved most parts groups × (refined ≡ offsets 0 (joined groups)))
+    → (front back : List (List Edge)) → AreSplit edges bound ends front back
+    → (groups : List (List (List Edge))) × AreRelieved most (front ++ back) groups × (refined ≡ offsets 0 (joined groups))
+given-cut edges given ends given_ends refined bound most same same_ends cuts front back split =
+    cuts (front ++ back) (subst₂ (λ (list : List Edge) (stops : List ℕ). AreParts list stops (front ++ back)) (sym same) (sym same_ends) (AreParts-split edges bound ends front back split))
+
+pub next-split : (edges given : List Edge) (ends given_ends refined : List ℕ) (bound most : ℕ) → given ≡ edges → given_ends ≡ ends
+    → ((parts : List (List Edge)) → AreParts given given_ends parts → (groups : List (List (List Edge))) × AreRelieved most parts groups × (refined ≡ offsets 0 (joined groups)))
+    → (front : List (List Edge)) × (back : List (List Edge)) × AreSplit edges bound ends front back
+    → (front : List (List Edge)) × (back : List (List Edge)) × AreSplit edges bound refined front back
+next-split edges given ends given_ends refined bound most same same_ends cuts (front, back, split) =
+    let (groups, relieved, stops) = given-cut edges given ends given_ends refined bound most same same_ends cuts front back split in
+    (joined (take (length front) groups), joined (drop (length front) groups), AreSplit-cut edges bound ends refined front back groups split relieved.refined.cut stops)
 
 -- ---- the result
 

@@ -1,10 +1,11 @@
 -- Parts whose spans don't meet are clear of each other, and so are points of the one and points of the other.
 use Rattle.std.proofs.Common.{◌≡◌, ◌⊎◌, inl, inr, ⊎_elim, Bool, true, false, not, ℕ, suc, ℤ, pos, negsuc, ◌+◌, ◌+ℤ◌, ◌*ℤ◌, cond, ◌<◌, ◌<ℤ◌, ◌≤ℤ◌, IsTrue, List, [], ◌∷◌, length, get_or, sym, ap, ap₂, subst, arith, rules}
-use Rattle.std.specs.Bool.{MatchBool}
+use Rattle.std.specs.Bool.{MatchBool, OnTrue}
 use Rattle.std.specs.Int.{int_max, int_min}
 use Rattle.std.specs.Int.RustNames.{unsigned_abs}
 use Rattle.std.specs.Int.Signed.{lt_z}
 use Rattle.std.specs.List.{All, Contains}
+use Rattle.std.proofs.lemmas.Bool.{OnTrue_at, OnTrue_from}
 use Rattle.std.proofs.lemmas.Int.{by_lt_z, clamps, ints}
 use Rattle.std.proofs.lemmas.List.Elements.{All-nil, All-cons, All-contains, All-head, All-tail, All-weaker}
 use Rattle.plane.specs.declared.edge.Edge.{Edge}
@@ -14,6 +15,7 @@ use Rattle.overlay.specs.Stretches.{AreClear, AreApart, GoesOn, further}
 use Rattle.overlay.specs.Stretches.Cut.{AreClearParts, way}
 use Rattle.overlay.specs.Stretches.Spans.{AreSeveral, ComeNear, IsSpan, IsWithin, LeadsTo, SpansMeet, beside, bounds_of_span}
 use Rattle.overlay.specs.declared.stretches.spans.Span.{Span}
+use Rattle.overlay.proofs.StretchLemmas.Apart.{AreApart-exchanged}
 
 -- ---- as the sweep asks it
 
@@ -26,7 +28,7 @@ beside-from side = by (lt_z side (pos 2147483647))
 
 -- what lies beyond the next number lies more than a unit away
 beside-beyond : (side z : ℤ) → z ≤ℤ pos 2147483647 → beside side <ℤ z → (side +ℤ pos 1) <ℤ z
-beside-beyond side z fits = 
+beside-beyond side z fits =
     by_lt_z side (pos 2147483647)
     (λ less. λ beyond. subst (λ (b : Bool). cond b (side +ℤ pos 1) side <ℤ z) (true_of less) beyond)
     (λ most. λ beyond. let from = beside-from side in absurd (omega (arith, ints, most, fits, beyond, from)))
@@ -74,6 +76,10 @@ pub first_fails : (first : Bool) (P R : Type 0) → (R → P) → MatchBool firs
 first_fails false P R one none same = λ r. none (one r)
 first_fails true P R one is same = absurd (cc)
 
+-- what a test shows shows what follows from that
+pub OnTrue-weaker : (b : Bool) (P Q : Type 0) → (P → Q) → OnTrue b P → OnTrue b Q
+OnTrue-weaker b P Q makes is = OnTrue_from b Q (λ set. makes (OnTrue_at set is))
+
 pub denied : (b : Bool) (P : Type 0) → MatchBool b P (¬ P) → MatchBool (not b) (¬ P) (¬ (¬ P))
 denied true P is = λ none. none is
 denied false P none = none
@@ -108,9 +114,9 @@ leads_or one other = elim (bool_or one.closes) [
       | inl same ↦ inl (record { closes = closes; opens = opens; at = same })
       | inr differs ↦ inr (λ leads. differs leads.at)
     ]
-    | inr no ↦ inr (λ leads. no leads.opens)
+    | inr none ↦ inr (λ leads. none leads.opens)
   ]
-  | inr no ↦ inr (λ leads. no leads.closes)
+  | inr none ↦ inr (λ leads. none leads.closes)
 ]
 
 -- ---- apart, or going on
@@ -132,9 +138,6 @@ apart_right some others order = record {
   v = pos 0;
   beyond = λ p q held held'. let a = order p q held held' in omega (arith, ints, a);
 }
-
-apart_back : (some others : List Point) → AreApart others some → AreApart some others
-apart_back some others apart = ?
 
 module _ (one other : List Edge) (span next : Span) (is : IsSpan one span) (is_next : IsSpan other next)
     (some others : List Point) (of : All (Contains (way one)) some) (of_others : All (Contains (way other)) others) where
@@ -235,7 +238,7 @@ clear-of_spans one other span next is is_next apart = λ several some others of 
     forth some others (inr goes) = inr (inl goes)
 
     back : (some others : List Point) → (AreApart others some) ⊎ (GoesOn others some) → AreClear some others
-    back some others (inl apart) = inl (apart_back some others apart)
+    back some others (inl apart) = inl (AreApart-exchanged others some apart)
     back some others (inr goes) = inr (inr goes)
 
     many : (1 < length one) ⊎ (1 < length other) → AreSeveral span next

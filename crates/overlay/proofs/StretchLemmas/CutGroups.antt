@@ -1,20 +1,20 @@
 -- Parts that are cut anew: where each is busy or clear of all others, and those that are busy are cut into single edges, their points are stretches.
 use Rattle.std.proofs.Common.{◌≡◌, ◌≢◌, ◌⊎◌, inl, inr, ℕ, zero, suc, ◌+◌, ◌<◌, ◌≤◌, Bool, true, false, List, [], ◌∷◌, ◌++◌, Some, length, get_or, map, take, drop, refl, sym, ap, ap₂, ◌∙◌, subst, append-nil, arith}
 use Rattle.std.specs.List.{All, AllPairs, AllZip, Contains, flat_map, slice_get}
-use Rattle.std.proofs.lemmas.Bool.{cases_Bool}
+use Rattle.std.proofs.lemmas.Bool.{cases_Bool, cases_eq}
 use Rattle.std.proofs.lemmas.Grind.{flat_map-append}
 use Rattle.std.proofs.lemmas.List.{get_or_default, length-append, map-append, take-append-drop}
 use Rattle.std.proofs.lemmas.List.Elements.{All-append, All-contains, All-from_get_or, All-weaker, Contains-get_or}
-use Rattle.std.proofs.lemmas.Option.{slice_get-get_or}
+use Rattle.std.proofs.lemmas.Option.{slice_get-get_or, slice_get_within}
 use Rattle.std.proofs.Math.Seq.{drop-append_seam, take-append_seam}
 use Rattle.i_tree.proofs.RootLemmas.Joined.{All-behind, All-front, All-to_map, AllPairs-to_map}
 use Rattle.plane.specs.declared.edge.Edge.{Edge}
 use Rattle.plane.specs.declared.point.Point.{Point}
-use Rattle.plane.specs.Pairs.Pairs.{PairAt}
+use Rattle.plane.specs.Pairs.Pairs.{ArePairs}
 use Rattle.overlay.specs.Snap.Offsets.{offsets}
 use Rattle.overlay.specs.Snap.Windings.{pieces}
-use Rattle.overlay.specs.Stretches.{AreClear, AreStretches, IsLong, IsStretch}
-use Rattle.overlay.specs.Stretches.Cut.{AreClearParts, AreRefined, AreRelieved, AreSplit, IsCutInto, IsPart, way}
+use Rattle.overlay.specs.Stretches.{AreApart, AreClear, AreStretches, IsLong, IsStretch}
+use Rattle.overlay.specs.Stretches.Cut.{AreClearParts, AreRefined, AreRelieved, AreSettled, AreSplit, IsCutInto, IsPart, IsSettled, way}
 use Rattle.overlay.specs.Stretches.Spans.{IsSpan, SpansMeet}
 use Rattle.overlay.specs.declared.stretches.spans.Span.{Span}
 use Rattle.overlay.proofs.BoundaryLemmas.Broken.{zip-back, zip-front}
@@ -87,45 +87,77 @@ AreRefined-more most parts groups busy part group mark are marked cut keeps cuts
 
 -- ---- parts that aren't both busy are clear
 
-pub AreRelieved-marked : (most : ℕ) (parts : List (List Edge)) (groups : List (List (List Edge))) (spans : List Span) (busy : List Bool)
-    → AllZip IsSpan parts spans → ((i j : ℕ) → PairAt SpansMeet spans i j → (get_or busy i false ≡ true) × (get_or busy j false ≡ true))
-    → AreRefined most parts groups busy → AreRelieved most parts groups
-AreRelieved-marked most parts groups spans busy lie marked refined = record {
-  busy = busy;
-  refined = refined;
-  clear = λ i j d below inside. both i j d below inside (cases_Bool (get_or busy i false)) (cases_Bool (get_or busy j false));
-}
+-- parts whose spans don't meet
+apart-spans : (parts : List (List Edge)) (spans : List Span) → AllZip IsSpan parts spans → (i j : ℕ) → i < j → j < length parts
+    → ((one other : Span) → slice_get spans i ≡ Some one → slice_get spans j ≡ Some other → SpansMeet one other → ⊥) → AreClearParts (get_or parts i []) (get_or parts j [])
+apart-spans parts [] lie i j below inside none = absurd (let n = AllZip-length IsSpan parts [] lie in omega (arith, inside, n))
+apart-spans parts (span ∷ more) lie i j below inside none =
+    let n = AllZip-length IsSpan parts (span ∷ more) lie in
+    clear-of_spans (get_or parts i []) (get_or parts j []) (get_or (span ∷ more) i span) (get_or (span ∷ more) j span)
+    (AllZip-at IsSpan parts (span ∷ more) [] span i lie (omega (arith, below, inside)))
+    (AllZip-at IsSpan parts (span ∷ more) [] span j lie inside)
+    (none (get_or (span ∷ more) i span) (get_or (span ∷ more) j span)
+    (slice_get-get_or (span ∷ more) i span (omega (arith, below, inside, n))) (slice_get-get_or (span ∷ more) j span (omega (arith, inside, n))))
+
+-- a pair of places stands in a list, or doesn't
+same_pair : (i j k l : ℕ) → (let one : ℕ × ℕ = (i, j) in let other : ℕ × ℕ = (k, l) in (one ≡ other) ⊎ (one ≡ other → ⊥))
+same_pair i j k l = elim (cases_eq i k) [
+  | inl first ↦ elim (cases_eq j l) [
+    | inl second ↦ inl (ap₂ (λ (a b : ℕ). let pair : ℕ × ℕ = (a, b) in pair) first second)
+    | inr differs ↦ inr (λ same. differs (ap (λ (pair : ℕ × ℕ). pair.1) same))
+  ]
+  | inr differs ↦ inr (λ same. differs (ap (λ (pair : ℕ × ℕ). pair.0) same))
+]
+
+Contains-or : (pairs : List (ℕ × ℕ)) (pair : ℕ × ℕ) → Contains pairs pair ⊎ (Contains pairs pair → ⊥)
+Contains-or [] pair = inr (λ held. (let (k, within, at) = held in omega (arith, within)))
+Contains-or (first ∷ pairs) pair = on (same_pair first.0 first.1 pair.0 pair.1) (Contains-or pairs pair)
+  where
+    on : (first ≡ pair) ⊎ (first ≡ pair → ⊥) → Contains pairs pair ⊎ (Contains pairs pair → ⊥) → Contains (first ∷ pairs) pair ⊎ (Contains (first ∷ pairs) pair → ⊥)
+    on (inl same) rest = inl (0, omega arith, same)
+    on (inr differs) (inl (k, within, at)) = inl (suc k, omega (arith, within), at)
+    on (inr differs) (inr none) = inr neither
+      where
+        neither : Contains (first ∷ pairs) pair → ⊥
+        neither (zero, within, at) = differs at
+        neither (suc k, within, at) = none (k, omega (arith, within), at)
+
+-- places of pairs that meet are places of spans
+pub pairs-within : (spans : List Span) (pairs : List (ℕ × ℕ)) → ArePairs SpansMeet spans pairs → All (λ pair. (pair.0 < length spans) × (pair.1 < length spans)) pairs
+pairs-within spans pairs are k d within =
+    let pair = get_or pairs k d in
+    let is = (are.exact pair.0 pair.1).0 (Contains-get_or pairs k d within) in
+    (slice_get_within spans pair.0 is.one is.first, slice_get_within spans pair.1 is.other is.second)
+
+-- where pairs that meet are settled
+pub AreSettled-pairs : (parts : List (List Edge)) (spans : List Span) (pairs : List (ℕ × ℕ)) (busy : List Bool)
+    → AllZip IsSpan parts spans → ArePairs SpansMeet spans pairs → All (IsSettled parts busy) pairs → AreSettled parts busy
+AreSettled-pairs parts spans pairs busy lie are settled i j below inside = on (Contains-or pairs (i, j))
   where
     size : length spans ≡ length parts
     size = AllZip-length IsSpan parts spans lie
 
-    apart : (i j : ℕ) (d : List Edge) → i < j → j < length parts → ((get_or busy i false ≡ true) × (get_or busy j false ≡ true) → ⊥) → AreClearParts (get_or parts i d) (get_or parts j d)
-    apart i j d below inside none = at (slice_get-get_or parts i d (omega (arith, below, inside)))
-      where
-        reach : (k : ℕ) → k < length parts → k < length spans
-        reach k within = let n = size in omega (arith, within, n)
+    first : i < length spans
+    first = let n = size in omega (arith, below, inside, n)
 
-        at : slice_get parts i ≡ Some (get_or parts i d) → AreClearParts (get_or parts i d) (get_or parts j d)
-        at is = elim spans as (λ (list : List Span). AllZip IsSpan parts list → ((k : ℕ) → k < length parts → k < length list) → ((one other : Span) → slice_get list i ≡ Some one → slice_get list j ≡ Some other → SpansMeet one other → ⊥) → AreClearParts (get_or parts i d) (get_or parts j d)) [
-          | [] ↦ λ zip reach no. absurd (let n = reach j inside in omega (arith, n))
-          | span ∷ more ↦ λ zip reach no.
-              clear-of_spans (get_or parts i d) (get_or parts j d) (get_or (span ∷ more) i span) (get_or (span ∷ more) j span)
-              (AllZip-at IsSpan parts (span ∷ more) d span i zip (omega (arith, below, inside)))
-              (AllZip-at IsSpan parts (span ∷ more) d span j zip inside)
-              (no (get_or (span ∷ more) i span) (get_or (span ∷ more) j span) (slice_get-get_or (span ∷ more) i span (reach i (omega (arith, below, inside)))) (slice_get-get_or (span ∷ more) j span (reach j inside)))
-        ] lie reach (λ one other first second meet. none (marked i j (record { one = one; other = other; rising = below; first = first; second = second; meet = meet })))
+    second : j < length spans
+    second = let n = size in omega (arith, inside, n)
 
-    both : (i j : ℕ) (d : List Edge) → i < j → j < length parts → (get_or busy i false ≡ true) ⊎ (get_or busy i false ≡ false) → (get_or busy j false ≡ true) ⊎ (get_or busy j false ≡ false)
-        → ((get_or busy i false ≡ true) × (get_or busy j false ≡ true)) ⊎ AreClearParts (get_or parts i d) (get_or parts j d)
-    both i j d below inside (inl one) (inl other) = inl (one, other)
-    both i j d below inside (inr one) other = inr (apart i j d below inside (λ are. differ (get_or busy i false) are.0 one))
-      where
-        differ : (b : Bool) → b ≡ true → b ≡ false → ⊥
-        differ b yes no = cc
-    both i j d below inside (inl one) (inr other) = inr (apart i j d below inside (λ are. differ (get_or busy j false) are.1 other))
-      where
-        differ : (b : Bool) → b ≡ true → b ≡ false → ⊥
-        differ b yes no = cc
+    there : (points others : List Point) → AreApart points others → (some more : List Point) → All (Contains points) some → All (Contains others) more → AreApart some more
+    there points others apart some more of of_others = record {
+      u = apart.u;
+      v = apart.v;
+      beyond = λ p q held held_too. apart.beyond p q (All-contains (Contains points) some p of held) (All-contains (Contains others) more q of_others held_too);
+    }
+
+    met : IsSettled parts busy (i, j) → ((get_or busy i false ≡ true) × (get_or busy j false ≡ true)) ⊎ AreClearParts (get_or parts i []) (get_or parts j [])
+    met (inl marked) = inl marked
+    met (inr apart) = inr (λ several some others of of_others. inl (there (way (get_or parts i [])) (way (get_or parts j [])) apart some others of of_others))
+
+    on : Contains pairs (i, j) ⊎ (Contains pairs (i, j) → ⊥) → ((get_or busy i false ≡ true) × (get_or busy j false ≡ true)) ⊎ AreClearParts (get_or parts i []) (get_or parts j [])
+    on (inl held) = met (All-contains (IsSettled parts busy) pairs (i, j) settled held)
+    on (inr none) = inr (apart-spans parts spans lie i j below inside (λ one other at at_too meet.
+        none ((are.exact i j).1 (record { one = one; other = other; rising = below; first = at; second = at_too; meet = meet }))))
 
 -- ---- the parts of both sides
 
@@ -194,7 +226,7 @@ module _ (parts : List (List Edge)) (groups : List (List (List Edge))) (are_part
 
   across : (i j : ℕ) (e : List (List Edge)) → i < j → j < length groups → All (λ one. All (Keeps one) (get_or groups j e)) (get_or groups i e)
   across i j e below inside = λ k d first l f second.
-      pair (get_or (get_or groups i e) k d) (get_or (get_or groups j e) l f) (Contains-get_or (get_or groups i e) k d first) (Contains-get_or (get_or groups j e) l f second) (are.clear i j [] below within)
+      pair (get_or (get_or groups i e) k d) (get_or (get_or groups j e) l f) (Contains-get_or (get_or groups i e) k d first) (Contains-get_or (get_or groups j e) l f second) (are.clear i j below within)
     where
       within : j < length parts
       within = let n = size in omega (arith, inside, n)

@@ -15,17 +15,14 @@ use Rattle.overlay.specs.declared.stretches.spans.Heights.{Heights}
 use Rattle.overlay.specs.declared.stretches.spans.Span.{Span}
 use Rattle.overlay.proofs.StretchLemmas.CutWays.{IsUpright, length-way, part-along, way-end, way-start}
 
--- the heights of all points
-pub HasHeights-way : (part : List Edge) (heights : Heights) (d : Edge) → 0 < length part
-    → heights.low ≤ℤ (get_or part 0 d).y0 → (get_or part 0 d).y0 ≤ℤ heights.high
-    → ((k : ℕ) → k < length part → (heights.low ≤ℤ (get_or part k d).y1) × ((get_or part k d).y1 ≤ℤ heights.high))
-    → All (HasHeights heights) (way part)
-HasHeights-way [] heights d some low high each = absurd (omega (arith, some))
-HasHeights-way (edge ∷ more) heights d some low high each =
-    All-cons (HasHeights heights) (start_of edge) (map end_of (edge ∷ more)) (record { low = low; high = high })
-    (All-from_get_or (HasHeights heights) (map end_of (edge ∷ more)) (end_of d) (λ k within.
+-- what holds where the part starts, and at each edge's end
+pub All-way : (P : Point → Type 0) (part : List Edge) (d : Edge) → 0 < length part → P (start_of (get_or part 0 d)) → ((k : ℕ) → k < length part → P (end_of (get_or part k d))) → All P (way part)
+All-way P [] d some begins each = absurd (omega (arith, some))
+All-way P (edge ∷ more) d some begins each =
+    All-cons P (start_of edge) (map end_of (edge ∷ more)) begins
+    (All-from_get_or P (map end_of (edge ∷ more)) (end_of d) (λ k within.
     let inside : k < length (edge ∷ more) = (let size = length-map (edge ∷ more) end_of in omega (arith, size, within)) in
-    subst (HasHeights heights) (sym (get_or-map end_of (edge ∷ more) k d (end_of d) inside)) (record { low = (each k inside).0; high = (each k inside).1 })))
+    subst P (sym (get_or-map end_of (edge ∷ more) k d (end_of d) inside)) (each k inside)))
 
 -- ---- points in a row
 
@@ -130,12 +127,12 @@ upright part (edge, same, is) d =
 not_far : (part : List Edge) → IsUpright part → (k : ℕ) (d : Edge) → k < length part → IsFar (get_or part k d) → ⊥
 not_far part (edge, same, is) k d within = at k (subst (λ (edges : List Edge). k < length edges) same within) (ap (λ (edges : List Edge). get_or edges k d) same)
   where
-    no : IsFar edge → ⊥
-    no (inl right) = omega (arith, ints, is, right)
-    no (inr left) = omega (arith, ints, is, left)
+    none : IsFar edge → ⊥
+    none (inl right) = omega (arith, ints, is, right)
+    none (inr left) = omega (arith, ints, is, left)
 
     at : (k : ℕ) → k < 1 → get_or part k d ≡ get_or (edge ∷ []) k d → IsFar (get_or part k d) → ⊥
-    at zero within here far = no (subst IsFar here far)
+    at zero within here far = none (subst IsFar here far)
     at (suc k) within here far = omega (arith, within)
 
 -- ---- the span of a part, of its first and its last point and the heights of all
@@ -175,7 +172,7 @@ module _ (part : List Edge) (is : IsPart part) (first last : Point) (heights : H
   span-of : (left right : Point) (opens closes : Bool) → left.x ≤ℤ pos 2147483647 → Contains (way part) left → Contains (way part) right → All (λ p. (left.x ≤ℤ p.x) × (p.x ≤ℤ right.x)) (way part)
       → (IsTrue opens → All (λ p. (p ≡ left) ⊎ ((left.x +ℤ pos 1) <ℤ p.x)) (way part)) → (IsTrue closes → All (λ p. (p ≡ right) ⊎ ((p.x +ℤ pos 1) <ℤ right.x)) (way part))
       → IsSpan part (record { left = left; right = right; low = heights.low; high = heights.high; opens = opens; closes = closes; several = several })
-  span-of left right opens closes small left_held right_held within open close = record {
+  span-of left right opens closes small left_held right_held within on_left on_right = record {
     left = left_held;
     right = right_held;
     within = λ k e inside. record {
@@ -184,8 +181,8 @@ module _ (part : List Edge) (is : IsPart part) (first last : Point) (heights : H
       low = (high k e inside).low;
       high = (high k e inside).high;
     };
-    leftmost = open;
-    rightmost = close;
+    leftmost = on_left;
+    rightmost = on_right;
     several = many;
     fits = (small, fits_low);
   }
@@ -206,11 +203,11 @@ module _ (part : List Edge) (is : IsPart part) (first last : Point) (heights : H
           let c = x_of _ _ begins in let e = x_of _ _ stops in
           span-of first last far_first far_last fits held_first held_last
           (λ k f inside. let p = all k f inside in (omega (arith, ints, p, c), omega (arith, ints, p, b, e)))
-          (λ yes. absurd (not_far part up 0 d some (far yes))) (λ yes. absurd (not_far part up (length part - 1) d (let n = some in omega (arith, n)) (far_too yes)))
+          (λ set. absurd (not_far part up 0 d some (far set))) (λ set. absurd (not_far part up (length part - 1) d (let n = some in omega (arith, n)) (far_too set)))
       on (inr (inl rises)) = span-of first last far_first far_last fits held_first held_last
           (subst₂ (λ (a b : Point). All (λ p. (a.x ≤ℤ p.x) × (p.x ≤ℤ b.x)) (way part)) begins stops (rise_within (way part) (length part) some size first rises))
-          (λ yes. subst (λ (a : Point). All (λ p. (p ≡ a) ⊎ ((a.x +ℤ pos 1) <ℤ p.x)) (way part)) begins (rise_opens (way part) (length part) some size first rises (step (far yes))))
-          (λ yes. subst (λ (b : Point). All (λ p. (p ≡ b) ⊎ ((p.x +ℤ pos 1) <ℤ b.x)) (way part)) stops (rise_closes (way part) (length part) some size first rises (step_last (far_too yes))))
+          (λ set. subst (λ (a : Point). All (λ p. (p ≡ a) ⊎ ((a.x +ℤ pos 1) <ℤ p.x)) (way part)) begins (rise_opens (way part) (length part) some size first rises (step (far set))))
+          (λ set. subst (λ (b : Point). All (λ p. (p ≡ b) ⊎ ((p.x +ℤ pos 1) <ℤ b.x)) (way part)) stops (rise_closes (way part) (length part) some size first rises (step_last (far_too set))))
         where
           step : IsFar (get_or part 0 d) → ((at 0).x +ℤ pos 1) <ℤ (at 1).x
           step (inl right) = let a = x_of _ _ begins ∙ x_of _ _ starts in let b = x_of _ _ second_is in omega (arith, ints, a, b, right)
@@ -246,8 +243,8 @@ module _ (part : List Edge) (is : IsPart part) (first last : Point) (heights : H
           absurd (omega (arith, ints, order, on, a, b))
       on (inr (inr falls)) = span-of last first far_last far_first fits_too held_last held_first
           (subst₂ (λ (a b : Point). All (λ p. (a.x ≤ℤ p.x) × (p.x ≤ℤ b.x)) (way part)) stops begins (fall_within (way part) (length part) some size first falls))
-          (λ yes. subst (λ (a : Point). All (λ p. (p ≡ a) ⊎ ((a.x +ℤ pos 1) <ℤ p.x)) (way part)) stops (fall_opens (way part) (length part) some size first falls (step_last (far_too yes))))
-          (λ yes. subst (λ (b : Point). All (λ p. (p ≡ b) ⊎ ((p.x +ℤ pos 1) <ℤ b.x)) (way part)) begins (fall_closes (way part) (length part) some size first falls (step (far yes))))
+          (λ set. subst (λ (a : Point). All (λ p. (p ≡ a) ⊎ ((a.x +ℤ pos 1) <ℤ p.x)) (way part)) stops (fall_opens (way part) (length part) some size first falls (step_last (far_too set))))
+          (λ set. subst (λ (b : Point). All (λ p. (p ≡ b) ⊎ ((p.x +ℤ pos 1) <ℤ b.x)) (way part)) begins (fall_closes (way part) (length part) some size first falls (step (far set))))
         where
           step : IsFar (get_or part 0 d) → ((at 1).x +ℤ pos 1) <ℤ (at 0).x
           step (inr left) = let a = x_of _ _ begins ∙ x_of _ _ starts in let b = x_of _ _ second_is in omega (arith, ints, a, b, left)

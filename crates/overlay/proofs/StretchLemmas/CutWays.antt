@@ -108,8 +108,8 @@ module _ (R : Point → Point → Type 0) (through : (p q r : Point) → R p q �
       let P : Edge → Type 0 = λ e. R (start_of e) (end_of e) in
       let points = map end_of (next ∷ more) in
       let later : AllPairs R (end_of edge ∷ points) =
-          subst (λ (point : Point). AllPairs R (point ∷ points)) (sym (meets edge next (first edge next more is)))
-          (way-along (next ∷ more) (rest edge next more is) (All-tail P edge (next ∷ more) all)) in
+      subst (λ (point : Point). AllPairs R (point ∷ points)) (sym (meets edge next (first edge next more is)))
+      (way-along (next ∷ more) (rest edge next more is) (All-tail P edge (next ∷ more) all)) in
       let here = All-head P edge (next ∷ more) all in
       AllPairs-cons R (start_of edge) (end_of edge ∷ points)
       (All-cons (R (start_of edge)) (end_of edge) points here

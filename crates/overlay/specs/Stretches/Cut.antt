@@ -5,7 +5,7 @@ use Rattle.plane.specs.declared.edge.Edge.{Edge}
 use Rattle.plane.specs.declared.point.Point.{Point}
 use Rattle.overlay.specs.Snap.Offsets.{AreJoined, offsets}
 use Rattle.overlay.specs.Snap.Windings.{end_of, start_of}
-use Rattle.overlay.specs.Stretches.{AreClear, AreStretches}
+use Rattle.overlay.specs.Stretches.{AreApart, AreClear, AreStretches}
 
 -- Both edges go strictly rightwards, or both strictly leftwards.
 abbrev pub GoAlong : Edge → Edge → Type 0
@@ -48,6 +48,11 @@ AreClearParts one other =
     (1 < length one) ⊎ (1 < length other)
     → (some others : List Point) → All (Contains (way one)) some → All (Contains (way other)) others → AreClear some others
 
+-- Two parts are both busy or clear of each other.
+abbrev pub AreSettled : List (List Edge) → List Bool → Type 0
+AreSettled parts busy =
+    (i j : ℕ) → i < j → j < length parts → ((get_or busy i false ≡ true) × (get_or busy j false ≡ true)) ⊎ AreClearParts (get_or parts i []) (get_or parts j [])
+
 -- The parts are cut anew: those that are busy into parts of few edges, and the others are kept.
 pub record AreRefined (most : ℕ) (parts : List (List Edge)) (groups : List (List (List Edge))) (busy : List Bool) : Type 0 where
   pub cut : AllZip IsCutInto parts groups
@@ -58,17 +63,17 @@ pub record AreRefined (most : ℕ) (parts : List (List Edge)) (groups : List (Li
 pub record AreRelieved (most : ℕ) (parts : List (List Edge)) (groups : List (List (List Edge))) : Type 0 where
   pub busy : List Bool
   pub refined : AreRefined most parts groups busy
-  pub clear : (i j : ℕ) (d : List Edge) → i < j → j < length parts
-      → ((get_or busy i false ≡ true) × (get_or busy j false ≡ true)) ⊎ AreClearParts (get_or parts i d) (get_or parts j d)
+  pub clear : AreSettled parts busy
 
 -- The place is marked, and so are those that were before.
 pub record Marks (place : ℕ) (before after : List Bool) : Type 0 where
   pub at : get_or after place false ≡ true
   pub keeps : (k : ℕ) → get_or before k false ≡ true → get_or after k false ≡ true
 
--- Both places of each pair are marked.
-abbrev pub AreMarked : List (ℕ × ℕ) → List Bool → Type 0
-AreMarked pairs busy = All (λ pair. (get_or busy pair.0 false ≡ true) × (get_or busy pair.1 false ≡ true)) pairs
+-- Both parts of the pair are marked, or some line keeps their points apart.
+abbrev pub IsSettled : List (List Edge) → List Bool → ℕ × ℕ → Type 0
+IsSettled parts busy pair =
+    ((get_or busy pair.0 false ≡ true) × (get_or busy pair.1 false ≡ true)) ⊎ AreApart (way (get_or parts pair.0 [])) (way (get_or parts pair.1 []))
 
 -- Points and ends of stretches of both, so many of them the subject's.
 abbrev pub AreCut : List Edge → List Edge → List Point → List ℕ → ℕ → Type 0

@@ -1,10 +1,11 @@
 -- Where parts of edges lie, and when two of them come to each other. For private contracts.
-use Rattle.std.specs.Prelude.{◌≡◌, ◌⊎◌, ℕ, ◌<◌, ℤ, pos, ◌+ℤ◌, ◌<ℤ◌, ◌≤ℤ◌, Bool, cond, IsTrue, List, All, Contains, length}
-use Rattle.std.specs.Int.{int_min, int_max}
+use Rattle.std.specs.Prelude.{◌≡◌, ◌⊎◌, ℕ, ◌<◌, ◌+◌, ℤ, pos, ◌+ℤ◌, ◌-ℤ◌, ◌<ℤ◌, ◌≤ℤ◌, Bool, cond, IsTrue, List, All, Contains, length, unsigned_abs}
 use Rattle.std.specs.Int.Signed.{lt_z}
 use Rattle.plane.specs.declared.edge.Edge.{Edge}
 use Rattle.plane.specs.declared.pairs.items.Bounds.{Bounds}
 use Rattle.plane.specs.declared.point.Point.{Point}
+use Rattle.plane.specs.Meet.Boxes.{bounds_of}
+use Rattle.plane.specs.Meet.Crosses.{cross}
 use Rattle.plane.specs.Pairs.Bounds.{BoundsMeet}
 use Rattle.overlay.specs.Stretches.Cut.{way}
 use Rattle.overlay.specs.declared.stretches.spans.Heights.{Heights}
@@ -14,14 +15,15 @@ use Rattle.overlay.specs.declared.stretches.spans.Span.{Span}
 abbrev pub beside : ℤ → ℤ
 beside side = cond (lt_z side (pos 2147483647)) (side +ℤ pos 1) side
 
--- The box of a span, a unit wider and higher: parts whose boxes don't meet are more than a unit apart.
+abbrev pub widened : Bounds → Bounds
+widened bounds = record { left = bounds.left; right = beside bounds.right; low = bounds.low; high = beside bounds.high }
+
+-- The least box of a span, and a unit wider and higher: parts whose wider boxes don't meet are more than a unit apart.
+abbrev pub box_of : Span → Bounds
+box_of span = bounds_of (record { x0 = span.left.x; y0 = span.low; x1 = span.right.x; y1 = span.high })
+
 abbrev pub bounds_of_span : Span → Bounds
-bounds_of_span span = record {
-  left = int_min span.left.x span.right.x;
-  right = beside (int_max span.left.x span.right.x);
-  low = int_min span.low span.high;
-  high = beside (int_max span.low span.high);
-}
+bounds_of_span span = widened (box_of span)
 
 -- Some number lies from the one up to the next, and from the third up to the fourth.
 pub record ShareSome (from upto other_from other_upto : ℤ) : Type 0 where
@@ -37,6 +39,13 @@ pub record LeadsTo (one other : Span) : Type 0 where
   pub closes : IsTrue one.closes
   pub opens : IsTrue other.opens
   pub at : one.right ≡ other.left
+
+-- How far the point lies to the left of the line, times its length; and a unit on both axes, times that.
+abbrev pub height_over : Edge → Point → ℤ
+height_over line point = cross (line.x1 -ℤ line.x0) (line.y1 -ℤ line.y0) (point.x -ℤ line.x0) (point.y -ℤ line.y0)
+
+abbrev pub margin_of : Edge → ℤ
+margin_of line = pos (unsigned_abs (line.x1 -ℤ line.x0) + unsigned_abs (line.y1 -ℤ line.y0))
 
 -- One of them has several edges.
 abbrev pub AreSeveral : Span → Span → Type 0

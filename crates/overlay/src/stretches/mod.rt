@@ -16,6 +16,8 @@ use std::alloc::Allocator;
 pub mod chords;
 mod cutting;
 mod joining;
+mod lines;
+mod marking;
 mod refining;
 mod spans;
 pub mod widening;

@@ -1,14 +1,15 @@
 //! Where parts of edges lie, and whether two of them come to each other.
 
-ghost use Rattle.std.specs.Prelude.{◌≡◌, ◌≢◌, ◌⊎◌, ◌<◌, ◌≤◌, List, All, IfOk, MatchBool, length};
+ghost use Rattle.std.specs.Prelude.{◌≡◌, ◌⊎◌, ◌<◌, ◌≤◌, [], pos, ◌+ℤ◌, ◌<ℤ◌, List, All, IfOk, MatchBool, get_or, length, take};
 ghost use Rattle.std.specs.Bool.{OnTrue};
-ghost use Rattle.std.specs.List.{AllZip, between};
+ghost use Rattle.std.specs.List.{AllZip, between, flat_map};
 ghost use Rattle.plane.specs.declared.edge.Edge.{Edge};
 ghost use Rattle.plane.specs.Pairs.Bounds.{BoundsMeet};
+ghost use Rattle.overlay.specs.Snap.Offsets.{offsets};
 ghost use Rattle.overlay.specs.Stretches.Cut.{AreParts, IsPart, way};
-ghost use Rattle.overlay.specs.Stretches.Spans.{AreSeveral, ComeNear, HasHeights, IsFar, IsSpan, LeadsTo, ShareSome, SpansMeet, beside, bounds_of_span};
+ghost use Rattle.overlay.specs.Stretches.Spans.{AreSeveral, ComeNear, HasHeights, IsFar, IsSpan, LeadsTo, ShareSome, SpansMeet, beside, bounds_of_span, box_of, widened};
 
-use crate::edges::{end_of, start_of};
+use crate::edges::{end_of, reverse, start_of};
 use plane::edge::Edge;
 use plane::pairs::items::{Bounds, Boxed, Meets};
 use plane::point::Point;
@@ -38,19 +39,32 @@ impl Boxed for Span {
     ghost bounds = { bounds_of_span };
 
     fn bounds(self) -> Bounds {
-        let corners = Edge {
-            x0: self.left.x,
-            y0: self.low,
-            x1: self.right.x,
-            y1: self.high,
-        };
-        let bounds = corners.bounds();
-        Bounds {
-            left: bounds.left,
-            right: beside(bounds.right),
-            low: bounds.low,
-            high: beside(bounds.high),
-        }
+        widened(box_of(self))
+    }
+}
+
+// The least box that has the part's points.
+fn box_of(span: Span) -> Bounds
+    ensures { result ≡ box_of span }
+{
+    let corners = Edge {
+        x0: span.left.x,
+        y0: span.low,
+        x1: span.right.x,
+        y1: span.high,
+    };
+    corners.bounds()
+}
+
+// The box, a unit wider and higher.
+fn widened(bounds: Bounds) -> Bounds
+    ensures { result ≡ widened bounds }
+{
+    Bounds {
+        left: bounds.left,
+        right: beside(bounds.right),
+        low: bounds.low,
+        high: beside(bounds.high),
     }
 }
 
@@ -100,15 +114,24 @@ fn adjoin(one: Span, other: Span) -> bool
 fn boxes_meet(one: Bounds, other: Bounds) -> bool
     ensures { MatchBool result (BoundsMeet one other) (¬ (BoundsMeet one other)) }
 {
-    ranges_meet(one.left, one.right, other.left, other.right)
-        && ranges_meet(one.low, one.high, other.low, other.high)
+    if !columns_meet(one, other) {
+        return false;
+    }
+    rows_meet(one, other)
 }
 
-// Whether the ranges share a number.
-fn ranges_meet(from: i32, upto: i32, other_from: i32, other_upto: i32) -> bool
-    ensures { let meet = ShareSome from upto other_from other_upto in MatchBool result meet (¬ meet) }
+// Whether the boxes share an x.
+fn columns_meet(one: Bounds, other: Bounds) -> bool
+    ensures { let meet = ShareSome one.left one.right other.left other.right in MatchBool result meet (¬ meet) }
 {
-    from <= other_upto && other_from <= upto
+    one.left <= other.right && other.left <= one.right
+}
+
+// Whether they share a y.
+fn rows_meet(one: Bounds, other: Bounds) -> bool
+    ensures { let meet = ShareSome one.low one.high other.low other.high in MatchBool result meet (¬ meet) }
+{
+    one.low <= other.high && other.low <= one.high
 }
 
 // Whether the other part begins where the one ends, and both have no other points near there.
@@ -135,6 +158,26 @@ pub fn spans_of<A: Allocator>(
         start = *end;
     }
     Ok(spans)
+}
+
+/// The part at this place.
+pub fn part_of<'a>(edges: &'a [Edge], ends: &[usize], place: usize) -> &'a [Edge]
+    requires parts { (parts : List (List Edge)) × AreParts edges.now ends.now parts }
+    requires within { place < length ends.now }
+    ensures { (parts : List (List Edge)) → AreParts edges.now ends.now parts → result.now ≡ get_or parts place [] }
+{
+    part_at(edges, begin_of(ends, place), ends[place])
+}
+
+// Where the list at this place begins among all items, by where the lists stop.
+fn begin_of(ends: &[usize], place: usize) -> usize
+    requires { place < length ends.now }
+    ensures { (parts : List (List Edge)) → ends.now ≡ offsets 0 parts → result ≡ length (flat_map (λ part. part) (take place parts)) }
+{
+    if place == 0 {
+        return 0;
+    }
+    ends[place - 1]
 }
 
 /// The edges from the one place on, and before the other.
@@ -185,7 +228,17 @@ fn span_of(part: &[Edge]) -> Span
 fn is_far(edge: Edge) -> bool
     ensures { OnTrue result (IsFar edge) }
 {
-    (edge.x0 as i64) + 1 < edge.x1 as i64 || (edge.x1 as i64) + 1 < edge.x0 as i64
+    if goes_far(edge) {
+        return true;
+    }
+    goes_far(reverse(edge))
+}
+
+// Whether the edge goes rightwards by more than a unit.
+fn goes_far(edge: Edge) -> bool
+    ensures { OnTrue result ((edge.x0 +ℤ pos 1) <ℤ edge.x1) }
+{
+    (edge.x0 as i64) + 1 < edge.x1 as i64
 }
 
 // The least and the greatest y of the part's points.

@@ -9,7 +9,7 @@ invariant-loop-next l = record {
   some : l.from < l.next;
   within : l.next ≤ l.upto;
   few : l.next ≤ l.from + l.most;
-  follow : (k : ℕ) (d : Edge) → l.from ≤ k → suc k < l.next → Follows (get_or l.edges k d) (get_or l.edges (suc k) d)
+  follow : (k : ℕ) (d : Edge) → l.from ≤ k → suc k < l.next → Follows (get_or l.edges k d) (get_or l.edges (suc k) d);
 }
 
 -- the edges that are left

@@ -1,4 +1,4 @@
-use Rattle.std.proofs.Common.{◌≡◌, ◌≤◌, ◌<◌, List, [], length, map, take, get_or, ap, sym, ◌∙◌, subst, arith}
+use Rattle.std.proofs.Common.{◌≡◌, ◌≤◌, ◌<◌, ◌++◌, ◌∷◌, ℕ, List, [], length, map, take, get_or, ap, sym, ◌∙◌, subst, arith}
 use Rattle.std.proofs.lemmas.List.{take_all}
 use Rattle.plane.specs.declared.edge.Edge.{Edge}
 use Rattle.plane.specs.declared.point.Point.{Point}
@@ -24,8 +24,10 @@ pub loop-end-preserved : goal.loop-end-preserved
 loop-end-preserved g c = λ parts are.
     let (so_far, begins) = c.loop-end.invariant parts are in
     let i = c.loop-end.end-index in
-    let next = IsNext-at parts c.args.edges.now c.args.parts.now i c.loop-end.start are.0 c.loop-end-test.true begins in (
-      ways-more parts i c.part_at.result.now c.loop-end.points.items c.push_way.new.points.items c.loop-end.ends.items c.push.new.self.items next.inside (c.part_at.ensures ∙ next.is) c.in_ok-push_way.ensures ? so_far,
+    let next = IsNext-at parts c.args.edges.now c.args.parts.now i c.loop-end.start are.0 c.loop-end-test.true begins in
+    let told = c.len.ensures in
+    let size : c.len.result ≡ length c.push_way.new.points.items = omega (arith, told) in (
+      ways-more parts i c.part_at.result.now c.loop-end.points.items c.push_way.new.points.items c.loop-end.ends.items c.push.new.self.items next.inside (c.part_at.ensures ∙ next.is) c.in_ok-push_way.ensures (c.in_ok-push.ensures.items ∙ ap (λ (n : ℕ). c.loop-end.ends.items ++ n ∷ []) size) so_far,
       next.stops,
     )
 

@@ -1,4 +1,4 @@
-use Rattle.std.proofs.Common.{◌≡◌, ◌≤◌, List, [], length, take, get_or, ap, sym, ◌∙◌, subst, arith}
+use Rattle.std.proofs.Common.{◌≡◌, ◌≤◌, List, [], length, take, get_or, refl, ap, sym, ◌∙◌, subst, arith}
 use Rattle.std.proofs.lemmas.List.{take_all}
 use Rattle.plane.specs.declared.edge.Edge.{Edge}
 use Rattle.overlay.specs.Snap.Offsets.{offsets}
@@ -10,7 +10,7 @@ use Rattle.overlay.proofs.StretchLemmas.CutGroups.{AreRefined-none}
 use Rattle.overlay.proofs.stretches.refining.refine.Goals as goal
 
 pub loop-place-init : goal.loop-place-init
-loop-place-init g c = λ parts are. (?, ([], AreRefined-none c.args.most c.args.busy.now, c.requires.empty))
+loop-place-init g c = λ parts are. (refl, ([], AreRefined-none c.args.most c.args.busy.now, c.requires.empty))
 
 pub refine_part-requires-clause-order : goal.refine_part-requires-clause-order
 refine_part-requires-clause-order g c =
@@ -33,7 +33,7 @@ loop-place-preserved g c = λ parts are.
     let (begins, so_far) = c.loop-place.invariant parts are in
     let next = IsNext-at parts c.args.edges.now c.args.ends.now c.loop-place.place c.loop-place.start are.0 c.loop-place-test.true begins in (
       next.stops,
-      refined-more c.args.most parts c.args.busy.now c.loop-place.place c.loop-place.start _ _ c.loop-place.refined.items c.refine_part.new.refined.items next.inside begins next.is ? c.in_ok-refine_part.ensures so_far,
+      refined-more c.args.most parts c.args.busy.now c.loop-place.place c.loop-place.start _ _ c.loop-place.refined.items c.refine_part.new.refined.items next.inside begins next.is refl c.in_ok-refine_part.ensures so_far,
     )
 
 pub returns : goal.returns

@@ -1,4 +1,4 @@
-use Rattle.std.proofs.Common.{◌≡◌, ◌≤◌, List, [], length, take, get_or, ap, sym, ◌∙◌, subst, arith}
+use Rattle.std.proofs.Common.{◌≡◌, ◌≤◌, ◌++◌, ◌∷◌, List, [], length, take, get_or, ap, sym, ◌∙◌, subst, arith}
 use Rattle.std.specs.List.{AllZip}
 use Rattle.std.proofs.lemmas.List.{take_all, take_more}
 use Rattle.plane.specs.declared.edge.Edge.{Edge}
@@ -28,7 +28,7 @@ loop-end-preserved g c = λ parts are.
     let next = IsNext-at parts c.args.edges.now c.args.ends.now i c.loop-end.start are.0 c.loop-end-test.true begins in
     let here = subst (λ (part : List Edge). IsSpan part c.span_of.result) (c.part_at.ensures ∙ next.is) c.span_of.ensures in (
       subst (λ (done : List (List Edge)). AllZip IsSpan done c.push.new.self.items) (sym (take_more parts i [] next.inside))
-          (subst (λ (spans : List Span). AllZip IsSpan _ spans) (sym c.in_ok-push.ensures.items) (AllZip-more IsSpan (take i parts) c.loop-end.spans.items (get_or parts i []) c.span_of.result so_far here)),
+          (subst (λ (spans : List Span). AllZip IsSpan (take i parts ++ get_or parts i [] ∷ []) spans) (sym c.in_ok-push.ensures.items) (AllZip-more IsSpan (take i parts) c.loop-end.spans.items (get_or parts i []) c.span_of.result so_far here)),
       next.stops,
     )
 
