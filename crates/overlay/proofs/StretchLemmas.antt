@@ -4,7 +4,17 @@ pub mod Apart
 pub mod Aside
 pub mod Bounding
 pub mod Boxes
+pub mod Callers
+pub mod Closed
 pub mod Columns
+pub mod CutCallers
+pub mod CutClear
+pub mod CutCounts
+pub mod CutGroups
+pub mod CutLines
+pub mod CutLists
+pub mod CutSpans
+pub mod CutWays
 pub mod Directed
 pub mod Distinct
 pub mod Entries
@@ -30,6 +40,7 @@ pub mod RingsOnce
 pub mod Rising
 pub mod Shifts
 pub mod Sides
+pub mod Sloped
 pub mod Table
 pub mod Turned
 pub mod Unbroken

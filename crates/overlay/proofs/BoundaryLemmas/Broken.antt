@@ -2,7 +2,7 @@
 use Rattle.std.proofs.Common.{◌≡◌, ◌<◌, ◌≤◌, ◌+◌, ◌-◌, ◌++◌, [], ◌∷◌, ℕ, suc, pos, List, length, drop, take, get_or, ap, ap₂, sym, subst, ◌∙◌, arith, refl}
 use Rattle.std.specs.List.{All, AllZip, flat_map}
 use Rattle.std.proofs.lemmas.Grind.{flat_map-append}
-use Rattle.std.proofs.lemmas.List.{length-append, length-take-le, take-append-drop}
+use Rattle.std.proofs.lemmas.List.{length-append, length-drop, length-take-le, take-append-drop, take_all}
 use Rattle.std.proofs.lemmas.List.Elements.{All-head, All-tail, Contains-get_or}
 use Rattle.i_tree.proofs.RootLemmas.Joined.{All-front}
 use Rattle.std.proofs.Math.Seq.{drop-append_seam, take-append_seam}
@@ -22,15 +22,20 @@ zip-append R (x ∷ xs) xs' (y ∷ ys) ys' first second = (first.0, zip-append R
 zip-append R [] xs' (y ∷ ys) ys' first second = absurd first
 zip-append R (x ∷ xs) xs' [] ys' first second = absurd first
 
-zip-front : {A B : Type 0} (R : A → B → Type 0) (xs xs' : List A) (ys : List B) → AllZip R (xs ++ xs') ys → AllZip R xs (take (length xs) ys)
+-- what the first list of two that are joined is zipped with, and what the second one is
+pub zip-front : {A B : Type 0} (R : A → B → Type 0) (xs xs' : List A) (ys : List B) → AllZip R (xs ++ xs') ys → AllZip R xs (take (length xs) ys)
 zip-front R [] xs' ys zip = tt
 zip-front R (x ∷ xs) xs' (y ∷ ys) zip = (zip.0, zip-front R xs xs' ys zip.1)
 zip-front R (x ∷ xs) xs' [] zip = absurd zip
 
-zip-back : {A B : Type 0} (R : A → B → Type 0) (xs xs' : List A) (ys : List B) → AllZip R (xs ++ xs') ys → AllZip R xs' (drop (length xs) ys)
+pub zip-back : {A B : Type 0} (R : A → B → Type 0) (xs xs' : List A) (ys : List B) → AllZip R (xs ++ xs') ys → AllZip R xs' (drop (length xs) ys)
 zip-back R [] xs' ys zip = zip
 zip-back R (x ∷ xs) xs' (y ∷ ys) zip = zip-back R xs xs' ys zip.1
 zip-back R (x ∷ xs) xs' [] zip = absurd zip
+
+-- what of a list is from a place on to its end
+pub rest-is : (items list : List Edge) (count : ℕ) → list ≡ items → take (length list - count) (drop count list) ≡ drop count items
+rest-is items list count is = take_all (length list - count) (drop count list) (let size = length-drop count list in omega (arith, size)) ∙ ap (λ (edges : List Edge). drop count edges) is
 
 -- the chains of both are those of all edges
 pub all-chains : (subject clip broken broken_clip : List Edge) (are : AreBroken subject clip broken broken_clip) → AreChains (subject ++ clip) (are.chains ++ are.clip_chains)

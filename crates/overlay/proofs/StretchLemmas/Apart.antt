@@ -14,7 +14,7 @@ use Rattle.overlay.proofs.StretchLemmas.Hulls.{IsNearHull, IsWithinHull, reach}
 
 -- ---- numbers
 
-abs-negative : (z : ℤ) → unsigned_abs (pos 0 -ℤ z) ≡ unsigned_abs z
+pub abs-negative : (z : ℤ) → unsigned_abs (pos 0 -ℤ z) ≡ unsigned_abs z
 abs-negative (pos zero) = refl
 abs-negative (pos (suc k)) = let below : pos 0 -ℤ pos (suc k) ≡ negsuc k = omega (arith, ints) in ap unsigned_abs below
 abs-negative (negsuc k) = let same : pos 0 -ℤ negsuc k ≡ pos (suc k) = omega (arith, ints) in ap unsigned_abs same

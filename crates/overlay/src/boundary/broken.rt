@@ -35,7 +35,7 @@ pub fn broken<A: Allocator + Copy>(
 }
 
 // The subject's edges and then the clip's.
-fn all_edges<A: Allocator>(
+pub(crate) fn all_edges<A: Allocator>(
     alloc: A,
     subject: &[Edge],
     clip: &[Edge],

@@ -1,3 +1,69 @@
-//! Stretches: edges that follow each other along x, where nothing else comes to, overlaid as their chords.
+//! Edges cut into stretches: points along which x rises, or falls, where no other edges come to them.
 
+ghost use Rattle.std.specs.Prelude.{◌≡◌, IfErr, IfOk, IfSome};
+ghost use Rattle.i_tree.specs.declared.Refusal.TheVariants.{OutOfMemory};
+ghost use Rattle.overlay.specs.Stretches.Cut.{AreCut};
+
+use crate::boundary::broken::all_edges;
+use cutting::{count_breaks, parts_of};
+use i_tree::Refusal;
+use joining::joined;
+use plane::edge::Edge;
+use plane::point::Point;
+use refining::relieved;
+use std::alloc::Allocator;
+
+pub mod chords;
+mod cutting;
+mod joining;
+mod lines;
+mod marking;
+mod refining;
+mod spans;
 pub mod widening;
+
+/// How many edges a part has at most before others come to it.
+const LONGEST: usize = 64;
+
+/// How many edges it has at most once some do.
+const SHORTER: usize = 8;
+
+/// The points of stretches, one after another, where each stops among these, and how many of them are the subject's.
+#[derive(Drop)]
+pub struct Stretches<A: Allocator> {
+    pub points: Vec<Point, A>,
+    pub ends: Vec<usize, A>,
+    pub count: usize,
+}
+
+/// The edges of both cut into stretches, or none where few would have several edges.
+///
+/// Edges that follow each other along x make parts, and the boxes of these are swept. Those whose boxes others come to are cut
+/// into shorter parts, and in the end into single edges.
+pub fn stretches_of<A: Allocator + Copy>(
+    alloc: A,
+    subject: &[Edge],
+    clip: &[Edge],
+) -> Result<Option<Stretches<A>>, Refusal>
+    ensures ok { IfOk result (λ found. IfSome found (λ told.
+        AreCut subject.now clip.now told.points.items told.ends.items told.count)) }
+    ensures refused { IfErr result (λ cause. cause ≡ OutOfMemory) }
+{
+    if are_short(subject, clip) {
+        return Ok(None);
+    }
+    let edges = all_edges(alloc, subject, clip)?;
+    let parts = parts_of(alloc, &edges, subject.len(), LONGEST)?;
+    let shorter = relieved(alloc, &edges, &parts, SHORTER)?;
+    let clear = relieved(alloc, &edges, &shorter, 1)?;
+    if clear.len() == edges.len() {
+        return Ok(None);
+    }
+    Ok(Some(joined(alloc, &edges, &clear, subject.len())?))
+}
+
+// Whether more than a quarter of the edges don't follow the ones before.
+fn are_short(subject: &[Edge], clip: &[Edge]) -> bool {
+    let quarter = subject.len() / 4 + clip.len() / 4;
+    count_breaks(subject) > quarter || count_breaks(clip) > quarter
+}

@@ -1,0 +1,227 @@
+-- What the code that cuts edges asks, as lemmas over plain variables.
+use Rattle.std.proofs.Common.{◌≡◌, ◌⊎◌, inl, inr, ℕ, zero, suc, ◌+◌, ◌-◌, ◌<◌, ◌≤◌, Bool, true, false, leb, List, [], ◌∷◌, ◌++◌, length, get_or, map, take, drop, refl, sym, ap, ap₂, ◌∙◌, subst, subst₂, append-nil, append_assoc, arith}
+use Rattle.std.specs.List.{All, AllPairs, AllZip, between, count_by, flat_map}
+use Rattle.std.proofs.lemmas.List.{flat_map_more, length-append, length-drop, length-map, length-take-le, map-append, take-append-drop, take_all, take_more}
+use Rattle.std.proofs.lemmas.List.Elements.{All-append, All-push, All-weaker}
+use Rattle.std.proofs.Math.Seq.{drop-append_seam, take-append_seam}
+use Rattle.plane.specs.declared.edge.Edge.{Edge}
+use Rattle.plane.specs.declared.point.Point.{Point}
+use Rattle.overlay.specs.Boundary.{AllSome}
+use Rattle.overlay.specs.Snap.Offsets.{AreJoined, offsets}
+use Rattle.overlay.specs.Stretches.{AreClear, IsLong}
+use Rattle.overlay.specs.Stretches.Cut.{AreCut, AreParts, AreRefined, AreRelieved, AreSplit, IsCutInto, IsPart, IsSettled, way}
+use Rattle.overlay.proofs.ChainLemmas.Offsets.{joined, offset-at}
+use Rattle.overlay.proofs.ChainLemmas.Runs.{length-between, offsets-more}
+use Rattle.overlay.proofs.SnapLemmas.Standing.{length-offsets}
+use Rattle.overlay.proofs.StretchLemmas.CutCounts.{count-upto}
+use Rattle.overlay.proofs.StretchLemmas.CutGroups.{AreRefined-more, AreSplit-cut, AreStretches-ways, clear-parts}
+use Rattle.overlay.proofs.StretchLemmas.CutLists.{between-joined, joined-append, joined-cut, offsets-append}
+
+-- ---- parts so far, and one more
+
+abbrev pub IsCutSoFar : List Edge → ℕ → ℕ → ℕ → List ℕ → List ℕ → Type 0
+IsCutSoFar edges from next most before ends =
+    (parts : List (List Edge)) × (between from next edges ≡ joined parts) × All IsPart parts × All (λ part. length part ≤ most) parts × (ends ≡ before ++ offsets from parts)
+
+pub cut-more : (edges : List Edge) (from next after most : ℕ) (before ends ends' : List ℕ) → from ≤ next → next < after → after ≤ length edges → after ≤ next + most
+    → IsPart (between next after edges) → ends' ≡ ends ++ after ∷ [] → IsCutSoFar edges from next most before ends → IsCutSoFar edges from after most before ends'
+cut-more edges from next after most before ends ends' rising later inside small is pushed (parts, cut, each, few, stops) = (
+  parts ++ part ∷ [],
+  between-joined from next after edges rising (omega (arith, later)) ∙ ap (λ (done : List Edge). done ++ part) cut ∙ flat_map_more (λ (list : List Edge). list) [] parts part,
+  All-push IsPart parts part each is,
+  All-push (λ part. length part ≤ most) parts part few (let n = size in omega (arith, n, small)),
+  pushed ∙ ap₂ (λ (list : List ℕ) (n : ℕ). list ++ n ∷ []) stops here
+      ∙ append_assoc before (offsets from parts) (((from + length (joined parts)) + length part) ∷ [])
+      ∙ ap (λ (list : List ℕ). before ++ list) (sym (offsets-more from parts part)),
+)
+  where
+    part : List Edge
+    part = between next after edges
+
+    size : length part ≡ after - next
+    size = length-between next after edges (omega (arith, later)) inside
+
+    here : after ≡ (from + length (joined parts)) + length part
+    here =
+        let so_far = length-between from next edges rising (omega (arith, later, inside)) in
+        let same = ap (λ (done : List Edge). length done) cut in
+        let n = size in
+        omega (arith, so_far, same, n, rising, later)
+
+-- both sides, one after the other
+pub AreSplit-both : (edges : List Edge) (bound most : ℕ) (none first second : List ℕ) → bound ≤ length edges → none ≡ []
+    → IsCutSoFar edges 0 bound most none first → IsCutSoFar edges bound (length edges) most first second
+    → (front : List (List Edge)) × (back : List (List Edge)) × AreSplit edges bound second front back
+AreSplit-both edges bound most none first second inside empty (front, cut, each, few, stops) (back, cut', each', few', stops') = (
+  front,
+  back,
+  (
+    front_is,
+    sym (take_all (length edges - bound) (drop bound edges) (omega (arith, length-drop bound edges))) ∙ cut',
+    stops' ∙ ap (λ (list : List ℕ). list ++ offsets bound back) (stops ∙ ap (λ (list : List ℕ). list ++ offsets 0 front) empty)
+        ∙ ap (λ (n : ℕ). offsets 0 front ++ offsets n back) at_bound ∙ sym (offsets-append 0 front back),
+    All-append IsPart front back each each',
+  ),
+)
+  where
+    front_is : take bound edges ≡ joined front
+    front_is = ap (λ (n : ℕ). take n edges) (let e : bound ≡ bound - 0 = omega arith in e) ∙ cut
+
+    at_bound : bound ≡ 0 + length (joined front)
+    at_bound =
+        let size = length-take-le bound edges inside in
+        let same = ap (λ (list : List Edge). length list) front_is in
+        omega (arith, size, same)
+
+-- ---- one part that is cut anew, or not
+
+pub cut-kept : (edges : List Edge) (start end most : ℕ) (busy : Bool) (before after : List ℕ) → start ≤ end → end ≤ length edges → IsPart (between start end edges) → busy ≡ false
+    → after ≡ before ++ end ∷ []
+    → (group : List (List Edge)) × IsCutInto (between start end edges) group × (busy ≡ false → group ≡ between start end edges ∷ [])
+    × (busy ≡ true → All (λ part. length part ≤ most) group) × (after ≡ before ++ offsets start group)
+cut-kept edges start end most busy before after rising inside is quiet pushed = (
+  part ∷ [],
+  record { is = sym (append-nil part); each = λ k d within. single k d within },
+  (λ same. refl),
+  (λ same. absurd (differ busy same quiet)),
+  pushed ∙ ap (λ (n : ℕ). before ++ n ∷ []) (let size = length-between start end edges rising inside in omega (arith, size, rising)),
+)
+  where
+    part : List Edge
+    part = between start end edges
+
+    single : All IsPart (part ∷ [])
+    single zero d within = is
+    single (suc k) d within = absurd (omega (arith, within))
+
+    differ : (b : Bool) → b ≡ true → b ≡ false → ⊥
+    differ b set unset = cc
+
+pub cut-anew : (edges : List Edge) (start end most : ℕ) (busy : Bool) (before after : List ℕ) → busy ≡ true → IsCutSoFar edges start end most before after
+    → (group : List (List Edge)) × IsCutInto (between start end edges) group × (busy ≡ false → group ≡ between start end edges ∷ [])
+    × (busy ≡ true → All (λ part. length part ≤ most) group) × (after ≡ before ++ offsets start group)
+cut-anew edges start end most busy before after marked (parts, cut, each, few, stops) =
+    (parts, record { is = cut; each = each }, (λ quiet. absurd (differ busy marked quiet)), (λ same. few), stops)
+  where
+    differ : (b : Bool) → b ≡ true → b ≡ false → ⊥
+    differ b set unset = cc
+
+-- ---- all parts
+
+pub AreParts-split : (edges : List Edge) (bound : ℕ) (ends : List ℕ) (front back : List (List Edge)) → AreSplit edges bound ends front back → AreParts edges ends (front ++ back)
+AreParts-split edges bound ends front back (first, second, stops, each) = (
+  (sym (take-append-drop bound edges) ∙ ap₂ (λ (a b : List Edge). a ++ b) first second ∙ sym (joined-append front back), stops),
+  each,
+)
+
+pub refined-more : (most : ℕ) (parts : List (List Edge)) (busy : List Bool) (i start : ℕ) (part : List Edge) (mark : Bool) (refined refined' : List ℕ) → i < length parts
+    → start ≡ length (joined (take i parts)) → part ≡ get_or parts i [] → mark ≡ get_or busy i false
+    → ((group : List (List Edge)) × IsCutInto part group × (mark ≡ false → group ≡ part ∷ []) × (mark ≡ true → All (λ part. length part ≤ most) group) × (refined' ≡ refined ++ offsets start group))
+    → ((groups : List (List (List Edge))) × AreRefined most (take i parts) groups busy × (refined ≡ offsets 0 (joined groups)))
+    → (groups : List (List (List Edge))) × AreRefined most (take (i + 1) parts) groups busy × (refined' ≡ offsets 0 (joined groups))
+refined-more most parts busy i start part mark refined refined' inside begins is marked (group, cut, keeps, cuts, more) (groups, so_far, stops) = (
+  groups ++ group ∷ [],
+  subst (λ (done : List (List Edge)). AreRefined most done (groups ++ group ∷ []) busy) (ap (λ (one : List Edge). take i parts ++ one ∷ []) is ∙ sym (take_more parts i [] inside))
+      (AreRefined-more most (take i parts) groups busy part group mark so_far
+      (marked ∙ ap (λ (n : ℕ). get_or busy n false) (sym (length-take-le i parts (omega (arith, inside))))) cut keeps cuts),
+  more ∙ ap₂ (λ (list : List ℕ) (n : ℕ). list ++ offsets n group) stops here
+      ∙ sym (offsets-append 0 (joined groups) group)
+      ∙ ap (λ (lists : List (List Edge)). offsets 0 lists) (flat_map_more (λ (list : List (List Edge)). list) [] groups group),
+)
+  where
+    here : start ≡ 0 + length (joined (joined groups))
+    here =
+        let same = ap (λ (list : List Edge). length list) (joined-cut IsCutInto (λ list group is. is.is) (take i parts) groups so_far.cut) in
+        omega (arith, begins, same)
+
+-- where the list at a place begins
+pub begins-at : (parts : List (List Edge)) (ends : List ℕ) (place d : ℕ) → ends ≡ offsets 0 parts → place < length ends → 0 < place → get_or ends (place - 1) d ≡ length (joined (take place parts))
+begins-at parts ends place d are within some =
+    let size = length-offsets 0 parts in
+    let same = ap (λ (list : List ℕ). length list) are in
+    let at = offset-at 0 parts (place - 1) d (omega (arith, within, size, same, some)) in
+    let back : suc (place - 1) ≡ place = omega (arith, some) in
+    let here = ap (λ (n : ℕ). length (joined (take n parts))) back in
+    let read = ap (λ (list : List ℕ). get_or list (place - 1) d) are in
+    omega (arith, at, here, read)
+
+-- a pair stays settled where marks stay
+pub IsSettled-kept : (parts : List (List Edge)) (before after : List Bool) (pair : ℕ × ℕ) → ((k : ℕ) → get_or before k false ≡ true → get_or after k false ≡ true) → IsSettled parts before pair → IsSettled parts after pair
+IsSettled-kept parts before after pair keeps (inl (one, other)) = inl (keeps pair.0 one, keeps pair.1 other)
+IsSettled-kept parts before after pair keeps (inr apart) = inr apart
+
+-- ---- ways
+
+pub ways-more : (lists : List (List Edge)) (i : ℕ) (part : List Edge) (points points' : List Point) (ends ends' : List ℕ) → i < length lists → part ≡ get_or lists i []
+    → points' ≡ points ++ way part → ends' ≡ ends ++ length points' ∷ [] → AreJoined (map way (take i lists)) points ends → AreJoined (map way (take (i + 1) lists)) points' ends'
+ways-more lists i part points points' ends ends' inside is gained stops (are, at) = subst (λ (ways : List (List Point)). AreJoined ways points' ends') (sym more) (all, stops ∙ ap₂ (λ (list : List ℕ) (n : ℕ). list ++ n ∷ []) at here ∙ sym (offsets-more 0 done (way part)))
+  where
+    done : List (List Point)
+    done = map way (take i lists)
+
+    more : map way (take (i + 1) lists) ≡ done ++ way part ∷ []
+    more = ap (map way) (take_more lists i [] inside) ∙ map-append way (take i lists) (get_or lists i [] ∷ []) ∙ ap (λ (one : List Edge). done ++ way one ∷ []) (sym is)
+
+    all : points' ≡ joined (done ++ way part ∷ [])
+    all = gained ∙ ap (λ (list : List Point). list ++ way part) are ∙ flat_map_more (λ (list : List Point). list) [] done (way part)
+
+    here : length points' ≡ (0 + length (joined done)) + length (way part)
+    here =
+        let a = ap (λ (list : List Point). length list) gained in
+        let b = length-append points (way part) in
+        let c = ap (λ (list : List Point). length list) are in
+        omega (arith, a, b, c)
+
+-- ---- one round after another
+
+-- the parts of both sides, where the edges and the ends are read as these
+pub given-parts : (edges given : List Edge) (ends given_ends : List ℕ) (bound : ℕ) → given ≡ edges → given_ends ≡ ends
+    → (front : List (List Edge)) × (back : List (List Edge)) × AreSplit edges bound ends front back → (parts : List (List Edge)) × AreParts given given_ends parts
+given-parts edges given ends given_ends bound same same_ends (front, back, split) =
+    (front ++ back, subst₂ (λ (list : List Edge) (stops : List ℕ). AreParts list stops (front ++ back)) (sym same) (sym same_ends) (AreParts-split edges bound ends front back split))
+
+-- what they are cut into
+pub given-cut : (edges given : List Edge) (ends given_ends refined : List ℕ) (bound most : ℕ) → given ≡ edges → given_ends ≡ ends
+    → ((parts : List (List Edge)) → AreParts given given_ends parts → (groups : List (List (List Edge))) × AreRelieved most parts groups × (refined ≡ offsets 0 (joined groups)))
+    → (front back : List (List Edge)) → AreSplit edges bound ends front back
+    → (groups : List (List (List Edge))) × AreRelieved most (front ++ back) groups × (refined ≡ offsets 0 (joined groups))
+given-cut edges given ends given_ends refined bound most same same_ends cuts front back split =
+    cuts (front ++ back) (subst₂ (λ (list : List Edge) (stops : List ℕ). AreParts list stops (front ++ back)) (sym same) (sym same_ends) (AreParts-split edges bound ends front back split))
+
+pub next-split : (edges given : List Edge) (ends given_ends refined : List ℕ) (bound most : ℕ) → given ≡ edges → given_ends ≡ ends
+    → ((parts : List (List Edge)) → AreParts given given_ends parts → (groups : List (List (List Edge))) × AreRelieved most parts groups × (refined ≡ offsets 0 (joined groups)))
+    → (front : List (List Edge)) × (back : List (List Edge)) × AreSplit edges bound ends front back
+    → (front : List (List Edge)) × (back : List (List Edge)) × AreSplit edges bound refined front back
+next-split edges given ends given_ends refined bound most same same_ends cuts (front, back, split) =
+    let (groups, relieved, stops) = given-cut edges given ends given_ends refined bound most same same_ends cuts front back split in
+    (joined (take (length front) groups), joined (drop (length front) groups), AreSplit-cut edges bound ends refined front back groups split relieved.refined.cut stops)
+
+-- ---- the result
+
+pub AreCut-last : (subject clip edges : List Edge) (ends refined : List ℕ) (front back : List (List Edge)) (groups : List (List (List Edge))) (points : List Point) (stops : List ℕ) (count : ℕ)
+    → edges ≡ subject ++ clip → AreSplit edges (length subject) ends front back → AreRelieved 1 (front ++ back) groups → refined ≡ offsets 0 (joined groups)
+    → ((lists : List (List Edge)) → AreParts edges refined lists → AreJoined (map way lists) points stops)
+    → count ≡ count_by (λ end. leb end (length subject)) refined
+    → AreCut subject clip points stops count
+AreCut-last subject clip edges ends refined front back groups points stops count are split relieved at told counted = (
+  map way (joined (take (length front) groups)),
+  map way (joined (drop (length front) groups)),
+  AreStretches-ways subject clip (joined (take (length front) groups)) (joined (drop (length front) groups)) front_is back_is split'.3
+      (subst (AllPairs (λ one other. (IsLong (way one)) ⊎ (IsLong (way other)) → AreClear (way one) (way other))) whole (clear-parts (front ++ back) groups split.3 relieved)),
+  subst (λ (ways : List (List Point)). AreJoined ways points stops) (map-append way (joined (take (length front) groups)) (joined (drop (length front) groups))) (told ((joined (take (length front) groups)) ++ (joined (drop (length front) groups))) (AreParts-split edges (length subject) refined (joined (take (length front) groups)) (joined (drop (length front) groups)) split')),
+  counted ∙ ap₂ (λ (n : ℕ) (list : List ℕ). count_by (λ end. leb end n) list) (ap (λ (list : List Edge). length list) front_is) split'.2
+      ∙ count-upto (joined (take (length front) groups)) (joined (drop (length front) groups)) (All-weaker IsPart (λ part. 0 < length part) (λ part is. is.some) ((joined (take (length front) groups)) ++ (joined (drop (length front) groups))) split'.3)
+      ∙ sym (length-map (joined (take (length front) groups)) way),
+)
+  where
+    split' : AreSplit edges (length subject) refined (joined (take (length front) groups)) (joined (drop (length front) groups))
+    split' = AreSplit-cut edges (length subject) ends refined front back groups split relieved.refined.cut at
+
+    front_is : subject ≡ joined (joined (take (length front) groups))
+    front_is = sym (ap (λ (list : List Edge). take (length subject) list) are ∙ take-append_seam subject clip) ∙ split'.0
+
+    back_is : clip ≡ joined (joined (drop (length front) groups))
+    back_is = sym (ap (λ (list : List Edge). drop (length subject) list) are ∙ drop-append_seam subject clip) ∙ split'.1
+
+    whole : joined groups ≡ (joined (take (length front) groups)) ++ (joined (drop (length front) groups))
+    whole = ap (λ (all : List (List (List Edge))). joined all) (sym (take-append-drop (length front) groups)) ∙ joined-append (take (length front) groups) (drop (length front) groups)

@@ -1,0 +1,246 @@
+-- Parts whose spans don't meet are clear of each other, and so are points of the one and points of the other.
+use Rattle.std.proofs.Common.{◌≡◌, ◌⊎◌, inl, inr, ⊎_elim, Bool, true, false, not, ℕ, suc, ℤ, pos, negsuc, ◌+◌, ◌+ℤ◌, ◌*ℤ◌, cond, ◌<◌, ◌<ℤ◌, ◌≤ℤ◌, IsTrue, List, [], ◌∷◌, length, get_or, sym, ap, ap₂, subst, arith, rules}
+use Rattle.std.specs.Bool.{MatchBool, OnTrue}
+use Rattle.std.specs.Int.{int_max, int_min}
+use Rattle.std.specs.Int.RustNames.{unsigned_abs}
+use Rattle.std.specs.Int.Signed.{lt_z}
+use Rattle.std.specs.List.{All, Contains}
+use Rattle.std.proofs.lemmas.Bool.{OnTrue_at, OnTrue_from}
+use Rattle.std.proofs.lemmas.Int.{by_lt_z, clamps, ints}
+use Rattle.std.proofs.lemmas.List.Elements.{All-nil, All-cons, All-contains, All-head, All-tail, All-weaker}
+use Rattle.plane.specs.declared.edge.Edge.{Edge}
+use Rattle.plane.specs.declared.point.Point.{Point}
+use Rattle.plane.specs.Pairs.Bounds.{BoundsMeet, MeetInBoxes}
+use Rattle.overlay.specs.Stretches.{AreClear, AreApart, GoesOn, further}
+use Rattle.overlay.specs.Stretches.Cut.{AreClearParts, way}
+use Rattle.overlay.specs.Stretches.Spans.{AreSeveral, ComeNear, IsSpan, IsWithin, LeadsTo, SpansMeet, beside, bounds_of_span}
+use Rattle.overlay.specs.declared.stretches.spans.Span.{Span}
+use Rattle.overlay.proofs.StretchLemmas.Apart.{AreApart-exchanged}
+
+-- ---- as the sweep asks it
+
+beside-from : (side : ℤ) → side ≤ℤ beside side
+beside-from side = by (lt_z side (pos 2147483647))
+  where
+    by : (b : Bool) → side ≤ℤ cond b (side +ℤ pos 1) side
+    by true = omega (arith, ints)
+    by false = omega (arith, ints)
+
+-- what lies beyond the next number lies more than a unit away
+beside-beyond : (side z : ℤ) → z ≤ℤ pos 2147483647 → beside side <ℤ z → (side +ℤ pos 1) <ℤ z
+beside-beyond side z fits =
+    by_lt_z side (pos 2147483647)
+    (λ less. λ beyond. subst (λ (b : Bool). cond b (side +ℤ pos 1) side <ℤ z) (true_of less) beyond)
+    (λ most. λ beyond. let from = beside-from side in absurd (omega (arith, ints, most, fits, beyond, from)))
+  where
+    true_of : side <ℤ pos 2147483647 → lt_z side (pos 2147483647) ≡ true
+    true_of less = search rules
+
+wider : (a b : ℤ) → int_min a b ≤ℤ beside (int_max a b)
+wider a b = let from = beside-from (int_max a b) in omega (arith, ints, clamps, from)
+
+apart-boxes : (a b c d : ℤ) → c ≤ℤ pos 2147483647 → beside (int_max a b) <ℤ int_min c d → (b +ℤ pos 1) <ℤ c
+apart-boxes a b c d fits beyond =
+    let least : int_min c d ≤ℤ pos 2147483647 = omega (arith, ints, clamps, fits) in
+    let more = beside-beyond (int_max a b) (int_min c d) least beyond in
+    omega (arith, ints, clamps, more)
+
+pub spans-in_boxes : MeetInBoxes bounds_of_span SpansMeet
+spans-in_boxes = record {
+  proper = λ span. record { wide = wider span.left.x span.right.x; tall = wider span.low span.high };
+  exchanged = λ one other meet. let boxes = meet.near.boxes in record {
+    near = record {
+      several = exchange one other meet.near.several;
+      boxes = record { left = boxes.right; right = boxes.left; low = boxes.high; high = boxes.low };
+    };
+    apart = λ either. meet.apart (turn one other either);
+  };
+  near = λ one other meet. meet.near.boxes;
+}
+  where
+    exchange : (one other : Span) → AreSeveral one other → AreSeveral other one
+    exchange one other (inl is) = inr is
+    exchange one other (inr is) = inl is
+
+    turn : (one other : Span) → LeadsTo other one ⊎ LeadsTo one other → LeadsTo one other ⊎ LeadsTo other one
+    turn one other (inl leads) = inr leads
+    turn one other (inr leads) = inl leads
+
+-- of two facts that make a third, by the tests of both
+pub both_tested : (first second : Bool) (P Q R : Type 0) → (R → P) → (R → Q) → (P → Q → R) → MatchBool first P (¬ P) → MatchBool second Q (¬ Q) → first ≡ true → MatchBool second R (¬ R)
+both_tested true true P Q R one other makes is is_too same = makes is is_too
+both_tested true false P Q R one other makes is none same = λ r. none (other r)
+both_tested false second P Q R one other makes is said same = absurd (cc)
+
+pub first_fails : (first : Bool) (P R : Type 0) → (R → P) → MatchBool first P (¬ P) → first ≡ false → MatchBool false R (¬ R)
+first_fails false P R one none same = λ r. none (one r)
+first_fails true P R one is same = absurd (cc)
+
+-- what a test shows shows what follows from that
+pub OnTrue-weaker : (b : Bool) (P Q : Type 0) → (P → Q) → OnTrue b P → OnTrue b Q
+OnTrue-weaker b P Q makes is = OnTrue_from b Q (λ set. makes (OnTrue_at set is))
+
+pub denied : (b : Bool) (P : Type 0) → MatchBool b P (¬ P) → MatchBool (not b) (¬ P) (¬ (¬ P))
+denied true P is = λ none. none is
+denied false P none = none
+
+-- ---- tests
+
+same_point : (p q : Point) → p.x ≡ q.x → p.y ≡ q.y → p ≡ q
+same_point p q x y = ap₂ (λ (a b : ℤ). let point : Point = record { x = a; y = b } in point) x y
+
+equal_or : (a b : ℤ) → (a ≡ b) ⊎ (a ≡ b → ⊥)
+equal_or a b =
+    by_lt_z a b (λ below. inr (λ same. omega (arith, ints, below, same)))
+    (λ upto. by_lt_z b a (λ above. inr (λ same. omega (arith, ints, above, same))) (λ from. inl (omega (arith, ints, upto, from))))
+
+bool_or : (b : Bool) → IsTrue b ⊎ (IsTrue b → ⊥)
+bool_or true = inl (search rules)
+bool_or false = inr (λ is. (let h = is in search rules))
+
+same_or : (p q : Point) → (p ≡ q) ⊎ (p ≡ q → ⊥)
+same_or p q = elim (equal_or p.x q.x) [
+  | inl x ↦ elim (equal_or p.y q.y) [
+    | inl y ↦ inl (same_point p q x y)
+    | inr differs ↦ inr (λ same. differs (ap (λ (r : Point). r.y) same))
+  ]
+  | inr differs ↦ inr (λ same. differs (ap (λ (r : Point). r.x) same))
+]
+
+leads_or : (one other : Span) → LeadsTo one other ⊎ (LeadsTo one other → ⊥)
+leads_or one other = elim (bool_or one.closes) [
+  | inl closes ↦ elim (bool_or other.opens) [
+    | inl opens ↦ elim (same_or one.right other.left) [
+      | inl same ↦ inl (record { closes = closes; opens = opens; at = same })
+      | inr differs ↦ inr (λ leads. differs leads.at)
+    ]
+    | inr none ↦ inr (λ leads. none leads.opens)
+  ]
+  | inr none ↦ inr (λ leads. none leads.closes)
+]
+
+-- ---- apart, or going on
+
+-- some point is this one, or all are others
+this_more : (c : Point) (P : Point → Type 0) (p : Point) (points : List Point) → (p ≡ c) ⊎ P p → Contains points c ⊎ All P points → Contains (p ∷ points) c ⊎ All P (p ∷ points)
+this_more c P p points (inl same) rest = inl (0, omega arith, same)
+this_more c P p points (inr is) (inl (k, within, at)) = inl (suc k, omega (arith, within), at)
+this_more c P p points (inr is) (inr others) = inr (All-cons P p points is others)
+
+this_or : (c : Point) (P : Point → Type 0) (points : List Point) → All (λ p. (p ≡ c) ⊎ P p) points → Contains points c ⊎ All P points
+this_or c P [] all = inr (All-nil P)
+this_or c P (p ∷ points) all =
+    this_more c P p points (All-head (λ q. (q ≡ c) ⊎ P q) p points all) (this_or c P points (All-tail (λ q. (q ≡ c) ⊎ P q) p points all))
+
+apart_right : (some others : List Point) → ((p q : Point) → Contains some p → Contains others q → (p.x +ℤ pos 1) <ℤ q.x) → AreApart some others
+apart_right some others order = record {
+  u = pos 1;
+  v = pos 0;
+  beyond = λ p q held held'. let a = order p q held held' in omega (arith, ints, a);
+}
+
+module _ (one other : List Edge) (span next : Span) (is : IsSpan one span) (is_next : IsSpan other next)
+    (some others : List Point) (of : All (Contains (way one)) some) (of_others : All (Contains (way other)) others) where
+  within : (p : Point) → Contains some p → IsWithin span p
+  within p held = All-contains (IsWithin span) (way one) p is.within (All-contains (Contains (way one)) some p of held)
+
+  within_next : (q : Point) → Contains others q → IsWithin next q
+  within_next q held = All-contains (IsWithin next) (way other) q is_next.within (All-contains (Contains (way other)) others q of_others held)
+
+  left_of : (span.right.x +ℤ pos 1) <ℤ next.left.x → AreApart some others
+  left_of order = record {
+    u = pos 1;
+    v = pos 0;
+    beyond = λ p q held held'. let a = (within p held).right in let b = (within_next q held').left in omega (arith, ints, order, a, b);
+  }
+
+  right_of : (next.right.x +ℤ pos 1) <ℤ span.left.x → AreApart some others
+  right_of order = record {
+    u = negsuc 0;
+    v = pos 0;
+    beyond = λ p q held held'. let a = (within p held).left in let b = (within_next q held').right in omega (arith, ints, order, a, b);
+  }
+
+  below : (span.high +ℤ pos 1) <ℤ next.low → AreApart some others
+  below order = record {
+    u = pos 0;
+    v = pos 1;
+    beyond = λ p q held held'. let a = (within p held).high in let b = (within_next q held').low in omega (arith, ints, order, a, b);
+  }
+
+  above : (next.high +ℤ pos 1) <ℤ span.low → AreApart some others
+  above order = record {
+    u = pos 0;
+    v = negsuc 0;
+    beyond = λ p q held held'. let a = (within p held).low in let b = (within_next q held').high in omega (arith, ints, order, a, b);
+  }
+
+  -- the one ends where the other begins
+  going : LeadsTo span next → (AreApart some others) ⊎ (GoesOn some others)
+  going leads = on (this_or span.right (λ p. (p.x +ℤ pos 1) <ℤ span.right.x) some ends) (this_or span.right (λ q. (span.right.x +ℤ pos 1) <ℤ q.x) others begins)
+    where
+      ends : All (λ p. (p ≡ span.right) ⊎ ((p.x +ℤ pos 1) <ℤ span.right.x)) some
+      ends = All-weaker (Contains (way one)) (λ p. (p ≡ span.right) ⊎ ((p.x +ℤ pos 1) <ℤ span.right.x)) (λ p held. All-contains (λ p. (p ≡ span.right) ⊎ ((p.x +ℤ pos 1) <ℤ span.right.x)) (way one) p (is.rightmost leads.closes) held) some of
+
+      begins : All (λ q. (q ≡ span.right) ⊎ ((span.right.x +ℤ pos 1) <ℤ q.x)) others
+      begins =
+          subst (λ (e : Point). All (λ q. (q ≡ e) ⊎ ((e.x +ℤ pos 1) <ℤ q.x)) others) (sym leads.at)
+          (All-weaker (Contains (way other)) (λ q. (q ≡ next.left) ⊎ ((next.left.x +ℤ pos 1) <ℤ q.x)) (λ q held. All-contains (λ q. (q ≡ next.left) ⊎ ((next.left.x +ℤ pos 1) <ℤ q.x)) (way other) q (is_next.leftmost leads.opens) held) others of_others)
+
+      at_x : span.right.x ≡ next.left.x
+      at_x = ap (λ (p : Point). p.x) leads.at
+
+      left_near : (p : Point) → (p ≡ span.right) ⊎ ((p.x +ℤ pos 1) <ℤ span.right.x) → (p ≡ span.right) ⊎ (p.x <ℤ span.right.x)
+      left_near p (inl same) = inl same
+      left_near p (inr less) = inr (omega (arith, ints, less))
+
+      right_near : (q : Point) → (q ≡ span.right) ⊎ ((span.right.x +ℤ pos 1) <ℤ q.x) → (q ≡ span.right) ⊎ (span.right.x <ℤ q.x)
+      right_near q (inl same) = inl same
+      right_near q (inr more) = inr (omega (arith, ints, more))
+
+      on : Contains some span.right ⊎ All (λ p. (p.x +ℤ pos 1) <ℤ span.right.x) some → Contains others span.right ⊎ All (λ q. (span.right.x +ℤ pos 1) <ℤ q.x) others → (AreApart some others) ⊎ (GoesOn some others)
+      on (inl held) (inl held_too) = inr (record {
+        at = span.right;
+        of = held;
+        of_others = held_too;
+        left = λ p inside. left_near p (All-contains (λ p. (p ≡ span.right) ⊎ ((p.x +ℤ pos 1) <ℤ span.right.x)) some p ends inside);
+        right = λ q inside. right_near q (All-contains (λ q. (q ≡ span.right) ⊎ ((span.right.x +ℤ pos 1) <ℤ q.x)) others q begins inside);
+      })
+      on (inr before) second = inl (apart_right some others (λ p q held held'. let a = All-contains (λ p. (p.x +ℤ pos 1) <ℤ span.right.x) some p before held in let b = (within_next q held').left in omega (arith, ints, a, b, at_x)))
+      on (inl held) (inr behind) = inl (apart_right some others (λ p q inside inside'. let a = (within p inside).right in let b = All-contains (λ q. (span.right.x +ℤ pos 1) <ℤ q.x) others q behind inside' in omega (arith, ints, a, b)))
+
+pub clear-of_spans : (one other : List Edge) (span next : Span) → IsSpan one span → IsSpan other next → (SpansMeet span next → ⊥) → AreClearParts one other
+clear-of_spans one other span next is is_next apart = λ several some others of of_others.
+    by_lt_z (bounds_of_span next).right (bounds_of_span span).left
+    (λ order. inl (right_of one other span next is is_next some others of of_others (apart-boxes next.left.x next.right.x span.left.x span.right.x is.fits.0 order)))
+    (λ left. by_lt_z (bounds_of_span span).right (bounds_of_span next).left
+    (λ order. inl (left_of one other span next is is_next some others of of_others (apart-boxes span.left.x span.right.x next.left.x next.right.x is_next.fits.0 order)))
+    (λ right. by_lt_z (bounds_of_span next).high (bounds_of_span span).low
+    (λ order. inl (above one other span next is is_next some others of of_others (apart-boxes next.low next.high span.low span.high is.fits.1 order)))
+    (λ low. by_lt_z (bounds_of_span span).high (bounds_of_span next).low
+    (λ order. inl (below one other span next is is_next some others of of_others (apart-boxes span.low span.high next.low next.high is_next.fits.1 order)))
+    (λ high. elim (leads_or span next) [
+      | inl leads ↦ forth some others (going one other span next is is_next some others of of_others leads)
+      | inr before ↦ elim (leads_or next span) [
+        | inl leads ↦ back some others (going other one next span is_next is others some of_others of leads)
+        | inr after ↦ absurd (apart (record {
+          near = record {
+            several = many several;
+            boxes = record { left = left; right = right; low = low; high = high };
+          };
+          apart = λ either. ⊎_elim before after either;
+        }))
+      ]
+    ]))))
+  where
+    forth : (some others : List Point) → (AreApart some others) ⊎ (GoesOn some others) → AreClear some others
+    forth some others (inl apart) = inl apart
+    forth some others (inr goes) = inr (inl goes)
+
+    back : (some others : List Point) → (AreApart others some) ⊎ (GoesOn others some) → AreClear some others
+    back some others (inl apart) = inl (AreApart-exchanged others some apart)
+    back some others (inr goes) = inr (inr goes)
+
+    many : (1 < length one) ⊎ (1 < length other) → AreSeveral span next
+    many (inl more) = inl (is.several more)
+    many (inr more) = inr (is_next.several more)

@@ -1,0 +1,277 @@
+-- Parts that are cut anew: where each is busy or clear of all others, and those that are busy are cut into single edges, their points are stretches.
+use Rattle.std.proofs.Common.{◌≡◌, ◌≢◌, ◌⊎◌, inl, inr, ℕ, zero, suc, ◌+◌, ◌<◌, ◌≤◌, Bool, true, false, List, [], ◌∷◌, ◌++◌, Some, length, get_or, map, take, drop, refl, sym, ap, ap₂, ◌∙◌, subst, append-nil, arith}
+use Rattle.std.specs.List.{All, AllPairs, AllZip, Contains, flat_map, slice_get}
+use Rattle.std.proofs.lemmas.Bool.{cases_Bool, cases_eq}
+use Rattle.std.proofs.lemmas.Grind.{flat_map-append}
+use Rattle.std.proofs.lemmas.List.{get_or_default, length-append, map-append, take-append-drop}
+use Rattle.std.proofs.lemmas.List.Elements.{All-append, All-contains, All-from_get_or, All-weaker, Contains-get_or}
+use Rattle.std.proofs.lemmas.Option.{slice_get-get_or, slice_get_within}
+use Rattle.std.proofs.Math.Seq.{drop-append_seam, take-append_seam}
+use Rattle.i_tree.proofs.RootLemmas.Joined.{All-behind, All-front, All-to_map, AllPairs-to_map}
+use Rattle.plane.specs.declared.edge.Edge.{Edge}
+use Rattle.plane.specs.declared.point.Point.{Point}
+use Rattle.plane.specs.Pairs.Pairs.{ArePairs}
+use Rattle.overlay.specs.Snap.Offsets.{offsets}
+use Rattle.overlay.specs.Snap.Windings.{pieces}
+use Rattle.overlay.specs.Stretches.{AreApart, AreClear, AreStretches, IsLong, IsStretch}
+use Rattle.overlay.specs.Stretches.Cut.{AreClearParts, AreRefined, AreRelieved, AreSettled, AreSplit, IsCutInto, IsPart, IsSettled, way}
+use Rattle.overlay.specs.Stretches.Spans.{IsSpan, SpansMeet}
+use Rattle.overlay.specs.declared.stretches.spans.Span.{Span}
+use Rattle.overlay.proofs.BoundaryLemmas.Broken.{zip-back, zip-front}
+use Rattle.overlay.proofs.ChainLemmas.Offsets.{joined}
+use Rattle.overlay.proofs.ChainLemmas.Zips.{AllZip-at, AllZip-length, AllZip-more}
+use Rattle.overlay.proofs.StretchLemmas.CutClear.{clear-of_spans}
+use Rattle.overlay.proofs.StretchLemmas.CutLists.{AllPairs-joined_lists, Contains-joined, joined-append, joined-cut, length-in_joined}
+use Rattle.overlay.proofs.StretchLemmas.CutWays.{IsStretch-way, length-way, pieces-way, way-in_way}
+
+-- ---- one part more
+
+pub AreRefined-none : (most : ℕ) (busy : List Bool) → AreRefined most [] [] busy
+AreRefined-none most busy = record {
+  cut = tt;
+  kept = λ k d e within is. absurd (omega (arith, within));
+  few = λ k e within is. absurd (omega (arith, within));
+}
+
+at_end : {X : Type 0} (xs : List X) (x d : X) → get_or (xs ++ x ∷ []) (length xs) d ≡ x
+at_end [] x d = refl
+at_end (y ∷ xs) x d = at_end xs x d
+
+before_end : {X : Type 0} (xs : List X) (x d : X) (k : ℕ) → k < length xs → get_or (xs ++ x ∷ []) k d ≡ get_or xs k d
+before_end [] x d k within = absurd (omega (arith, within))
+before_end (y ∷ xs) x d zero within = refl
+before_end (y ∷ xs) x d (suc k) within = before_end xs x d k (omega (arith, within))
+
+upto_end : {X : Type 0} (xs : List X) (x : X) (k : ℕ) → k < length (xs ++ x ∷ []) → (k < length xs) ⊎ (k ≡ length xs)
+upto_end [] x zero within = inr refl
+upto_end [] x (suc k) within = absurd (omega (arith, within))
+upto_end (y ∷ xs) x zero within = inl (omega arith)
+upto_end (y ∷ xs) x (suc k) within = up (upto_end xs x k (omega (arith, within)))
+  where
+    up : (k < length xs) ⊎ (k ≡ length xs) → (suc k < length (y ∷ xs)) ⊎ (suc k ≡ length (y ∷ xs))
+    up (inl before) = inl (omega (arith, before))
+    up (inr same) = inr (ap suc same)
+
+pub AreRefined-more : (most : ℕ) (parts : List (List Edge)) (groups : List (List (List Edge))) (busy : List Bool) (part : List Edge) (group : List (List Edge)) (mark : Bool)
+    → AreRefined most parts groups busy → mark ≡ get_or busy (length parts) false → IsCutInto part group
+    → (mark ≡ false → group ≡ part ∷ []) → (mark ≡ true → All (λ some. length some ≤ most) group)
+    → AreRefined most (parts ++ part ∷ []) (groups ++ group ∷ []) busy
+AreRefined-more most parts groups busy part group mark are marked cut keeps cuts = record {
+  cut = AllZip-more IsCutInto parts groups part group are.cut cut;
+  kept = λ k d e within is. kept k d e (upto_end parts part k within) is;
+  few = λ k e within is. few k e (upto_end parts part k within) is;
+}
+  where
+    size : length groups ≡ length parts
+    size = AllZip-length IsCutInto parts groups are.cut
+
+    last : (e : List (List Edge)) → get_or (groups ++ group ∷ []) (length parts) e ≡ group
+    last e = ap (λ (n : ℕ). get_or (groups ++ group ∷ []) n e) (sym size) ∙ at_end groups group e
+
+    inside : (k : ℕ) → k < length parts → k < length groups
+    inside k before = let n = size in omega (arith, before, n)
+
+    kept : (k : ℕ) (d : List Edge) (e : List (List Edge)) → (k < length parts) ⊎ (k ≡ length parts) → get_or busy k false ≡ false → get_or (groups ++ group ∷ []) k e ≡ get_or (parts ++ part ∷ []) k d ∷ []
+    kept k d e (inl before) is =
+        before_end groups group e k (inside k before) ∙ are.kept k d e before is ∙ ap (λ (one : List Edge). one ∷ []) (sym (before_end parts part d k before))
+    kept k d e (inr same) is =
+        ap (λ (n : ℕ). get_or (groups ++ group ∷ []) n e) same ∙ last e
+        ∙ keeps (marked ∙ ap (λ (n : ℕ). get_or busy n false) (sym same) ∙ is)
+        ∙ ap (λ (one : List Edge). one ∷ []) (sym (ap (λ (n : ℕ). get_or (parts ++ part ∷ []) n d) same ∙ at_end parts part d))
+
+    few : (k : ℕ) (e : List (List Edge)) → (k < length parts) ⊎ (k ≡ length parts) → get_or busy k false ≡ true → All (λ some. length some ≤ most) (get_or (groups ++ group ∷ []) k e)
+    few k e (inl before) is = subst (All (λ some. length some ≤ most)) (sym (before_end groups group e k (inside k before))) (are.few k e before is)
+    few k e (inr same) is =
+        subst (All (λ some. length some ≤ most)) (sym (ap (λ (n : ℕ). get_or (groups ++ group ∷ []) n e) same ∙ last e))
+        (cuts (marked ∙ ap (λ (n : ℕ). get_or busy n false) (sym same) ∙ is))
+
+-- ---- parts that aren't both busy are clear
+
+-- parts whose spans don't meet
+apart-spans : (parts : List (List Edge)) (spans : List Span) → AllZip IsSpan parts spans → (i j : ℕ) → i < j → j < length parts
+    → ((one other : Span) → slice_get spans i ≡ Some one → slice_get spans j ≡ Some other → SpansMeet one other → ⊥) → AreClearParts (get_or parts i []) (get_or parts j [])
+apart-spans parts [] lie i j below inside none = absurd (let n = AllZip-length IsSpan parts [] lie in omega (arith, inside, n))
+apart-spans parts (span ∷ more) lie i j below inside none =
+    let n = AllZip-length IsSpan parts (span ∷ more) lie in
+    clear-of_spans (get_or parts i []) (get_or parts j []) (get_or (span ∷ more) i span) (get_or (span ∷ more) j span)
+    (AllZip-at IsSpan parts (span ∷ more) [] span i lie (omega (arith, below, inside)))
+    (AllZip-at IsSpan parts (span ∷ more) [] span j lie inside)
+    (none (get_or (span ∷ more) i span) (get_or (span ∷ more) j span)
+    (slice_get-get_or (span ∷ more) i span (omega (arith, below, inside, n))) (slice_get-get_or (span ∷ more) j span (omega (arith, inside, n))))
+
+-- a pair of places stands in a list, or doesn't
+same_pair : (i j k l : ℕ) → (let one : ℕ × ℕ = (i, j) in let other : ℕ × ℕ = (k, l) in (one ≡ other) ⊎ (one ≡ other → ⊥))
+same_pair i j k l = elim (cases_eq i k) [
+  | inl first ↦ elim (cases_eq j l) [
+    | inl second ↦ inl (ap₂ (λ (a b : ℕ). let pair : ℕ × ℕ = (a, b) in pair) first second)
+    | inr differs ↦ inr (λ same. differs (ap (λ (pair : ℕ × ℕ). pair.1) same))
+  ]
+  | inr differs ↦ inr (λ same. differs (ap (λ (pair : ℕ × ℕ). pair.0) same))
+]
+
+Contains-or : (pairs : List (ℕ × ℕ)) (pair : ℕ × ℕ) → Contains pairs pair ⊎ (Contains pairs pair → ⊥)
+Contains-or [] pair = inr (λ held. (let (k, within, at) = held in omega (arith, within)))
+Contains-or (first ∷ pairs) pair = on (same_pair first.0 first.1 pair.0 pair.1) (Contains-or pairs pair)
+  where
+    on : (first ≡ pair) ⊎ (first ≡ pair → ⊥) → Contains pairs pair ⊎ (Contains pairs pair → ⊥) → Contains (first ∷ pairs) pair ⊎ (Contains (first ∷ pairs) pair → ⊥)
+    on (inl same) rest = inl (0, omega arith, same)
+    on (inr differs) (inl (k, within, at)) = inl (suc k, omega (arith, within), at)
+    on (inr differs) (inr none) = inr neither
+      where
+        neither : Contains (first ∷ pairs) pair → ⊥
+        neither (zero, within, at) = differs at
+        neither (suc k, within, at) = none (k, omega (arith, within), at)
+
+-- places of pairs that meet are places of spans
+pub pairs-within : (spans : List Span) (pairs : List (ℕ × ℕ)) → ArePairs SpansMeet spans pairs → All (λ pair. (pair.0 < length spans) × (pair.1 < length spans)) pairs
+pairs-within spans pairs are k d within =
+    let pair = get_or pairs k d in
+    let is = (are.exact pair.0 pair.1).0 (Contains-get_or pairs k d within) in
+    (slice_get_within spans pair.0 is.one is.first, slice_get_within spans pair.1 is.other is.second)
+
+-- where pairs that meet are settled
+pub AreSettled-pairs : (parts : List (List Edge)) (spans : List Span) (pairs : List (ℕ × ℕ)) (busy : List Bool)
+    → AllZip IsSpan parts spans → ArePairs SpansMeet spans pairs → All (IsSettled parts busy) pairs → AreSettled parts busy
+AreSettled-pairs parts spans pairs busy lie are settled i j below inside = on (Contains-or pairs (i, j))
+  where
+    size : length spans ≡ length parts
+    size = AllZip-length IsSpan parts spans lie
+
+    first : i < length spans
+    first = let n = size in omega (arith, below, inside, n)
+
+    second : j < length spans
+    second = let n = size in omega (arith, inside, n)
+
+    there : (points others : List Point) → AreApart points others → (some more : List Point) → All (Contains points) some → All (Contains others) more → AreApart some more
+    there points others apart some more of of_others = record {
+      u = apart.u;
+      v = apart.v;
+      beyond = λ p q held held_too. apart.beyond p q (All-contains (Contains points) some p of held) (All-contains (Contains others) more q of_others held_too);
+    }
+
+    met : IsSettled parts busy (i, j) → ((get_or busy i false ≡ true) × (get_or busy j false ≡ true)) ⊎ AreClearParts (get_or parts i []) (get_or parts j [])
+    met (inl marked) = inl marked
+    met (inr apart) = inr (λ several some others of of_others. inl (there (way (get_or parts i [])) (way (get_or parts j [])) apart some others of of_others))
+
+    on : Contains pairs (i, j) ⊎ (Contains pairs (i, j) → ⊥) → ((get_or busy i false ≡ true) × (get_or busy j false ≡ true)) ⊎ AreClearParts (get_or parts i []) (get_or parts j [])
+    on (inl held) = met (All-contains (IsSettled parts busy) pairs (i, j) settled held)
+    on (inr none) = inr (apart-spans parts spans lie i j below inside (λ one other at at_too meet.
+        none ((are.exact i j).1 (record { one = one; other = other; rising = below; first = at; second = at_too; meet = meet }))))
+
+-- ---- the parts of both sides
+
+-- what stands on each side is cut for itself
+pub AreSplit-cut : (edges : List Edge) (bound : ℕ) (ends refined : List ℕ) (front back : List (List Edge)) (groups : List (List (List Edge)))
+    → AreSplit edges bound ends front back → AllZip IsCutInto (front ++ back) groups → refined ≡ offsets 0 (joined groups)
+    → AreSplit edges bound refined (joined (take (length front) groups)) (joined (drop (length front) groups))
+AreSplit-cut edges bound ends refined front back groups (first, second, at, parts) cut stops = (
+  first ∙ joined-cut IsCutInto is_cut front (take (length front) groups) (zip-front IsCutInto front back groups cut),
+  second ∙ joined-cut IsCutInto is_cut back (drop (length front) groups) (zip-back IsCutInto front back groups cut),
+  stops ∙ ap (offsets 0) whole,
+  subst (All IsPart) whole (each (front ++ back) groups cut),
+)
+  where
+    is_cut : (list : List Edge) (group : List (List Edge)) → IsCutInto list group → list ≡ joined group
+    is_cut list group is = is.is
+
+    whole : joined groups ≡ joined (take (length front) groups) ++ joined (drop (length front) groups)
+    whole = ap (λ (all : List (List (List Edge))). joined all) (sym (take-append-drop (length front) groups)) ∙ joined-append (take (length front) groups) (drop (length front) groups)
+
+    each : (lists : List (List Edge)) (groups : List (List (List Edge))) → AllZip IsCutInto lists groups → All IsPart (joined groups)
+    each [] [] zip = λ k d within. absurd (omega (arith, within))
+    each (list ∷ lists) (group ∷ groups) zip = All-append IsPart group (joined groups) zip.0.each (each lists groups zip.1)
+    each [] (group ∷ groups) zip = absurd zip
+    each (list ∷ lists) [] zip = absurd zip
+
+-- ---- single edges
+
+module _ (parts : List (List Edge)) (groups : List (List (List Edge))) (are_parts : All IsPart parts) (are : AreRelieved 1 parts groups) where
+  -- a part of the result with another one
+  abbrev Keeps : List Edge → List Edge → Type 0
+  Keeps one other = (IsLong (way one)) ⊎ (IsLong (way other)) → AreClear (way one) (way other)
+
+  size : length groups ≡ length parts
+  size = AllZip-length IsCutInto parts groups are.refined.cut
+
+  cut-at : (k : ℕ) (d : List Edge) (e : List (List Edge)) → k < length parts → IsCutInto (get_or parts k d) (get_or groups k e)
+  cut-at k d e within = AllZip-at IsCutInto parts groups d e k are.refined.cut within
+
+  long : (part : List Edge) → IsPart part → IsLong (way part) → 1 < length part
+  long part is more = let some = is.some in omega (arith, more, length-way part some)
+
+  -- one that is busy has no long parts
+  single : (k : ℕ) (e : List (List Edge)) → k < length parts → get_or are.busy k false ≡ true → (d : List Edge) → (one : List Edge) → Contains (get_or groups k e) one → IsLong (way one) → ⊥
+  single k e within busy d one held more =
+      let is = All-contains IsPart (get_or groups k e) one (cut-at k d e within).each held in
+      let few = All-contains (λ part. length part ≤ 1) (get_or groups k e) one (are.refined.few k e within busy) held in
+      let long = long one is more in
+      omega (arith, few, long)
+
+  inner : (k : ℕ) (e : List (List Edge)) → k < length groups → AllPairs Keeps (get_or groups k e)
+  inner k e inside = on (cases_Bool (get_or are.busy k false))
+    where
+      within : k < length parts
+      within = let n = size in omega (arith, inside, n)
+
+      on : (get_or are.busy k false ≡ true) ⊎ (get_or are.busy k false ≡ false) → AllPairs Keeps (get_or groups k e)
+      on (inl busy) = λ i j d below last several.
+          absurd (none (Contains-get_or (get_or groups k e) i d (omega (arith, below, last))) (Contains-get_or (get_or groups k e) j d last) several)
+        where
+          none : {one other : List Edge} → Contains (get_or groups k e) one → Contains (get_or groups k e) other → (IsLong (way one)) ⊎ (IsLong (way other)) → ⊥
+          none {one} {other} first second (inl more) = single k e within busy [] one first more
+          none {one} {other} first second (inr more) = single k e within busy [] other second more
+      on (inr quiet) = λ i j d below last.
+          absurd (let n = ap (λ (group : List (List Edge)). length group) (are.refined.kept k [] e within quiet) in omega (arith, below, last, n))
+
+  across : (i j : ℕ) (e : List (List Edge)) → i < j → j < length groups → All (λ one. All (Keeps one) (get_or groups j e)) (get_or groups i e)
+  across i j e below inside = λ k d first l f second.
+      pair (get_or (get_or groups i e) k d) (get_or (get_or groups j e) l f) (Contains-get_or (get_or groups i e) k d first) (Contains-get_or (get_or groups j e) l f second) (are.clear i j below within)
+    where
+      within : j < length parts
+      within = let n = size in omega (arith, inside, n)
+
+      within_one : i < length parts
+      within_one = let n = size in omega (arith, below, inside, n)
+
+      several : (k : ℕ) → k < length parts → (one : List Edge) → Contains (get_or groups k e) one → IsLong (way one) → 1 < length (get_or parts k [])
+      several k within one held more =
+          let cut = cut-at k [] e within in
+          let here = long one (All-contains IsPart (get_or groups k e) one cut.each held) more in
+          let all = length-in_joined (get_or groups k e) one held in
+          let same = ap (λ (part : List Edge). length part) cut.is in
+          omega (arith, here, all, same)
+
+      points : (k : ℕ) → k < length parts → (one : List Edge) → Contains (get_or groups k e) one → All (Contains (way (get_or parts k []))) (way one)
+      points k within one held =
+          let cut = cut-at k [] e within in
+          way-in_way (get_or parts k []) one (are_parts k [] within)
+          (subst (λ (part : List Edge). All (Contains part) one) (sym cut.is) (Contains-joined (get_or groups k e) one held))
+
+      pair : (one other : List Edge) → Contains (get_or groups i e) one → Contains (get_or groups j e) other
+          → ((get_or are.busy i false ≡ true) × (get_or are.busy j false ≡ true)) ⊎ AreClearParts (get_or parts i []) (get_or parts j []) → Keeps one other
+      pair one other first second (inl (busy, busy_too)) (inl more) = absurd (single i e within_one busy [] one first more)
+      pair one other first second (inl (busy, busy_too)) (inr more) = absurd (single j e within busy_too [] other second more)
+      pair one other first second (inr clear) (inl more) = clear (inl (several i within_one one first more)) (way one) (way other) (points i within_one one first) (points j within other second)
+      pair one other first second (inr clear) (inr more) = clear (inr (several j within other second more)) (way one) (way other) (points i within_one one first) (points j within other second)
+
+  pub clear-parts : AllPairs (λ one other. (IsLong (way one)) ⊎ (IsLong (way other)) → AreClear (way one) (way other)) (joined groups)
+  clear-parts = AllPairs-joined_lists Keeps groups (λ k e inside. inner k e inside) (λ i j e below inside. across i j e below inside)
+
+-- ---- stretches
+
+pieces-ways : (parts : List (List Edge)) → All IsPart parts → flat_map pieces (map way parts) ≡ joined parts
+pieces-ways [] are = refl
+pieces-ways (part ∷ parts) are = ap₂ (λ (a b : List Edge). a ++ b) (pieces-way part (are 0 [] (omega arith))) (pieces-ways parts (λ k d within. are (suc k) d (omega (arith, within))))
+
+pub AreStretches-ways : (subject clip : List Edge) (front back : List (List Edge)) → subject ≡ joined front → clip ≡ joined back → All IsPart (front ++ back)
+    → AllPairs (λ one other. (IsLong (way one)) ⊎ (IsLong (way other)) → AreClear (way one) (way other)) (front ++ back)
+    → AreStretches subject clip (map way front) (map way back)
+AreStretches-ways subject clip front back first second are clear = record {
+  is = first ∙ sym (pieces-ways front (All-front IsPart front back are));
+  clip_is = second ∙ sym (pieces-ways back (All-behind IsPart front back are));
+  each = subst (All IsStretch) (map-append way front back) (All-to_map IsStretch way (front ++ back) (All-weaker IsPart (λ part. IsStretch (way part)) IsStretch-way (front ++ back) are));
+  clear =
+      let Clear : List Point → List Point → Type 0 = λ one other. IsLong one ⊎ IsLong other → AreClear one other in
+      subst (AllPairs Clear) (map-append way front back) (AllPairs-to_map Clear way (front ++ back) clear);
+}

@@ -1,0 +1,10 @@
+use Rattle.overlay.proofs.StretchLemmas.CutCallers.{cut-anew, cut-kept}
+use Rattle.overlay.proofs.stretches.refining.refine_part.Goals as goal
+
+pub returns-in_ok-push : goal.returns-in_ok-push
+returns-in_ok-push g c =
+    cut-kept c.args.edges.now c.args.start c.args.end c.args.most c.args.busy c.args.refined.now.items c.push.new.self.items c.requires.order c.requires.within c.requires.part c.if-busy.false c.in_ok-push.ensures.items
+
+pub returns-in_ok-push_parts : goal.returns-in_ok-push_parts
+returns-in_ok-push_parts g c =
+    cut-anew c.args.edges.now c.args.start c.args.end c.args.most c.args.busy c.args.refined.now.items c.push_parts.new.ends.items c.if-busy.true c.in_ok-push_parts.ensures
