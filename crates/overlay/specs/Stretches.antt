@@ -1,6 +1,7 @@
 -- Stretches: edges that follow each other along x, where nothing else comes to, and the chord from the first point to the last.
 pub mod Cut
 pub mod Spans
+pub mod Widening
 use Rattle.std.specs.Prelude.{◌≡◌, ◌≢◌, ◌⊎◌, ◌++◌, ◌∷◌, [], ◌+◌, ◌-◌, ◌≤◌, ◌<◌, ℤ, pos, ◌+ℤ◌, ◌*ℤ◌, ◌<ℤ◌, List, All, AllPairs, Contains, length, reverse, take, unsigned_abs}
 use Rattle.std.specs.List.{AllZip, flat_map}
 use Rattle.plane.specs.declared.edge.Edge.{Edge}

@@ -2,7 +2,7 @@
 use Rattle.std.proofs.Common.{◌≡◌, ◌<◌, ◌≤◌, ◌+◌, ◌-◌, ◌++◌, [], ◌∷◌, ℕ, suc, pos, List, length, drop, take, get_or, ap, ap₂, sym, subst, ◌∙◌, arith, refl}
 use Rattle.std.specs.List.{All, AllZip, flat_map}
 use Rattle.std.proofs.lemmas.Grind.{flat_map-append}
-use Rattle.std.proofs.lemmas.List.{length-append, length-take-le, take-append-drop}
+use Rattle.std.proofs.lemmas.List.{length-append, length-drop, length-take-le, take-append-drop, take_all}
 use Rattle.std.proofs.lemmas.List.Elements.{All-head, All-tail, Contains-get_or}
 use Rattle.i_tree.proofs.RootLemmas.Joined.{All-front}
 use Rattle.std.proofs.Math.Seq.{drop-append_seam, take-append_seam}
@@ -16,7 +16,7 @@ use Rattle.overlay.proofs.ChainLemmas.Offsets.{joined, offset-at}
 use Rattle.overlay.proofs.ChainLemmas.Zips.{AllZip-at, AllZip-length}
 use Rattle.overlay.proofs.SnapLemmas.Callers.{starts}
 
-zip-append : {A B : Type 0} (R : A → B → Type 0) (xs xs' : List A) (ys ys' : List B) → AllZip R xs ys → AllZip R xs' ys' → AllZip R (xs ++ xs') (ys ++ ys')
+pub zip-append : {A B : Type 0} (R : A → B → Type 0) (xs xs' : List A) (ys ys' : List B) → AllZip R xs ys → AllZip R xs' ys' → AllZip R (xs ++ xs') (ys ++ ys')
 zip-append R [] xs' [] ys' first second = second
 zip-append R (x ∷ xs) xs' (y ∷ ys) ys' first second = (first.0, zip-append R xs xs' ys ys' first.1 second)
 zip-append R [] xs' (y ∷ ys) ys' first second = absurd first
@@ -32,6 +32,10 @@ pub zip-back : {A B : Type 0} (R : A → B → Type 0) (xs xs' : List A) (ys : L
 zip-back R [] xs' ys zip = zip
 zip-back R (x ∷ xs) xs' (y ∷ ys) zip = zip-back R xs xs' ys zip.1
 zip-back R (x ∷ xs) xs' [] zip = absurd zip
+
+-- what of a list is from a place on to its end
+pub rest-is : (items list : List Edge) (count : ℕ) → list ≡ items → take (length list - count) (drop count list) ≡ drop count items
+rest-is items list count is = take_all (length list - count) (drop count list) (let size = length-drop count list in omega (arith, size)) ∙ ap (λ (edges : List Edge). drop count edges) is
 
 -- the chains of both are those of all edges
 pub all-chains : (subject clip broken broken_clip : List Edge) (are : AreBroken subject clip broken broken_clip) → AreChains (subject ++ clip) (are.chains ++ are.clip_chains)

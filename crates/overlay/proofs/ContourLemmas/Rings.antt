@@ -20,7 +20,7 @@ pieces-from_append : (from : Point) (points : List Point) (to : Point) (others :
 pieces-from_append from [] to others = refl
 pieces-from_append from (next ∷ points) to others = ap (λ (rest : List Edge). edge_between from next ∷ rest) (pieces-from_append next points to others)
 
-pieces-append : (points : List Point) (to : Point) (others : List Point) → pieces (points ++ to ∷ others) ≡ pieces (points ++ to ∷ []) ++ pieces (to ∷ others)
+pub pieces-append : (points : List Point) (to : Point) (others : List Point) → pieces (points ++ to ∷ others) ≡ pieces (points ++ to ∷ []) ++ pieces (to ∷ others)
 pieces-append [] to others = refl
 pieces-append (first ∷ points) to others = pieces-from_append first points to others
 

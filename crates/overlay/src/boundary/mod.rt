@@ -7,12 +7,16 @@ ghost use Rattle.plane.specs.declared.point.Point.{Point};
 ghost use Rattle.overlay.specs.Boundary.{AreBroken, HasSloped, IsBoundary};
 ghost use Rattle.overlay.specs.Contours.Rings.{ring_edges};
 ghost use Rattle.overlay.specs.Fill.Filled.{IsFilled};
-ghost use Rattle.overlay.specs.Snap.Offsets.{offsets};
+ghost use Rattle.overlay.specs.Snap.Offsets.{Extends, offsets};
 ghost use Rattle.overlay.specs.Snap.Windings.{IsClosed};
+ghost use Rattle.overlay.specs.Stretches.Cut.{AreCut};
 
 use super::contours::contours;
 use super::fill::fill;
 use super::fill::rules::{FillRule, Operation};
+use super::stretches::chords::chords_of;
+use super::stretches::widening::append_widened;
+use super::stretches::{Stretches, stretches_of};
 use broken::broken;
 use i_tree::Refusal;
 use i_tree::status::exp::StatusCollection;
@@ -29,6 +33,9 @@ pub mod broken;
 /// Both are closed edges, as those of rings are; they may cross, touch, lie along one another, and stand there more than once.
 /// They are broken where they meet and rounded (`snap`), which of the pieces bound the result is told by their winding numbers
 /// (`fill`), and these become rings (`contours`).
+///
+/// Where many edges follow each other along x and no other comes near, one edge stands for all of these, from the first point
+/// to the last. In the rings these points are put in again.
 ///
 /// The rings have the result on their left. None visits a point twice, and no two of their edges cross, or share more than an
 /// end. Around each point that isn't within half a unit, on both axes, of an edge given, they wind once where it is of the
@@ -59,9 +66,121 @@ where
     ensures empty { C.stored status.new ≡ [] }
 {
     status.clear();
+    let points_before = points.len();
+    let ends_before = ring_ends.len();
+    let outcome = append_boundary(subject, clip, rule, operation, status, points, ring_ends);
+    if outcome.is_err() {
+        points.truncate(points_before);
+        ring_ends.truncate(ends_before);
+    }
+    outcome
+}
+
+// As `boundary`, over an empty status. Where it is refused, it may have appended something.
+fn append_boundary<C, A>(
+    subject: &[Edge],
+    clip: &[Edge],
+    rule: FillRule,
+    operation: Operation,
+    status: &mut C,
+    points: &mut Vec<Point, A>,
+    ring_ends: &mut Vec<usize, A>,
+) -> Result<(), Refusal>
+where
+    C: StatusCollection<ActiveEdge, i64, ()>,
+    A: Allocator + Copy,
+    requires empty { C.stored status.old ≡ [] }
+    requires closed { IsClosed subject.now }
+    requires clip_closed { IsClosed clip.now }
+    ensures ok { OnOk result ((rings : List (List Point)) × IsBoundary rule operation subject.now clip.now rings
+        × HasSloped (flat_map ring_edges rings)
+        × (points.new.items ≡ points.old.items ++ flat_map (λ ring. ring) rings)
+        × (ring_ends.new.items ≡ ring_ends.old.items ++ offsets (length points.old.items) rings)) }
+    ensures err { OnErr result (Extends points.old.items points.new.items
+        × Extends ring_ends.old.items ring_ends.new.items) }
+    ensures empty { C.stored status.new ≡ [] }
+{
+    let alloc = *points.allocator();
+    match stretches_of(alloc, subject, clip)? {
+        Some(stretches) => {
+            append_by_chords(&stretches, rule, operation, status, points, ring_ends)
+        }
+        None => append_by_edges(subject, clip, rule, operation, status, points, ring_ends),
+    }
+}
+
+// The same without stretches.
+fn append_by_edges<C, A>(
+    subject: &[Edge],
+    clip: &[Edge],
+    rule: FillRule,
+    operation: Operation,
+    status: &mut C,
+    points: &mut Vec<Point, A>,
+    ring_ends: &mut Vec<usize, A>,
+) -> Result<(), Refusal>
+where
+    C: StatusCollection<ActiveEdge, i64, ()>,
+    A: Allocator + Copy,
+    requires empty { C.stored status.old ≡ [] }
+    requires closed { IsClosed subject.now }
+    requires clip_closed { IsClosed clip.now }
+    ensures ok { OnOk result ((rings : List (List Point)) × IsBoundary rule operation subject.now clip.now rings
+        × HasSloped (flat_map ring_edges rings)
+        × (points.new.items ≡ points.old.items ++ flat_map (λ ring. ring) rings)
+        × (ring_ends.new.items ≡ ring_ends.old.items ++ offsets (length points.old.items) rings)) }
+    ensures err { OnErr result ((points.new.items ≡ points.old.items) × (ring_ends.new.items ≡ ring_ends.old.items)) }
+    ensures empty { C.stored status.new ≡ [] }
+{
     let alloc = *points.allocator();
     let edges = bounding_edges(alloc, subject, clip, rule, operation, status)?;
     contours(&edges, points, ring_ends)?;
+    Ok(())
+}
+
+// The same by the chords of stretches: where they are edges of its rings, the points of the stretches stand in place of them.
+fn append_by_chords<C, A>(
+    stretches: &Stretches<A>,
+    rule: FillRule,
+    operation: Operation,
+    status: &mut C,
+    points: &mut Vec<Point, A>,
+    ring_ends: &mut Vec<usize, A>,
+) -> Result<(), Refusal>
+where
+    C: StatusCollection<ActiveEdge, i64, ()>,
+    A: Allocator + Copy,
+    requires empty { C.stored status.old ≡ [] }
+    requires cut { (subject clip : List Edge) × IsClosed subject × IsClosed clip
+        × AreCut subject clip stretches.now.points.items stretches.now.ends.items stretches.now.count }
+    ensures ok { (subject clip : List Edge)
+        → AreCut subject clip stretches.now.points.items stretches.now.ends.items stretches.now.count
+        → OnOk result ((rings : List (List Point)) × IsBoundary rule operation subject clip rings
+        × HasSloped (flat_map ring_edges rings)
+        × (points.new.items ≡ points.old.items ++ flat_map (λ ring. ring) rings)
+        × (ring_ends.new.items ≡ ring_ends.old.items ++ offsets (length points.old.items) rings)) }
+    ensures err { OnErr result (Extends points.old.items points.new.items
+        × Extends ring_ends.old.items ring_ends.new.items) }
+    ensures empty { C.stored status.new ≡ [] }
+{
+    let alloc = *points.allocator();
+    let stretch_points = &stretches.points;
+    let stretch_ends = &stretches.ends;
+    let chords = chords_of(alloc, stretch_points, stretch_ends)?;
+    let subject = &chords[..stretches.count];
+    let clip = &chords[stretches.count..];
+    let edges = bounding_edges(alloc, subject, clip, rule, operation, status)?;
+    let mut rings = Vec::new(alloc);
+    let mut ends = Vec::new(alloc);
+    contours(&edges, &mut rings, &mut ends)?;
+    append_widened(
+        stretch_points,
+        stretch_ends,
+        &rings,
+        &ends,
+        points,
+        ring_ends,
+    )?;
     Ok(())
 }
 

@@ -20,6 +20,7 @@ mod lines;
 mod marking;
 mod refining;
 mod spans;
+pub mod widening;
 
 /// How many edges a part has at most before others come to it.
 const LONGEST: usize = 64;

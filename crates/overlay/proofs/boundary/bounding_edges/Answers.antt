@@ -1,14 +1,10 @@
-use Rattle.std.proofs.Common.{◌≡◌, ◌++◌, ◌-◌, ℕ, List, length, take, drop, ap, ap₂, sym, subst, subst₂, ◌∙◌, arith}
-use Rattle.std.proofs.lemmas.List.{length-drop, take_all}
+use Rattle.std.proofs.Common.{◌≡◌, ◌++◌, List, take, drop, ap, ap₂, sym, subst, subst₂, ◌∙◌}
 use Rattle.plane.specs.declared.edge.Edge.{Edge}
 use Rattle.overlay.specs.Fill.Filled.{AreNoded, IsFilled}
 use Rattle.overlay.specs.Snap.Windings.{IsClosed}
 use Rattle.overlay.proofs.BoundaryLemmas.Bounding.{broken-closed, broken-noded, clip-closed}
+use Rattle.overlay.proofs.BoundaryLemmas.Broken.{rest-is}
 use Rattle.overlay.proofs.boundary.bounding_edges.Goals as goal
-
--- what a slice to its list's end is
-rest-is : (items list : List Edge) (count : ℕ) → list ≡ items → take (length list - count) (drop count list) ≡ drop count items
-rest-is items list count is = take_all (length list - count) (drop count list) (let size = length-drop count list in omega (arith, size)) ∙ ap (λ (edges : List Edge). drop count edges) is
 
 pub fill-requires-clause-closed : goal.fill-requires-clause-closed
 fill-requires-clause-closed g c =

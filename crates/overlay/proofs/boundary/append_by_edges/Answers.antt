@@ -5,7 +5,7 @@ use Rattle.overlay.specs.Contours.Rings.{AreContours, ring_edges}
 use Rattle.overlay.specs.Snap.Windings.{IsClosed}
 use Rattle.overlay.proofs.BoundaryLemmas.Bounding.{filled-bounds, rings-bound}
 use Rattle.overlay.proofs.BoundaryLemmas.Sloped.{HasSloped-next, HasSloped-permuted}
-use Rattle.overlay.proofs.boundary.boundary.Goals as goal
+use Rattle.overlay.proofs.boundary.append_by_edges.Goals as goal
 
 pub contours-requires : goal.contours-requires
 contours-requires g c =

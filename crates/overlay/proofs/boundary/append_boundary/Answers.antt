@@ -1,0 +1,4 @@
+use Rattle.overlay.proofs.boundary.append_boundary.Goals as goal
+
+pub returns-in-Some-clause-ok : goal.returns-in-Some-clause-ok
+returns-in-Some-clause-ok g c = c.append_by_chords.ensures.ok c.args.subject.now c.args.clip.now (rw c.in-Some.is at c.in_ok-stretches.ensures.ok)

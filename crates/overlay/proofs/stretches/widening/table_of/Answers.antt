@@ -1,0 +1,13 @@
+use Rattle.std.proofs.Common.{rules, length}
+use Rattle.overlay.proofs.StretchLemmas.LongOnes.{HasLong-permuted}
+use Rattle.overlay.proofs.StretchLemmas.Table.{in_order-from_sort}
+use Rattle.overlay.proofs.stretches.widening.table_of.Goals as goal
+
+pub returns : goal.returns
+returns g c = λ stretches are.
+    (let table = c.sort_unstable_by_key.new.self.items in
+    record {
+      joined = are.0;
+      long = HasLong-permuted stretches (length stretches) c.push_long.new.table.items table c.sort_unstable_by_key.ensures.permutation (c.in_ok-push_long.ensures stretches are);
+      in_order = in_order-from_sort (λ a r q k. search rules) table c.sort_unstable_by_key.ensures.sorted;
+    })
