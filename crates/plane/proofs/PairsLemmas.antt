@@ -6,6 +6,7 @@ pub mod Extends
 pub mod Few
 pub mod First
 pub mod Order
+pub mod Ordered
 pub mod Pairs
 pub mod Parts
 pub mod Points
@@ -15,4 +16,5 @@ pub mod Serving
 pub mod Status
 pub mod Strips
 pub mod Told
+pub mod Upto
 pub mod Within

@@ -4,7 +4,8 @@ use crate::edges::{Ends, edge, edges_of};
 use i_tree::Refusal;
 use plane::edge::Edge;
 use plane::meet::{first_meeting, meet, meetings, meetings_between};
-use std::alloc::Global;
+use plane::pairs::pairs_upto;
+use std::alloc::{Allocator, Global};
 use std::test::Fail;
 use test_kit::Refusing;
 use test_kit::in_turn::{Trial, refuse_in_turn};
@@ -140,6 +141,34 @@ fn is_first(alloc: Global, row: &Row) -> Result<bool, Fail> {
     })
 }
 
+fn meetings_upto<A: Allocator + Copy>(
+    edges: &[Edge],
+    most: usize,
+    out: &mut Vec<(usize, usize), A>,
+) -> Result<bool, Refusal> {
+    pairs_upto(edges, most, out)
+}
+
+// Whether all pairs are told up to their number, and up to two fewer more than these.
+fn is_met_upto(alloc: Global, row: &Row) -> Result<bool, Fail> {
+    let edges = edges_of(alloc, row.edges)?;
+    let count = row.pairs.len();
+    let mut pairs = Vec::new(alloc);
+    let are_all = meetings_upto(&edges, count, &mut pairs)?;
+    pairs.sort_unstable();
+    let fewer = count.saturating_sub(2);
+    let mut some = Vec::new(alloc);
+    let are_some_all = meetings_upto(&edges, fewer, &mut some)?;
+    let are_of_row = some.iter().all(|pair| row.pairs.contains(pair));
+    Ok(
+        are_all
+            && pairs.as_slice() == row.pairs
+            && are_of_row
+            && are_some_all == (count == 0)
+            && (count == 0 || some.len() > fewer),
+    )
+}
+
 // Whether the edges before the middle meet those behind it as the pairs say.
 fn is_met_between(alloc: Global, row: &Row) -> Result<bool, Fail> {
     let middle = row.edges.len() / 2;
@@ -165,6 +194,7 @@ fn sets_meet_as_worked_by_hand(rt: HostRuntime) -> Result<(), Fail> {
     for row in &ROWS {
         assert!(rt; is_met(rt.alloc(), row)?, "{}", row.name);
         assert!(rt; is_first(rt.alloc(), row)?, "{}", row.name);
+        assert!(rt; is_met_upto(rt.alloc(), row)?, "{}", row.name);
         assert!(rt; is_met_between(rt.alloc(), row)?, "{}", row.name);
     }
     Ok(())

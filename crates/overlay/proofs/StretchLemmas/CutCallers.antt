@@ -1,17 +1,16 @@
 -- What the code that cuts edges asks, as lemmas over plain variables.
 use Rattle.std.proofs.Common.{◌≡◌, ◌⊎◌, inl, inr, ℕ, zero, suc, ◌+◌, ◌-◌, ◌<◌, ◌≤◌, Bool, true, false, leb, List, [], ◌∷◌, ◌++◌, length, get_or, map, take, drop, refl, sym, ap, ap₂, ◌∙◌, subst, subst₂, append-nil, append_assoc, arith}
-use Rattle.std.specs.List.{All, AllPairs, AllZip, between, count_by, flat_map}
+use Rattle.std.specs.List.{All, AllPairs, between, count_by}
 use Rattle.std.proofs.lemmas.List.{flat_map_more, length-append, length-drop, length-map, length-take-le, map-append, take-append-drop, take_all, take_more}
-use Rattle.std.proofs.lemmas.List.Elements.{All-append, All-push, All-weaker}
+use Rattle.std.proofs.lemmas.List.Elements.{All-append, All-nil, All-push, All-weaker}
 use Rattle.std.proofs.Math.Seq.{drop-append_seam, take-append_seam}
 use Rattle.plane.specs.declared.edge.Edge.{Edge}
 use Rattle.plane.specs.declared.point.Point.{Point}
-use Rattle.overlay.specs.Boundary.{AllSome}
 use Rattle.overlay.specs.Snap.Offsets.{AreJoined, offsets}
 use Rattle.overlay.specs.Stretches.{AreClear, IsLong}
-use Rattle.overlay.specs.Stretches.Cut.{AreCut, AreParts, AreRefined, AreRelieved, AreSplit, IsCutInto, IsPart, IsSettled, way}
+use Rattle.overlay.specs.Stretches.Cut.{AreCut, AreParts, AreRefined, AreRelieved, AreSplit, Follows, IsCutInParts, IsCutInto, IsPart, IsSettled, way}
 use Rattle.overlay.proofs.ChainLemmas.Offsets.{joined, offset-at}
-use Rattle.overlay.proofs.ChainLemmas.Runs.{length-between, offsets-more}
+use Rattle.overlay.proofs.ChainLemmas.Runs.{between-at, length-between, offsets-more}
 use Rattle.overlay.proofs.SnapLemmas.Standing.{length-offsets}
 use Rattle.overlay.proofs.StretchLemmas.CutCounts.{count-upto}
 use Rattle.overlay.proofs.StretchLemmas.CutGroups.{AreRefined-more, AreSplit-cut, AreStretches-ways, clear-parts}
@@ -19,12 +18,21 @@ use Rattle.overlay.proofs.StretchLemmas.CutLists.{between-joined, joined-append,
 
 -- ---- parts so far, and one more
 
-abbrev pub IsCutSoFar : List Edge → ℕ → ℕ → ℕ → List ℕ → List ℕ → Type 0
-IsCutSoFar edges from next most before ends =
-    (parts : List (List Edge)) × (between from next edges ≡ joined parts) × All IsPart parts × All (λ part. length part ≤ most) parts × (ends ≡ before ++ offsets from parts)
+pub cut-none : (edges : List Edge) (from most : ℕ) (ends : List ℕ) → IsCutInParts edges from from most ends ends
+cut-none edges from most ends = (
+  [],
+  ap (λ (n : ℕ). take n (drop from edges)) (let e : from - from ≡ 0 = omega arith in e) ∙ take-zero (drop from edges),
+  All-nil IsPart,
+  All-nil (λ part. length part ≤ most),
+  sym (append-nil ends),
+)
+  where
+    take-zero : (list : List Edge) → take 0 list ≡ []
+    take-zero [] = refl
+    take-zero (x ∷ list) = refl
 
 pub cut-more : (edges : List Edge) (from next after most : ℕ) (before ends ends' : List ℕ) → from ≤ next → next < after → after ≤ length edges → after ≤ next + most
-    → IsPart (between next after edges) → ends' ≡ ends ++ after ∷ [] → IsCutSoFar edges from next most before ends → IsCutSoFar edges from after most before ends'
+    → IsPart (between next after edges) → ends' ≡ ends ++ after ∷ [] → IsCutInParts edges from next most before ends → IsCutInParts edges from after most before ends'
 cut-more edges from next after most before ends ends' rising later inside small is pushed (parts, cut, each, few, stops) = (
   parts ++ part ∷ [],
   between-joined from next after edges rising (omega (arith, later)) ∙ ap (λ (done : List Edge). done ++ part) cut ∙ flat_map_more (λ (list : List Edge). list) [] parts part,
@@ -48,9 +56,47 @@ cut-more edges from next after most before ends ends' rising later inside small 
         let n = size in
         omega (arith, so_far, same, n, rising, later)
 
+-- one part more, and parts of more
+pub cut-then : (edges : List Edge) (from mid upto most : ℕ) (before middle ends : List ℕ) → from ≤ mid → mid ≤ upto → mid ≤ length edges
+    → IsCutInParts edges from mid most before middle → IsCutInParts edges mid upto most middle ends → IsCutInParts edges from upto most before ends
+cut-then edges from mid upto most before middle ends first second inside (parts, cut, each, few, stops) (more, cut', each', few', stops') = (
+  parts ++ more,
+  between-joined from mid upto edges first second ∙ ap₂ (λ (a b : List Edge). a ++ b) cut cut' ∙ sym (joined-append parts more),
+  All-append IsPart parts more each each',
+  All-append (λ part. length part ≤ most) parts more few few',
+  stops' ∙ ap (λ (list : List ℕ). list ++ offsets mid more) stops ∙ append_assoc before (offsets from parts) (offsets mid more)
+      ∙ ap (λ (list : List ℕ). before ++ list) (ap (λ (n : ℕ). offsets from parts ++ offsets n more) here ∙ sym (offsets-append from parts more)),
+)
+  where
+    here : mid ≡ from + length (joined parts)
+    here =
+        let size = length-between from mid edges first inside in
+        let same = ap (λ (list : List Edge). length list) cut in
+        omega (arith, size, same, first)
+
+-- edges of a run
+pub IsPart-within : (edges : List Edge) (from upto start end : ℕ) → from ≤ start → start < end → end ≤ upto → upto ≤ length edges → IsPart (between from upto edges) → IsPart (between start end edges)
+IsPart-within edges from upto start end first some last inside is = record {
+  some = (let n = size in omega (arith, n, some));
+  next = λ k d below.
+      let n = size in
+      subst₂ Follows
+      (between-at from upto ((start - from) + k) edges d (omega (arith, below, n, first, last)) inside ∙ ap (λ (n : ℕ). get_or edges n d) (let e : from + ((start - from) + k) ≡ start + k = omega (arith, first) in e)
+      ∙ sym (between-at start end k edges d (omega (arith, below, n)) (omega (arith, last, inside))))
+      (between-at from upto (suc ((start - from) + k)) edges d (omega (arith, below, n, first, last)) inside ∙ ap (λ (n : ℕ). get_or edges n d) (let e : from + suc ((start - from) + k) ≡ start + suc k = omega (arith, first) in e)
+      ∙ sym (between-at start end (suc k) edges d (omega (arith, below, n)) (omega (arith, last, inside))))
+      (is.next ((start - from) + k) d (let m = whole in omega (arith, below, n, m, first, last)));
+}
+  where
+    size : length (between start end edges) ≡ end - start
+    size = length-between start end edges (omega (arith, some)) (omega (arith, last, inside))
+
+    whole : length (between from upto edges) ≡ upto - from
+    whole = length-between from upto edges (omega (arith, first, some, last)) inside
+
 -- both sides, one after the other
 pub AreSplit-both : (edges : List Edge) (bound most : ℕ) (none first second : List ℕ) → bound ≤ length edges → none ≡ []
-    → IsCutSoFar edges 0 bound most none first → IsCutSoFar edges bound (length edges) most first second
+    → IsCutInParts edges 0 bound most none first → IsCutInParts edges bound (length edges) most first second
     → (front : List (List Edge)) × (back : List (List Edge)) × AreSplit edges bound second front back
 AreSplit-both edges bound most none first second inside empty (front, cut, each, few, stops) (back, cut', each', few', stops') = (
   front,
@@ -97,7 +143,7 @@ cut-kept edges start end most busy before after rising inside is quiet pushed = 
     differ : (b : Bool) → b ≡ true → b ≡ false → ⊥
     differ b set unset = cc
 
-pub cut-anew : (edges : List Edge) (start end most : ℕ) (busy : Bool) (before after : List ℕ) → busy ≡ true → IsCutSoFar edges start end most before after
+pub cut-anew : (edges : List Edge) (start end most : ℕ) (busy : Bool) (before after : List ℕ) → busy ≡ true → IsCutInParts edges start end most before after
     → (group : List (List Edge)) × IsCutInto (between start end edges) group × (busy ≡ false → group ≡ between start end edges ∷ [])
     × (busy ≡ true → All (λ part. length part ≤ most) group) × (after ≡ before ++ offsets start group)
 cut-anew edges start end most busy before after marked (parts, cut, each, few, stops) =

@@ -1,8 +1,7 @@
 -- Parts whose spans don't meet are clear of each other, and so are points of the one and points of the other.
-use Rattle.std.proofs.Common.{◌≡◌, ◌⊎◌, inl, inr, ⊎_elim, Bool, true, false, not, ℕ, suc, ℤ, pos, negsuc, ◌+◌, ◌+ℤ◌, ◌*ℤ◌, cond, ◌<◌, ◌<ℤ◌, ◌≤ℤ◌, IsTrue, List, [], ◌∷◌, length, get_or, sym, ap, ap₂, subst, arith, rules}
+use Rattle.std.proofs.Common.{◌≡◌, ◌⊎◌, inl, inr, ⊎_elim, Bool, true, false, not, suc, ℤ, pos, negsuc, ◌+ℤ◌, cond, ◌<◌, ◌<ℤ◌, ◌≤ℤ◌, IsTrue, List, [], ◌∷◌, length, sym, ap, ap₂, subst, arith, rules}
 use Rattle.std.specs.Bool.{MatchBool, OnTrue}
 use Rattle.std.specs.Int.{int_max, int_min}
-use Rattle.std.specs.Int.RustNames.{unsigned_abs}
 use Rattle.std.specs.Int.Signed.{lt_z}
 use Rattle.std.specs.List.{All, Contains}
 use Rattle.std.proofs.lemmas.Bool.{OnTrue_at, OnTrue_from}
@@ -10,10 +9,10 @@ use Rattle.std.proofs.lemmas.Int.{by_lt_z, clamps, ints}
 use Rattle.std.proofs.lemmas.List.Elements.{All-nil, All-cons, All-contains, All-head, All-tail, All-weaker}
 use Rattle.plane.specs.declared.edge.Edge.{Edge}
 use Rattle.plane.specs.declared.point.Point.{Point}
-use Rattle.plane.specs.Pairs.Bounds.{BoundsMeet, MeetInBoxes}
-use Rattle.overlay.specs.Stretches.{AreClear, AreApart, GoesOn, further}
+use Rattle.plane.specs.Pairs.Bounds.{MeetInBoxes}
+use Rattle.overlay.specs.Stretches.{AreClear, AreApart, GoesOn}
 use Rattle.overlay.specs.Stretches.Cut.{AreClearParts, way}
-use Rattle.overlay.specs.Stretches.Spans.{AreSeveral, ComeNear, IsSpan, IsWithin, LeadsTo, SpansMeet, beside, bounds_of_span}
+use Rattle.overlay.specs.Stretches.Spans.{AreSeveral, IsSpan, IsWithin, LeadsTo, SpansMeet, beside, bounds_of_span}
 use Rattle.overlay.specs.declared.stretches.spans.Span.{Span}
 use Rattle.overlay.proofs.StretchLemmas.Apart.{AreApart-exchanged}
 

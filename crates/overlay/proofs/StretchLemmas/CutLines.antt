@@ -1,13 +1,12 @@
 -- A line that keeps the points of parts apart.
-use Rattle.std.proofs.Common.{◌≡◌, ℕ, ◌+◌, ℤ, pos, ◌+ℤ◌, ◌-ℤ◌, ◌*ℤ◌, ◌<ℤ◌, ◌≤ℤ◌, List, arith}
-use Rattle.std.specs.Int.RustNames.{unsigned_abs}
-use Rattle.std.specs.List.{All, Contains}
+use Rattle.std.proofs.Common.{◌≡◌, ℤ, pos, ◌+ℤ◌, ◌-ℤ◌, ◌*ℤ◌, ◌<ℤ◌, ◌≤ℤ◌, List, arith}
+use Rattle.std.specs.List.{All}
 use Rattle.std.proofs.lemmas.Int.{ints}
 use Rattle.std.proofs.lemmas.List.Elements.{All-contains}
 use Rattle.plane.specs.declared.edge.Edge.{Edge}
 use Rattle.plane.specs.declared.point.Point.{Point}
 use Rattle.plane.proofs.MeetLemmas.Identities.{identity, minus, number, plus, times}
-use Rattle.overlay.specs.Stretches.{AreApart, further}
+use Rattle.overlay.specs.Stretches.{AreApart}
 use Rattle.overlay.specs.Stretches.Spans.{height_over, margin_of}
 use Rattle.overlay.proofs.SnapLemmas.Numbers.{n_of}
 use Rattle.overlay.proofs.StretchLemmas.Apart.{abs-negative}

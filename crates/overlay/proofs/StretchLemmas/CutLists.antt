@@ -1,15 +1,14 @@
 -- Lists of lists that are cut into lists of these.
-use Rattle.std.proofs.Common.{◌≡◌, ◌⊎◌, inl, inr, ℕ, zero, suc, ◌+◌, ◌-◌, ◌<◌, ◌≤◌, List, [], ◌∷◌, ◌++◌, length, get_or, map, take, drop, refl, sym, ap, ap₂, ◌∙◌, subst, append-nil, append_assoc, arith}
-use Rattle.std.specs.List.{All, AllPairs, AllZip, Contains, between, flat_map}
+use Rattle.std.proofs.Common.{◌≡◌, ℕ, zero, suc, ◌+◌, ◌-◌, ◌≤◌, List, [], ◌∷◌, ◌++◌, length, get_or, take, drop, refl, sym, ap, ap₂, ◌∙◌, subst, arith}
+use Rattle.std.specs.List.{All, AllPairs, AllZip, Contains, between}
 use Rattle.std.proofs.lemmas.Grind.{flat_map-append}
 use Rattle.std.proofs.lemmas.List.{drop-drop, length-append}
-use Rattle.std.proofs.lemmas.List.Elements.{All-nil, All-cons, All-head, All-tail, All-append, All-weaker, Contains-append_left, Contains-append_right, Contains-get_or}
+use Rattle.std.proofs.lemmas.List.Elements.{All-nil, All-head, All-tail, All-append, All-weaker, Contains-append_left, Contains-append_right, Contains-get_or}
 use Rattle.std.proofs.Math.Seq.{take-add}
 use Rattle.i_tree.proofs.RootLemmas.Joined.{AllPairs-append, AllPairs-nil}
-use Rattle.i_tree.proofs.RootLemmas.Lists.{AllPairs-head, AllPairs-tail, Contains-here}
+use Rattle.i_tree.proofs.RootLemmas.Lists.{AllPairs-head, AllPairs-tail}
 use Rattle.overlay.specs.Snap.Offsets.{offsets}
 use Rattle.overlay.proofs.ChainLemmas.Offsets.{joined}
-use Rattle.overlay.proofs.ChainLemmas.Runs.{offsets-more}
 
 module _ {X : Type 0} where
   -- from the one place to the third over the second

@@ -1,6 +1,6 @@
 -- Where parts lie.
-use Rattle.std.proofs.Common.{◌≡◌, ◌⊎◌, inl, inr, ℕ, zero, suc, ◌+◌, ◌-◌, ◌<◌, ◌≤◌, ℤ, pos, ◌+ℤ◌, ◌<ℤ◌, ◌≤ℤ◌, Bool, IsTrue, List, [], ◌∷◌, length, get_or, map, refl, sym, ap, ◌∙◌, subst, subst₂, arith}
-use Rattle.std.specs.List.{All, AllPairs, Contains}
+use Rattle.std.proofs.Common.{◌≡◌, ◌⊎◌, inl, inr, ℕ, zero, suc, ◌+◌, ◌-◌, ◌<◌, pos, ◌+ℤ◌, ◌<ℤ◌, ◌≤ℤ◌, Bool, IsTrue, List, [], ◌∷◌, length, get_or, map, refl, sym, ap, ◌∙◌, subst, subst₂, arith}
+use Rattle.std.specs.List.{All, Contains}
 use Rattle.std.proofs.lemmas.Bool.{cases_eq}
 use Rattle.std.proofs.lemmas.Int.{ints}
 use Rattle.std.proofs.lemmas.List.{get_or-map, length-map}
@@ -10,9 +10,8 @@ use Rattle.plane.specs.declared.point.Point.{Point}
 use Rattle.overlay.specs.Snap.Windings.{end_of, start_of}
 use Rattle.overlay.specs.Stretches.{Falls, Rises}
 use Rattle.overlay.specs.Stretches.Cut.{IsPart, way}
-use Rattle.overlay.specs.Stretches.Spans.{HasHeights, IsFar, IsSpan, IsWithin}
+use Rattle.overlay.specs.Stretches.Spans.{HasHeights, IsFar, IsSpan}
 use Rattle.overlay.specs.declared.stretches.spans.Heights.{Heights}
-use Rattle.overlay.specs.declared.stretches.spans.Span.{Span}
 use Rattle.overlay.proofs.StretchLemmas.CutWays.{IsUpright, length-way, part-along, way-end, way-start}
 
 -- what holds where the part starts, and at each edge's end

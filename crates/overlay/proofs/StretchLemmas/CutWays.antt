@@ -1,16 +1,16 @@
 -- The points along which parts go are stretches.
-use Rattle.std.proofs.Common.{◌≡◌, ◌⊎◌, inl, inr, ℕ, zero, suc, ◌+◌, ◌-◌, ◌<◌, ◌≤◌, ℤ, ◌<ℤ◌, ◌≤ℤ◌, List, [], ◌∷◌, length, get_or, map, refl, sym, ap, ap₂, ◌∙◌, subst, arith}
+use Rattle.std.proofs.Common.{◌≡◌, ◌⊎◌, inl, inr, ℕ, zero, suc, ◌+◌, ◌<◌, ℤ, ◌<ℤ◌, List, [], ◌∷◌, length, get_or, map, refl, sym, ap, ap₂, ◌∙◌, subst, arith}
 use Rattle.std.specs.List.{All, AllPairs, Contains}
 use Rattle.std.proofs.lemmas.Int.{by_lt_z, ints}
 use Rattle.std.proofs.lemmas.List.{get_or-map, length-map}
-use Rattle.std.proofs.lemmas.List.Elements.{All-nil, All-cons, All-head, All-tail, All-weaker, Contains-get_or}
+use Rattle.std.proofs.lemmas.List.Elements.{All-nil, All-cons, All-head, All-tail, All-weaker}
 use Rattle.std.proofs.lemmas.List.Kept.{AllPairs-cons}
 use Rattle.i_tree.proofs.RootLemmas.Joined.{AllPairs-nil}
 use Rattle.i_tree.proofs.RootLemmas.Lists.{AllPairs-head, Contains-here}
 use Rattle.plane.specs.declared.edge.Edge.{Edge}
 use Rattle.plane.specs.declared.point.Point.{Point}
 use Rattle.overlay.specs.Snap.Windings.{end_of, pieces, start_of}
-use Rattle.overlay.specs.Stretches.{Falls, IsLong, IsStretch, Rises}
+use Rattle.overlay.specs.Stretches.{Falls, IsStretch, Rises}
 use Rattle.overlay.specs.Stretches.Cut.{Follows, GoAlong, IsPart, way}
 
 -- ---- the next edge of a part

@@ -1,6 +1,6 @@
 -- How edges are cut into parts whose points are stretches. For private contracts.
 use Rattle.std.specs.Prelude.{◌≡◌, ◌⊎◌, ℕ, suc, ◌<◌, ◌≤◌, ◌<ℤ◌, Bool, true, false, List, [], ◌∷◌, ◌++◌, All, Contains, drop, get_or, length, map, take}
-use Rattle.std.specs.List.{AllZip, flat_map}
+use Rattle.std.specs.List.{AllZip, between, flat_map}
 use Rattle.plane.specs.declared.edge.Edge.{Edge}
 use Rattle.plane.specs.declared.point.Point.{Point}
 use Rattle.overlay.specs.Snap.Offsets.{AreJoined, offsets}
@@ -30,6 +30,12 @@ way (edge ∷ rest) = start_of edge ∷ map end_of (edge ∷ rest)
 -- The parts of edges, one after another, and where each stops among these.
 abbrev pub AreParts : List Edge → List ℕ → List (List Edge) → Type 0
 AreParts edges ends parts = AreJoined parts edges ends × All IsPart parts
+
+-- Behind the ends before stand those of parts of the edges from the one place on, and before the other, each of so many at most.
+abbrev pub IsCutInParts : List Edge → ℕ → ℕ → ℕ → List ℕ → List ℕ → Type 0
+IsCutInParts edges from upto most before ends =
+    (parts : List (List Edge)) × (between from upto edges ≡ flat_map (λ part. part) parts) × All IsPart parts × All (λ part. length part ≤ most) parts
+    × (ends ≡ before ++ offsets from parts)
 
 -- So are these, some up to this place among the edges and the others from there on.
 abbrev pub AreSplit : List Edge → ℕ → List ℕ → List (List Edge) → List (List Edge) → Type 0

@@ -1,5 +1,5 @@
 -- Where parts of edges lie, and when two of them come to each other. For private contracts.
-use Rattle.std.specs.Prelude.{◌≡◌, ◌⊎◌, ℕ, ◌<◌, ◌+◌, ℤ, pos, ◌+ℤ◌, ◌-ℤ◌, ◌<ℤ◌, ◌≤ℤ◌, Bool, cond, IsTrue, List, All, Contains, length, unsigned_abs}
+use Rattle.std.specs.Prelude.{◌≡◌, ◌⊎◌, ◌<◌, ◌+◌, ℤ, pos, ◌+ℤ◌, ◌-ℤ◌, ◌<ℤ◌, ◌≤ℤ◌, cond, IsTrue, List, All, Contains, length, unsigned_abs}
 use Rattle.std.specs.Int.Signed.{lt_z}
 use Rattle.plane.specs.declared.edge.Edge.{Edge}
 use Rattle.plane.specs.declared.pairs.items.Bounds.{Bounds}

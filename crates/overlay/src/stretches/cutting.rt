@@ -5,12 +5,18 @@ ghost use Rattle.std.specs.Prelude.{◌≡◌, ◌<◌, ◌≤◌, ◌+◌, ◌+
 ghost use Rattle.std.specs.List.{between, flat_map};
 ghost use Rattle.plane.specs.declared.edge.Edge.{Edge};
 ghost use Rattle.overlay.specs.Snap.Offsets.{offsets};
-ghost use Rattle.overlay.specs.Stretches.Cut.{AreSplit, Follows, GoAlong, IsPart};
+ghost use Rattle.overlay.specs.Stretches.Cut.{AreSplit, Follows, GoAlong, IsCutInParts, IsPart};
 
 use plane::edge::Edge;
 use std::alloc::{AllocError, Allocator};
 
+/// How many edges a run has at least that isn't cut into single edges.
+const SHORTEST: usize = 4;
+
 /// Where parts of the edges stop, each of so many edges at most. None goes on over the bound.
+///
+/// Edges that follow each other are a run. Where a ring turns back, the last edge of one run and the first one of the next
+/// lie near each other: so both stand alone, and what lies between them is cut.
 pub fn parts_of<A: Allocator>(
     alloc: A,
     edges: &[Edge],
@@ -23,13 +29,13 @@ pub fn parts_of<A: Allocator>(
         × AreSplit edges.now bound ends.items front back) }
 {
     let mut ends = Vec::new(alloc);
-    push_parts(edges, 0, bound, most, &mut ends)?;
-    push_parts(edges, bound, edges.len(), most, &mut ends)?;
+    push_runs(edges, 0, bound, most, &mut ends)?;
+    push_runs(edges, bound, edges.len(), most, &mut ends)?;
     Ok(ends)
 }
 
-/// Appends where parts of the edges from the one place on, and before the other, stop, each of so many edges at most.
-pub fn push_parts<A: Allocator>(
+// Appends where parts of the edges from the one place on, and before the other, stop.
+fn push_runs<A: Allocator>(
     edges: &[Edge],
     from: usize,
     upto: usize,
@@ -39,46 +45,93 @@ pub fn push_parts<A: Allocator>(
     requires order { from ≤ upto }
     requires within { upto ≤ length edges.now }
     requires most { 0 < most }
-    ensures { OnOk result ((parts : List (List Edge)) × (between from upto edges.now ≡ flat_map (λ part. part) parts)
-        × All IsPart parts × All (λ part. length part ≤ most) parts
-        × (ends.new.items ≡ ends.old.items ++ offsets from parts)) }
+    ensures { OnOk result (IsCutInParts edges.now from upto most ends.old.items ends.new.items) }
 {
     let mut next = from;
     while next < upto {
-        next = part_end(edges, next, upto, most);
-        ends.push(next)?;
+        let end = run_end(edges, next, upto);
+        push_run(edges, next, end, most, ends)?;
+        next = end;
     }
     Ok(())
 }
 
-// Where a part that begins with the edge at this place stops, before the other place, and of so many edges at most.
-fn part_end(edges: &[Edge], from: usize, upto: usize, most: usize) -> usize
+// Where the run that begins with the edge at this place stops, before the other place.
+fn run_end(edges: &[Edge], from: usize, upto: usize) -> usize
     requires order { from < upto }
     requires within { upto ≤ length edges.now }
-    requires most { 0 < most }
     ensures some { from < result }
     ensures within { result ≤ upto }
-    ensures few { result ≤ from + most }
     ensures is { IsPart (between from result edges.now) }
 {
     let mut next = from + 1;
-    while next < upto && next - from < most && follows(edges[next - 1], edges[next]) {
+    while next < upto && follows(edges[next - 1], edges[next]) {
         next += 1;
     }
     next
 }
 
-/// How many of the edges don't follow the one before.
-pub fn count_breaks(edges: &[Edge]) -> usize {
-    let mut count = 0;
-    for place in 1..edges.len() {
-        if !follows(edges[place - 1], edges[place]) {
-            count += 1;
-        }
+// Appends where the parts of a run stop: its first edge and its last one stand alone, and so do all of a short one.
+fn push_run<A: Allocator>(
+    edges: &[Edge],
+    from: usize,
+    upto: usize,
+    most: usize,
+    ends: &mut Vec<usize, A>,
+) -> Result<(), AllocError>
+    requires order { from < upto }
+    requires within { upto ≤ length edges.now }
+    requires most { 0 < most }
+    requires run { IsPart (between from upto edges.now) }
+    ensures { OnOk result (IsCutInParts edges.now from upto most ends.old.items ends.new.items) }
+{
+    if upto - from < SHORTEST {
+        push_parts(edges, from, upto, 1, most, ends)?;
+        return Ok(());
     }
-    count
+    push_parts(edges, from, from + 1, 1, most, ends)?;
+    push_parts(edges, from + 1, upto - 1, most, most, ends)?;
+    push_parts(edges, upto - 1, upto, 1, most, ends)?;
+    Ok(())
 }
 
+/// Appends where parts of so many edges of a run stop, from the one place on and before the other.
+pub fn push_parts<A: Allocator>(
+    edges: &[Edge],
+    from: usize,
+    upto: usize,
+    size: usize,
+    most: usize,
+    ends: &mut Vec<usize, A>,
+) -> Result<(), AllocError>
+    requires order { from < upto }
+    requires within { upto ≤ length edges.now }
+    requires some { 0 < size }
+    requires most { size ≤ most }
+    requires run { IsPart (between from upto edges.now) }
+    ensures { OnOk result (IsCutInParts edges.now from upto most ends.old.items ends.new.items) }
+{
+    let mut next = from;
+    while next < upto {
+        next = part_end(next, upto, size);
+        ends.push(next)?;
+    }
+    Ok(())
+}
+
+// Where a part of so many edges stops, or before the other place.
+fn part_end(from: usize, upto: usize, size: usize) -> usize
+    requires order { from < upto }
+    requires some { 0 < size }
+    ensures some { from < result }
+    ensures within { result ≤ upto }
+    ensures few { result ≤ from + size }
+{
+    if upto - from < size {
+        return upto;
+    }
+    from + size
+}
 // Whether the other edge follows the one.
 fn follows(one: Edge, other: Edge) -> bool
     ensures { OnTrue result (Follows one other) }
@@ -95,4 +148,18 @@ fn go_along(one: Edge, other: Edge) -> bool
     } else {
         one.x1 < one.x0 && other.x1 < other.x0
     }
+}
+
+/// How many of the edges don't follow the one before, or if they are more than so many one more than these.
+pub fn count_breaks(edges: &[Edge], most: usize) -> usize {
+    let mut count = 0;
+    for place in 1..edges.len() {
+        if !follows(edges[place - 1], edges[place]) {
+            count += 1;
+            if count > most {
+                return count;
+            }
+        }
+    }
+    count
 }

@@ -9,10 +9,11 @@ use super::lines::are_apart;
 use super::spans::{part_of, spans_of};
 use i_tree::Refusal;
 use plane::edge::Edge;
-use plane::pairs::pairs_among;
-use std::alloc::Allocator;
+use plane::pairs::pairs_upto;
+use std::alloc::{AllocError, Allocator};
 
-/// Marks of the parts: of two parts both are marked, or they are clear of each other.
+/// Marks of the parts: of two parts both are marked, or they are clear of each other. Where more pairs of parts come near
+/// each other than there are edges, all are marked.
 pub fn busy_of<A: Allocator + Copy>(
     alloc: A,
     edges: &[Edge],
@@ -25,10 +26,20 @@ pub fn busy_of<A: Allocator + Copy>(
 {
     let spans = spans_of(alloc, edges, ends)?;
     let mut pairs = Vec::new(alloc);
-    pairs_among(&spans, &mut pairs)?;
+    let are_all = pairs_upto(&spans, edges.len(), &mut pairs)?;
+    if !are_all {
+        return Ok(all_busy(alloc, ends.len())?);
+    }
     let mut busy = vec![in alloc; false; ends.len()]?;
     mark(edges, ends, &pairs, &mut busy);
     Ok(busy)
+}
+
+// So many marks.
+fn all_busy<A: Allocator + Copy>(alloc: A, count: usize) -> Result<Vec<bool, A>, AllocError>
+    ensures { IfOk result (λ busy. (length busy.items ≡ count) × ((k : ℕ) → k < count → get_or busy.items k false ≡ true)) }
+{
+    vec![in alloc; true; count]
 }
 
 // Marks both places of each pair of parts that no line keeps apart.

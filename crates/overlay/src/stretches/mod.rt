@@ -54,6 +54,9 @@ pub fn stretches_of<A: Allocator + Copy>(
     }
     let edges = all_edges(alloc, subject, clip)?;
     let parts = parts_of(alloc, &edges, subject.len(), LONGEST)?;
+    if parts.len() > edges.len() / 8 {
+        return Ok(None);
+    }
     let shorter = relieved(alloc, &edges, &parts, SHORTER)?;
     let clear = relieved(alloc, &edges, &shorter, 1)?;
     if clear.len() == edges.len() {
@@ -62,8 +65,9 @@ pub fn stretches_of<A: Allocator + Copy>(
     Ok(Some(joined(alloc, &edges, &clear, subject.len())?))
 }
 
-// Whether more than a quarter of the edges don't follow the ones before.
+// Whether there are so many runs that more parts would be left than an eighth of the edges.
 fn are_short(subject: &[Edge], clip: &[Edge]) -> bool {
-    let quarter = subject.len() / 4 + clip.len() / 4;
-    count_breaks(subject) > quarter || count_breaks(clip) > quarter
+    let most = subject.len() / 24 + clip.len() / 24;
+    let count = count_breaks(subject, most);
+    count > most || count_breaks(clip, most - count) > most - count
 }

@@ -76,7 +76,7 @@ fn refine_part<A: Allocator>(
         × (refined.new.items ≡ refined.old.items ++ offsets start group)) }
 {
     if busy {
-        push_parts(edges, start, end, most, refined)?;
+        push_parts(edges, start, end, most, most, refined)?;
     } else {
         refined.push(end)?;
     }

@@ -9,7 +9,7 @@ use Rattle.std.proofs.lemmas.Option.{same_Some, get_or_from_slice_get, slice_get
 use Rattle.i_tree.specs.Seg.Buckets.{Buckets}
 use Rattle.i_tree.specs.Seg.Members.{Member}
 use Rattle.i_tree.proofs.RootLemmas.Joined.{AllPairs-append}
-use Rattle.plane.specs.Pairs.Pairs.{ArePairs, AreSomePairs}
+use Rattle.plane.specs.Pairs.Pairs.{ArePairs, AreMoreThan}
 use Rattle.plane.specs.Pairs.Parts.{AreParts, part_of}
 use Rattle.plane.specs.Pairs.Roles.{FindAll, IsBefore}
 use Rattle.plane.specs.Pairs.Strips.{strip_at, Reaches, IsOverStrip}
@@ -261,9 +261,10 @@ ArePairs-told {X} {bounds} {Meeting} boxed strips items parts all base are told 
     above place item stands = subst (λ (one : X). strips.base ≤ℤ (bounds one).low) (get_or_from_slice_get items place item item stands) (base place item (slice_get_within items place item stands))
 
 -- what is told is of them
-pub AreSomePairs-told : {X : Type 0} {bounds : X → Bounds} {Meeting : X → X → Type 0} (boxed : MeetInBoxes bounds Meeting) (strips : Strips) (items : List X) (parts : List Part) (some : List (ℕ × ℕ)) → 0 < length some → AreTold bounds Meeting strips items parts some → AreSomePairs Meeting items some
-AreSomePairs-told boxed strips items parts some above told = record {
-  some = above;
+pub AreMoreThan-told : {X : Type 0} {bounds : X → Bounds} {Meeting : X → X → Type 0} (boxed : MeetInBoxes bounds Meeting) (strips : Strips) (items : List X) (parts : List Part) (most : ℕ) (some : List (ℕ × ℕ)) → most < length some → AreTold bounds Meeting strips items parts some → AreMoreThan Meeting items most some
+AreMoreThan-told boxed strips items parts most some more told = record {
+  more = more;
+  once = told.once;
   of = λ k d within.
       let pair = get_or some k d in
       let both = told.of pair.0 pair.1 (Contains-get_or some k d within) in

@@ -1,6 +1,5 @@
 -- The sweep through the parts of all strips: what holds once some are served, and how one more is.
-use Rattle.std.proofs.Common.{◌≡◌, ◌≢◌, ◌⊎◌, inl, inr, ℕ, ◌<◌, ◌≤◌, ◌+◌, ℤ, ◌≤ℤ◌, ◌<ℤ◌, false, Bool, Option, Some, None, List, [], ◌∷◌, ◌++◌, length, get_or, take, append-nil, append_assoc, length-append, Ordering, Less, Equal, Greater, refl, sym, ap, ◌∙◌, subst, ⊎_elim, arith}
-use Rattle.std.specs.Bool.{IsTrue}
+use Rattle.std.proofs.Common.{◌≡◌, ◌≢◌, ◌⊎◌, inl, inr, ℕ, ◌<◌, ◌≤◌, ◌+◌, ℤ, ◌≤ℤ◌, ◌<ℤ◌, false, Option, Some, None, List, [], ◌∷◌, ◌++◌, length, get_or, take, append-nil, append_assoc, length-append, Ordering, Less, Equal, Greater, refl, sym, ap, ◌∙◌, subst, ⊎_elim, arith}
 use Rattle.std.specs.List.{All, Contains, slice_get}
 use Rattle.std.specs.Ordering.{MatchOrdering, int_cmp, is_lt}
 use Rattle.std.proofs.lemmas.Bool.{cases_eq}
@@ -23,7 +22,7 @@ use Rattle.plane.specs.declared.pairs.roles.Roles.{Roles}
 use Rattle.plane.specs.declared.pairs.strips.Strips.{Strips}
 use Rattle.plane.specs.declared.pairs.sweep.Placed.{Placed}
 use Rattle.plane.proofs.PairsLemmas.Bags.{not_before}
-use Rattle.plane.proofs.PairsLemmas.Complete.{AreTold, AreTold-none, AreTold-served, ArePairs-told, AreSomePairs-told}
+use Rattle.plane.proofs.PairsLemmas.Complete.{AreTold, AreTold-none, AreTold-served, ArePairs-told, AreMoreThan-told}
 use Rattle.plane.proofs.PairsLemmas.Status.{Holds, Holds-nothing, Holds-served, IsServed, placed_at, begins_upto}
 use Rattle.plane.specs.declared.pairs.items.Bounds.{Bounds}
 use Rattle.plane.specs.Pairs.Bounds.{MeetInBoxes}
@@ -53,17 +52,17 @@ module _ {X : Type 0} {bounds : X → Bounds} {Meeting : X → X → Type 0} (bo
   }
 
   -- all parts are served
-  pub Served-all : (k strip : ℕ) (tree : Contents ℤ (Placed X)) (enough : Bool) (before now : List (ℕ × ℕ)) → length parts ≤ k → All (λ item. strips.base ≤ℤ (bounds item).low) items → AreParts bounds strips items parts
-      → Served bounds Meeting roles strips items parts k strip tree before now → GainsAll Meeting items enough before now
-  Served-all k strip tree enough before now past base are served =
+  pub Served-all : (k strip : ℕ) (tree : Contents ℤ (Placed X)) (most : ℕ) (before now : List (ℕ × ℕ)) → length parts ≤ k → All (λ item. strips.base ≤ℤ (bounds item).low) items → AreParts bounds strips items parts
+      → Served bounds Meeting roles strips items parts k strip tree before now → GainsAll Meeting items most before now
+  Served-all k strip tree most before now past base are served =
       (served.pairs, served.gained, inl (ArePairs-told boxed strips items parts served.pairs base are (subst (λ (all : List Part). AreTold bounds Meeting strips items all served.pairs) (take_all k parts past) served.told)))
 
-  -- some are, and a pair is told, which is enough
-  pub Served-enough : (k strip : ℕ) (tree : Contents ℤ (Placed X)) (enough : Bool) (before now : List (ℕ × ℕ)) → IsTrue enough → length before < length now
-      → Served bounds Meeting roles strips items parts k strip tree before now → GainsAll Meeting items enough before now
-  Served-enough k strip tree enough before now one longer served =
+  -- some are, and more than so many pairs are told
+  pub Served-enough : (k strip : ℕ) (tree : Contents ℤ (Placed X)) (most : ℕ) (before now : List (ℕ × ℕ)) → length before + most < length now
+      → Served bounds Meeting roles strips items parts k strip tree before now → GainsAll Meeting items most before now
+  Served-enough k strip tree most before now longer served =
       let size = ap length served.gained ∙ length-append before served.pairs in
-      (served.pairs, served.gained, inr (one, AreSomePairs-told boxed strips items (take k parts) served.pairs (omega (arith, size, longer)) served.told))
+      (served.pairs, served.gained, inr (AreMoreThan-told boxed strips items (take k parts) most served.pairs (omega (arith, size, longer)) served.told))
 
   -- The part at the place k is served next.
   module _ (base : All (λ item. strips.base ≤ℤ (bounds item).low) items) (are : AreParts bounds strips items parts) (k : ℕ) (d : Part) (inside : k < length parts) where

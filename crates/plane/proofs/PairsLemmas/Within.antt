@@ -1,12 +1,11 @@
 -- Pairs are places of the lists whose items they name.
-use Rattle.std.proofs.Common.{◌≡◌, ◌⊎◌, inl, inr, ℕ, ◌<◌, Bool, Option, Some, None, List, ◌++◌, length, get_or, drop, ap, sym, ◌∙◌, subst}
-use Rattle.std.specs.Bool.{IsTrue}
+use Rattle.std.proofs.Common.{◌≡◌, ◌⊎◌, inl, inr, ℕ, ◌<◌, Option, Some, None, List, ◌++◌, length, get_or, drop, ap, sym, ◌∙◌, subst}
 use Rattle.std.specs.List.{All}
 use Rattle.std.specs.Option.{IfSome, MatchOption}
 use Rattle.std.proofs.Math.Seq.{drop-append_seam}
 use Rattle.std.proofs.lemmas.List.Elements.{Contains-get_or}
 use Rattle.std.proofs.lemmas.Option.{slice_get_within}
-use Rattle.plane.specs.Pairs.Pairs.{PairAt, PairBetween, ArePairs, ArePairsBetween, AreSomePairs, GainsAll}
+use Rattle.plane.specs.Pairs.Pairs.{PairAt, PairBetween, ArePairs, ArePairsBetween, AreMoreThan, GainsAll}
 
 -- a pair of one list
 pair_within : {X : Type 0} (Meeting : X → X → Type 0) (items : List X) (i j : ℕ) → PairAt Meeting items i j → (i < j) × (j < length items)
@@ -20,15 +19,15 @@ between_within Meeting items others i j pair = (slice_get_within items i pair.on
 gained : (P : ℕ × ℕ → Type 0) (before after pairs : List (ℕ × ℕ)) → after ≡ before ++ pairs → All P pairs → All P (drop (length before) after)
 gained P before after pairs is all = subst (All P) (sym (ap (drop (length before)) is ∙ drop-append_seam before pairs)) all
 
-pub gained-within : {X : Type 0} (Meeting : X → X → Type 0) (items : List X) (enough : Bool) (before after : List (ℕ × ℕ)) → GainsAll Meeting items enough before after
+pub gained-within : {X : Type 0} (Meeting : X → X → Type 0) (items : List X) (most : ℕ) (before after : List (ℕ × ℕ)) → GainsAll Meeting items most before after
     → All (λ pair. (pair.0 < pair.1) × (pair.1 < length items)) (drop (length before) after)
-gained-within {X} Meeting items enough before after (pairs, is, told) =
+gained-within {X} Meeting items most before after (pairs, is, told) =
     gained (λ pair. (pair.0 < pair.1) × (pair.1 < length items)) before after pairs is
     (λ k d within. let pair = get_or pairs k d in pair_within Meeting items pair.0 pair.1 (of told k d within))
   where
-    of : ArePairs Meeting items pairs ⊎ (IsTrue enough × AreSomePairs Meeting items pairs) → (k : ℕ) (d : ℕ × ℕ) → k < length pairs → PairAt Meeting items (get_or pairs k d).0 (get_or pairs k d).1
+    of : ArePairs Meeting items pairs ⊎ AreMoreThan Meeting items most pairs → (k : ℕ) (d : ℕ × ℕ) → k < length pairs → PairAt Meeting items (get_or pairs k d).0 (get_or pairs k d).1
     of (inl are) k d within = (are.exact (get_or pairs k d).0 (get_or pairs k d).1).0 (Contains-get_or pairs k d within)
-    of (inr (_, some)) k d within = some.of k d within
+    of (inr some) k d within = some.of k d within
 
 -- and of a pair that is found
 pub found-within : {X : Type 0} (Meeting : X → X → Type 0) (items : List X) (found : Option (ℕ × ℕ)) → MatchOption found ((i j : ℕ) → ¬ (PairAt Meeting items i j)) (λ pair. PairAt Meeting items pair.0 pair.1)

@@ -1,5 +1,5 @@
 -- Which pairs of items stand in a relation: of one list, or of two.
-use Rattle.std.specs.Prelude.{◌≡◌, ◌≢◌, ◌↔◌, ◌⊎◌, ℕ, ◌<◌, Bool, IsTrue, List, Some, ◌++◌, All, AllPairs, Contains, length, slice_get}
+use Rattle.std.specs.Prelude.{◌≡◌, ◌≢◌, ◌↔◌, ◌⊎◌, ℕ, ◌<◌, List, Some, ◌++◌, All, AllPairs, Contains, length, slice_get}
 
 -- The items at these two places of the list stand in the relation, the first place below the second.
 pub record PairAt {X : Type 0} (Meeting : X → X → Type 0) (items : List X) (i j : ℕ) : Type 0 where
@@ -28,12 +28,13 @@ pub record ArePairsBetween {X Y : Type 0} (Meeting : X → Y → Type 0) (items 
   pub once : AllPairs (λ pair later. pair ≢ later) pairs
   pub exact : (i j : ℕ) → Contains pairs (i, j) ↔ PairBetween Meeting items others i j
 
--- There is a pair, and all are such pairs.
-pub record AreSomePairs {X : Type 0} (Meeting : X → X → Type 0) (items : List X) (pairs : List (ℕ × ℕ)) : Type 0 where
-  pub some : 0 < length pairs
+-- These are more than so many such pairs, each of them once.
+pub record AreMoreThan {X : Type 0} (Meeting : X → X → Type 0) (items : List X) (most : ℕ) (pairs : List (ℕ × ℕ)) : Type 0 where
+  pub more : most < length pairs
+  pub once : AllPairs (λ pair later. pair ≢ later) pairs
   pub of : All (λ pair. PairAt Meeting items pair.0 pair.1) pairs
 
--- The list gains all pairs at its end, or, where one is enough, some of them.
-abbrev pub GainsAll : {X : Type 0} → (X → X → Type 0) → List X → Bool → List (ℕ × ℕ) → List (ℕ × ℕ) → Type 0
-GainsAll Meeting items enough before after =
-    (pairs : List (ℕ × ℕ)) × (after ≡ before ++ pairs) × (ArePairs Meeting items pairs ⊎ (IsTrue enough × AreSomePairs Meeting items pairs))
+-- The list gains all pairs at its end, or more than so many of them.
+abbrev pub GainsAll : {X : Type 0} → (X → X → Type 0) → List X → ℕ → List (ℕ × ℕ) → List (ℕ × ℕ) → Type 0
+GainsAll Meeting items most before after =
+    (pairs : List (ℕ × ℕ)) × (after ≡ before ++ pairs) × (ArePairs Meeting items pairs ⊎ AreMoreThan Meeting items most pairs)

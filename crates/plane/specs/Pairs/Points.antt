@@ -1,5 +1,6 @@
 -- What is told of items and points, row by row. For private contracts.
 use Rattle.std.specs.Prelude.{◌≡◌, ◌≢◌, ◌↔◌, ◌⊎◌, ℕ, ◌<◌, ◌≤◌, ℤ, ◌<ℤ◌, ◌≤ℤ◌, Some, List, ◌++◌, AllPairs, Contains, get_or, length, slice_get}
+use Rattle.plane.specs.declared.pairs.items.Bounds.{Bounds}
 use Rattle.plane.specs.declared.pairs.parts.Part.{Part}
 
 -- these are the pairs of places of which this holds, each once
@@ -50,3 +51,13 @@ pub record IsStart (parts : List Part) (row start : ℕ) : Type 0 where
 pub record AreStarts (parts : List Part) (place : ℕ) (starts : List ℕ) : Type 0 where
   pub each : (row d : ℕ) → row < length starts → IsStart parts row (get_or starts row d)
   pub all : (at : ℕ) (part : Part) → slice_get parts at ≡ Some part → at < place → part.strip < length starts
+
+-- these are the points of so many parts, in the order of the parts
+pub record ArePointsOf {Y : Type 0} (points : List Y) (parts : List Part) (count : ℕ) (ordered : List Y) : Type 0 where
+  pub many : length ordered ≡ count
+  pub each : (at : ℕ) (part : Part) (point : Y) → slice_get parts at ≡ Some part → slice_get ordered at ≡ Some point → slice_get points part.place ≡ Some point
+
+-- there are as many points as parts, and each part begins where the point in its place stands
+pub record BeginAs {Y : Type 0} (bounds : Y → Bounds) (parts : List Part) (ordered : List Y) : Type 0 where
+  pub many : length ordered ≡ length parts
+  pub each : (at : ℕ) (part : Part) (point : Y) → slice_get parts at ≡ Some part → slice_get ordered at ≡ Some point → (bounds point).left ≡ part.left

@@ -1,9 +1,9 @@
 //! Pairs of items that meet, among those whose boxes do.
 
-ghost use Rattle.std.specs.Prelude.{◌≡◌, ◌++◌, ◌<◌, ℕ, List, All, drop, length, IfSome, MatchOption, OnOk, OnErr, IfErr, IfOk};
+ghost use Rattle.std.specs.Prelude.{◌≡◌, ◌++◌, ◌<◌, ◌≤◌, ℕ, List, All, drop, length, IfSome, MatchBool, MatchOption, OnOk, OnErr, IfErr, IfOk};
 ghost use Rattle.i_tree.specs.declared.Refusal.TheVariants.{OutOfMemory};
 ghost use Rattle.plane.specs.Pairs.Bounds.{MeetInBoxes};
-ghost use Rattle.plane.specs.Pairs.Pairs.{PairAt, ArePairs, GainsAll};
+ghost use Rattle.plane.specs.Pairs.Pairs.{PairAt, ArePairs, AreMoreThan, GainsAll};
 ghost use Rattle.plane.specs.Pairs.Roles.{FindAll};
 ghost use Rattle.plane.specs.Pairs.Sweep.{Extends};
 
@@ -25,6 +25,7 @@ mod parts;
 mod points;
 mod read_ahead;
 mod roles;
+mod rows;
 mod strips;
 mod sweep;
 mod two;
@@ -51,6 +52,29 @@ pub fn pairs_among<T: Meets<T>, A: Allocator + Copy>(
     all_pairs(items, all_do(items.len()), out)
 }
 
+/// As `pairs_among`, but it gives up once it has more than `most` pairs, and answers whether all are there.
+///
+/// All are there exactly where they are at most so many. The sweep counts them behind each item, so where it gives up,
+/// all pairs of the last item with those before it are appended.
+pub fn pairs_upto<T: Meets<T>, A: Allocator + Copy>(
+    items: &[T],
+    most: usize,
+    out: &mut Vec<(usize, usize), A>,
+) -> Result<bool, Refusal>
+    requires { MeetInBoxes T.bounds T.Meeting }
+    ensures ok { IfOk result (λ are_all. (pairs : List (ℕ × ℕ)) × (out.new.items ≡ out.old.items ++ pairs)
+        × MatchBool are_all (ArePairs T.Meeting items.now pairs × (length pairs ≤ most))
+        (AreMoreThan T.Meeting items.now most pairs)) }
+    ensures within { OnOk result (All (λ pair. (pair.0 < pair.1) × (pair.1 < length items.now))
+        (drop (length out.old.items) out.new.items)) }
+    ensures err { OnErr result (out.new.items ≡ out.old.items) }
+    ensures refused { IfErr result (λ cause. cause ≡ OutOfMemory) }
+{
+    let start = out.len();
+    gain_pairs(items, all_do(items.len()), most, out)?;
+    Ok(out.len() - start <= most)
+}
+
 /// Some pair of places whose items meet, the lesser place first, or none exactly where no two items do. It is refused
 /// for want of memory alone.
 ///
@@ -66,7 +90,7 @@ pub fn first_pair<T: Meets<T>, A: Allocator + Copy>(
     ensures refused { IfErr result (λ cause. cause ≡ OutOfMemory) }
 {
     let mut found = Vec::new(alloc);
-    sweep_over(items, all_do(items.len()), true, &mut found)?;
+    sweep_over(items, all_do(items.len()), 0, &mut found)?;
     Ok(found.first().copied())
 }
 
@@ -85,25 +109,42 @@ fn all_pairs<T: Meets<T>, A: Allocator + Copy>(
     ensures err { OnErr result (out.new.items ≡ out.old.items) }
     ensures refused { IfErr result (λ cause. cause ≡ OutOfMemory) }
 {
+    gain_pairs(items, roles, usize::MAX, out)
+}
+
+// As `all_pairs`, but it stops once it has more than `most` pairs.
+fn gain_pairs<T: Meets<T>, A: Allocator + Copy>(
+    items: &[T],
+    roles: Roles,
+    most: usize,
+    out: &mut Vec<(usize, usize), A>,
+) -> Result<(), Refusal>
+    requires boxed { MeetInBoxes T.bounds T.Meeting }
+    requires roles { FindAll T.bounds T.Meeting roles items.now }
+    ensures ok { OnOk result (GainsAll T.Meeting items.now most out.old.items out.new.items) }
+    ensures within { OnOk result (All (λ pair. (pair.0 < pair.1) × (pair.1 < length items.now))
+        (drop (length out.old.items) out.new.items)) }
+    ensures err { OnErr result (out.new.items ≡ out.old.items) }
+    ensures refused { IfErr result (λ cause. cause ≡ OutOfMemory) }
+{
     let start = out.len();
-    let outcome = sweep_over(items, roles, false, out);
+    let outcome = sweep_over(items, roles, most, out);
     if outcome.is_err() {
         out.truncate(start);
     }
     outcome
 }
 
-// As `all_pairs`, but where it is refused, it may have appended some pairs; and where one is enough, it stops once it
-// has some.
+// As `gain_pairs`, but where it is refused, it may have appended some pairs.
 fn sweep_over<T: Meets<T>, A: Allocator + Copy>(
     items: &[T],
     roles: Roles,
-    enough: bool,
+    most: usize,
     out: &mut Vec<(usize, usize), A>,
 ) -> Result<(), Refusal>
     requires boxed { MeetInBoxes T.bounds T.Meeting }
     requires roles { FindAll T.bounds T.Meeting roles items.now }
-    ensures ok { OnOk result (GainsAll T.Meeting items.now enough out.old.items out.new.items) }
+    ensures ok { OnOk result (GainsAll T.Meeting items.now most out.old.items out.new.items) }
     ensures err { OnErr result (Extends out.old.items out.new.items) }
     ensures refused { IfErr result (λ cause. cause ≡ OutOfMemory) }
 {
@@ -114,6 +155,6 @@ fn sweep_over<T: Meets<T>, A: Allocator + Copy>(
     let mut tree = SegExpTree::new(alloc, strips.heights())?.unwrap();
     let mut near = Vec::new(alloc);
     append_pairs(
-        items, roles, enough, strips, &parts, &mut tree, &mut near, out,
+        items, roles, most, strips, &parts, &mut tree, &mut near, out,
     )
 }

@@ -2,15 +2,15 @@
 
 ghost use Rattle.std.specs.Prelude.{◌≡◌, ◌⊎◌, ◌++◌, ◌<◌, ◌≤◌, ◌+◌, ◌<ℤ◌, ◌≤ℤ◌, ℕ, List, All, AllPairs, MatchBool, Some, drop, length, slice_get, OnOk, OnErr, IfErr, IfOk};
 ghost use Rattle.i_tree.specs.declared.Refusal.TheVariants.{OutOfMemory};
-ghost use Rattle.plane.specs.Pairs.Bounds.{IsBox, IsPoint, MeetInBoxesAcross};
+ghost use Rattle.plane.specs.Pairs.Bounds.{IsPoint, MeetInBoxesAcross};
 ghost use Rattle.plane.specs.Pairs.Pairs.{ArePairsBetween, PairBetween};
 ghost use Rattle.plane.specs.Pairs.Parts.{AreParts, NotBehind};
-ghost use Rattle.plane.specs.Pairs.Points.{AreStarts, Gains, IsFirstFrom, IsStart, MeetsAt, MeetsPart};
+ghost use Rattle.plane.specs.Pairs.Points.{ArePointsOf, AreStarts, BeginAs, Gains, IsFirstFrom, IsStart, MeetsAt, MeetsPart};
 ghost use Rattle.plane.specs.Pairs.Sweep.{Extends};
 
-use super::cut::strips_for;
 use super::items::{Boxed, Meets};
 use super::parts::{Part, parts};
+use super::rows::rows_for;
 use super::strips::Strips;
 use i_tree::Refusal;
 use std::alloc::{AllocError, Allocator};
@@ -62,28 +62,36 @@ fn append_all<X: Meets<Y>, Y: Boxed, A: Allocator + Copy>(
     let rows = rows_for(items, points);
     let parts = parts(alloc, points, rows)?;
     let starts = starts_of(alloc, &parts)?;
+    let ordered = points_of(alloc, points, &parts)?;
     for place in 0..items.len() {
-        append_of_item(items[place], place, points, rows, &parts, &starts, out)?;
+        append_of_item(
+            items[place],
+            place,
+            points,
+            rows,
+            &parts,
+            &starts,
+            &ordered,
+            out,
+        )?;
     }
     Ok(())
 }
 
-// How many bits the rows are narrower than strips would be: a point stands in one row however narrow.
-const NARROWER: u32 = 3;
-
-// Rows of heights from the lowest point on. They are cut as the strips of items, or of points where these are wider, but
-// narrower. So there are few rows for each point, and few that an item reaches.
-fn rows_for<X: Boxed, Y: Boxed>(items: &[X], points: &[Y]) -> Strips
-    requires items { (item : X) → IsBox (X.bounds item) }
-    requires points { (point : Y) → IsBox (Y.bounds point) }
-    ensures { All (λ point. result.base ≤ℤ (Y.bounds point).low) points.now }
+// The points of the parts, in the order of these.
+fn points_of<Y: Copy, A: Allocator>(
+    alloc: A,
+    points: &[Y],
+    parts: &[Part],
+) -> Result<Vec<Y, A>, AllocError>
+    requires { All (λ part. part.place < length points.now) parts.now }
+    ensures { IfOk result (λ ordered. ArePointsOf points.now parts.now (length parts.now) ordered.items) }
 {
-    let strips = strips_for(points);
-    let bits = strips.bits.max(strips_for(items).bits);
-    Strips {
-        base: strips.base,
-        bits: bits.saturating_sub(NARROWER).max(5),
+    let mut ordered = Vec::with_capacity(alloc, parts.len())?;
+    for part in parts {
+        ordered.push(points[part.place])?;
     }
+    Ok(ordered)
 }
 
 // Where each row up to the last one that has a point begins among the parts of points.
@@ -136,6 +144,7 @@ fn append_of_item<X: Meets<Y>, Y: Boxed, A: Allocator>(
     rows: Strips,
     parts: &[Part],
     starts: &[usize],
+    ordered: &[Y],
     out: &mut Vec<(usize, usize), A>,
 ) -> Result<(), AllocError>
     requires boxed { MeetInBoxesAcross X.bounds Y.bounds X.Meeting }
@@ -143,6 +152,7 @@ fn append_of_item<X: Meets<Y>, Y: Boxed, A: Allocator>(
     requires base { All (λ point. rows.base ≤ℤ (Y.bounds point).low) points.now }
     requires parts { AreParts Y.bounds rows points.now parts.now }
     requires starts { AreStarts parts.now (length parts.now) starts.now }
+    requires ordered { ArePointsOf points.now parts.now (length parts.now) ordered.now }
     ensures ok { OnOk result (Gains (λ i j. (i ≡ place) × MeetsAt (X.Meeting item) points.now j)
         out.old.items out.new.items) }
     ensures err { OnErr result (Extends out.old.items out.new.items) }
@@ -151,7 +161,7 @@ fn append_of_item<X: Meets<Y>, Y: Boxed, A: Allocator>(
     let first = rows.strip_at(bounds.low.max(rows.base)) as usize;
     let last = rows.strip_at(bounds.high.max(rows.base)) as usize;
     for row in first..starts.len().min(last + 1) {
-        append_in_row(item, place, points, rows, parts, starts, row, out)?;
+        append_in_row(item, place, points, rows, parts, starts, ordered, row, out)?;
     }
     Ok(())
 }
@@ -164,6 +174,7 @@ fn append_in_row<X: Meets<Y>, Y: Boxed, A: Allocator>(
     rows: Strips,
     parts: &[Part],
     starts: &[usize],
+    ordered: &[Y],
     row: usize,
     out: &mut Vec<(usize, usize), A>,
 ) -> Result<(), AllocError>
@@ -171,6 +182,7 @@ fn append_in_row<X: Meets<Y>, Y: Boxed, A: Allocator>(
     requires points { All (λ point. IsPoint (Y.bounds point)) points.now }
     requires parts { AreParts Y.bounds rows points.now parts.now }
     requires starts { AreStarts parts.now (length parts.now) starts.now }
+    requires ordered { ArePointsOf points.now parts.now (length parts.now) ordered.now }
     requires reached { row < length starts.now }
     ensures ok { OnOk result (Gains
         (λ i j. (i ≡ place) × MeetsPart (X.Meeting item) points.now parts.now (λ _ part. part.strip ≡ row) j)
@@ -178,41 +190,48 @@ fn append_in_row<X: Meets<Y>, Y: Boxed, A: Allocator>(
     ensures err { OnErr result (Extends out.old.items out.new.items) }
 {
     let bounds = item.bounds();
-    let from = first_from(parts, starts, row, bounds.left);
+    let from = first_from(parts, starts, ordered, row, bounds.left);
     for next in from..start_of(starts, parts, row + 1) {
-        let part = parts[next];
-        if is_past(part, bounds.right) {
+        let point = ordered[next];
+        if is_past(point, bounds.right) {
             return Ok(());
         }
-        append_if_met(item, place, points[part.place], part.place, out)?;
+        append_if_met(item, place, point, &parts[next], out)?;
     }
     Ok(())
 }
 
-// Appends the pair of the item and the point where they meet.
+// Appends the pair of the item and the point of the part where they meet.
 fn append_if_met<X: Meets<Y>, Y: Boxed, A: Allocator>(
     item: X,
     place: usize,
     point: Y,
-    point_place: usize,
+    part: &Part,
     out: &mut Vec<(usize, usize), A>,
 ) -> Result<(), AllocError>
-    ensures ok { OnOk result (Gains (λ i j. (i ≡ place) × (j ≡ point_place) × X.Meeting item point)
+    ensures ok { OnOk result (Gains (λ i j. (i ≡ place) × (j ≡ part.now.place) × X.Meeting item point)
         out.old.items out.new.items) }
     ensures err { OnErr result (out.new.items ≡ out.old.items) }
 {
     if item.meets(point) {
-        out.push((place, point_place))?;
+        out.push((place, part.place))?;
     }
     Ok(())
 }
 
 // The place of the first part in the row from the x on, or in a row above, by halves of what stands in the row. Every
 // other comparison there would be guessed wrongly, so no branch depends on one.
-fn first_from(parts: &[Part], starts: &[usize], row: usize, left: i32) -> usize
+fn first_from<Y: Boxed>(
+    parts: &[Part],
+    starts: &[usize],
+    ordered: &[Y],
+    row: usize,
+    left: i32,
+) -> usize
     requires in_order { AllPairs NotBehind parts.now }
     requires starts { AreStarts parts.now (length parts.now) starts.now }
     requires reached { row < length starts.now }
+    requires begin { BeginAs Y.bounds parts.now ordered.now }
     ensures { IsFirstFrom parts.now row left result }
 {
     let start = start_of(starts, parts, row);
@@ -222,26 +241,26 @@ fn first_from(parts: &[Part], starts: &[usize], row: usize, left: i32) -> usize
     while size > 1 {
         let half = size / 2;
         let middle = first + half;
-        first += half * count_before(parts[middle], left);
+        first += half * count_before(ordered[middle], left);
         size -= half;
     }
     if size == 1 {
-        first += count_before(parts[first], left);
+        first += count_before(ordered[first], left);
     }
     first
 }
 
-// How many of this one part begin before the x: one or none, by the difference.
-fn count_before(part: Part, left: i32) -> usize
-    ensures { ((result ≡ 1) × (part.left <ℤ left)) ⊎ ((result ≡ 0) × (left ≤ℤ part.left)) }
+// How many of this one point stand before the x: one or none, by the difference.
+fn count_before<Y: Boxed>(point: Y, left: i32) -> usize
+    ensures { let at = (Y.bounds point).left in ((result ≡ 1) × (at <ℤ left)) ⊎ ((result ≡ 0) × (left ≤ℤ at)) }
 {
-    let above = (left as i64 - part.left as i64 + 0xffff_ffff) as u64;
+    let above = (left as i64 - point.bounds().left as i64 + 0xffff_ffff) as u64;
     (above / 0x1_0000_0000) as usize
 }
 
-// Whether the part begins beyond the x.
-fn is_past(part: Part, right: i32) -> bool
-    ensures { MatchBool result (right <ℤ part.left) (part.left ≤ℤ right) }
+// Whether the point stands beyond the x.
+fn is_past<Y: Boxed>(point: Y, right: i32) -> bool
+    ensures { let at = (Y.bounds point).left in MatchBool result (right <ℤ at) (at ≤ℤ right) }
 {
-    right < part.left
+    right < point.bounds().left
 }

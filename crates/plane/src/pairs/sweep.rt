@@ -1,6 +1,6 @@
 //! The sweep from left to right in each strip, over the items that are live at an x.
 
-ghost use Rattle.std.specs.Prelude.{◌≡◌, ◌≢◌, ◌⊎◌, ℤ, ◌≤ℤ◌, Bool, [], All, MatchBool, OnOk, OnErr, IfErr};
+ghost use Rattle.std.specs.Prelude.{◌≡◌, ◌≢◌, ◌⊎◌, ℤ, ◌≤ℤ◌, [], All, MatchBool, OnOk, OnErr, IfErr};
 ghost use Rattle.std.specs.Ordering.{int_cmp};
 ghost use Rattle.std.specs.declared.option.Option.TheVariants.{None, Some};
 ghost use Rattle.i_tree.specs.declared.Refusal.TheVariants.{OutOfMemory};
@@ -38,12 +38,12 @@ impl<T: Boxed> ExpiredVal<i32> for Placed<T> {
     }
 }
 
-/// Appends the pairs of places whose items meet, where their roles find them all. Where one is enough, it stops once it
-/// has some. The tree is new, over the heights of a strip.
+/// Appends the pairs of places whose items meet, where their roles find them all. It stops behind an item where it has
+/// more than `most`. The tree is new, over the heights of a strip.
 pub fn append_pairs<T: Meets<T>, A: Allocator + Copy>(
     items: &[T],
     roles: Roles,
-    enough: bool,
+    most: usize,
     strips: Strips,
     parts: &[Part],
     tree: &mut SegExpTree<u32, i32, Placed<T>, A>,
@@ -57,11 +57,11 @@ pub fn append_pairs<T: Meets<T>, A: Allocator + Copy>(
     requires over { IsOverStrip strips tree.old.buckets }
     requires empty { tree.old.members ≡ [] }
     requires unasked { tree.old.latest ≡ None }
-    ensures ok { OnOk result (GainsAll T.Meeting items.now enough out.old.items out.new.items) }
+    ensures ok { OnOk result (GainsAll T.Meeting items.now most out.old.items out.new.items) }
     ensures err { OnErr result (Extends out.old.items out.new.items) }
     ensures refused { IfErr result (λ cause. cause ≡ OutOfMemory) }
 {
-    let start = out.len();
+    let limit = out.len().saturating_add(most);
     let mut strip = 0;
     let mut ahead = ReadAhead::new(*out.allocator());
     for (next, part) in parts.iter().enumerate() {
@@ -78,7 +78,7 @@ pub fn append_pairs<T: Meets<T>, A: Allocator + Copy>(
             near,
             out,
         )?;
-        if enough && out.len() > start {
+        if out.len() > limit {
             return Ok(());
         }
     }

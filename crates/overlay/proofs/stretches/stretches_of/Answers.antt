@@ -1,4 +1,4 @@
-use Rattle.std.proofs.Common.{◌≡◌, ◌++◌, ℕ, List, leb, ap, subst, subst₂, sym, ◌∙◌, length}
+use Rattle.std.proofs.Common.{ℕ, List, leb, ap, subst, subst₂, sym, ◌∙◌, length}
 use Rattle.std.specs.List.{count_by}
 use Rattle.plane.specs.declared.edge.Edge.{Edge}
 use Rattle.overlay.specs.Stretches.Cut.{AreParts, AreSplit}

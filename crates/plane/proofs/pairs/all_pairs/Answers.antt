@@ -1,8 +1,10 @@
-use Rattle.std.proofs.Common.{false}
+use Rattle.std.proofs.Common.{◌≤◌, length, arith}
 use Rattle.std.proofs.lemmas.Result.{on_ok_weaker}
-use Rattle.plane.proofs.PairsLemmas.Within.{gained-within}
+use Rattle.plane.proofs.PairsLemmas.Upto.{all_gained}
 use Rattle.plane.proofs.pairs.all_pairs.Goals as goal
 
-pub returns-else-is_err-clause-within : goal.returns-else-is_err-clause-within
-returns-else-is_err-clause-within g c =
-    on_ok_weaker c.sweep_over-outcome.result (gained-within g.T.Meets.Meeting c.args.items.now false c.args.out.now.items c.sweep_over-outcome.new.out.items) c.sweep_over-outcome.ensures.ok
+pub returns-clause-ok : goal.returns-clause-ok
+returns-clause-ok g c =
+    let after = c.gain_pairs.new.out.items in
+    let fits : length after ≤ 18446744073709551615 = omega arith in
+    on_ok_weaker c.gain_pairs.result (all_gained g.T.Meets.Meeting c.args.items.now 18446744073709551615 c.args.out.now.items after fits) c.gain_pairs.ensures.ok

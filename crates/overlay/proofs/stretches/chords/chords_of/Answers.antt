@@ -1,8 +1,8 @@
-use Rattle.std.proofs.Common.{◌≡◌, ◌≤◌, ◌<◌, ◌++◌, ◌∷◌, List, [], length, map, take, get_or, ap, ap₂, sym, ◌∙◌, subst, arith}
+use Rattle.std.proofs.Common.{◌≤◌, ◌++◌, ◌∷◌, List, [], length, map, take, get_or, ap, ap₂, sym, ◌∙◌, arith}
 use Rattle.std.proofs.lemmas.List.{map-append, take_all, take_more}
 use Rattle.plane.specs.declared.edge.Edge.{Edge}
 use Rattle.plane.specs.declared.point.Point.{Point}
-use Rattle.overlay.specs.Stretches.{IsStretch, chord}
+use Rattle.overlay.specs.Stretches.{chord}
 use Rattle.overlay.proofs.ChainLemmas.Runs.{length-between}
 use Rattle.overlay.proofs.SnapLemmas.Standing.{IsNext-at, length-offsets}
 use Rattle.overlay.proofs.stretches.chords.chords_of.Goals as goal

@@ -1,8 +1,7 @@
-use Rattle.std.proofs.Common.{◌≤◌, length}
 use Rattle.overlay.proofs.StretchLemmas.CutCallers.{AreSplit-both}
 use Rattle.overlay.proofs.stretches.cutting.parts_of.Goals as goal
 
 pub returns : goal.returns
 returns g c =
-    AreSplit-both c.args.edges.now c.args.bound c.args.most c.new-ends.result.items c.push_parts.new.ends.items c.push_parts-2.new.ends.items
-    c.requires.bound c.new-ends.ensures.items c.in_ok-push_parts.ensures c.in_ok-push_parts-2.ensures
+    AreSplit-both c.args.edges.now c.args.bound c.args.most c.new-ends.result.items c.push_runs.new.ends.items c.push_runs-2.new.ends.items
+    c.requires.bound c.new-ends.ensures.items c.in_ok-push_runs.ensures c.in_ok-push_runs-2.ensures

@@ -1,11 +1,11 @@
-use Rattle.std.proofs.Common.{◌≡◌, inl, inr, ◌<◌, ◌+ℤ◌, ◌<ℤ◌, ℕ, ℤ, pos, to_z, of_z, get_or, length, ap, sym, subst, ◌∙◌, rules, arith}
+use Rattle.std.proofs.Common.{◌≡◌, inl, inr, ◌+ℤ◌, ◌<ℤ◌, ℕ, ℤ, pos, to_z, of_z, get_or, ap, subst, ◌∙◌, rules, arith}
 use Rattle.std.specs.Int.{w128}
 use Rattle.std.specs.List.{All}
 use Rattle.std.proofs.lemmas.Bool.{cases_lt}
 use Rattle.std.proofs.lemmas.List.{get_or_default}
 use Rattle.plane.specs.declared.edge.Edge.{Edge}
 use Rattle.plane.specs.declared.point.Point.{Point}
-use Rattle.overlay.specs.Snap.Windings.{end_of, start_of}
+use Rattle.overlay.specs.Snap.Windings.{end_of}
 use Rattle.overlay.specs.Stretches.Cut.{way}
 use Rattle.overlay.specs.Stretches.Spans.{height_over, margin_of}
 use Rattle.overlay.proofs.StretchLemmas.CutSpans.{All-way}

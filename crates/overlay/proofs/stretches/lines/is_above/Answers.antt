@@ -1,4 +1,4 @@
-use Rattle.std.proofs.Common.{◌≡◌, ◌+ℤ◌, ◌<ℤ◌, ℤ, FitsSigned, to_z, of_z, rules, arith, sym, subst, subst₂, ap₂, ◌∙◌}
+use Rattle.std.proofs.Common.{◌≡◌, ◌+ℤ◌, ◌<ℤ◌, ℤ, FitsSigned, to_z, of_z, rules, arith, subst₂, ap₂, ◌∙◌}
 use Rattle.std.specs.Int.{w128}
 use Rattle.std.proofs.lemmas.Bool.{OnTrue_from}
 use Rattle.std.proofs.lemmas.Int.{ints, to_z-of_z}

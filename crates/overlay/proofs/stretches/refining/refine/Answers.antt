@@ -1,10 +1,8 @@
-use Rattle.std.proofs.Common.{◌≡◌, ◌≤◌, List, [], length, take, get_or, refl, ap, sym, ◌∙◌, subst, arith}
+use Rattle.std.proofs.Common.{◌≤◌, List, [], length, refl, ap, sym, subst, arith}
 use Rattle.std.proofs.lemmas.List.{take_all}
 use Rattle.plane.specs.declared.edge.Edge.{Edge}
-use Rattle.overlay.specs.Snap.Offsets.{offsets}
-use Rattle.overlay.specs.Stretches.Cut.{AreParts, AreRefined, IsPart}
-use Rattle.overlay.proofs.ChainLemmas.Offsets.{joined}
-use Rattle.overlay.proofs.SnapLemmas.Standing.{IsNext, IsNext-at, length-offsets}
+use Rattle.overlay.specs.Stretches.Cut.{AreRefined, IsPart}
+use Rattle.overlay.proofs.SnapLemmas.Standing.{IsNext-at, length-offsets}
 use Rattle.overlay.proofs.StretchLemmas.CutCallers.{refined-more}
 use Rattle.overlay.proofs.StretchLemmas.CutGroups.{AreRefined-none}
 use Rattle.overlay.proofs.stretches.refining.refine.Goals as goal

@@ -1,4 +1,4 @@
-use Rattle.std.proofs.Common.{◌≡◌, List, Bool, ap, subst, sym, ◌∙◌, length}
+use Rattle.std.proofs.Common.{List, Bool, ap, subst, sym, ◌∙◌, length}
 use Rattle.overlay.specs.Stretches.Cut.{AreSettled}
 use Rattle.overlay.proofs.stretches.refining.relieved.Goals as goal
 

@@ -1,9 +1,8 @@
-use Rattle.std.proofs.Common.{◌≡◌, ◌<◌, ◌≤ℤ◌, ℕ, ℤ, pos, suc, get_or, to_z, of_z, w32, FitsSigned, inl, inr, length, rules, arith, subst, sym, ap, ◌∙◌}
+use Rattle.std.proofs.Common.{◌≡◌, ℕ, pos, get_or, to_z, of_z, w32, FitsSigned, inl, inr, rules, arith, ap, ◌∙◌}
 use Rattle.std.proofs.lemmas.Bool.{cases_lt}
 use Rattle.std.proofs.lemmas.Int.{ints, to_z-of_z}
 use Rattle.std.proofs.lemmas.List.{get_or_default}
 use Rattle.plane.specs.declared.edge.Edge.{Edge}
-use Rattle.plane.specs.declared.point.Point.{Point}
 use Rattle.overlay.specs.Stretches.Spans.{HasHeights}
 use Rattle.overlay.specs.declared.stretches.spans.Heights.{Heights}
 use Rattle.overlay.proofs.StretchLemmas.CutSpans.{All-way}

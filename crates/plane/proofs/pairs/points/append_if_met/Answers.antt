@@ -4,5 +4,5 @@ use Rattle.plane.proofs.pairs.points.append_if_met.Goals as goal
 
 pub returns-in_ok-push-clause-ok : goal.returns-in_ok-push-clause-ok
 returns-in_ok-push-clause-ok g c =
-    Gains-one (λ i j. (i ≡ c.args.place) × (j ≡ c.args.point_place) × g.X.Meets.Meeting c.args.item c.args.point) c.args.out.now.items c.push.new.self.items c.args.place c.args.point_place
+    Gains-one (λ i j. (i ≡ c.args.place) × (j ≡ c.args.part.now.place) × g.X.Meets.Meeting c.args.item c.args.point) c.args.out.now.items c.push.new.self.items c.args.place c.args.part.now.place
     c.in_ok-push.ensures.items (refl, refl, c.if-meets.ensures) (λ i j (first, second, _). (first, second))

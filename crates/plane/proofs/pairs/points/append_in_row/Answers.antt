@@ -1,10 +1,11 @@
-use Rattle.std.proofs.Common.{◌≡◌, ◌<ℤ◌, ◌<◌, ◌+◌, ℤ, Some, SFits, w32, to_z, of_z, length, get_or, ap, sym, ◌∙◌, subst, arith, rules}
+use Rattle.std.proofs.Common.{◌≡◌, ◌<ℤ◌, ◌<◌, ◌+◌, ℤ, SFits, w32, to_z, of_z, length, get_or, ap, ◌∙◌, subst, arith, rules}
 use Rattle.std.proofs.lemmas.Int.{to_z-of_z}
 use Rattle.std.proofs.lemmas.Option.{slice_get-get_or}
 use Rattle.plane.specs.Pairs.Points.{IsFirstFrom, MeetsPart}
 use Rattle.plane.specs.declared.pairs.items.Bounds.{Bounds}
 use Rattle.plane.proofs.PairsLemmas.Extends.{OnErr-always}
-use Rattle.plane.proofs.PairsLemmas.Points.{Gains-none, Gains-same, Gains-then, nothing, told_none, told_more, told_apart, told_upto, told_all, place_within}
+use Rattle.plane.proofs.PairsLemmas.Ordered.{BeginAs-points, stands_at}
+use Rattle.plane.proofs.PairsLemmas.Points.{Gains-none, Gains-same, Gains-then, nothing, told_none, told_more, told_apart, told_upto, told_all}
 use Rattle.plane.proofs.pairs.points.append_in_row.Goals as goal
 
 pub loop-next-init : goal.loop-next-init
@@ -37,32 +38,27 @@ returns-then-is_past-clause-ok g c =
     let upto = c.loop-next.auto.next in
     let right_fits : SFits w32 c.bounds-bounds.result.right = search rules in
     let right : to_z w32 (of_z w32 c.bounds-bounds.result.right) ≡ box.right = to_z-of_z w32 c.bounds-bounds.result.right right_fits ∙ ap (λ (bounds : Bounds). bounds.right) c.bounds-bounds.ensures in
-    let past = subst (λ (right : ℤ). right <ℤ part.left) right c.if-is_past.ensures in
     let test = c.loop-next-test.true in
     let ends = c.start_of-next-end.ensures.within in
+    let many = c.requires.ordered.many in
     let inside : next < length parts = omega (arith, test, ends) in
+    let point = c.index-ordered-next.result in
+    let begins = (BeginAs-points g.Y.Boxed.bounds points c.args.rows parts c.requires.parts c.args.ordered.now c.requires.ordered).each next part point (slice_get-get_or parts next nothing inside)
+    (stands_at c.args.ordered.now next point (omega (arith, many, inside)) c.index-ordered-next.is) in
+    let past = subst (λ (at : ℤ). box.right <ℤ at) begins (subst (λ (right : ℤ). right <ℤ (g.Y.Boxed.bounds point).left) right c.if-is_past.ensures) in
     Gains-same (λ i j. (i ≡ c.args.place) × MeetsPart Meeting points parts (λ at part. (at < next) × (part.strip ≡ row)) j) (λ i j. (i ≡ c.args.place) × MeetsPart Meeting points parts (λ _ part. part.strip ≡ row) j)
     (told_upto g.Y.Boxed.bounds points c.requires.points c.args.rows parts c.requires.parts Meeting box (c.requires.boxed.near c.args.item) c.args.place row from first next part (slice_get-get_or parts next nothing inside) c.requires.parts.in_order upto (λ _. past))
     c.args.out.now.items c.loop-next.out.items c.loop-next.invariant
 
-pub offset_bounds-points-part : goal.offset_bounds-points-part
-offset_bounds-points-part g c =
-    let points = c.args.points.now in
-    let parts = c.args.parts.now in
+pub bounds-ordered-next : goal.bounds-ordered-next
+bounds-ordered-next g c =
     let test = c.loop-next-test.true in
     let ends = c.start_of-next-end.ensures.within in
-    let inside : c.loop-next.next < length parts = omega (arith, test, ends) in
-    let within = place_within g.Y.Boxed.bounds points c.requires.points c.args.rows parts c.requires.parts c.loop-next.next (get_or parts c.loop-next.next nothing) (slice_get-get_or parts c.loop-next.next nothing inside) in
-    omega (arith, within)
+    let many = c.requires.ordered.many in
+    omega (arith, test, ends, many)
 
-pub bounds-points-part : goal.bounds-points-part
-bounds-points-part g c =
-    let points = c.args.points.now in
-    let parts = c.args.parts.now in
-    let test = c.loop-next-test.true in
-    let ends = c.start_of-next-end.ensures.within in
-    let inside : c.loop-next.next < length parts = omega (arith, test, ends) in
-    place_within g.Y.Boxed.bounds points c.requires.points c.args.rows parts c.requires.parts c.loop-next.next (get_or parts c.loop-next.next nothing) (slice_get-get_or parts c.loop-next.next nothing inside)
+pub first_from-from-requires-clause-begin : goal.first_from-from-requires-clause-begin
+first_from-from-requires-clause-begin g c = BeginAs-points g.Y.Boxed.bounds c.args.points.now c.args.rows c.args.parts.now c.requires.parts c.args.ordered.now c.requires.ordered
 
 pub returns-in_err-append_if_met-clause-err : goal.returns-in_err-append_if_met-clause-err
 returns-in_err-append_if_met-clause-err g c =
@@ -87,12 +83,12 @@ loop-next-preserved g c =
     let within = ends.within in
     let inside : next < length parts = omega (arith, test, within) in
     let listed = slice_get-get_or parts next nothing inside in
-    let point = c.index-points-part.result in
+    let many = c.requires.ordered.many in
+    let point = c.index-ordered-next.result in
     let above = (first.from next part listed c.loop-next.auto.next).above in
     let below = ends.below next part listed test in
     let in_row : part.strip ≡ row = omega (arith, above, below) in
-    let stands_within = place_within g.Y.Boxed.bounds points c.requires.points c.args.rows parts c.requires.parts next part listed in
-    let stands = slice_get-get_or points part.place point stands_within ∙ ap (λ (one : g.row.Y.Denot). Some one) (sym c.index-points-part.is) in
+    let stands = c.requires.ordered.each next part point listed (stands_at c.args.ordered.now next point (omega (arith, many, inside)) c.index-ordered-next.is) in
     Gains-then (λ i j. (i ≡ c.args.place) × MeetsPart Meeting points parts (λ at part. (at < next) × (part.strip ≡ row)) j) (λ i j. (i ≡ c.args.place) × (j ≡ part.place) × Meeting point)
     (λ i j. (i ≡ c.args.place) × MeetsPart Meeting points parts (λ at part. (at < (next + 1)) × (part.strip ≡ row)) j)
     (told_apart g.Y.Boxed.bounds points c.requires.points c.args.rows parts c.requires.parts Meeting box (c.requires.boxed.near c.args.item) c.args.place row from first next part listed point)

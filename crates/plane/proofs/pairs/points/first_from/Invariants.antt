@@ -6,7 +6,7 @@ use Rattle.plane.proofs.pairs.points.first_from.Given as goal
 
 -- the first part from the x on is among so many of the row, or behind them
 abbrev pub invariant-loop-size : goal.invariant-loop-size
-invariant-loop-size l = record {
+invariant-loop-size g l = record {
   behind : l.start ≤ l.first;
   upto : l.first + l.size ≤ l.end;
   short : (at : ℕ) (part : Part) → slice_get l.parts at ≡ Some part → at < l.first → IsShort l.row l.left part;
@@ -14,4 +14,4 @@ invariant-loop-size l = record {
 }
 
 abbrev pub decreases-loop-size : goal.decreases-loop-size
-decreases-loop-size l = l.size
+decreases-loop-size g l = l.size

@@ -50,16 +50,17 @@ returns-in_err-serve-clause-err g c =
     let served = c.loop-next.invariant.0 in
     OnErr-always c.from_residual-in_err-serve.result _ (Extends-trans c.args.out.now.items c.loop-next.out.items c.serve.new.out.items (served.pairs, served.gained) (c.in_err-serve.ensures).err)
 
-pub returns-then-len-start-clause-ok : goal.returns-then-len-start-clause-ok
-returns-then-len-start-clause-ok g c =
-    let start = c.len-start.ensures in
-    let length_now = c.len.ensures in
-    let longer = c.if-len-start.true in
-    Served-enough c.requires.boxed c.args.roles c.args.strips c.args.items.now c.args.parts.now (c.loop-next.next + 1) (get_or c.args.parts.now c.loop-next.next nothing).strip c.serve.new.tree c.args.enough c.args.out.now.items c.serve.new.out.items c.if-enough.true (omega (arith, start, length_now, longer))
+pub returns-then-len-limit-clause-ok : goal.returns-then-len-limit-clause-ok
+returns-then-len-limit-clause-ok g c =
+    let start = c.len.ensures in
+    let limit = c.saturating_add-limit.ensures in
+    let length_now = c.len-in-loop-next.ensures in
+    let longer = c.if-len-limit.true in
+    Served-enough c.requires.boxed c.args.roles c.args.strips c.args.items.now c.args.parts.now (c.loop-next.next + 1) (get_or c.args.parts.now c.loop-next.next nothing).strip c.serve.new.tree c.args.most c.args.out.now.items c.serve.new.out.items (omega (arith, start, limit, length_now, longer))
     (Served-more c.requires.boxed c.args.roles c.args.strips c.args.items.now c.args.parts.now c.requires.base c.requires.parts c.loop-next.next nothing c.loop-next-test.true c.loop-next.strip c.loop-next.tree c.enter.new.tree c.args.out.now.items c.loop-next.out.items c.loop-next.invariant.0
     c.enter.ensures.stays c.enter.ensures.clears c.enter.ensures.buckets
     c.requires.roles c.serve.new.tree c.in_ok-item.item c.serve.new.out.items (c.in_ok-item.ensures.value nothing) c.serve.ensures.buckets c.serve.ensures.latest (c.in_ok-serve.ensures).ok)
 
 pub returns-clause-ok : goal.returns-clause-ok
 returns-clause-ok g c =
-    Served-all c.requires.boxed c.args.roles c.args.strips c.args.items.now c.args.parts.now c.loop-next.next c.loop-next.strip c.loop-next.tree c.args.enough c.args.out.now.items c.loop-next.out.items c.loop-next-test.false c.requires.base c.requires.parts c.loop-next.invariant.0
+    Served-all c.requires.boxed c.args.roles c.args.strips c.args.items.now c.args.parts.now c.loop-next.next c.loop-next.strip c.loop-next.tree c.args.most c.args.out.now.items c.loop-next.out.items c.loop-next-test.false c.requires.base c.requires.parts c.loop-next.invariant.0

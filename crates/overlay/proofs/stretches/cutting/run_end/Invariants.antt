@@ -1,14 +1,13 @@
-use Rattle.std.proofs.Common.{ℕ, suc, ◌<◌, ◌≤◌, ◌+◌, ◌-◌, get_or}
+use Rattle.std.proofs.Common.{ℕ, suc, ◌<◌, ◌≤◌, ◌-◌, get_or}
 use Rattle.plane.specs.declared.edge.Edge.{Edge}
 use Rattle.overlay.specs.Stretches.Cut.{Follows}
-use Rattle.overlay.proofs.stretches.cutting.part_end.Given as goal
+use Rattle.overlay.proofs.stretches.cutting.run_end.Given as goal
 
 -- each edge so far follows the one before
 abbrev pub invariant-loop-next : goal.invariant-loop-next
 invariant-loop-next l = record {
   some : l.from < l.next;
   within : l.next ≤ l.upto;
-  few : l.next ≤ l.from + l.most;
   follow : (k : ℕ) (d : Edge) → l.from ≤ k → suc k < l.next → Follows (get_or l.edges k d) (get_or l.edges (suc k) d);
 }
 

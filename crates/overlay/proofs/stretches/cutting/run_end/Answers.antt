@@ -1,18 +1,16 @@
-use Rattle.std.proofs.Common.{◌≡◌, ◌<◌, ◌≤◌, ◌+◌, ◌-◌, ℕ, suc, pos, get_or, inl, inr, length, arith, subst, subst₂, sym, ap, ap₂, ◌∙◌}
+use Rattle.std.proofs.Common.{◌≡◌, ◌+◌, ◌-◌, ℕ, suc, pos, get_or, inl, inr, arith, subst₂, sym, ap, ◌∙◌}
 use Rattle.std.proofs.lemmas.Bool.{cases_lt}
 use Rattle.std.proofs.lemmas.List.{get_or_default}
 use Rattle.plane.specs.declared.edge.Edge.{Edge}
 use Rattle.overlay.specs.Stretches.Cut.{Follows}
 use Rattle.overlay.proofs.ChainLemmas.Runs.{between-at, length-between}
-use Rattle.overlay.proofs.stretches.cutting.part_end.Goals as goal
+use Rattle.overlay.proofs.stretches.cutting.run_end.Goals as goal
 
 pub loop-next-preserved : goal.loop-next-preserved
 loop-next-preserved c =
     let is = c.loop-next.invariant in
     let some = is.some in
-    let few = is.few in
     let test = c.loop-next-test.true in
-    let near = c.if-next-from.true in
     let inside = c.requires.within in
     let none : Edge = record { x0 = pos 0; y0 = pos 0; x1 = pos 0; y1 = pos 0 } in
     let edges = c.args.edges.now in
@@ -20,7 +18,6 @@ loop-next-preserved c =
     record {
       some = omega (arith, some);
       within = omega (arith, test);
-      few = omega (arith, near, some);
       follow = λ k d from within. elim (cases_lt (suc k) next) [
         | inl before ↦ is.follow k d from before
         | inr upto ↦
