@@ -58,8 +58,8 @@ pub fn run_along_axes(edges: &[Edge]) -> bool
     true
 }
 
-/// Whether the edge does.
-pub fn is_along_axis(edge: Edge) -> bool
+// Whether the edge does.
+fn is_along_axis(edge: Edge) -> bool
     ensures { OnTrue result (IsAlongAxis edge) }
 {
     edge.x1 == edge.x0 || edge.y1 == edge.y0

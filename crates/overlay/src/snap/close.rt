@@ -8,7 +8,6 @@ ghost use Rattle.plane.specs.Pairs.Pairs.{ArePairs};
 ghost use Rattle.overlay.specs.Snap.Close.{ComeClose, HaveOnePoint, PassesEnd, ShareEnd, item_of};
 
 use super::passing::{is_end, passes_inside};
-use crate::edges::is_along_axis;
 use i_tree::Refusal;
 use plane::edge::Edge;
 use plane::meet::meet;
@@ -72,27 +71,20 @@ fn come_close(one: Edge, other: Edge) -> bool
     meet(one, other) || one_passes_end(one, other)
 }
 
-// Of edges that share an end, whether one of them passes an end of the other between its own ends. Where they run along the
-// axes their boxes have most often nothing in common but that end, which is told sooner.
+// Of edges that share an end, whether one of them passes an end of the other between its own ends. Most often their boxes have
+// nothing in common but that end, which is told sooner.
 fn pass_beside(one: Edge, other: Edge) -> bool
     requires { ShareEnd one other }
     ensures { let passes = PassesEnd one other ⊎ PassesEnd other one in MatchBool result passes (¬ passes) }
 {
-    if touch_alone(one, other) {
+    if have_one_point(one.bounds(), other.bounds()) {
         return false;
     }
     one_passes_end(one, other)
 }
 
-// Whether the one edge runs along an axis, and the boxes have one point in common at most. Of slanted edges a test of their boxes
-// would be guessed wrongly often.
-fn touch_alone(one: Edge, other: Edge) -> bool
-    ensures { OnTrue result (HaveOnePoint (bounds_of one) (bounds_of other)) }
-{
-    is_along_axis(one) && have_one_point(one.bounds(), other.bounds())
-}
-
-// Whether the boxes have one point in common at most.
+// Whether the boxes have one point in common at most. All comparisons are made, since a branch between them would be guessed
+// wrongly often.
 fn have_one_point(first: Bounds, second: Bounds) -> bool
     ensures { OnTrue result (HaveOnePoint first second) }
 {
