@@ -1,7 +1,9 @@
 -- Lemmas of snap rounding.
 pub mod Along
+pub mod Axes
 pub mod Callers
 pub mod Clear
+pub mod Common
 pub mod Counted
 pub mod Crossing
 pub mod Exact

@@ -1,7 +1,8 @@
 //! Edges and the points at which they start and end.
 
-ghost use Rattle.std.specs.Prelude.{◌≡◌};
-ghost use Rattle.overlay.specs.Snap.Windings.{edge_between, end_of, reversed, start_of};
+ghost use Rattle.std.specs.Bool.{OnTrue};
+ghost use Rattle.std.specs.Prelude.{◌≡◌, All};
+ghost use Rattle.overlay.specs.Snap.Windings.{IsAlongAxis, edge_between, end_of, reversed, start_of};
 
 use plane::edge::Edge;
 use plane::point::Point;
@@ -43,4 +44,23 @@ pub fn reverse(edge: Edge) -> Edge
     ensures { result ≡ reversed edge }
 {
     edge_between(end_of(edge), start_of(edge))
+}
+
+/// Whether each of the edges runs along an axis, or is a point.
+pub fn run_along_axes(edges: &[Edge]) -> bool
+    ensures { OnTrue result (All IsAlongAxis edges.now) }
+{
+    for edge in edges {
+        if !is_along_axis(*edge) {
+            return false;
+        }
+    }
+    true
+}
+
+// Whether the edge does.
+fn is_along_axis(edge: Edge) -> bool
+    ensures { OnTrue result (IsAlongAxis edge) }
+{
+    edge.x1 == edge.x0 || edge.y1 == edge.y0
 }

@@ -16,7 +16,7 @@ use Rattle.overlay.specs.contracts.snap.crossings.HotPointOrd.TheImpl.{ghosts as
 use Rattle.overlay.specs.contracts.snap.crossings.HotPointOrd.TheImpl.Laws.{total-law as hot_total}
 use Rattle.overlay.specs.declared.snap.crossings.HotPoint.{HotPoint}
 use Rattle.overlay.proofs.ChainLemmas.Ends.{end_or_not}
-use Rattle.overlay.proofs.ChainLemmas.Gains.{Contains-sorted, gained-all, gains-none, gains-only, gains-same, held-at, place-of}
+use Rattle.overlay.proofs.ChainLemmas.Gains.{Contains-sorted, gained-all, gains-only, gains-same, held-at, place-of}
 use Rattle.overlay.proofs.ChainLemmas.Order.{hot-same}
 use Rattle.overlay.proofs.SnapLemmas.Along.{from_at, to_at}
 use Rattle.overlay.proofs.SnapLemmas.Crossing.{CrossAt-exchanged, CrossAt-itself, CrossAt-unique}
@@ -43,20 +43,21 @@ module _ (one other : Edge) (x y : ℤ) (cross : CrossAt one other x y) where
       let (same_x, same_y) = CrossAt-unique one other point.x point.y x y there cross in
       ap (λ (a : ℤ). hot_at a point.y) same_x ∙ ap (λ (b : ℤ). hot_at x b) same_y
 
-  -- so it is what is gained
-  pub gains-crossing : (before after : List HotPoint) → ¬ (IsEnd one x y ⊎ IsEnd other x y) → after ≡ before ++ hot_at x y ∷ [] → GainsThese (CrossInside one other) before after
-  gains-crossing before after inside = gains-only (CrossInside one other) before after (hot_at x y) (cross, inside) at_crossing
-
   -- unless it is an end
-  pub gains-no_end : (before : List HotPoint) → IsEnd one x y ⊎ IsEnd other x y → GainsThese (CrossInside one other) before before
-  gains-no_end before end =
-      gains-none (CrossInside one other) before
-      (λ point is. is.1 (subst (λ (p : HotPoint). IsEnd one p.x p.y ⊎ IsEnd other p.x p.y) (sym (at_crossing point is)) end))
+  pub no_crossing-end : IsEnd one x y ⊎ IsEnd other x y → (point : HotPoint) → ¬ (CrossInside one other point)
+  no_crossing-end end point is = is.1 (subst (λ (p : HotPoint). IsEnd one p.x p.y ⊎ IsEnd other p.x p.y) (sym (at_crossing point is)) end)
+
+-- edges cross inside at one point
+pub CrossInside-unique : (one other : Edge) (point found : HotPoint) → CrossInside one other point → CrossInside one other found → point ≡ found
+CrossInside-unique one other point found is there = at_crossing one other found.x found.y there.0 point is
+
+-- so it is what is gained
+pub gains-crossing : (one other : Edge) (point : HotPoint) (before after : List HotPoint) → CrossInside one other point → after ≡ before ++ point ∷ [] → GainsThese (CrossInside one other) before after
+gains-crossing one other point before after cross = gains-only (CrossInside one other) before after point cross (λ found is. CrossInside-unique one other found point is cross)
 
 -- edges that don't cross
-pub gains-no_crossing : (one other : Edge) (before : List HotPoint) → ¬ (AreNotParallel one other × Meet one other) → GainsThese (CrossInside one other) before before
-gains-no_crossing one other before none =
-    gains-none (CrossInside one other) before (λ point ((slanted, (at, of_one, of_other, rounds)), inside). none (slanted, (at, of_one, of_other)))
+pub no_crossing : (one other : Edge) → ¬ (AreNotParallel one other × Meet one other) → (point : HotPoint) → ¬ (CrossInside one other point)
+no_crossing one other none point ((slanted, (at, of_one, of_other, rounds)), inside) = none (slanted, (at, of_one, of_other))
 
 -- the crossing of the edges at a pair
 pub gains-of_crossing : (edges : List Edge) (pair : ℕ × ℕ) (one other : Edge) (before after : List HotPoint) → slice_get edges pair.0 ≡ Some one → slice_get edges pair.1 ≡ Some other
@@ -76,32 +77,36 @@ AreCrossings-sorted edges pairs same ties found sorted gains moved point =
     let kept = Contains-sorted hot_total hot-same ties found sorted moved point in
     let all = gained-all (IsOfSome (IsCrossingOf edges) pairs) found gains point in (λ held. all.0 (kept.0 held), λ is. kept.1 (all.1 is))
 
-CrossInside-exchanged : (one other : Edge) (point : HotPoint) → CrossInside one other point → CrossInside other one point
+pub CrossInside-exchanged : (one other : Edge) (point : HotPoint) → CrossInside one other point → CrossInside other one point
 CrossInside-exchanged one other point (cross, none) = (CrossAt-exchanged one other point.x point.y cross, ⊎_elim (λ end. none (inr end)) (λ end. none (inl end)))
 
 module _ (edges : List Edge) (pairs : List (ℕ × ℕ)) (close : ArePairs ComeClose edges pairs) where
   -- two edges that cross, and not at their ends, are at a pair that comes close
-  paired : (i j : ℕ) (one other : Edge) (point : HotPoint) → i < j → slice_get edges i ≡ Some one → slice_get edges j ≡ Some other → CrossInside one other point → IsOfSome (IsCrossingOf edges) pairs point
-  paired i j one other point below first second cross =
+  pub crossing-pair : (i j : ℕ) (one other : Edge) (point : HotPoint) → i < j → slice_get edges i ≡ Some one → slice_get edges j ≡ Some other → CrossInside one other point → Contains pairs (i, j)
+  crossing-pair i j one other point below first second cross =
       let ((apart, (at, of_one, of_other, rounds)), none) = cross in
-      let no_shared : ¬ (ShareEnd one other) = λ shared. none (inl (CrossAt-end one other point.x point.y shared cross.0)) in (
-        (i, j),
-        (close.exact i j).1 (record {
-          one = one;
-          other = other;
-          rising = below;
-          first = first;
-          second = second;
-          meet = inl (no_shared, (at, of_one, of_other));
-        }),
-        record {
-          one = one;
-          other = other;
-          first = first;
-          second = second;
-          cross = cross;
-        },
-      )
+      let no_shared : ¬ (ShareEnd one other) = λ shared. none (inl (CrossAt-end one other point.x point.y shared cross.0)) in
+      (close.exact i j).1 (record {
+        one = one;
+        other = other;
+        rising = below;
+        first = first;
+        second = second;
+        meet = inl (no_shared, (at, of_one, of_other));
+      })
+
+  paired : (i j : ℕ) (one other : Edge) (point : HotPoint) → i < j → slice_get edges i ≡ Some one → slice_get edges j ≡ Some other → CrossInside one other point → IsOfSome (IsCrossingOf edges) pairs point
+  paired i j one other point below first second cross = (
+    (i, j),
+    crossing-pair i j one other point below first second cross,
+    record {
+      one = one;
+      other = other;
+      first = first;
+      second = second;
+      cross = cross;
+    },
+  )
 
   crossing-paired : (one other : Edge) (point : HotPoint) → Contains edges one → Contains edges other → CrossInside one other point → IsOfSome (IsCrossingOf edges) pairs point
   crossing-paired one other point of_one of_other cross =

@@ -14,9 +14,9 @@ use Rattle.plane.specs.declared.point.Point.{Point}
 use Rattle.plane.specs.Pairs.Pairs.{ArePairs, ArePairsBetween}
 use Rattle.overlay.specs.Snap.Chains.{IsEnd, IsHot, Passes, Upto, UptoOn}
 use Rattle.overlay.specs.Snap.Close.{ComeClose, PassesEnd, PassesInside}
-use Rattle.overlay.specs.Snap.Crossings.{AreCrossings, hot_at}
+use Rattle.overlay.specs.Snap.Crossings.{hot_at}
 use Rattle.overlay.specs.Snap.Gains.{GainsThese, IsOfSome}
-use Rattle.overlay.specs.Snap.Stops.{AreStops, IsBefore, IsStop, IsStopAlong, IsStopAmong, IsStopAt, IsStopAtEnd, IsStopOfPair, point_of, stop_of, turned}
+use Rattle.overlay.specs.Snap.Stops.{AreStops, IsBefore, IsStop, IsStopAlong, IsStopAmong, IsStopAt, IsStopAtEnd, IsStopCrossed, IsStopOfPair, point_of, stop_of, turned}
 use Rattle.overlay.specs.contracts.snap.stops.StopOrd.TheImpl.{ghosts as stop_order}
 use Rattle.overlay.specs.contracts.snap.stops.StopOrd.TheImpl.Laws.{total-law as stop_total}
 use Rattle.overlay.specs.declared.snap.crossings.HotPoint.{HotPoint}
@@ -160,8 +160,7 @@ module _ (edges : List Edge) (pairs : List (ℕ × ℕ)) (close : ArePairs ComeC
         | inr at ↦ IsStop-at_end edges is.one j is.other stop (held-at edges i is.one is.first) is.second at
       ]
 
-  module _ (points : List HotPoint) (crossings : AreCrossings edges pairs points) (stops : List Stop)
-      (told : (stop : Stop) → Contains stops stop ↔ (IsOfSome (IsStopOfPair edges) pairs stop ⊎ IsStopAmong edges points stop)) where
+  module _ (stops : List Stop) (told : (stop : Stop) → Contains stops stop ↔ (IsOfSome (IsStopOfPair edges) pairs stop ⊎ IsStopCrossed edges pairs stop)) where
     -- each hot point that an edge passes has its stop
     listed : (place : ℕ) (edge : Edge) (x y : ℤ) → slice_get edges place ≡ Some edge → IsHot edges x y → PassesInside edge x y → Contains stops (stop_of place edge x y)
     listed place edge x y stands hot passes =
@@ -173,7 +172,7 @@ module _ (edges : List Edge) (pairs : List (ℕ × ℕ)) (close : ArePairs ComeC
           edge = edge;
           point = hot_at x y;
           stands = stands;
-          held = (crossings (hot_at x y)).1 crossing;
+          crossed = crossing;
           along = (passes, refl);
         }))
         (hot_cases edges pairs close x y hot))
@@ -182,8 +181,7 @@ module _ (edges : List Edge) (pairs : List (ℕ × ℕ)) (close : ArePairs ComeC
     all_stops : (stop : Stop) → Contains stops stop → IsStop edges stop
     all_stops stop held =
         ⊎_elim (end-stop stop)
-        (λ among. IsStop-along edges among.place among.edge among.point.x among.point.y stop among.stands
-        (crossing-hot edges pairs close among.point ((crossings among.point).0 among.held)) among.along)
+        (λ at. IsStop-along edges at.place at.edge at.point.x at.point.y stop at.stands (crossing-hot edges pairs close at.point at.crossed) at.along)
         ((told stop).0 held)
 
     -- so, once they are sorted and each is left once, they are the edges' stops in order

@@ -25,7 +25,7 @@ level_at n a p y0 y1 level is =
     is ∙ ap (λ w. (pos n *ℤ y0) +ℤ (pos a *ℤ (w -ℤ y0))) level
     ∙ identity (plus (times (n_of n) (number y0)) (times (n_of a) (minus (number y0) (number y0)))) (times (n_of n) (number y0)) (omega arith)
 
-passes_level : (edge : Edge) (x y : ℤ) → edge.y1 ≡ edge.y0 → Passes edge x y → y ≡ edge.y0
+pub passes_level : (edge : Edge) (x y : ℤ) → edge.y1 ≡ edge.y0 → Passes edge x y → y ≡ edge.y0
 passes_level edge x y level (point, (a, at), rounds) =
     let there = level_at point.n a point.y edge.y0 edge.y1 level at.y in
     RoundsOn-unique point.n point.y y edge.y0 point.positive rounds.along_y

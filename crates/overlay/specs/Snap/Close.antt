@@ -1,5 +1,5 @@
 -- Edges that come close to each other. For private contracts.
-use Rattle.std.specs.Prelude.{◌⊎◌, ℤ}
+use Rattle.std.specs.Prelude.{◌≡◌, ◌⊎◌, ℤ}
 use Rattle.plane.specs.declared.edge.Edge.{Edge}
 use Rattle.plane.specs.declared.pairs.items.Bounds.{Bounds}
 use Rattle.plane.specs.Meet.Boxes.{bounds_of}
@@ -35,6 +35,12 @@ MeetApart one other = (¬ (ShareEnd one other)) × Meet one other
 -- They do, or one of them passes an end of the other between its own ends.
 abbrev pub ComeClose : Edge → Edge → Type 0
 ComeClose one other = MeetApart one other ⊎ (PassesEnd one other ⊎ PassesEnd other one)
+
+-- The boxes have one point in common at most.
+abbrev pub HaveOnePoint : Bounds → Bounds → Type 0
+HaveOnePoint first second =
+    (x y other_x other_y : ℤ) → BoundsMeet first (at_point x y) → BoundsMeet second (at_point x y) → BoundsMeet first (at_point other_x other_y) → BoundsMeet second (at_point other_x other_y)
+    → (x ≡ other_x) × (y ≡ other_y)
 
 -- The edge as an item.
 abbrev pub item_of : Edge → CloseEdge

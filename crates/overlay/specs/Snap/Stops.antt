@@ -5,6 +5,8 @@ use Rattle.plane.specs.declared.edge.Edge.{Edge}
 use Rattle.plane.specs.declared.point.Point.{Point}
 use Rattle.overlay.specs.Snap.Chains.{IsHot}
 use Rattle.overlay.specs.Snap.Close.{PassesInside}
+use Rattle.overlay.specs.Snap.Crossings.{CrossInside, IsCrossingOf}
+use Rattle.overlay.specs.Snap.Gains.{IsOfSome}
 use Rattle.overlay.specs.Snap.Windings.{start_of, end_of}
 use Rattle.overlay.specs.declared.snap.crossings.HotPoint.{HotPoint}
 use Rattle.overlay.specs.declared.snap.stops.Stop.{Stop}
@@ -51,6 +53,30 @@ pub record IsStopAt (edges : List Edge) (points : List HotPoint) (pair : ℕ × 
   pub first : slice_get edges pair.0 ≡ Some edge
   pub second : slice_get points pair.1 ≡ Some point
   pub is : stop ≡ stop_of pair.0 edge point.x point.y
+
+-- It is one of some edge, where the edges at one of the pairs of places cross.
+pub record IsStopCrossed (edges : List Edge) (pairs : List (ℕ × ℕ)) (stop : Stop) : Type 0 where
+  pub place : ℕ
+  pub edge : Edge
+  pub point : HotPoint
+  pub stands : slice_get edges place ≡ Some edge
+  pub crossed : IsOfSome (IsCrossingOf edges) pairs point
+  pub along : IsStopAlong place edge point.x point.y stop
+
+-- It is one of the edges at the pair of places, where the two cross.
+pub record IsStopOfCrossing (edges : List Edge) (pair : ℕ × ℕ) (stop : Stop) : Type 0 where
+  pub one : Edge
+  pub other : Edge
+  pub point : HotPoint
+  pub first : slice_get edges pair.0 ≡ Some one
+  pub second : slice_get edges pair.1 ≡ Some other
+  pub cross : CrossInside one other point
+  pub is : (stop ≡ stop_of pair.0 one point.x point.y) ⊎ (stop ≡ stop_of pair.1 other point.x point.y)
+
+-- It is one of two edges at these places, where they cross.
+abbrev pub IsStopOfBoth : ℕ → Edge → ℕ → Edge → Stop → Type 0
+IsStopOfBoth place one other_place other stop =
+    (point : HotPoint) × CrossInside one other point × ((stop ≡ stop_of place one point.x point.y) ⊎ (stop ≡ stop_of other_place other point.x point.y))
 
 -- It is one of some edge, at one of the points.
 pub record IsStopAmong (edges : List Edge) (points : List HotPoint) (stop : Stop) : Type 0 where

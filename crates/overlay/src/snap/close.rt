@@ -1,10 +1,11 @@
 //! Which edges come close to each other: pairs that may have stops on one another.
 
+ghost use Rattle.std.specs.Bool.{OnTrue};
 ghost use Rattle.std.specs.Prelude.{◌≡◌, ◌⊎◌, ◌<◌, All, IfErr, IfOk, MatchBool, length, map};
 ghost use Rattle.i_tree.specs.declared.Refusal.TheVariants.{OutOfMemory};
 ghost use Rattle.plane.specs.Meet.Boxes.{bounds_of};
 ghost use Rattle.plane.specs.Pairs.Pairs.{ArePairs};
-ghost use Rattle.overlay.specs.Snap.Close.{ComeClose, MeetApart, PassesEnd, ShareEnd, item_of};
+ghost use Rattle.overlay.specs.Snap.Close.{ComeClose, HaveOnePoint, PassesEnd, ShareEnd, item_of};
 
 use super::passing::{is_end, passes_inside};
 use i_tree::Refusal;
@@ -64,14 +65,32 @@ fn items_of<A: Allocator>(alloc: A, edges: &[Edge]) -> Result<Vec<CloseEdge, A>,
 fn come_close(one: Edge, other: Edge) -> bool
     ensures { MatchBool result (ComeClose one other) (¬ (ComeClose one other)) }
 {
-    meet_apart(one, other) || one_passes_end(one, other)
+    if share_end(one, other) {
+        return pass_beside(one, other);
+    }
+    meet(one, other) || one_passes_end(one, other)
 }
 
-// Whether the edges meet, and share no end.
-fn meet_apart(one: Edge, other: Edge) -> bool
-    ensures { MatchBool result (MeetApart one other) (¬ (MeetApart one other)) }
+// Of edges that share an end, whether one of them passes an end of the other between its own ends. Most often their boxes have
+// nothing in common but that end, which is told sooner.
+fn pass_beside(one: Edge, other: Edge) -> bool
+    requires { ShareEnd one other }
+    ensures { let passes = PassesEnd one other ⊎ PassesEnd other one in MatchBool result passes (¬ passes) }
 {
-    !share_end(one, other) && meet(one, other)
+    if have_one_point(one.bounds(), other.bounds()) {
+        return false;
+    }
+    one_passes_end(one, other)
+}
+
+// Whether the boxes have one point in common at most. All comparisons are made, since a branch between them would be guessed
+// wrongly often.
+fn have_one_point(first: Bounds, second: Bounds) -> bool
+    ensures { OnTrue result (HaveOnePoint first second) }
+{
+    let across = first.left.max(second.left) >= first.right.min(second.right);
+    let up = first.low.max(second.low) >= first.high.min(second.high);
+    across & up
 }
 
 // Whether some point is an end of both edges.

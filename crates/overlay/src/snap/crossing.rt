@@ -5,7 +5,7 @@ ghost use Rattle.std.specs.Int.RustNames.{unsigned_abs};
 ghost use Rattle.plane.specs.Meet.Crosses.{IsWithin};
 ghost use Rattle.plane.specs.Meet.Edges.{Meet};
 ghost use Rattle.overlay.specs.Snap.Chains.{AreNotParallel, CrossAt};
-ghost use Rattle.overlay.specs.Snap.Crossing.{HasParts, RoundsPart};
+ghost use Rattle.overlay.specs.Snap.Crossing.{HasParts, IsCommonPart, IsThere, RoundsPart};
 ghost use Rattle.overlay.specs.Snap.Rounding.{RoundsOn};
 
 use plane::edge::Edge;
@@ -23,22 +23,23 @@ pub fn crossing(one: Edge, other: Edge) -> Option<Point>
     let first = cross_product(between, other_way);
     let second = cross_product(between, one_way);
     if whole < 0 {
-        return round_part(one, -whole, -first, -second);
+        return round_part(one, other, -whole, -first, -second);
     }
-    round_part(one, whole, first, second)
+    round_part(one, other, whole, first, second)
 }
 
-fn round_part(edge: Edge, all: i128, first: i128, second: i128) -> Option<Point>
+fn round_part(edge: Edge, other: Edge, all: i128, first: i128, second: i128) -> Option<Point>
     requires from { pos 0 ≤ℤ all }
     requires upto { all ≤ℤ pos (2 ^ 66) }
+    requires common { IsCommonPart edge other all first }
     ensures { MatchOption result (¬ (HasParts all first second)) (λ c. RoundsPart edge all first second c.x c.y) }
 {
     if !has_parts(all, first, second) {
         return None;
     }
     Some(Point {
-        x: round_mean(edge.x0, edge.x1, all, first),
-        y: round_mean(edge.y0, edge.y1, all, first),
+        x: round_on_axis(edge.x0, edge.x1, other.x0, other.x1, all, first),
+        y: round_on_axis(edge.y0, edge.y1, other.y0, other.y1, all, first),
     })
 }
 
@@ -46,6 +47,25 @@ fn has_parts(all: i128, first: i128, second: i128) -> bool
     ensures { MatchBool result (HasParts all first second) (¬ (HasParts all first second)) }
 {
     (0 < all) & (0 <= first) & (first <= all) & (0 <= second) & (second <= all)
+}
+
+/// On one axis, what the common point of two edges rounds to. Where one of them goes nowhere on the axis it is there, and nothing
+/// is divided.
+fn round_on_axis(from: i32, to: i32, other_from: i32, other_to: i32, all: i128, first: i128) -> i32
+    requires some { pos 0 <ℤ all }
+    requires upto { all ≤ℤ pos (2 ^ 66) }
+    requires first_from { pos 0 ≤ℤ first }
+    requires first_upto { first ≤ℤ all }
+    requires common { IsThere from to other_from other_to all first }
+    ensures { RoundsOn (unsigned_abs all) ((all *ℤ from) +ℤ (first *ℤ (to -ℤ from))) result }
+{
+    if from == to {
+        return from;
+    }
+    if other_from == other_to {
+        return other_from;
+    }
+    round_mean(from, to, all, first)
 }
 
 /// The number that lies `first` of `all` parts of the way from the one to the other, rounded.

@@ -1,10 +1,11 @@
 //! What the points in which two edges cross round to.
 
-ghost use Rattle.std.specs.Prelude.{◌≡◌, ◌⊎◌, ◌<◌, All, length, IfOk, MatchBool, OnOk};
+ghost use Rattle.std.specs.Prelude.{◌≡◌, ◌⊎◌, ◌<◌, All, length, IfOk, MatchBool, MatchOption, OnOk};
 ghost use Rattle.overlay.specs.Snap.Chains.{IsEnd};
 ghost use Rattle.overlay.specs.Snap.Close.{PassesInside};
 ghost use Rattle.overlay.specs.Snap.Crossings.{hot_at, AreCrossings, CrossInside, IsCrossingOf};
 ghost use Rattle.overlay.specs.Snap.Gains.{GainsThese, IsOfSome};
+ghost use Rattle.overlay.specs.declared.snap.crossings.HotPoint.{HotPoint};
 
 use super::crossing::crossing;
 use super::passing::{is_end, passes_inside};
@@ -80,12 +81,23 @@ fn push_crossing<A: Allocator>(
 ) -> Result<(), AllocError>
     ensures { OnOk result (GainsThese (CrossInside one other) points.old.items points.new.items) }
 {
-    if let Some(point) = crossing(one, other) {
-        if !is_end_of_one(one, other, point) {
-            points.push(hot_point(point))?;
-        }
+    if let Some(point) = crossing_inside(one, other) {
+        points.push(point)?;
     }
     Ok(())
+}
+
+/// What the crossing of the edges rounds to, if they cross and it is no end of the two.
+pub fn crossing_inside(one: Edge, other: Edge) -> Option<HotPoint>
+    ensures { MatchOption result ((point : HotPoint) → ¬ (CrossInside one other point)) (CrossInside one other) }
+{
+    let Some(point) = crossing(one, other) else {
+        return None;
+    };
+    if is_end_of_one(one, other, point) {
+        return None;
+    }
+    Some(hot_point(point))
 }
 
 // Whether the point is an end of one of the edges.

@@ -2,12 +2,15 @@
 
 ghost use Rattle.std.specs.Prelude.{◌≡◌, ◌<◌, All, length, IfErr, IfOk, OnOk};
 ghost use Rattle.i_tree.specs.declared.Refusal.TheVariants.{OutOfMemory};
+ghost use Rattle.plane.specs.Pairs.Pairs.{ArePairs};
+ghost use Rattle.overlay.specs.Snap.Close.{ComeClose};
 ghost use Rattle.overlay.specs.Snap.Gains.{GainsThese, IsOfSome};
-ghost use Rattle.overlay.specs.Snap.Stops.{AreStops, IsStopAlong, IsStopAmong, IsStopAt, IsStopAtEnd, IsStopOfPair, point_of, stop_of, turned};
+ghost use Rattle.overlay.specs.Snap.Stops.{AreStops, IsStopAlong, IsStopAmong, IsStopAt, IsStopAtEnd, IsStopCrossed, IsStopOfBoth, IsStopOfCrossing, IsStopOfPair, point_of, stop_of, turned};
 
 use super::close::close_pairs;
-use super::crossings::{HotPoint, crossings};
+use super::crossings::{HotPoint, crossing_inside, crossings};
 use super::passing::passes_inside;
+use crate::edges::run_along_axes;
 use i_tree::Refusal;
 use plane::edge::Edge;
 use plane::pairs::pairs_with_points;
@@ -25,7 +28,8 @@ pub struct Stop {
 /// The stops of all edges between their ends, in order: edge by edge, and those of each in the order along it.
 ///
 /// What an edge passes lies in its box. So the pairs of edges that come close tell the stops at ends of edges, and which
-/// edges cross; where some do, the crossings are sought among all edges.
+/// edges cross. An edge may pass a crossing of two others that it comes close to neither of: where some edges cross, and not
+/// all run along the axes, the crossings are sought among all edges.
 pub fn stops_in_order<A: Allocator + Copy>(
     alloc: A,
     edges: &[Edge],
@@ -36,8 +40,7 @@ pub fn stops_in_order<A: Allocator + Copy>(
     let pairs = close_pairs(alloc, edges)?;
     let mut stops = Vec::new(alloc);
     push_stops_at_ends(edges, &pairs, &mut stops)?;
-    let points = crossings(alloc, edges, &pairs)?;
-    push_stops_at_points(edges, &points, &mut stops)?;
+    push_stops_at_crossings(edges, &pairs, &mut stops)?;
     stops.sort_unstable();
     stops.dedup();
     Ok(stops)
@@ -87,6 +90,59 @@ fn push_if_inside<A: Allocator>(
 {
     if passes_inside(edge, x, y) {
         stops.push(stop_of(place, edge, x, y))?;
+    }
+    Ok(())
+}
+
+// Appends the stops of all edges where edges at one of these pairs cross, which are those that come close. Of edges along the
+// axes one that passes such a crossing crosses one of the two there, so that the two of each pair have all stops.
+fn push_stops_at_crossings<A: Allocator + Copy>(
+    edges: &[Edge],
+    pairs: &[(usize, usize)],
+    stops: &mut Vec<Stop, A>,
+) -> Result<(), Refusal>
+    requires close { ArePairs ComeClose edges.now pairs.now }
+    requires within { All (λ pair. (pair.0 < length edges.now) × (pair.1 < length edges.now)) pairs.now }
+    ensures ok { OnOk result (GainsThese (IsStopCrossed edges.now pairs.now) stops.old.items stops.new.items) }
+    ensures refused { IfErr result (λ cause. cause ≡ OutOfMemory) }
+{
+    if run_along_axes(edges) {
+        push_stops_of_crossings(edges, pairs, stops)?;
+        return Ok(());
+    }
+    let points = crossings(*stops.allocator(), edges, pairs)?;
+    push_stops_at_points(edges, &points, stops)?;
+    Ok(())
+}
+
+// Appends the stops of the two edges at each of these pairs where they cross.
+fn push_stops_of_crossings<A: Allocator>(
+    edges: &[Edge],
+    pairs: &[(usize, usize)],
+    stops: &mut Vec<Stop, A>,
+) -> Result<(), AllocError>
+    requires { All (λ pair. (pair.0 < length edges.now) × (pair.1 < length edges.now)) pairs.now }
+    ensures { OnOk result (GainsThese (IsOfSome (IsStopOfCrossing edges.now) pairs.now) stops.old.items stops.new.items) }
+{
+    for pair in pairs {
+        push_stops_of_both(pair.0, edges[pair.0], pair.1, edges[pair.1], stops)?;
+    }
+    Ok(())
+}
+
+// Appends the stops of two edges, which are at these places, where they cross, if that is no end of the two.
+fn push_stops_of_both<A: Allocator>(
+    place: usize,
+    one: Edge,
+    other_place: usize,
+    other: Edge,
+    stops: &mut Vec<Stop, A>,
+) -> Result<(), AllocError>
+    ensures { OnOk result (GainsThese (IsStopOfBoth place one other_place other) stops.old.items stops.new.items) }
+{
+    if let Some(point) = crossing_inside(one, other) {
+        stops.push(stop_of(place, one, point.x, point.y))?;
+        stops.push(stop_of(other_place, other, point.x, point.y))?;
     }
     Ok(())
 }

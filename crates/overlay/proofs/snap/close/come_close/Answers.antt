@@ -1,16 +1,11 @@
-use Rattle.std.proofs.Common.{◌⊎◌}
-use Rattle.overlay.specs.Snap.Close.{MeetApart, PassesEnd}
-use Rattle.overlay.proofs.ChainLemmas.Close.{either_tested, first_tested}
+use Rattle.overlay.proofs.ChainLemmas.Beside.{met_tested, shared_tested, unmet_tested}
 use Rattle.overlay.proofs.snap.close.come_close.Goals as goal
 
-pub returns-then-meet_apart : goal.returns-then-meet_apart
-returns-then-meet_apart c =
-    let one = c.args.one in
-    let other = c.args.other in
-    first_tested c.meet_apart.result (MeetApart one other) (PassesEnd one other ⊎ PassesEnd other one) c.meet_apart.ensures c.if-meet_apart.true
+pub returns-then-share_end : goal.returns-then-share_end
+returns-then-share_end c = shared_tested c.args.one c.args.other c.pass_beside.result c.if-share_end.ensures c.pass_beside.ensures
 
-pub returns-else-meet_apart : goal.returns-else-meet_apart
-returns-else-meet_apart c =
-    let one = c.args.one in
-    let other = c.args.other in
-    either_tested c.meet_apart.result c.one_passes_end.result (MeetApart one other) (PassesEnd one other ⊎ PassesEnd other one) c.meet_apart.ensures c.one_passes_end.ensures c.if-meet_apart.false
+pub returns-then-meet : goal.returns-then-meet
+returns-then-meet c = met_tested c.args.one c.args.other c.meet.result c.if-share_end.ensures c.meet.ensures c.if-meet.true
+
+pub returns-else-meet : goal.returns-else-meet
+returns-else-meet c = unmet_tested c.args.one c.args.other c.meet.result c.one_passes_end.result c.meet.ensures c.if-meet.false c.one_passes_end.ensures

@@ -1,10 +1,8 @@
 use Rattle.std.proofs.Common.{◌⊎◌, ℕ, List, [], sym, subst}
 use Rattle.std.proofs.lemmas.List.Filters.{dedup_is}
-use Rattle.overlay.specs.Snap.Crossings.{AreCrossings}
 use Rattle.overlay.specs.Snap.Gains.{GainsThese, IsOfSome}
-use Rattle.overlay.specs.Snap.Stops.{AreStops, IsStopAmong, IsStopOfPair}
+use Rattle.overlay.specs.Snap.Stops.{AreStops, IsStopCrossed, IsStopOfPair}
 use Rattle.overlay.specs.contracts.snap.stops.StopOrd.TheImpl.Laws.{matches_eq-law}
-use Rattle.overlay.specs.declared.snap.crossings.HotPoint.{HotPoint}
 use Rattle.overlay.specs.declared.snap.stops.Stop.{Stop}
 use Rattle.overlay.proofs.ChainLemmas.Gains.{gained-all, gains-join}
 use Rattle.overlay.proofs.ChainLemmas.Stops.{AreStops-sorted}
@@ -14,16 +12,14 @@ pub returns-clause-ok : goal.returns-clause-ok
 returns-clause-ok g c =
     let edges = c.args.edges.now in
     let pairs = c.in_ok-pairs.pairs.items in
-    let points = c.in_ok-points.points.items in
     let ended = c.push_stops_at_ends.new.stops.items in
-    let all = c.push_stops_at_points.new.stops.items in
-    let crossings = subst (λ (among : List (ℕ × ℕ)). AreCrossings edges among points) c.deref-2.ensures.value c.in_ok-points.ensures in
+    let all = c.push_stops_at_crossings.new.stops.items in
     let at_ends =
     subst (λ (before : List Stop). GainsThese (IsOfSome (IsStopOfPair edges) pairs) before ended) c.new-stops.ensures.items
     (subst (λ (among : List (ℕ × ℕ)). GainsThese (IsOfSome (IsStopOfPair edges) among) c.new-stops.result.items ended) c.deref.ensures.value c.in_ok-push_stops_at_ends.ensures) in
-    let at_points = subst (λ (among : List HotPoint). GainsThese (IsStopAmong edges among) ended all) c.deref-3.ensures.value c.in_ok-push_stops_at_points.ensures.ok in
-    let told = gains-join (IsOfSome (IsStopOfPair edges) pairs) (IsStopAmong edges points) [] ended all at_ends at_points in
+    let at_crossings = subst (λ (among : List (ℕ × ℕ)). GainsThese (IsStopCrossed edges among) ended all) c.deref-2.ensures.value c.in_ok-push_stops_at_crossings.ensures.ok in
+    let told = gains-join (IsOfSome (IsStopOfPair edges) pairs) (IsStopCrossed edges pairs) [] ended all at_ends at_crossings in
     subst (AreStops edges) (sym (dedup_is _ _ _ c.dedup.ensures.filtered))
-    (AreStops-sorted edges pairs c.in_ok-pairs.ensures.ok points crossings all
-    (gained-all (λ stop. IsOfSome (IsStopOfPair edges) pairs stop ⊎ IsStopAmong edges points stop) all told)
+    (AreStops-sorted edges pairs c.in_ok-pairs.ensures.ok all
+    (gained-all (λ stop. IsOfSome (IsStopOfPair edges) pairs stop ⊎ IsStopCrossed edges pairs stop) all told)
     _ matches_eq-law c.sort_unstable.new.self.items c.sort_unstable.ensures.permutation c.sort_unstable.ensures.sorted)
