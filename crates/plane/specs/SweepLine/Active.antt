@@ -22,13 +22,17 @@ then_cmp Greater second = Greater
 abbrev pub common_start : ActiveEdge → ActiveEdge → ℤ
 common_start one other = int_max one.edge.x0 other.edge.x0
 
--- by the heights at the first common x, then by the slopes, then by where they begin, then by place
+-- by the slopes, then by where they begin, then by place
+abbrev pub cmp_behind : ActiveEdge → ActiveEdge → Ordering
+cmp_behind one other =
+    then_cmp (int_cmp (rise_by_run one.edge other.edge) (rise_by_run other.edge one.edge))
+    (then_cmp (int_cmp one.edge.x0 other.edge.x0) (nat_cmp one.place other.place))
+
+-- by the heights at the first common x, and where these are equal by what comes behind them
 abbrev pub cmp_active : ActiveEdge → ActiveEdge → Ordering
 cmp_active one other =
     let start = common_start one other in
-    then_cmp (int_cmp (height_by_runs one.edge other.edge start) (height_by_runs other.edge one.edge start))
-    (then_cmp (int_cmp (rise_by_run one.edge other.edge) (rise_by_run other.edge one.edge))
-    (then_cmp (int_cmp one.edge.x0 other.edge.x0) (nat_cmp one.place other.place)))
+    then_cmp (int_cmp (height_by_runs one.edge other.edge start) (height_by_runs other.edge one.edge start)) (cmp_behind one other)
 
 -- how an edge's height at the point's x stands to the point's
 abbrev pub cmp_to_point : Point → ActiveEdge → Ordering

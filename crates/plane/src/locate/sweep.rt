@@ -1,6 +1,6 @@
 //! The sweep among edges: what is done at each event.
 
-ghost use Rattle.std.specs.Prelude.{◌≡◌, ◌≢◌, ◌≤◌, ◌<◌, ◌<ℤ◌, ◌∷◌, [], ℕ, All, AllPairs, Option, length, OnOk};
+ghost use Rattle.std.specs.Prelude.{◌≡◌, ◌≢◌, ◌≤◌, ◌<◌, ◌<ℤ◌, ◌≤ℤ◌, ◌∷◌, [], ℕ, All, AllPairs, Option, length, OnOk};
 ghost use Rattle.std.specs.List.{AllZip};
 ghost use Rattle.i_tree.specs.declared.Refusal.{Refusal};
 ghost use Rattle.i_tree.specs.declared.Refusal.TheVariants.{OutOfMemory};
@@ -19,7 +19,7 @@ use super::fault::LocateFault;
 use super::read_ahead::{Payload, ReadAhead};
 use crate::edge::Edge;
 use crate::point::Point;
-use crate::sweep_line::active::{ActiveEdge, compare_active, compare_to_ending};
+use crate::sweep_line::active::{ActiveEdge, compare_to_beginning, compare_to_ending};
 use crate::sweep_line::crossing::cross;
 use crate::sweep_line::heights::{compare_ends, compare_to_point};
 use crate::sweep_line::insertion::insert_where;
@@ -112,10 +112,10 @@ fn begin<C: StatusCollection<ActiveEdge, i64, ()>>(
     ensures room { C.room status.old ≤ C.room status.new }
 {
     let stands = |other: ActiveEdge| -> Ordering
-        requires right { other.edge.x0 <ℤ other.edge.x1 }
+        requires begun { other.edge.x0 ≤ℤ beginning.edge.x0 }
         requires beginning_right { beginning.edge.x0 <ℤ beginning.edge.x1 }
         ensures { result ≡ cmp_active other beginning }
-    { compare_active(other, beginning) };
+    { compare_to_beginning(other, beginning) };
     let (below, above) = insert_where(status, beginning, stands)?;
     let begun = Some((beginning, ()));
     check_neighbours(below, begun)?;

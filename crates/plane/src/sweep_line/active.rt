@@ -1,10 +1,12 @@
 //! `ActiveEdge`: an edge that a sweep line meets, as it stands in the status, and the order along it.
 
-ghost use Rattle.std.specs.Prelude.{◌≡◌, ◌-ℤ◌, ◌<ℤ◌, pos};
-ghost use Rattle.plane.specs.SweepLine.Active.{cmp_active, cmp_to_ending};
+ghost use Rattle.std.specs.Prelude.{◌≡◌, ◌-ℤ◌, ◌<ℤ◌, ◌≤ℤ◌, pos};
+ghost use Rattle.plane.specs.SweepLine.Active.{cmp_active, cmp_behind, cmp_to_ending};
 ghost use Rattle.plane.specs.SweepLine.Heights.{rightwards};
 
-use super::heights::{compare_slopes, compare_starts, compare_to_point, end_of, turn_rightwards};
+use super::heights::{
+    compare_slopes, compare_starts, compare_to_point, end_of, start_of, turn_rightwards,
+};
 use crate::edge::Edge;
 use i_tree::ExpiredVal;
 use std::cmp::Ordering;
@@ -48,6 +50,14 @@ pub fn compare_active(one: ActiveEdge, other: ActiveEdge) -> Ordering
     if heights != Ordering::Equal {
         return heights;
     }
+    compare_behind(one, other)
+}
+
+/// The same where their heights there are equal, by what comes behind these. It is asked of few, and stands apart so that the
+/// loop which asks for heights has the registers.
+fn compare_behind(one: ActiveEdge, other: ActiveEdge) -> Ordering
+    ensures { result ≡ cmp_behind one other }
+{
     let slopes = compare_slopes(one.edge, other.edge);
     if slopes != Ordering::Equal {
         return slopes;
@@ -57,6 +67,19 @@ pub fn compare_active(one: ActiveEdge, other: ActiveEdge) -> Ordering
         return begins;
     }
     one.place.cmp(&other.place)
+}
+
+/// The same where the other has begun by the x at which the one that begins does: its height there tells.
+pub fn compare_to_beginning(other: ActiveEdge, beginning: ActiveEdge) -> Ordering
+    requires begun { other.edge.x0 ≤ℤ beginning.edge.x0 }
+    requires beginning_right { beginning.edge.x0 <ℤ beginning.edge.x1 }
+    ensures { result ≡ cmp_active other beginning }
+{
+    let heights = compare_to_point(other.edge, start_of(beginning.edge));
+    if heights != Ordering::Equal {
+        return heights;
+    }
+    compare_behind(other, beginning)
 }
 
 /// How the other stands to an edge that ends, among what is live then: by its height at that end. Where it passes
@@ -70,5 +93,14 @@ pub fn compare_to_ending(other: ActiveEdge, ending: ActiveEdge) -> Ordering
     if heights != Ordering::Equal {
         return heights;
     }
+    compare_through(other, ending)
+}
+
+/// The same where the other passes through the end, which few do.
+fn compare_through(other: ActiveEdge, ending: ActiveEdge) -> Ordering
+    requires right { other.edge.x0 <ℤ other.edge.x1 }
+    requires ending_right { ending.edge.x0 <ℤ ending.edge.x1 }
+    ensures { result ≡ cmp_active other ending }
+{
     compare_active(other, ending)
 }

@@ -92,7 +92,7 @@ pub fn compare_ends(one: Edge, other: Edge) -> Ordering
 }
 
 /// The point at which the edge begins.
-fn start_of(edge: Edge) -> Point
+pub fn start_of(edge: Edge) -> Point
     ensures { result ≡ start_of edge }
 {
     Point {

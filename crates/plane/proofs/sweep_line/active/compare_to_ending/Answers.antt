@@ -19,6 +19,6 @@ returns c =
     let other = c.args.other in
     let ending = c.args.ending in
     let first : c.compare_to_point-heights.result ≡ cmp_to_point (end_of ending.edge) other = subst (λ (point : Point). c.compare_to_point-heights.result ≡ cmp_to_point point other) c.end_of.ensures c.compare_to_point-heights.ensures in
-    c.compare_active.ensures
+    c.compare_through.ensures
     ∙ then_cmp-equal c.compare_to_point-heights.result (cmp_active other ending) (sym c.ne.ensures ∙ c.if-ne.false)
     ∙ ap (λ (o : Ordering). then_cmp o (cmp_active other ending)) first
