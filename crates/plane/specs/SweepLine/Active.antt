@@ -1,5 +1,5 @@
 -- The order along the status of the sweep. How an edge stands to another, to a point and to one that ends.
-use Rattle.std.specs.Prelude.{⊤, ℤ, pos, ◌-ℤ◌, ◌*ℤ◌, ◌<ℤ◌, Bool, List, All, Option, Some}
+use Rattle.std.specs.Prelude.{⊤, ℕ, ℤ, pos, ◌-ℤ◌, ◌*ℤ◌, ◌<ℤ◌, Bool, List, All, Option, Some}
 use Rattle.std.specs.Int.{int_max}
 use Rattle.std.specs.Ordering.{int_cmp, nat_cmp}
 use Rattle.std.specs.declared.cmp.Ordering.{Ordering}
@@ -11,6 +11,13 @@ use Rattle.plane.specs.declared.point.Point.{Point}
 use Rattle.plane.specs.Ends.{end_of}
 use Rattle.plane.specs.SweepLine.Crossings.{Cross}
 use Rattle.plane.specs.SweepLine.Heights.{run, height_by_run, height_by_runs, rise_by_run}
+
+-- the active edge of these numbers
+abbrev pub active_edge : ℤ → ℤ → ℤ → ℤ → ℕ → ActiveEdge
+active_edge x0 y0 x1 y1 place = record {
+  edge = record { x0 = x0; y0 = y0; x1 = x1; y1 = y1 };
+  place = place;
+}
 
 -- the first comparison, or the second where the first says Equal
 abbrev pub then_cmp : Ordering → Ordering → Ordering
