@@ -70,7 +70,7 @@ fn compare_behind(one: ActiveEdge, other: ActiveEdge) -> Ordering
 }
 
 /// The same where the other has begun by the x at which the one that begins does: its height there tells.
-pub fn compare_to_beginning(other: ActiveEdge, beginning: ActiveEdge) -> Ordering
+pub(crate) fn compare_to_beginning(other: ActiveEdge, beginning: ActiveEdge) -> Ordering
     requires begun { other.edge.x0 ≤ℤ beginning.edge.x0 }
     requires beginning_right { beginning.edge.x0 <ℤ beginning.edge.x1 }
     ensures { result ≡ cmp_active other beginning }

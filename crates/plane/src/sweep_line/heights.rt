@@ -52,13 +52,13 @@ fn select_number(takes_first: bool, first: i32, other: i32) -> i32
 /// Two numbers that are compared: how high an edge is at a point's x, and how high the point is, both above the edge's start,
 /// times its run.
 #[derive(Clone, Copy)]
-pub struct Climbs {
+pub(crate) struct Climbs {
     pub edge: i128,
     pub point: i128,
 }
 
 /// The edge's and the point's, where the edge goes to the right.
-pub fn climbs_to_point(edge: Edge, point: Point) -> Climbs
+pub(crate) fn climbs_to_point(edge: Edge, point: Point) -> Climbs
     ensures { int_cmp result.edge result.point ≡ int_cmp (height_of edge point.x) (point.y *ℤ run edge) }
 {
     let climb = product(way_on_axis(edge.y0, edge.y1), way_on_axis(edge.x0, point.x));
@@ -110,7 +110,7 @@ pub fn compare_ends(one: Edge, other: Edge) -> Ordering
 }
 
 /// The point at which the edge begins.
-pub fn start_of(edge: Edge) -> Point
+pub(crate) fn start_of(edge: Edge) -> Point
     ensures { result ≡ start_of edge }
 {
     Point {

@@ -56,7 +56,7 @@ pub fn insert_beginning<C: StatusCollection<ActiveEdge, i64, ()>>(
 /// As `insert_beginning`, which it is for, by a closure that answers how an active edge stands to the one that begins. The
 /// machine has code of its own for each closure, so a sweep that passes its own has the descent among its own code.
 #[inline(always)]
-pub fn insert_where<C: StatusCollection<ActiveEdge, i64, ()>, F: Fn(ActiveEdge) -> Ordering>(
+pub(crate) fn insert_where<C: StatusCollection<ActiveEdge, i64, ()>, F: Fn(ActiveEdge) -> Ordering>(
     status: &mut C,
     beginning: ActiveEdge,
     stands: F,
