@@ -120,7 +120,7 @@ abbrev heights : Edge → Edge → ℤ → Ordering
 heights one other x = int_cmp (height_by_runs one other x) (height_by_runs other one x)
 
 -- at the first x that both span the later one's start tells it
-pub starts-later : (one other : Edge) (point : Point) (r : Ordering) → one.x0 <ℤ other.x0 → other.x0 <ℤ other.x1 → point.x ≡ other.x0 → point.y ≡ other.y0
+pub starts-later : (one other : Edge) (point : Point) (r : Ordering) → one.x0 ≤ℤ other.x0 → other.x0 <ℤ other.x1 → point.x ≡ other.x0 → point.y ≡ other.y0
     → r ≡ int_cmp (height_by_run one point.x) (point.y *ℤ run one)
     → r ≡ int_cmp (height_by_runs one other (int_max one.x0 other.x0)) (height_by_runs other one (int_max one.x0 other.x0))
 starts-later one other point r later onwards x_is y_is told =

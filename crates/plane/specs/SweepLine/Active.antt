@@ -1,5 +1,5 @@
 -- The order along the status of the sweep. How an edge stands to another, to a point and to one that ends.
-use Rattle.std.specs.Prelude.{⊤, ℤ, pos, ◌-ℤ◌, ◌*ℤ◌, ◌<ℤ◌, Bool, List, All, Option, Some}
+use Rattle.std.specs.Prelude.{⊤, ℕ, ℤ, pos, ◌-ℤ◌, ◌*ℤ◌, ◌<ℤ◌, Bool, List, All, Option, Some}
 use Rattle.std.specs.Int.{int_max}
 use Rattle.std.specs.Ordering.{int_cmp, nat_cmp}
 use Rattle.std.specs.declared.cmp.Ordering.{Ordering}
@@ -12,6 +12,13 @@ use Rattle.plane.specs.Ends.{end_of}
 use Rattle.plane.specs.SweepLine.Crossings.{Cross}
 use Rattle.plane.specs.SweepLine.Heights.{run, height_by_run, height_by_runs, rise_by_run}
 
+-- the active edge of these numbers
+abbrev pub active_edge : ℤ → ℤ → ℤ → ℤ → ℕ → ActiveEdge
+active_edge x0 y0 x1 y1 place = record {
+  edge = record { x0 = x0; y0 = y0; x1 = x1; y1 = y1 };
+  place = place;
+}
+
 -- the first comparison, or the second where the first says Equal
 abbrev pub then_cmp : Ordering → Ordering → Ordering
 then_cmp Less second = Less
@@ -22,13 +29,17 @@ then_cmp Greater second = Greater
 abbrev pub common_start : ActiveEdge → ActiveEdge → ℤ
 common_start one other = int_max one.edge.x0 other.edge.x0
 
--- by the heights at the first common x, then by the slopes, then by where they begin, then by place
+-- by the slopes, then by where they begin, then by place
+abbrev pub cmp_behind : ActiveEdge → ActiveEdge → Ordering
+cmp_behind one other =
+    then_cmp (int_cmp (rise_by_run one.edge other.edge) (rise_by_run other.edge one.edge))
+    (then_cmp (int_cmp one.edge.x0 other.edge.x0) (nat_cmp one.place other.place))
+
+-- by the heights at the first common x, and where these are equal by what comes behind them
 abbrev pub cmp_active : ActiveEdge → ActiveEdge → Ordering
 cmp_active one other =
     let start = common_start one other in
-    then_cmp (int_cmp (height_by_runs one.edge other.edge start) (height_by_runs other.edge one.edge start))
-    (then_cmp (int_cmp (rise_by_run one.edge other.edge) (rise_by_run other.edge one.edge))
-    (then_cmp (int_cmp one.edge.x0 other.edge.x0) (nat_cmp one.place other.place)))
+    then_cmp (int_cmp (height_by_runs one.edge other.edge start) (height_by_runs other.edge one.edge start)) (cmp_behind one other)
 
 -- how an edge's height at the point's x stands to the point's
 abbrev pub cmp_to_point : Point → ActiveEdge → Ordering

@@ -1,6 +1,6 @@
 //! The sweep among edges: what is done at each event.
 
-ghost use Rattle.std.specs.Prelude.{◌≡◌, ◌≢◌, ◌≤◌, ◌<◌, ◌<ℤ◌, ◌∷◌, [], ℕ, All, AllPairs, Option, length, OnOk};
+ghost use Rattle.std.specs.Prelude.{◌≡◌, ◌≢◌, ◌≤◌, ◌<◌, ◌<ℤ◌, ◌≤ℤ◌, ◌∷◌, [], ℕ, All, AllPairs, Option, length, OnOk};
 ghost use Rattle.std.specs.List.{AllZip};
 ghost use Rattle.i_tree.specs.declared.Refusal.{Refusal};
 ghost use Rattle.i_tree.specs.declared.Refusal.TheVariants.{OutOfMemory};
@@ -19,10 +19,10 @@ use super::fault::LocateFault;
 use super::read_ahead::{Payload, ReadAhead};
 use crate::edge::Edge;
 use crate::point::Point;
-use crate::sweep_line::active::{ActiveEdge, compare_to_ending};
+use crate::sweep_line::active::{ActiveEdge, compare_to_beginning, compare_to_ending};
 use crate::sweep_line::crossing::cross;
 use crate::sweep_line::heights::{compare_ends, compare_to_point};
-use crate::sweep_line::insertion::insert_beginning;
+use crate::sweep_line::insertion::insert_where;
 use event_queue::Event;
 use i_tree::status::exp::StatusCollection;
 use std::alloc::Allocator;
@@ -111,7 +111,12 @@ fn begin<C: StatusCollection<ActiveEdge, i64, ()>>(
         result ≢ Err (LocateFault.Refused cause) }
     ensures room { C.room status.old ≤ C.room status.new }
 {
-    let (below, above) = insert_beginning(status, beginning)?;
+    let stands = |other: ActiveEdge| -> Ordering
+        requires begun { other.edge.x0 ≤ℤ beginning.edge.x0 }
+        requires beginning_right { beginning.edge.x0 <ℤ beginning.edge.x1 }
+        ensures { result ≡ cmp_active other beginning }
+    { compare_to_beginning(other, beginning) };
+    let (below, above) = insert_where(status, beginning, stands)?;
     let begun = Some((beginning, ()));
     check_neighbours(below, begun)?;
     check_neighbours(begun, above)

@@ -1,10 +1,13 @@
 //! `ActiveEdge`: an edge that a sweep line meets, as it stands in the status, and the order along it.
 
-ghost use Rattle.std.specs.Prelude.{◌≡◌, ◌-ℤ◌, ◌<ℤ◌, pos};
-ghost use Rattle.plane.specs.SweepLine.Active.{cmp_active, cmp_to_ending};
+ghost use Rattle.std.specs.Prelude.{◌≡◌, ◌-ℤ◌, ◌<ℤ◌, ◌≤ℤ◌, pos};
+ghost use Rattle.std.specs.Ordering.{int_cmp};
+ghost use Rattle.plane.specs.SweepLine.Active.{active_edge, cmp_active, cmp_behind, cmp_to_ending};
 ghost use Rattle.plane.specs.SweepLine.Heights.{rightwards};
 
-use super::heights::{compare_slopes, compare_starts, compare_to_point, end_of, turn_rightwards};
+use super::heights::{
+    Climbs, climbs_to_point, compare_slopes, compare_starts, end_of, start_of, turn_rightwards,
+};
 use crate::edge::Edge;
 use i_tree::ExpiredVal;
 use std::cmp::Ordering;
@@ -48,6 +51,13 @@ pub fn compare_active(one: ActiveEdge, other: ActiveEdge) -> Ordering
     if heights != Ordering::Equal {
         return heights;
     }
+    compare_behind(one, other)
+}
+
+/// The same where their heights there are equal, by what comes behind these.
+fn compare_behind(one: ActiveEdge, other: ActiveEdge) -> Ordering
+    ensures { result ≡ cmp_behind one other }
+{
     let slopes = compare_slopes(one.edge, other.edge);
     if slopes != Ordering::Equal {
         return slopes;
@@ -59,6 +69,31 @@ pub fn compare_active(one: ActiveEdge, other: ActiveEdge) -> Ordering
     one.place.cmp(&other.place)
 }
 
+/// The same where the other has begun by the x at which the one that begins does: its height there tells.
+pub(crate) fn compare_to_beginning(other: ActiveEdge, beginning: ActiveEdge) -> Ordering
+    requires begun { other.edge.x0 ≤ℤ beginning.edge.x0 }
+    requires beginning_right { beginning.edge.x0 <ℤ beginning.edge.x1 }
+    ensures { result ≡ cmp_active other beginning }
+{
+    let climbs = climbs_to_beginning(other, beginning);
+    climbs.edge.cmp(&climbs.point)
+}
+
+/// Two numbers that stand to each other so. Numbers are told, and compared only behind that, so that in the machine's code few
+/// steps lie between their comparison and the child that a search goes to.
+fn climbs_to_beginning(other: ActiveEdge, beginning: ActiveEdge) -> Climbs
+    requires begun { other.edge.x0 ≤ℤ beginning.edge.x0 }
+    requires beginning_right { beginning.edge.x0 <ℤ beginning.edge.x1 }
+    ensures { int_cmp result.edge result.point ≡ cmp_active other beginning }
+{
+    let climbs = climbs_to_point(other.edge, start_of(beginning.edge));
+    if climbs.edge == climbs.point {
+        let Edge { x0, y0, x1, y1 } = other.edge;
+        return climbs_of(compare_touching(x0, y0, x1, y1, other.place, copy_of(beginning)));
+    }
+    climbs
+}
+
 /// How the other stands to an edge that ends, among what is live then: by its height at that end. Where it passes
 /// through the end, as `compare_active` says. So no guess is made at which of the two began first.
 pub fn compare_to_ending(other: ActiveEdge, ending: ActiveEdge) -> Ordering
@@ -66,9 +101,84 @@ pub fn compare_to_ending(other: ActiveEdge, ending: ActiveEdge) -> Ordering
     requires ending_right { ending.edge.x0 <ℤ ending.edge.x1 }
     ensures { result ≡ cmp_to_ending ending other }
 {
-    let heights = compare_to_point(other.edge, end_of(ending.edge));
-    if heights != Ordering::Equal {
-        return heights;
+    let climbs = climbs_to_ending(other, ending);
+    climbs.edge.cmp(&climbs.point)
+}
+
+/// Two numbers that stand to each other so.
+fn climbs_to_ending(other: ActiveEdge, ending: ActiveEdge) -> Climbs
+    requires right { other.edge.x0 <ℤ other.edge.x1 }
+    requires ending_right { ending.edge.x0 <ℤ ending.edge.x1 }
+    ensures { int_cmp result.edge result.point ≡ cmp_to_ending ending other }
+{
+    let climbs = climbs_to_point(other.edge, end_of(ending.edge));
+    if climbs.edge == climbs.point {
+        let Edge { x0, y0, x1, y1 } = other.edge;
+        return climbs_of(compare_through(x0, y0, x1, y1, other.place, copy_of(ending)));
     }
-    compare_active(other, ending)
+    climbs
+}
+
+/// As `compare_behind`, of an edge of these numbers. Few touch where one begins: so this stands apart, and takes the edge number
+/// by number, since a whole one would lie in memory for each that is compared.
+#[cold]
+#[inline(never)]
+fn compare_touching(
+    x0: i32,
+    y0: i32,
+    x1: i32,
+    y1: i32,
+    place: usize,
+    beginning: ActiveEdge,
+) -> Ordering
+    ensures { result ≡ cmp_behind (active_edge x0 y0 x1 y1 place) beginning }
+{
+    compare_behind(active_edge(x0, y0, x1, y1, place), beginning)
+}
+
+/// As `compare_active`, of an edge of these numbers that passes through the end of one that ends, which few do.
+#[cold]
+#[inline(never)]
+fn compare_through(x0: i32, y0: i32, x1: i32, y1: i32, place: usize, ending: ActiveEdge) -> Ordering
+    requires right { x0 <ℤ x1 }
+    requires ending_right { ending.edge.x0 <ℤ ending.edge.x1 }
+    ensures { result ≡ cmp_active (active_edge x0 y0 x1 y1 place) ending }
+{
+    compare_active(active_edge(x0, y0, x1, y1, place), ending)
+}
+
+/// The active edge of these numbers.
+#[inline]
+fn active_edge(x0: i32, y0: i32, x1: i32, y1: i32, place: usize) -> ActiveEdge
+    ensures { result ≡ active_edge x0 y0 x1 y1 place }
+{
+    ActiveEdge {
+        edge: Edge { x0, y0, x1, y1 },
+        place,
+    }
+}
+
+/// Two numbers that stand to each other as the answer says.
+#[inline]
+fn climbs_of(answer: Ordering) -> Climbs
+    ensures { int_cmp result.edge result.point ≡ answer }
+{
+    match answer {
+        Ordering::Less => Climbs { edge: 0, point: 1 },
+        Ordering::Equal => Climbs { edge: 0, point: 0 },
+        Ordering::Greater => Climbs { edge: 1, point: 0 },
+    }
+}
+
+/// A copy, number by number. What is passed to a call that isn't inlined lies in memory: then that is the copy, which is
+/// made only where the call is.
+#[inline]
+fn copy_of(active: ActiveEdge) -> ActiveEdge
+    ensures { result ≡ active }
+{
+    let Edge { x0, y0, x1, y1 } = active.edge;
+    ActiveEdge {
+        edge: Edge { x0, y0, x1, y1 },
+        place: active.place,
+    }
 }

@@ -49,14 +49,32 @@ fn select_number(takes_first: bool, first: i32, other: i32) -> i32
     if takes_first { first } else { other }
 }
 
-/// How the edge's height at the point's x stands to the point's, where the edge goes to the right: by how far both are
-/// above the edge's start, times its run.
-pub fn compare_to_point(edge: Edge, point: Point) -> Ordering
-    ensures { result ≡ int_cmp (height_of edge point.x) (point.y *ℤ run edge) }
+/// Two numbers that are compared: how high an edge is at a point's x, and how high the point is, both above the edge's start,
+/// times its run.
+#[derive(Clone, Copy)]
+pub(crate) struct Climbs {
+    pub edge: i128,
+    pub point: i128,
+}
+
+/// The edge's and the point's, where the edge goes to the right.
+pub(crate) fn climbs_to_point(edge: Edge, point: Point) -> Climbs
+    ensures { int_cmp result.edge result.point ≡ int_cmp (height_of edge point.x) (point.y *ℤ run edge) }
 {
     let climb = product(way_on_axis(edge.y0, edge.y1), way_on_axis(edge.x0, point.x));
     let point_climb = product(way_on_axis(edge.y0, point.y), way_on_axis(edge.x0, edge.x1));
-    climb.cmp(&point_climb)
+    Climbs {
+        edge: climb,
+        point: point_climb,
+    }
+}
+
+/// How the edge's height at the point's x stands to the point's, where the edge goes to the right.
+pub fn compare_to_point(edge: Edge, point: Point) -> Ordering
+    ensures { result ≡ int_cmp (height_of edge point.x) (point.y *ℤ run edge) }
+{
+    let climbs = climbs_to_point(edge, point);
+    climbs.edge.cmp(&climbs.point)
 }
 
 /// How the one's height stands to the other's at the first x that both span. There the later one begins, so that the
@@ -92,7 +110,7 @@ pub fn compare_ends(one: Edge, other: Edge) -> Ordering
 }
 
 /// The point at which the edge begins.
-fn start_of(edge: Edge) -> Point
+pub(crate) fn start_of(edge: Edge) -> Point
     ensures { result ≡ start_of edge }
 {
     Point {

@@ -1,7 +1,9 @@
 //! How an edge joins the active ones where it begins.
 
 ghost use Rattle.std.specs.Prelude.{◌≡◌, ◌≤◌, ◌<◌, ◌<ℤ◌, ◌≤ℤ◌, ℤ, All, length, IsOk, IfOk, OnOk, OnErr};
+ghost use Rattle.std.specs.declared.cmp.Ordering.{Ordering};
 ghost use Rattle.i_tree.specs.Root.Along.{AreNeighbours};
+ghost use Rattle.plane.specs.declared.sweep_line.active.ActiveEdge.{ActiveEdge};
 ghost use Rattle.plane.specs.SweepLine.Active.{cmp_active, live_entries};
 ghost use Rattle.plane.specs.SweepLine.Line.{BeganBefore, IsSortedAt, JoinsAt, NoneCrossAmong};
 
@@ -40,11 +42,43 @@ pub fn insert_beginning<C: StatusCollection<ActiveEdge, i64, ()>>(
     ensures with_room { length (C.stored status.old) < C.room status.old → IsOk result }
     ensures room { C.room status.old ≤ C.room status.new }
 {
-    let stands = |other: ActiveEdge| -> Ordering
-        requires right { other.edge.x0 <ℤ other.edge.x1 }
-        requires beginning_right { beginning.edge.x0 <ℤ beginning.edge.x1 }
-        ensures { result ≡ cmp_active other beginning }
-    { compare_active(other, beginning) };
+    insert_where(
+        status,
+        beginning,
+        |other: ActiveEdge| -> Ordering
+            requires right { other.edge.x0 <ℤ other.edge.x1 }
+            requires beginning_right { beginning.edge.x0 <ℤ beginning.edge.x1 }
+            ensures { result ≡ cmp_active other beginning }
+        { compare_active(other, beginning) },
+    )
+}
+
+/// As `insert_beginning`, which it is for, by a closure that answers how an active edge stands to the one that begins. The
+/// machine has code of its own for each closure, so a sweep that passes its own has the descent among its own code.
+#[inline(always)]
+pub(crate) fn insert_where<C: StatusCollection<ActiveEdge, i64, ()>, F: Fn(ActiveEdge) -> Ordering>(
+    status: &mut C,
+    beginning: ActiveEdge,
+    stands: F,
+) -> Result<Neighbours, Refusal>
+    requires right { beginning.edge.x0 <ℤ beginning.edge.x1 }
+    requires sorted { IsSortedAt beginning.edge.x0 (live_entries beginning.edge.x0 (C.stored status.old)) }
+    requires last { All (λ entry. BeganBefore entry.0 beginning)
+        (live_entries beginning.edge.x0 (C.stored status.old)) }
+    requires asked { All (λ entry. F.pre stands entry.0)
+        (live_entries beginning.edge.x0 (C.stored status.old)) }
+    requires answers { (other : ActiveEdge) (answer : Ordering) → F.post stands other answer
+        → answer ≡ cmp_active other beginning }
+    ensures neighbours { IfOk result (AreNeighbours (λ other. cmp_active other beginning)
+        (live_entries beginning.edge.x0 (C.stored status.old))) }
+    ensures ok { OnOk result (JoinsAt beginning.edge.x0 (beginning, tt) (C.stored status.old) (C.stored status.new)) }
+    ensures sorted { OnOk result ((later : ℤ) → beginning.edge.x0 ≤ℤ later
+        → NoneCrossAmong (live_entries beginning.edge.x0 (C.stored status.new))
+        → IsSortedAt later (live_entries later (C.stored status.new))) }
+    ensures err { OnErr result (C.stored status.new ≡ C.stored status.old) }
+    ensures with_room { length (C.stored status.old) < C.room status.old → IsOk result }
+    ensures room { C.room status.old ≤ C.room status.new }
+{
     let x = beginning.edge.x0 as i64;
     let Some(found) = status.insert_between(x, stands, beginning, ())? else {
         // None of the others is Equal to it, so that it has joined.

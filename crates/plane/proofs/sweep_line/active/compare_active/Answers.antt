@@ -1,8 +1,8 @@
 use Rattle.std.proofs.Common.{◌≡◌, ◌∙◌, sym, ap}
-use Rattle.std.specs.Ordering.{int_cmp, nat_cmp}
+use Rattle.std.specs.Ordering.{int_cmp}
 use Rattle.std.specs.declared.cmp.Ordering.{Ordering}
-use Rattle.plane.specs.SweepLine.Heights.{height_by_runs, rise_by_run}
-use Rattle.plane.specs.SweepLine.Active.{then_cmp, common_start}
+use Rattle.plane.specs.SweepLine.Heights.{height_by_runs}
+use Rattle.plane.specs.SweepLine.Active.{then_cmp, cmp_behind, common_start}
 use Rattle.plane.specs.declared.sweep_line.active.ActiveEdge.{ActiveEdge}
 use Rattle.plane.proofs.SweepLineLemmas.Active.{then_cmp-unequal, then_cmp-equal}
 use Rattle.plane.proofs.sweep_line.active.compare_active.Goals as goal
@@ -10,59 +10,19 @@ use Rattle.plane.proofs.sweep_line.active.compare_active.Goals as goal
 abbrev heights : ActiveEdge → ActiveEdge → Ordering
 heights one other = int_cmp (height_by_runs one.edge other.edge (common_start one other)) (height_by_runs other.edge one.edge (common_start one other))
 
-abbrev slopes : ActiveEdge → ActiveEdge → Ordering
-slopes one other = int_cmp (rise_by_run one.edge other.edge) (rise_by_run other.edge one.edge)
-
-abbrev begins : ActiveEdge → ActiveEdge → Ordering
-begins one other = int_cmp one.edge.x0 other.edge.x0
-
-abbrev places : ActiveEdge → ActiveEdge → Ordering
-places one other = nat_cmp one.place other.place
-
 pub returns-then-ne : goal.returns-then-ne
 returns-then-ne c =
     let one = c.args.one in
     let other = c.args.other in
     let first : c.compare_starts-heights.result ≡ heights one other = c.compare_starts-heights.ensures in
-    then_cmp-unequal c.compare_starts-heights.result (then_cmp (slopes one other) (then_cmp (begins one other) (places one other))) (sym c.ne.ensures ∙ c.if-ne.true)
-    ∙ ap (λ (o : Ordering). then_cmp o (then_cmp (slopes one other) (then_cmp (begins one other) (places one other)))) first
-
-pub returns-then-ne-2 : goal.returns-then-ne-2
-returns-then-ne-2 c =
-    let one = c.args.one in
-    let other = c.args.other in
-    let first : c.compare_starts-heights.result ≡ heights one other = c.compare_starts-heights.ensures in
-    let rest = then_cmp (begins one other) (places one other) in
-    then_cmp-unequal c.compare_slopes-slopes.result rest (sym c.ne-2.ensures ∙ c.if-ne-2.true)
-    ∙ ap (λ (o : Ordering). then_cmp o rest) c.compare_slopes-slopes.ensures
-    ∙ then_cmp-equal c.compare_starts-heights.result (then_cmp (slopes one other) rest) (sym c.ne.ensures ∙ c.if-ne.false)
-    ∙ ap (λ (o : Ordering). then_cmp o (then_cmp (slopes one other) rest)) first
-
-pub returns-then-ne-3 : goal.returns-then-ne-3
-returns-then-ne-3 c =
-    let one = c.args.one in
-    let other = c.args.other in
-    let first : c.compare_starts-heights.result ≡ heights one other = c.compare_starts-heights.ensures in
-    let third : c.cmp-begins.result ≡ begins one other = c.cmp-begins.ensures in
-    let rest = then_cmp (begins one other) (places one other) in
-    then_cmp-unequal c.cmp-begins.result (places one other) (sym c.ne-3.ensures ∙ c.if-ne-3.true)
-    ∙ ap (λ (o : Ordering). then_cmp o (places one other)) third
-    ∙ then_cmp-equal c.compare_slopes-slopes.result rest (sym c.ne-2.ensures ∙ c.if-ne-2.false)
-    ∙ ap (λ (o : Ordering). then_cmp o rest) c.compare_slopes-slopes.ensures
-    ∙ then_cmp-equal c.compare_starts-heights.result (then_cmp (slopes one other) rest) (sym c.ne.ensures ∙ c.if-ne.false)
-    ∙ ap (λ (o : Ordering). then_cmp o (then_cmp (slopes one other) rest)) first
+    then_cmp-unequal c.compare_starts-heights.result (cmp_behind one other) (sym c.ne.ensures ∙ c.if-ne.true)
+    ∙ ap (λ (o : Ordering). then_cmp o (cmp_behind one other)) first
 
 pub returns : goal.returns
 returns c =
     let one = c.args.one in
     let other = c.args.other in
     let first : c.compare_starts-heights.result ≡ heights one other = c.compare_starts-heights.ensures in
-    let third : c.cmp-begins.result ≡ begins one other = c.cmp-begins.ensures in
-    let rest = then_cmp (begins one other) (places one other) in
-    c.cmp.ensures
-    ∙ then_cmp-equal c.cmp-begins.result (places one other) (sym c.ne-3.ensures ∙ c.if-ne-3.false)
-    ∙ ap (λ (o : Ordering). then_cmp o (places one other)) third
-    ∙ then_cmp-equal c.compare_slopes-slopes.result rest (sym c.ne-2.ensures ∙ c.if-ne-2.false)
-    ∙ ap (λ (o : Ordering). then_cmp o rest) c.compare_slopes-slopes.ensures
-    ∙ then_cmp-equal c.compare_starts-heights.result (then_cmp (slopes one other) rest) (sym c.ne.ensures ∙ c.if-ne.false)
-    ∙ ap (λ (o : Ordering). then_cmp o (then_cmp (slopes one other) rest)) first
+    c.compare_behind.ensures
+    ∙ then_cmp-equal c.compare_starts-heights.result (cmp_behind one other) (sym c.ne.ensures ∙ c.if-ne.false)
+    ∙ ap (λ (o : Ordering). then_cmp o (cmp_behind one other)) first

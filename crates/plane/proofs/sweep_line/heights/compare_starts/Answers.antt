@@ -1,4 +1,5 @@
-use Rattle.std.proofs.Common.{ap, ◌<ℤ◌, ◌≤ℤ◌, ◌∙◌, rules}
+use Rattle.std.proofs.Common.{ap, ◌<ℤ◌, ◌≤ℤ◌, ◌∙◌, arith, rules}
+use Rattle.std.proofs.lemmas.Int.{ints}
 use Rattle.plane.specs.declared.point.Point.{Point}
 use Rattle.plane.proofs.SweepLineLemmas.Comparisons.{starts-later, starts-earlier}
 use Rattle.plane.proofs.sweep_line.heights.compare_starts.Goals as goal
@@ -8,7 +9,8 @@ returns-then-one-other c =
     let one = c.args.one in
     let other = c.args.other in
     let later : one.x0 <ℤ other.x0 = search rules in
-    starts-later one other c.start_of.result c.compare_to_point.result later c.requires.other_right (ap (λ (p : Point). p.x) c.start_of.ensures) (ap (λ (p : Point). p.y) c.start_of.ensures) c.compare_to_point.ensures
+    let upto : one.x0 ≤ℤ other.x0 = omega (arith, ints, later) in
+    starts-later one other c.start_of.result c.compare_to_point.result upto c.requires.other_right (ap (λ (p : Point). p.x) c.start_of.ensures) (ap (λ (p : Point). p.y) c.start_of.ensures) c.compare_to_point.ensures
 
 pub returns : goal.returns
 returns c =

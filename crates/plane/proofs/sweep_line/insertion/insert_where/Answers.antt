@@ -1,20 +1,18 @@
 -- What the insertion tells, it tells by the order along the line, since the closure answers by it.
-use Rattle.std.proofs.Common.{arith, refl, rules, SFits, w32, w64}
-use Rattle.std.proofs.lemmas.Int.{ints, to_z-of_z}
+use Rattle.std.proofs.Common.{refl, rules, SFits, w32, w64}
+use Rattle.std.proofs.lemmas.Int.{to_z-of_z}
 use Rattle.plane.specs.declared.sweep_line.active.ActiveEdge.{ActiveEdge}
 use Rattle.plane.specs.SweepLine.Active.{Entry, cmp_active, live_entries}
 use Rattle.plane.proofs.SweepLineLemmas.Begins.{begin_monotone, begin_new}
 use Rattle.plane.proofs.SweepLineLemmas.Insertion.{JoinsAt-along, joined_at, never_none, told_at}
 use Rattle.plane.proofs.SweepLineLemmas.Sorted.{IsSortedAt-joins}
-use Rattle.plane.proofs.sweep_line.insertion.insert_beginning.Goals as goal
+use Rattle.plane.proofs.sweep_line.insertion.insert_where.Goals as goal
 
 pub insert_between-requires : goal.insert_between-requires
 insert_between-requires g c =
     let fits : SFits w32 c.args.beginning.edge.x0 = search rules in
     let fits_wide : SFits w64 c.args.beginning.edge.x0 = search rules in
-    simp to_z-of_z (λ k d inside.
-    let (from, lives) = c.requires.sorted.active k d inside in
-    (omega (arith, ints, from, lives), c.requires.right))
+    simp to_z-of_z c.requires.asked
 
 pub returns-in_default : goal.returns-in_default
 returns-in_default g c =
@@ -25,7 +23,7 @@ returns-in_default g c =
     let entry : Entry = (c.args.beginning, tt) in
     let cases = simp to_z-of_z at c.in_ok-found.ensures.cases in
     absurd (never_none order entries c.in_ok-found.field-0 c.in_default.is
-    (cases order (λ k d inside answer says. search rules) (begin_monotone c.args.beginning.edge.x0 entries entry c.requires.sorted refl c.requires.right c.requires.last))
+    (cases order (λ k d inside answer says. c.requires.answers _ answer says) (begin_monotone c.args.beginning.edge.x0 entries entry c.requires.sorted refl c.requires.right c.requires.last))
     (begin_new c.args.beginning.edge.x0 entries entry c.requires.sorted refl c.requires.right c.requires.last))
 
 pub returns-clause-neighbours : goal.returns-clause-neighbours
@@ -36,7 +34,7 @@ returns-clause-neighbours g c =
     let entries = live_entries c.args.beginning.edge.x0 (g.C.StatusCollection.stored c.args.status.now) in
     let entry : Entry = (c.args.beginning, tt) in
     let told = simp to_z-of_z at c.in_ok-found.ensures.neighbours in
-    told_at _ c.in_ok-found.field-0 c.in-Some.found c.in-Some.is told order (λ k d inside answer says. search rules)
+    told_at _ c.in_ok-found.field-0 c.in-Some.found c.in-Some.is told order (λ k d inside answer says. c.requires.answers _ answer says)
     (begin_monotone c.args.beginning.edge.x0 entries entry c.requires.sorted refl c.requires.right c.requires.last)
 
 pub returns-clause-ok : goal.returns-clause-ok
@@ -48,7 +46,7 @@ returns-clause-ok g c =
     let entry : Entry = (c.args.beginning, tt) in
     let joined = simp to_z-of_z at c.in_ok-found.ensures.ok in
     let joins = joined_at _ _ c.in_ok-found.field-0 c.in-Some.found c.in-Some.is joined in
-    JoinsAt-along c.args.beginning.edge.x0 c.args.beginning _ (stored c.args.status.now) (stored c.insert_between.new.self) (λ k d inside answer says. search rules)
+    JoinsAt-along c.args.beginning.edge.x0 c.args.beginning _ (stored c.args.status.now) (stored c.insert_between.new.self) (λ k d inside answer says. c.requires.answers _ answer says)
     (begin_monotone c.args.beginning.edge.x0 entries entry c.requires.sorted refl c.requires.right c.requires.last) joins
 
 pub returns-clause-sorted : goal.returns-clause-sorted

@@ -1,8 +1,10 @@
-use Rattle.std.proofs.Common.{◌≡◌, ◌-ℤ◌, ◌*ℤ◌, ap₂, ◌∙◌, rules}
+use Rattle.std.proofs.Common.{◌≡◌, ◌-ℤ◌, ◌*ℤ◌, ap₂, ◌∙◌, rules, FitsSigned}
+use Rattle.std.specs.Int.{w128}
+use Rattle.std.proofs.lemmas.Int.{to_z-of_z}
 use Rattle.std.specs.Ordering.{int_cmp}
 use Rattle.plane.specs.SweepLine.Heights.{run, rise}
 use Rattle.plane.proofs.SweepLineLemmas.Comparisons.{cmp-from_start}
-use Rattle.plane.proofs.sweep_line.heights.compare_to_point.Goals as goal
+use Rattle.plane.proofs.sweep_line.heights.climbs_to_point.Goals as goal
 
 pub returns : goal.returns
 returns c =
@@ -14,5 +16,6 @@ returns c =
     let runs : c.way_on_axis-4.result ≡ run edge = search rules in
     let climb : c.product-climb.result ≡ (c.way_on_axis.result *ℤ c.way_on_axis-2.result) = search rules in
     let point_climb : c.product-point_climb.result ≡ (c.way_on_axis-3.result *ℤ c.way_on_axis-4.result) = search rules in
-    let compared : c.cmp.result ≡ int_cmp c.product-climb.result c.product-point_climb.result = search rules in
-    compared ∙ ap₂ int_cmp (climb ∙ ap₂ (◌*ℤ◌) rises goes) (point_climb ∙ ap₂ (◌*ℤ◌) point_rises runs) ∙ cmp-from_start edge point
+    let fits : FitsSigned w128 c.product-climb.result = search rules in
+    let point_fits : FitsSigned w128 c.product-point_climb.result = search rules in
+    simp to_z-of_z (ap₂ int_cmp (climb ∙ ap₂ (◌*ℤ◌) rises goes) (point_climb ∙ ap₂ (◌*ℤ◌) point_rises runs) ∙ cmp-from_start edge point)
