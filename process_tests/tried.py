@@ -19,6 +19,7 @@ import meetings
 import documents
 import histories
 import locates
+import long_overlays
 import overlays
 import small
 import snaps
@@ -36,7 +37,8 @@ PARTS = (
 )
 TEXTS = text.empty_texts, text.plain_lines, text.faulty_lines, text.numbers
 # Those of modes that the help in docs/COMMANDS.md may not list yet.
-WHERE_LISTED = {"snap": (snaps.worked,), "overlay OPERATION RULE": (overlays.worked, overlays.faulty, overlays.nested)}
+OVERLAYS = overlays.worked, overlays.faulty, overlays.nested, long_overlays.few
+WHERE_LISTED = {"snap": (snaps.worked,), "overlay OPERATION RULE": OVERLAYS}
 READ = "keytree", "setlist", "seg"
 
 CRATE = os.path.normpath(os.path.join(os.path.dirname(os.path.abspath(__file__)), "..", "crates", "itree"))

@@ -5,6 +5,7 @@ leftwards. An edge lies under a point that it covers the X of, from its lesser X
 height that is at most the point's. Points and edges have whole coordinates here: PARTS of them are one of the program's.
 """
 
+from collections import defaultdict
 from itertools import chain
 from typing import NamedTuple
 
@@ -12,8 +13,10 @@ from typing import NamedTuple
 PARTS = 12
 HALF = PARTS // 2
 
-# A point just inside of a ring is this much closer to it than the ring's edges are long.
-JUST = 1_000_000
+# A point just inside of a ring is this much closer to it than the ring's edges are long. It lies aside of their middles, since
+# there corners may touch.
+JUST = 2**80
+ASIDE = 2**80 * 1618 // 7001
 
 OPERATIONS = {
     "union": lambda subject, clip: subject or clip,
@@ -41,6 +44,30 @@ def edges_of(rings, scale=1):
     """The edges of rings, each with so many times its coordinates."""
     ends = chain.from_iterable(zip(ring, ring[1:] + ring[:1]) for ring in rings)
     return [(x0 * scale, y0 * scale, x1 * scale, y1 * scale) for (x0, y0), (x1, y1) in ends]
+
+
+class Columns:
+    """Edges by columns, so that those over or under a point, and those close to it, are few to look through."""
+
+    # So many edges have a column more.
+    EACH = 8
+
+    def __init__(self, edges):
+        left = min((min(x0, x1) for x0, _, x1, _ in edges), default=0)
+        right = max((max(x0, x1) for x0, _, x1, _ in edges), default=0)
+        self.left, self.width = left, max(1, (right - left) * self.EACH // (len(edges) + 1))
+        self.found = defaultdict(list)
+        for edge in edges:
+            least, greatest = sorted((edge[0], edge[2]))
+            for column in range(self.column(least - HALF), self.column(greatest + HALF) + 1):
+                self.found[column].append(edge)
+
+    def column(self, x):
+        return (x - self.left) // self.width
+
+    def beside(self, point):
+        """The edges of the point's column, among them all that are at most a half away from it."""
+        return self.found.get(self.column(point[0]), ())
 
 
 def winding(edges, point):
@@ -107,35 +134,65 @@ def ring_problems(polygon):
 
 
 def just_inside(ring):
-    """A point for each edge of a ring, left of its middle and close to it, in parts of which 2 * JUST are one."""
+    """A point for each edge of a ring, left of the edge and close to it, in parts of which 2 * JUST are one."""
     for x0, y0, x1, y1 in edges_of([ring]):
-        yield JUST * (x0 + x1) - (y1 - y0), JUST * (y0 + y1) + (x1 - x0)
+        yield JUST * (x0 + x1) + ASIDE * (x1 - x0) - (y1 - y0), JUST * (y0 + y1) + ASIDE * (y1 - y0) + (x1 - x0)
 
 
 def hole_problems(polygon):
     """Which holes don't lie in their polygon: a hole runs clockwise, so what is left of it lies outside of it."""
-    outer = edges_of(polygon[:1], 2 * JUST)
+    outer = Columns(edges_of(polygon[:1], 2 * JUST)) if polygon[1:] else None
     for hole in polygon[1:]:
-        if any(winding(outer, point) != 1 for point in just_inside(hole[::-1])):
+        if any(winding(outer.beside(point), point) != 1 for point in just_inside(hole[::-1])):
             yield f"the hole {hole} isn't inside of {polygon[0]}"
 
 
 def point_problems(drawing, polygons, rule, operation, points):
     """At which points the polygons wind otherwise than they are to."""
     subject, clip = (edges_of(rings, PARTS) for rings in drawing)
-    given = subject + clip
-    is_exact = all(map(is_along_axis, given))
-    made = [edges_of(polygon, PARTS) for polygon in polygons]
+    is_exact = all(map(is_along_axis, subject + clip))
+    subject, clip, *made = map(Columns, (subject, clip, *(edges_of(polygon, PARTS) for polygon in polygons)))
     is_inside, operate = RULES[rule], OPERATIONS[operation]
     for point in points:
-        windings = [winding(edges, point) for edges in made]
+        windings = [winding(edges.beside(point), point) for edges in made]
         where = "{}/{} {}/{}".format(point[0], PARTS, point[1], PARTS)
         if not {0, 1}.issuperset(windings) or sum(windings) > 1:
             yield f"around {where} the polygons wind {windings} times"
-        elif is_exact or not any(is_near(edge, point) for edge in given):
-            wanted = operate(is_inside(winding(subject, point)), is_inside(winding(clip, point)))
+            continue
+        its, clips = subject.beside(point), clip.beside(point)
+        if is_exact or not any(is_near(edge, point) for edge in (*its, *clips)):
+            wanted = operate(is_inside(winding(its, point)), is_inside(winding(clips, point)))
             if sum(windings) != wanted:
                 yield f"around {where} the polygons wind {sum(windings)} times in place of {int(wanted)}"
+
+
+def sides(edge, points):
+    """On which sides of the edge's line the points lie: 1 left of it, -1 right of it, 0 on it."""
+    x0, y0, x1, y1 = edge
+    areas = [(x1 - x0) * (y - y0) - (y1 - y0) * (x - x0) for x, y in points]
+    return [(area > 0) - (area < 0) for area in areas]
+
+
+def are_crossing(one, other):
+    """Whether two edges share a point that is an end of neither, or more points than one."""
+    if max(one[1], one[3]) < min(other[1], other[3]) or max(other[1], other[3]) < min(one[1], one[3]):
+        return False
+    ends, others = (one[:2], one[2:]), (other[:2], other[2:])
+    aside, beside = sides(one, others), sides(other, ends)
+    if aside == [0, 0]:
+        return max(min(ends), min(others)) < min(max(ends), max(others))
+    return aside[0] * aside[1] < 0 and beside[0] * beside[1] < 0
+
+
+def edge_problems(polygons):
+    """Which edges meet elsewhere than at an end: a corner may touch a side, since points on straight lines are left out."""
+    edges = edges_of([ring for polygon in polygons for ring in polygon])
+    live = []
+    for edge in sorted(edges, key=lambda edge: min(edge[0], edge[2])):
+        left = min(edge[0], edge[2])
+        live = [other for other in live if max(other[0], other[2]) >= left]
+        yield from (f"the edges {edge} and {other} cross" for other in live if are_crossing(edge, other))
+        live.append(edge)
 
 
 def problems(drawing, polygons, rule, operation, points):
@@ -143,4 +200,5 @@ def problems(drawing, polygons, rule, operation, points):
     for polygon in polygons:
         yield from ring_problems(polygon)
         yield from hole_problems(polygon)
+    yield from edge_problems(polygons)
     yield from point_problems(drawing, polygons, rule, operation, points)

@@ -13,7 +13,11 @@ pub mod CutCounts
 pub mod CutGroups
 pub mod CutLines
 pub mod CutLists
+pub mod CutParts
+pub mod CutRefined
+pub mod CutRows
 pub mod CutSpans
+pub mod CutTests
 pub mod CutWays
 pub mod Directed
 pub mod Distinct

@@ -1,11 +1,9 @@
 //! The chords of stretches.
 
-ghost use Rattle.std.specs.Prelude.{◌≡◌, ◌<◌, ◌≤◌, ◌-◌, List, All, IfOk, length, map};
+ghost use Rattle.std.specs.Prelude.{◌≡◌, ◌<◌, ◌≤◌, List, All, IfOk, length, map};
 ghost use Rattle.std.specs.List.{between};
 ghost use Rattle.plane.specs.declared.point.Point.{Point};
-ghost use Rattle.overlay.specs.Contours.Outlines.{ring_point};
 ghost use Rattle.overlay.specs.Snap.Offsets.{AreJoined};
-ghost use Rattle.overlay.specs.Snap.Windings.{edge_between};
 ghost use Rattle.overlay.specs.Stretches.{IsStretch, chord};
 
 use crate::edges::edge_between;

@@ -1,10 +1,9 @@
 //! Edges cut into parts, whose edges follow each other along x.
 
 ghost use Rattle.std.specs.Bool.{OnTrue};
-ghost use Rattle.std.specs.Prelude.{◌≡◌, ◌<◌, ◌≤◌, ◌+◌, ◌++◌, List, All, IfOk, OnOk, length};
-ghost use Rattle.std.specs.List.{between, flat_map};
+ghost use Rattle.std.specs.Prelude.{◌<◌, ◌≤◌, ◌+◌, List, IfOk, OnOk, length};
+ghost use Rattle.std.specs.List.{between};
 ghost use Rattle.plane.specs.declared.edge.Edge.{Edge};
-ghost use Rattle.overlay.specs.Snap.Offsets.{offsets};
 ghost use Rattle.overlay.specs.Stretches.Cut.{AreSplit, Follows, GoAlong, IsCutInParts, IsPart};
 
 use plane::edge::Edge;

@@ -38,8 +38,10 @@ pub struct Stretches<A: Allocator> {
 
 /// The edges of both cut into stretches, or none where few would have several edges.
 ///
-/// Edges that follow each other along x make parts, and the boxes of these are swept. Those whose boxes others come to are cut
-/// into shorter parts, and in the end into single edges.
+/// Edges that follow each other along x make parts, and the boxes of these are swept. A part whose box another one's meets,
+/// where no line along one of them keeps their points apart, is cut into shorter parts, and in the end into single edges.
+///
+/// It is refused for want of memory alone.
 pub fn stretches_of<A: Allocator + Copy>(
     alloc: A,
     subject: &[Edge],
@@ -59,7 +61,7 @@ pub fn stretches_of<A: Allocator + Copy>(
     }
     let shorter = relieved(alloc, &edges, &parts, SHORTER)?;
     let clear = relieved(alloc, &edges, &shorter, 1)?;
-    if clear.len() == edges.len() {
+    if clear.len() > edges.len() / 2 {
         return Ok(None);
     }
     Ok(Some(joined(alloc, &edges, &clear, subject.len())?))

@@ -229,10 +229,6 @@ module _ {Y : Type 0} (bounds : Y → Bounds) (points : List Y) (alone : All (λ
   part_at : (at : ℕ) (part : Part) → slice_get parts at ≡ Some part → IsPartOf bounds rows points part
   part_at at part listed = subst (IsPartOf bounds rows points) (get_or_from_slice_get parts at part part listed) (are.of at part (slice_get_within parts at part listed))
 
-  -- parts are those of points of the list
-  pub place_within : (at : ℕ) (part : Part) → slice_get parts at ≡ Some part → part.place < length points
-  place_within at part listed = let of = part_at at part listed in slice_get_within points part.place of.item of.stands
-
   point_at : (j : ℕ) (point : Y) → slice_get points j ≡ Some point → IsPoint (bounds point)
   point_at j point stands = subst (λ (one : Y). IsPoint (bounds one)) (get_or_from_slice_get points j point point stands) (alone j point (slice_get_within points j point stands))
 

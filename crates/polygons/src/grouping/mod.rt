@@ -30,9 +30,9 @@ mod sides;
 /// on.
 ///
 /// No ring visits a point twice. Their edges meet only at common ends, and wind once around some points, and not at all around
-/// any other. Rings that run counterclockwise are outer ones, each of a polygon of its own. The others are holes: what is just below the first
-/// edge of a hole bounds the same piece of the plane. A pass over the edges tells it for each of a few holes, and a sweep for
-/// more. That a hole lies within its polygon is tested and not proved.
+/// any other. Rings that run counterclockwise are outer ones, each of a polygon of its own. The others are holes: what is just
+/// below the first edge of a hole bounds the same piece of the plane. A pass over the edges tells it for each of a few holes,
+/// and a sweep for more. That a hole lies within its polygon is tested and not proved.
 ///
 /// It begins with an empty status. It is refused where memory or the status has no room, and may have appended something then.
 pub fn append_polygons<C, A>(

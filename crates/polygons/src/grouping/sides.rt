@@ -54,8 +54,7 @@ fn all_sides<A: Allocator>(
     ends: &[usize],
 ) -> Result<Vec<Side, A>, AllocError>
     requires { AreEnds 0 ends.now (length points.now) }
-    ensures pieces { IfOk result (λ sides. pieces_of sides.items
-        ≡ turned Subject (edges_in points.now ends.now)) }
+    ensures pieces { IfOk result (λ sides. pieces_of sides.items ≡ turned Subject (edges_in points.now ends.now)) }
     ensures numbered { IfOk result (λ sides. AreNumbered (length ends.now) sides.items) }
 {
     let mut sides = Vec::with_capacity(alloc, points.len())?;

@@ -1,4 +1,4 @@
-use Rattle.overlay.proofs.StretchLemmas.CutCallers.{AreSplit-both}
+use Rattle.overlay.proofs.StretchLemmas.CutParts.{AreSplit-both}
 use Rattle.overlay.proofs.stretches.cutting.parts_of.Goals as goal
 
 pub returns : goal.returns

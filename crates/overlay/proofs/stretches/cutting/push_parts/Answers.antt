@@ -1,5 +1,5 @@
 use Rattle.std.proofs.Common.{arith}
-use Rattle.overlay.proofs.StretchLemmas.CutCallers.{IsPart-within, cut-more, cut-none}
+use Rattle.overlay.proofs.StretchLemmas.CutParts.{IsPart-within, cut-more, cut-none}
 use Rattle.overlay.proofs.stretches.cutting.push_parts.Goals as goal
 
 pub loop-next-init : goal.loop-next-init

@@ -1,5 +1,5 @@
 use Rattle.std.proofs.Common.{◌+◌, ◌-◌, arith}
-use Rattle.overlay.proofs.StretchLemmas.CutCallers.{IsPart-within, cut-then}
+use Rattle.overlay.proofs.StretchLemmas.CutParts.{IsPart-within, cut-then}
 use Rattle.overlay.proofs.stretches.cutting.push_run.Goals as goal
 
 pub push_parts-requires-2-clause-run : goal.push_parts-requires-2-clause-run

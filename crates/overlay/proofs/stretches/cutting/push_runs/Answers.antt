@@ -1,5 +1,5 @@
 use Rattle.std.proofs.Common.{arith}
-use Rattle.overlay.proofs.StretchLemmas.CutCallers.{cut-none, cut-then}
+use Rattle.overlay.proofs.StretchLemmas.CutParts.{cut-none, cut-then}
 use Rattle.overlay.proofs.stretches.cutting.push_runs.Goals as goal
 
 pub loop-next-init : goal.loop-next-init

@@ -8,7 +8,7 @@ use Rattle.plane.specs.declared.point.Point.{Point}
 use Rattle.overlay.specs.Snap.Windings.{end_of}
 use Rattle.overlay.specs.Stretches.Cut.{way}
 use Rattle.overlay.specs.Stretches.Spans.{height_over, margin_of}
-use Rattle.overlay.proofs.StretchLemmas.CutSpans.{All-way}
+use Rattle.overlay.proofs.StretchLemmas.CutRows.{All-way}
 use Rattle.overlay.proofs.stretches.lines.all_above.Goals as goal
 
 pub loop-edge-preserved : goal.loop-edge-preserved

@@ -1,7 +1,7 @@
 use Rattle.overlay.specs.Stretches.{AreApart}
 use Rattle.overlay.specs.Stretches.Cut.{way}
 use Rattle.overlay.proofs.StretchLemmas.Apart.{AreApart-exchanged}
-use Rattle.overlay.proofs.StretchLemmas.CutClear.{OnTrue-weaker}
+use Rattle.overlay.proofs.StretchLemmas.CutTests.{OnTrue-weaker}
 use Rattle.overlay.proofs.stretches.lines.are_apart.Goals as goal
 
 pub returns : goal.returns

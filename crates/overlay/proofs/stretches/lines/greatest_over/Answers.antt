@@ -8,7 +8,7 @@ use Rattle.plane.specs.declared.point.Point.{Point}
 use Rattle.plane.specs.Meet.Crosses.{IsWithin}
 use Rattle.overlay.specs.Snap.Windings.{end_of, start_of}
 use Rattle.overlay.specs.Stretches.Spans.{height_over}
-use Rattle.overlay.proofs.StretchLemmas.CutSpans.{All-way}
+use Rattle.overlay.proofs.StretchLemmas.CutRows.{All-way}
 use Rattle.overlay.proofs.stretches.lines.greatest_over.Goals as goal
 
 upto-more : (a b c : ℤ) → b ≤ℤ c → a ≤ℤ b → a ≤ℤ c

@@ -5,7 +5,7 @@ use Rattle.std.specs.List.{All}
 use Rattle.overlay.specs.Stretches.{AreApart}
 use Rattle.overlay.specs.Stretches.Cut.{way}
 use Rattle.overlay.specs.Stretches.Spans.{height_over, margin_of}
-use Rattle.overlay.proofs.StretchLemmas.CutClear.{OnTrue-weaker}
+use Rattle.overlay.proofs.StretchLemmas.CutTests.{OnTrue-weaker}
 use Rattle.overlay.proofs.StretchLemmas.CutLines.{AreApart-line}
 use Rattle.overlay.proofs.stretches.lines.lies_beyond.Goals as goal
 

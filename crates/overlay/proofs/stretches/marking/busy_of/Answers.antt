@@ -8,7 +8,7 @@ use Rattle.overlay.specs.Stretches.Spans.{IsSpan, SpansMeet}
 use Rattle.overlay.specs.declared.stretches.spans.Span.{Span}
 use Rattle.overlay.proofs.ChainLemmas.Zips.{AllZip-length}
 use Rattle.overlay.proofs.SnapLemmas.Standing.{length-offsets}
-use Rattle.overlay.proofs.StretchLemmas.CutClear.{spans-in_boxes}
+use Rattle.overlay.proofs.StretchLemmas.CutTests.{spans-in_boxes}
 use Rattle.overlay.proofs.StretchLemmas.CutGroups.{AreSettled-pairs, pairs-within}
 use Rattle.overlay.proofs.stretches.marking.busy_of.Goals as goal
 

@@ -4,7 +4,7 @@ use Rattle.plane.specs.declared.edge.Edge.{Edge}
 use Rattle.overlay.specs.Stretches.Cut.{AreRefined, IsPart}
 use Rattle.overlay.proofs.SnapLemmas.Standing.{IsNext-at, length-offsets}
 use Rattle.overlay.proofs.StretchLemmas.CutCallers.{refined-more}
-use Rattle.overlay.proofs.StretchLemmas.CutGroups.{AreRefined-none}
+use Rattle.overlay.proofs.StretchLemmas.CutRefined.{AreRefined-none}
 use Rattle.overlay.proofs.stretches.refining.refine.Goals as goal
 
 pub loop-place-init : goal.loop-place-init

@@ -1,6 +1,6 @@
 use Rattle.std.proofs.Common.{arith}
 use Rattle.overlay.proofs.ChainLemmas.Runs.{length-between}
-use Rattle.overlay.proofs.StretchLemmas.CutCallers.{cut-anew, cut-kept}
+use Rattle.overlay.proofs.StretchLemmas.CutParts.{cut-anew, cut-kept}
 use Rattle.overlay.proofs.stretches.refining.refine_part.Goals as goal
 
 pub push_parts-requires-clause-order : goal.push_parts-requires-clause-order

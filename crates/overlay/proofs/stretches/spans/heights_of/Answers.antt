@@ -5,7 +5,7 @@ use Rattle.std.proofs.lemmas.List.{get_or_default}
 use Rattle.plane.specs.declared.edge.Edge.{Edge}
 use Rattle.overlay.specs.Stretches.Spans.{HasHeights}
 use Rattle.overlay.specs.declared.stretches.spans.Heights.{Heights}
-use Rattle.overlay.proofs.StretchLemmas.CutSpans.{All-way}
+use Rattle.overlay.proofs.StretchLemmas.CutRows.{All-way}
 use Rattle.overlay.proofs.stretches.spans.heights_of.Goals as goal
 
 pub loop-edge-preserved : goal.loop-edge-preserved

@@ -1,7 +1,7 @@
 use Rattle.std.proofs.Common.{inr, pos, ◌+ℤ◌, ◌<ℤ◌, subst}
 use Rattle.plane.specs.declared.edge.Edge.{Edge}
 use Rattle.overlay.specs.Stretches.Spans.{IsFar}
-use Rattle.overlay.proofs.StretchLemmas.CutClear.{OnTrue-weaker}
+use Rattle.overlay.proofs.StretchLemmas.CutTests.{OnTrue-weaker}
 use Rattle.overlay.proofs.stretches.spans.is_far.Goals as goal
 
 pub returns : goal.returns
