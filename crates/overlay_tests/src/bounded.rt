@@ -153,10 +153,10 @@ fn rings_are_bounded_as_worked_by_hand(rt: HostRuntime) -> Result<(), Fail> {
 
 // The side of a ring that goes up and down in many steps.
 fn push_steps(points: &mut Vec<[i32; 2]>) -> Result<(), AllocError> {
-    for x in 0..100 {
+    for x in 0..250 {
         points.push([x, x % 2])?;
     }
-    points.push([100, 0])?;
+    points.push([250, 0])?;
     Ok(())
 }
 
@@ -173,7 +173,7 @@ where
 {
     let mut ring = Vec::new(alloc);
     push_steps(&mut ring)?;
-    ring.push([100, 50])?;
+    ring.push([250, 50])?;
     ring.push([0, 50])?;
     let subject = edges_of(alloc, &[ring.as_slice()])?;
     let clip = edges_of(alloc, &[&[[20, 40], [30, 40], [30, 60], [20, 60]]])?;
@@ -192,7 +192,7 @@ where
 fn stepped_ring(alloc: Global) -> Result<Vec<Point>, AllocError> {
     let mut ring = Vec::new(alloc);
     push_steps(&mut ring)?;
-    ring.extend_from_slice(&[[100, 50], [30, 50], [30, 60], [20, 60], [20, 50], [0, 50]])?;
+    ring.extend_from_slice(&[[250, 50], [30, 50], [30, 60], [20, 60], [20, 50], [0, 50]])?;
     points_of(alloc, &ring)
 }
 
@@ -204,7 +204,7 @@ fn a_side_of_many_steps_keeps_its_points(rt: HostRuntime) -> Result<(), Fail> {
     let outcome = bound_steps(rt.alloc(), &mut status, &mut points, &mut ends)?;
     assert_eq!(rt; outcome, Ok(()));
     assert!(rt; points == stepped_ring(rt.alloc())?);
-    assert!(rt; ends.as_slice() == [107].as_slice());
+    assert!(rt; ends.as_slice() == [257].as_slice());
     Ok(())
 }
 
@@ -263,7 +263,7 @@ impl<'a> Trial for Bounding<'a> {
     }
 
     fn is_done(&self, bounded: &mut Bounded<'a>) -> bool {
-        bounded.outcome == Some(Ok(())) && bounded.points.len() == 108 && bounded.ends.len() == 2
+        bounded.outcome == Some(Ok(())) && bounded.points.len() == 258 && bounded.ends.len() == 2
     }
 }
 
