@@ -154,9 +154,9 @@ fn rings_are_bounded_as_worked_by_hand(rt: HostRuntime) -> Result<(), Fail> {
 // The side of a ring that goes up and down in many steps.
 fn push_steps(points: &mut Vec<[i32; 2]>) -> Result<(), AllocError> {
     for x in 0..250 {
-        points.push([x, x % 2])?;
+        points.push([3 * x, x % 2])?;
     }
-    points.push([250, 0])?;
+    points.push([750, 0])?;
     Ok(())
 }
 
@@ -173,7 +173,7 @@ where
 {
     let mut ring = Vec::new(alloc);
     push_steps(&mut ring)?;
-    ring.push([250, 50])?;
+    ring.push([750, 50])?;
     ring.push([0, 50])?;
     let subject = edges_of(alloc, &[ring.as_slice()])?;
     let clip = edges_of(alloc, &[&[[20, 40], [30, 40], [30, 60], [20, 60]]])?;
@@ -192,7 +192,7 @@ where
 fn stepped_ring(alloc: Global) -> Result<Vec<Point>, AllocError> {
     let mut ring = Vec::new(alloc);
     push_steps(&mut ring)?;
-    ring.extend_from_slice(&[[250, 50], [30, 50], [30, 60], [20, 60], [20, 50], [0, 50]])?;
+    ring.extend_from_slice(&[[750, 50], [30, 50], [30, 60], [20, 60], [20, 50], [0, 50]])?;
     points_of(alloc, &ring)
 }
 

@@ -1,9 +1,9 @@
 -- What is clear of a long stretch is aside of a point between the stretch and its chord, and of the point that stands for it.
-use Rattle.std.proofs.Common.{◌≡◌, inl, inr, ⊎_elim, ℕ, ◌+◌, ◌*◌, ◌<◌, ◌-◌, ℤ, pos, negsuc, ◌+ℤ◌, ◌-ℤ◌, ◌*ℤ◌, ◌<ℤ◌, ◌≤ℤ◌, List, [], length, arith, ap, ap₂, ◌∙◌}
+use Rattle.std.proofs.Common.{◌≡◌, inl, inr, ⊎_elim, ℕ, ◌+◌, ◌*◌, ◌<◌, ◌-◌, ℤ, pos, ◌+ℤ◌, ◌-ℤ◌, ◌*ℤ◌, ◌<ℤ◌, ◌≤ℤ◌, List, [], length, arith, ap, ap₂}
 use Rattle.std.specs.Int.{int_max}
 use Rattle.std.specs.Int.RustNames.{unsigned_abs}
 use Rattle.std.specs.List.{Contains}
-use Rattle.std.proofs.lemmas.Int.{clamps, ints, unsigned_abs-mul}
+use Rattle.std.proofs.lemmas.Int.{clamps, ints}
 use Rattle.std.proofs.lemmas.List.Elements.{Contains-get_or}
 use Rattle.plane.specs.declared.edge.Edge.{Edge}
 use Rattle.plane.specs.declared.point.Point.{Point}
@@ -15,6 +15,7 @@ use Rattle.overlay.specs.Snap.Windings.{end_of, start_of}
 use Rattle.overlay.specs.Stretches.{AreApart, AreClear, GoesOn, IsStretch, chord, further}
 use Rattle.overlay.proofs.SnapLemmas.Numbers.{n_of}
 use Rattle.overlay.proofs.StretchLemmas.Adjoin.{lies-left, lies-right}
+use Rattle.overlay.proofs.StretchLemmas.Apart.{abs-negative}
 use Rattle.overlay.proofs.StretchLemmas.Boxes.{passed-near}
 use Rattle.overlay.proofs.StretchLemmas.Columns.{AreAside, AreTold, IsAside, IsTold}
 use Rattle.overlay.proofs.StretchLemmas.Lowered.{IsShiftOf, half_more}
@@ -30,13 +31,6 @@ twice u v x y =
 
 back : (u v x y : ℤ) → along (pos 0 -ℤ u) (pos 0 -ℤ v) x y ≡ (pos 0 -ℤ along u v x y)
 back u v x y = identity (plus (times (minus (n_of 0) (number u)) (number x)) (times (minus (n_of 0) (number v)) (number y))) (minus (n_of 0) (plus (times (number u) (number x)) (times (number v) (number y)))) (omega arith)
-
-same_abs : (u : ℤ) → unsigned_abs (pos 0 -ℤ u) ≡ unsigned_abs u
-same_abs u =
-    let turned : (pos 0 -ℤ u) ≡ (negsuc 0 *ℤ u) = identity (minus (n_of 0) (number u)) (times (number (negsuc 0)) (number u)) (omega arith) in
-    let product = unsigned_abs-mul (negsuc 0) u in
-    let one : unsigned_abs (negsuc 0) * unsigned_abs u ≡ unsigned_abs u = omega arith in
-    ap unsigned_abs turned ∙ product ∙ one
 
 -- what is near points that all lie far beyond a line lies beyond it, still by half as far
 near_beyond : (u v k x y : ℤ) (w other : ℕ) → other ≡ w → (pos 2 *ℤ along (pos 0 -ℤ u) (pos 0 -ℤ v) x y) ≤ℤ (pos 1 *ℤ ((pos 2 *ℤ (pos 0 -ℤ ((k +ℤ pos w) +ℤ pos 1))) +ℤ pos (1 * other)))
@@ -122,7 +116,7 @@ module _ (s r : List Point) (of : (p : Point) → Contains r p → Contains s p)
       -- what t passes is near it
       passed_beyond : IsStretch t → (x y : ℤ) → Passes (chord t) x y → half_more u v k <ℤ along (u +ℤ u) (v +ℤ v) x y
       passed_beyond is x y passes =
-          near_beyond u v k x y w (unsigned_abs (pos 0 -ℤ u) + unsigned_abs (pos 0 -ℤ v)) (ap₂ (λ (i j : ℕ). i + j) (same_abs u) (same_abs v))
+          near_beyond u v k x y w (unsigned_abs (pos 0 -ℤ u) + unsigned_abs (pos 0 -ℤ v)) (ap₂ (λ (i j : ℕ). i + j) (abs-negative u) (abs-negative v))
           (passed-near t is x y passes (pos 0 -ℤ u) (pos 0 -ℤ v) (pos 0 -ℤ ((k +ℤ pos w) +ℤ pos 1)) (λ q held. let less = beyond q held in let turned = back u v q.x q.y in omega (arith, ints, less, turned)))
 
       told-edge : IsStretch t → (edge : Edge) → LiesIn t edge → IsTold edge point other

@@ -1,8 +1,7 @@
 -- The chord of a stretch goes along an edge one way or the other, where both are one if they are turned rightwards.
-use Rattle.std.proofs.Common.{◌≡◌, ◌≢◌, inl, inr, ℕ, ◌-◌, ◌<◌, Bool, true, false, List, length, reverse, refl, sym, ap, ap₂, ◌∙◌, subst, arith}
+use Rattle.std.proofs.Common.{◌≡◌, ◌≢◌, inl, inr, Bool, true, false, List, refl, sym, ap, ◌∙◌, subst, arith}
 use Rattle.std.specs.Int.Signed.{lt_z}
 use Rattle.std.proofs.lemmas.Int.{ints}
-use Rattle.std.proofs.lemmas.List.{get_or-reverse, length-reverse}
 use Rattle.plane.specs.SweepLine.Heights.{rightwards}
 use Rattle.plane.specs.declared.edge.Edge.{Edge}
 use Rattle.plane.specs.declared.point.Point.{Point}
@@ -52,11 +51,3 @@ module _ (stretch : List Point) (from to : Point) (sloped : from.x ≢ to.x) (sa
     | inl is ↦ absurd (starts (ap (λ (e : Edge). e.x0) is))
     | inr back ↦ back
   ]
-
--- the chord of the same points back
-pub chord-reverse : (points : List Point) → 0 < length points → chord (reverse points) ≡ reversed (chord points)
-chord-reverse points some =
-    let long = length-reverse points in
-    ap₂ (λ (from to : Point). edge_between from to)
-    (get_or-reverse points 0 _ some ∙ ap (λ (n : ℕ). ring_point points n) (omega arith))
-    (get_or-reverse points (length (reverse points) - 1) _ (omega (arith, long, some)) ∙ ap (λ (n : ℕ). ring_point points n) (omega (arith, long)))

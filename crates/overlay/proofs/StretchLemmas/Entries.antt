@@ -17,7 +17,8 @@ use Rattle.overlay.specs.declared.stretches.widening.LongStretch.{LongStretch}
 use Rattle.overlay.proofs.ChainLemmas.Offsets.{joined}
 use Rattle.overlay.proofs.ContourLemmas.Outlines.{end-inside, ring-is, start-upto}
 use Rattle.overlay.proofs.StretchLemmas.Boxes.{chord-sloped}
-use Rattle.overlay.proofs.StretchLemmas.Directed.{chord-reverse, chord_of-reversed, goes-along, goes-back}
+use Rattle.overlay.proofs.StretchLemmas.Directed.{chord_of-reversed, goes-along, goes-back}
+use Rattle.overlay.proofs.StretchLemmas.Reverse.{chord-reverse}
 
 -- One of the stretches has this entry, and stands at its places.
 pub record Stands (stretches : List (List Point)) (points : List Point) (entry : LongStretch) : Type 0 where

@@ -24,9 +24,12 @@ AllPairs-reverse {X} R xs pairs i j d before within =
     (pairs (length xs - 1 - j) (length xs - 1 - i) d (omega (arith, size, before, within)) (omega (arith, size, before, within))))
 
 -- where x rises it falls then, and where it falls it rises
+pub Rises-reverse : (s : List Point) → Falls s → Rises (reverse s)
+Rises-reverse s falls = AllPairs-reverse (λ (one later : Point). later.x <ℤ one.x) s falls
+
 pub ways-reverse : (s : List Point) → Rises s ⊎ Falls s → Rises (reverse s) ⊎ Falls (reverse s)
 ways-reverse s (inl rises) = inr (AllPairs-reverse (λ (one later : Point). one.x <ℤ later.x) s rises)
-ways-reverse s (inr falls) = inl (AllPairs-reverse (λ (one later : Point). later.x <ℤ one.x) s falls)
+ways-reverse s (inr falls) = inl (Rises-reverse s falls)
 
 pub chord-reverse : (s : List Point) → 0 < length s → chord (reverse s) ≡ reversed (chord s)
 chord-reverse s some =

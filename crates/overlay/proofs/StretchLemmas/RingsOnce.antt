@@ -18,7 +18,7 @@ use Rattle.overlay.specs.Snap.Windings.{end_of, reversed, start_of}
 use Rattle.overlay.specs.Stretches.{AreClear, GoesAlong, IsLong, IsStretch, but_last, chord}
 use Rattle.overlay.proofs.FillLemmas.Kept.{same-exchanged, same-trans}
 use Rattle.overlay.proofs.StretchLemmas.Boxes.{ClearIfLong, IsTip, clear-any, long-ways, outmost-tip}
-use Rattle.overlay.proofs.StretchLemmas.Directed.{chord-reverse}
+use Rattle.overlay.proofs.StretchLemmas.Reverse.{chord-reverse}
 use Rattle.overlay.proofs.StretchLemmas.Ways.{IsWay, but_last-ends, but_last-way, chord-way}
 
 abbrev Differ : Point → Point → Type 0

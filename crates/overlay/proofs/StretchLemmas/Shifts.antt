@@ -16,7 +16,8 @@ use Rattle.overlay.proofs.StretchLemmas.Boxes.{ClearIfLong, clear-any, long-ways
 use Rattle.overlay.proofs.StretchLemmas.Columns.{AreAside, rising-aside, winding-aside}
 use Rattle.overlay.proofs.StretchLemmas.Lowered.{IsShiftOf, shift-rising}
 use Rattle.overlay.proofs.StretchLemmas.Placed.{LiesIn}
-use Rattle.overlay.proofs.StretchLemmas.Turned.{Contains-reverse, Rises-reverse, turned-back, turned-same}
+use Rattle.overlay.proofs.StretchLemmas.Reverse.{Contains-reversed, Rises-reverse}
+use Rattle.overlay.proofs.StretchLemmas.Turned.{turned-back, turned-same}
 
 -- A stretch counts for the one point what its chord counts for the other.
 abbrev pub Matches : List Point → RationalPoint → RationalPoint → Type 0
@@ -63,7 +64,7 @@ in_order s is long = ⊎_elim
       points = reverse s;
       rises = Rises-reverse s falls;
       some = (let same = length-reverse s in omega (arith, same, long));
-      of = λ p held. Contains-reverse s p held;
+      of = λ p held. Contains-reversed s p held;
       matches = λ point other same. turned-back s point other (omega (arith, long)) same;
     })
     (long-ways s is long)

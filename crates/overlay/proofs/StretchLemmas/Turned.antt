@@ -1,41 +1,14 @@
 -- Points the other way: their pieces are those reversed, and count as much less.
-use Rattle.std.proofs.Common.{◌≡◌, ℕ, ◌<◌, ◌-◌, pos, ◌-ℤ◌, List, [], ◌∷◌, ◌++◌, length, reverse, arith, ap, ap₂, refl, sym, ◌∙◌}
-use Rattle.std.specs.List.{Contains}
+use Rattle.std.proofs.Common.{◌≡◌, ◌<◌, pos, ◌-ℤ◌, List, [], ◌∷◌, ◌++◌, length, reverse, arith, ap, refl, sym, ◌∙◌}
 use Rattle.std.proofs.lemmas.Int.{ints}
-use Rattle.std.proofs.lemmas.List.{get_or-reverse, length-reverse, reverse-append}
-use Rattle.std.proofs.lemmas.List.Sorted.{Contains-permutation, IsPermutation-reverse, IsPermutation-sym}
+use Rattle.std.proofs.lemmas.List.{reverse-append}
 use Rattle.plane.specs.declared.edge.Edge.{Edge}
 use Rattle.plane.specs.declared.point.Point.{Point}
 use Rattle.plane.specs.Meet.Edges.{RationalPoint}
-use Rattle.overlay.specs.Contours.Outlines.{ring_point}
 use Rattle.overlay.specs.Snap.Windings.{edge_between, pieces, reversed, winding}
-use Rattle.overlay.specs.Stretches.{Falls, Rises, chord}
+use Rattle.overlay.specs.Stretches.{chord}
 use Rattle.overlay.proofs.SnapLemmas.Windings.{winding-append, winding-added}
-
--- ---- the points
-
-pub Contains-reverse : (points : List Point) (p : Point) → Contains (reverse points) p → Contains points p
-Contains-reverse points p held = Contains-permutation (reverse points) points p (IsPermutation-sym points (reverse points) (IsPermutation-reverse points)) held
-
--- where x falls it rises the other way
-pub Rises-reverse : (points : List Point) → Falls points → Rises (reverse points)
-Rises-reverse points falls i j d before inside =
-    let same = length-reverse points in
-    let one = get_or-reverse points i d (omega (arith, before, inside, same)) in
-    let other = get_or-reverse points j d (omega (arith, inside, same)) in
-    let there = falls (length points - 1 - j) (length points - 1 - i) d (omega (arith, before, inside, same)) (omega (arith, before, inside, same)) in
-    rw (one, other) there
-
--- the chord goes the other way
-pub chord-reverse : (points : List Point) → 0 < length points → chord (reverse points) ≡ reversed (chord points)
-chord-reverse points some =
-    let none : Point = ring_point [] 0 in
-    let same = length-reverse points in
-    let first : ring_point (reverse points) 0 ≡ ring_point points (length points - 1) =
-    get_or-reverse points 0 none some ∙ (let one : length points - 1 - 0 ≡ length points - 1 = omega arith in ap (λ (k : ℕ). ring_point points k) one) in
-    let last : ring_point (reverse points) (length (reverse points) - 1) ≡ ring_point points 0 =
-    get_or-reverse points (length (reverse points) - 1) none (omega (arith, some, same)) ∙ (let one : length points - 1 - (length (reverse points) - 1) ≡ 0 = omega (arith, some, same) in ap (λ (k : ℕ). ring_point points k) one) in
-    ap₂ (λ (from to : Point). edge_between from to) first last
+use Rattle.overlay.proofs.StretchLemmas.Reverse.{chord-reverse}
 
 -- ---- windings
 

@@ -24,7 +24,7 @@ pub fn joined<A: Allocator + Copy>(
         AreJoined (map way lists) told.points.items told.ends.items) }
     ensures count { IfOk result (λ told. told.count ≡ count_by (λ end. nat_le end bound) parts.now) }
 {
-    let mut points = Vec::new(alloc);
+    let mut points = Vec::with_capacity(alloc, edges.len().saturating_add(parts.len()))?;
     let mut ends = Vec::with_capacity(alloc, parts.len())?;
     append_ways(edges, parts, &mut points, &mut ends)?;
     let count = parts.iter().filter(|end| **end <= bound).count();

@@ -44,6 +44,10 @@ fn lies_beyond(line: Edge, one: &[Edge], other: &[Edge]) -> bool
     requires other { 0 < length other.now }
     ensures { OnTrue result (AreApart (way one.now) (way other.now)) }
 {
+    // The line's own ends are of the one.
+    if !is_above(line, 0, end_of(other[other.len() - 1])) {
+        return false;
+    }
     let top = greatest_over(line, one);
     all_above(line, top, other)
 }

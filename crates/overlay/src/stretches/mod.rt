@@ -61,7 +61,7 @@ pub fn stretches_of<A: Allocator + Copy>(
     }
     let shorter = relieved(alloc, &edges, &parts, SHORTER)?;
     let clear = relieved(alloc, &edges, &shorter, 1)?;
-    if clear.len() > edges.len() / 2 {
+    if clear.len() >= edges.len() / 2 {
         return Ok(None);
     }
     Ok(Some(joined(alloc, &edges, &clear, subject.len())?))
