@@ -1,6 +1,6 @@
 //! Edges cut into stretches: points along which x rises, or falls, where no other edges come to them.
 
-ghost use Rattle.std.specs.Prelude.{◌≡◌, IfErr, IfOk, IfSome};
+ghost use Rattle.std.specs.Prelude.{◌≡◌, ◌<◌, IfErr, IfOk, IfSome};
 ghost use Rattle.i_tree.specs.declared.Refusal.TheVariants.{OutOfMemory};
 ghost use Rattle.overlay.specs.Stretches.Cut.{AreCut};
 
@@ -22,8 +22,10 @@ mod refining;
 mod spans;
 pub mod widening;
 
-/// How many edges a part has at most before others come to it.
+/// How many edges a part has at most before others come to it. Of fewer edges than many, each part lies nearer to others.
 const LONGEST: usize = 64;
+
+const MANY: usize = 262_144;
 
 /// How many edges it has at most once some do.
 const SHORTER: usize = 8;
@@ -55,7 +57,7 @@ pub fn stretches_of<A: Allocator + Copy>(
         return Ok(None);
     }
     let edges = all_edges(alloc, subject, clip)?;
-    let parts = parts_of(alloc, &edges, subject.len(), LONGEST)?;
+    let parts = parts_of(alloc, &edges, subject.len(), longest_of(edges.len()))?;
     if parts.len() > edges.len() / 8 {
         return Ok(None);
     }
@@ -65,6 +67,13 @@ pub fn stretches_of<A: Allocator + Copy>(
         return Ok(None);
     }
     Ok(Some(joined(alloc, &edges, &clear, subject.len())?))
+}
+
+// How many of so many edges a part has at most at first.
+fn longest_of(count: usize) -> usize
+    ensures { 0 < result }
+{
+    if count < MANY { LONGEST / 2 } else { LONGEST }
 }
 
 // Whether there are so many runs that more parts would be left than an eighth of the edges.
