@@ -10,7 +10,7 @@ use super::strips::Strips;
 // How many bits the rows are narrower than strips would be: a point stands in one row however narrow.
 const NARROWER: u32 = 3;
 
-// Some so many points at most are to stand in a row from the left side of an item to its right one.
+// So many points at most are to stand in a row from the left side of an item to its right one.
 const BESIDE: u128 = 128;
 
 /// Rows of heights from the lowest point on.
