@@ -12,11 +12,12 @@ from windings import HALF, PARTS as IN_ONE, Drawing, edges_of
 
 LEAST, GREATEST = -2147483648, 2147483647
 
-# A part of a run has so many edges at most, and runs of fewer edges are none. A drawing has so many times as many edges as parts.
-MOST, FEWEST, TIMES = 64, 4, 8
+# A part of a run has so many edges at most, and runs of fewer edges are none. A drawing has so many times as many edges as parts,
+# and as runs, of which a ring that begins within one has one more.
+MOST, FEWEST, TIMES, RUN_TIMES = 64, 4, 8, 24
 
-# So many edges a run has: few, or about as many as one part or two have with an edge at each end.
-LENGTHS = 40, 66, 67, 68, 100, 131, 132, 200, 260, 300
+# So many edges a run has: about as many as one part or two have with an edge at each end, or more, beside which others may lie.
+LENGTHS = 66, 67, 68, 131, 132, 200, 260, 300, 400, 400, 500
 
 
 class Scale(NamedTuple):
@@ -28,11 +29,11 @@ class Scale(NamedTuple):
 
 
 SCALES = {
-    "of unit steps": Scale(1, (0, 1, 2, 6), (2, 5, 12)),
+    "of unit steps": Scale(1, (0, 1, 2, 6), (5, 12, 40)),
     "of small steps": Scale(3, (1, 5, 20, 60), (4, 20, 100)),
     "of steep edges": Scale(2, (300, 1000), (500, 2500)),
     "of wide steps": Scale(60, (2, 40, 200), (20, 400)),
-    "over everything": Scale(2**32, (0, 3, 2**20, 2**29, 2**31), (3, 2**16, 2**28, 2**30)),
+    "over everything": Scale(2**32, (0, 3, 2**20, 2**25, 2**28, 2**31), (40, 2**16, 2**28, 2**30)),
 }
 
 # ---- runs
@@ -87,9 +88,11 @@ def steps(random, left, right, count):
     """So many numbers that rise from the one to the other, or fewer where there aren't as many."""
     if right - left < count:
         return list(range(left, right + 1))
-    if random.randrange(2):
+    way = random.randrange(5)
+    if way < 3:
         return [left + (right - left) * at // (count - 1) for at in range(count)]
-    return [left, *sorted(random.sample(range(left + 1, right), count - 2)), right]
+    each = 2 if way == 3 and (right - left) // 2 >= count else 1
+    return [left, *sorted(random.sample(range(left + each, right - each + 1, each), count - 2)), right]
 
 
 def run(random, xs, base, reach):
@@ -117,10 +120,10 @@ class Field(NamedTuple):
 
 
 def field_of(random, scale, count):
-    width = min(scale.step * count * random.choice((1, 1, 2)), 2**32 - 1)
+    width = min(scale.step * count * random.choice((1, 2, 3, 3, 3)), 2**32 - 1)
     left = random.choice((LEAST, GREATEST - width, -width // 2, 0)) if width < 2**31 else LEAST
     base, reach = random.choice((0, 0, LEAST)), random.choice(scale.reaches)
-    return Field(left, left + width, base, reach, random.choice(scale.fars) + random.choice((0, 2, 2, 3)) * reach)
+    return Field(left, left + width, base, reach, random.choice(scale.fars) + random.choice((0, 2, 3, 3, 4)) * reach)
 
 
 def joined(random, there, back):
@@ -136,7 +139,7 @@ def band(random, field, count):
     """A run there, and another one back: as far from it everywhere, or of its own."""
     base = clipped(field.base + random.randint(-field.far, field.far))
     there = run(random, steps(random, field.left, field.right, count), base, field.reach)
-    far = random.choice((1, 2, 3, *[field.far] * 5))
+    far = random.choice((1, 2, 3, *[field.far] * 12))
     if random.randrange(2):
         return joined(random, there, moved(there, 0, far))
     count = random.choice((2, count // 2, count))
@@ -164,7 +167,7 @@ LONG = band, band, comb
 def some_run(random, rings):
     """A run of the rings, or a part of it, of three points at least if there is one. Most are short."""
     found = random.choice([it for ring in rings for it in runs_of(ring) if len(it) > 2] or [rings[0][:2]])
-    count = random.choice((len(found), 3, random.randrange(3, 20), random.randrange(3, 20), random.randrange(3, 80)))
+    count = random.choice((len(found), 3, *[random.randrange(3, 20)] * 4, *[random.randrange(3, 80)] * 2))
     start = random.randrange(max(1, len(found) - count + 1))
     return found[start:start + count]
 
@@ -234,11 +237,11 @@ def within(random, rings, far):
 
 def again(random, rings, far):
     """A ring once more, the other way round or closed by its first point."""
-    ring = random.choice(rings)
+    ring = random.choice((rings[-1], random.choice(rings)))
     return random.choice((ring, ring[::-1], ring + ring[:1]))
 
 
-OTHERS = sharing, alongside, crossing, crossing, *[across] * 4, *[touching] * 4, *[between] * 4, within, again
+OTHERS = *[sharing] * 2, *[alongside] * 3, *[crossing] * 3, *[across] * 8, *[touching] * 8, *[between] * 8, within, again
 
 
 # ---- drawings
@@ -269,6 +272,12 @@ def count_parts(rings):
     return sum(map(len, rings)) - sum(len(part) - 2 for part in parts)
 
 
+def is_long(rings):
+    """Whether the rings have so many edges that parts, and runs, are few beside these."""
+    edges, runs = sum(map(len, rings)), sum(len(runs_of(ring)) + 1 for ring in rings)
+    return runs * RUN_TIMES <= edges and count_parts(rings) * TIMES <= edges
+
+
 def turned(random, ring, is_mirrored, is_upset):
     """The ring from another point on, some the other way round; left and right, and under and over, may be exchanged."""
     start = random.choice((0, random.randrange(len(ring))))
@@ -281,12 +290,12 @@ def long_drawing(random, scale):
     count = random.choice(LENGTHS)
     field = field_of(random, scale, count)
     rings = [random.choice(LONG)(random, field, count)]
-    if not random.randrange(3):
-        over = random.choice((0, 1, 3)) * (field.reach + field.far)
+    if not random.randrange(4):
+        over = random.choice((0, 2, 3, 3)) * (field.reach + field.far)
         rings.append(random.choice(LONG)(random, field._replace(base=clipped(field.base + over)), count))
-    for _ in range(random.randrange(1, 5)):
+    for _ in range(random.randrange(2, 6)):
         ring = random.choice(OTHERS)(random, rings, field.far)
-        if ring and count_parts([*rings, ring]) * TIMES <= sum(map(len, [*rings, ring])):
+        if ring and is_long([*rings, ring]):
             rings.append(ring)
     found, is_mirrored, is_upset = Drawing([], []), random.randrange(2), random.randrange(2)
     for ring in rings:
@@ -294,11 +303,11 @@ def long_drawing(random, scale):
     return found
 
 
-def crowded(random, count=200, times=40):
+def crowded(random, count=60, times=130):
     """A drawing of a long ring with many squares on and beside it."""
-    xs = range(count * times // 2)
-    ring = [(x, random.randrange(40)) for x in xs] + [(x, 50 + random.randrange(40)) for x in reversed(xs)]
-    places = [(random.choice(xs), random.choice((-9, 0, 20, 38, 42, 46, 60, 95))) for _ in range(count)]
+    xs = range(0, count * times, 2)
+    ring = [(x, random.randrange(40)) for x in xs] + [(x, 200 + random.randrange(40)) for x in reversed(xs)]
+    places = [(random.choice(xs), random.choice((-9, 0, 20, 38, 42, 46, 190, 220))) for _ in range(count)]
     squares = [[(x, y), (x + 3, y), (x + 3, y + 3), (x, y + 3)] for x, y in places]
     return Drawing([ring], squares)
 
