@@ -153,8 +153,8 @@ fn rings_are_bounded_as_worked_by_hand(rt: HostRuntime) -> Result<(), Fail> {
 
 // The side of a ring that goes up and down in many steps.
 fn push_steps(points: &mut Vec<[i32; 2]>) -> Result<(), AllocError> {
-    for x in 0..250 {
-        points.push([3 * x, x % 2])?;
+    for x in 0..250i32 {
+        points.push([x.saturating_mul(3), x % 2])?;
     }
     points.push([750, 0])?;
     Ok(())
