@@ -1,9 +1,10 @@
 -- How a removal changes the core.
-use Rattle.std.specs.Prelude.{◌≡◌, ◌⊎◌, ℕ, ◌≤◌, List, ◌∷◌, ◌++◌}
+use Rattle.std.specs.Prelude.{◌≡◌, ◌⊎◌, ℕ, ◌≤◌, ◌+◌, List, ◌∷◌, ◌++◌}
 use Rattle.i_tree.specs.declared.rb.links.Colour.{Colour}
 use Rattle.i_tree.specs.declared.rb.links.Side.{Side}
+use Rattle.i_tree.specs.Rb.Balance.{IsShort}
 use Rattle.i_tree.specs.Rb.Context.{Frame, fork_on, plug}
-use Rattle.i_tree.specs.Rb.Shape.{Shape, entries, rank, IsHandle}
+use Rattle.i_tree.specs.Rb.Shape.{Shape, entries, black_levels, rank, IsHandle}
 use Rattle.i_tree.specs.Root.Steps.{Counts}
 
 module _ {T : Type 0} where
@@ -36,6 +37,18 @@ module _ {T : Type 0} where
     pub is : tree ≡ plug around (fork_on side colour subtree handle item far)
     pub entries_are : entries subtree ≡ list
     pub ranks : rank subtree ≤ most
+
+  -- The entries stay, and the short side itself is kept. Each subtree around it has the same entries, and its rank is at most
+  -- what it is with a subtree one level higher in the place of the short side.
+  pub record IsRebalanced (tree : Shape T) (parent : ℕ) (short : Side) (new : Shape T) : Type 0 where
+    pub list : entries new ≡ entries tree
+    pub own : (cut : IsShort tree parent short) → KeepsSubtree new parent short cut.near cut.item
+    pub outer : (cut : IsShort tree parent short) (inner : List (Frame T)) (frame : Frame T) (outer : List (Frame T)) (fuller : Shape T)
+        → cut.around ≡ inner ++ frame ∷ outer → black_levels fuller ≡ black_levels cut.near + 1
+        → RebalancesSubtree new frame.handle frame.side frame.item (entries (plug inner (fork_on short cut.colour cut.near parent cut.item cut.far)))
+        (rank (plug inner (fork_on short cut.colour fuller parent cut.item cut.far)))
+    pub whole : (cut : IsShort tree parent short) (fuller : Shape T) → black_levels fuller ≡ black_levels cut.near + 1
+        → rank new ≤ rank (plug cut.around (fork_on short cut.colour fuller parent cut.item cut.far))
 
 -- one removal and at most so many rotations were made, and nothing else that is counted
 pub record RemovesOne {S : Type 0} (Made : S → S → Counts → Type 0) (old new : S) (most : ℕ) : Type 0 where

@@ -7,7 +7,7 @@ use Rattle.i_tree.specs.declared.rb.links.Side.{Side}
 use Rattle.i_tree.specs.Rb.Shape.{Shape, leaf, top, entries, black_levels, rank, IsHandle, AreHandles}
 use Rattle.i_tree.specs.Rb.Balance.{is_black, is_black_colour, level_of, IsRedBlack, Fits, IsShort}
 use Rattle.i_tree.specs.Rb.Context.{Frame, fork_on, plug, hole_parent, Replaces, HasOneSubtree}
-use Rattle.i_tree.specs.Rb.Removal.{KeepsSubtree, RebalancesSubtree}
+use Rattle.i_tree.specs.Rb.Removal.{IsRebalanced, KeepsSubtree, RebalancesSubtree}
 use Rattle.i_tree.specs.Rb.Detaching.{TakesOut}
 use Rattle.i_tree.proofs.RbLemmas.Shape.Contexts.{one_if_same-same, occurs-plug, occurs-fork_on, top-fork_on, plug-append}
 use Rattle.i_tree.proofs.RbLemmas.Balance.Ranks.{is_black-fork_on, red_stands}
@@ -149,17 +149,6 @@ module _ {T : Type 0} where
 
   pub IsShort-at : (old mid : Shape T) (gone parent : ℕ) (short : Side) → HasOneSubtree old gone → LeavesShort old gone parent short mid → IsShort mid parent short
   IsShort-at old mid gone parent short one leaves = short_at old mid gone parent short leaves one.around one.side one.colour one.subtree one.item one.is
-
-  -- what the rebalancing keeps
-  pub record IsRebalanced (mid : Shape T) (parent : ℕ) (short : Side) (new : Shape T) : Type 0 where
-    pub list : entries new ≡ entries mid
-    pub own : (cut : IsShort mid parent short) → KeepsSubtree new parent short cut.near cut.item
-    pub outer : (cut : IsShort mid parent short) (inner : List (Frame T)) (frame : Frame T) (outer : List (Frame T)) (fuller : Shape T)
-        → cut.around ≡ inner ++ frame ∷ outer → black_levels fuller ≡ black_levels cut.near + 1
-        → RebalancesSubtree new frame.handle frame.side frame.item (entries (plug inner (fork_on short cut.colour cut.near parent cut.item cut.far)))
-        (rank (plug inner (fork_on short cut.colour fuller parent cut.item cut.far)))
-    pub whole : (cut : IsShort mid parent short) (fuller : Shape T) → black_levels fuller ≡ black_levels cut.near + 1
-        → rank new ≤ rank (plug cut.around (fork_on short cut.colour fuller parent cut.item cut.far))
 
   full_levels : (old mid : Shape T) (gone parent : ℕ) (short : Side) → LeavesShort old gone parent short mid
       → (frame : Frame T) (rest : List (Frame T)) (side : Side) (colour : Colour) (subtree : Shape T) (item : T)

@@ -1,11 +1,10 @@
 //! The rebalancing after a removal.
 
-ghost use Rattle.std.specs.Prelude.{◌≡◌, ◌≤◌, ◌+◌, ◌++◌, ◌∷◌, List, MatchBool, true};
+ghost use Rattle.std.specs.Prelude.{◌≡◌, MatchBool, true};
 ghost use Rattle.i_tree.specs.Rb.Balance.{is_black, IsRedBlack, IsShort};
-ghost use Rattle.i_tree.specs.Rb.Context.{Frame, fork_on, plug};
-ghost use Rattle.i_tree.specs.Rb.Removal.{KeepsSubtree, RebalancesSubtree};
+ghost use Rattle.i_tree.specs.Rb.Removal.{IsRebalanced};
 ghost use Rattle.i_tree.specs.Rb.ShortSides.{IsEnded, IsRisen, HasBlackSibling};
-ghost use Rattle.i_tree.specs.Rb.Shape.{Shape, entries, black_levels, rank, AreHandles};
+ghost use Rattle.i_tree.specs.Rb.Shape.{AreHandles};
 ghost use Rattle.i_tree.specs.Root.Steps.{OnlyRotates};
 
 use super::side_of;
@@ -26,24 +25,10 @@ pub fn rebalance_removal<T, A: Allocator + Copy, C: Counter>(
 )
     requires { IsShort arena.old.shape parent short }
     ensures balanced { IsRedBlack arena.new.shape }
-    ensures entries { entries arena.new.shape ≡ entries arena.old.shape }
+    ensures rebalanced { IsRebalanced arena.old.shape parent short arena.new.shape }
     ensures spare { arena.new.spare ≡ arena.old.spare }
     ensures handles { AreHandles arena.new.shape }
     ensures steps { OnlyRotates C.made steps.old steps.new 3 }
-
-    // The short side itself is kept. Each subtree around it has the same entries, and its rank is at most what it is with a
-    // subtree one level higher in the place of the short side.
-    ensures own { (cut : IsShort arena.old.shape parent short) →
-        KeepsSubtree arena.new.shape parent short cut.near cut.item }
-    ensures outer { (cut : IsShort arena.old.shape parent short) (inner : List (Frame T)) (frame : Frame T)
-        (outer : List (Frame T)) (fuller : Shape T) →
-        cut.around ≡ inner ++ frame ∷ outer → black_levels fuller ≡ black_levels cut.near + 1 →
-        RebalancesSubtree arena.new.shape frame.handle frame.side frame.item
-        (entries (plug inner (fork_on short cut.colour cut.near parent cut.item cut.far)))
-        (rank (plug inner (fork_on short cut.colour fuller parent cut.item cut.far))) }
-    ensures whole { (cut : IsShort arena.old.shape parent short) (fuller : Shape T) →
-        black_levels fuller ≡ black_levels cut.near + 1 →
-        rank arena.new.shape ≤ rank (plug cut.around (fork_on short cut.colour fuller parent cut.item cut.far)) }
 {
     let mut node = parent;
     let mut side = short;

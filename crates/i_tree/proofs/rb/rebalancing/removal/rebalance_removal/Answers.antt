@@ -30,13 +30,15 @@ returns-then-rebalance_short_side g c =
     let present = (c.loop-parent.invariant.rebalances c.requires).present in
     record {
       balanced = balanced-ended c.loop-parent.arena.shape c.rebalance_short_side.new.arena.shape c.loop-parent.node c.loop-parent.side present (c.if-rebalance_short_side.ensures.rebalanced present);
-      entries = (rebalances_ended g c c.requires).entries_are ∙ sym (ap entries c.requires.is);
       spare = c.rebalance_short_side.ensures.spare ∙ c.loop-parent.invariant.spare;
       handles = c.rebalance_short_side.ensures.handles;
       steps = OnlyRotates-both g.met.C.Counter.law 3 (omega arith) c.loop-parent.invariant.steps c.if-rebalance_short_side.ensures.steps;
-      own = λ cut. (rebalances_ended g c cut).own;
-      outer = λ cut. (rebalances_ended g c cut).outer;
-      whole = λ cut. (rebalances_ended g c cut).whole;
+      rebalanced = record {
+        list = (rebalances_ended g c c.requires).entries_are ∙ sym (ap entries c.requires.is);
+        own = λ cut. (rebalances_ended g c cut).own;
+        outer = λ cut. (rebalances_ended g c cut).outer;
+        whole = λ cut. (rebalances_ended g c cut).whole;
+      };
     }
 
 pub parent-above-requires : goal.parent-above-requires
@@ -61,13 +63,15 @@ returns-then-above g c =
     let present = (c.loop-parent.invariant.rebalances c.requires).present in
     record {
       balanced = balanced-root c.loop-parent.arena.shape c.rebalance_short_side.new.arena.shape c.loop-parent.node c.loop-parent.side present (c.if-rebalance_short_side.ensures.rebalanced present) (root g c present);
-      entries = (rebalances_root g c c.requires).entries_are ∙ sym (ap entries c.requires.is);
       spare = c.rebalance_short_side.ensures.spare ∙ c.loop-parent.invariant.spare;
       handles = c.rebalance_short_side.ensures.handles;
       steps = OnlyRotates-both g.met.C.Counter.law 3 (omega arith) c.loop-parent.invariant.steps c.if-rebalance_short_side.ensures.steps;
-      own = λ cut. (rebalances_root g c cut).own;
-      outer = λ cut. (rebalances_root g c cut).outer;
-      whole = λ cut. (rebalances_root g c cut).whole;
+      rebalanced = record {
+        list = (rebalances_root g c c.requires).entries_are ∙ sym (ap entries c.requires.is);
+        own = λ cut. (rebalances_root g c cut).own;
+        outer = λ cut. (rebalances_root g c cut).outer;
+        whole = λ cut. (rebalances_root g c cut).whole;
+      };
     }
 
 pub side_of-side-requires : goal.side_of-side-requires

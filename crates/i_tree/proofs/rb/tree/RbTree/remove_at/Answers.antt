@@ -1,7 +1,7 @@
 use Rattle.std.proofs.Common.{sym, ◌∙◌}
 use Rattle.i_tree.specs.Rb.Context.{HasOneSubtree}
 use Rattle.i_tree.proofs.RbLemmas.Balance.Ranks.{IsCore-from_red_black}
-use Rattle.i_tree.proofs.RbLemmas.Removal.Shapes.{TakesOut-plain, TakesOut-rebalanced, IsRedBlack-unbalanced, LeavesShort, IsRebalanced, IsShort-at, IsHandle-gone, IsHandle-parent}
+use Rattle.i_tree.proofs.RbLemmas.Removal.Shapes.{TakesOut-plain, TakesOut-rebalanced, IsRedBlack-unbalanced, LeavesShort, IsShort-at, IsHandle-gone, IsHandle-parent}
 use Rattle.i_tree.proofs.RootLemmas.Counts.{OnlyRotates-none}
 use Rattle.i_tree.proofs.rb.tree.RbTree.remove_at.Goals.{After-detach-item}
 use Rattle.i_tree.proofs.rb.tree.RbTree.remove_at.Goals as goal
@@ -52,13 +52,7 @@ rebalance_removal-requires g c =
 pub returns-clause-shape : goal.returns-clause-shape
 returns-clause-shape g c =
     let one : HasOneSubtree c.self.inside.arena.shape c.args.gone = rw c.self.view_is c.requires in
-    let rebalanced : IsRebalanced c.detach-item.new.self.shape c.parent-parent.result c.side_of-side.result c.rebalance_removal.new.arena.shape = record {
-      list = c.rebalance_removal.ensures.entries;
-      own = c.rebalance_removal.ensures.own;
-      outer = c.rebalance_removal.ensures.outer;
-      whole = c.rebalance_removal.ensures.whole;
-    } in
-    rw (← c.self.view_is) (TakesOut-rebalanced _ c.detach-item.new.self.shape c.rebalance_removal.new.arena.shape c.args.gone c.parent-parent.result c.side_of-side.result one (leaves g (goal.at.returns-clause-shape g c).After-detach-item) rebalanced)
+    rw (← c.self.view_is) (TakesOut-rebalanced _ c.detach-item.new.self.shape c.rebalance_removal.new.arena.shape c.args.gone c.parent-parent.result c.side_of-side.result one (leaves g (goal.at.returns-clause-shape g c).After-detach-item) c.rebalance_removal.ensures.rebalanced)
 
 pub returns-clause-core : goal.returns-clause-core
 returns-clause-core g c = IsCore-from_red_black c.rebalance_removal.new.arena.shape c.rebalance_removal.ensures.handles c.rebalance_removal.ensures.balanced
