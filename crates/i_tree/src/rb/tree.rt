@@ -223,7 +223,7 @@ impl<T, A: Allocator + Copy> RbTree<T, A> {
     }
 
     /// Puts the item at the place, where no subtree is, and answers its handle. It is refused as `insert_root` is.
-    #[inline]
+    #[inline(always)]
     pub(crate) fn insert_at<C: Counter>(
         &mut self,
         steps: &mut C,
