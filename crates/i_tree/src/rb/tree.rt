@@ -247,7 +247,7 @@ impl<T, A: Allocator + Copy> RbTree<T, A> {
     }
 
     // Puts an item on the side of the parent, where it has no subtree, and answers its handle.
-    #[inline]
+    #[inline(always)]
     fn insert_on<C: Counter>(
         &mut self,
         steps: &mut C,
