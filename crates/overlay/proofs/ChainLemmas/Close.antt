@@ -1,5 +1,5 @@
 -- Edges that come close: they do whichever is named first, and their boxes meet then.
-use Rattle.std.proofs.Common.{◌≡◌, ◌⊎◌, inl, inr, ℕ, zero, suc, ◌<◌, ℤ, ◌≤ℤ◌, Bool, true, false, List, [], ◌∷◌, Some, get_or, length, map, refl, ap, ◌∙◌, subst, ⊎_elim, arith}
+use Rattle.std.proofs.Common.{◌≡◌, ◌⊎◌, inl, inr, ℕ, zero, suc, ◌<◌, ℤ, ◌≤ℤ◌, Bool, true, false, ◌||◌, List, [], ◌∷◌, Some, get_or, length, map, refl, ap, ◌∙◌, subst, ⊎_elim, arith}
 use Rattle.std.specs.Bool.{MatchBool}
 use Rattle.std.specs.Int.{int_min, int_max}
 use Rattle.std.specs.List.{All, slice_get}
@@ -13,7 +13,7 @@ use Rattle.plane.specs.Pairs.Bounds.{BoundsMeet, MeetInBoxes}
 use Rattle.plane.specs.Pairs.Pairs.{ArePairs, PairAt}
 use Rattle.plane.proofs.MeetLemmas.Boxes.{meet-in_boxes, meet_comm}
 use Rattle.overlay.specs.Snap.Chains.{IsEnd}
-use Rattle.overlay.specs.Snap.Close.{ComeClose, MeetApart, PassesEnd, PassesInside, ShareEnd, item_of}
+use Rattle.overlay.specs.Snap.Close.{ComeClose, HoldsEnd, MeetApart, PassesEnd, PassesInside, ShareEnd, item_of}
 use Rattle.overlay.specs.declared.snap.close.CloseEdge.{CloseEdge}
 use Rattle.overlay.proofs.SnapLemmas.Along.{Passes-in_box}
 
@@ -120,6 +120,17 @@ pub either_tested : (first second : Bool) (P Q : Type 0) → MatchBool first P (
 either_tested false true P Q none is same = inr is
 either_tested false false P Q none neither same = λ either. ⊎_elim none neither either
 either_tested true second P Q is said same = absurd (cc)
+
+-- both are told at once
+pub both_tested : (first second : Bool) (P Q : Type 0) → MatchBool first P (¬ P) → MatchBool second Q (¬ Q) → MatchBool (first || second) (P ⊎ Q) (¬ (P ⊎ Q))
+both_tested true second P Q is said = inl is
+both_tested false true P Q none is = inr is
+both_tested false false P Q none neither = λ either. ⊎_elim none neither either
+
+-- an edge that passes an end of the other one has it in its box
+pub held : (edge other : Edge) → ¬ (HoldsEnd edge other) → ¬ (PassesEnd edge other)
+held edge other none (inl inside) = none (inl (Passes-in_box edge other.x0 other.y0 inside.0))
+held edge other none (inr inside) = none (inr (Passes-in_box edge other.x1 other.y1 inside.0))
 
 -- some point is an end of both edges where an end of the other one is an end of the one
 shared : (one other : Edge) → IsEnd one other.x0 other.y0 ⊎ IsEnd one other.x1 other.y1 → ShareEnd one other

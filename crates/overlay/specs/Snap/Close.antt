@@ -24,6 +24,10 @@ PassesInside edge x y = Passes edge x y × (¬ (IsEnd edge x y))
 abbrev pub PassesEnd : Edge → Edge → Type 0
 PassesEnd edge other = PassesInside edge other.x0 other.y0 ⊎ PassesInside edge other.x1 other.y1
 
+-- An end of the other edge lies in the edge's box.
+abbrev pub HoldsEnd : Edge → Edge → Type 0
+HoldsEnd edge other = InBox edge other.x0 other.y0 ⊎ InBox edge other.x1 other.y1
+
 -- Some point is an end of both edges.
 abbrev pub ShareEnd : Edge → Edge → Type 0
 ShareEnd one other = (x : ℤ) × (y : ℤ) × IsEnd one x y × IsEnd other x y

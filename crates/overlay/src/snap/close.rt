@@ -5,9 +5,9 @@ ghost use Rattle.std.specs.Prelude.{◌≡◌, ◌⊎◌, ◌<◌, All, IfErr, I
 ghost use Rattle.i_tree.specs.declared.Refusal.TheVariants.{OutOfMemory};
 ghost use Rattle.plane.specs.Meet.Boxes.{bounds_of};
 ghost use Rattle.plane.specs.Pairs.Pairs.{ArePairs};
-ghost use Rattle.overlay.specs.Snap.Close.{ComeClose, HaveOnePoint, PassesEnd, ShareEnd, item_of};
+ghost use Rattle.overlay.specs.Snap.Close.{ComeClose, HaveOnePoint, HoldsEnd, PassesEnd, ShareEnd, item_of};
 
-use super::passing::{is_end, passes_inside};
+use super::passing::{is_end, is_in_box, passes_inside};
 use i_tree::Refusal;
 use plane::edge::Edge;
 use plane::meet::meet;
@@ -101,14 +101,34 @@ fn share_end(one: Edge, other: Edge) -> bool
 }
 
 // Whether one of the edges passes an end of the other between its own ends.
+#[inline(always)]
 fn one_passes_end(one: Edge, other: Edge) -> bool
     ensures { let passes = PassesEnd one other ⊎ PassesEnd other one in MatchBool result passes (¬ passes) }
 {
     passes_end(one, other) || passes_end(other, one)
 }
 
-// Whether the edge passes an end of the other one between its own ends.
+// Whether the edge passes an end of the other one between its own ends. Most often none lies in its box, which is told where it is
+// asked.
+#[inline(always)]
 fn passes_end(edge: Edge, other: Edge) -> bool
+    ensures { MatchBool result (PassesEnd edge other) (¬ (PassesEnd edge other)) }
+{
+    holds_end(edge, other) && passes_end_held(edge, other)
+}
+
+// Whether an end of the other edge lies in the edge's box. Both are looked for, since a branch between them would be guessed wrongly
+// often.
+#[inline(always)]
+fn holds_end(edge: Edge, other: Edge) -> bool
+    ensures { MatchBool result (HoldsEnd edge other) (¬ (HoldsEnd edge other)) }
+{
+    is_in_box(edge, other.x0, other.y0) | is_in_box(edge, other.x1, other.y1)
+}
+
+// As `passes_end`, which asks it where an end lies in the edge's box.
+#[inline(never)]
+fn passes_end_held(edge: Edge, other: Edge) -> bool
     ensures { MatchBool result (PassesEnd edge other) (¬ (PassesEnd edge other)) }
 {
     passes_inside(edge, other.x0, other.y0) || passes_inside(edge, other.x1, other.y1)

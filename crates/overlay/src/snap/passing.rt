@@ -21,9 +21,9 @@ pub fn passes_inside(edge: Edge, x: i32, y: i32) -> bool
     !is_end(edge, x, y) && passes(edge, x, y)
 }
 
-// Whether the whole point (x, y) lies in the edge's box.
+/// Whether the whole point (x, y) lies in the edge's box.
 #[inline(always)]
-fn is_in_box(edge: Edge, x: i32, y: i32) -> bool
+pub fn is_in_box(edge: Edge, x: i32, y: i32) -> bool
     ensures { MatchBool result (InBox edge x y) (¬ (InBox edge x y)) }
 {
     let bounds = edge.bounds();

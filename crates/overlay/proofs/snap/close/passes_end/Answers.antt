@@ -1,24 +1,12 @@
-use Rattle.std.proofs.Common.{rules, w32, FitsSigned}
-use Rattle.std.proofs.lemmas.Int.{to_z-of_z}
-use Rattle.overlay.specs.Snap.Close.{PassesInside}
-use Rattle.overlay.proofs.ChainLemmas.Close.{either_tested, first_tested}
+use Rattle.std.proofs.Common.{◌≡◌, Bool, MatchBool, true, false}
+use Rattle.plane.specs.declared.edge.Edge.{Edge}
+use Rattle.overlay.specs.Snap.Close.{HoldsEnd, PassesEnd}
+use Rattle.overlay.proofs.ChainLemmas.Close.{held}
 use Rattle.overlay.proofs.snap.close.passes_end.Goals as goal
 
-pub returns-then-passes_inside : goal.returns-then-passes_inside
-returns-then-passes_inside c =
-    let edge = c.args.edge in
-    let other = c.args.other in
-    let x0 : FitsSigned w32 c.args.other.x0 = search rules in
-    let y0 : FitsSigned w32 c.args.other.y0 = search rules in
-    first_tested c.passes_inside.result (PassesInside edge other.x0 other.y0) (PassesInside edge other.x1 other.y1) (simp to_z-of_z at c.passes_inside.ensures) c.if-passes_inside.true
+none_held : (edge other : Edge) (holds : Bool) → MatchBool holds (HoldsEnd edge other) (¬ (HoldsEnd edge other)) → holds ≡ false → MatchBool holds (PassesEnd edge other) (¬ (PassesEnd edge other))
+none_held edge other false none is = held edge other none
+none_held edge other true some is = absurd (cc)
 
-pub returns-else-passes_inside : goal.returns-else-passes_inside
-returns-else-passes_inside c =
-    let edge = c.args.edge in
-    let other = c.args.other in
-    let x0 : FitsSigned w32 c.args.other.x0 = search rules in
-    let y0 : FitsSigned w32 c.args.other.y0 = search rules in
-    let x1 : FitsSigned w32 c.args.other.x1 = search rules in
-    let y1 : FitsSigned w32 c.args.other.y1 = search rules in
-    either_tested c.passes_inside.result c.passes_inside-else-passes_inside.result (PassesInside edge other.x0 other.y0) (PassesInside edge other.x1 other.y1)
-    (simp to_z-of_z at c.passes_inside.ensures) (simp to_z-of_z at c.passes_inside-else-passes_inside.ensures) c.if-passes_inside.false
+pub returns-else-holds_end : goal.returns-else-holds_end
+returns-else-holds_end c = none_held c.args.edge c.args.other c.holds_end.result c.holds_end.ensures c.if-holds_end.false
