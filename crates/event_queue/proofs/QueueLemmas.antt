@@ -7,3 +7,4 @@ pub mod Done
 pub mod Listing
 pub mod Places
 pub mod Sorting
+pub mod Tickets
