@@ -47,7 +47,7 @@ SOURCES = {
     "`seg::tree::": ["i_tree/src/seg/*.rt"],
     "`itree_lib::run": ["itree_lib/src/run/*.rt"],
     "`itree_lib::sweep": ["itree_lib/src/sweep/mod.rt"],
-    "`event_queue`": ["event_queue/src/lib.rt", "event_queue/src/digits.rt"],
+    "`event_queue`": ["event_queue/src/lib.rt", "event_queue/src/buckets.rt"],
     "`plane`": [f"plane/src/{room}.rt" for room in ("*", "meet/*", "pairs/*", "locate/*", "sweep_line/*")],
     "`plane::sweep_line`": ["plane/src/sweep_line/*.rt"],
     "`overlay::snap`": ["overlay/src/snap/*.rt"],

@@ -7,4 +7,3 @@ pub mod Done
 pub mod Listing
 pub mod Places
 pub mod Sorting
-pub mod Tickets
