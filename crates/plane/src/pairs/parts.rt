@@ -8,6 +8,7 @@ ghost use Rattle.plane.specs.Pairs.Strips.{ReachFew, reached};
 
 use super::items::Boxed;
 use super::strips::Strips;
+use event_queue::buckets::sort_in_buckets;
 use std::alloc::{AllocError, Allocator};
 use std::cmp::Ordering;
 
@@ -21,7 +22,7 @@ pub struct Part {
 }
 
 /// The parts of all items, in order: three an item at most, where items reach no more strips.
-pub fn parts<T: Boxed, A: Allocator>(
+pub fn parts<T: Boxed, A: Allocator + Copy>(
     alloc: A,
     items: &[T],
     strips: Strips,
@@ -34,7 +35,7 @@ pub fn parts<T: Boxed, A: Allocator>(
 {
     let mut parts = Vec::with_capacity(alloc, items.len())?;
     push_all(&mut parts, items, strips)?;
-    parts.sort_by(|one, other| compare(*one, *other))?;
+    sort_in_buckets(&mut parts, number_of, |one, other| compare(*one, *other))?;
     Ok(parts)
 }
 
@@ -79,6 +80,11 @@ fn push_parts<T: Boxed, A: Allocator>(
         parts.push(Part { strip, left, place })?;
     }
     Ok(())
+}
+
+// A number by which parts are nearly in order: the strip's, and behind it where the part begins.
+fn number_of(part: Part) -> u64 {
+    (u64::from(part.strip) << 32) + u64::from(part.left.abs_diff(i32::MIN))
 }
 
 // How two parts stand by the order of their fields. All three comparisons are made, since a branch between them would be
