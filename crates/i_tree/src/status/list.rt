@@ -70,6 +70,13 @@ impl<K: ExpiredVal<E>, E: Expiration, V: Copy, A: Allocator + Copy> StatusList<K
     {
         self.held.spare()
     }
+
+    /// The pairs that are stored, in their order along the line, expired ones among them.
+    pub fn pairs(&self) -> &[(K, V)]
+        ensures { result.now ≡ self.now.pairs }
+    {
+        self.held.pairs()
+    }
 }
 
 impl<K: ExpiredVal<E>, E: Expiration, V: Copy, A: Allocator + Copy> StatusCollection<K, E, V>
