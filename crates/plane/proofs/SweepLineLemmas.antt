@@ -2,6 +2,7 @@
 pub mod Active
 pub mod Adjacent
 pub mod Advance
+pub mod Appended
 pub mod Begins
 pub mod Comparisons
 pub mod Crossings

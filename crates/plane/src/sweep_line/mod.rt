@@ -5,9 +5,11 @@
 
 pub use active::ActiveEdge;
 pub use crossing::cross;
+pub use growing::GrowingStatus;
 pub use insertion::insert_beginning;
 
 pub mod active;
 pub mod crossing;
+pub mod growing;
 pub mod heights;
 pub mod insertion;
