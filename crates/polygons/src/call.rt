@@ -12,10 +12,9 @@ use crate::grouping::append_polygons;
 use crate::rings::{Polygons, Rings, are_ends, real_edges_of};
 use i_tree::Refusal;
 use i_tree::status::exp::StatusCollection;
-use i_tree::status::tree::StatusTree;
 use overlay::boundary::boundary;
 use overlay::fill::{FillRule, Operation};
-use plane::sweep_line::ActiveEdge;
+use plane::sweep_line::{ActiveEdge, GrowingStatus};
 use std::alloc::Allocator;
 
 /// Appends the polygons of what the operation makes of the inside of the subject and that of the clip.
@@ -48,7 +47,7 @@ pub fn overlay<A: Allocator + Copy>(
     if !are_ends(subject) || !are_ends(clip) {
         return Err(OverlayFault::Lengths);
     }
-    let mut status = StatusTree::new(*out.points.allocator(), 0)?;
+    let mut status = GrowingStatus::new(*out.points.allocator())?;
     overlay_over(subject, clip, rule, operation, &mut status, out)
 }
 
