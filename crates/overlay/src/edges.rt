@@ -27,6 +27,11 @@ pub fn end_of(edge: Edge) -> Point
     }
 }
 
+/// A number by which points are in order: by x, and then by y.
+pub fn number_at(x: i32, y: i32) -> u64 {
+    (u64::from(x.abs_diff(i32::MIN)) << 32) + u64::from(y.abs_diff(i32::MIN))
+}
+
 /// The edge from the one point to the other.
 pub fn edge_between(from: Point, to: Point) -> Edge
     ensures { result ≡ edge_between from to }

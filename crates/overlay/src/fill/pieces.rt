@@ -7,6 +7,8 @@ ghost use Rattle.overlay.specs.Fill.Filled.{AreNoded};
 ghost use Rattle.overlay.specs.Fill.Pieces.{ArePieces, weight};
 ghost use Rattle.overlay.specs.Fill.Turned.{Adds, AreJoinOf, AreTurned, BeginApart, EndIn, Fit, IsSmall, piece_of, sum_of, turned};
 
+use crate::edges::number_at;
+use event_queue::buckets::sort_in_buckets;
 use plane::edge::Edge;
 use plane::sweep_line::heights::turn_rightwards;
 use plane::ways::product;
@@ -46,7 +48,7 @@ pub fn pieces_in_order<A: Allocator + Copy>(
 }
 
 // The edges of both that aren't vertical, turned rightwards, in the order in which they begin.
-fn turned_pieces<A: Allocator>(
+fn turned_pieces<A: Allocator + Copy>(
     alloc: A,
     subject: &[Edge],
     clip: &[Edge],
@@ -57,10 +59,11 @@ fn turned_pieces<A: Allocator>(
     let mut pieces = Vec::with_capacity(alloc, room_for(subject, clip)?)?;
     append_turned(&mut pieces, subject, Role::Subject)?;
     append_turned(&mut pieces, clip, Role::Clip)?;
-    // Edges of rings have runs, which this sort finds.
-    pieces.sort_by(|one: &Piece, other: &Piece| -> Ordering {
-        compare_begins(one.edge, other.edge)
-    })?;
+    sort_in_buckets(
+        &mut pieces,
+        |piece| number_at(piece.edge.x0, piece.edge.y0),
+        |one: &Piece, other: &Piece| -> Ordering { compare_begins(one.edge, other.edge) },
+    )?;
     Ok(pieces)
 }
 

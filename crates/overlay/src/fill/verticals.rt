@@ -6,8 +6,11 @@ ghost use Rattle.overlay.specs.Fill.Verticals.{AreVerticalsOf, BoundRegion, befo
 ghost use Rattle.overlay.specs.Snap.Offsets.{Extends};
 ghost use Rattle.overlay.specs.Snap.Windings.{edge_between};
 
+use crate::edges::number_at;
+use event_queue::buckets::sort_in_buckets;
 use plane::edge::Edge;
 use std::alloc::{AllocError, Allocator};
+use std::cmp::Ordering;
 
 /// An end of an edge, and what it adds to how many edges end, less how many start: 1 where the edge ends there, -1 where it
 /// starts. Ends are in order by x, and then by y.
@@ -35,7 +38,11 @@ pub fn append_verticals<A: Allocator + Copy>(
 {
     let alloc = *edges.allocator();
     let mut ends = ends_of(alloc, &edges[first..])?;
-    ends.sort()?;
+    sort_in_buckets(
+        &mut ends,
+        |end| number_at(end.x, end.y),
+        |one: &End, other: &End| -> Ordering { one.cmp(other) },
+    )?;
     push_verticals(&ends, edges)
 }
 

@@ -12,6 +12,6 @@ pub returns-clause-turned : goal.returns-clause-turned
 returns-clause-turned g c =
     let first : c.append_turned.new.pieces.items ≡ turned Subject c.args.subject.now = c.in_ok-append_turned.ensures ∙ ap (λ (list : List Piece). list ++ turned Subject c.args.subject.now) c.in_ok-pieces.ensures.items in
     let all : c.append_turned-2.new.pieces.items ≡ turned Subject c.args.subject.now ++ turned Clip c.args.clip.now = c.in_ok-append_turned-2.ensures ∙ ap (λ (list : List Piece). list ++ turned Clip c.args.clip.now) first in (
-      subst (λ (list : List Piece). IsPermutation list c.sort_by.new.self.items) all c.sort_by.ensures.permutation,
-      sorted-order _ (c.in_ok-sort_by.ensures.sorted begins_before weak_order (answers_always _ _ _ (λ f a r f' called. search rules))),
+      subst (λ (list : List Piece). IsPermutation list c.sort_in_buckets.new.items.items) all c.sort_in_buckets.ensures.permutation,
+      sorted-order _ (c.in_ok-sort_in_buckets.ensures.sorted begins_before weak_order (answers_always _ _ _ (λ f a r f' called. search rules))),
     )
