@@ -2,14 +2,13 @@
 use Rattle.std.proofs.Common.{◌≡◌, ◌≢◌, inl, inr, ℕ, ◌<◌, ◌≤◌, ℤ, ◌≤ℤ◌, ◌<ℤ◌, false, List, get_or, length, Ordering, Less, Equal, Greater, refl, sym, ap, ap₂, ◌∙◌, subst, arith}
 use denote.Param.Members.{Mut}
 use denote.Ref.{Bor}
-use Rattle.std.specs.Fn.{Called, ComputesKey}
-use Rattle.std.specs.List.Sorted.{IsSortedBy, IsSortedByKey}
+use Rattle.std.specs.Fn.{Called}
+use Rattle.std.specs.List.Sorted.{IsSortedBy, IsSortedByClosure}
 use Rattle.std.specs.Ordering.{MatchOrdering, int_cmp, ordering_then, is_lt}
 use Rattle.std.proofs.lemmas.Bool.{cases_lt}
 use Rattle.std.proofs.lemmas.Cmp.{int_ranked}
-use Rattle.std.proofs.lemmas.Fn.{always_returns_same}
 use Rattle.std.proofs.lemmas.Int.{ints}
-use Rattle.std.proofs.lemmas.List.Sorted.{ranks_by, sorted_far}
+use Rattle.std.proofs.lemmas.List.Sorted.{answers_always, ranks_by, sorted_far}
 use Rattle.plane.specs.declared.edge.Edge.{Edge}
 use Rattle.plane.specs.declared.point.Point.{Point}
 use Rattle.overlay.specs.Contours.Order.{AreInOrder, IsBehind, IsCorner, IsFirstFrom, corner_at, point_at}
@@ -74,12 +73,14 @@ behind-sorted {X = X} point_of xs rising i j d upto within =
     not_less one.x one.y other.x other.y (int_cmp other.x one.x) (int_ranked other.x one.x (int_cmp other.x one.x) refl) far
 
 -- what the sort ensures
-pub behind-from_sort : {X : Type 0} (point_of : X → Point) {F : Type 0} {g : Mut F (Bor X × Unit {0}) Corner} {f : F} (xs : List X)
-    → ((key : X → Corner) → ComputesKey g key f → IsSortedByKey key corner_order.cmp xs)
-    → ((a : Bor X × Unit {0}) (r : Corner) (f' : F) → Called g f a r f' → (r ≡ corner_at (point_of a.0.now)) × (f' ≡ f))
+pub behind-from_sort : {X : Type 0} (point_of : X → Point) {F : Type 0} {g : Mut F (Bor X × (Bor X × Unit {0})) Ordering} {f : F} (xs : List X)
+    → IsSortedByClosure g f xs
+    → ((f : F) (a : Bor X × (Bor X × Unit {0})) (r : Ordering) (f' : F) → Called g f a r f' → r ≡ corner_order.cmp (corner_at (point_of a.0.now)) (corner_at (point_of a.1.0.now)))
     → (i j : ℕ) (d : X) → i ≤ j → j < length xs → IsBehind (point_of (get_or xs i d)) (point_of (get_or xs j d))
 behind-from_sort {X = X} point_of {g = g} {f = f} xs rising answers =
-    behind-sorted point_of xs (rising (λ (x : X). corner_at (point_of x)) (always_returns_same g (λ a r. r ≡ corner_at (point_of a.0.now)) f answers))
+    let less = λ (one other : X). is_lt (corner_order.cmp (corner_at (point_of one)) (corner_at (point_of other))) in
+    behind-sorted point_of xs
+    (rising less (ranks_by corner_total (λ (x : X). corner_at (point_of x))) (answers_always g (λ a r. is_lt r ≡ less a.0.now a.1.0.now) f (λ f a r f' called. ap is_lt (answers f a r f' called))))
 
 -- ---- where the edges stand that start at a point
 

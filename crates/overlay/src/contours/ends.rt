@@ -5,10 +5,12 @@ ghost use Rattle.overlay.specs.Contours.Ends.{AreCornersOfEnds, AreEndsInOrder, 
 ghost use Rattle.overlay.specs.Contours.Order.{AreInOrder, IsFirstFrom};
 
 use super::order::{corner_at, is_behind};
-use crate::edges::end_of;
+use crate::edges::{end_of, number_at};
+use event_queue::buckets::sort_in_buckets;
 use plane::edge::Edge;
 use plane::point::Point;
 use std::alloc::{AllocError, Allocator};
+use std::cmp::Ordering;
 
 /// The point at which an edge ends, and the place of the edge.
 #[derive(Clone, Copy, Debug)]
@@ -32,11 +34,20 @@ pub fn corners_of_ends<A: Allocator + Copy>(
 }
 
 // The ends of all edges, in order.
-fn ends_in_order<A: Allocator>(alloc: A, sorted: &[Edge]) -> Result<Vec<EdgeEnd, A>, AllocError>
+fn ends_in_order<A: Allocator + Copy>(
+    alloc: A,
+    sorted: &[Edge],
+) -> Result<Vec<EdgeEnd, A>, AllocError>
     ensures { IfOk result (λ ends. IsPermutation (ends_from 0 sorted.now) ends.items × AreEndsInOrder ends.items) }
 {
     let mut ends = ends_of(alloc, sorted)?;
-    ends.sort_unstable_by_key(|end| corner_at(end.at));
+    sort_in_buckets(
+        &mut ends,
+        |end| number_at(end.at.x, end.at.y),
+        |one: &EdgeEnd, other: &EdgeEnd| -> Ordering {
+            corner_at(one.at).cmp(&corner_at(other.at))
+        },
+    )?;
     Ok(ends)
 }
 

@@ -4,10 +4,12 @@ ghost use Rattle.std.specs.Prelude.{◌≡◌, IfOk, IsPermutation, MatchBool};
 ghost use Rattle.overlay.specs.Contours.Order.{AreInOrder, IsBehind, IsFirstFrom, corner_at};
 ghost use Rattle.overlay.specs.Snap.Windings.{start_of};
 
-use crate::edges::start_of;
+use crate::edges::{number_at, start_of};
+use event_queue::buckets::sort_in_buckets;
 use plane::edge::Edge;
 use plane::point::Point;
 use std::alloc::{AllocError, Allocator};
+use std::cmp::Ordering;
 
 /// A point at which edges start. They are in order by x, and then by y.
 #[derive(Clone, Copy, Debug, PartialEq, Eq, PartialOrd, Ord)]
@@ -17,12 +19,21 @@ pub struct Corner {
 }
 
 /// The edges in the order of their starts.
-pub fn edges_in_order<A: Allocator>(alloc: A, edges: &[Edge]) -> Result<Vec<Edge, A>, AllocError>
+pub fn edges_in_order<A: Allocator + Copy>(
+    alloc: A,
+    edges: &[Edge],
+) -> Result<Vec<Edge, A>, AllocError>
     ensures { IfOk result (λ sorted. IsPermutation edges.now sorted.items × AreInOrder sorted.items) }
 {
     let mut sorted = Vec::with_capacity(alloc, edges.len())?;
     sorted.extend_from_slice(edges)?;
-    sorted.sort_by_key(|edge| corner_at(start_of(*edge)))?;
+    sort_in_buckets(
+        &mut sorted,
+        |edge| number_at(edge.x0, edge.y0),
+        |one: &Edge, other: &Edge| -> Ordering {
+            corner_at(start_of(*one)).cmp(&corner_at(start_of(*other)))
+        },
+    )?;
     Ok(sorted)
 }
 

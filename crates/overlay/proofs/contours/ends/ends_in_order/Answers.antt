@@ -5,7 +5,7 @@ use Rattle.overlay.proofs.contours.ends.ends_in_order.Goals as goal
 
 pub returns : goal.returns
 returns g c =
-    let ends = c.sort_unstable_by_key.new.self.items in (
-      subst (λ (list : List EdgeEnd). IsPermutation list ends) c.in_ok-ends.ensures c.sort_unstable_by_key.ensures.permutation,
-      (λ i j upto within. behind-from_sort (λ (end : EdgeEnd). end.at) ends c.sort_unstable_by_key.ensures.sorted (λ a r q k. search rules) i j _ upto within),
+    let ends = c.sort_in_buckets.new.items.items in (
+      subst (λ (list : List EdgeEnd). IsPermutation list ends) c.in_ok-ends.ensures c.sort_in_buckets.ensures.permutation,
+      (λ i j upto within. behind-from_sort (λ (end : EdgeEnd). end.at) ends c.in_ok-sort_in_buckets.ensures.sorted (λ f a r f' called. search rules) i j _ upto within),
     )

@@ -7,8 +7,8 @@ use Rattle.overlay.proofs.contours.order.edges_in_order.Goals as goal
 pub returns : goal.returns
 returns g c =
     let edges = c.args.edges.now in
-    let sorted = c.sort_by_key.new.self.items in
+    let sorted = c.sort_in_buckets.new.items.items in
     let all : c.extend_from_slice.new.self.items ≡ edges = c.in_ok-extend_from_slice.ensures.items ∙ ap (λ (none : List Edge). none ++ edges) c.in_ok-sorted.ensures.items in (
-      subst (λ (old : List Edge). IsPermutation old sorted) all c.sort_by_key.ensures.permutation,
-      (λ i j upto within. behind-from_sort start_of sorted c.in_ok-sort_by_key.ensures.sorted (λ a r q k. search rules) i j _ upto within),
+      subst (λ (old : List Edge). IsPermutation old sorted) all c.sort_in_buckets.ensures.permutation,
+      (λ i j upto within. behind-from_sort start_of sorted c.in_ok-sort_in_buckets.ensures.sorted (λ f a r f' called. search rules) i j _ upto within),
     )
