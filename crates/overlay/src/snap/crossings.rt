@@ -9,10 +9,13 @@ ghost use Rattle.overlay.specs.declared.snap.crossings.HotPoint.{HotPoint};
 
 use super::crossing::crossing;
 use super::passing::{is_end, passes_inside};
+use crate::edges::number_at;
+use event_queue::buckets::sort_in_buckets;
 use plane::edge::Edge;
 use plane::pairs::items::{Bounds, Boxed, Meets};
 use plane::point::Point;
 use std::alloc::{AllocError, Allocator};
+use std::cmp::Ordering;
 
 /// A hot point. They are in order by x, and then by y.
 #[derive(Clone, Copy, Debug, PartialEq, Eq, PartialOrd, Ord)]
@@ -43,7 +46,7 @@ impl Meets<HotPoint> for Edge {
 }
 
 /// What the crossings of these pairs of edges round to, each once, but for those that round to an end of the two.
-pub fn crossings<A: Allocator>(
+pub fn crossings<A: Allocator + Copy>(
     alloc: A,
     edges: &[Edge],
     pairs: &[(usize, usize)],
@@ -53,7 +56,11 @@ pub fn crossings<A: Allocator>(
 {
     let mut points = Vec::new(alloc);
     push_crossings(edges, pairs, &mut points)?;
-    points.sort_unstable();
+    sort_in_buckets(
+        &mut points,
+        |point| number_at(point.x, point.y),
+        |one: &HotPoint, other: &HotPoint| -> Ordering { one.cmp(other) },
+    )?;
     points.dedup();
     Ok(points)
 }

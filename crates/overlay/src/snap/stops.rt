@@ -11,11 +11,13 @@ use super::close::close_pairs;
 use super::crossings::{HotPoint, crossing_inside, crossings};
 use super::passing::passes_inside;
 use crate::edges::run_along_axes;
+use event_queue::buckets::sort_in_buckets;
 use i_tree::Refusal;
 use plane::edge::Edge;
 use plane::pairs::pairs_with_points;
 use plane::point::Point;
 use std::alloc::{AllocError, Allocator};
+use std::cmp::Ordering;
 
 /// A hot point that an edge passes, and none of its ends: the edge's place among all, and how far the point is along it on each axis.
 #[derive(Clone, Copy, Debug, PartialEq, Eq, PartialOrd, Ord)]
@@ -41,9 +43,18 @@ pub fn stops_in_order<A: Allocator + Copy>(
     let mut stops = Vec::new(alloc);
     push_stops_at_ends(edges, &pairs, &mut stops)?;
     push_stops_at_crossings(edges, &pairs, &mut stops)?;
-    stops.sort_unstable();
+    sort_in_buckets(
+        &mut stops,
+        number_of,
+        |one: &Stop, other: &Stop| -> Ordering { one.cmp(other) },
+    )?;
     stops.dedup();
     Ok(stops)
+}
+
+// A number by which stops are nearly in order: the edge's place, and behind it how far the stop is along it.
+fn number_of(stop: Stop) -> u64 {
+    ((stop.place as u64) << 32) | u64::from(stop.along_x.abs_diff(i32::MIN))
 }
 
 // Appends the stops of the edges at each of these pairs at ends of one another.

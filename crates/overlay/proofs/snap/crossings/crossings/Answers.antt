@@ -14,4 +14,4 @@ returns g c =
     let found = c.push_crossings.new.points.items in
     let gains = subst (λ (before : List HotPoint). GainsThese (IsOfSome (IsCrossingOf edges) pairs) before found) c.new-points.ensures.items c.in_ok-push_crossings.ensures in
     subst (AreCrossings edges pairs) (sym (dedup_is _ _ _ c.dedup.ensures.filtered))
-    (AreCrossings-sorted edges pairs _ matches_eq-law found c.sort_unstable.new.self.items gains c.sort_unstable.ensures.permutation)
+    (AreCrossings-sorted edges pairs _ matches_eq-law found c.sort_in_buckets.new.items.items gains c.sort_in_buckets.ensures.permutation)

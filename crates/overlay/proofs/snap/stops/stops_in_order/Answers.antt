@@ -1,8 +1,11 @@
-use Rattle.std.proofs.Common.{◌⊎◌, ℕ, List, [], sym, subst}
+use Rattle.std.proofs.Common.{◌⊎◌, ℕ, List, [], sym, subst, rules}
+use Rattle.std.specs.Ordering.{is_lt}
 use Rattle.std.proofs.lemmas.List.Filters.{dedup_is}
+use Rattle.std.proofs.lemmas.List.Sorted.{answers_always, ranks_by}
 use Rattle.overlay.specs.Snap.Gains.{GainsThese, IsOfSome}
 use Rattle.overlay.specs.Snap.Stops.{AreStops, IsStopCrossed, IsStopOfPair}
-use Rattle.overlay.specs.contracts.snap.stops.StopOrd.TheImpl.Laws.{matches_eq-law}
+use Rattle.overlay.specs.contracts.snap.stops.StopOrd.TheImpl.{ghosts as stop_order}
+use Rattle.overlay.specs.contracts.snap.stops.StopOrd.TheImpl.Laws.{matches_eq-law, total-law as stop_total}
 use Rattle.overlay.specs.declared.snap.stops.Stop.{Stop}
 use Rattle.overlay.proofs.ChainLemmas.Gains.{gained-all, gains-join}
 use Rattle.overlay.proofs.ChainLemmas.Stops.{AreStops-sorted}
@@ -22,4 +25,4 @@ returns-clause-ok g c =
     subst (AreStops edges) (sym (dedup_is _ _ _ c.dedup.ensures.filtered))
     (AreStops-sorted edges pairs c.in_ok-pairs.ensures.ok all
     (gained-all (λ stop. IsOfSome (IsStopOfPair edges) pairs stop ⊎ IsStopCrossed edges pairs stop) all told)
-    _ matches_eq-law c.sort_unstable.new.self.items c.sort_unstable.ensures.permutation c.sort_unstable.ensures.sorted)
+    _ matches_eq-law c.sort_in_buckets.new.items.items c.sort_in_buckets.ensures.permutation (c.in_ok-sort_in_buckets.ensures.sorted (λ a b. is_lt (stop_order.cmp a b)) (ranks_by stop_total (λ it. it)) (answers_always _ _ _ (λ f a r f' called. search rules))))
