@@ -1,5 +1,7 @@
 -- The events of a sweep, and the order in which they are served.
-use Rattle.std.specs.Prelude.{◌≡◌, ◌≢◌, ◌⊎◌, ⊤, ℕ, ℤ, ◌<◌, ◌<ℤ◌, List, All, AllPairs, Contains, Option, Some, length, get_or}
+use Rattle.std.specs.Prelude.{◌≡◌, ◌⊎◌, ⊤, ℕ, ℤ, ◌<◌, ◌<ℤ◌, List, All, AllPairs, Contains, FitsSigned, Option, Some, length, get_or}
+use Rattle.std.specs.Int.{w32}
+use Rattle.std.specs.List.Sorted.{IsPermutation}
 use Rattle.event_queue.specs.declared.Event.{Event}
 use Rattle.event_queue.specs.declared.Task.{Task}
 use Rattle.event_queue.specs.declared.Task.TheVariants.{End, Begin, Answer}
@@ -62,12 +64,23 @@ IsEventOf ends begins answers items points event = IsDoneAt ends begins answers 
 abbrev pub IsDoneWith : {X : Type 0} → Task → (X → Option ℤ) → List X → Event → Type 0
 IsDoneWith task x_of items event = (event.task ≡ task) × HasX x_of items event.place event.x
 
-abbrev pub Differ : Event → Event → Type 0
-Differ one other = one ≢ other
+-- of two events the first would come before the second at one x
+abbrev pub IsListedBefore : Event → Event → Type 0
+IsListedBefore first second = ComesBeforeAt first.task first.place second.task second.place
 
--- The list gains the events at which this is done with the items. Where it had none of this task, all still differ.
+-- The events stand in the order of what is done and of place, and each at an x that is an i32.
+pub record AreListed (events : List Event) : Type 0 where
+  pub fit : All (λ event. FitsSigned w32 event.x) events
+  pub in_order : AllPairs IsListedBefore events
+
+-- The events are brought into order.
+pub record AreOrdered (before after : List Event) : Type 0 where
+  pub moved : IsPermutation before after
+  pub in_order : AllPairs Precedes after
+
+-- The list gains the events at which this is done with the items. Where what it had is done before, all are still listed.
 pub record Gains {X : Type 0} (task : Task) (x_of : X → Option ℤ) (items : List X) (before after : List Event) : Type 0 where
   pub kept : (event : Event) → Contains before event → Contains after event
   pub each : (place : ℕ) (x : ℤ) → HasX x_of items place x → Contains after (event_at x task place)
   pub of : All (λ event. Contains before event ⊎ IsDoneWith task x_of items event) after
-  pub apart : All (λ event. event.task ≢ task) before → AllPairs Differ before → AllPairs Differ after
+  pub listed : All (λ event. (place : ℕ) → ComesBeforeAt event.task event.place task place) before → AreListed before → AreListed after
