@@ -1,10 +1,10 @@
 -- Pieces of one edge that stand one after another, joined one by one.
-use Rattle.std.proofs.Common.{◌≡◌, ◌≢◌, ◌<◌, ◌≤◌, ◌+◌, ◌-◌, ◌++◌, [], ◌∷◌, inl, inr, Bool, true, false, cond, ℕ, ℤ, pos, ◌+ℤ◌, List, length, take, get_or, refl, ap, ap₂, sym, subst, suc, zero, ◌∙◌, arith}
+use Rattle.std.proofs.Common.{◌≡◌, ◌≢◌, ◌<◌, ◌≤◌, ◌+◌, ◌-◌, ◌++◌, [], ◌∷◌, inl, inr, Bool, true, false, cond, ℕ, ℤ, pos, ◌+ℤ◌, List, length, take, drop, get_or, refl, ap, ap₂, sym, subst, suc, zero, ◌∙◌, ◌^◌, arith}
 use Rattle.std.specs.List.{All, AllPairs, Contains, slice_set}
 use Rattle.std.proofs.Math.Seq.{set-append_seam}
 use Rattle.std.proofs.lemmas.Bool.{cases_lt}
 use Rattle.std.proofs.lemmas.Int.{ints}
-use Rattle.std.proofs.lemmas.List.{get_or_default, take_all, take_more, length-append, length-take-le, get_or-take}
+use Rattle.std.proofs.lemmas.List.{drop-drop, get_or_default, get_or-drop, take_all, take_more, length-append, length-take-le, get_or-take}
 use Rattle.std.proofs.lemmas.List.Elements.{All-append, Contains-get_or, Contains-append_left, Contains-push}
 use Rattle.i_tree.proofs.RootLemmas.Joined.{All-front, AllPairs-front, AllPairs-across, AllPairs-append}
 use Rattle.plane.specs.declared.edge.Edge.{Edge}
@@ -12,7 +12,7 @@ use Rattle.overlay.specs.declared.fill.pieces.Piece.{Piece}
 use Rattle.overlay.specs.Fill.Begins.{BeginsUpto, BeginInOrder}
 use Rattle.overlay.specs.Fill.Pieces.{total}
 use Rattle.overlay.proofs.FillLemmas.Totals.{total-more}
-use Rattle.overlay.specs.Fill.Turned.{Adds, AreJoinOf, BeginApart, EndIn, IsSmall, asked, sum_of}
+use Rattle.overlay.specs.Fill.Turned.{Adds, AreJoinOf, BeginApart, EndIn, Fit, IsSmall, asked, sum_of}
 
 -- ---- the last of a list
 
@@ -35,6 +35,19 @@ module _ {X : Type 0} (xs : List X) (d : X) (some : 0 < length xs) where
   pub set_last : (y : X) → slice_set xs (length xs - 1) y ≡ fore ++ y ∷ []
   set_last y =
       ap₂ (λ (list : List X) (n : ℕ). slice_set list n y) split_last (sym fore-length) ∙ set-append_seam fore final [] y
+
+-- ---- lists that are the same from a place on
+
+module _ {X : Type 0} (xs ys : List X) (n : ℕ) (same : drop n xs ≡ drop n ys) where
+  pub same-at : (d : X) → get_or xs n d ≡ get_or ys n d
+  same-at d =
+      let step : n + 0 ≡ n = omega arith in
+      ap (λ (k : ℕ). get_or xs k d) (sym step) ∙ sym (get_or-drop n xs 0 d) ∙ ap (λ (rest : List X). get_or rest 0 d) same ∙ get_or-drop n ys 0 d ∙ ap (λ (k : ℕ). get_or ys k d) step
+
+  pub same-behind : (m : ℕ) → n ≤ m → drop m xs ≡ drop m ys
+  same-behind m behind =
+      let step : n + (m - n) ≡ m = omega (arith, behind) in
+      ap (λ (k : ℕ). drop k xs) (sym step) ∙ sym (drop-drop (m - n) n xs) ∙ ap (λ (rest : List X). drop (m - n) rest) same ∙ drop-drop (m - n) n ys ∙ ap (λ (k : ℕ). drop k ys) step
 
 -- ---- sums
 
@@ -184,13 +197,47 @@ module _ (pieces : List Piece) where
       let below : i < k = omega (arith, within, size) in
       apart other (get_or pieces k none) (i, omega (arith, below, inside), sym (taken k i other below) ∙ at) (Contains-get_or pieces k none inside)
 
-pub join-none : AreJoinOf [] []
-join-none = record {
-  subject = λ test. refl;
-  clip = λ test. refl;
-  of = λ k d within. absurd (omega (arith, within));
-  order = λ i j d less within. absurd (omega (arith, less, within));
-  distinct = λ i j d less within. absurd (omega (arith, less, within));
-  few = omega arith;
-  small = λ k d within. absurd (omega (arith, within));
-}
+-- ---- in place
+
+-- The first pieces before the place are joined to those that are kept, and from the place on they are as they were.
+pub record AreJoinedUpto (pieces now : List Piece) (place kept : ℕ) : Type 0 where
+  pub few : kept ≤ place
+  pub same : length now ≡ length pieces
+  pub joined : AreJoinOf (take place pieces) (take kept now)
+  pub rest : drop place now ≡ drop place pieces
+
+module _ (pieces now : List Piece) (place kept : ℕ) (is : AreJoinedUpto pieces now place kept) (inside : place < length pieces)
+    (piece : Piece) (at : piece ≡ get_or now place piece) where
+  stood : piece ≡ get_or pieces place piece
+  stood = at ∙ same-at now pieces place is.rest piece
+
+  unit : All (IsSmall 1) pieces → IsSmall 1 piece
+  unit units = subst (IsSmall 1) (sym stood) (units place piece inside)
+
+  -- so few small pieces can be added up
+  pub fit-next : All (IsSmall 1) pieces → length pieces < 2 ^ 63 → All (λ last. Fit last piece) (take kept now)
+  fit-next units few k d within =
+      let last = is.joined.small k d within in
+      let a = last.from in
+      let b = last.upto in
+      let e = last.clip_from in
+      let f = last.clip_upto in
+      let g = (unit units).from in
+      let h = (unit units).upto in
+      let i = (unit units).clip_from in
+      let j = (unit units).clip_upto in
+      let size = length-take-le place pieces (omega (arith, inside)) in
+      record { from = omega (arith, ints, few, inside, size, a, g); below = omega (arith, ints, few, inside, size, b, h); clip_from = omega (arith, ints, few, inside, size, e, i); clip_below = omega (arith, ints, few, inside, size, f, j) }
+
+  pub joined-next : BeginInOrder pieces → BeginApart pieces → All (IsSmall 1) pieces
+      → (after : List Piece) (next : ℕ) → length after ≡ length now → Adds piece (take kept now) (take next after) → next ≤ kept + 1 → drop (kept + 1) after ≡ drop (kept + 1) now → AreJoinedUpto pieces after (place + 1) next
+  joined-next order apart units after next size adds most rest = record {
+    few = (let few = is.few in omega (arith, few, most));
+    same = size ∙ is.same;
+    joined = subst (λ (done : List Piece). AreJoinOf done (take next after)) (ap (λ (one : Piece). take place pieces ++ one ∷ []) stood ∙ sym (take_more pieces place piece inside))
+        (join-more (take place pieces) piece
+        (subst (λ (one : Piece). All (λ other. BeginsUpto other.edge one.edge) (take place pieces)) (sym stood) (before-next pieces order place piece inside))
+        (subst (λ (one : Piece). (other : Piece) → Contains (take place pieces) other → BeginsUpto other.edge one.edge → BeginsUpto one.edge other.edge → other.edge ≡ one.edge) (sym stood) (apart-next pieces apart place piece inside))
+        (unit units) (take kept now) (take next after) is.joined adds);
+    rest = (let few = is.few in same-behind after now (kept + 1) rest (place + 1) (omega (arith, few)) ∙ same-behind now pieces place is.rest (place + 1) (omega arith));
+  }

@@ -1,6 +1,6 @@
 //! The pieces of a fill: edges that aren't vertical, turned rightwards, those with the same ends joined.
 
-ghost use Rattle.std.specs.Prelude.{◌≡◌, ◌≢◌, ◌++◌, ◌+◌, ◌≤◌, ◌<◌, ◌^◌, ◌+ℤ◌, ◌-ℤ◌, ◌≤ℤ◌, ◌<ℤ◌, pos, All, length, IfOk, MatchBool, OnOk};
+ghost use Rattle.std.specs.Prelude.{◌≡◌, ◌≢◌, ◌++◌, ◌+◌, ◌≤◌, ◌<◌, ◌^◌, ◌+ℤ◌, ◌-ℤ◌, ◌≤ℤ◌, ◌<ℤ◌, pos, All, drop, length, take, IfOk, MatchBool, OnOk};
 ghost use Rattle.plane.specs.SweepLine.Heights.{rise};
 ghost use Rattle.overlay.specs.Fill.Begins.{cmp_begins, steps, BeginInOrder};
 ghost use Rattle.overlay.specs.Fill.Filled.{AreNoded};
@@ -42,8 +42,8 @@ pub fn pieces_in_order<A: Allocator + Copy>(
     ensures few { IfOk result (λ pieces. length pieces.items ≤ length subject.now + length clip.now) }
     ensures countable { IfOk result (λ _. length subject.now + length clip.now < 2 ^ 63) }
 {
-    let turned = turned_pieces(alloc, subject, clip)?;
-    let pieces = join(alloc, &turned)?;
+    let mut pieces = turned_pieces(alloc, subject, clip)?;
+    join(&mut pieces);
     Ok(pieces)
 }
 
@@ -162,33 +162,38 @@ fn steps(edge: Edge) -> i64
     (edge.x1 as i64 - edge.x0 as i64).max(1)
 }
 
-// Pieces of one edge joined to one. They stand one after another.
-fn join<A: Allocator>(alloc: A, pieces: &[Piece]) -> Result<Vec<Piece, A>, AllocError>
-    requires order { BeginInOrder pieces.now }
-    requires apart { BeginApart pieces.now }
-    requires units { All (IsSmall 1) pieces.now }
-    requires few { length pieces.now < 2 ^ 63 }
-    ensures { IfOk result (λ joined. AreJoinOf pieces.now joined.items) }
+// Joins pieces of one edge to one. They stand one after another.
+fn join<A: Allocator>(pieces: &mut Vec<Piece, A>)
+    requires order { BeginInOrder pieces.old.items }
+    requires apart { BeginApart pieces.old.items }
+    requires units { All (IsSmall 1) pieces.old.items }
+    requires few { length pieces.old.items < 2 ^ 63 }
+    ensures { AreJoinOf pieces.old.items pieces.new.items }
 {
-    let mut joined = Vec::with_capacity(alloc, pieces.len())?;
-    for piece in pieces {
-        add(&mut joined, *piece)?;
+    let mut kept = 0;
+    for place in 0..pieces.len() {
+        let piece = pieces[place];
+        kept = add(pieces, kept, piece);
     }
-    Ok(joined)
+    pieces.truncate(kept);
 }
 
-// Adds the piece to the last one, where that is of the same edge, or else behind it.
-fn add<A: Allocator>(joined: &mut Vec<Piece, A>, piece: Piece) -> Result<(), AllocError>
-    requires { All (λ last. Fit last piece) joined.old.items }
-    ensures { OnOk result (Adds piece joined.old.items joined.new.items) }
+// Adds the piece to the last of the first so many, where that is of the same edge, or else puts it behind them. The answer is
+// how many they are then.
+fn add(pieces: &mut [Piece], kept: usize, piece: Piece) -> usize
+    requires room { kept < length pieces.old }
+    requires fit { All (λ last. Fit last piece) (take kept pieces.old) }
+    ensures adds { Adds piece (take kept pieces.old) (take result pieces.new) }
+    ensures few { result ≤ kept + 1 }
+    ensures rest { drop (kept + 1) pieces.new ≡ drop (kept + 1) pieces.old }
 {
-    if !end_in(joined, piece.edge) {
-        joined.push(piece)?;
-        return Ok(());
+    if !end_in(&pieces[..kept], piece.edge) {
+        pieces[kept] = piece;
+        return kept + 1;
     }
-    let last = joined.len() - 1;
-    joined[last] = sum_of(joined[last], piece);
-    Ok(())
+    let last = kept - 1;
+    pieces[last] = sum_of(pieces[last], piece);
+    kept
 }
 
 // Whether the last of the pieces is of this edge.

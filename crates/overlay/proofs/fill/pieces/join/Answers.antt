@@ -1,17 +1,29 @@
-use Rattle.std.proofs.Common.{List, pos, get_or, take, sym, subst}
-use Rattle.std.proofs.lemmas.List.{take_more}
+use Rattle.std.proofs.Common.{◌+◌, List, length, take, drop, sym, ap, subst, ◌∙◌, arith}
+use Rattle.std.specs.List.{All}
+use Rattle.std.proofs.lemmas.List.{take_at}
 use Rattle.overlay.specs.declared.fill.pieces.Piece.{Piece}
-use Rattle.overlay.specs.Fill.Turned.{AreJoinOf}
-use Rattle.overlay.proofs.PieceLemmas.Joined.{join-more, before-next, apart-next}
+use Rattle.overlay.specs.Fill.Turned.{Adds, Fit}
+use Rattle.overlay.proofs.PieceLemmas.Joined.{fit-next, joined-next}
 use Rattle.overlay.proofs.fill.pieces.join.Goals as goal
 
-pub loop-piece-preserved : goal.loop-piece-preserved
-loop-piece-preserved g c =
-    let pieces = c.args.pieces.now in
-    let k = c.loop-piece.piece-index in
-    let none : Piece = record { edge = record { x0 = pos 0; y0 = pos 0; x1 = pos 0; y1 = pos 0 }; subject = pos 0; clip = pos 0 } in
-    let piece = get_or pieces k none in
-    let inside = c.loop-piece-test.true in
-    subst (λ (done : List Piece). AreJoinOf done c.add.new.joined.items) (sym (take_more pieces k none inside))
-    (join-more (take k pieces) piece (before-next pieces c.requires.order k none inside) (apart-next pieces c.requires.apart k none inside) (c.requires.units k none inside)
-    c.loop-piece.joined.items c.add.new.joined.items c.loop-piece.invariant c.in_ok-add.ensures)
+pub add-kept-requires-clause-fit : goal.add-kept-requires-clause-fit
+add-kept-requires-clause-fit g c =
+    let pieces = c.args.pieces.now.items in
+    let piece = c.index-piece.result.now in
+    subst (λ (list : List Piece). All (λ last. Fit last piece) (take c.loop-place.kept list)) (sym c.deref_mut.ensures.value)
+    (fit-next pieces c.loop-place.pieces.items c.loop-place.place c.loop-place.kept c.loop-place.invariant (omega (arith, c.loop-place-test.true, c.len-place-end.ensures))
+    piece c.index-piece.ensures c.requires.units c.requires.few)
+
+pub loop-place-preserved : goal.loop-place-preserved
+loop-place-preserved g c =
+    let pieces = c.args.pieces.now.items in
+    let now = c.loop-place.pieces.items in
+    let after = c.add-kept.new.pieces in
+    let kept = c.loop-place.kept in
+    let piece = c.index-piece.result.now in
+    let held = c.deref_mut.ensures.value in
+    rw (take_at after _ c.loop-place.pieces.len (c.add-kept.auto.pieces ∙ c.deref_mut.ensures.len))
+    (joined-next pieces now c.loop-place.place kept c.loop-place.invariant (omega (arith, c.loop-place-test.true, c.len-place-end.ensures))
+    piece c.index-piece.ensures c.requires.order c.requires.apart c.requires.units after c.add-kept.result (c.add-kept.auto.pieces ∙ ap length held)
+    (subst (λ (list : List Piece). Adds piece (take kept list) (take c.add-kept.result after)) held c.add-kept.ensures.adds)
+    c.add-kept.ensures.few (c.add-kept.ensures.rest ∙ ap (λ (list : List Piece). drop (kept + 1) list) held))
