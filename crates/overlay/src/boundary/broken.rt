@@ -26,8 +26,9 @@ pub fn broken<A: Allocator + Copy>(
         × AreBroken subject.now clip.now (take told.1 told.0.items) (drop told.1 told.0.items)) }
 {
     let edges = all_edges(alloc, subject, clip)?;
-    let mut points = Vec::new(alloc);
-    let mut ends = Vec::new(alloc);
+    // A chain has two points at least, but that of a point.
+    let mut points = Vec::with_capacity(alloc, edges.len().saturating_add(edges.len()))?;
+    let mut ends = Vec::with_capacity(alloc, edges.len())?;
     snap(&edges, &mut points, &mut ends)?;
     let pieces = pieces_of(alloc, &points, &ends)?;
     let count = count_pieces(&ends, subject.len());

@@ -170,7 +170,7 @@ where
     let subject = &chords[..stretches.count];
     let clip = &chords[stretches.count..];
     let edges = bounding_edges(alloc, subject, clip, rule, operation, status)?;
-    let mut rings = Vec::new(alloc);
+    let mut rings = Vec::with_capacity(alloc, edges.len())?;
     let mut ends = Vec::new(alloc);
     contours(&edges, &mut rings, &mut ends)?;
     append_widened(
@@ -204,7 +204,7 @@ where
     ensures empty { C.stored status.new ≡ [] }
 {
     let (pieces, count) = broken(alloc, subject, clip)?;
-    let mut edges = Vec::new(alloc);
+    let mut edges = Vec::with_capacity(alloc, pieces.len())?;
     fill(
         &pieces[..count],
         &pieces[count..],

@@ -24,7 +24,8 @@ pub fn pieces_of<A: Allocator>(
     ensures { IfOk result (λ edges. (chains : List (List Point)) → AreJoined chains points.now ends.now →
         edges.items ≡ flat_map pieces chains) }
 {
-    let mut edges = Vec::new(alloc);
+    // A chain has one piece less than points.
+    let mut edges = Vec::with_capacity(alloc, points.len().saturating_sub(ends.len()))?;
     let mut start = 0;
     for end in ends {
         push_pieces(chain_at(points, start, *end), &mut edges)?;

@@ -59,9 +59,9 @@ returns-clause-ok g c = λ subject clip cut.
     let of_chords = subst₂ (λ (one other : List Edge). AreBroken one other broken broken_clip) first second are_broken in
     let (rings, told_rings, points_are, ends_are) = c.in_ok-contours.ensures.ok in
     let contours = subst (λ (list : List Edge). AreContours list rings) c.deref-5.ensures.value told_rings in
-    let none = c.new-rings.ensures.items in
+    let none = c.in_ok-rings.ensures.items in
     let points = c.deref-8.ensures.value ∙ points_are ∙ ap (λ (before : List Point). before ++ flat_map (λ ring. ring) rings) none in
-    let ends = c.deref-9.ensures.value ∙ ends_are ∙ ap (λ before. before ++ offsets (length c.new-rings.result.items) rings) c.new-ends.ensures.items ∙ ap (λ (before : List Point). offsets (length before) rings) none in
+    let ends = c.deref-9.ensures.value ∙ ends_are ∙ ap (λ before. before ++ offsets (length c.in_ok-rings.rings.items) rings) c.new-ends.ensures.items ∙ ap (λ (before : List Point). offsets (length before) rings) none in
     let (widened, wide, widened_points, widened_ends) = c.in_ok-append_widened.ensures.ok all rings (c.deref-6.ensures.value ∙ told.0, c.deref-7.ensures.value ∙ told.1) are.each (points, ends) in
     let (boundary, sloped) = widened-boundary c.args.rule c.args.operation subject clip stretches clip_stretches are broken broken_clip of_chords c.in_ok-edges.edges.items filled rings contours widened wide in
     (widened, boundary, sloped, widened_points, widened_ends)

@@ -37,6 +37,6 @@ returns-clause-filled g c =
       take count items,
       drop count items,
       c.in_ok-pieces.ensures.1,
-      subst (IsFilled c.args.rule c.args.operation (take count items) (drop count items)) (sym (is ∙ ap (λ (before : List Edge). before ++ edges) c.new-edges.ensures.items))
+      subst (IsFilled c.args.rule c.args.operation (take count items) (drop count items)) (sym (is ∙ ap (λ (before : List Edge). before ++ edges) c.in_ok-edges.ensures.items))
           (subst₂ (λ (one other : List Edge). IsFilled c.args.rule c.args.operation one other edges) first second filled),
     )
