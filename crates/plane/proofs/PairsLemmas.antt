@@ -5,6 +5,7 @@ pub mod Complete
 pub mod Extends
 pub mod Few
 pub mod First
+pub mod Live
 pub mod Order
 pub mod Ordered
 pub mod Pairs

@@ -1,5 +1,6 @@
 -- Definitions of boxes, of pairs of items whose boxes meet, and of the sweep that finds them.
 pub mod Bounds
+pub mod Live
 pub mod OfTwo
 pub mod Pairs
 pub mod Parts

@@ -1,27 +1,37 @@
 -- An item is served: what comes of the calls that it takes.
-use Rattle.std.proofs.Common.{◌≡◌, inl, inr, ℕ, ◌<◌, pos, ℤ, ◌≤ℤ◌, true, Option, Some, None, List, [], ◌∷◌, ◌++◌, refl, sym, ap, ◌∙◌, subst, arith}
+use Rattle.std.proofs.Common.{◌≡◌, ◌⊎◌, inl, inr, ℕ, ◌<◌, pos, ℤ, ◌≤ℤ◌, true, Option, Some, None, List, [], ◌∷◌, ◌++◌, refl, sym, ap, ◌∙◌, subst, subst₂, arith}
+use Rattle.std.specs.List.{Contains}
 use Rattle.std.specs.List.Sorted.{IsPermutation}
 use Rattle.std.specs.Ordering.{int_cmp}
 use Rattle.std.proofs.lemmas.Bool.{cond-true}
 use Rattle.std.proofs.lemmas.Int.{ints}
+use Rattle.std.proofs.lemmas.List.Sorted.{Contains-permutation, IsPermutation-refl, IsPermutation-sym}
 use Rattle.i_tree.proofs.RootLemmas.Numbers.{int_ge-upto}
 use Rattle.i_tree.specs.Root.Live.{is_live}
 use Rattle.i_tree.specs.Seg.Buckets.{Buckets, Filters}
-use Rattle.i_tree.specs.Seg.Members.{Member, Appends, Joins, answer, live_members}
+use Rattle.i_tree.specs.Seg.Members.{Member, Appends, Joins, answer, live_members, values_of}
 use Rattle.i_tree.specs.Seg.Ranges.{interval_over, segment_over}
 use Rattle.i_tree.specs.declared.seg.exp.SegRange.{SegRange}
 use Rattle.plane.specs.Pairs.Strips.{range_in}
-use Rattle.plane.specs.Pairs.Sweep.{Asks, GainsPairs, JoinsIn, last_of, member_in}
+use Rattle.plane.specs.Pairs.Sweep.{Asks, GainsPairs, last_of, member_in}
 use Rattle.plane.specs.declared.pairs.strips.Strips.{Strips}
 use Rattle.plane.specs.declared.pairs.sweep.Placed.{Placed}
 use Rattle.plane.specs.declared.pairs.items.Bounds.{Bounds}
 use Rattle.plane.specs.Pairs.Bounds.{IsBox}
 use Rattle.plane.specs.declared.pairs.roles.Roles.{Roles}
+use Rattle.plane.proofs.PairsLemmas.Bags.{Contains-from_filter}
 use Rattle.plane.proofs.PairsLemmas.Pairs.{GainsPairs-none}
 
 -- an item is live at each x up to its greater one
 pub is_live-upto : {X : Type 0} (bounds : X → Bounds) (time : ℤ) (placed : Placed X) → time ≤ℤ (bounds placed.item).right → is_live (last_of bounds) int_cmp time placed ≡ true
 is_live-upto bounds time placed within = int_ge-upto (bounds placed.item).right time within
+
+-- what stays when expired members may go was there
+pub kept-within : {X : Type 0} (bounds : X → Bounds) (time : ℤ) (old new : List (Member (Placed X))) → IsPermutation (live_members (last_of bounds) int_cmp time old) new ⊎ (new ≡ old) → (member : Member (Placed X)) → Contains new member → Contains old member
+kept-within {X = X} bounds time old new (inl same) member within =
+    (Contains-from_filter (λ (one : Member (Placed X)). is_live (last_of bounds) int_cmp time one.value) old member
+    (Contains-permutation new (live_members (last_of bounds) int_cmp time old) member (IsPermutation-sym (live_members (last_of bounds) int_cmp time old) new same) within)).0
+kept-within {X = X} bounds time old new (inr is) member within = subst (λ (all : List (Member (Placed X))). Contains all member) is within
 
 -- What the calls ensure that a query takes: at the time over the range, from which `near` is appended to an empty list, and
 -- which leaves `mid`; and pairs with what it found.
@@ -45,27 +55,39 @@ module _ {X : Type 0} {bounds : X → Bounds} {Meeting : X → X → Type 0} (ro
         keeps = inl (subst (λ (t : ℤ). IsPermutation (live_members (last_of bounds) int_cmp t old) mid) begins kept);
       }
 
+  -- where all that are live are gone over, and the others went
+  pub Asks-all : (others : List (Placed X)) → values_of (live_members (last_of bounds) int_cmp (bounds placed.item).left old) ≡ others → mid ≡ live_members (last_of bounds) int_cmp (bounds placed.item).left old
+      → GainsPairs bounds Meeting strips strip placed others before after → Asks bounds Meeting roles strips strip placed buckets old mid before after
+  Asks-all others all kept gains =
+      let live = live_members (last_of bounds) int_cmp (bounds placed.item).left old in
+      record {
+        others = others;
+        answers = inr (inl (subst (IsPermutation (values_of live)) all (IsPermutation-refl (values_of live))));
+        gains = gains;
+        keeps = inl (subst (IsPermutation live) (sym kept) (IsPermutation-refl live));
+      }
+
   -- and where it isn't its role
-  pub Asks-silent : placed.place < roles.asking → mid ≡ old → after ≡ before → Asks bounds Meeting roles strips strip placed buckets old mid before after
-  Asks-silent silent same none = record {
+  pub Asks-silent : placed.place < roles.asking → IsPermutation (live_members (last_of bounds) int_cmp (bounds placed.item).left old) mid ⊎ (mid ≡ old) → after ≡ before → Asks bounds Meeting roles strips strip placed buckets old mid before after
+  Asks-silent silent keeps none = record {
     others = [];
-    answers = inr (silent, refl);
+    answers = inr (inr (silent, refl));
     gains = subst (GainsPairs bounds Meeting strips strip placed [] before) (sym none) (GainsPairs-none bounds Meeting strips strip placed [] before);
-    keeps = inr same;
+    keeps = keeps;
   }
 
 -- And what an insertion does, where no time came that is behind where the item begins.
-module _ {X : Type 0} (bounds : X → Bounds) (roles : Roles) (strips : Strips) (strip : ℕ) (placed : Placed X) (buckets : Buckets) (old new : List (Member (Placed X))) where
-  pub JoinsIn-called : (latest : Option ℤ) (range : SegRange ℕ) → IsBox (bounds placed.item) → ((time : ℤ) → latest ≡ Some time → time ≤ℤ (bounds placed.item).left) → range ≡ range_in strips strip (bounds placed.item)
-      → Joins (last_of bounds) int_cmp latest (segment_over pos buckets range placed) old new → JoinsIn bounds roles strips strip placed buckets old new
-  JoinsIn-called latest range proper in_time heights joined =
-      inl (joins latest in_time (subst (λ (r : SegRange ℕ). Joins (last_of bounds) int_cmp latest (segment_over pos buckets r placed) old new) heights joined))
-    where
-      joins : (latest : Option ℤ) → ((time : ℤ) → latest ≡ Some time → time ≤ℤ (bounds placed.item).left) → Joins (last_of bounds) int_cmp latest (member_in bounds strips strip buckets placed) old new
-          → IsPermutation (member_in bounds strips strip buckets placed ∷ old) new
-      joins None order joined = joined
-      joins (Some time) order joined =
-          let first = order time refl in
-          let wide = proper.wide in
-          subst (λ (all : List (Member (Placed X))). IsPermutation all new)
-          (cond-true (is_live (last_of bounds) int_cmp time placed) (member_in bounds strips strip buckets placed ∷ old) old (is_live-upto bounds time placed (omega (arith, ints, first, wide)))) joined
+pub member-joins : {X : Type 0} (bounds : X → Bounds) (strips : Strips) (strip : ℕ) (buckets : Buckets) (placed : Placed X) (own : Buckets) (latest : Option ℤ) (range : SegRange ℕ) (old new : List (Member (Placed X))) → own ≡ buckets → IsBox (bounds placed.item)
+    → ((time : ℤ) → latest ≡ Some time → time ≤ℤ (bounds placed.item).left) → range ≡ range_in strips strip (bounds placed.item)
+    → Joins (last_of bounds) int_cmp latest (segment_over pos own range placed) old new → IsPermutation (member_in bounds strips strip buckets placed ∷ old) new
+member-joins {X} bounds strips strip buckets placed own latest range old new same proper in_time heights joined =
+    joins latest in_time (subst₂ (λ (b : Buckets) (r : SegRange ℕ). Joins (last_of bounds) int_cmp latest (segment_over pos b r placed) old new) same heights joined)
+  where
+    joins : (latest : Option ℤ) → ((time : ℤ) → latest ≡ Some time → time ≤ℤ (bounds placed.item).left) → Joins (last_of bounds) int_cmp latest (member_in bounds strips strip buckets placed) old new
+        → IsPermutation (member_in bounds strips strip buckets placed ∷ old) new
+    joins None order joined = joined
+    joins (Some time) order joined =
+        let first = order time refl in
+        let wide = proper.wide in
+        subst (λ (all : List (Member (Placed X))). IsPermutation all new)
+        (cond-true (is_live (last_of bounds) int_cmp time placed) (member_in bounds strips strip buckets placed ∷ old) old (is_live-upto bounds time placed (omega (arith, ints, first, wide)))) joined

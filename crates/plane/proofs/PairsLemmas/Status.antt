@@ -9,7 +9,7 @@ use Rattle.std.proofs.lemmas.List.Sorted.{Contains-permutation, IsPermutation-sy
 use Rattle.std.proofs.lemmas.Option.{same_Some}
 use Rattle.i_tree.specs.Root.Live.{is_live}
 use Rattle.i_tree.specs.Seg.Buckets.{Buckets, Filters, overlap}
-use Rattle.i_tree.specs.Seg.Members.{Member, answer, live_members}
+use Rattle.i_tree.specs.Seg.Members.{Member, answer, live_members, values_of}
 use Rattle.i_tree.specs.Seg.Ranges.{interval_over}
 use Rattle.i_tree.proofs.RootLemmas.Joined.{AllPairs-to_map}
 use Rattle.i_tree.proofs.RootLemmas.Lists.{Contains-here, Contains-there, Contains-filter}
@@ -22,7 +22,7 @@ use Rattle.plane.specs.declared.pairs.roles.Roles.{Roles}
 use Rattle.plane.specs.declared.pairs.strips.Strips.{Strips}
 use Rattle.plane.specs.declared.pairs.sweep.Placed.{Placed}
 use Rattle.plane.proofs.PairsLemmas.Bags.{AllPairs-permutation, Contains-from_filter, Contains-map, Contains-from_map, here_or_there}
-use Rattle.plane.proofs.PairsLemmas.Serving.{is_live-upto}
+use Rattle.plane.proofs.PairsLemmas.Serving.{is_live-upto, kept-within}
 use Rattle.plane.specs.declared.pairs.items.Bounds.{Bounds}
 use Rattle.plane.specs.Pairs.Bounds.{MeetInBoxes}
 
@@ -96,7 +96,10 @@ module _ {X : Type 0} {bounds : X → Bounds} {Meeting : X → X → Type 0} (bo
         Contains-permutation asked serves.asks.others other same
         (Contains-map (λ (member : Member (Placed X)). member.value) (filter test live) (member_in bounds strips strip buckets other)
         (Contains-filter test live (member_in bounds strips strip buckets other) (overlaps filters) (is_live_member other is_served joined reaches)))
-    | inr (silent, _) ↦ absurd (omega (arith, silent, asks))
+    | inr (inl same) ↦
+        Contains-permutation (values_of live) serves.asks.others other same
+        (Contains-map (λ (member : Member (Placed X)). member.value) live (member_in bounds strips strip buckets other) (is_live_member other is_served joined reaches))
+    | inr (inr (silent, _)) ↦ absurd (omega (arith, silent, asks))
   ]
 
   -- each of the others is served in the strip
@@ -105,10 +108,18 @@ module _ {X : Type 0} {bounds : X → Bounds} {Meeting : X → X → Type 0} (bo
     | inl (same, _) ↦
         let (member, found, value) = Contains-from_map (λ (member : Member (Placed X)). member.value) (filter test live) other
         (Contains-permutation serves.asks.others asked other (IsPermutation-sym asked serves.asks.others same) among) in
-        let (one, is_served, is) = holds.of member (Contains-from_filter alive old member (Contains-from_filter test live member found).0).0 in
-        subst (IsServed bounds items served strip) (ap (λ (one : Member (Placed X)). one.value) (sym is) ∙ value) is_served
-    | inr (_, none) ↦ absurd (let gone : Contains [] other = subst (λ (all : List (Placed X)). Contains all other) none among in omega (arith, gone.1))
+        of_value member other (Contains-from_filter test live member found).0 value
+    | inr (inl same) ↦
+        let (member, found, value) = Contains-from_map (λ (member : Member (Placed X)). member.value) live other
+        (Contains-permutation serves.asks.others (values_of live) other (IsPermutation-sym (values_of live) serves.asks.others same) among) in
+        of_value member other found value
+    | inr (inr (_, none)) ↦ absurd (let gone : Contains [] other = subst (λ (all : List (Placed X)). Contains all other) none among in omega (arith, gone.1))
   ]
+    where
+      of_value : (member : Member (Placed X)) (other : Placed X) → Contains live member → member.value ≡ other → IsServed bounds items served strip other
+      of_value member other within value =
+          let (one, is_served, is) = holds.of member (Contains-from_filter alive old member within).0 in
+          subst (IsServed bounds items served strip) (ap (λ (one : Member (Placed X)). one.value) (sym is) ∙ value) is_served
 
   -- no two of the others are at one place
   pub others_apart : AllPairs (λ one later. one.place ≢ later.place) serves.asks.others
@@ -117,7 +128,10 @@ module _ {X : Type 0} {bounds : X → Bounds} {Meeting : X → X → Type 0} (bo
         AllPairs-permutation (λ (one later : Placed X). one.place ≢ later.place) (λ one later differ same. differ (sym same)) asked serves.asks.others same
         (AllPairs-to_map (λ (one later : Placed X). one.place ≢ later.place) (λ (member : Member (Placed X)). member.value) (filter test live)
         (AllPairs-filter Apart test live (AllPairs-filter Apart alive old holds.once)))
-    | inr (_, none) ↦ subst (AllPairs (λ (one later : Placed X). one.place ≢ later.place)) (sym none) (λ i j d below within. absurd (omega (arith, within)))
+    | inr (inl same) ↦
+        AllPairs-permutation (λ (one later : Placed X). one.place ≢ later.place) (λ one later differ same. differ (sym same)) (values_of live) serves.asks.others same
+        (AllPairs-to_map (λ (one later : Placed X). one.place ≢ later.place) (λ (member : Member (Placed X)). member.value) live (AllPairs-filter Apart alive old holds.once))
+    | inr (inr (_, none)) ↦ subst (AllPairs (λ (one later : Placed X). one.place ≢ later.place)) (sym none) (λ i j d below within. absurd (omega (arith, within)))
   ]
 
   -- ---- what is stored once it has asked
@@ -129,10 +143,7 @@ module _ {X : Type 0} {bounds : X → Bounds} {Meeting : X → X → Type 0} (bo
   ]
 
   mid_of : (member : Member (Placed X)) → Contains serves.mid member → Contains old member
-  mid_of member within = elim serves.asks.keeps [
-    | inl same ↦ (Contains-from_filter alive old member (Contains-permutation serves.mid live member (IsPermutation-sym live serves.mid same) within)).0
-    | inr is ↦ subst (λ (all : List (Member (Placed X))). Contains all member) is within
-  ]
+  mid_of member within = kept-within bounds (bounds placed.item).left old serves.mid serves.asks.keeps member within
 
   mid_once : AllPairs Apart serves.mid
   mid_once = elim serves.asks.keeps [

@@ -3,7 +3,7 @@ use Rattle.std.specs.Prelude.{◌≡◌, ◌≢◌, ◌⊎◌, ℕ, ◌<◌, ◌
 use Rattle.std.specs.Int.{int_max}
 use Rattle.std.specs.Ordering.{int_cmp}
 use Rattle.i_tree.specs.Seg.Buckets.{Buckets, Filters}
-use Rattle.i_tree.specs.Seg.Members.{Member, answer, live_members}
+use Rattle.i_tree.specs.Seg.Members.{Member, answer, live_members, values_of}
 use Rattle.i_tree.specs.Seg.Ranges.{interval_over, segment_over}
 use Rattle.plane.specs.Pairs.Strips.{strip_at, range_in}
 use Rattle.plane.specs.declared.pairs.items.Bounds.{Bounds}
@@ -47,11 +47,11 @@ member_in bounds strips strip buckets placed = segment_over pos buckets (range_i
 abbrev pub last_of : {X : Type 0} → (X → Bounds) → Placed X → ℤ
 last_of bounds placed = (bounds placed.item).right
 
--- An item asks in a strip: its pairs with those are told that are live where it begins and near its heights, and what
--- isn't live there may go. Where that isn't its role, nothing is told and what is stored stays.
+-- An item asks in a strip: its pairs with those are told that are live where it begins, all of them or those near its
+-- heights, and what isn't live there may go. Where that isn't its role, nothing is told.
 pub record Asks {X : Type 0} (bounds : X → Bounds) (Meeting : X → X → Type 0) (roles : Roles) (strips : Strips) (strip : ℕ) (placed : Placed X) (buckets : Buckets) (old new : List (Member (Placed X))) (before after : List (ℕ × ℕ)) : Type 0 where
   pub others : List (Placed X)
-  pub answers : (IsPermutation (answer (last_of bounds) int_cmp (bounds placed.item).left (interval_over pos buckets (range_in strips strip (bounds placed.item))) old) others × Filters buckets) ⊎ ((placed.place < roles.asking) × (others ≡ []))
+  pub answers : (IsPermutation (answer (last_of bounds) int_cmp (bounds placed.item).left (interval_over pos buckets (range_in strips strip (bounds placed.item))) old) others × Filters buckets) ⊎ IsPermutation (values_of (live_members (last_of bounds) int_cmp (bounds placed.item).left old)) others ⊎ ((placed.place < roles.asking) × (others ≡ []))
   pub gains : GainsPairs bounds Meeting strips strip placed others before after
   pub keeps : IsPermutation (live_members (last_of bounds) int_cmp (bounds placed.item).left old) new ⊎ (new ≡ old)
 

@@ -10,8 +10,8 @@ ghost use Rattle.plane.specs.Pairs.Sweep.{Extends};
 pub use between::pairs_between;
 use cut::strips_for;
 use i_tree::Refusal;
-use i_tree::seg::tree::SegExpTree;
 use items::Meets;
+use live::Live;
 use parts::parts;
 pub use points::pairs_with_points;
 use roles::{Roles, all_do};
@@ -21,6 +21,7 @@ use sweep::append_pairs;
 mod between;
 mod cut;
 pub mod items;
+mod live;
 mod parts;
 mod points;
 mod read_ahead;
@@ -151,10 +152,9 @@ fn sweep_over<T: Meets<T>, A: Allocator + Copy>(
     let alloc = *out.allocator();
     let strips = strips_for(items);
     let parts = parts(alloc, items, strips)?;
-    // A strip is wide enough for a layout.
-    let mut tree = SegExpTree::new(alloc, strips.heights())?.unwrap();
+    let mut live = Live::new(alloc, strips)?;
     let mut near = Vec::new(alloc);
     append_pairs(
-        items, roles, most, strips, &parts, &mut tree, &mut near, out,
+        items, roles, most, strips, &parts, &mut live, &mut near, out,
     )
 }

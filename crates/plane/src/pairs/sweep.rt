@@ -1,12 +1,12 @@
 //! The sweep from left to right in each strip, over the items that are live at an x.
 
-ghost use Rattle.std.specs.Prelude.{◌≡◌, ◌≢◌, ◌⊎◌, ℤ, ◌≤ℤ◌, [], All, MatchBool, OnOk, OnErr, IfErr};
+ghost use Rattle.std.specs.Prelude.{◌≡◌, ◌≢◌, ◌⊎◌, ℤ, ◌≤ℤ◌, true, [], All, MatchBool, OnOk, OnErr, IfErr};
 ghost use Rattle.std.specs.Ordering.{int_cmp};
 ghost use Rattle.std.specs.declared.option.Option.TheVariants.{None, Some};
 ghost use Rattle.i_tree.specs.declared.Refusal.TheVariants.{OutOfMemory};
-ghost use Rattle.i_tree.specs.Seg.Changes.{Clears};
 ghost use Rattle.i_tree.specs.Seg.Members.{NotBefore};
 ghost use Rattle.plane.specs.Pairs.Bounds.{IsBox, MeetInBoxes};
+ghost use Rattle.plane.specs.Pairs.Live.{IsIn, held};
 ghost use Rattle.plane.specs.Pairs.Pairs.{GainsAll};
 ghost use Rattle.plane.specs.Pairs.Parts.{AreParts};
 ghost use Rattle.plane.specs.Pairs.Roles.{FindAll};
@@ -14,12 +14,12 @@ ghost use Rattle.plane.specs.Pairs.Strips.{Reaches, IsOverStrip, range_in};
 ghost use Rattle.plane.specs.Pairs.Sweep.{Extends, IsTold, GainsPair, GainsPairs, Asks, JoinsIn, Serves};
 
 use super::items::{Boxed, Meets};
+use super::live::Live;
 use super::parts::Part;
 use super::read_ahead::ReadAhead;
 use super::roles::Roles;
 use super::strips::Strips;
 use i_tree::seg::exp::{SegExpCollection, SegRange};
-use i_tree::seg::tree::SegExpTree;
 use i_tree::{ExpiredVal, Refusal};
 use std::alloc::{AllocError, Allocator};
 
@@ -46,7 +46,7 @@ pub fn append_pairs<T: Meets<T>, A: Allocator + Copy>(
     most: usize,
     strips: Strips,
     parts: &[Part],
-    tree: &mut SegExpTree<u32, i32, Placed<T>, A>,
+    live: &mut Live<T, A>,
     near: &mut Vec<Placed<T>, A>,
     out: &mut Vec<(usize, usize), A>,
 ) -> Result<(), Refusal>
@@ -54,9 +54,9 @@ pub fn append_pairs<T: Meets<T>, A: Allocator + Copy>(
     requires roles { FindAll T.bounds T.Meeting roles items.now }
     requires base { All (λ item. strips.base ≤ℤ (T.bounds item).low) items.now }
     requires parts { AreParts T.bounds strips items.now parts.now }
-    requires over { IsOverStrip strips tree.old.buckets }
-    requires empty { tree.old.members ≡ [] }
-    requires unasked { tree.old.latest ≡ None }
+    requires over { IsOverStrip strips live.old.tree.buckets }
+    requires few { live.old.is_few ≡ true }
+    requires empty { live.old.few.items ≡ [] }
     ensures ok { OnOk result (GainsAll T.Meeting items.now most out.old.items out.new.items) }
     ensures err { OnErr result (Extends out.old.items out.new.items) }
     ensures refused { IfErr result (λ cause. cause ≡ OutOfMemory) }
@@ -65,7 +65,7 @@ pub fn append_pairs<T: Meets<T>, A: Allocator + Copy>(
     let mut strip = 0;
     let mut ahead = ReadAhead::new(*out.allocator());
     for (next, part) in parts.iter().enumerate() {
-        enter(tree, strip, part.strip);
+        enter(live, strip, part.strip);
         strip = part.strip;
         let place = part.place;
         let item = ahead.at(items, parts, next)?;
@@ -74,7 +74,7 @@ pub fn append_pairs<T: Meets<T>, A: Allocator + Copy>(
             strips,
             strip,
             Placed { item, place },
-            tree,
+            live,
             near,
             out,
         )?;
@@ -87,16 +87,17 @@ pub fn append_pairs<T: Meets<T>, A: Allocator + Copy>(
 
 // Goes on from one strip to the next one, or stays in the same.
 fn enter<T: Boxed, A: Allocator + Copy>(
-    tree: &mut SegExpTree<u32, i32, Placed<T>, A>,
+    live: &mut Live<T, A>,
     strip: u32,
     next: u32,
 )
-    ensures stays { next ≡ strip → tree.new ≡ tree.old }
-    ensures clears { next ≢ strip → Clears tree.old tree.new }
-    ensures buckets { tree.new.buckets ≡ tree.old.buckets }
+    ensures stays { next ≡ strip → live.new ≡ live.old }
+    ensures few { next ≢ strip → live.new.is_few ≡ true }
+    ensures empty { next ≢ strip → live.new.few.items ≡ [] }
+    ensures buckets { live.new.tree.buckets ≡ live.old.tree.buckets }
 {
     if next != strip {
-        tree.clear();
+        live.clear();
     }
 }
 
@@ -106,25 +107,28 @@ fn serve<T: Meets<T>, A: Allocator + Copy>(
     strips: Strips,
     strip: u32,
     placed: Placed<T>,
-    tree: &mut SegExpTree<u32, i32, Placed<T>, A>,
+    live: &mut Live<T, A>,
     near: &mut Vec<Placed<T>, A>,
     out: &mut Vec<(usize, usize), A>,
 ) -> Result<(), Refusal>
     requires boxed { MeetInBoxes T.bounds T.Meeting }
     requires base { strips.base ≤ℤ (T.bounds placed.item).low }
     requires reaches { Reaches strips (T.bounds placed.item) strip }
-    requires over { IsOverStrip strips tree.old.buckets }
-    requires in_time { NotBefore int_cmp tree.old.latest (T.bounds placed.item).left }
-    ensures ok { OnOk result (Serves T.bounds T.Meeting roles strips strip placed tree.old.buckets
-        tree.old.members tree.new.members out.old.items out.new.items) }
+    requires within { All (λ member. IsIn T.bounds strips strip member.value) (held T.bounds strips strip live.old).members }
+    requires over { IsOverStrip strips live.old.tree.buckets }
+    requires in_time { NotBefore int_cmp (held T.bounds strips strip live.old).latest (T.bounds placed.item).left }
+    ensures ok { OnOk result (Serves T.bounds T.Meeting roles strips strip placed live.old.tree.buckets
+        (held T.bounds strips strip live.old).members (held T.bounds strips strip live.new).members
+        out.old.items out.new.items) }
     ensures err { OnErr result (Extends out.old.items out.new.items) }
     ensures refused { IfErr result (λ cause. cause ≡ OutOfMemory) }
-    ensures latest { (tree.new.latest ≡ tree.old.latest) ⊎ (tree.new.latest ≡ Some (T.bounds placed.item).left) }
-    ensures buckets { tree.new.buckets ≡ tree.old.buckets }
+    ensures latest { let new = (held T.bounds strips strip live.new).latest in
+        (new ≡ (held T.bounds strips strip live.old).latest) ⊎ (new ≡ Some (T.bounds placed.item).left) }
+    ensures buckets { live.new.tree.buckets ≡ live.old.tree.buckets }
 {
     let range = strips.range_in(strip, placed.item.bounds());
-    ask(roles, strips, strip, placed, range, tree, near, out)?;
-    join(roles, strips, strip, placed, range, tree)
+    ask(roles, strips, strip, placed, range, live, near, out)?;
+    join(roles, strips, strip, placed, range, live)
 }
 
 // Appends the pairs of the item with those before it in the strip, over its range there, if that is its role.
@@ -134,7 +138,7 @@ fn ask<T: Meets<T>, A: Allocator + Copy>(
     strip: u32,
     placed: Placed<T>,
     range: SegRange<u32>,
-    tree: &mut SegExpTree<u32, i32, Placed<T>, A>,
+    live: &mut Live<T, A>,
     near: &mut Vec<Placed<T>, A>,
     out: &mut Vec<(usize, usize), A>,
 ) -> Result<(), Refusal>
@@ -142,23 +146,58 @@ fn ask<T: Meets<T>, A: Allocator + Copy>(
     requires base { strips.base ≤ℤ (T.bounds placed.item).low }
     requires reaches { Reaches strips (T.bounds placed.item) strip }
     requires range { range ≡ range_in strips strip (T.bounds placed.item) }
-    requires over { IsOverStrip strips tree.old.buckets }
-    requires in_time { NotBefore int_cmp tree.old.latest (T.bounds placed.item).left }
-    ensures ok { OnOk result (Asks T.bounds T.Meeting roles strips strip placed tree.old.buckets
-        tree.old.members tree.new.members out.old.items out.new.items) }
+    requires over { IsOverStrip strips live.old.tree.buckets }
+    requires in_time { NotBefore int_cmp (held T.bounds strips strip live.old).latest (T.bounds placed.item).left }
+    ensures ok { OnOk result (Asks T.bounds T.Meeting roles strips strip placed live.old.tree.buckets
+        (held T.bounds strips strip live.old).members (held T.bounds strips strip live.new).members
+        out.old.items out.new.items) }
     ensures err { OnErr result (Extends out.old.items out.new.items) }
     ensures refused { IfErr result (λ cause. cause ≡ OutOfMemory) }
-    ensures latest { (tree.new.latest ≡ tree.old.latest) ⊎ (tree.new.latest ≡ Some (T.bounds placed.item).left) }
-    ensures buckets { tree.new.buckets ≡ tree.old.buckets }
+    ensures latest { let new = (held T.bounds strips strip live.new).latest in
+        (new ≡ (held T.bounds strips strip live.old).latest) ⊎ (new ≡ Some (T.bounds placed.item).left) }
+    ensures buckets { live.new.tree.buckets ≡ live.old.tree.buckets }
 {
+    if live.is_few {
+        return ask_few(roles, strips, strip, placed, live, out);
+    }
     if placed.place < roles.asking {
         return Ok(());
     }
     near.clear();
-    tree.collect_by_range(range, placed.item.bounds().left, near)?;
+    live.tree
+        .collect_by_range(range, placed.item.bounds().left, near)?;
     append_told(strips, strip, placed, near, out)?;
     Ok(())
 }
+
+// The same where few are live: all of them are gone over, but for those that have expired, which leave.
+fn ask_few<T: Meets<T>, A: Allocator + Copy>(
+    roles: Roles,
+    strips: Strips,
+    strip: u32,
+    placed: Placed<T>,
+    live: &mut Live<T, A>,
+    out: &mut Vec<(usize, usize), A>,
+) -> Result<(), Refusal>
+    requires boxed { MeetInBoxes T.bounds T.Meeting }
+    requires base { strips.base ≤ℤ (T.bounds placed.item).low }
+    requires few { live.old.is_few ≡ true }
+    ensures ok { OnOk result (Asks T.bounds T.Meeting roles strips strip placed live.old.tree.buckets
+        (held T.bounds strips strip live.old).members (held T.bounds strips strip live.new).members
+        out.old.items out.new.items) }
+    ensures err { OnErr result (Extends out.old.items out.new.items) }
+    ensures refused { IfErr result (λ cause. cause ≡ OutOfMemory) }
+    ensures few { live.new.is_few ≡ true }
+    ensures tree { live.new.tree ≡ live.old.tree }
+{
+    live.drop_expired(placed.item.bounds().left);
+    if placed.place < roles.asking {
+        return Ok(());
+    }
+    append_told(strips, strip, placed, &live.few, out)?;
+    Ok(())
+}
+
 
 // Puts the item among those before it in the strip, over its range there, if that is its role.
 fn join<T: Boxed, A: Allocator + Copy>(
@@ -167,24 +206,25 @@ fn join<T: Boxed, A: Allocator + Copy>(
     strip: u32,
     placed: Placed<T>,
     range: SegRange<u32>,
-    tree: &mut SegExpTree<u32, i32, Placed<T>, A>,
+    live: &mut Live<T, A>,
 ) -> Result<(), Refusal>
-    requires proper { IsBox (T.bounds placed.item) }
-    requires base { strips.base ≤ℤ (T.bounds placed.item).low }
-    requires reaches { Reaches strips (T.bounds placed.item) strip }
+    requires proper { (item : T) → IsBox (T.bounds item) }
+    requires reaches { IsIn T.bounds strips strip placed }
+    requires within { All (λ member. IsIn T.bounds strips strip member.value) (held T.bounds strips strip live.old).members }
     requires range { range ≡ range_in strips strip (T.bounds placed.item) }
-    requires over { IsOverStrip strips tree.old.buckets }
-    requires in_time { (time : ℤ) → tree.old.latest ≡ Some time → time ≤ℤ (T.bounds placed.item).left }
-    ensures ok { OnOk result (JoinsIn T.bounds roles strips strip placed tree.old.buckets
-        tree.old.members tree.new.members) }
+    requires over { IsOverStrip strips live.old.tree.buckets }
+    requires in_time { (time : ℤ) → (held T.bounds strips strip live.old).latest ≡ Some time
+        → time ≤ℤ (T.bounds placed.item).left }
+    ensures ok { OnOk result (JoinsIn T.bounds roles strips strip placed live.old.tree.buckets
+        (held T.bounds strips strip live.old).members (held T.bounds strips strip live.new).members) }
     ensures refused { IfErr result (λ cause. cause ≡ OutOfMemory) }
-    ensures latest { tree.new.latest ≡ tree.old.latest }
-    ensures buckets { tree.new.buckets ≡ tree.old.buckets }
+    ensures latest { (held T.bounds strips strip live.new).latest ≡ (held T.bounds strips strip live.old).latest }
+    ensures buckets { live.new.tree.buckets ≡ live.old.tree.buckets }
 {
     if roles.joining <= placed.place {
         return Ok(());
     }
-    tree.insert_by_range(range, placed)
+    live.join(strips, strip, placed, range)
 }
 
 // Appends the pairs of the item with those of the others that it meets, where this strip is the one to tell them.
@@ -239,5 +279,6 @@ fn is_told<T: Meets<T>>(strips: Strips, strip: u32, one: T, other: T) -> bool
     let second = other.bounds();
     let low = first.low.max(second.low);
     let high = first.high.min(second.high);
-    low <= high && strips.strip_at(low) == strip && one.meets(other)
+    // Both comparisons are made, since a branch between them would be guessed wrongly often.
+    (low <= high) & (strips.strip_at(low) == strip) && one.meets(other)
 }
