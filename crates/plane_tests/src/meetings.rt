@@ -200,9 +200,11 @@ fn sets_meet_as_worked_by_hand(rt: HostRuntime) -> Result<(), Fail> {
     Ok(())
 }
 
-// Edges by chance: so many, up to so wide and so high, that begin at so many heights.
+// Edges by chance: so many, up to so wide and so high, that begin at so many heights. Some of them are a crowd that
+// begins near one point, at the left and low.
 struct Chance {
     name: &'static str,
+    crowd: u32,
     count: u32,
     width: u16,
     height: u16,
@@ -211,9 +213,10 @@ struct Chance {
     least: usize,
 }
 
-static CHANCES: [Chance; 4] = [
+static CHANCES: [Chance; 6] = [
     Chance {
         name: "one strip over few edges",
+        crowd: 0,
         count: 100,
         width: 900,
         height: 900,
@@ -222,6 +225,7 @@ static CHANCES: [Chance; 4] = [
     },
     Chance {
         name: "one strip over tall edges",
+        crowd: 0,
         count: 600,
         width: 20,
         height: 4000,
@@ -230,6 +234,7 @@ static CHANCES: [Chance; 4] = [
     },
     Chance {
         name: "two strips over edges of middling height",
+        crowd: 0,
         count: 120,
         width: 4000,
         height: 40,
@@ -238,6 +243,27 @@ static CHANCES: [Chance; 4] = [
     },
     Chance {
         name: "many strips over flat edges",
+        crowd: 0,
+        count: 700,
+        width: 900,
+        height: 4,
+        heights: 2000,
+        least: 20,
+    },
+    Chance {
+        // More are live at once than a list takes, and then few again.
+        name: "one strip with a crowd",
+        crowd: 60,
+        count: 120,
+        width: 900,
+        height: 900,
+        heights: 1000,
+        least: 100,
+    },
+    Chance {
+        // Only the lowest strip has more than a list takes.
+        name: "many strips with a crowd in one",
+        crowd: 90,
         count: 700,
         width: 900,
         height: 4,
@@ -249,9 +275,14 @@ static CHANCES: [Chance; 4] = [
 fn edges_by_chance(alloc: Global, chance: &Chance) -> Result<Vec<Edge>, Fail> {
     let mut random = Random::new();
     let mut edges = Vec::new(alloc);
-    for _ in 0..chance.count {
-        let x0 = random.next(4000);
-        let y0 = random.next(chance.heights);
+    for place in 0..chance.count {
+        let (far, high) = if place < chance.crowd {
+            (40, 40)
+        } else {
+            (4000, chance.heights)
+        };
+        let x0 = random.next(far);
+        let y0 = random.next(high);
         let x1 = x0.saturating_add(random.next(chance.width));
         let y1 = y0.saturating_sub(random.next(chance.height));
         edges.push(Edge { x0, y0, x1, y1 })?;
@@ -324,7 +355,7 @@ impl<'a> Trial for Telling<'a> {
     fn is_done(&self, told: &mut Told<'a>) -> bool {
         told.outcome == Ok(())
             && told.pairs.first().copied() == Some((9, 9))
-            && told.pairs.len() == 145
+            && told.pairs.len() == 1297
     }
 }
 
@@ -332,9 +363,9 @@ impl<'a> Trial for Telling<'a> {
 fn keeps_out_at_each_refusal(rt: HostRuntime) -> Result<(), Fail> {
     let memory = Refusing::new(rt.alloc());
     let mut edges = Vec::new(rt.alloc());
-    for place in 0..12 {
-        edges.push(edge([0, place, 12, place]))?;
-        edges.push(edge([place, 0, place, 11]))?;
+    for place in 0..36 {
+        edges.push(edge([0, place, 36, place]))?;
+        edges.push(edge([place, 0, place, 35]))?;
     }
     let telling = Telling {
         memory: &memory,

@@ -10,7 +10,7 @@ use Rattle.std.proofs.lemmas.List.Elements.{Contains-get_or, All-contains, All-p
 use Rattle.std.proofs.lemmas.Option.{same_Some, get_or_from_slice_get, slice_get_within}
 use Rattle.i_tree.specs.Seg.Buckets.{Buckets}
 use Rattle.i_tree.specs.Seg.Members.{Member, NotBefore}
-use Rattle.plane.specs.Pairs.Live.{Held, IsIn}
+use Rattle.plane.specs.Pairs.Live.{SweepStatus, IsIn}
 use Rattle.plane.specs.Pairs.Pairs.{GainsAll}
 use Rattle.plane.specs.Pairs.Parts.{AreParts, IsPartOf, NotBehind, part_of}
 use Rattle.plane.specs.Pairs.Roles.{FindAll, IsBefore}
@@ -28,7 +28,7 @@ use Rattle.plane.specs.Pairs.Bounds.{MeetInBoxes}
 
 -- Some parts are served, up to those of this strip, and what comes isn't of an earlier one. What the strip needs is
 -- stored, and the pairs that are to be told are.
-pub record Served {X : Type 0} (bounds : X → Bounds) (Meeting : X → X → Type 0) (roles : Roles) (strips : Strips) (items : List X) (parts : List Part) (k strip : ℕ) (tree : Held X) (before now : List (ℕ × ℕ)) : Type 0 where
+pub record Served {X : Type 0} (bounds : X → Bounds) (Meeting : X → X → Type 0) (roles : Roles) (strips : Strips) (items : List X) (parts : List Part) (k strip : ℕ) (tree : SweepStatus X) (before now : List (ℕ × ℕ)) : Type 0 where
   pub over : IsOverStrip strips tree.buckets
   pub upto : All (λ part. part.strip ≤ strip) (take k parts)
   pub ahead : (j : ℕ) (d : Part) → k ≤ j → j < length parts → strip ≤ (get_or parts j d).strip
@@ -39,7 +39,7 @@ pub record Served {X : Type 0} (bounds : X → Bounds) (Meeting : X → X → Ty
 
 module _ {X : Type 0} {bounds : X → Bounds} {Meeting : X → X → Type 0} (boxed : MeetInBoxes bounds Meeting) (roles : Roles) (strips : Strips) (items : List X) (parts : List Part) where
   -- nothing is served
-  pub Served-none : (tree : Held X) (before : List (ℕ × ℕ)) → IsOverStrip strips tree.buckets → tree.members ≡ [] → tree.latest ≡ None → Served bounds Meeting roles strips items parts 0 0 tree before before
+  pub Served-none : (tree : SweepStatus X) (before : List (ℕ × ℕ)) → IsOverStrip strips tree.buckets → tree.members ≡ [] → tree.latest ≡ None → Served bounds Meeting roles strips items parts 0 0 tree before before
   Served-none tree before over empty unasked = record {
     over = over;
     upto = All-nil (λ part. part.strip ≤ 0);
@@ -51,13 +51,13 @@ module _ {X : Type 0} {bounds : X → Bounds} {Meeting : X → X → Type 0} (bo
   }
 
   -- all parts are served
-  pub Served-all : (k strip : ℕ) (tree : Held X) (most : ℕ) (before now : List (ℕ × ℕ)) → length parts ≤ k → All (λ item. strips.base ≤ℤ (bounds item).low) items → AreParts bounds strips items parts
+  pub Served-all : (k strip : ℕ) (tree : SweepStatus X) (most : ℕ) (before now : List (ℕ × ℕ)) → length parts ≤ k → All (λ item. strips.base ≤ℤ (bounds item).low) items → AreParts bounds strips items parts
       → Served bounds Meeting roles strips items parts k strip tree before now → GainsAll Meeting items most before now
   Served-all k strip tree most before now past base are served =
       (served.pairs, served.gained, inl (ArePairs-told boxed strips items parts served.pairs base are (subst (λ (all : List Part). AreTold bounds Meeting strips items all served.pairs) (take_all k parts past) served.told)))
 
   -- some are, and more than so many pairs are told
-  pub Served-enough : (k strip : ℕ) (tree : Held X) (most : ℕ) (before now : List (ℕ × ℕ)) → length before + most < length now
+  pub Served-enough : (k strip : ℕ) (tree : SweepStatus X) (most : ℕ) (before now : List (ℕ × ℕ)) → length before + most < length now
       → Served bounds Meeting roles strips items parts k strip tree before now → GainsAll Meeting items most before now
   Served-enough k strip tree most before now longer served =
       let size = ap length served.gained ∙ length-append before served.pairs in
@@ -137,7 +137,7 @@ module _ {X : Type 0} {bounds : X → Bounds} {Meeting : X → X → Type 0} (bo
         subst (λ (one : X). Reaches strips (bounds one) next.strip) same of_part.reaches
 
     -- What is held then, where it stayed as it was in the same strip and was cleared for another one.
-    module _ (strip : ℕ) (tree entered : Held X) (before now : List (ℕ × ℕ)) (served : Served bounds Meeting roles strips items parts k strip tree before now)
+    module _ (strip : ℕ) (tree entered : SweepStatus X) (before now : List (ℕ × ℕ)) (served : Served bounds Meeting roles strips items parts k strip tree before now)
         (stays : (get_or parts k d).strip ≡ strip → entered ≡ tree) (empty : (get_or parts k d).strip ≢ strip → entered.members ≡ []) (unasked : (get_or parts k d).strip ≢ strip → entered.latest ≡ None) (buckets : entered.buckets ≡ tree.buckets) where
       pub over_entered : IsOverStrip strips entered.buckets
       over_entered = subst (IsOverStrip strips) (sym buckets) served.over
@@ -146,7 +146,7 @@ module _ {X : Type 0} {bounds : X → Bounds} {Meeting : X → X → Type 0} (bo
       holds_entered = elim (cases_eq next.strip strip) [
         | inl same ↦
             subst (λ (s : ℕ). Holds bounds roles strips items entered.buckets (take k parts) s entered.latest entered.members) (sym same)
-            (subst (λ (one : Held X). Holds bounds roles strips items one.buckets (take k parts) strip one.latest one.members) (sym (stays same)) served.holds)
+            (subst (λ (one : SweepStatus X). Holds bounds roles strips items one.buckets (take k parts) strip one.latest one.members) (sym (stays same)) served.holds)
         | inr differs ↦
             Holds-nothing bounds roles strips items entered.buckets (take k parts) next.strip entered.latest entered.members
             (λ placed is_served.
@@ -182,7 +182,7 @@ module _ {X : Type 0} {bounds : X → Bounds} {Meeting : X → X → Type 0} (bo
           told (Some time) order = no_less (bounds of_next.item).left time (int_cmp (bounds of_next.item).left time) (int_ranked (bounds of_next.item).left time (int_cmp (bounds of_next.item).left time) refl) (order time refl)
 
       -- it is served
-      pub Served-more : FindAll bounds Meeting roles items → (after : Held X) (item : X) (later : List (ℕ × ℕ)) → item ≡ get_or items (get_or parts k d).place item → after.buckets ≡ entered.buckets → (after.latest ≡ entered.latest) ⊎ (after.latest ≡ Some (bounds item).left)
+      pub Served-more : FindAll bounds Meeting roles items → (after : SweepStatus X) (item : X) (later : List (ℕ × ℕ)) → item ≡ get_or items (get_or parts k d).place item → after.buckets ≡ entered.buckets → (after.latest ≡ entered.latest) ⊎ (after.latest ≡ Some (bounds item).left)
           → Serves bounds Meeting roles strips (get_or parts k d).strip (placed_at (get_or parts k d).place item) entered.buckets entered.members after.members now later
           → Served bounds Meeting roles strips items parts (k + 1) (get_or parts k d).strip after before later
       Served-more find after item later read same_buckets asked serves = record {

@@ -27,13 +27,13 @@ abbrev pub members_in : {X : Type 0} → (X → Bounds) → Strips → ℕ → B
 members_in bounds strips strip buckets items = map (λ placed. member_in bounds strips strip buckets placed) items
 
 -- what is held in a strip, the time of the latest query of the tree, and its buckets
-pub record Held (X : Type 0) : Type 0 where
+pub record SweepStatus (X : Type 0) : Type 0 where
   pub buckets : Buckets
   pub latest : Option ℤ
   pub members : List (Member (Placed X))
 
 -- that is what the tree holds, or the items of the list, and no query came then
-abbrev pub held : {X A : Type 0} → (X → Bounds) → Strips → ℕ → Live X A → Held X
+abbrev pub held : {X A : Type 0} → (X → Bounds) → Strips → ℕ → Live X A → SweepStatus X
 held bounds strips strip live = record {
   buckets = live.tree.buckets;
   latest = if live.is_few then None else live.tree.latest;

@@ -61,8 +61,7 @@ impl<T: Boxed, A: Allocator + Copy> Live<T, A> {
         ensures live { self.new.few.items ≡ live_items T.bounds time self.old.few.items }
         ensures tree { self.new.tree ≡ self.old.tree }
     {
-        self.few
-            .retain(|placed| placed.item.bounds().right >= time);
+        self.few.retain(|placed| placed.item.bounds().right >= time);
     }
 
     /// The item joins, over its range in the strip. Where it is one too many for the list, all go over into the tree.

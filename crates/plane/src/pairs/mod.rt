@@ -37,7 +37,7 @@ mod two;
 ///
 /// It is the textbook's sweep line over the boxes of the items, from left to right, with a segment tree over their
 /// heights as its status, and with a test of each pair that lies near each other. Where many items are live at once,
-/// their heights are cut into strips, each with a sweep of its own.
+/// their heights are cut into strips, each with a sweep of its own. While few are live in a strip, a list is its status.
 pub fn pairs_among<T: Meets<T>, A: Allocator + Copy>(
     items: &[T],
     out: &mut Vec<(usize, usize), A>,

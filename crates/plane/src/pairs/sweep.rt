@@ -86,11 +86,7 @@ pub fn append_pairs<T: Meets<T>, A: Allocator + Copy>(
 }
 
 // Goes on from one strip to the next one, or stays in the same.
-fn enter<T: Boxed, A: Allocator + Copy>(
-    live: &mut Live<T, A>,
-    strip: u32,
-    next: u32,
-)
+fn enter<T: Boxed, A: Allocator + Copy>(live: &mut Live<T, A>, strip: u32, next: u32)
     ensures stays { next ≡ strip → live.new ≡ live.old }
     ensures few { next ≢ strip → live.new.is_few ≡ true }
     ensures empty { next ≢ strip → live.new.few.items ≡ [] }
@@ -197,7 +193,6 @@ fn ask_few<T: Meets<T>, A: Allocator + Copy>(
     append_told(strips, strip, placed, &live.few, out)?;
     Ok(())
 }
-
 
 // Puts the item among those before it in the strip, over its range there, if that is its role.
 fn join<T: Boxed, A: Allocator + Copy>(

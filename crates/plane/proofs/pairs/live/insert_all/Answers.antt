@@ -12,7 +12,7 @@ insert_by_range-requires g c =
     let (buckets, _, _) = c.loop-placed.invariant in
     let placed = c.placed-item.result in
     let is_in : IsIn g.T.Boxed.bounds c.args.strips c.args.strip placed =
-        subst (IsIn g.T.Boxed.bounds c.args.strips c.args.strip) (sym c.placed-item.is) (c.requires.within c.loop-placed.placed-index placed c.loop-placed-test.true) in
+    subst (IsIn g.T.Boxed.bounds c.args.strips c.args.strip) (sym c.placed-item.is) (c.requires.within c.loop-placed.placed-index placed c.loop-placed-test.true) in
     let range : c.range_in-range.result ≡ range_in c.args.strips c.args.strip (g.T.Boxed.bounds c.placed-item.result.item) = c.range_in-range.ensures ∙ ap (range_in c.args.strips c.args.strip) c.bounds.ensures in
     subst₂ (λ (b : Buckets) (r : SegRange ℕ). Accepts b (pos r.min) (pos r.max)) (sym buckets) (sym range)
     (Accepts-in c.args.strips c.args.strip c.args.tree.now.buckets c.requires.over (g.T.Boxed.bounds placed.item) (c.requires.proper placed.item) is_in.above is_in.reaches)
@@ -20,8 +20,7 @@ insert_by_range-requires g c =
 pub loop-placed-preserved : goal.loop-placed-preserved
 loop-placed-preserved g c =
     let (buckets, unasked, so_far) = c.loop-placed.invariant in
-    let range : c.range_in-range.result ≡ range_in c.args.strips c.args.strip (g.T.Boxed.bounds c.placed-item.result.item) = c.range_in-range.ensures ∙ ap (range_in c.args.strips c.args.strip) c.bounds.ensures in
-    (
+    let range : c.range_in-range.result ≡ range_in c.args.strips c.args.strip (g.T.Boxed.bounds c.placed-item.result.item) = c.range_in-range.ensures ∙ ap (range_in c.args.strips c.args.strip) c.bounds.ensures in (
       c.insert_by_range.ensures.buckets ∙ buckets,
       c.insert_by_range.ensures.latest ∙ unasked,
       inserted g.T.Boxed.bounds c.args.strips c.args.strip c.args.tree.now.buckets c.args.items.now c.loop-placed.placed-index c.placed-item.result c.loop-placed.tree.latest c.loop-placed.tree.buckets c.range_in-range.result

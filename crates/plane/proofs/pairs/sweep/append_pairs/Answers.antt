@@ -54,8 +54,8 @@ pub loop-next-preserved : goal.loop-next-preserved
 loop-next-preserved g c = (
   Served-more c.requires.boxed c.args.roles c.args.strips c.args.items.now c.args.parts.now c.requires.base c.requires.parts c.loop-next.next nothing c.loop-next-test.true c.loop-next.strip (held g.T.Boxed.bounds c.args.strips c.loop-next.strip c.loop-next.live) (held g.T.Boxed.bounds c.args.strips (get_or c.args.parts.now c.loop-next.next nothing).strip c.enter.new.live) c.args.out.now.items c.loop-next.out.items c.loop-next.invariant.0
       (λ same. stays g.T.Boxed.bounds c.args.strips c.loop-next.strip (get_or c.args.parts.now c.loop-next.next nothing).strip c.loop-next.live c.enter.new.live same (c.enter.ensures.stays same))
-    (λ differs. members-empty g.T.Boxed.bounds c.args.strips (get_or c.args.parts.now c.loop-next.next nothing).strip c.enter.new.live (c.enter.ensures.few differs) (c.enter.ensures.empty differs))
-    (λ differs. latest-few g.T.Boxed.bounds c.args.strips (get_or c.args.parts.now c.loop-next.next nothing).strip c.enter.new.live (c.enter.ensures.few differs)) c.enter.ensures.buckets
+      (λ differs. members-empty g.T.Boxed.bounds c.args.strips (get_or c.args.parts.now c.loop-next.next nothing).strip c.enter.new.live (c.enter.ensures.few differs) (c.enter.ensures.empty differs))
+      (λ differs. latest-few g.T.Boxed.bounds c.args.strips (get_or c.args.parts.now c.loop-next.next nothing).strip c.enter.new.live (c.enter.ensures.few differs)) c.enter.ensures.buckets
       c.requires.roles (held g.T.Boxed.bounds c.args.strips (get_or c.args.parts.now c.loop-next.next nothing).strip c.serve.new.live) c.in_ok-item.item c.serve.new.out.items (c.in_ok-item.ensures.value nothing) c.serve.ensures.buckets c.serve.ensures.latest (c.in_ok-serve.ensures).ok,
   c.in_ok-item.ensures.ahead,
 )
