@@ -15,13 +15,13 @@ use std::cmp::Ordering;
 use std::marker::Model;
 
 /// With more pairs than these, all go over from the list into the tree.
-const FEW: usize = 64;
+const FEW: usize = 128;
 
 /// The status of a sweep line: a sorted list while few pairs are stored, and a tree once more are.
 ///
 /// Contracts see the stored pairs in their order along the line. Where only few are live at once, a list is quicker than a
 /// tree; where many are, it shifts all behind a place for each that comes. So all pairs go over into the tree when an insertion
-/// leaves more than 64 of them, and stay there until `clear`. For this no insertion is refused: where the tree gets no room,
+/// leaves more than 128 of them, and stay there until `clear`. For this no insertion is refused: where the tree gets no room,
 /// they stay in the list. It is our own, and not of the Rust crate.
 #[derive(Drop)]
 pub struct GrowingStatus<K: ExpiredVal<E>, E: Expiration, V: Copy, A: Allocator + Copy> {
