@@ -36,6 +36,13 @@ pub record IsBoundary (rule : FillRule) (operation : Operation) (subject clip : 
 abbrev pub HasSloped : List Edge → Type 0
 HasSloped edges = edges ≢ [] → (edge : Edge) × Contains edges edge × (edge.x0 ≢ edge.x1)
 
+-- Rings that bound the result stand behind the points and behind where rings stopped among these, and if there are any, some edge
+-- of theirs isn't vertical.
+abbrev pub AppendsBoundary : FillRule → Operation → List Edge → List Edge → List Point → List Point → List ℕ → List ℕ → Type 0
+AppendsBoundary rule operation subject clip points points' ends ends' =
+    (rings : List (List Point)) × IsBoundary rule operation subject clip rings × HasSloped (flat_map ring_edges rings)
+    × (points' ≡ points ++ flat_map (λ ring. ring) rings) × (ends' ≡ ends ++ offsets (length points) rings)
+
 -- The pieces of the subject's edges and of the clip's, which are broken together.
 pub record AreBroken (subject clip broken broken_clip : List Edge) : Type 0 where
   pub chains : List (List Point)

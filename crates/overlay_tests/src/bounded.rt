@@ -1,6 +1,6 @@
 //! Rings and the boundary of what an operation makes of them, as worked by hand, and each request for memory refused in turn.
 
-use crate::walks::{Regions, bound_walks, edges_of};
+use crate::walks::{Regions, bound_walks, edges_of_both};
 use i_tree::Refusal;
 use i_tree::status::exp::StatusCollection;
 use i_tree::status::tree::StatusTree;
@@ -175,11 +175,11 @@ where
     push_steps(&mut ring)?;
     ring.push([750, 50])?;
     ring.push([0, 50])?;
-    let subject = edges_of(alloc, &[ring.as_slice()])?;
-    let clip = edges_of(alloc, &[&[[20, 40], [30, 40], [30, 60], [20, 60]]])?;
+    let square: &[[i32; 2]] = &[[20, 40], [30, 40], [30, 60], [20, 60]];
+    let (edges, count) = edges_of_both(alloc, &[ring.as_slice()], &[square])?;
     Ok(boundary(
-        &subject,
-        &clip,
+        &edges,
+        count,
         FillRule::NonZero,
         Operation::Union,
         status,

@@ -1,6 +1,6 @@
 //! What a fill asks of its edges: closed ones by their walks, and a test whether edges are noded.
 
-ghost use Rattle.std.specs.Prelude.{◌≡◌, ◌++◌, ◌∷◌, [], true, All, IfOk, OnOk};
+ghost use Rattle.std.specs.Prelude.{◌≡◌, ◌≤◌, ◌++◌, ◌∷◌, [], true, All, IfOk, OnOk, drop, length, take};
 ghost use Rattle.plane.specs.declared.point.Point.{Point};
 ghost use Rattle.overlay.specs.Fill.Filled.{AreNoded};
 ghost use Rattle.overlay.specs.Snap.Windings.{IsClosed, edge_between, reversed};
@@ -65,11 +65,10 @@ where
     C: StatusCollection<ActiveEdge, i64, ()>,
     A: Allocator + Copy,
 {
-    let subject = edges_of(alloc, regions.subject)?;
-    let clip = edges_of(alloc, regions.clip)?;
+    let (edges, count) = edges_of_both(alloc, regions.subject, regions.clip)?;
     Ok(boundary(
-        &subject,
-        &clip,
+        &edges,
+        count,
         regions.rule,
         regions.operation,
         status,
@@ -85,6 +84,22 @@ fn joined(alloc: Global, edges: &[Edge], others: &[Edge]) -> Result<Vec<Edge>, A
     both.extend_from_slice(edges)?;
     both.extend_from_slice(others)?;
     Ok(both)
+}
+
+/// The edges of the subject's walks and then of the clip's, and how many of them are the subject's.
+pub fn edges_of_both(
+    alloc: Global,
+    subject: &[&[[i32; 2]]],
+    clip: &[&[[i32; 2]]],
+) -> Result<(Vec<Edge>, usize), AllocError>
+    ensures count { IfOk result (λ told. told.1 ≤ length told.0.items) }
+    ensures closed { IfOk result (λ told. IsClosed (take told.1 told.0.items)) }
+    ensures clip_closed { IfOk result (λ told. IsClosed (drop told.1 told.0.items)) }
+{
+    let first = edges_of(alloc, subject)?;
+    let others = edges_of(alloc, clip)?;
+    let both = joined(alloc, &first, &others)?;
+    Ok((both, first.len()))
 }
 
 /// The edges of each walk, from each of its points to the next and from the last back to the first.

@@ -110,13 +110,12 @@ where
     ensures err { OnErr result (AreExtended out.old out.new) }
 {
     let alloc = *out.points.allocator();
-    let subject_edges = real_edges_of(alloc, subject)?;
-    let clip_edges = real_edges_of(alloc, clip)?;
+    let (edges, count) = real_edges_of(alloc, subject, clip)?;
     let mut points = Vec::new(alloc);
     let mut ends = Vec::new(alloc);
     boundary(
-        &subject_edges,
-        &clip_edges,
+        &edges,
+        count,
         rule,
         operation,
         status,

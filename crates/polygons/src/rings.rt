@@ -1,6 +1,6 @@
 //! Rings and polygons, as points and where each ring and each polygon stops.
 
-ghost use Rattle.std.specs.Prelude.{◌≡◌, ◌++◌, ◌≤◌, IfOk, MatchBool, OnOk, length};
+ghost use Rattle.std.specs.Prelude.{◌≡◌, ◌++◌, ◌∷◌, [], ◌≤◌, IfOk, MatchBool, OnOk, drop, length, take};
 ghost use Rattle.overlay.specs.Contours.Rings.{ring_edges};
 ghost use Rattle.overlay.specs.Snap.Windings.{edge_between};
 ghost use Rattle.polygons.specs.Rings.{HasEnds, edges_of, real_edges};
@@ -77,19 +77,71 @@ pub fn edges_of<A: Allocator>(alloc: A, rings: Rings) -> Result<Vec<Edge, A>, Al
     Ok(edges)
 }
 
-/// The edges of all rings but those from a point to itself, which wind around nothing.
+/// The edges of the subject and then of the clip, and how many of them are the subject's. Those from a point to itself, which wind
+/// around nothing, are left out.
 ///
 /// Memory that is refused is the only error.
 pub(crate) fn real_edges_of<A: Allocator>(
     alloc: A,
-    rings: Rings,
-) -> Result<Vec<Edge, A>, AllocError>
-    requires { HasEnds rings }
-    ensures { IfOk result (λ edges. edges.items ≡ real_edges (edges_of rings.entry)) }
+    subject: Rings,
+    clip: Rings,
+) -> Result<(Vec<Edge, A>, usize), AllocError>
+    requires ends { HasEnds subject }
+    requires clip_ends { HasEnds clip }
+    ensures count { IfOk result (λ told. told.1 ≤ length told.0.items) }
+    ensures subject { IfOk result (λ told. take told.1 told.0.items ≡ real_edges (edges_of subject.entry)) }
+    ensures clip { IfOk result (λ told. drop told.1 told.0.items ≡ real_edges (edges_of clip.entry)) }
 {
-    let mut edges = edges_of(alloc, rings)?;
-    edges.retain(|edge| edge.x0 != edge.x1 || edge.y0 != edge.y1);
-    Ok(edges)
+    let most = subject.points.len().saturating_add(clip.points.len());
+    let mut edges = Vec::with_capacity(alloc, most)?;
+    append_real_edges(subject, &mut edges)?;
+    let count = edges.len();
+    append_real_edges(clip, &mut edges)?;
+    Ok((edges, count))
+}
+
+// Appends the edges of all rings but those from a point to itself.
+fn append_real_edges<A: Allocator>(rings: Rings, edges: &mut Vec<Edge, A>) -> Result<(), AllocError>
+    requires { HasEnds rings }
+    ensures { OnOk result (edges.new.items ≡ edges.old.items ++ real_edges (edges_of rings.entry)) }
+{
+    let mut start = 0;
+    for end in rings.ends {
+        append_real_ones(&rings.points[start..*end], edges)?;
+        start = *end;
+    }
+    Ok(())
+}
+
+// Appends the edges of the ring but those from a point to itself.
+fn append_real_ones<A: Allocator>(
+    ring: &[Point],
+    edges: &mut Vec<Edge, A>,
+) -> Result<(), AllocError>
+    ensures { OnOk result (edges.new.items ≡ edges.old.items ++ real_edges (ring_edges ring.now)) }
+{
+    if ring.is_empty() {
+        return Ok(());
+    }
+    let last = ring[ring.len() - 1];
+    for pair in ring.windows(2) {
+        push_real(pair[0], pair[1], edges)?;
+    }
+    push_real(last, ring[0], edges)
+}
+
+// Appends the edge from the one point to the other, where they are two.
+fn push_real<A: Allocator>(
+    from: Point,
+    to: Point,
+    edges: &mut Vec<Edge, A>,
+) -> Result<(), AllocError>
+    ensures { OnOk result (edges.new.items ≡ edges.old.items ++ real_edges (edge_between from to ∷ [])) }
+{
+    if from.x != to.x || from.y != to.y {
+        edges.push(edge_between(from, to))?;
+    }
+    Ok(())
 }
 
 // Appends the edges of the ring.

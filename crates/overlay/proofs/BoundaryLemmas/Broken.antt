@@ -42,28 +42,40 @@ pub all-chains : (subject clip broken broken_clip : List Edge) (are : AreBroken 
 all-chains subject clip broken broken_clip are = zip-append (IsChain (subject ++ clip)) subject clip are.chains are.clip_chains are.are are.clip_are
 
 -- the pieces of all chains, cut behind those of the subject's
-pub cut-broken : (subject clip all : List Edge) (chains : List (List Point)) (count : ℕ) → AreChains (subject ++ clip) chains → all ≡ flat_map pieces chains → count ≡ length (flat_map pieces (take (length subject) chains))
-    → (count ≤ length all) × AreBroken subject clip (take count all) (drop count all)
-cut-broken subject clip all chains count are is size = (
+pub cut-broken : (edges all : List Edge) (chains : List (List Point)) (bound count : ℕ) → bound ≤ length edges → AreChains edges chains → all ≡ flat_map pieces chains → count ≡ length (flat_map pieces (take bound chains))
+    → (count ≤ length all) × AreBroken (take bound edges) (drop bound edges) (take count all) (drop count all)
+cut-broken edges all chains bound count within are is size = (
   (let sum = length-append front back in let whole = ap (λ (list : List Edge). length list) parts in omega (arith, size, sum, whole)),
   record {
-    chains = take (length subject) chains;
-    clip_chains = drop (length subject) chains;
-    are = zip-front (IsChain (subject ++ clip)) subject clip chains are;
-    clip_are = zip-back (IsChain (subject ++ clip)) subject clip chains are;
+    chains = take bound chains;
+    clip_chains = drop bound chains;
+    are = subst (λ (n : ℕ). AllZip (IsChain (subject ++ clip)) subject (take n chains)) first (zip-front (IsChain (subject ++ clip)) subject clip chains together);
+    clip_are = subst (λ (n : ℕ). AllZip (IsChain (subject ++ clip)) clip (drop n chains)) first (zip-back (IsChain (subject ++ clip)) subject clip chains together);
     is = ap₂ (λ (n : ℕ) (list : List Edge). take n list) size parts ∙ take-append_seam front back;
     clip_is = ap₂ (λ (n : ℕ) (list : List Edge). drop n list) size parts ∙ drop-append_seam front back;
   },
 )
   where
+    subject : List Edge
+    subject = take bound edges
+
+    clip : List Edge
+    clip = drop bound edges
+
+    first : length subject ≡ bound
+    first = length-take-le bound edges within
+
+    together : AreChains (subject ++ clip) chains
+    together = subst (λ (list : List Edge). AreChains list chains) (sym (take-append-drop bound edges)) are
+
     front : List Edge
-    front = flat_map pieces (take (length subject) chains)
+    front = flat_map pieces (take bound chains)
 
     back : List Edge
-    back = flat_map pieces (drop (length subject) chains)
+    back = flat_map pieces (drop bound chains)
 
     parts : all ≡ front ++ back
-    parts = is ∙ ap (λ (lists : List (List Point)). flat_map pieces lists) (sym (take-append-drop (length subject) chains)) ∙ flat_map-append pieces (take (length subject) chains) (drop (length subject) chains)
+    parts = is ∙ ap (λ (lists : List (List Point)). flat_map pieces lists) (sym (take-append-drop bound chains)) ∙ flat_map-append pieces (take bound chains) (drop bound chains)
 
 -- ---- how many pieces there are
 
@@ -107,8 +119,5 @@ chains-some edges chains are k d within =
     let begins = starts edges (get_or edges k none) (get_or chains k d) (Contains-get_or edges k none inside) is in
     subst (λ (chain : List Point). 0 < length chain) (sym begins) (omega arith)
 
-pub chains-count : (subject clip : List Edge) (chains : List (List Point)) → AreChains (subject ++ clip) chains → length subject ≤ length chains
-chains-count subject clip chains are =
-    let size = AllZip-length (IsChain (subject ++ clip)) (subject ++ clip) chains are in
-    let sum = length-append subject clip in
-    omega (arith, size, sum)
+pub chains-count : (edges : List Edge) (chains : List (List Point)) (bound : ℕ) → bound ≤ length edges → AreChains edges chains → bound ≤ length chains
+chains-count edges chains bound within are = let size = AllZip-length (IsChain edges) edges chains are in omega (arith, size, within)

@@ -1,9 +1,8 @@
 -- What the code that cuts edges asks, as lemmas over plain variables.
-use Rattle.std.proofs.Common.{◌≡◌, ◌⊎◌, inl, inr, ℕ, suc, ◌+◌, ◌-◌, ◌<◌, ◌≤◌, Bool, true, false, leb, List, [], ◌∷◌, ◌++◌, length, get_or, map, take, drop, sym, ap, ap₂, ◌∙◌, subst, subst₂, arith}
+use Rattle.std.proofs.Common.{◌≡◌, ◌⊎◌, inl, inr, ℕ, suc, ◌+◌, ◌-◌, ◌<◌, ◌≤◌, Bool, true, false, leb, List, [], ◌∷◌, ◌++◌, length, get_or, map, take, drop, sym, ap, ap₂, ◌∙◌, subst, arith}
 use Rattle.std.specs.List.{All, AllPairs, count_by}
 use Rattle.std.proofs.lemmas.List.{flat_map_more, length-append, length-map, length-take-le, map-append, take-append-drop, take_more}
 use Rattle.std.proofs.lemmas.List.Elements.{All-weaker}
-use Rattle.std.proofs.Math.Seq.{drop-append_seam, take-append_seam}
 use Rattle.plane.specs.declared.edge.Edge.{Edge}
 use Rattle.plane.specs.declared.point.Point.{Point}
 use Rattle.overlay.specs.Snap.Offsets.{AreJoined, offsets}
@@ -85,54 +84,54 @@ ways-more lists i part points points' ends ends' inside is gained stops (are, at
 
 -- ---- one round after another
 
--- the parts of both sides, where the edges and the ends are read as these
-pub given-parts : (edges given : List Edge) (ends given_ends : List ℕ) (bound : ℕ) → given ≡ edges → given_ends ≡ ends
-    → (front : List (List Edge)) × (back : List (List Edge)) × AreSplit edges bound ends front back → (parts : List (List Edge)) × AreParts given given_ends parts
-given-parts edges given ends given_ends bound same same_ends (front, back, split) =
-    (front ++ back, subst₂ (λ (list : List Edge) (stops : List ℕ). AreParts list stops (front ++ back)) (sym same) (sym same_ends) (AreParts-split edges bound ends front back split))
+-- the parts of both sides, where the ends are read as these
+pub given-parts : (edges : List Edge) (ends given : List ℕ) (bound : ℕ) → given ≡ ends
+    → (front : List (List Edge)) × (back : List (List Edge)) × AreSplit edges bound ends front back → (parts : List (List Edge)) × AreParts edges given parts
+given-parts edges ends given bound same (front, back, split) =
+    (front ++ back, subst (λ (stops : List ℕ). AreParts edges stops (front ++ back)) (sym same) (AreParts-split edges bound ends front back split))
 
 -- what they are cut into
-pub given-cut : (edges given : List Edge) (ends given_ends refined : List ℕ) (bound most : ℕ) → given ≡ edges → given_ends ≡ ends
-    → ((parts : List (List Edge)) → AreParts given given_ends parts → (groups : List (List (List Edge))) × AreRelieved most parts groups × (refined ≡ offsets 0 (joined groups)))
+pub given-cut : (edges : List Edge) (ends given refined : List ℕ) (bound most : ℕ) → given ≡ ends
+    → ((parts : List (List Edge)) → AreParts edges given parts → (groups : List (List (List Edge))) × AreRelieved most parts groups × (refined ≡ offsets 0 (joined groups)))
     → (front back : List (List Edge)) → AreSplit edges bound ends front back
     → (groups : List (List (List Edge))) × AreRelieved most (front ++ back) groups × (refined ≡ offsets 0 (joined groups))
-given-cut edges given ends given_ends refined bound most same same_ends cuts front back split =
-    cuts (front ++ back) (subst₂ (λ (list : List Edge) (stops : List ℕ). AreParts list stops (front ++ back)) (sym same) (sym same_ends) (AreParts-split edges bound ends front back split))
+given-cut edges ends given refined bound most same cuts front back split =
+    cuts (front ++ back) (subst (λ (stops : List ℕ). AreParts edges stops (front ++ back)) (sym same) (AreParts-split edges bound ends front back split))
 
-pub next-split : (edges given : List Edge) (ends given_ends refined : List ℕ) (bound most : ℕ) → given ≡ edges → given_ends ≡ ends
-    → ((parts : List (List Edge)) → AreParts given given_ends parts → (groups : List (List (List Edge))) × AreRelieved most parts groups × (refined ≡ offsets 0 (joined groups)))
+pub next-split : (edges : List Edge) (ends given refined : List ℕ) (bound most : ℕ) → given ≡ ends
+    → ((parts : List (List Edge)) → AreParts edges given parts → (groups : List (List (List Edge))) × AreRelieved most parts groups × (refined ≡ offsets 0 (joined groups)))
     → (front : List (List Edge)) × (back : List (List Edge)) × AreSplit edges bound ends front back
     → (front : List (List Edge)) × (back : List (List Edge)) × AreSplit edges bound refined front back
-next-split edges given ends given_ends refined bound most same same_ends cuts (front, back, split) =
-    let (groups, relieved, stops) = given-cut edges given ends given_ends refined bound most same same_ends cuts front back split in
+next-split edges ends given refined bound most same cuts (front, back, split) =
+    let (groups, relieved, stops) = given-cut edges ends given refined bound most same cuts front back split in
     (joined (take (length front) groups), joined (drop (length front) groups), AreSplit-cut edges bound ends refined front back groups split relieved.refined.cut stops)
 
 -- ---- the result
 
-pub AreCut-last : (subject clip edges : List Edge) (ends refined : List ℕ) (front back : List (List Edge)) (groups : List (List (List Edge))) (points : List Point) (stops : List ℕ) (count : ℕ)
-    → edges ≡ subject ++ clip → AreSplit edges (length subject) ends front back → AreRelieved 1 (front ++ back) groups → refined ≡ offsets 0 (joined groups)
+pub AreCut-last : (edges : List Edge) (bound : ℕ) (ends refined : List ℕ) (front back : List (List Edge)) (groups : List (List (List Edge))) (points : List Point) (stops : List ℕ) (count : ℕ)
+    → bound ≤ length edges → AreSplit edges bound ends front back → AreRelieved 1 (front ++ back) groups → refined ≡ offsets 0 (joined groups)
     → ((lists : List (List Edge)) → AreParts edges refined lists → AreJoined (map way lists) points stops)
-    → count ≡ count_by (λ end. leb end (length subject)) refined
-    → AreCut subject clip points stops count
-AreCut-last subject clip edges ends refined front back groups points stops count are split relieved at told counted = (
-  map way (joined (take (length front) groups)),
-  map way (joined (drop (length front) groups)),
-  AreStretches-ways subject clip (joined (take (length front) groups)) (joined (drop (length front) groups)) front_is back_is split'.3
+    → count ≡ count_by (λ end. leb end bound) refined
+    → AreCut (take bound edges) (drop bound edges) points stops count
+AreCut-last edges bound ends refined front back groups points stops count within split relieved at told counted = (
+  map way first,
+  map way second,
+  AreStretches-ways (take bound edges) (drop bound edges) first second split'.0 split'.1 split'.3
       (subst (AllPairs (λ one other. (IsLong (way one)) ⊎ (IsLong (way other)) → AreClear (way one) (way other))) whole (clear-parts (front ++ back) groups split.3 relieved)),
-  subst (λ (ways : List (List Point)). AreJoined ways points stops) (map-append way (joined (take (length front) groups)) (joined (drop (length front) groups))) (told ((joined (take (length front) groups)) ++ (joined (drop (length front) groups))) (AreParts-split edges (length subject) refined (joined (take (length front) groups)) (joined (drop (length front) groups)) split')),
-  counted ∙ ap₂ (λ (n : ℕ) (list : List ℕ). count_by (λ end. leb end n) list) (ap (λ (list : List Edge). length list) front_is) split'.2
-      ∙ count-upto (joined (take (length front) groups)) (joined (drop (length front) groups)) (All-weaker IsPart (λ part. 0 < length part) (λ part is. is.some) ((joined (take (length front) groups)) ++ (joined (drop (length front) groups))) split'.3)
-      ∙ sym (length-map (joined (take (length front) groups)) way),
+  subst (λ (ways : List (List Point)). AreJoined ways points stops) (map-append way first second) (told (first ++ second) (AreParts-split edges bound refined first second split')),
+  counted ∙ ap₂ (λ (n : ℕ) (list : List ℕ). count_by (λ end. leb end n) list) (sym (length-take-le bound edges within) ∙ ap (λ (list : List Edge). length list) split'.0) split'.2
+      ∙ count-upto first second (All-weaker IsPart (λ part. 0 < length part) (λ part is. is.some) (first ++ second) split'.3)
+      ∙ sym (length-map first way),
 )
   where
-    split' : AreSplit edges (length subject) refined (joined (take (length front) groups)) (joined (drop (length front) groups))
-    split' = AreSplit-cut edges (length subject) ends refined front back groups split relieved.refined.cut at
+    first : List (List Edge)
+    first = joined (take (length front) groups)
 
-    front_is : subject ≡ joined (joined (take (length front) groups))
-    front_is = sym (ap (λ (list : List Edge). take (length subject) list) are ∙ take-append_seam subject clip) ∙ split'.0
+    second : List (List Edge)
+    second = joined (drop (length front) groups)
 
-    back_is : clip ≡ joined (joined (drop (length front) groups))
-    back_is = sym (ap (λ (list : List Edge). drop (length subject) list) are ∙ drop-append_seam subject clip) ∙ split'.1
+    split' : AreSplit edges bound refined first second
+    split' = AreSplit-cut edges bound ends refined front back groups split relieved.refined.cut at
 
-    whole : joined groups ≡ (joined (take (length front) groups)) ++ (joined (drop (length front) groups))
+    whole : joined groups ≡ first ++ second
     whole = ap (λ (all : List (List (List Edge))). joined all) (sym (take-append-drop (length front) groups)) ∙ joined-append (take (length front) groups) (drop (length front) groups)

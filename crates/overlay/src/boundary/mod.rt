@@ -1,13 +1,10 @@
 //! The boundary of what an operation makes of two sets of closed edges, as rings of whole points.
 
-ghost use Rattle.std.specs.Prelude.{◌≡◌, ◌++◌, [], List, IfOk, OnOk, OnErr, length};
-ghost use Rattle.std.specs.List.{flat_map};
+ghost use Rattle.std.specs.Prelude.{◌≡◌, ◌≤◌, [], List, IfOk, OnOk, OnErr, drop, length, take};
 ghost use Rattle.plane.specs.declared.edge.Edge.{Edge};
-ghost use Rattle.plane.specs.declared.point.Point.{Point};
-ghost use Rattle.overlay.specs.Boundary.{AreBroken, HasSloped, IsBoundary};
-ghost use Rattle.overlay.specs.Contours.Rings.{ring_edges};
+ghost use Rattle.overlay.specs.Boundary.{AppendsBoundary, AreBroken};
 ghost use Rattle.overlay.specs.Fill.Filled.{IsFilled};
-ghost use Rattle.overlay.specs.Snap.Offsets.{Extends, offsets};
+ghost use Rattle.overlay.specs.Snap.Offsets.{Extends};
 ghost use Rattle.overlay.specs.Snap.Windings.{IsClosed};
 ghost use Rattle.overlay.specs.Stretches.Cut.{AreCut};
 
@@ -17,7 +14,7 @@ use super::fill::rules::{FillRule, Operation};
 use super::stretches::chords::chords_of;
 use super::stretches::widening::append_widened;
 use super::stretches::{Stretches, stretches_of};
-use broken::broken;
+use broken::broken_of;
 use i_tree::Refusal;
 use i_tree::status::exp::StatusCollection;
 use plane::edge::Edge;
@@ -30,9 +27,9 @@ pub mod broken;
 /// Appends rings that bound what the operation makes of the inside of the subject and that of the clip to `points`, one after
 /// another, and to `ring_ends` where each stops among these.
 ///
-/// Both are closed edges, as those of rings are; they may cross, touch, lie along one another, and stand there more than once.
-/// They are broken where they meet and rounded (`snap`), which of the pieces bound the result is told by their winding numbers
-/// (`fill`), and these become rings (`contours`).
+/// The first `count` of the edges are the subject's, and the others the clip's. Both are closed, as those of rings are; they may
+/// cross, touch, lie along one another, and stand there more than once. They are broken where they meet and rounded (`snap`),
+/// which of the pieces bound the result is told by their winding numbers (`fill`), and these become rings (`contours`).
 ///
 /// Where many edges follow each other along x and no other comes near, one edge stands for all of these, from the first point
 /// to the last. In the rings these points are put in again.
@@ -45,8 +42,8 @@ pub mod broken;
 /// It is refused where memory or the status has no room, and leaves `points` and `ring_ends` as they were then. What the status
 /// holds is removed before and after, in every case. The memory is that of `points` and `ring_ends`.
 pub fn boundary<C, A>(
-    subject: &[Edge],
-    clip: &[Edge],
+    edges: &[Edge],
+    count: usize,
     rule: FillRule,
     operation: Operation,
     status: &mut C,
@@ -56,19 +53,18 @@ pub fn boundary<C, A>(
 where
     C: StatusCollection<ActiveEdge, i64, ()>,
     A: Allocator + Copy,
-    requires closed { IsClosed subject.now }
-    requires clip_closed { IsClosed clip.now }
-    ensures ok { OnOk result ((rings : List (List Point)) × IsBoundary rule operation subject.now clip.now rings
-        × HasSloped (flat_map ring_edges rings)
-        × (points.new.items ≡ points.old.items ++ flat_map (λ ring. ring) rings)
-        × (ring_ends.new.items ≡ ring_ends.old.items ++ offsets (length points.old.items) rings)) }
+    requires count { count ≤ length edges.now }
+    requires closed { IsClosed (take count edges.now) }
+    requires clip_closed { IsClosed (drop count edges.now) }
+    ensures ok { OnOk result (AppendsBoundary rule operation (take count edges.now) (drop count edges.now)
+        points.old.items points.new.items ring_ends.old.items ring_ends.new.items) }
     ensures err { OnErr result ((points.new.items ≡ points.old.items) × (ring_ends.new.items ≡ ring_ends.old.items)) }
     ensures empty { C.stored status.new ≡ [] }
 {
     status.clear();
     let points_before = points.len();
     let ends_before = ring_ends.len();
-    let outcome = append_boundary(subject, clip, rule, operation, status, points, ring_ends);
+    let outcome = append_boundary(edges, count, rule, operation, status, points, ring_ends);
     if outcome.is_err() {
         points.truncate(points_before);
         ring_ends.truncate(ends_before);
@@ -78,8 +74,8 @@ where
 
 // As `boundary`, over an empty status. Where it is refused, it may have appended something.
 fn append_boundary<C, A>(
-    subject: &[Edge],
-    clip: &[Edge],
+    edges: &[Edge],
+    count: usize,
     rule: FillRule,
     operation: Operation,
     status: &mut C,
@@ -90,29 +86,28 @@ where
     C: StatusCollection<ActiveEdge, i64, ()>,
     A: Allocator + Copy,
     requires empty { C.stored status.old ≡ [] }
-    requires closed { IsClosed subject.now }
-    requires clip_closed { IsClosed clip.now }
-    ensures ok { OnOk result ((rings : List (List Point)) × IsBoundary rule operation subject.now clip.now rings
-        × HasSloped (flat_map ring_edges rings)
-        × (points.new.items ≡ points.old.items ++ flat_map (λ ring. ring) rings)
-        × (ring_ends.new.items ≡ ring_ends.old.items ++ offsets (length points.old.items) rings)) }
+    requires count { count ≤ length edges.now }
+    requires closed { IsClosed (take count edges.now) }
+    requires clip_closed { IsClosed (drop count edges.now) }
+    ensures ok { OnOk result (AppendsBoundary rule operation (take count edges.now) (drop count edges.now)
+        points.old.items points.new.items ring_ends.old.items ring_ends.new.items) }
     ensures err { OnErr result (Extends points.old.items points.new.items
         × Extends ring_ends.old.items ring_ends.new.items) }
     ensures empty { C.stored status.new ≡ [] }
 {
     let alloc = *points.allocator();
-    match stretches_of(alloc, subject, clip)? {
+    match stretches_of(alloc, edges, count)? {
         Some(stretches) => {
             append_by_chords(&stretches, rule, operation, status, points, ring_ends)
         }
-        None => append_by_edges(subject, clip, rule, operation, status, points, ring_ends),
+        None => append_by_edges(edges, count, rule, operation, status, points, ring_ends),
     }
 }
 
 // The same without stretches.
 fn append_by_edges<C, A>(
-    subject: &[Edge],
-    clip: &[Edge],
+    edges: &[Edge],
+    count: usize,
     rule: FillRule,
     operation: Operation,
     status: &mut C,
@@ -123,18 +118,17 @@ where
     C: StatusCollection<ActiveEdge, i64, ()>,
     A: Allocator + Copy,
     requires empty { C.stored status.old ≡ [] }
-    requires closed { IsClosed subject.now }
-    requires clip_closed { IsClosed clip.now }
-    ensures ok { OnOk result ((rings : List (List Point)) × IsBoundary rule operation subject.now clip.now rings
-        × HasSloped (flat_map ring_edges rings)
-        × (points.new.items ≡ points.old.items ++ flat_map (λ ring. ring) rings)
-        × (ring_ends.new.items ≡ ring_ends.old.items ++ offsets (length points.old.items) rings)) }
+    requires count { count ≤ length edges.now }
+    requires closed { IsClosed (take count edges.now) }
+    requires clip_closed { IsClosed (drop count edges.now) }
+    ensures ok { OnOk result (AppendsBoundary rule operation (take count edges.now) (drop count edges.now)
+        points.old.items points.new.items ring_ends.old.items ring_ends.new.items) }
     ensures err { OnErr result ((points.new.items ≡ points.old.items) × (ring_ends.new.items ≡ ring_ends.old.items)) }
     ensures empty { C.stored status.new ≡ [] }
 {
     let alloc = *points.allocator();
-    let edges = bounding_edges(alloc, subject, clip, rule, operation, status)?;
-    contours(&edges, points, ring_ends)?;
+    let bounding = bounding_edges(alloc, edges, count, rule, operation, status)?;
+    contours(&bounding, points, ring_ends)?;
     Ok(())
 }
 
@@ -155,10 +149,8 @@ where
         × AreCut subject clip stretches.now.points.items stretches.now.ends.items stretches.now.count }
     ensures ok { (subject clip : List Edge)
         → AreCut subject clip stretches.now.points.items stretches.now.ends.items stretches.now.count
-        → OnOk result ((rings : List (List Point)) × IsBoundary rule operation subject clip rings
-        × HasSloped (flat_map ring_edges rings)
-        × (points.new.items ≡ points.old.items ++ flat_map (λ ring. ring) rings)
-        × (ring_ends.new.items ≡ ring_ends.old.items ++ offsets (length points.old.items) rings)) }
+        → OnOk result (AppendsBoundary rule operation subject clip
+        points.old.items points.new.items ring_ends.old.items ring_ends.new.items) }
     ensures err { OnErr result (Extends points.old.items points.new.items
         × Extends ring_ends.old.items ring_ends.new.items) }
     ensures empty { C.stored status.new ≡ [] }
@@ -167,9 +159,7 @@ where
     let stretch_points = &stretches.points;
     let stretch_ends = &stretches.ends;
     let chords = chords_of(alloc, stretch_points, stretch_ends)?;
-    let subject = &chords[..stretches.count];
-    let clip = &chords[stretches.count..];
-    let edges = bounding_edges(alloc, subject, clip, rule, operation, status)?;
+    let edges = bounding_edges(alloc, &chords, stretches.count, rule, operation, status)?;
     let mut rings = Vec::with_capacity(alloc, edges.len())?;
     let mut ends = Vec::new(alloc);
     contours(&edges, &mut rings, &mut ends)?;
@@ -187,8 +177,8 @@ where
 // The edges of the boundary: those that the operation keeps of the pieces of subject and clip.
 fn bounding_edges<C, A>(
     alloc: A,
-    subject: &[Edge],
-    clip: &[Edge],
+    edges: &[Edge],
+    count: usize,
     rule: FillRule,
     operation: Operation,
     status: &mut C,
@@ -197,21 +187,23 @@ where
     C: StatusCollection<ActiveEdge, i64, ()>,
     A: Allocator + Copy,
     requires empty { C.stored status.old ≡ [] }
-    requires closed { IsClosed subject.now }
-    requires clip_closed { IsClosed clip.now }
-    ensures filled { IfOk result (λ edges. (broken broken_clip : List Edge) × AreBroken subject.now clip.now broken broken_clip
-        × IsFilled rule operation broken broken_clip edges.items) }
+    requires count { count ≤ length edges.now }
+    requires closed { IsClosed (take count edges.now) }
+    requires clip_closed { IsClosed (drop count edges.now) }
+    ensures filled { IfOk result (λ bounding. (broken broken_clip : List Edge)
+        × AreBroken (take count edges.now) (drop count edges.now) broken broken_clip
+        × IsFilled rule operation broken broken_clip bounding.items) }
     ensures empty { C.stored status.new ≡ [] }
 {
-    let (pieces, count) = broken(alloc, subject, clip)?;
-    let mut edges = Vec::with_capacity(alloc, pieces.len())?;
+    let (pieces, count) = broken_of(alloc, edges, count)?;
+    let mut bounding = Vec::with_capacity(alloc, pieces.len())?;
     fill(
         &pieces[..count],
         &pieces[count..],
         rule,
         operation,
         status,
-        &mut edges,
+        &mut bounding,
     )?;
-    Ok(edges)
+    Ok(bounding)
 }

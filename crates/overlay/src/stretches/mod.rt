@@ -1,10 +1,9 @@
 //! Edges cut into stretches: points along which x rises, or falls, where no other edges come to them.
 
-ghost use Rattle.std.specs.Prelude.{◌≡◌, ◌<◌, IfErr, IfOk, IfSome};
+ghost use Rattle.std.specs.Prelude.{◌≡◌, ◌<◌, ◌≤◌, IfErr, IfOk, IfSome, drop, length, take};
 ghost use Rattle.i_tree.specs.declared.Refusal.TheVariants.{OutOfMemory};
 ghost use Rattle.overlay.specs.Stretches.Cut.{AreCut};
 
-use crate::boundary::broken::all_edges;
 use cutting::{count_breaks, parts_of};
 use i_tree::Refusal;
 use joining::joined;
@@ -38,7 +37,8 @@ pub struct Stretches<A: Allocator> {
     pub count: usize,
 }
 
-/// The edges of both cut into stretches, or none where few would have several edges.
+/// The edges cut into stretches, or none where few would have several edges. The first `count` are the subject's, and the
+/// others the clip's.
 ///
 /// Edges that follow each other along x make parts, and the boxes of these are swept. A part whose box another one's meets,
 /// where no line along one of them keeps their points apart, is cut into shorter parts, and in the end into single edges.
@@ -46,27 +46,27 @@ pub struct Stretches<A: Allocator> {
 /// It is refused for want of memory alone.
 pub fn stretches_of<A: Allocator + Copy>(
     alloc: A,
-    subject: &[Edge],
-    clip: &[Edge],
+    edges: &[Edge],
+    count: usize,
 ) -> Result<Option<Stretches<A>>, Refusal>
+    requires { count ≤ length edges.now }
     ensures ok { IfOk result (λ found. IfSome found (λ told.
-        AreCut subject.now clip.now told.points.items told.ends.items told.count)) }
+        AreCut (take count edges.now) (drop count edges.now) told.points.items told.ends.items told.count)) }
     ensures refused { IfErr result (λ cause. cause ≡ OutOfMemory) }
 {
-    if are_short(subject, clip) {
+    if are_short(&edges[..count], &edges[count..]) {
         return Ok(None);
     }
-    let edges = all_edges(alloc, subject, clip)?;
-    let parts = parts_of(alloc, &edges, subject.len(), longest_of(edges.len()))?;
+    let parts = parts_of(alloc, edges, count, longest_of(edges.len()))?;
     if parts.len() > edges.len() / 8 {
         return Ok(None);
     }
-    let shorter = relieved(alloc, &edges, &parts, SHORTER)?;
-    let clear = relieved(alloc, &edges, &shorter, 1)?;
+    let shorter = relieved(alloc, edges, &parts, SHORTER)?;
+    let clear = relieved(alloc, edges, &shorter, 1)?;
     if clear.len() >= edges.len() / 2 {
         return Ok(None);
     }
-    Ok(Some(joined(alloc, &edges, &clear, subject.len())?))
+    Ok(Some(joined(alloc, edges, &clear, count)?))
 }
 
 // How many of so many edges a part has at most at first.

@@ -1,6 +1,6 @@
-use Rattle.std.proofs.Common.{◌≡◌, ◌++◌, ◌-◌, ℕ, List, length, take, drop, map, ap, sym, subst, subst₂, ◌∙◌}
+use Rattle.std.proofs.Common.{◌≡◌, ◌≤◌, ◌++◌, ℕ, List, length, take, drop, map, ap, sym, subst, subst₂, ◌∙◌, arith}
 use Rattle.std.specs.List.{flat_map}
-use Rattle.std.proofs.lemmas.List.{drop_at, length-map, map-append, take_at}
+use Rattle.std.proofs.lemmas.List.{drop_at, length-append, length-map, map-append, take_at}
 use Rattle.i_tree.proofs.RootLemmas.Joined.{All-behind, All-front}
 use Rattle.plane.specs.declared.edge.Edge.{Edge}
 use Rattle.plane.specs.declared.point.Point.{Point}
@@ -9,7 +9,6 @@ use Rattle.overlay.specs.Contours.Rings.{AreContours}
 use Rattle.overlay.specs.Snap.Offsets.{offsets}
 use Rattle.overlay.specs.Snap.Windings.{IsClosed}
 use Rattle.overlay.specs.Stretches.{IsStretch, chord}
-use Rattle.overlay.proofs.BoundaryLemmas.Broken.{rest-is}
 use Rattle.overlay.proofs.StretchLemmas.Callers.{chords-closed, widened-boundary}
 use Rattle.overlay.proofs.boundary.append_by_chords.Goals as goal
 
@@ -24,8 +23,21 @@ module _ (chords list : List Edge) (same : list ≡ chords) (stretches clip_stre
   subject-chords : take count list ≡ map chord stretches
   subject-chords = ap (λ (edges : List Edge). take count edges) (same ∙ joined) ∙ take_at (map chord stretches) (map chord clip_stretches) count subject_first
 
-  clip-chords : take (length list - count) (drop count list) ≡ map chord clip_stretches
-  clip-chords = rest-is chords list count same ∙ ap (λ (edges : List Edge). drop count edges) joined ∙ drop_at (map chord stretches) (map chord clip_stretches) count subject_first
+  clip-chords : drop count list ≡ map chord clip_stretches
+  clip-chords = ap (λ (edges : List Edge). drop count edges) (same ∙ joined) ∙ drop_at (map chord stretches) (map chord clip_stretches) count subject_first
+
+  some-chords : count ≤ length list
+  some-chords =
+      let all = ap (λ (edges : List Edge). length edges) (same ∙ joined) in
+      let sum = length-append (map chord stretches) (map chord clip_stretches) in
+      omega (arith, all, sum, subject_first)
+
+pub bounding_edges-requires-clause-count : goal.bounding_edges-requires-clause-count
+bounding_edges-requires-clause-count g c =
+    let (subject, clip, closed, clip_closed, cut) = c.requires.cut in
+    let (stretches, clip_stretches, are, told, count) = cut in
+    let chords = c.in_ok-chords.ensures (stretches ++ clip_stretches) (c.deref.ensures.value ∙ told.0, c.deref-2.ensures.value ∙ told.1) are.each in
+    some-chords c.in_ok-chords.chords.items c.deref-3.result.now c.deref-3.ensures.value stretches clip_stretches chords c.args.stretches.now.count count
 
 pub bounding_edges-requires-clause-closed : goal.bounding_edges-requires-clause-closed
 bounding_edges-requires-clause-closed g c =
@@ -40,13 +52,13 @@ bounding_edges-requires-clause-clip_closed g c =
     let (subject, clip, closed, clip_closed, cut) = c.requires.cut in
     let (stretches, clip_stretches, are, told, count) = cut in
     let chords = c.in_ok-chords.ensures (stretches ++ clip_stretches) (c.deref.ensures.value ∙ told.0, c.deref-2.ensures.value ∙ told.1) are.each in
-    subst IsClosed (sym (clip-chords c.in_ok-chords.chords.items c.deref-4.result.now c.deref-4.ensures.value stretches clip_stretches chords c.args.stretches.now.count count))
+    subst IsClosed (sym (clip-chords c.in_ok-chords.chords.items c.deref-3.result.now c.deref-3.ensures.value stretches clip_stretches chords c.args.stretches.now.count count))
     (chords-closed clip_stretches (All-behind IsStretch stretches clip_stretches are.each) (subst IsClosed are.clip_is clip_closed))
 
 pub contours-requires : goal.contours-requires
 contours-requires g c =
     let (broken, broken_clip, are, filled) = c.in_ok-edges.ensures.filled in
-    subst IsClosed (sym c.deref-5.ensures.value) filled.closed
+    subst IsClosed (sym c.deref-4.ensures.value) filled.closed
 
 pub returns-clause-ok : goal.returns-clause-ok
 returns-clause-ok g c = λ subject clip cut.
@@ -54,14 +66,14 @@ returns-clause-ok g c = λ subject clip cut.
     let all = stretches ++ clip_stretches in
     let chords = c.in_ok-chords.ensures all (c.deref.ensures.value ∙ told.0, c.deref-2.ensures.value ∙ told.1) are.each in
     let first = subject-chords c.in_ok-chords.chords.items c.deref-3.result.now c.deref-3.ensures.value stretches clip_stretches chords c.args.stretches.now.count count in
-    let second = clip-chords c.in_ok-chords.chords.items c.deref-4.result.now c.deref-4.ensures.value stretches clip_stretches chords c.args.stretches.now.count count in
+    let second = clip-chords c.in_ok-chords.chords.items c.deref-3.result.now c.deref-3.ensures.value stretches clip_stretches chords c.args.stretches.now.count count in
     let (broken, broken_clip, are_broken, filled) = c.in_ok-edges.ensures.filled in
     let of_chords = subst₂ (λ (one other : List Edge). AreBroken one other broken broken_clip) first second are_broken in
     let (rings, told_rings, points_are, ends_are) = c.in_ok-contours.ensures.ok in
-    let contours = subst (λ (list : List Edge). AreContours list rings) c.deref-5.ensures.value told_rings in
+    let contours = subst (λ (list : List Edge). AreContours list rings) c.deref-4.ensures.value told_rings in
     let none = c.in_ok-rings.ensures.items in
-    let points = c.deref-8.ensures.value ∙ points_are ∙ ap (λ (before : List Point). before ++ flat_map (λ ring. ring) rings) none in
-    let ends = c.deref-9.ensures.value ∙ ends_are ∙ ap (λ before. before ++ offsets (length c.in_ok-rings.rings.items) rings) c.new-ends.ensures.items ∙ ap (λ (before : List Point). offsets (length before) rings) none in
-    let (widened, wide, widened_points, widened_ends) = c.in_ok-append_widened.ensures.ok all rings (c.deref-6.ensures.value ∙ told.0, c.deref-7.ensures.value ∙ told.1) are.each (points, ends) in
+    let points = c.deref-7.ensures.value ∙ points_are ∙ ap (λ (before : List Point). before ++ flat_map (λ ring. ring) rings) none in
+    let ends = c.deref-8.ensures.value ∙ ends_are ∙ ap (λ before. before ++ offsets (length c.in_ok-rings.rings.items) rings) c.new-ends.ensures.items ∙ ap (λ (before : List Point). offsets (length before) rings) none in
+    let (widened, wide, widened_points, widened_ends) = c.in_ok-append_widened.ensures.ok all rings (c.deref-5.ensures.value ∙ told.0, c.deref-6.ensures.value ∙ told.1) are.each (points, ends) in
     let (boundary, sloped) = widened-boundary c.args.rule c.args.operation subject clip stretches clip_stretches are broken broken_clip of_chords c.in_ok-edges.edges.items filled rings contours widened wide in
     (widened, boundary, sloped, widened_points, widened_ends)

@@ -1,4 +1,4 @@
-use Rattle.std.proofs.Common.{List, sym, subst}
+use Rattle.std.proofs.Common.{List, drop, sym, subst, take}
 use Rattle.std.specs.List.{flat_map}
 use Rattle.plane.specs.declared.edge.Edge.{Edge}
 use Rattle.overlay.specs.Contours.Rings.{AreContours, ring_edges}
@@ -9,15 +9,15 @@ use Rattle.overlay.proofs.boundary.append_by_edges.Goals as goal
 
 pub contours-requires : goal.contours-requires
 contours-requires g c =
-    let (pieces, clip_pieces, are, filled) = c.in_ok-edges.ensures.filled in
+    let (pieces, clip_pieces, are, filled) = c.in_ok-bounding.ensures.filled in
     subst IsClosed (sym c.deref.ensures.value) filled.closed
 
 pub returns-clause-ok : goal.returns-clause-ok
 returns-clause-ok g c =
-    let subject = c.args.subject.now in
-    let clip = c.args.clip.now in
-    let edges = c.in_ok-edges.edges.items in
-    let (pieces, clip_pieces, broken, filled) = c.in_ok-edges.ensures.filled in
+    let subject = take c.args.count c.args.edges.now in
+    let clip = drop c.args.count c.args.edges.now in
+    let edges = c.in_ok-bounding.bounding.items in
+    let (pieces, clip_pieces, broken, filled) = c.in_ok-bounding.ensures.filled in
     let (rings, told, points, ends) = c.in_ok-contours.ensures.ok in
     let are = subst (λ (list : List Edge). AreContours list rings) c.deref.ensures.value told in (
       rings,

@@ -1,34 +1,22 @@
-use Rattle.std.proofs.Common.{◌≡◌, ◌++◌, List, length, ap, subst, ◌∙◌}
+use Rattle.std.proofs.Common.{◌≤◌, List, length, take, drop, ap, subst₂, ◌∙◌, arith}
+use Rattle.std.specs.Prelude.{IfOk}
+use Rattle.std.proofs.lemmas.List.{length-append}
+use Rattle.std.proofs.Math.Seq.{drop-append_seam, take-append_seam}
 use Rattle.plane.specs.declared.edge.Edge.{Edge}
-use Rattle.plane.specs.declared.point.Point.{Point}
-use Rattle.std.specs.List.{flat_map}
-use Rattle.overlay.specs.Snap.Chains.{AreChains}
-use Rattle.overlay.specs.Snap.Offsets.{offsets}
-use Rattle.overlay.proofs.BoundaryLemmas.Broken.{chains-count, chains-some, cut-broken}
+use Rattle.overlay.specs.Boundary.{AreBroken}
 use Rattle.overlay.proofs.boundary.broken.broken.Goals as goal
 
-pub count_pieces-count-requires : goal.count_pieces-count-requires
-count_pieces-count-requires g c =
-    let subject = c.args.subject.now in
-    let clip = c.args.clip.now in
-    let (chains, are, points_are, ends_are) = c.in_ok-snap.ensures.ok in
-    let none = c.in_ok-points.ensures.items in
-    let listed : c.deref.result.now ≡ subject ++ clip = c.deref.ensures.value ∙ c.in_ok-edges.ensures in
-    let whole = subst (λ (edges : List Edge). AreChains edges chains) listed are in
-    let ends = c.deref-4.ensures.value ∙ ends_are ∙ ap (λ before. before ++ offsets (length c.in_ok-points.points.items) chains) c.in_ok-ends.ensures.items ∙ ap (λ (before : List Point). offsets (length before) chains) none in
-    (chains, ends, chains-some (subject ++ clip) chains whole, chains-count subject clip chains whole)
+pub broken_of-requires : goal.broken_of-requires
+broken_of-requires g c =
+    let sum = length-append c.args.subject.now c.args.clip.now in
+    let same = ap (λ (edges : List Edge). length edges) (c.deref.ensures.value ∙ c.in_ok-edges.ensures) in
+    omega (arith, sum, same)
 
 pub returns : goal.returns
 returns g c =
     let subject = c.args.subject.now in
     let clip = c.args.clip.now in
-    let (chains, are, points_are, ends_are) = c.in_ok-snap.ensures.ok in
-    let none = c.in_ok-points.ensures.items in
-    let listed : c.deref.result.now ≡ subject ++ clip = c.deref.ensures.value ∙ c.in_ok-edges.ensures in
-    let whole = subst (λ (edges : List Edge). AreChains edges chains) listed are in
-    let points = c.deref-2.ensures.value ∙ points_are ∙ ap (λ (before : List Point). before ++ flat_map (λ chain. chain) chains) none in
-    let ends = c.deref-3.ensures.value ∙ ends_are ∙ ap (λ before. before ++ offsets (length c.in_ok-points.points.items) chains) c.in_ok-ends.ensures.items ∙ ap (λ (before : List Point). offsets (length before) chains) none in
-    let ends_too = c.deref-4.ensures.value ∙ ends_are ∙ ap (λ before. before ++ offsets (length c.in_ok-points.points.items) chains) c.in_ok-ends.ensures.items ∙ ap (λ (before : List Point). offsets (length before) chains) none in
-    let size = chains-count subject clip chains whole in
-    let count = c.count_pieces-count.ensures chains ends_too (chains-some (subject ++ clip) chains whole) size in
-    cut-broken subject clip c.in_ok-pieces.pieces.items chains c.count_pieces-count.result whole (c.in_ok-pieces.ensures chains (points, ends)) count
+    let listed = c.deref.ensures.value ∙ c.in_ok-edges.ensures in
+    let first = ap (λ (edges : List Edge). take (length subject) edges) listed ∙ take-append_seam subject clip in
+    let second = ap (λ (edges : List Edge). drop (length subject) edges) listed ∙ drop-append_seam subject clip in
+    subst₂ (λ (one other : List Edge). IfOk c.broken_of.result (λ told. (told.1 ≤ length told.0.items) × AreBroken one other (take told.1 told.0.items) (drop told.1 told.0.items))) first second c.broken_of.ensures
