@@ -3,8 +3,8 @@ use Rattle.std.proofs.Common.{◌≡◌, ℕ, ◌+◌, ◌<◌, ℤ, ◌≤ℤ�
 use Rattle.std.specs.List.{filter}
 use Rattle.std.specs.List.Sorted.{IsPermutation}
 use Rattle.std.specs.Ordering.{int_cmp}
-use Rattle.std.proofs.lemmas.Bool.{cond-true, cond-false}
-use Rattle.std.proofs.lemmas.List.{take_more}
+use Rattle.std.proofs.lemmas.Bool.{cond-true}
+use Rattle.std.proofs.lemmas.List.{map-append, take_more}
 use Rattle.std.proofs.lemmas.List.Sorted.{IsPermutation-push_more, IsPermutation-to_front, IsPermutation-sym}
 use Rattle.i_tree.specs.Seg.Buckets.{Buckets}
 use Rattle.i_tree.specs.Seg.Members.{Member, Joins, live_members, values_of}
@@ -30,24 +30,14 @@ filter-map f p (x ∷ xs) = ap (λ (ys : List _). cond (p (f x)) (f x ∷ ys) ys
     kept true x ys = refl
     kept false x ys = refl
 
-map-append : {X Y : Type 0} (f : X → Y) (xs ys : List X) → map f (xs ++ ys) ≡ map f xs ++ map f ys
-map-append f [] ys = refl
-map-append f (x ∷ xs) ys = ap (λ (zs : List _). f x ∷ zs) (map-append f xs ys)
-
 module _ {X A : Type 0} (bounds : X → Bounds) (strips : Strips) (strip : ℕ) where
-  -- where they are few, what is held is the list's, and else the tree's
+  -- where they are few, what is held is the list's
   module _ (live : Live X A) where
     pub members-few : live.is_few ≡ true → (held bounds strips strip live).members ≡ members_in bounds strips strip live.tree.buckets live.few.items
     members-few few = cond-true live.is_few (members_in bounds strips strip live.tree.buckets live.few.items) live.tree.members few
 
-    pub members-many : live.is_few ≡ false → (held bounds strips strip live).members ≡ live.tree.members
-    members-many many = cond-false live.is_few (members_in bounds strips strip live.tree.buckets live.few.items) live.tree.members many
-
     pub latest-few : live.is_few ≡ true → (held bounds strips strip live).latest ≡ None
     latest-few few = cond-true live.is_few None live.tree.latest few
-
-    pub latest-many : live.is_few ≡ false → (held bounds strips strip live).latest ≡ live.tree.latest
-    latest-many many = cond-false live.is_few None live.tree.latest many
 
     -- nothing is held where the list is empty
     pub members-empty : live.is_few ≡ true → live.few.items ≡ [] → (held bounds strips strip live).members ≡ []
