@@ -103,7 +103,7 @@ fn append_all_outlines<A: Allocator + Copy>(
         × Extends ring_ends.old.items ring_ends.new.items) }
 {
     let alloc = *points.allocator();
-    let mut rings = Vec::new(alloc);
+    let mut rings = Vec::with_capacity(alloc, edges.len())?;
     let mut ends = Vec::new(alloc);
     append_all(edges, &mut rings, &mut ends)?;
     append_outlines(&rings, &ends, points, ring_ends)

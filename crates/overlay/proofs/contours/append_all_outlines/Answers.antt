@@ -10,9 +10,9 @@ use Rattle.overlay.proofs.contours.append_all_outlines.Goals as goal
 pub returns-clause-ok : goal.returns-clause-ok
 returns-clause-ok g c =
     let (rings, are, points_are, ends_are) = c.in_ok-append_all.ensures.ok in
-    let none = c.new-rings.ensures.items in
+    let none = c.in_ok-rings.ensures.items in
     let points = c.deref.ensures.value ∙ points_are ∙ ap (λ (before : List Point). before ++ flat_map (λ ring. ring) rings) none in
-    let ends = c.deref-2.ensures.value ∙ ends_are ∙ ap (λ before. before ++ offsets (length c.new-rings.result.items) rings) c.new-ends.ensures.items ∙ ap (λ (before : List Point). offsets (length before) rings) none in
+    let ends = c.deref-2.ensures.value ∙ ends_are ∙ ap (λ before. before ++ offsets (length c.in_ok-rings.rings.items) rings) c.new-ends.ensures.items ∙ ap (λ (before : List Point). offsets (length before) rings) none in
     on_ok_weaker c.append_outlines.result (λ (told : (c.append_outlines.new.points.items ≡ c.args.points.now.items ++ flat_map outline rings)
     × (c.append_outlines.new.ring_ends.items ≡ c.args.ring_ends.now.items ++ offsets (length c.args.points.now.items) (map outline rings))). (
       rings,
