@@ -1,31 +1,34 @@
-use Rattle.std.proofs.Common.{◌≡◌, ◌++◌, ◌≤◌, List, length, take, drop, ap, ap₂, subst, sym, ◌∙◌, arith}
-use Rattle.std.proofs.lemmas.List.{length-append}
-use Rattle.std.proofs.Math.Seq.{drop-append_seam, take-append_seam}
+use Rattle.std.proofs.Common.{◌≡◌, ◌++◌, ◌≤◌, ℕ, List, length, take, drop, ap, ap₂, subst, sym, ◌∙◌, arith}
+use Rattle.std.proofs.lemmas.List.{drop_at, length-append, take_at}
 use Rattle.plane.specs.declared.edge.Edge.{Edge}
 use Rattle.overlay.specs.Snap.Windings.{IsClosed}
 use Rattle.overlay_tests.proofs.walks.edges_of_both.Goals as goal
 
 -- where a list is two closed ones
-module _ (both first others : List Edge) (is : both ≡ first ++ others) where
-  front : IsClosed first → IsClosed (take (length first) both)
-  front = subst IsClosed (sym (ap (λ (edges : List Edge). take (length first) edges) is ∙ take-append_seam first others))
+module _ (both first others : List Edge) (count : ℕ) (is : both ≡ first ++ others) (size : count ≡ length first) where
+  front : IsClosed first → IsClosed (take count both)
+  front = subst IsClosed (sym (ap (λ (edges : List Edge). take count edges) is ∙ take_at first others count (sym size)))
 
-  back : IsClosed others → IsClosed (drop (length first) both)
-  back = subst IsClosed (sym (ap (λ (edges : List Edge). drop (length first) edges) is ∙ drop-append_seam first others))
+  back : IsClosed others → IsClosed (drop count both)
+  back = subst IsClosed (sym (ap (λ (edges : List Edge). drop count edges) is ∙ drop_at first others count (sym size)))
 
-  within : length first ≤ length both
+  within : count ≤ length both
   within =
       let sum = length-append first others in
       let same = ap (λ (edges : List Edge). length edges) is in
-      omega (arith, sum, same)
+      omega (arith, sum, same, size)
 
-pub returns : goal.returns
-returns g c =
-    let first = c.in_ok-first.first.items in
-    let others = c.in_ok-others.others.items in
-    let is = c.in_ok-both.ensures ∙ ap₂ (λ (one other : List Edge). one ++ other) c.deref.ensures.value c.deref-2.ensures.value in
-    record {
-      count = within c.in_ok-both.both.items first others is;
-      closed = front c.in_ok-both.both.items first others is c.in_ok-first.ensures;
-      clip_closed = back c.in_ok-both.both.items first others is c.in_ok-others.ensures;
-    }
+pub returns-clause-count : goal.returns-clause-count
+returns-clause-count c =
+    within c.in_ok-both.both.items c.in_ok-first.first.items c.in_ok-others.others.items c.len.result
+    (c.in_ok-both.ensures ∙ ap₂ (λ (one other : List Edge). one ++ other) c.deref.ensures.value c.deref-2.ensures.value) (c.len.ensures ∙ c.in_ok-first.first.ok.0)
+
+pub returns-clause-closed : goal.returns-clause-closed
+returns-clause-closed c =
+    front c.in_ok-both.both.items c.in_ok-first.first.items c.in_ok-others.others.items c.len.result
+    (c.in_ok-both.ensures ∙ ap₂ (λ (one other : List Edge). one ++ other) c.deref.ensures.value c.deref-2.ensures.value) (c.len.ensures ∙ c.in_ok-first.first.ok.0) c.in_ok-first.ensures
+
+pub returns-clause-clip_closed : goal.returns-clause-clip_closed
+returns-clause-clip_closed c =
+    back c.in_ok-both.both.items c.in_ok-first.first.items c.in_ok-others.others.items c.len.result
+    (c.in_ok-both.ensures ∙ ap₂ (λ (one other : List Edge). one ++ other) c.deref.ensures.value c.deref-2.ensures.value) (c.len.ensures ∙ c.in_ok-first.first.ok.0) c.in_ok-others.ensures
