@@ -81,7 +81,7 @@ def layers():
         *titled(368, 108, 332, 50, "polygons", "the overlay of polygons with holes"),
         *titled(368, 170, 332, 50, "overlay", "edges broken where they meet; what rings bound"),
         *titled(368, 232, 332, 50, "plane", "edges that meet; the edge below a point"),
-        *titled(20, 294, 680, 50, "event_queue", "what a sweep meets, in order; it uses std alone"),
+        *titled(20, 294, 680, 50, "event_queue", "what a sweep meets, in order; a sort in buckets; it uses std alone"),
         box(20, 356, 680, 208, PAPER),
         text(30, 374, "i_tree", 14, "start", weight="bold"),
         *titled(35, 382, 152, 60, "key", "keys that expire", "#e8f0fa"),
