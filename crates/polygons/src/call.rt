@@ -27,6 +27,8 @@ use std::alloc::Allocator;
 /// Around no point do they wind more often. Their rings visit no point twice. Points at which a ring goes straight on are left
 /// out; with these, edges of rings meet only at common ends, so that a corner may touch the side of a ring.
 ///
+/// While few edges are active at once along the sweep they stand in a list, and once more are in a tree (`GrowingStatus`).
+///
 /// `Lengths` comes where the ends of subject or clip don't rise or go behind the points, and nothing else is done then.
 /// `Refused` comes where memory was refused, or where more edges are live at once than a tree has handles. After any fault
 /// `out` is as it was. The memory is that of `out`.
