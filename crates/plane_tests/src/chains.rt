@@ -1,7 +1,7 @@
 //! Chains above one another by chance, and fans, whose answers are known as they are made.
 
 use crate::edges::{edge, turned};
-use crate::located::locates_over_both;
+use crate::located::locates_over_each;
 use plane::edge::Edge;
 use plane::locate::Point;
 use std::alloc::Global;
@@ -44,7 +44,7 @@ impl Case {
     }
 
     fn is_told(&self, alloc: Global) -> Result<bool, Fail> {
-        locates_over_both(alloc, &self.edges, &self.points, Ok(&self.answers))
+        locates_over_each(alloc, &self.edges, &self.points, Ok(&self.answers))
     }
 }
 

@@ -1,12 +1,13 @@
-//! Worked sets of edges and points, over both kinds of status.
+//! Worked sets of edges and points, over each kind of status.
 
-use crate::edges::{Ends, edges_of, turned};
+use crate::edges::{Ends, edge, edges_of, turned};
 use i_tree::Refusal;
 use i_tree::status::exp::StatusCollection;
 use i_tree::status::list::StatusList;
 use i_tree::status::tree::StatusTree;
 use plane::edge::Edge;
 use plane::locate::{ActiveEdge, LocateFault, Point, locate};
+use plane::sweep_line::GrowingStatus;
 use std::alloc::Global;
 use std::cmp::Ordering;
 use std::test::Fail;
@@ -367,15 +368,31 @@ fn locates_by_tree(
     )
 }
 
-/// The same over a list and over a tree.
-pub fn locates_over_both(
+fn locates_by_growing(
+    alloc: Global,
+    edges: &[Edge],
+    points: &[Point],
+    wanted: Wanted,
+) -> Result<bool, Fail> {
+    locates_to(
+        alloc,
+        &mut GrowingStatus::new(alloc)?,
+        edges,
+        points,
+        wanted,
+    )
+}
+
+/// The same over a list, over a tree, and over what is one and then the other.
+pub fn locates_over_each(
     alloc: Global,
     edges: &[Edge],
     points: &[Point],
     wanted: Wanted,
 ) -> Result<bool, Fail> {
     let is_listed = locates_by_list(alloc, edges, points, wanted)?;
-    Ok(locates_by_tree(alloc, edges, points, wanted)? && is_listed)
+    let is_grown = locates_by_growing(alloc, edges, points, wanted)?;
+    Ok(locates_by_tree(alloc, edges, points, wanted)? && is_listed && is_grown)
 }
 
 fn points_of(alloc: Global, places: &[(i32, i32)]) -> Result<Vec<Point>, Fail> {
@@ -404,9 +421,9 @@ fn locates_so(
 ) -> Result<bool, Fail> {
     let points = points_of(alloc, places)?;
     let others = edges_of(alloc, &all_turned(alloc, edges)?)?;
-    let is_turned_told = locates_over_both(alloc, &others, &points, wanted)?;
+    let is_turned_told = locates_over_each(alloc, &others, &points, wanted)?;
     let edges = edges_of(alloc, edges)?;
-    Ok(locates_over_both(alloc, &edges, &points, wanted)? && is_turned_told)
+    Ok(locates_over_each(alloc, &edges, &points, wanted)? && is_turned_told)
 }
 
 // A function that goes over a table is dear to prove if it names the table.
@@ -459,7 +476,60 @@ fn told<C: StatusCollection<ActiveEdge, i64, ()>>(
 fn either_of_two_along_one_line_may_be_told(rt: HostRuntime) -> Result<(), Fail> {
     let by_list = told(rt.alloc(), &mut StatusList::new(rt.alloc(), 0)?)?;
     let by_tree = told(rt.alloc(), &mut StatusTree::new(rt.alloc(), 0)?)?;
-    assert!(rt; matches!((by_list, by_tree), (Some(0 | 1), Some(0 | 1))));
+    let by_growing = told(rt.alloc(), &mut GrowingStatus::new(rt.alloc())?)?;
+    for place in [by_list, by_tree, by_growing] {
+        assert!(rt; matches!(place, Some(0 | 1)));
+    }
+    Ok(())
+}
+
+// So many edges above one another, which begin in no order of their heights, a point on each, and a point on none. Then two that
+// begin behind them, and a point on each of these.
+fn push_stack(
+    count: u8,
+    edges: &mut Vec<Edge>,
+    points: &mut Vec<Point>,
+    answers: &mut Vec<Option<usize>>,
+) -> Result<(), Fail> {
+    for place in 0..count {
+        let y = place as i32 * 37 % 101;
+        edges.push(edge([0, y, 30, y]))?;
+        points.push(Point { x: 25, y })?;
+        answers.push(Some(place as usize))?;
+    }
+    points.push(Point { x: 35, y: 200 })?;
+    answers.push(None)?;
+    for place in 0..2u8 {
+        let y = place as i32;
+        edges.push(edge([40, y, 70, y]))?;
+        points.push(Point { x: 50, y })?;
+        answers.push(Some(count as usize + place as usize))?;
+    }
+    Ok(())
+}
+
+// Locates in such a stack.
+fn locates_stack<C: StatusCollection<ActiveEdge, i64, ()>>(
+    alloc: Global,
+    status: &mut C,
+    count: u8,
+) -> Result<bool, Fail> {
+    let mut edges = Vec::new(alloc);
+    let mut points = Vec::new(alloc);
+    let mut answers = Vec::new(alloc);
+    push_stack(count, &mut edges, &mut points, &mut answers)?;
+    locates_to(alloc, status, &edges, &points, Ok(&answers))
+}
+
+#[test]
+fn a_status_serves_few_many_and_few_again(rt: HostRuntime) -> Result<(), Fail> {
+    let mut status = GrowingStatus::new(rt.alloc())?;
+    for count in [3, 100, 3, 64, 65, 3] {
+        assert!(rt;
+            locates_stack(rt.alloc(), &mut status, count)?,
+            "{count} edges"
+        );
+    }
     Ok(())
 }
 

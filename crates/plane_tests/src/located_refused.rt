@@ -8,6 +8,7 @@ use i_tree::status::tree::StatusTree;
 use i_tree::{Expiration, ExpiredVal, Refusal};
 use plane::edge::Edge;
 use plane::locate::{ActiveEdge, LocateFault, Point, locate};
+use plane::sweep_line::GrowingStatus;
 use std::alloc::{Allocator, Global};
 use std::cmp::Ordering;
 use std::test::Fail;
@@ -21,6 +22,9 @@ trait MadeStatus: StatusCollection<ActiveEdge, i64, ()> + Drop {
     type Memory: Allocator + Copy + Drop;
 
     fn make(memory: Self::Memory) -> Result<Self, Refusal>;
+
+    // Whether it may do without memory that was refused.
+    fn may_go_on() -> bool;
 }
 
 impl<A: Allocator + Copy + Drop> MadeStatus for StatusList<ActiveEdge, i64, (), A> {
@@ -29,6 +33,10 @@ impl<A: Allocator + Copy + Drop> MadeStatus for StatusList<ActiveEdge, i64, (), 
     fn make(memory: A) -> Result<Self, Refusal> {
         StatusList::new(memory, 0)
     }
+
+    fn may_go_on() -> bool {
+        false
+    }
 }
 
 impl<A: Allocator + Copy + Drop> MadeStatus for StatusTree<ActiveEdge, i64, (), A> {
@@ -36,6 +44,23 @@ impl<A: Allocator + Copy + Drop> MadeStatus for StatusTree<ActiveEdge, i64, (), 
 
     fn make(memory: A) -> Result<Self, Refusal> {
         StatusTree::new(memory, 0)
+    }
+
+    fn may_go_on() -> bool {
+        false
+    }
+}
+
+impl<A: Allocator + Copy + Drop> MadeStatus for GrowingStatus<ActiveEdge, i64, (), A> {
+    type Memory = A;
+
+    fn make(memory: A) -> Result<Self, Refusal> {
+        GrowingStatus::new(memory)
+    }
+
+    // Where the tree is refused the room, all stay in the list.
+    fn may_go_on() -> bool {
+        true
     }
 }
 
@@ -87,6 +112,11 @@ impl<C: MadeStatus> Trial for Stack<C> {
     }
 
     fn is_refused(&self, located: &mut Located<C>, _nth: u64) -> bool {
+        if C::may_go_on() && located.outcome == Ok(()) {
+            let is_done = self.is_done(located);
+            located.out.truncate(1);
+            return is_done;
+        }
         located.has_ended(Err(LocateFault::Refused(Refusal::OutOfMemory)))
     }
 
@@ -104,7 +134,7 @@ fn requests_of<C: MadeStatus>(
     let mut edges = Vec::new(alloc);
     let mut points = Vec::new(alloc);
     let mut answers = Vec::new(alloc);
-    for place in 0..20u8 {
+    for place in 0..100u8 {
         let y = place as i32;
         edges.push(edge([0, y, 30, y]))?;
         points.push(Point { x: 25, y })?;
@@ -135,6 +165,18 @@ fn keeps_out_at_each_refusal_over_a_list(rt: HostRuntime) -> Result<(), Fail> {
 fn keeps_out_at_each_refusal_over_a_tree(rt: HostRuntime) -> Result<(), Fail> {
     let memory = Refusing::new(rt.alloc());
     let requests = requests_of::<StatusTree<ActiveEdge, i64, (), Memory>>(
+        &memory,
+        &memory,
+        rt.alloc(),
+    )?;
+    assert!(rt; matches!(requests, Ok(4..)));
+    Ok(())
+}
+
+#[test]
+fn keeps_out_at_each_refusal_over_what_grows(rt: HostRuntime) -> Result<(), Fail> {
+    let memory = Refusing::new(rt.alloc());
+    let requests = requests_of::<GrowingStatus<ActiveEdge, i64, (), Memory>>(
         &memory,
         &memory,
         rt.alloc(),
