@@ -2,13 +2,13 @@
 pub mod Active
 pub mod Adjacent
 pub mod Advance
-pub mod Appended
 pub mod Begins
 pub mod Comparisons
 pub mod Crossings
 pub mod Ends
 pub mod Exchanged
 pub mod Gaps
+pub mod Growing
 pub mod Insertion
 pub mod Later
 pub mod Live

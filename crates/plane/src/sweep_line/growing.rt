@@ -1,10 +1,11 @@
 //! `GrowingStatus`: the status of a sweep line, a list while few pairs are stored, and a tree once more are.
 
-ghost use Rattle.std.specs.Prelude.{◌≡◌, ◌∷◌, ◌++◌, [], true, MatchBool, IfOk, OnOk};
+ghost use Rattle.std.specs.Prelude.{◌≡◌, ◌∷◌, ◌++◌, [], true, IfOk, OnOk};
 ghost use Rattle.std.specs.declared.cmp.Ordering.TheVariants.{Less};
 ghost use Rattle.i_tree.specs.Expiring.Live.{AllLive};
 ghost use Rattle.i_tree.specs.Expiring.Tree.{items};
 ghost use Rattle.i_tree.specs.Root.Live.{is_live};
+ghost use Rattle.plane.specs.SweepLine.Growing.{AreHeldByOne};
 
 use i_tree::status::exp::StatusCollection;
 use i_tree::status::list::StatusList;
@@ -139,9 +140,7 @@ fn go_over_if_many<K: ExpiredVal<E>, E: Expiration, V: Copy, A: Allocator + Copy
 ) -> bool
     requires live { is_live K.expiration E.cmp time key ≡ true → AllLive K.expiration E.cmp time few.old.pairs }
     requires empty { items many.old.shape ≡ [] }
-    ensures gone { MatchBool result
-        ((few.new.pairs ≡ []) × (items many.new.shape ≡ few.old.pairs))
-        ((few.new.pairs ≡ few.old.pairs) × (items many.new.shape ≡ [])) }
+    ensures gone { AreHeldByOne result few.new.pairs (items many.new.shape) few.old.pairs }
 {
     if few.stored() > FEW && key.expiration() >= time {
         return go_over(few, many, time);
@@ -159,9 +158,7 @@ fn go_over<K: ExpiredVal<E>, E: Expiration, V: Copy, A: Allocator + Copy>(
 ) -> bool
     requires live { AllLive K.expiration E.cmp time few.old.pairs }
     requires empty { items many.old.shape ≡ [] }
-    ensures gone { MatchBool result
-        ((few.new.pairs ≡ []) × (items many.new.shape ≡ few.old.pairs))
-        ((few.new.pairs ≡ few.old.pairs) × (items many.new.shape ≡ [])) }
+    ensures gone { AreHeldByOne result few.new.pairs (items many.new.shape) few.old.pairs }
 {
     match append_all(many, few.pairs(), time) {
         Ok(()) => {

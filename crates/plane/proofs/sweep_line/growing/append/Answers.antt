@@ -1,6 +1,6 @@
 use Rattle.i_tree.specs.Expiring.Tree.{items}
 use Rattle.i_tree.specs.Root.Live.{is_live}
-use Rattle.plane.proofs.SweepLineLemmas.Appended.{stands_last}
+use Rattle.plane.proofs.SweepLineLemmas.Growing.{stands_last}
 use Rattle.plane.proofs.sweep_line.growing.append.Goals as goal
 
 pub returns : goal.returns

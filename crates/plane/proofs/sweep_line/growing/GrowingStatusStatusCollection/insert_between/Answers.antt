@@ -2,7 +2,7 @@ use Rattle.std.proofs.Common.{is_some}
 use Rattle.std.proofs.lemmas.Result.{MatchResult-from_err}
 use Rattle.i_tree.specs.Expiring.Tree.{items}
 use Rattle.i_tree.specs.Root.Live.{is_live}
-use Rattle.plane.proofs.SweepLineLemmas.Appended.{held_by_one, passes_joined}
+use Rattle.plane.proofs.SweepLineLemmas.Growing.{held_by_one, passes_joined}
 use Rattle.plane.proofs.sweep_line.growing.GrowingStatusStatusCollection.insert_between.Goals as goal
 
 pub returns-then-self-clause-cases : goal.returns-then-self-clause-cases

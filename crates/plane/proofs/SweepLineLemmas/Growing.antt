@@ -1,4 +1,4 @@
--- Where all pairs of a status are live, and that a pair which joins behind all of these stands last.
+-- Of a status that grows: which of the two has the pairs, that all are live when they go over, and that each goes behind the others.
 use Rattle.std.proofs.Common.{◌≡◌, Bool, true, false, if◌then◌else◌, MatchBool, List, [], ◌∷◌, ◌++◌, All, filter, refl, sym, ap, ◌∙◌, arith}
 use Rattle.std.specs.declared.cmp.Ordering.{Ordering}
 use Rattle.std.specs.declared.cmp.Ordering.TheVariants.{Less, Greater}
@@ -11,6 +11,7 @@ use Rattle.i_tree.specs.Status.Insertion.{IsNew, JoinsAlong, JoinsOrLeaves}
 use Rattle.i_tree.proofs.RootLemmas.Joined.{All-behind}
 use Rattle.i_tree.proofs.RootLemmas.Lists.{All-insert, filter_all}
 use Rattle.i_tree.proofs.RootLemmas.Withouts.{All-without, filter-without}
+use Rattle.plane.specs.SweepLine.Growing.{AreHeldByOne}
 
 -- where nothing may go, nothing goes
 pub Without-all : {X : Type 0} (p : X → Bool) {before after : List X} → Without (λ x. p x ≡ false) before after → All (λ x. p x ≡ true) before
@@ -18,9 +19,9 @@ pub Without-all : {X : Type 0} (p : X → Bool) {before after : List X} → With
 Without-all p {before} {after} kept all =
     sym (filter_all p after (All-without (λ x. p x ≡ true) kept all)) ∙ sym (filter-without p (λ x goes. goes) kept) ∙ filter_all p before all
 
--- what holds the pairs, of two of which the other is empty
+-- which of the two has the pairs
 pub held_by_one : {X : Type 0} (are_many : Bool) (few many pairs : List X)
-    → MatchBool are_many ((few ≡ []) × (many ≡ pairs)) ((few ≡ pairs) × (many ≡ [])) → (if are_many then many else few) ≡ pairs
+    → AreHeldByOne are_many few many pairs → (if are_many then many else few) ≡ pairs
 held_by_one true few many pairs gone = gone.1
 held_by_one false few many pairs gone = gone.0
 
