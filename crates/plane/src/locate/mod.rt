@@ -36,7 +36,7 @@ mod sweep;
 /// case. The memory is that of `out`.
 ///
 /// For e edges and p points it compares O((e + p) log (e + p)) times beside the calls of the status, which are at most two for
-/// each edge and one for each point. A `GrowingStatus` is the quickest, whether few edges are active at once or many. The sweep is our own, and not of the Rust crate. It is the textbook's sweep line after
+/// each edge and one for each point. The sweep is our own, and not of the Rust crate. It is the textbook's sweep line after
 /// Shamos and Hoey, which checks edges where they become neighbours along the line, and stops at the first two that cross.
 pub fn locate<C, A>(
     status: &mut C,
