@@ -35,7 +35,12 @@ pub fn parts<T: Boxed, A: Allocator + Copy>(
 {
     let mut parts = Vec::with_capacity(alloc, items.len())?;
     push_all(&mut parts, items, strips)?;
-    sort_in_buckets(&mut parts, number_of, |one, other| compare(*one, *other))?;
+    let numbers = numbers_for(&parts);
+    sort_in_buckets(
+        &mut parts,
+        |part| numbers.number_of(part),
+        |one, other| compare(*one, *other),
+    )?;
     Ok(parts)
 }
 
@@ -82,9 +87,32 @@ fn push_parts<T: Boxed, A: Allocator>(
     Ok(())
 }
 
-// A number by which parts are nearly in order: the strip's, and behind it where the part begins.
-fn number_of(part: Part) -> u64 {
-    (u64::from(part.strip) << 32) + u64::from(part.left.abs_diff(i32::MIN))
+// Numbers by which parts are nearly in order: for each strip so many bits' worth, from the least x on at which a part begins.
+// So they lie close together, and buckets of them have few parts each.
+#[derive(Clone, Copy)]
+struct Numbers {
+    least: i32,
+    bits: u32,
+}
+
+impl Numbers {
+    fn number_of(self, part: Part) -> u64 {
+        (u64::from(part.strip) << (self.bits % 64)) | u64::from(part.left.abs_diff(self.least))
+    }
+}
+
+// The closest numbers that tell all x apart at which these parts begin.
+fn numbers_for(parts: &[Part]) -> Numbers {
+    let mut least = i32::MAX;
+    let mut greatest = i32::MIN;
+    for part in parts {
+        least = least.min(part.left);
+        greatest = greatest.max(part.left);
+    }
+    Numbers {
+        least,
+        bits: 32 - greatest.abs_diff(least).leading_zeros(),
+    }
 }
 
 // How two parts stand by the order of their fields. All three comparisons are made, since a branch between them would be
