@@ -34,7 +34,7 @@ ReachFew bounds strips items = reached bounds strips items ≤ 3 * length items
 -- Strips of so many bits are wide enough for so many items, whose heights, over a span in all, sum up to this: they are
 -- as wide as can be, or one is enough for all, or few items reach several.
 abbrev pub IsWideEnough : ℕ → ℕ → ℕ → ℕ → Type 0
-IsWideEnough count span heights bits = (bits ≡ 31) ⊎ (span / 2 ^ bits ≡ 0) ⊎ (heights / 2 ^ bits ≤ count / 16)
+IsWideEnough count span heights bits = (bits ≡ 31) ⊎ (span / 2 ^ bits ≡ 0) ⊎ (heights / 2 ^ bits ≤ count / 4)
 
 -- the heights of a box that lie in a strip, counted from the strip's first one
 abbrev pub range_in : Strips → ℕ → Bounds → SegRange ℕ

@@ -5,16 +5,25 @@ ghost use Rattle.std.specs.Prelude.{◌≤◌, ◌<◌, ◌≤ℤ◌, All};
 ghost use Rattle.plane.specs.Pairs.Bounds.{IsBox};
 ghost use Rattle.plane.specs.Pairs.Strips.{IsWideEnough, ReachFew};
 
+use super::extents::extents_of;
 use super::items::Boxed;
 use super::strips::Strips;
 
+/// How many strips items call for at most, and whether so many stand beside each other that short lists of live ones would
+/// take strips which cut most items.
+#[derive(Clone, Copy)]
+pub struct Wanted {
+    pub strips: u64,
+    pub are_crowded: bool,
+}
+
 /// Strips from the lowest of the items on, as many as these call for.
 ///
-/// The narrower strips are, the fewer items stand beside each other in a bucket, and the more items reach several
-/// strips. So they are halved while items reach about a sixteenth more strips at most than there are items, and while
-/// there are 64 items for each strip at least. How many these are is only estimated; but never do items reach more than
-/// three strips each, taken together.
-pub fn strips_for<T: Boxed>(items: &[T]) -> Strips
+/// The narrower strips are, the fewer items are live beside each other, and the more items reach several strips. So
+/// strips are halved while they are no more than wanted, while there are 16 items for each at least, and while items reach
+/// about a quarter more strips at most than there are items, or a sixteenth more where they are crowded. How many strips
+/// items reach is only estimated; but never do they reach more than three each, taken together.
+pub fn strips_for<T: Boxed>(items: &[T], wanted: Wanted) -> Strips
     requires proper { (item : T) → IsBox (T.bounds item) }
     ensures base { All (λ item. result.base ≤ℤ (T.bounds item).low) items.now }
     ensures few { ReachFew T.bounds result items.now }
@@ -30,30 +39,47 @@ pub fn strips_for<T: Boxed>(items: &[T]) -> Strips
     }
     Strips {
         base,
-        bits: bits_for(items.len() as u64, top.abs_diff(base), heights),
+        bits: bits_for(items.len() as u64, wanted, top.abs_diff(base), heights),
+    }
+}
+
+/// What items call for that are swept by strips: four strips for each item that is live at once. More have nothing in them.
+pub fn wanted_for<T: Boxed>(items: &[T]) -> Wanted {
+    let all = extents_of(items);
+    let wide = u64::from(all.right.abs_diff(all.left));
+    let tall = u128::from(all.high.abs_diff(all.low));
+    let live = all.widths / wide.max(1);
+    let beside = u128::from(all.heights).saturating_mul(u128::from(live));
+    Wanted {
+        strips: live.saturating_mul(4),
+        are_crowded: beside > (items.len() as u128).saturating_mul(3 * tall),
     }
 }
 
 // How many bits the width of strips takes, for so many items, from the lowest to the highest of which it is the
 // span, and whose own heights sum up to this.
-fn bits_for(count: u64, span: u32, heights: u128) -> u32
+fn bits_for(count: u64, wanted: Wanted, span: u32, heights: u128) -> u32
     ensures wide { 5 ≤ result }
     ensures fits { result < 32 }
     ensures few { IsWideEnough count span heights result }
 {
     let mut bits = 31;
-    while bits > 5 && calls_for(count, span, heights, bits - 1) {
+    while bits > 5 && calls_for(count, wanted, span, heights, bits - 1) {
         bits -= 1;
     }
     bits
 }
 
-// Whether the items call for strips as narrow as this: one strip is enough for all, or there are few strips and few
+// Whether the items call for strips as narrow as this: one strip is enough for all, or there are few strips, and few
 // items reach several.
-fn calls_for(count: u64, span: u32, heights: u128, bits: u32) -> bool
+fn calls_for(count: u64, wanted: Wanted, span: u32, heights: u128, bits: u32) -> bool
     requires { bits < 32 }
     ensures { OnTrue result (IsWideEnough count span heights bits) }
 {
     let strips = (span >> bits) as u64;
-    strips == 0 || (strips <= count / 64 && heights >> bits <= (count / 16) as u128)
+    let further = heights >> bits;
+    let few_reach = further <= (count / 4) as u128;
+    let fewer_reach = further <= (count / 16) as u128;
+    let is_wanted = strips <= wanted.strips.min(count / 16);
+    strips == 0 || (is_wanted && few_reach && (fewer_reach || !wanted.are_crowded))
 }

@@ -17,7 +17,7 @@ use i_tree::seg::tree::SegExpTree;
 use std::alloc::Allocator;
 
 // So many items stand in a list at most. One goes over a shorter one faster than one asks the tree, mostly.
-const FEW: usize = 16;
+const FEW: usize = 32;
 
 /// The items that have joined in a strip and are live: in a list while they are few, and from then on in a segment tree
 /// over their heights, to the end of the strip.

@@ -8,7 +8,7 @@ ghost use Rattle.plane.specs.Pairs.Roles.{FindAll};
 ghost use Rattle.plane.specs.Pairs.Sweep.{Extends};
 
 pub use between::pairs_between;
-use cut::strips_for;
+use cut::{strips_for, wanted_for};
 use i_tree::Refusal;
 use items::Meets;
 use live::Live;
@@ -20,6 +20,7 @@ use sweep::append_pairs;
 
 mod between;
 mod cut;
+mod extents;
 pub mod items;
 mod live;
 mod parts;
@@ -150,7 +151,7 @@ fn sweep_over<T: Meets<T>, A: Allocator + Copy>(
     ensures refused { IfErr result (λ cause. cause ≡ OutOfMemory) }
 {
     let alloc = *out.allocator();
-    let strips = strips_for(items);
+    let strips = strips_for(items, wanted_for(items));
     let parts = parts(alloc, items, strips)?;
     let mut live = Live::new(alloc, strips)?;
     let mut near = Vec::new(alloc);

@@ -3,12 +3,13 @@
 ghost use Rattle.std.specs.Prelude.{◌≤ℤ◌, All};
 ghost use Rattle.plane.specs.Pairs.Bounds.{IsBox};
 
-use super::cut::strips_for;
-use super::items::{Bounds, Boxed};
+use super::cut::{Wanted, strips_for};
+use super::extents::extents_of;
+use super::items::Boxed;
 use super::strips::Strips;
 
 // How many bits the rows are narrower than strips would be: a point stands in one row however narrow.
-const NARROWER: u32 = 3;
+const NARROWER: u32 = 1;
 
 // So many points at most are to stand in a row from the left side of an item to its right one.
 const BESIDE: u128 = 128;
@@ -23,10 +24,14 @@ pub fn rows_for<X: Boxed, Y: Boxed>(items: &[X], points: &[Y]) -> Strips
     requires points { (point : Y) → IsBox (Y.bounds point) }
     ensures { All (λ point. result.base ≤ℤ (Y.bounds point).low) points.now }
 {
-    let strips = strips_for(points);
+    let wanted = Wanted {
+        strips: u64::MAX,
+        are_crowded: false,
+    };
+    let strips = strips_for(points, wanted);
     let narrower = strips
         .bits
-        .max(strips_for(items).bits)
+        .max(strips_for(items, wanted).bits)
         .saturating_sub(NARROWER);
     Strips {
         base: strips.base,
@@ -40,7 +45,7 @@ fn bits_at_most<X: Boxed, Y: Boxed>(items: &[X], points: &[Y]) -> u32 {
     if points.len() <= items.len() {
         return u32::MAX;
     }
-    let all = box_of(points);
+    let all = extents_of(points);
     let wide = all.right.abs_diff(all.left) as u128;
     let tall = all.high.abs_diff(all.low) as u128;
     let reach = mean_width(items).min(wide);
@@ -51,30 +56,8 @@ fn bits_at_most<X: Boxed, Y: Boxed>(items: &[X], points: &[Y]) -> u32 {
     }
 }
 
-// The box of all items.
-fn box_of<T: Boxed>(items: &[T]) -> Bounds {
-    let mut all = Bounds {
-        left: i32::MAX,
-        right: i32::MIN,
-        low: i32::MAX,
-        high: i32::MIN,
-    };
-    for item in items {
-        let bounds = item.bounds();
-        all.left = all.left.min(bounds.left);
-        all.right = all.right.max(bounds.right);
-        all.low = all.low.min(bounds.low);
-        all.high = all.high.max(bounds.high);
-    }
-    all
-}
-
 // How wide items are on average.
 fn mean_width<T: Boxed>(items: &[T]) -> u128 {
-    let mut widths = 0u128;
-    for item in items {
-        let bounds = item.bounds();
-        widths = widths.saturating_add(bounds.right.abs_diff(bounds.left) as u128);
-    }
+    let widths = u128::from(extents_of(items).widths);
     widths.checked_div(items.len() as u128).unwrap_or(0)
 }
