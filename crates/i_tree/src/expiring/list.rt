@@ -1,13 +1,13 @@
 //! `ExpiringList`: pairs whose keys expire, in a vector. Both lists stand on it.
 
-ghost use Rattle.std.specs.Prelude.{◌≡◌, ◌<◌, ◌≤◌, ◌+◌, [], length, IsOk, OnOk, OnErr, IfOk};
+ghost use Rattle.std.specs.Prelude.{◌≡◌, ◌<◌, ◌≤◌, ◌+◌, [], length, IsOk, OnOk, OnErr, IfOk, IfSome};
 ghost use Rattle.std.specs.List.{insert};
 ghost use Rattle.i_tree.specs.Root.Causes.{RefusedFor};
 ghost use Rattle.i_tree.specs.Root.Change.{Without};
 ghost use Rattle.i_tree.specs.Expiring.List.{ListLeaves};
 ghost use Rattle.i_tree.specs.Expiring.Live.{IsExpired};
 
-use super::live::{Expires, earliest_expiration, keep_live};
+use super::live::{Expires, earliest_expiration, is_live, keep_live};
 use crate::list_insertion::insert_at;
 use crate::{Expiration, Refusal};
 use std::alloc::{AllocError, Allocator};
@@ -92,6 +92,18 @@ impl<X: Expires<K, E>, K: Copy, E: Expiration, V: Copy, A: Allocator + Copy> Exp
         ensures { result.now ≡ self.now.pairs }
     {
         &self.pairs
+    }
+
+    /// Where the first pair stands that is expired at `time`, if there is one.
+    pub fn first_expired(&self, time: E) -> Option<usize>
+        ensures { IfSome result (λ place. place < length self.now.pairs) }
+    {
+        if self.earliest >= time {
+            return None;
+        }
+        self.pairs
+            .iter()
+            .position(|pair| !is_live::<X, K, E>(&pair.0, time))
     }
 
     /// Removes what is expired at `time`, unless the bound says that nothing is.

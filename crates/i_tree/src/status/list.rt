@@ -21,6 +21,8 @@ use std::marker::Model;
 #[derive(Drop)]
 pub struct StatusList<K: ExpiredVal<E>, E: Expiration, V: Copy, A: Allocator + Copy> {
     held: ExpiringList<ByVal, K, E, V, A>,
+    // The place at which the last pair was put, which `likely_place` goes by.
+    last_place: usize,
 }
 
 impl<K: ExpiredVal<E>, E: Expiration, V: Copy, A: Allocator + Copy> Model
@@ -42,6 +44,7 @@ impl<K: ExpiredVal<E>, E: Expiration, V: Copy, A: Allocator + Copy> StatusList<K
     {
         Ok(StatusList {
             held: ExpiringList::new(alloc, capacity)?,
+            last_place: 0,
         })
     }
 
@@ -76,6 +79,14 @@ impl<K: ExpiredVal<E>, E: Expiration, V: Copy, A: Allocator + Copy> StatusList<K
         ensures { result.now ≡ self.now.pairs }
     {
         self.held.pairs()
+    }
+
+    // Where a pair that comes at `time` mostly belongs once what is expired has gone: where one has expired, as an edge begins
+    // where another ends, else right behind the one that came last. It is a guess, on which no answer depends.
+    fn likely_place(&self, time: E) -> usize {
+        self.held
+            .first_expired(time)
+            .unwrap_or(self.last_place.saturating_add(1))
     }
 }
 
@@ -120,12 +131,14 @@ impl<K: ExpiredVal<E>, E: Expiration, V: Copy, A: Allocator + Copy> StatusCollec
         key: K,
         val: V,
     ) -> Result<Option<(Option<(K, V)>, Option<(K, V)>)>, Refusal> {
+        let guess = self.likely_place(time);
         self.held.remove_expired(time);
-        let Some(place) = place_by(self.held.pairs(), f) else {
+        let Some(place) = place_by(self.held.pairs(), guess, f) else {
             return Ok(None);
         };
         let neighbours = beside(self.held.pairs(), place);
         self.held.put(place, key, val)?;
+        self.last_place = place;
         Ok(Some(neighbours))
     }
 
