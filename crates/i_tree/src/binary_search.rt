@@ -40,21 +40,26 @@ pub fn count_passing<X, P: Fn(&X) -> bool>(items: &[X], passes: P) -> usize
     window.start + usize::from(passes(&items[window.start]))
 }
 
-/// The same, sooner where the guess is right: two tests tell so. Of a wrong guess these two are all that is lost.
-pub fn count_passing_near<X, P: Fn(&X) -> bool>(items: &[X], guess: usize, passes: P) -> usize
+/// The same, sooner where the guess, if there is one, is right: two tests tell so. Of a wrong guess these two are all that is
+/// lost.
+pub fn count_passing_near<X, P: Fn(&X) -> bool>(
+    items: &[X],
+    guess: Option<usize>,
+    passes: P,
+) -> usize
     requires { TakesItems (λ item. P.pre passes item) items.now }
     ensures within { result ≤ length items.now }
     ensures splits { (test : X → Bool) → ItemsAnswer
         (λ item answer. FnReturnsAt P.Fn passes item answer) test items.now → IsPartitionedBy test items.now
         → IsPartitionPoint (λ item. test item ≡ true) (λ item. test item ≡ false) items.now result }
 {
-    if guess <= items.len()
-        && passes_before(items, guess, &passes)
-        && fails_behind(items, guess, &passes)
-    {
-        return guess;
+    match guess {
+        Some(guess)
+            if guess <= items.len()
+                && passes_before(items, guess, &passes)
+                && fails_behind(items, guess, &passes) => { guess }
+        _ => count_passing(items, passes),
     }
-    count_passing(items, passes)
 }
 
 // Whether the item before the place passes, and so all before it do.

@@ -26,10 +26,10 @@ pub fn count_at_most<K: Copy, V, F: Fn(K) -> Ordering>(pairs: &[(K, V)], f: &F) 
     count_passing(pairs, is_at_most)
 }
 
-// The same, sooner where the guess is right.
+// The same, sooner where the guess, if there is one, is right.
 fn count_at_most_near<K: Copy, V, F: Fn(K) -> Ordering>(
     pairs: &[(K, V)],
-    guess: usize,
+    guess: Option<usize>,
     f: &F,
 ) -> usize
     requires { All (λ pair. F.pre f.now pair.0) pairs.now }
@@ -132,10 +132,10 @@ fn is_called_equal<K: Copy, V: Copy, F: Fn(K) -> Ordering>(pair: Option<(K, V)>,
 }
 
 /// The place behind all keys that `f` calls Less and before all that it calls Greater; none where it calls one Equal. It is
-/// found sooner where the guess is right.
+/// found sooner where the guess, if there is one, is right.
 pub fn place_by<K: Copy, V: Copy, F: Fn(K) -> Ordering>(
     pairs: &[(K, V)],
-    guess: usize,
+    guess: Option<usize>,
     f: F,
 ) -> Option<usize>
     requires { All (λ pair. F.pre f pair.0) pairs.now }

@@ -13,6 +13,9 @@ use std::alloc::Allocator;
 use std::cmp::Ordering;
 use std::marker::Model;
 
+/// With so many wrong guesses in a row none is tried, until one is right again.
+const WRONG_GUESSES: usize = 2;
+
 /// The status of a sweep line, in a vector sorted along it.
 ///
 /// Contracts see the stored pairs in their order along the line, and `spare`, for how many more there is room. An insertion
@@ -23,6 +26,8 @@ pub struct StatusList<K: ExpiredVal<E>, E: Expiration, V: Copy, A: Allocator + C
     held: ExpiringList<ByVal, K, E, V, A>,
     // The place at which the last pair was put, which `likely_place` goes by.
     last_place: usize,
+    // How many of its guesses in a row were wrong.
+    wrong_guesses: usize,
 }
 
 impl<K: ExpiredVal<E>, E: Expiration, V: Copy, A: Allocator + Copy> Model
@@ -45,6 +50,7 @@ impl<K: ExpiredVal<E>, E: Expiration, V: Copy, A: Allocator + Copy> StatusList<K
         Ok(StatusList {
             held: ExpiringList::new(alloc, capacity)?,
             last_place: 0,
+            wrong_guesses: 0,
         })
     }
 
@@ -88,6 +94,23 @@ impl<K: ExpiredVal<E>, E: Expiration, V: Copy, A: Allocator + Copy> StatusList<K
             .first_expired(time)
             .unwrap_or(self.last_place.saturating_add(1))
     }
+
+    // The likely place, unless such guesses were wrong of late.
+    fn guess_of(&self, likely: usize) -> Option<usize> {
+        if self.wrong_guesses < WRONG_GUESSES {
+            Some(likely)
+        } else {
+            None
+        }
+    }
+}
+
+// How many guesses in a row were wrong, with one more that was right or wrong.
+fn wrong_in_a_row(wrong_guesses: usize, is_right: bool) -> usize {
+    if is_right {
+        return 0;
+    }
+    wrong_guesses.saturating_add(1)
 }
 
 impl<K: ExpiredVal<E>, E: Expiration, V: Copy, A: Allocator + Copy> StatusCollection<K, E, V>
@@ -131,13 +154,15 @@ impl<K: ExpiredVal<E>, E: Expiration, V: Copy, A: Allocator + Copy> StatusCollec
         key: K,
         val: V,
     ) -> Result<Option<(Option<(K, V)>, Option<(K, V)>)>, Refusal> {
-        let guess = self.likely_place(time);
+        let likely = self.likely_place(time);
+        let guess = self.guess_of(likely);
         self.held.remove_expired(time);
         let Some(place) = place_by(self.held.pairs(), guess, f) else {
             return Ok(None);
         };
         let neighbours = beside(self.held.pairs(), place);
         self.held.put(place, key, val)?;
+        self.wrong_guesses = wrong_in_a_row(self.wrong_guesses, place == likely);
         self.last_place = place;
         Ok(Some(neighbours))
     }
