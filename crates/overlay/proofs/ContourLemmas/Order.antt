@@ -12,7 +12,6 @@ use Rattle.std.proofs.lemmas.List.Sorted.{answers_always, ranks_by, sorted_far}
 use Rattle.plane.specs.declared.edge.Edge.{Edge}
 use Rattle.plane.specs.declared.point.Point.{Point}
 use Rattle.overlay.specs.Contours.Order.{AreInOrder, IsBehind, IsCorner, IsFirstFrom, corner_at, point_at}
-use Rattle.overlay.specs.declared.contours.order.Corner.{Corner}
 use Rattle.overlay.specs.contracts.contours.order.CornerOrd.TheImpl.{ghosts as corner_order}
 use Rattle.overlay.specs.contracts.contours.order.CornerOrd.TheImpl.Laws.{total-law as corner_total}
 

@@ -80,8 +80,8 @@ fn write_corners(sorted: &[Edge], ends: &[EdgeEnd], corners: &mut [usize])
     }
 }
 
-// How many of the edges in order start before the point, where so many do at least.
-fn next_from(sorted: &[Edge], least: usize, point: Point) -> usize
+/// How many of the edges in order start before the point, where so many do at least.
+pub fn next_from(sorted: &[Edge], least: usize, point: Point) -> usize
     requires order { AreInOrder sorted.now }
     requires inside { least ≤ length sorted.now }
     requires before { StartBefore sorted.now point least }

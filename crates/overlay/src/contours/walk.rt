@@ -4,15 +4,14 @@ ghost use Rattle.std.specs.Prelude.{◌≡◌, ◌++◌, ◌<◌, [], true, fals
 ghost use Rattle.std.specs.List.{flat_map};
 ghost use Rattle.plane.specs.declared.point.Point.{Point};
 ghost use Rattle.overlay.specs.Contours.Ends.{AreCornersOfEnds};
-ghost use Rattle.overlay.specs.Contours.Order.{AreInOrder};
+ghost use Rattle.overlay.specs.Contours.Order.{AreInOrder, IsFirstFrom, point_at};
 ghost use Rattle.overlay.specs.Contours.Rings.{ring_edges};
 ghost use Rattle.overlay.specs.Contours.Walks.{AreAppended, Keeps, unwalked};
 ghost use Rattle.overlay.specs.Snap.Offsets.{Extends};
 ghost use Rattle.overlay.specs.Snap.Windings.{IsClosed};
 
 use super::cutting::cut_loop;
-use super::ends::corners_of_ends;
-use super::order::first_from;
+use super::ends::{corners_of_ends, next_from};
 use super::turns::leftmost;
 use crate::edges::{end_of, start_of};
 use plane::edge::Edge;
@@ -66,22 +65,26 @@ fn walk_all<A: Allocator>(
     ensures err { OnErr result (Extends points.old.items points.new.items
         × Extends ring_ends.old.items ring_ends.new.items) }
 {
+    let mut corner = 0;
     for first in 0..sorted.len() {
         if used[first] {
             continue;
         }
+        corner = next_from(sorted, corner, start_of(sorted[first]));
         walk(
-            sorted, corners, first, used, marks, stack, points, ring_ends,
+            sorted, corners, first, corner, used, marks, stack, points, ring_ends,
         )?;
     }
     Ok(())
 }
 
-// Walks from the edge at this place on, until no edge is left to go on along: then the walk is back where it began.
+// Walks from the edge at this place on, until no edge is left to go on along: then the walk is back where it began. So many
+// edges as `corner` says start before this one.
 fn walk<A: Allocator>(
     sorted: &[Edge],
     corners: &[usize],
     first: usize,
+    mut corner: usize,
     used: &mut [bool],
     marks: &mut [usize],
     stack: &mut Vec<usize, A>,
@@ -92,6 +95,7 @@ fn walk<A: Allocator>(
     requires order { AreInOrder sorted.now }
     requires corners { AreCornersOfEnds sorted.now corners.now }
     requires inside { first < length sorted.now }
+    requires from { IsFirstFrom sorted.now (point_at sorted.now first) corner }
     requires unused { get_or used.old first true ≡ false }
     requires used_size { length used.old ≡ length sorted.now }
     requires marks_size { length marks.old ≡ length sorted.now }
@@ -108,7 +112,6 @@ fn walk<A: Allocator>(
     ensures err { OnErr result (Extends points.old.items points.new.items
         × Extends ring_ends.old.items ring_ends.new.items) }
 {
-    let mut corner = first_from(sorted, start_of(sorted[first]));
     let mut back = start_of(sorted[first]);
     let mut next = Some(first);
     while let Some(place) = next {

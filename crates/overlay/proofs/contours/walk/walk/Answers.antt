@@ -18,12 +18,12 @@ pub loop-next-init : goal.loop-next-init
 loop-next-init g c =
     let sorted = c.args.sorted.now in
     let used = c.args.used.now in
-    let corner = c.first_from-corner.result in
-    let (same, is) = corner-from sorted c.requires.order c.start_of.result corner c.first_from-corner.ensures c.args.first c.requires.inside (sym c.start_of.ensures) in
+    let corner = c.args.corner in
+    let (same, is) = corner-from sorted c.requires.order (point_at sorted c.args.first) corner c.requires.from c.args.first c.requires.inside refl in
     let leaves : Leaves sorted used (point_at sorted corner) c.args.first = record {
       inside = c.requires.inside;
       unused = c.requires.unused;
-      starts = sym c.start_of.ensures ∙ sym same;
+      starts = sym same;
     } in (
       (
         [],

@@ -5,11 +5,15 @@ use Rattle.std.proofs.lemmas.List.{get_or_default}
 use Rattle.std.proofs.lemmas.List.Sorted.{IsPermutation-refl}
 use Rattle.plane.specs.declared.edge.Edge.{Edge}
 use Rattle.plane.proofs.PairsLemmas.Extends.{OnErr-always}
+use Rattle.plane.specs.declared.point.Point.{Point}
+use Rattle.overlay.specs.Contours.Ends.{StartBefore}
+use Rattle.overlay.specs.Contours.Order.{IsFirstFrom, point_at}
 use Rattle.overlay.specs.Contours.Rings.{ring_edges}
 use Rattle.overlay.specs.Contours.Walks.{unwalked}
 use Rattle.overlay.specs.Snap.Offsets.{offsets}
 use Rattle.overlay.proofs.ChainLemmas.Runs.{Extends-trans}
 use Rattle.overlay.proofs.ContourLemmas.Counts.{IsClosed-rest}
+use Rattle.overlay.proofs.ContourLemmas.Order.{IsBehind-trans}
 use Rattle.overlay.proofs.ContourLemmas.Rings.{AreAppended-more, AreAppended-none, rings-more}
 use Rattle.overlay.proofs.ContourLemmas.Walks.{unwalked-none}
 use Rattle.overlay.proofs.contours.walk.walk_all.Goals as goal
@@ -26,17 +30,28 @@ loop-first-init g c =
       c.requires.used_size,
       c.requires.marks_size,
       c.requires.begins,
+      omega arith,
+      (λ k from within j before. absurd (omega (arith, before))),
     )
+
+pub next_from-corner-requires-clause-before : goal.next_from-corner-requires-clause-before
+next_from-corner-requires-clause-before g c =
+    let (so_far, walked, used_size, marks_size, none, upto, before) = c.loop-first.invariant in
+    subst (λ (at : Point). StartBefore c.args.sorted.now at c.loop-first.corner) (sym c.start_of.ensures) (before c.loop-first.first (omega arith) c.loop-first-test.true)
+
+pub walk-requires-clause-from : goal.walk-requires-clause-from
+walk-requires-clause-from g c =
+    subst (λ (at : Point). IsFirstFrom c.args.sorted.now at c.next_from-corner.result) c.start_of.ensures c.next_from-corner.ensures
 
 pub walk-requires-clause-rest : goal.walk-requires-clause-rest
 walk-requires-clause-rest g c =
-    let ((rings, appended, moved), walked, used_size, marks_size, none) = c.loop-first.invariant in
+    let ((rings, appended, moved), walked, used_size, marks_size, none, upto, before) = c.loop-first.invariant in
     let sorted = c.args.sorted.now in
     IsClosed-rest rings (unwalked sorted c.loop-first.used) sorted moved c.requires.closed
 
 pub returns-in_err-walk-clause-err : goal.returns-in_err-walk-clause-err
 returns-in_err-walk-clause-err g c =
-    let ((rings, appended, moved), walked, used_size, marks_size, none) = c.loop-first.invariant in
+    let ((rings, appended, moved), walked, used_size, marks_size, none, upto, before) = c.loop-first.invariant in
     let (points, ends) = c.in_err-walk.ensures.err in
     OnErr-always c.from_residual.result _ (
       Extends-trans c.args.points.now.items c.loop-first.points.items c.walk.new.points.items (flat_map (λ ring. ring) rings, appended.points_are) points,
@@ -45,7 +60,7 @@ returns-in_err-walk-clause-err g c =
 
 pub loop-first-preserved-then-used-first : goal.loop-first-preserved-then-used-first
 loop-first-preserved-then-used-first g c =
-    let (so_far, walked, used_size, marks_size, none) = c.loop-first.invariant in
+    let (so_far, walked, used_size, marks_size, none, upto, before) = c.loop-first.invariant in
     let used = c.loop-first.used in
     let first = c.loop-first.first in
     let inside = c.loop-first-test.true in (
@@ -57,15 +72,18 @@ loop-first-preserved-then-used-first g c =
       used_size,
       marks_size,
       none,
+      upto,
+      (λ k from. before k (omega (arith, from))),
     )
 
 pub loop-first-preserved : goal.loop-first-preserved
 loop-first-preserved g c =
-    let ((rings, appended, moved), walked, used_size, marks_size, none) = c.loop-first.invariant in
+    let ((rings, appended, moved), walked, used_size, marks_size, none, upto, before) = c.loop-first.invariant in
     let (others, now_appended, now_moved, now_none) = c.in_ok-walk.ensures.ok in
     let sorted = c.args.sorted.now in
     let used = c.loop-first.used in
     let first = c.loop-first.first in
+    let from = subst (λ (at : Point). IsFirstFrom sorted at c.next_from-corner.result) c.start_of.ensures c.next_from-corner.ensures in
     let used_same = c.in_ok-walk.ensures.used_size in
     let marks_same = c.in_ok-walk.ensures.marks_size in (
       (
@@ -80,11 +98,13 @@ loop-first-preserved g c =
       used_same ∙ used_size,
       marks_same ∙ marks_size,
       now_none,
+      from.inside,
+      (λ k later within j below behind. from.before j below (IsBehind-trans (point_at sorted first) (point_at sorted k) (point_at sorted j) (c.requires.order first k (omega (arith, later)) within) behind)),
     )
 
 pub returns-clause-ok : goal.returns-clause-ok
 returns-clause-ok g c =
-    let ((rings, appended, moved), walked, used_size, marks_size, none) = c.loop-first.invariant in
+    let ((rings, appended, moved), walked, used_size, marks_size, none, upto, before) = c.loop-first.invariant in
     let past = c.loop-first-test.false in
     let sorted = c.args.sorted.now in
     let left : unwalked sorted c.loop-first.used ≡ [] = unwalked-none sorted c.loop-first.used (λ k within. walked k (omega (arith, within, past))) in (

@@ -1,14 +1,17 @@
-use Rattle.std.proofs.Common.{◌≡◌, ◌<◌, ◌++◌, [], ℕ, true, List, IsPermutation, get_or, length}
+use Rattle.std.proofs.Common.{◌≡◌, ◌<◌, ◌≤◌, ◌++◌, [], ℕ, true, List, IsPermutation, get_or, length}
 use Rattle.std.specs.List.{flat_map}
 use Rattle.plane.specs.declared.point.Point.{Point}
+use Rattle.overlay.specs.Contours.Ends.{StartBefore}
+use Rattle.overlay.specs.Contours.Order.{point_at}
 use Rattle.overlay.specs.Contours.Rings.{ring_edges}
 use Rattle.overlay.specs.Contours.Walks.{AreAppended, unwalked}
 use Rattle.overlay.proofs.contours.walk.walk_all.Given as goal
 
--- the edges so far are walked, and what is walked is of rings
+-- the edges so far are walked, and what is walked is of rings; so many edges as the last corner says start before each that is left
 abbrev pub invariant-loop-first : goal.invariant-loop-first
 invariant-loop-first g l =
     ((rings : List (List Point)) × AreAppended rings l.fn.points.items l.points.items l.fn.ring_ends.items l.ring_ends.items
     × IsPermutation (flat_map ring_edges rings ++ unwalked l.fn.sorted l.used) l.fn.sorted)
     × ((k : ℕ) → k < l.first → get_or l.used k true ≡ true)
     × (length l.used ≡ length l.fn.sorted) × (length l.marks ≡ length l.fn.sorted) × (l.stack.items ≡ [])
+    × (l.corner ≤ length l.fn.sorted) × ((k : ℕ) → l.first ≤ k → k < length l.fn.sorted → StartBefore l.fn.sorted (point_at l.fn.sorted k) l.corner)
