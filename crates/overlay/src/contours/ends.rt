@@ -1,23 +1,19 @@
-//! Where the edges stand that start at the end of each edge. The ends are sorted once, and then go along the edges in order.
+//! Where the edges stand that start at the end of each edge. Hints tell it, by hashes of the points.
 
-ghost use Rattle.std.specs.Prelude.{◌≡◌, ◌≤◌, IfOk, IsPermutation, length};
-ghost use Rattle.overlay.specs.Contours.Ends.{AreCornersOfEnds, AreEndsInOrder, StartBefore, ends_from};
+ghost use Rattle.std.specs.Prelude.{◌≡◌, ◌≤◌, IfOk, length};
+ghost use Rattle.std.specs.Bool.{OnTrue};
+ghost use Rattle.overlay.specs.Contours.Ends.{AreCornersOfEnds, StartBefore};
 ghost use Rattle.overlay.specs.Contours.Order.{AreInOrder, IsFirstFrom};
 
-use super::order::{corner_at, is_behind};
-use crate::edges::{end_of, number_at};
-use event_queue::buckets::sort_in_buckets;
+use super::order::{first_from, is_behind};
+use super::turns::starts_at;
+use crate::edges::{end_of, number_at, start_of};
 use plane::edge::Edge;
 use plane::point::Point;
 use std::alloc::{AllocError, Allocator};
-use std::cmp::Ordering;
 
-/// The point at which an edge ends, and the place of the edge.
-#[derive(Clone, Copy, Debug)]
-pub struct EdgeEnd {
-    pub at: Point,
-    pub place: usize,
-}
+// More hints are no use, as each has 32 bits.
+const MOST_BITS: u32 = 28;
 
 /// For each of the edges in order, how many of them start before its end.
 pub fn corners_of_ends<A: Allocator + Copy>(
@@ -27,57 +23,88 @@ pub fn corners_of_ends<A: Allocator + Copy>(
     requires { AreInOrder sorted.now }
     ensures { IfOk result (λ corners. AreCornersOfEnds sorted.now corners.items) }
 {
-    let ends = ends_in_order(alloc, sorted)?;
-    let mut corners = vec![in alloc; 0; sorted.len()]?;
-    write_corners(sorted, &ends, &mut corners);
+    let hints = hints_of(alloc, sorted)?;
+    let mut corners = Vec::with_capacity(alloc, sorted.len())?;
+    for edge in sorted {
+        corners.push(first_at(sorted, &hints, end_of(*edge)))?;
+    }
     Ok(corners)
 }
 
-// The ends of all edges, in order.
-fn ends_in_order<A: Allocator + Copy>(
-    alloc: A,
-    sorted: &[Edge],
-) -> Result<Vec<EdgeEnd, A>, AllocError>
-    ensures { IfOk result (λ ends. IsPermutation (ends_from 0 sorted.now) ends.items × AreEndsInOrder ends.items) }
-{
-    let mut ends = ends_of(alloc, sorted)?;
-    sort_in_buckets(
-        &mut ends,
-        |end| number_at(end.at.x, end.at.y),
-        |one: &EdgeEnd, other: &EdgeEnd| -> Ordering {
-            corner_at(one.at).cmp(&corner_at(other.at))
-        },
-    )?;
-    Ok(ends)
+// Of the points with one hash, where the first edges stand that start at two of them: the two that come first.
+#[derive(Clone, Copy)]
+struct Hint {
+    first: u32,
+    second: u32,
 }
 
-// The ends of all edges.
-fn ends_of<A: Allocator>(alloc: A, sorted: &[Edge]) -> Result<Vec<EdgeEnd, A>, AllocError>
-    ensures { IfOk result (λ ends. ends.items ≡ ends_from 0 sorted.now) }
-{
-    let mut ends = Vec::with_capacity(alloc, sorted.len())?;
-    for (place, edge) in sorted.iter().enumerate() {
-        ends.push(EdgeEnd {
-            at: end_of(*edge),
-            place,
-        })?;
+// The hints for all points at which edges start. A hash of which there is no such point has a wrong one.
+fn hints_of<A: Allocator>(alloc: A, sorted: &[Edge]) -> Result<Vec<Hint, A>, AllocError> {
+    let bits = sorted.len().max(1).ilog2().min(MOST_BITS) + 2;
+    let none = Hint {
+        first: 0,
+        second: 0,
+    };
+    let mut hints = vec![in alloc; none; 1 << bits]?;
+    for place in (0..sorted.len()).rev() {
+        let at = start_of(sorted[place]);
+        if place == 0 || !starts_at(sorted[place - 1], at) {
+            put_hint(&mut hints, at, place);
+        }
     }
-    Ok(ends)
+    Ok(hints)
 }
 
-// Writes for each end how many edges start before it, at the place of its edge.
-fn write_corners(sorted: &[Edge], ends: &[EdgeEnd], corners: &mut [usize])
-    requires order { AreInOrder sorted.now }
-    requires ends { IsPermutation (ends_from 0 sorted.now) ends.now }
-    requires rising { AreEndsInOrder ends.now }
-    requires size { length corners.old ≡ length sorted.now }
-    ensures { AreCornersOfEnds sorted.now corners.new }
-{
-    let mut first = 0;
-    for end in ends {
-        first = next_from(sorted, first, end.at);
-        corners[end.place] = first;
+// The points come from the last one to the first, so that of three with one hash the last gives way.
+fn put_hint(hints: &mut [Hint], at: Point, place: usize) {
+    let hash = hash_of(at, hints.len());
+    if hash < hints.len() {
+        hints[hash] = Hint {
+            first: (place % (1 << 32)) as u32,
+            second: hints[hash].first,
+        };
     }
+}
+
+// A hash of the point: a number below the count, where this is a power of 2.
+fn hash_of(at: Point, count: usize) -> usize {
+    let number = number_at(at.x, at.y).wrapping_mul(0x9E37_79B9_7F4A_7C15);
+    let mixed = (number ^ (number >> 32)).wrapping_mul(0x9E37_79B9_7F4A_7C15);
+    (mixed >> ((count.leading_zeros() + 1) % 64)) as usize
+}
+
+// How many of the edges in order start before the point. Where no hint leads there it is searched for.
+fn first_at(sorted: &[Edge], hints: &[Hint], at: Point) -> usize
+    requires { AreInOrder sorted.now }
+    ensures { IsFirstFrom sorted.now at result }
+{
+    let hash = hash_of(at, hints.len());
+    if hash < hints.len() {
+        let hint = hints[hash];
+        let first = hint.first as usize;
+        if is_first(sorted, first, at) {
+            return first;
+        }
+        let second = hint.second as usize;
+        if is_first(sorted, second, at) {
+            return second;
+        }
+    }
+    first_from(sorted, at)
+}
+
+// Whether the edge at this place is the first that starts at the point.
+fn is_first(sorted: &[Edge], place: usize, at: Point) -> bool
+    requires { AreInOrder sorted.now }
+    ensures { OnTrue result (IsFirstFrom sorted.now at place) }
+{
+    if sorted.len() <= place || !starts_at(sorted[place], at) {
+        return false;
+    }
+    if place == 0 {
+        return true;
+    }
+    !starts_at(sorted[place - 1], at)
 }
 
 /// How many of the edges in order start before the point, where so many do at least.

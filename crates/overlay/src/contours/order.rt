@@ -1,7 +1,7 @@
 //! Edges in the order of their starts, and where those that start at a point stand.
 
 ghost use Rattle.std.specs.Prelude.{◌≡◌, IfOk, IsPermutation, MatchBool};
-ghost use Rattle.overlay.specs.Contours.Order.{AreInOrder, IsBehind, corner_at};
+ghost use Rattle.overlay.specs.Contours.Order.{AreInOrder, IsBehind, IsFirstFrom, corner_at};
 ghost use Rattle.overlay.specs.Snap.Windings.{start_of};
 
 use crate::edges::{number_at, start_of};
@@ -45,6 +45,24 @@ pub fn corner_at(point: Point) -> Corner
         x: point.x,
         y: point.y,
     }
+}
+
+/// How many of the edges in order start before the point.
+pub fn first_from(sorted: &[Edge], point: Point) -> usize
+    requires { AreInOrder sorted.now }
+    ensures { IsFirstFrom sorted.now point result }
+{
+    let mut low = 0;
+    let mut high = sorted.len();
+    while low < high {
+        let middle = low + (high - low) / 2;
+        if is_behind(sorted[middle], point) {
+            high = middle;
+        } else {
+            low = middle + 1;
+        }
+    }
+    low
 }
 
 /// Whether the edge starts at the point or behind it.

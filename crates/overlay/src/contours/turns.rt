@@ -61,7 +61,7 @@ fn better(sorted: &[Edge], back: Point, at: Point, best: Option<usize>, place: u
 }
 
 /// Whether the edge starts at the point.
-fn starts_at(edge: Edge, at: Point) -> bool
+pub fn starts_at(edge: Edge, at: Point) -> bool
     ensures { MatchBool result (start_of edge ≡ at) (¬ (start_of edge ≡ at)) }
 {
     edge.x0 == at.x && edge.y0 == at.y
