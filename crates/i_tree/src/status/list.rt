@@ -13,8 +13,8 @@ use std::alloc::Allocator;
 use std::cmp::Ordering;
 use std::marker::Model;
 
-/// With so many wrong guesses in a row none is tried, until one is right again.
-const WRONG_GUESSES: usize = 2;
+// With so many wrong guesses in a row none is tried any more, until all pairs are removed.
+const GIVE_UP: usize = 16;
 
 /// The status of a sweep line, in a vector sorted along it.
 ///
@@ -26,7 +26,7 @@ pub struct StatusList<K: ExpiredVal<E>, E: Expiration, V: Copy, A: Allocator + C
     held: ExpiringList<ByVal, K, E, V, A>,
     // The place at which the last pair was put, which `likely_place` goes by.
     last_place: usize,
-    // How many of its guesses in a row were wrong.
+    // How many of its guesses were wrong in a row.
     wrong_guesses: usize,
 }
 
@@ -88,26 +88,20 @@ impl<K: ExpiredVal<E>, E: Expiration, V: Copy, A: Allocator + Copy> StatusList<K
     }
 
     // Where a pair that comes at `time` mostly belongs once what is expired has gone: where one has expired, as an edge begins
-    // where another ends, else right behind the one that came last. It is a guess, on which no answer depends.
-    fn likely_place(&self, time: E) -> usize {
-        self.held
-            .first_expired(time)
-            .unwrap_or(self.last_place.saturating_add(1))
-    }
-
-    // The likely place, unless such guesses were wrong of late.
-    fn guess_of(&self, likely: usize) -> Option<usize> {
-        if self.wrong_guesses < WRONG_GUESSES {
-            Some(likely)
-        } else {
-            None
+    // where another ends, else right behind the one that came last. It is a guess, on which no answer depends. There is none
+    // where guesses are mostly wrong.
+    fn likely_place(&self, time: E) -> Option<usize> {
+        if self.wrong_guesses >= GIVE_UP {
+            return None;
         }
+        let expired = self.held.first_expired(time);
+        Some(expired.unwrap_or(self.last_place.saturating_add(1)))
     }
 }
 
-// How many guesses in a row were wrong, with one more that was right or wrong.
-fn wrong_in_a_row(wrong_guesses: usize, is_right: bool) -> usize {
-    if is_right {
+// How many guesses were wrong in a row, with one more for the place at which a pair was put. None counts as a wrong one.
+fn wrong_in_a_row(wrong_guesses: usize, guess: Option<usize>, place: usize) -> usize {
+    if guess == Some(place) {
         return 0;
     }
     wrong_guesses.saturating_add(1)
@@ -154,15 +148,14 @@ impl<K: ExpiredVal<E>, E: Expiration, V: Copy, A: Allocator + Copy> StatusCollec
         key: K,
         val: V,
     ) -> Result<Option<(Option<(K, V)>, Option<(K, V)>)>, Refusal> {
-        let likely = self.likely_place(time);
-        let guess = self.guess_of(likely);
+        let guess = self.likely_place(time);
         self.held.remove_expired(time);
         let Some(place) = place_by(self.held.pairs(), guess, f) else {
             return Ok(None);
         };
         let neighbours = beside(self.held.pairs(), place);
         self.held.put(place, key, val)?;
-        self.wrong_guesses = wrong_in_a_row(self.wrong_guesses, place == likely);
+        self.wrong_guesses = wrong_in_a_row(self.wrong_guesses, guess, place);
         self.last_place = place;
         Ok(Some(neighbours))
     }
@@ -192,5 +185,6 @@ impl<K: ExpiredVal<E>, E: Expiration, V: Copy, A: Allocator + Copy> StatusCollec
     /// Removes every pair, and keeps the room.
     fn clear(&mut self) {
         self.held.clear();
+        self.wrong_guesses = 0;
     }
 }
