@@ -1,15 +1,13 @@
 -- What the code that cuts edges asks, as lemmas over plain variables.
-use Rattle.std.proofs.Common.{◌≡◌, ◌⊎◌, inl, inr, ℕ, suc, ◌+◌, ◌-◌, ◌<◌, ◌≤◌, Bool, true, false, leb, List, [], ◌∷◌, ◌++◌, length, get_or, map, take, drop, sym, ap, ap₂, ◌∙◌, subst, arith}
+use Rattle.std.proofs.Common.{◌≡◌, ◌⊎◌, inl, inr, ℕ, suc, ◌+◌, ◌-◌, ◌<◌, ◌≤◌, Bool, true, false, leb, List, [], ◌∷◌, ◌++◌, length, get_or, take, drop, sym, ap, ap₂, ◌∙◌, subst, arith}
 use Rattle.std.specs.List.{All, AllPairs, count_by}
-use Rattle.std.proofs.lemmas.List.{flat_map_more, length-append, length-map, length-take-le, map-append, take-append-drop, take_more}
+use Rattle.std.proofs.lemmas.List.{flat_map_more, length-take-le, take-append-drop, take_more}
 use Rattle.std.proofs.lemmas.List.Elements.{All-weaker}
 use Rattle.plane.specs.declared.edge.Edge.{Edge}
-use Rattle.plane.specs.declared.point.Point.{Point}
-use Rattle.overlay.specs.Snap.Offsets.{AreJoined, offsets}
+use Rattle.overlay.specs.Snap.Offsets.{offsets}
 use Rattle.overlay.specs.Stretches.{AreClear, IsLong}
 use Rattle.overlay.specs.Stretches.Cut.{AreCut, AreParts, AreRefined, AreRelieved, AreSplit, IsCutInto, IsPart, IsSettled, way}
 use Rattle.overlay.proofs.ChainLemmas.Offsets.{joined, offset-at}
-use Rattle.overlay.proofs.ChainLemmas.Runs.{offsets-more}
 use Rattle.overlay.proofs.SnapLemmas.Standing.{length-offsets}
 use Rattle.overlay.proofs.StretchLemmas.CutCounts.{count-upto}
 use Rattle.overlay.proofs.StretchLemmas.CutRefined.{AreRefined-more, AreSplit-cut}
@@ -60,28 +58,6 @@ pub IsSettled-kept : (parts : List (List Edge)) (before after : List Bool) (pair
 IsSettled-kept parts before after pair keeps (inl (one, other)) = inl (keeps pair.0 one, keeps pair.1 other)
 IsSettled-kept parts before after pair keeps (inr apart) = inr apart
 
--- ---- ways
-
-pub ways-more : (lists : List (List Edge)) (i : ℕ) (part : List Edge) (points points' : List Point) (ends ends' : List ℕ) → i < length lists → part ≡ get_or lists i []
-    → points' ≡ points ++ way part → ends' ≡ ends ++ length points' ∷ [] → AreJoined (map way (take i lists)) points ends → AreJoined (map way (take (i + 1) lists)) points' ends'
-ways-more lists i part points points' ends ends' inside is gained stops (are, at) = subst (λ (ways : List (List Point)). AreJoined ways points' ends') (sym more) (all, stops ∙ ap₂ (λ (list : List ℕ) (n : ℕ). list ++ n ∷ []) at here ∙ sym (offsets-more 0 done (way part)))
-  where
-    done : List (List Point)
-    done = map way (take i lists)
-
-    more : map way (take (i + 1) lists) ≡ done ++ way part ∷ []
-    more = ap (map way) (take_more lists i [] inside) ∙ map-append way (take i lists) (get_or lists i [] ∷ []) ∙ ap (λ (one : List Edge). done ++ way one ∷ []) (sym is)
-
-    all : points' ≡ joined (done ++ way part ∷ [])
-    all = gained ∙ ap (λ (list : List Point). list ++ way part) are ∙ flat_map_more (λ (list : List Point). list) [] done (way part)
-
-    here : length points' ≡ (0 + length (joined done)) + length (way part)
-    here =
-        let a = ap (λ (list : List Point). length list) gained in
-        let b = length-append points (way part) in
-        let c = ap (λ (list : List Point). length list) are in
-        omega (arith, a, b, c)
-
 -- ---- one round after another
 
 -- the parts of both sides, where the ends are read as these
@@ -108,20 +84,18 @@ next-split edges ends given refined bound most same cuts (front, back, split) =
 
 -- ---- the result
 
-pub AreCut-last : (edges : List Edge) (bound : ℕ) (ends refined : List ℕ) (front back : List (List Edge)) (groups : List (List (List Edge))) (points : List Point) (stops : List ℕ) (count : ℕ)
+pub AreCut-last : (edges : List Edge) (bound : ℕ) (ends refined : List ℕ) (front back : List (List Edge)) (groups : List (List (List Edge))) (count : ℕ)
     → bound ≤ length edges → AreSplit edges bound ends front back → AreRelieved 1 (front ++ back) groups → refined ≡ offsets 0 (joined groups)
-    → ((lists : List (List Edge)) → AreParts edges refined lists → AreJoined (map way lists) points stops)
     → count ≡ count_by (λ end. leb end bound) refined
-    → AreCut (take bound edges) (drop bound edges) points stops count
-AreCut-last edges bound ends refined front back groups points stops count within split relieved at told counted = (
-  map way first,
-  map way second,
+    → AreCut (take bound edges) (drop bound edges) edges refined count
+AreCut-last edges bound ends refined front back groups count within split relieved at counted = (
+  first,
+  second,
   AreStretches-ways (take bound edges) (drop bound edges) first second split'.0 split'.1 split'.3
       (subst (AllPairs (λ one other. (IsLong (way one)) ⊎ (IsLong (way other)) → AreClear (way one) (way other))) whole (clear-parts (front ++ back) groups split.3 relieved)),
-  subst (λ (ways : List (List Point)). AreJoined ways points stops) (map-append way first second) (told (first ++ second) (AreParts-split edges bound refined first second split')),
+  AreParts-split edges bound refined first second split',
   counted ∙ ap₂ (λ (n : ℕ) (list : List ℕ). count_by (λ end. leb end n) list) (sym (length-take-le bound edges within) ∙ ap (λ (list : List Edge). length list) split'.0) split'.2
-      ∙ count-upto first second (All-weaker IsPart (λ part. 0 < length part) (λ part is. is.some) (first ++ second) split'.3)
-      ∙ sym (length-map first way),
+      ∙ count-upto first second (All-weaker IsPart (λ part. 0 < length part) (λ part is. is.some) (first ++ second) split'.3),
 )
   where
     first : List (List Edge)

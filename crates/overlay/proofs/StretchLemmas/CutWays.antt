@@ -1,5 +1,5 @@
 -- The points along which parts go are stretches.
-use Rattle.std.proofs.Common.{◌≡◌, ◌⊎◌, inl, inr, ℕ, zero, suc, ◌+◌, ◌<◌, ℤ, ◌<ℤ◌, List, [], ◌∷◌, length, get_or, map, refl, sym, ap, ap₂, ◌∙◌, subst, arith}
+use Rattle.std.proofs.Common.{◌≡◌, ◌⊎◌, inl, inr, ℕ, zero, suc, ◌+◌, ◌-◌, ◌<◌, ℤ, ◌<ℤ◌, List, [], ◌∷◌, length, get_or, map, reverse, take, refl, sym, ap, ap₂, ◌∙◌, subst, arith}
 use Rattle.std.specs.List.{All, AllPairs, Contains}
 use Rattle.std.proofs.lemmas.Int.{by_lt_z, ints}
 use Rattle.std.proofs.lemmas.List.{get_or-map, length-map}
@@ -9,9 +9,11 @@ use Rattle.i_tree.proofs.RootLemmas.Joined.{AllPairs-nil}
 use Rattle.i_tree.proofs.RootLemmas.Lists.{AllPairs-head, Contains-here}
 use Rattle.plane.specs.declared.edge.Edge.{Edge}
 use Rattle.plane.specs.declared.point.Point.{Point}
-use Rattle.overlay.specs.Snap.Windings.{end_of, pieces, start_of}
-use Rattle.overlay.specs.Stretches.{Falls, IsStretch, Rises}
+use Rattle.overlay.specs.Contours.Outlines.{ring_point}
+use Rattle.overlay.specs.Snap.Windings.{edge_between, end_of, pieces, start_of}
+use Rattle.overlay.specs.Stretches.{Falls, IsStretch, Rises, but_last, chord}
 use Rattle.overlay.specs.Stretches.Cut.{Follows, GoAlong, IsPart, way}
+use Rattle.overlay.proofs.StretchLemmas.Ways.{but_last-reverse}
 
 -- ---- the next edge of a part
 
@@ -57,6 +59,32 @@ way-start [] k d e is within = absurd (omega (arith, within))
 way-start (edge ∷ more) zero d e is within = refl
 way-start (edge ∷ more) (suc k) d e is within =
     way-end (edge ∷ more) k d e (omega (arith, within)) ∙ meets (get_or (edge ∷ more) k d) (get_or (edge ∷ more) (suc k) d) (is.next k d within)
+
+-- the chord by the edges
+pub chord-way_of : (part : List Edge) (d e : Edge) → 0 < length part → chord (way part) ≡ edge_between (start_of (get_or part 0 d)) (end_of (get_or part (length part - 1) e))
+chord-way_of [] d e some = absurd (omega (arith, some))
+chord-way_of (edge ∷ more) d e some =
+    let part = edge ∷ more in
+    let size = length-way part some in
+    ap (λ (last : Point). edge_between (start_of edge) last)
+    (ap (λ (k : ℕ). ring_point (way part) k) (let k : length (way part) - 1 ≡ suc (length part - 1) = omega (arith, size) in k)
+    ∙ way-end part (length part - 1) e _ (omega arith))
+
+-- all points but the last, and back from the last all but the first
+but_last-cons : (one next : Point) (more : List Point) → but_last (one ∷ next ∷ more) ≡ one ∷ but_last (next ∷ more)
+but_last-cons one next more = ap (λ (n : ℕ). take n (one ∷ next ∷ more)) (let n : length (one ∷ next ∷ more) - 1 ≡ suc (length (next ∷ more) - 1) = omega arith in n)
+
+pub but_last-starts : (part : List Edge) → IsPart part → but_last (way part) ≡ map start_of part
+but_last-starts [] is = absurd (let some = is.some in omega (arith, some))
+but_last-starts (edge ∷ []) is = refl
+but_last-starts (edge ∷ next ∷ more) is =
+    ap (λ (point : Point). but_last (start_of edge ∷ point ∷ map end_of (next ∷ more))) (meets edge next (first edge next more is))
+    ∙ but_last-cons (start_of edge) (start_of next) (map end_of (next ∷ more))
+    ∙ ap (λ (points : List Point). start_of edge ∷ points) (but_last-starts (next ∷ more) (rest edge next more is))
+
+pub but_last-ends : (part : List Edge) → but_last (reverse (way part)) ≡ reverse (map end_of part)
+but_last-ends [] = refl
+but_last-ends (edge ∷ more) = but_last-reverse (way (edge ∷ more))
 
 -- both ends of each edge are of it
 pub ends-in_way : (part : List Edge) → All (λ edge. Contains (way part) (end_of edge)) part

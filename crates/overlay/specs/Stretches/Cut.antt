@@ -81,8 +81,8 @@ abbrev pub IsSettled : List (List Edge) → List Bool → ℕ × ℕ → Type 0
 IsSettled parts busy pair =
     ((get_or busy pair.0 false ≡ true) × (get_or busy pair.1 false ≡ true)) ⊎ AreApart (way (get_or parts pair.0 [])) (way (get_or parts pair.1 []))
 
--- Points and ends of stretches of both, so many of them the subject's.
-abbrev pub AreCut : List Edge → List Edge → List Point → List ℕ → ℕ → Type 0
-AreCut subject clip points ends count =
-    (stretches : List (List Point)) × (clip_stretches : List (List Point)) × AreStretches subject clip stretches clip_stretches
-    × AreJoined (stretches ++ clip_stretches) points ends × (count ≡ length stretches)
+-- The edges are those of parts along which stretches of both go, and each stops at its end; so many of them are the subject's.
+abbrev pub AreCut : List Edge → List Edge → List Edge → List ℕ → ℕ → Type 0
+AreCut subject clip edges ends count =
+    (parts : List (List Edge)) × (clip_parts : List (List Edge)) × AreStretches subject clip (map way parts) (map way clip_parts)
+    × AreParts edges ends (parts ++ clip_parts) × (count ≡ length parts)

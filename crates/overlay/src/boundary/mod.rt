@@ -98,7 +98,9 @@ where
     let alloc = *points.allocator();
     match stretches_of(alloc, edges, count)? {
         Some(stretches) => {
-            append_by_chords(&stretches, rule, operation, status, points, ring_ends)
+            append_by_chords(
+                edges, &stretches, rule, operation, status, points, ring_ends,
+            )
         }
         None => append_by_edges(edges, count, rule, operation, status, points, ring_ends),
     }
@@ -134,6 +136,7 @@ where
 
 // The same by the chords of stretches: where they are edges of its rings, the points of the stretches stand in place of them.
 fn append_by_chords<C, A>(
+    edges: &[Edge],
     stretches: &Stretches<A>,
     rule: FillRule,
     operation: Operation,
@@ -146,9 +149,9 @@ where
     A: Allocator + Copy,
     requires empty { C.stored status.old ≡ [] }
     requires cut { (subject clip : List Edge) × IsClosed subject × IsClosed clip
-        × AreCut subject clip stretches.now.points.items stretches.now.ends.items stretches.now.count }
+        × AreCut subject clip edges.now stretches.now.ends.items stretches.now.count }
     ensures ok { (subject clip : List Edge)
-        → AreCut subject clip stretches.now.points.items stretches.now.ends.items stretches.now.count
+        → AreCut subject clip edges.now stretches.now.ends.items stretches.now.count
         → OnOk result (AppendsBoundary rule operation subject clip
         points.old.items points.new.items ring_ends.old.items ring_ends.new.items) }
     ensures err { OnErr result (Extends points.old.items points.new.items
@@ -156,21 +159,13 @@ where
     ensures empty { C.stored status.new ≡ [] }
 {
     let alloc = *points.allocator();
-    let stretch_points = &stretches.points;
     let stretch_ends = &stretches.ends;
-    let chords = chords_of(alloc, stretch_points, stretch_ends)?;
-    let edges = bounding_edges(alloc, &chords, stretches.count, rule, operation, status)?;
-    let mut rings = Vec::with_capacity(alloc, edges.len())?;
+    let chords = chords_of(alloc, edges, stretch_ends)?;
+    let bounding = bounding_edges(alloc, &chords, stretches.count, rule, operation, status)?;
+    let mut rings = Vec::with_capacity(alloc, bounding.len())?;
     let mut ends = Vec::new(alloc);
-    contours(&edges, &mut rings, &mut ends)?;
-    append_widened(
-        stretch_points,
-        stretch_ends,
-        &rings,
-        &ends,
-        points,
-        ring_ends,
-    )?;
+    contours(&bounding, &mut rings, &mut ends)?;
+    append_widened(edges, stretch_ends, &rings, &ends, points, ring_ends)?;
     Ok(())
 }
 

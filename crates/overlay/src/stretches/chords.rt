@@ -1,41 +1,40 @@
 //! The chords of stretches.
 
-ghost use Rattle.std.specs.Prelude.{◌≡◌, ◌<◌, ◌≤◌, List, All, IfOk, length, map};
+ghost use Rattle.std.specs.Prelude.{◌≡◌, ◌<◌, ◌≤◌, List, IfOk, length, map};
 ghost use Rattle.std.specs.List.{between};
-ghost use Rattle.plane.specs.declared.point.Point.{Point};
-ghost use Rattle.overlay.specs.Snap.Offsets.{AreJoined};
-ghost use Rattle.overlay.specs.Stretches.{IsStretch, chord};
+ghost use Rattle.plane.specs.declared.edge.Edge.{Edge};
+ghost use Rattle.overlay.specs.Stretches.{chord};
+ghost use Rattle.overlay.specs.Stretches.Cut.{AreParts, way};
 
-use crate::edges::edge_between;
+use crate::edges::{edge_between, end_of, start_of};
 use plane::edge::Edge;
-use plane::point::Point;
 use std::alloc::{AllocError, Allocator};
 
-/// The chords of stretches. The points are those of all of these, one after another, and `ends` has where each stops.
+/// The chords of stretches. The edges are those of all of these, one stretch after another, and `ends` has where each stops.
 ///
 /// Memory that is refused is the only error.
 pub fn chords_of<A: Allocator>(
     alloc: A,
-    points: &[Point],
+    edges: &[Edge],
     ends: &[usize],
 ) -> Result<Vec<Edge, A>, AllocError>
-    requires { (lists : List (List Point)) × AreJoined lists points.now ends.now × All IsStretch lists }
-    ensures { IfOk result (λ edges. (lists : List (List Point)) → AreJoined lists points.now ends.now → All IsStretch lists →
-        edges.items ≡ map chord lists) }
+    requires { (parts : List (List Edge)) × AreParts edges.now ends.now parts }
+    ensures { IfOk result (λ chords. (parts : List (List Edge)) → AreParts edges.now ends.now parts →
+        chords.items ≡ map chord (map way parts)) }
 {
-    let mut edges = Vec::with_capacity(alloc, ends.len())?;
+    let mut chords = Vec::with_capacity(alloc, ends.len())?;
     let mut start = 0;
     for end in ends {
-        edges.push(chord_at(points, start, *end))?;
+        chords.push(chord_at(edges, start, *end))?;
         start = *end;
     }
-    Ok(edges)
+    Ok(chords)
 }
 
-// The chord of the points from the one place on, and before the other.
-fn chord_at(points: &[Point], start: usize, end: usize) -> Edge
-    requires { (start < end) × (end ≤ length points.now) }
-    ensures { result ≡ chord (between start end points.now) }
+/// The chord of the edges from the one place on, and before the other.
+pub fn chord_at(edges: &[Edge], start: usize, end: usize) -> Edge
+    requires { (start < end) × (end ≤ length edges.now) }
+    ensures { result ≡ chord (way (between start end edges.now)) }
 {
-    edge_between(points[start], points[end - 1])
+    edge_between(start_of(edges[start]), end_of(edges[end - 1]))
 }

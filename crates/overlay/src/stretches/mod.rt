@@ -1,20 +1,17 @@
 //! Edges cut into stretches: points along which x rises, or falls, where no other edges come to them.
 
-ghost use Rattle.std.specs.Prelude.{◌≡◌, ◌<◌, ◌≤◌, IfErr, IfOk, IfSome, drop, length, take};
+ghost use Rattle.std.specs.Prelude.{◌≡◌, ◌<◌, ◌≤◌, IfErr, IfOk, IfSome, count_by, drop, length, nat_le, take};
 ghost use Rattle.i_tree.specs.declared.Refusal.TheVariants.{OutOfMemory};
 ghost use Rattle.overlay.specs.Stretches.Cut.{AreCut};
 
 use cutting::{count_breaks, parts_of};
 use i_tree::Refusal;
-use joining::joined;
 use plane::edge::Edge;
-use plane::point::Point;
 use refining::relieved;
 use std::alloc::Allocator;
 
 pub mod chords;
 mod cutting;
-mod joining;
 mod lines;
 mod marking;
 mod refining;
@@ -29,10 +26,9 @@ const MANY: usize = 262_144;
 /// How many edges it has at most once some do.
 const SHORTER: usize = 8;
 
-/// The points of stretches, one after another, where each stops among these, and how many of them are the subject's.
+/// Where each of the stretches stops among the edges, and how many of them are the subject's.
 #[derive(Drop)]
 pub struct Stretches<A: Allocator> {
-    pub points: Vec<Point, A>,
     pub ends: Vec<usize, A>,
     pub count: usize,
 }
@@ -51,7 +47,7 @@ pub fn stretches_of<A: Allocator + Copy>(
 ) -> Result<Option<Stretches<A>>, Refusal>
     requires { count ≤ length edges.now }
     ensures ok { IfOk result (λ found. IfSome found (λ told.
-        AreCut (take count edges.now) (drop count edges.now) told.points.items told.ends.items told.count)) }
+        AreCut (take count edges.now) (drop count edges.now) edges.now told.ends.items told.count)) }
     ensures refused { IfErr result (λ cause. cause ≡ OutOfMemory) }
 {
     if are_short(&edges[..count], &edges[count..]) {
@@ -66,7 +62,15 @@ pub fn stretches_of<A: Allocator + Copy>(
     if clear.len() >= edges.len() / 2 {
         return Ok(None);
     }
-    Ok(Some(joined(alloc, edges, &clear, count)?))
+    let count = count_upto(&clear, count);
+    Ok(Some(Stretches { ends: clear, count }))
+}
+
+// How many stop no later than there.
+fn count_upto(ends: &[usize], bound: usize) -> usize
+    ensures { result ≡ count_by (λ end. nat_le end bound) ends.now }
+{
+    ends.iter().filter(|end| **end <= bound).count()
 }
 
 // How many of so many edges a part has at most at first.

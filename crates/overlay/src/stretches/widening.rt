@@ -1,16 +1,20 @@
 //! Rings with the points of stretches in place of their chords.
 
-ghost use Rattle.std.specs.Prelude.{◌≡◌, ◌≢◌, ◌++◌, ◌∷◌, [], ◌<◌, ◌≤◌, ◌-◌, List, All, Contains, IfOk, MatchOption, OnErr, OnOk, length, reverse};
+ghost use Rattle.std.specs.Prelude.{◌≡◌, ◌≢◌, ◌++◌, ◌∷◌, [], ◌<◌, ◌≤◌, ◌-◌, List, Contains, IfOk, MatchOption, OnErr, OnOk, length, map, reverse};
 ghost use Rattle.std.specs.List.{AllZip, between, flat_map};
+ghost use Rattle.plane.specs.declared.edge.Edge.{Edge};
 ghost use Rattle.plane.specs.declared.point.Point.{Point};
 ghost use Rattle.overlay.specs.Contours.Outlines.{ring_point};
 ghost use Rattle.overlay.specs.Snap.Offsets.{AreJoined, Extends, offsets};
 ghost use Rattle.overlay.specs.Snap.Windings.{edge_between};
-ghost use Rattle.overlay.specs.Stretches.{GoesAlong, IsStretch, IsWidened, but_last};
+ghost use Rattle.overlay.specs.Stretches.{GoesAlong, IsWidened, but_last};
+ghost use Rattle.overlay.specs.Stretches.Cut.{AreParts, IsPart, way};
 ghost use Rattle.overlay.specs.Stretches.Widening.{AreInOrder, HasLong, IsTable, chord_of, entry_of};
 
+use super::chords::chord_at;
+use super::spans::part_at;
 use crate::contours::next_in;
-use crate::edges::edge_between;
+use crate::edges::{edge_between, end_of, start_of};
 use plane::edge::Edge;
 use plane::point::Point;
 use plane::sweep_line::heights::turn_rightwards;
@@ -25,7 +29,7 @@ pub struct Chord {
     pub y1: i32,
 }
 
-/// A stretch of several edges: its chord, and where its points stand among those of all stretches.
+/// A stretch of several edges: its chord, and where its edges stand among those of all stretches.
 #[derive(Clone, Copy, Debug)]
 pub struct LongStretch {
     pub chord: Chord,
@@ -33,33 +37,32 @@ pub struct LongStretch {
     pub end: usize,
 }
 
-/// Appends each ring with the points of stretches in place of their chords, and where it stops. Of the stretches, and of the
-/// rings, the points stand one after another, and each stops at its end. A stretch of a single edge is its chord.
+/// Appends each ring with the points of stretches in place of their chords, and where it stops. The edges of the stretches, and
+/// the points of the rings, stand one after another, and each stops at its end. A stretch of a single edge is its chord.
 ///
 /// Memory that is refused is the only error, and then something may have been appended.
 pub fn append_widened<A: Allocator + Copy>(
-    stretch_points: &[Point],
+    edges: &[Edge],
     stretch_ends: &[usize],
     ring_points: &[Point],
     ring_ends: &[usize],
     points: &mut Vec<Point, A>,
     ends: &mut Vec<usize, A>,
 ) -> Result<(), AllocError>
-    requires stretches { (stretches : List (List Point)) × AreJoined stretches stretch_points.now stretch_ends.now
-        × All IsStretch stretches }
+    requires parts { (parts : List (List Edge)) × AreParts edges.now stretch_ends.now parts }
     requires rings { (rings : List (List Point)) × AreJoined rings ring_points.now ring_ends.now }
-    ensures ok { (stretches rings : List (List Point)) → AreJoined stretches stretch_points.now stretch_ends.now
-        → All IsStretch stretches → AreJoined rings ring_points.now ring_ends.now → OnOk result (
-        (widened : List (List Point)) × AllZip (IsWidened stretches) rings widened
+    ensures ok { (parts : List (List Edge)) → AreParts edges.now stretch_ends.now parts
+        → (rings : List (List Point)) → AreJoined rings ring_points.now ring_ends.now → OnOk result (
+        (widened : List (List Point)) × AllZip (IsWidened (map way parts)) rings widened
         × (points.new.items ≡ points.old.items ++ flat_map (λ ring. ring) widened)
         × (ends.new.items ≡ ends.old.items ++ offsets (length points.old.items) widened)) }
     ensures err { OnErr result (Extends points.old.items points.new.items × Extends ends.old.items ends.new.items) }
 {
-    let table = table_of(*points.allocator(), stretch_points, stretch_ends)?;
+    let table = table_of(*points.allocator(), edges, stretch_ends)?;
     let mut start = 0;
     for end in ring_ends {
         let ring = points_between(ring_points, start, *end);
-        append_ring(stretch_points, &table, ring, points)?;
+        append_ring(edges, &table, ring, points)?;
         ends.push(points.len())?;
         start = *end;
     }
@@ -68,41 +71,39 @@ pub fn append_widened<A: Allocator + Copy>(
 
 // Appends the ring with the points of stretches in place of their chords.
 fn append_ring<A: Allocator>(
-    stretch_points: &[Point],
+    edges: &[Edge],
     table: &[LongStretch],
     ring: &[Point],
     points: &mut Vec<Point, A>,
 ) -> Result<(), AllocError>
-    requires { (stretches : List (List Point)) × All IsStretch stretches × IsTable stretches stretch_points.now table.now }
-    ensures ok { (stretches : List (List Point)) → All IsStretch stretches
-        → IsTable stretches stretch_points.now table.now → OnOk result ((widened : List Point)
-        × IsWidened stretches ring.now widened × (points.new.items ≡ points.old.items ++ widened)) }
+    requires { (parts : List (List Edge)) × IsTable parts edges.now table.now }
+    ensures ok { (parts : List (List Edge)) → IsTable parts edges.now table.now → OnOk result ((widened : List Point)
+        × IsWidened (map way parts) ring.now widened × (points.new.items ≡ points.old.items ++ widened)) }
     ensures err { OnErr result (Extends points.old.items points.new.items) }
 {
     for (place, at) in ring.iter().enumerate() {
-        append_way(stretch_points, table, *at, next_in(ring, place), points)?;
+        append_way(edges, table, *at, next_in(ring, place), points)?;
     }
     Ok(())
 }
 
 // Appends the points along which the edge from the one point to the other goes, but the last.
 fn append_way<A: Allocator>(
-    stretch_points: &[Point],
+    edges: &[Edge],
     table: &[LongStretch],
     from: Point,
     to: Point,
     points: &mut Vec<Point, A>,
 ) -> Result<(), AllocError>
-    requires { (stretches : List (List Point)) × All IsStretch stretches × IsTable stretches stretch_points.now table.now }
-    ensures ok { (stretches : List (List Point)) → All IsStretch stretches
-        → IsTable stretches stretch_points.now table.now → OnOk result ((way : List Point)
-        × GoesAlong stretches (edge_between from to) way × (points.new.items ≡ points.old.items ++ but_last way)) }
+    requires { (parts : List (List Edge)) × IsTable parts edges.now table.now }
+    ensures ok { (parts : List (List Edge)) → IsTable parts edges.now table.now → OnOk result ((along : List Point)
+        × GoesAlong (map way parts) (edge_between from to) along × (points.new.items ≡ points.old.items ++ but_last along)) }
     ensures err { OnErr result (Extends points.old.items points.new.items) }
 {
     match stretch_between(table, from, to) {
         Some(stretch) => {
-            let along = points_between(stretch_points, stretch.start, stretch.end);
-            append_stretch(along, from, points)
+            let part = part_at(edges, stretch.start, stretch.end);
+            append_stretch(part, from, points)
         }
         None => {
             points.push(from)?;
@@ -157,35 +158,45 @@ fn chord_of(edge: Edge) -> Chord
     }
 }
 
-// Appends the points of the stretch but the last, along it where it begins at this x, and back else.
+// Appends the points along which the part goes but the last, or back along it where it doesn't begin at this x.
 fn append_stretch<A: Allocator>(
-    stretch: &[Point],
+    part: &[Edge],
     from: Point,
     points: &mut Vec<Point, A>,
 ) -> Result<(), AllocError>
-    requires { 0 < length stretch.now }
-    ensures along { (ring_point stretch.now 0).x ≡ from.x → OnOk result (
-        points.new.items ≡ points.old.items ++ but_last stretch.now) }
-    ensures back { (ring_point stretch.now 0).x ≢ from.x → OnOk result (
-        points.new.items ≡ points.old.items ++ but_last (reverse stretch.now)) }
+    requires { IsPart part.now }
+    ensures along { (ring_point (way part.now) 0).x ≡ from.x → OnOk result (
+        points.new.items ≡ points.old.items ++ but_last (way part.now)) }
+    ensures back { (ring_point (way part.now) 0).x ≢ from.x → OnOk result (
+        points.new.items ≡ points.old.items ++ but_last (reverse (way part.now))) }
     ensures err { OnErr result (Extends points.old.items points.new.items) }
 {
-    if stretch[0].x == from.x {
-        return points.extend_from_slice(&stretch[..stretch.len() - 1]);
+    if part[0].x0 == from.x {
+        return append_starts(part, points);
     }
-    append_back(stretch, points)
+    append_back(part, points)
 }
 
-// Appends the points from the last one back to the second.
-fn append_back<A: Allocator>(
-    stretch: &[Point],
-    points: &mut Vec<Point, A>,
-) -> Result<(), AllocError>
-    ensures ok { OnOk result (points.new.items ≡ points.old.items ++ but_last (reverse stretch.now)) }
+// Appends the points at which the edges start.
+fn append_starts<A: Allocator>(part: &[Edge], points: &mut Vec<Point, A>) -> Result<(), AllocError>
+    requires { IsPart part.now }
+    ensures ok { OnOk result (points.new.items ≡ points.old.items ++ but_last (way part.now)) }
     ensures err { OnErr result (Extends points.old.items points.new.items) }
 {
-    for place in (1..stretch.len()).rev() {
-        points.push(stretch[place])?;
+    for edge in part {
+        points.push(start_of(*edge))?;
+    }
+    Ok(())
+}
+
+// Appends the points at which the edges end, from the last edge back to the first.
+fn append_back<A: Allocator>(part: &[Edge], points: &mut Vec<Point, A>) -> Result<(), AllocError>
+    requires { IsPart part.now }
+    ensures ok { OnOk result (points.new.items ≡ points.old.items ++ but_last (reverse (way part.now))) }
+    ensures err { OnErr result (Extends points.old.items points.new.items) }
+{
+    for place in (0..part.len()).rev() {
+        points.push(end_of(part[place]))?;
     }
     Ok(())
 }
@@ -193,33 +204,33 @@ fn append_back<A: Allocator>(
 // The stretches of several edges, in the order of their chords.
 fn table_of<A: Allocator>(
     alloc: A,
-    points: &[Point],
+    edges: &[Edge],
     ends: &[usize],
 ) -> Result<Vec<LongStretch, A>, AllocError>
-    requires { (stretches : List (List Point)) × AreJoined stretches points.now ends.now }
-    ensures { IfOk result (λ table. (stretches : List (List Point)) → AreJoined stretches points.now ends.now →
-        IsTable stretches points.now table.items) }
+    requires { (parts : List (List Edge)) × AreParts edges.now ends.now parts }
+    ensures { IfOk result (λ table. (parts : List (List Edge)) → AreParts edges.now ends.now parts →
+        IsTable parts edges.now table.items) }
 {
     let mut table = Vec::new(alloc);
-    push_long(points, ends, &mut table)?;
+    push_long(edges, ends, &mut table)?;
     table.sort_unstable_by_key(|stretch| stretch.chord);
     Ok(table)
 }
 
 // Appends the stretches of several edges.
 fn push_long<A: Allocator>(
-    points: &[Point],
+    edges: &[Edge],
     ends: &[usize],
     table: &mut Vec<LongStretch, A>,
 ) -> Result<(), AllocError>
-    requires joined { (stretches : List (List Point)) × AreJoined stretches points.now ends.now }
+    requires parts { (parts : List (List Edge)) × AreParts edges.now ends.now parts }
     requires none { table.old.items ≡ [] }
-    ensures { OnOk result ((stretches : List (List Point)) → AreJoined stretches points.now ends.now →
-        HasLong stretches (length stretches) table.new.items) }
+    ensures { OnOk result ((parts : List (List Edge)) → AreParts edges.now ends.now parts →
+        HasLong parts (length parts) table.new.items) }
 {
     let mut start = 0;
     for end in ends {
-        push_if_long(points, start, *end, table)?;
+        push_if_long(edges, start, *end, table)?;
         start = *end;
     }
     Ok(())
@@ -227,18 +238,18 @@ fn push_long<A: Allocator>(
 
 // Appends the stretch that stands there, if it has several edges.
 fn push_if_long<A: Allocator>(
-    points: &[Point],
+    edges: &[Edge],
     start: usize,
     end: usize,
     table: &mut Vec<LongStretch, A>,
 ) -> Result<(), AllocError>
-    requires { (start ≤ end) × (end ≤ length points.now) }
-    ensures long { 2 < end - start → OnOk result (
-        table.new.items ≡ table.old.items ++ entry_of start end (between start end points.now) ∷ []) }
-    ensures short { end - start ≤ 2 → OnOk result (table.new.items ≡ table.old.items) }
+    requires { (start ≤ end) × (end ≤ length edges.now) }
+    ensures long { 1 < end - start → OnOk result (
+        table.new.items ≡ table.old.items ++ entry_of start end (between start end edges.now) ∷ []) }
+    ensures short { end - start ≤ 1 → OnOk result (table.new.items ≡ table.old.items) }
 {
-    if end - start > 2 {
-        let chord = chord_of(edge_between(points[start], points[end - 1]));
+    if end - start > 1 {
+        let chord = chord_of(chord_at(edges, start, end));
         table.push(LongStretch { chord, start, end })?;
     }
     Ok(())

@@ -1,6 +1,5 @@
-use Rattle.std.proofs.Common.{ℕ, List, leb, ap, subst, sym, ◌∙◌}
+use Rattle.std.proofs.Common.{ℕ, List, leb, ap, ◌∙◌}
 use Rattle.std.specs.List.{count_by}
-use Rattle.overlay.specs.Stretches.Cut.{AreParts}
 use Rattle.overlay.proofs.StretchLemmas.CutCallers.{AreCut-last, given-cut, given-parts, next-split}
 use Rattle.overlay.proofs.stretches.stretches_of.Goals as goal
 
@@ -14,22 +13,12 @@ relieved-requires-2-clause-parts g c =
     given-parts edges c.in_ok-shorter.shorter.items c.deref-2.result.now bound c.deref-2.ensures.value
     (next-split edges c.in_ok-parts.parts.items c.deref.result.now c.in_ok-shorter.shorter.items bound 8 c.deref.ensures.value c.in_ok-shorter.ensures.ok c.in_ok-parts.ensures)
 
-pub joined-requires : goal.joined-requires
-joined-requires g c =
-    let edges = c.args.edges.now in
-    let bound = c.args.count in
-    given-parts edges c.in_ok-clear.clear.items c.deref-3.result.now bound c.deref-3.ensures.value
-    (next-split edges c.in_ok-shorter.shorter.items c.deref-2.result.now c.in_ok-clear.clear.items bound 1 c.deref-2.ensures.value c.in_ok-clear.ensures.ok
-    (next-split edges c.in_ok-parts.parts.items c.deref.result.now c.in_ok-shorter.shorter.items bound 8 c.deref.ensures.value c.in_ok-shorter.ensures.ok c.in_ok-parts.ensures))
-
 pub returns-clause-ok : goal.returns-clause-ok
 returns-clause-ok g c =
     let edges = c.args.edges.now in
     let bound = c.args.count in
     let (front, back, split) = next-split edges c.in_ok-parts.parts.items c.deref.result.now c.in_ok-shorter.shorter.items bound 8 c.deref.ensures.value c.in_ok-shorter.ensures.ok c.in_ok-parts.ensures in
     let (groups, relieved, stops) = given-cut edges c.in_ok-shorter.shorter.items c.deref-2.result.now c.in_ok-clear.clear.items bound 1 c.deref-2.ensures.value c.in_ok-clear.ensures.ok front back split in
-    let told = c.in_ok-joined.field-0 in
-    AreCut-last edges bound c.in_ok-shorter.shorter.items c.in_ok-clear.clear.items front back groups told.points.items told.ends.items told.count
+    AreCut-last edges bound c.in_ok-shorter.shorter.items c.in_ok-clear.clear.items front back groups c.count_upto-count.result
     c.requires split relieved stops
-    (λ lists are. c.in_ok-joined.ensures.told lists (subst (λ (ends : List ℕ). AreParts edges ends lists) (sym c.deref-3.ensures.value) are))
-    (c.in_ok-joined.ensures.count ∙ ap (λ (ends : List ℕ). count_by (λ end. leb end bound) ends) c.deref-3.ensures.value)
+    (c.count_upto-count.ensures ∙ ap (λ (ends : List ℕ). count_by (λ end. leb end bound) ends) c.deref-3.ensures.value)

@@ -1,4 +1,4 @@
-use Rattle.std.proofs.Common.{◌∷◌, [], ◌++◌, List, pos, take, refl, sym, ap, ◌∙◌, append-nil, subst, arith}
+use Rattle.std.proofs.Common.{◌∷◌, [], ◌++◌, List, map, pos, take, refl, sym, ap, ◌∙◌, append-nil, subst, arith}
 use Rattle.std.specs.List.{AllZip}
 use Rattle.std.proofs.lemmas.List.{flat_map_more, take_all, take_more}
 use Rattle.plane.specs.declared.edge.Edge.{Edge}
@@ -8,6 +8,7 @@ use Rattle.overlay.specs.Contours.Outlines.{ring_point}
 use Rattle.overlay.specs.Contours.Rings.{ring_edges}
 use Rattle.overlay.specs.Snap.Windings.{edge_between}
 use Rattle.overlay.specs.Stretches.{GoesAlong, but_last}
+use Rattle.overlay.specs.Stretches.Cut.{way}
 use Rattle.overlay.proofs.ChainLemmas.Runs.{Extends-trans}
 use Rattle.overlay.proofs.ChainLemmas.Zips.{AllZip-more}
 use Rattle.overlay.proofs.StretchLemmas.RingEdges.{length-ring_edges, ring-edge}
@@ -16,7 +17,7 @@ use Rattle.overlay.proofs.stretches.widening.append_ring.Goals as goal
 pub loop-place-init : goal.loop-place-init
 loop-place-init g c =
     let old = c.args.points.now.items in
-    (λ stretches each are. ([], tt, sym (append-nil old)), ([], sym (append-nil old)))
+    (λ parts are. ([], tt, sym (append-nil old)), ([], sym (append-nil old)))
 
 pub returns-in_err-append_way-clause-err : goal.returns-in_err-append_way-clause-err
 returns-in_err-append_way-clause-err g c =
@@ -35,23 +36,23 @@ loop-place-preserved g c =
     let size = length-ring_edges ring in
     let stands = ring-edge ring k none inside ∙ sym (ap (λ (to : Point). edge_between (ring_point ring k) to) c.next_in.ensures) in
     let more = take_more edges k none (omega (arith, size, inside)) ∙ ap (λ (e : Edge). take k edges ++ e ∷ []) stands in
-    let (stretches, each, are) = c.requires in
-    let (_, _, now) = c.in_ok-append_way.ensures.ok stretches each are in (
-      (λ stretches each are.
-          (let (ways, goes, is) = told stretches each are in
-          let (way, along, now) = c.in_ok-append_way.ensures.ok stretches each are in (
-            ways ++ way ∷ [],
-            subst (λ (some : List Edge). AllZip (GoesAlong stretches) some (ways ++ way ∷ [])) (sym more) (AllZip-more (GoesAlong stretches) (take k edges) ways edge way goes along),
-            now ∙ ap (λ (list : List Point). list ++ but_last way) is ∙ flat_map_more but_last old ways way,
+    let (parts, are) = c.requires in
+    let (_, _, now) = c.in_ok-append_way.ensures.ok parts are in (
+      (λ parts are.
+          (let (ways, goes, is) = told parts are in
+          let (on, along, now) = c.in_ok-append_way.ensures.ok parts are in (
+            ways ++ on ∷ [],
+            subst (λ (some : List Edge). AllZip (GoesAlong (map way parts)) some (ways ++ on ∷ [])) (sym more) (AllZip-more (GoesAlong (map way parts)) (take k edges) ways edge on goes along),
+            now ∙ ap (λ (list : List Point). list ++ but_last on) is ∙ flat_map_more but_last old ways on,
           ))),
       Extends-trans old c.loop-place.points.items c.append_way.new.points.items extends (_, now),
     )
 
 pub returns-clause-ok : goal.returns-clause-ok
-returns-clause-ok g c = λ stretches each are.
-    (let (ways, goes, is) = c.loop-place.invariant.0 stretches each are in
+returns-clause-ok g c = λ parts are.
+    (let (ways, goes, is) = c.loop-place.invariant.0 parts are in
     let edges = ring_edges c.args.ring.now in
     let past = c.loop-place-test.false in
     let size = length-ring_edges c.args.ring.now in
     let all = take_all c.loop-place.place edges (omega (arith, past, size)) in
-    (_, (ways, subst (λ (some : List Edge). AllZip (GoesAlong stretches) some ways) all goes, refl), is))
+    (_, (ways, subst (λ (some : List Edge). AllZip (GoesAlong (map way parts)) some ways) all goes, refl), is))

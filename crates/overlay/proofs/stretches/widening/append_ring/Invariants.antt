@@ -1,15 +1,17 @@
-use Rattle.std.proofs.Common.{◌≡◌, ◌++◌, List, take}
-use Rattle.std.specs.List.{All, AllZip, flat_map}
+use Rattle.std.proofs.Common.{◌≡◌, ◌++◌, List, map, take}
+use Rattle.std.specs.List.{AllZip, flat_map}
+use Rattle.plane.specs.declared.edge.Edge.{Edge}
 use Rattle.plane.specs.declared.point.Point.{Point}
 use Rattle.overlay.specs.Contours.Rings.{ring_edges}
 use Rattle.overlay.specs.Snap.Offsets.{Extends}
-use Rattle.overlay.specs.Stretches.{GoesAlong, IsStretch, but_last}
+use Rattle.overlay.specs.Stretches.{GoesAlong, but_last}
+use Rattle.overlay.specs.Stretches.Cut.{way}
 use Rattle.overlay.specs.Stretches.Widening.{IsTable}
 use Rattle.overlay.proofs.stretches.widening.append_ring.Given as goal
 
 -- the ways of the edges so far are appended
 abbrev pub invariant-loop-place : goal.invariant-loop-place
 invariant-loop-place g l =
-    ((stretches : List (List Point)) → All IsStretch stretches → IsTable stretches l.stretch_points l.table
-    → (ways : List (List Point)) × AllZip (GoesAlong stretches) (take l.place (ring_edges l.ring)) ways × (l.points.items ≡ l.fn.points.items ++ flat_map but_last ways))
+    ((parts : List (List Edge)) → IsTable parts l.edges l.table
+    → (ways : List (List Point)) × AllZip (GoesAlong (map way parts)) (take l.place (ring_edges l.ring)) ways × (l.points.items ≡ l.fn.points.items ++ flat_map but_last ways))
     × Extends l.fn.points.items l.points.items

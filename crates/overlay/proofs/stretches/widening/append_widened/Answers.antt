@@ -1,9 +1,10 @@
-use Rattle.std.proofs.Common.{◌≡◌, ◌++◌, ◌∷◌, [], ℕ, List, length, refl, sym, ap, ◌∙◌, append-nil, subst, arith}
+use Rattle.std.proofs.Common.{◌≡◌, ◌++◌, ◌∷◌, [], ℕ, List, length, map, refl, sym, ap, ◌∙◌, append-nil, subst, arith}
 use Rattle.std.specs.List.{AllZip}
 use Rattle.std.proofs.lemmas.List.{take_all}
 use Rattle.plane.specs.declared.point.Point.{Point}
 use Rattle.plane.proofs.PairsLemmas.Extends.{OnErr-always}
 use Rattle.overlay.specs.Stretches.{IsWidened}
+use Rattle.overlay.specs.Stretches.Cut.{way}
 use Rattle.overlay.specs.Stretches.Widening.{IsTable}
 use Rattle.overlay.specs.declared.stretches.widening.LongStretch.{LongStretch}
 use Rattle.overlay.proofs.ChainLemmas.Runs.{Extends-trans}
@@ -16,7 +17,7 @@ loop-end-init g c =
     let old = c.args.points.now.items in
     let old_ends = c.args.ends.now.items in (
       (λ rings are. refl),
-      (λ stretches rings joined each are. record { widened = []; each = tt; points_are = sym (append-nil old); ends_are = sym (append-nil old_ends) }),
+      (λ parts joined rings are. record { widened = []; each = tt; points_are = sym (append-nil old); ends_are = sym (append-nil old_ends) }),
       ([], sym (append-nil old)),
       ([], sym (append-nil old_ends)),
     )
@@ -29,8 +30,8 @@ points_between-ring-requires g c =
 
 pub append_ring-requires : goal.append_ring-requires
 append_ring-requires g c =
-    let (stretches, joined, each) = c.requires.stretches in
-    (stretches, each, subst (λ (table : List LongStretch). IsTable stretches c.args.stretch_points.now table) (sym c.deref.ensures.value) (c.in_ok-table.ensures stretches joined))
+    let (parts, joined) = c.requires.parts in
+    (parts, subst (λ (table : List LongStretch). IsTable parts c.args.edges.now table) (sym c.deref.ensures.value) (c.in_ok-table.ensures parts joined))
 
 pub returns-in_err-append_ring-clause-err : goal.returns-in_err-append_ring-clause-err
 returns-in_err-append_ring-clause-err g c =
@@ -43,9 +44,9 @@ returns-in_err-append_ring-clause-err g c =
 pub returns-in_err-push-clause-err : goal.returns-in_err-push-clause-err
 returns-in_err-push-clause-err g c =
     let (starts, told, points, (more, ends)) = c.loop-end.invariant in
-    let (stretches, joined, each) = c.requires.stretches in
-    let table = subst (λ (table : List LongStretch). IsTable stretches c.args.stretch_points.now table) (sym c.deref.ensures.value) (c.in_ok-table.ensures stretches joined) in
-    let (wide, is, now) = c.in_ok-append_ring.ensures.ok stretches each table in
+    let (parts, joined) = c.requires.parts in
+    let table = subst (λ (table : List LongStretch). IsTable parts c.args.edges.now table) (sym c.deref.ensures.value) (c.in_ok-table.ensures parts joined) in
+    let (wide, is, now) = c.in_ok-append_ring.ensures.ok parts table in
     OnErr-always c.from_residual-in_err-push.result _ (
       Extends-trans c.args.points.now.items c.loop-end.points.items c.append_ring.new.points.items points (wide, now),
       (more, c.in_err-push.ensures.items ∙ ends),
@@ -60,25 +61,25 @@ loop-end-preserved g c =
     let len = c.len.ensures in
     let size : c.len.result ≡ length c.append_ring.new.points.items = omega (arith, len) in
     let pushed = c.in_ok-push.ensures.items ∙ ap (λ (n : ℕ). c.loop-end.ends.items ++ n ∷ []) size in
-    let (stretches, joined, each) = c.requires.stretches in
-    let table = subst (λ (table : List LongStretch). IsTable stretches c.args.stretch_points.now table) (sym c.deref.ensures.value) (c.in_ok-table.ensures stretches joined) in
-    let (wide, is, now) = c.in_ok-append_ring.ensures.ok stretches each table in (
+    let (parts, joined) = c.requires.parts in
+    let table = subst (λ (table : List LongStretch). IsTable parts c.args.edges.now table) (sym c.deref.ensures.value) (c.in_ok-table.ensures parts joined) in
+    let (wide, is, now) = c.in_ok-append_ring.ensures.ok parts table in (
       (λ rings are. (IsNext-at rings c.args.ring_points.now c.args.ring_ends.now k start are c.loop-end-test.true (starts rings are)).stops),
-      (λ stretches rings joined each are.
+      (λ parts joined rings are.
           (let next = IsNext-at rings c.args.ring_points.now c.args.ring_ends.now k start are c.loop-end-test.true (starts rings are) in
-          let table = subst (λ (table : List LongStretch). IsTable stretches c.args.stretch_points.now table) (sym c.deref.ensures.value) (c.in_ok-table.ensures stretches joined) in
-          let (wide, is, now) = c.in_ok-append_ring.ensures.ok stretches each table in
-          AreWidened-more stretches rings k old c.loop-end.points.items c.append_ring.new.points.items wide c.args.ends.now.items c.loop-end.ends.items c.push.new.self.items next.inside (told stretches rings joined each are)
-          (subst (λ (ring : List Point). IsWidened stretches ring wide) (c.points_between-ring.ensures ∙ next.is) is) now pushed)),
+          let table = subst (λ (table : List LongStretch). IsTable parts c.args.edges.now table) (sym c.deref.ensures.value) (c.in_ok-table.ensures parts joined) in
+          let (wide, is, now) = c.in_ok-append_ring.ensures.ok parts table in
+          AreWidened-more (map way parts) rings k old c.loop-end.points.items c.append_ring.new.points.items wide c.args.ends.now.items c.loop-end.ends.items c.push.new.self.items next.inside (told parts joined rings are)
+          (subst (λ (ring : List Point). IsWidened (map way parts) ring wide) (c.points_between-ring.ensures ∙ next.is) is) now pushed)),
       Extends-trans old c.loop-end.points.items c.append_ring.new.points.items points (wide, now),
       Extends-trans c.args.ends.now.items c.loop-end.ends.items c.push.new.self.items ends (_, c.in_ok-push.ensures.items),
     )
 
 pub returns-clause-ok : goal.returns-clause-ok
-returns-clause-ok g c = λ stretches rings joined each are.
-    (let widened = c.loop-end.invariant.1 stretches rings joined each are in
+returns-clause-ok g c = λ parts joined rings are.
+    (let widened = c.loop-end.invariant.1 parts joined rings are in
     let past = c.loop-end-test.false in
     let size = length-offsets 0 rings in
     let ends = ap (λ (list : List ℕ). length list) are.1 in
     let all = take_all c.loop-end.end-index rings (omega (arith, past, size, ends)) in
-    (widened.widened, subst (λ (some : List (List Point)). AllZip (IsWidened stretches) some widened.widened) all widened.each, widened.points_are, widened.ends_are))
+    (widened.widened, subst (λ (some : List (List Point)). AllZip (IsWidened (map way parts)) some widened.widened) all widened.each, widened.points_are, widened.ends_are))

@@ -1,8 +1,8 @@
-use Rattle.std.proofs.Common.{◌≡◌, List, length, take}
-use Rattle.std.specs.List.{All}
+use Rattle.std.proofs.Common.{◌≡◌, List, length, map, take}
+use Rattle.plane.specs.declared.edge.Edge.{Edge}
 use Rattle.plane.specs.declared.point.Point.{Point}
 use Rattle.overlay.specs.Snap.Offsets.{AreJoined, Extends}
-use Rattle.overlay.specs.Stretches.{IsStretch}
+use Rattle.overlay.specs.Stretches.Cut.{AreParts, way}
 use Rattle.overlay.proofs.ChainLemmas.Offsets.{joined}
 use Rattle.overlay.proofs.StretchLemmas.Widened.{AreWidened}
 use Rattle.overlay.proofs.stretches.widening.append_widened.Given as goal
@@ -11,6 +11,6 @@ use Rattle.overlay.proofs.stretches.widening.append_widened.Given as goal
 abbrev pub invariant-loop-end : goal.invariant-loop-end
 invariant-loop-end g l =
     ((rings : List (List Point)) → AreJoined rings l.ring_points l.ring_ends → l.start ≡ length (joined (take l.end-index rings)))
-    × ((stretches rings : List (List Point)) → AreJoined stretches l.stretch_points l.stretch_ends → All IsStretch stretches → AreJoined rings l.ring_points l.ring_ends
-    → AreWidened stretches rings l.end-index l.fn.points.items l.points.items l.fn.ends.items l.ends.items)
+    × ((parts : List (List Edge)) → AreParts l.edges l.stretch_ends parts → (rings : List (List Point)) → AreJoined rings l.ring_points l.ring_ends
+    → AreWidened (map way parts) rings l.end-index l.fn.points.items l.points.items l.fn.ends.items l.ends.items)
     × Extends l.fn.points.items l.points.items × Extends l.fn.ends.items l.ends.items
