@@ -6,6 +6,7 @@ pub mod Ends
 pub mod Order
 pub mod Outlines
 pub mod Rings
+pub mod Settled
 pub mod Straight
 pub mod Turns
 pub mod Walks

@@ -6,4 +6,5 @@ pub mod Edges
 pub mod Filling
 pub mod Grouped
 pub mod Placed
+pub mod Settled
 pub mod Sweep

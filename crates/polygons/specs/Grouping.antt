@@ -82,6 +82,11 @@ ring_in points ring = between ring.start ring.end points
 abbrev pub AreWithin : List Point → List PlacedRing → Type 0
 AreWithin points rings = All (λ ring. (ring.start ≤ ring.end) × (ring.end ≤ length points)) rings
 
+-- from this place on each starts where the one before it ends or behind that, and none ends behind so many points
+abbrev pub StandInOrder : ℕ → List PlacedRing → ℕ → Type 0
+StandInOrder from [] count = ⊤
+StandInOrder from (ring ∷ rings) count = (from ≤ ring.start) × (ring.start ≤ ring.end) × (ring.end ≤ count) × StandInOrder ring.end rings count
+
 abbrev pub rank : PlacedRing → ℕ
 rank ring = ring.home * 2 + cond ring.is_hole 1 0
 

@@ -124,7 +124,7 @@ where
         &mut points,
         &mut ends,
     )?;
-    append_polygons(status, &points, &ends, out)
+    append_polygons(status, points, &ends, out)
 }
 
 /// The polygons of what is inside of the rings by the rule: the union of them with nothing. So rings that cross themselves

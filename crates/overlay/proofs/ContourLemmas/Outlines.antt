@@ -34,7 +34,7 @@ module _ (before at after : Point) where
   abbrev onwards : ℤ
   onwards = dot (at.x -ℤ before.x) (at.y -ℤ before.y) (after.x -ℤ at.x) (after.y -ℤ at.y)
 
-  straight-true : IsStraight before at after → goes_straight before at after ≡ true
+  pub straight-true : IsStraight before at after → goes_straight before at after ≡ true
   straight-true is = elim (cases_Bool (goes_straight before at after)) [
     | inl is_so ↦ is_so
     | inr isnt ↦ absurd (bent-test turned onwards (int_le turned (pos 0)) (int_le (pos 0) turned) (int_lt (pos 0) onwards) refl refl refl isnt is.along is.ahead)
@@ -45,7 +45,7 @@ module _ (before at after : Point) where
       let found = straight-test turned onwards (int_le turned (pos 0)) (int_le (pos 0) turned) (int_lt (pos 0) onwards) refl refl refl is in
       record { along = found.0; ahead = found.1 }
 
-  straight-false : ¬ (IsStraight before at after) → goes_straight before at after ≡ false
+  pub straight-false : ¬ (IsStraight before at after) → goes_straight before at after ≡ false
   straight-false none = elim (cases_Bool (goes_straight before at after)) [
     | inl is_so ↦ absurd (none (straight-is is_so))
     | inr isnt ↦ isnt

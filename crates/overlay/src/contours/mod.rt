@@ -10,7 +10,7 @@ ghost use Rattle.overlay.specs.Snap.Offsets.{offsets, Extends};
 ghost use Rattle.overlay.specs.Snap.Windings.{IsClosed};
 
 use bends::append_outlines;
-pub use bends::{append_outline, next_in};
+pub use bends::{append_outline, next_in, settle_outline};
 use i_tree::Refusal;
 use order::edges_in_order;
 use plane::edge::Edge;

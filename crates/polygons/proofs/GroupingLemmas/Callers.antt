@@ -1,16 +1,14 @@
 -- From rings to polygons.
-use Rattle.std.proofs.Common.{◌≡◌, ◌≤◌, [], ◌∷◌, ℕ, suc, Bool, true, not, List, Option, Some, None, length, map, refl, ap, sym, subst, subst₂, ◌∙◌, append-nil}
+use Rattle.std.proofs.Common.{◌≡◌, ◌≤◌, [], ◌∷◌, ℕ, suc, Bool, true, not, List, Option, Some, None, length, map, refl, ap, sym, subst, subst₂, ◌∙◌}
 use Rattle.std.specs.List.{All, flat_map, position}
 use Rattle.std.specs.List.Sorted.{IsNonDecreasingBy, IsPermutation}
 use Rattle.std.proofs.lemmas.List.{length-map}
-use Rattle.std.proofs.lemmas.List.Elements.{All-nil}
 use Rattle.std.proofs.lemmas.List.Quantifiers.{position-Some}
 use Rattle.std.proofs.lemmas.List.Sorted.{All-permutation, IsPermutation-map, IsPermutation-refl, IsPermutation-sym}
 use Rattle.plane.specs.declared.point.Point.{Point}
-use Rattle.overlay.specs.Contours.Outlines.{outline}
 use Rattle.overlay.specs.Contours.Rings.{AreContours, IsRing, ring_edges}
 use Rattle.polygons.specs.Grouping.{AreHomes, AreWithin, is_outer, placed_from, placed_polygons, rank, ring_in}
-use Rattle.polygons.specs.Polygons.{AreAppended, BoundsSome, IsPolygon, is_counterclockwise}
+use Rattle.polygons.specs.Polygons.{BoundsSome, IsPolygon, is_counterclockwise}
 use Rattle.polygons.specs.Polygons.{rings_of as rings_of_all}
 use Rattle.polygons.specs.Rings.{AreEnds, edges_in, rings_of}
 use Rattle.polygons.specs.declared.grouping.order.PlacedRing.{PlacedRing}
@@ -38,19 +36,11 @@ none-found : (found : Option ℕ) → ((place : ℕ) → found ≡ Some place �
 none-found None never = refl
 none-found (Some place) never = absurd (never place refl)
 
-AreAppended-none : (points : List Point) (ends polygons : List ℕ) → AreAppended [] points points ends ends polygons polygons
-AreAppended-none points ends polygons = record { points_are = sym (append-nil points); rings_are = sym (append-nil ends); polygons_are = sym (append-nil polygons) }
-
-pub no-polygons : (rings : List (List Point)) → All IsRing rings → BoundsSome (flat_map ring_edges rings) → (are_outer : List Bool) → are_outer ≡ map is_counterclockwise rings → (found : Option ℕ) → found ≡ position (λ is. is) are_outer
-    → ((place : ℕ) → found ≡ Some place → ⊥) → (points : List Point) (ends polygons : List ℕ)
-    → (whole : List (List (List Point))) × All IsPolygon whole × AreContours (flat_map ring_edges rings) (rings_of_all whole) × AreAppended (map (λ polygon. map outline polygon) whole) points points ends ends polygons polygons
-no-polygons rings each bounds are_outer marks found told never points ends polygons = (
-  [],
-  All-nil IsPolygon,
-  subst (AreContours (flat_map ring_edges rings)) (no-rings rings each bounds (sym (ap (λ (list : List Bool). position (λ is. is) list) marks) ∙ sym told ∙ none-found found never))
-      (record { each = each; all = IsPermutation-refl (flat_map ring_edges rings) }),
-  AreAppended-none points ends polygons,
-)
+pub no-contours : (rings : List (List Point)) → All IsRing rings → BoundsSome (flat_map ring_edges rings) → (are_outer : List Bool) → are_outer ≡ map is_counterclockwise rings → (found : Option ℕ) → found ≡ position (λ is. is) are_outer
+    → ((place : ℕ) → found ≡ Some place → ⊥) → AreContours (flat_map ring_edges rings) []
+no-contours rings each bounds are_outer marks found told never =
+    subst (AreContours (flat_map ring_edges rings)) (no-rings rings each bounds (sym (ap (λ (list : List Bool). position (λ is. is) list) marks) ∙ sym told ∙ none-found found never))
+    (record { each = each; all = IsPermutation-refl (flat_map ring_edges rings) })
 
 -- ---- rings in order
 

@@ -1,4 +1,4 @@
-use Rattle.std.proofs.Common.{List, All, ap, drop, map, subst, subst₂, sym, take, ◌∙◌}
+use Rattle.std.proofs.Common.{List, All, ap, drop, map, refl, subst, subst₂, sym, take, ◌∙◌}
 use Rattle.std.specs.List.{flat_map}
 use Rattle.std.proofs.lemmas.Result.{on_ok_weaker}
 use Rattle.plane.specs.declared.edge.Edge.{Edge}
@@ -27,21 +27,21 @@ boundary-requires-clause-clip_closed g c =
 pub append_polygons-requires-clause-ends : goal.append_polygons-requires-clause-ends
 append_polygons-requires-clause-ends g c =
     let (rings, _, _, points_are, ends_are) = c.in_ok-boundary.ensures.ok in
-    AreEnds-joined rings c.deref-2.result.now c.deref-3.result.now
-    (AreJoined-first rings _ _ _ _ _ _ c.new-points.ensures.items c.new-ends.ensures.items points_are ends_are c.deref-2.ensures.value c.deref-3.ensures.value)
+    AreEnds-joined rings c.boundary.new.points.items c.deref-2.result.now
+    (AreJoined-first rings _ _ _ _ _ _ c.new-points.ensures.items c.new-ends.ensures.items points_are ends_are refl c.deref-2.ensures.value)
 
 pub append_polygons-requires-clause-each : goal.append_polygons-requires-clause-each
 append_polygons-requires-clause-each g c =
     let (rings, is, _, points_are, ends_are) = c.in_ok-boundary.ensures.ok in
-    let same = rings-joined rings c.deref-2.result.now c.deref-3.result.now
-    (AreJoined-first rings _ _ _ _ _ _ c.new-points.ensures.items c.new-ends.ensures.items points_are ends_are c.deref-2.ensures.value c.deref-3.ensures.value) in
+    let same = rings-joined rings c.boundary.new.points.items c.deref-2.result.now
+    (AreJoined-first rings _ _ _ _ _ _ c.new-points.ensures.items c.new-ends.ensures.items points_are ends_are refl c.deref-2.ensures.value) in
     subst (λ (all : List (List Point)). All IsRing all) (sym same) is.each
 
 pub append_polygons-requires-clause-bounding : goal.append_polygons-requires-clause-bounding
 append_polygons-requires-clause-bounding g c =
     let (rings, is, sloped, points_are, ends_are) = c.in_ok-boundary.ensures.ok in
-    let same = rings-joined rings c.deref-2.result.now c.deref-3.result.now
-    (AreJoined-first rings _ _ _ _ _ _ c.new-points.ensures.items c.new-ends.ensures.items points_are ends_are c.deref-2.ensures.value c.deref-3.ensures.value) in
+    let same = rings-joined rings c.boundary.new.points.items c.deref-2.result.now
+    (AreJoined-first rings _ _ _ _ _ _ c.new-points.ensures.items c.new-ends.ensures.items points_are ends_are refl c.deref-2.ensures.value) in
     subst (λ (all : List (List Point)). BoundsSome (flat_map ring_edges all)) (sym same)
     (bounds-some c.args.rule c.args.operation _ _ (flat_map ring_edges rings) is.bounds sloped)
 
@@ -51,12 +51,12 @@ returns-clause-ok g c =
     let operation = c.args.operation in
     let subject = edges_of c.args.subject in
     let clip = edges_of c.args.clip in
-    let points = c.deref-2.result.now in
-    let ends = c.deref-3.result.now in
+    let points = c.boundary.new.points.items in
+    let ends = c.deref-2.result.now in
     let out = c.args.out.now in
     let new = c.append_polygons.new.out in
     let (rings, is, _, points_are, ends_are) = c.in_ok-boundary.ensures.ok in
-    let same = rings-joined rings points ends (AreJoined-first rings _ _ _ _ _ _ c.new-points.ensures.items c.new-ends.ensures.items points_are ends_are c.deref-2.ensures.value c.deref-3.ensures.value) in
+    let same = rings-joined rings points ends (AreJoined-first rings _ _ _ _ _ _ c.new-points.ensures.items c.new-ends.ensures.items points_are ends_are refl c.deref-2.ensures.value) in
     let of_real : BoundsResult rule operation (real_edges subject) (real_edges clip) (flat_map ring_edges rings) =
     subst₂ (λ (one other : List Edge). BoundsResult rule operation one other (flat_map ring_edges rings)) (ap (λ (edges : List Edge). take c.in_ok-edges.count edges) c.deref.ensures.value ∙ c.in_ok-edges.ensures.subject)
     (ap (λ (edges : List Edge). drop c.in_ok-edges.count edges) c.deref.ensures.value ∙ c.in_ok-edges.ensures.clip) is.bounds in
