@@ -1,7 +1,7 @@
 //! Edges cut into parts, whose edges follow each other along x.
 
 ghost use Rattle.std.specs.Bool.{OnTrue};
-ghost use Rattle.std.specs.Prelude.{◌<◌, ◌≤◌, ◌+◌, List, IfOk, OnOk, length};
+ghost use Rattle.std.specs.Prelude.{◌<◌, ◌≤◌, ◌+◌, List, IfOk, IfSome, OnOk, length};
 ghost use Rattle.std.specs.List.{between};
 ghost use Rattle.plane.specs.declared.edge.Edge.{Edge};
 ghost use Rattle.overlay.specs.Stretches.Cut.{AreSplit, Follows, GoAlong, IsCutInParts, IsPart};
@@ -12,7 +12,8 @@ use std::alloc::{AllocError, Allocator};
 /// How many edges a run has at least that isn't cut into single edges.
 const SHORTEST: usize = 4;
 
-/// Where parts of the edges stop, each of so many edges at most. None goes on over the bound.
+/// Where parts of the edges stop, each of so many edges at most. None goes on over the bound. Nothing is told where more than so
+/// many edges don't follow the one before, on either side of the bound.
 ///
 /// Edges that follow each other are a run. Where a ring turns back, the last edge of one run and the first one of the next
 /// lie near each other: so both stand alone, and what lies between them is cut.
@@ -21,38 +22,60 @@ pub fn parts_of<A: Allocator>(
     edges: &[Edge],
     bound: usize,
     most: usize,
-) -> Result<Vec<usize, A>, AllocError>
+    breaks: usize,
+) -> Result<Option<Vec<usize, A>>, AllocError>
     requires bound { bound ≤ length edges.now }
     requires most { 0 < most }
-    ensures { IfOk result (λ ends. (front : List (List Edge)) × (back : List (List Edge))
-        × AreSplit edges.now bound ends.items front back) }
+    ensures { IfOk result (λ found. IfSome found (λ ends. (front : List (List Edge)) × (back : List (List Edge))
+        × AreSplit edges.now bound ends.items front back)) }
 {
     let mut ends = Vec::new(alloc);
-    push_runs(edges, 0, bound, most, &mut ends)?;
-    push_runs(edges, bound, edges.len(), most, &mut ends)?;
-    Ok(ends)
+    let Some(left) = push_runs(edges, 0, bound, most, breaks, &mut ends)? else {
+        return Ok(None);
+    };
+    let Some(_left) = push_runs(edges, bound, edges.len(), most, left, &mut ends)? else {
+        return Ok(None);
+    };
+    Ok(Some(ends))
 }
 
-// Appends where parts of the edges from the one place on, and before the other, stop.
+// Appends where parts of the edges from the one place on, and before the other, stop, and tells how many of the breaks are left
+// then. It stops, and tells nothing, at one more.
 fn push_runs<A: Allocator>(
     edges: &[Edge],
     from: usize,
     upto: usize,
     most: usize,
+    breaks: usize,
     ends: &mut Vec<usize, A>,
-) -> Result<(), AllocError>
+) -> Result<Option<usize>, AllocError>
     requires order { from ≤ upto }
     requires within { upto ≤ length edges.now }
     requires most { 0 < most }
-    ensures { OnOk result (IsCutInParts edges.now from upto most ends.old.items ends.new.items) }
+    ensures { IfOk result (λ found. IfSome found (λ left.
+        IsCutInParts edges.now from upto most ends.old.items ends.new.items)) }
 {
+    let mut left = breaks;
     let mut next = from;
     while next < upto {
+        let Some(others) = breaks_left(left, next > from) else {
+            return Ok(None);
+        };
+        left = others;
         let end = run_end(edges, next, upto);
         push_run(edges, next, end, most, ends)?;
         next = end;
     }
-    Ok(())
+    Ok(Some(left))
+}
+
+// How many of the breaks are left behind this place, if it is one.
+fn breaks_left(left: usize, is_break: bool) -> Option<usize> {
+    if is_break {
+        left.checked_sub(1)
+    } else {
+        Some(left)
+    }
 }
 
 // Where the run that begins with the edge at this place stops, before the other place.
@@ -147,18 +170,4 @@ fn go_along(one: Edge, other: Edge) -> bool
     } else {
         one.x1 < one.x0 && other.x1 < other.x0
     }
-}
-
-/// How many of the edges don't follow the one before, or if they are more than so many one more than these.
-pub fn count_breaks(edges: &[Edge], most: usize) -> usize {
-    let mut count = 0;
-    for place in 1..edges.len() {
-        if !follows(edges[place - 1], edges[place]) {
-            count += 1;
-            if count > most {
-                return count;
-            }
-        }
-    }
-    count
 }

@@ -4,7 +4,7 @@ ghost use Rattle.std.specs.Prelude.{◌≡◌, ◌<◌, ◌≤◌, IfErr, IfOk, 
 ghost use Rattle.i_tree.specs.declared.Refusal.TheVariants.{OutOfMemory};
 ghost use Rattle.overlay.specs.Stretches.Cut.{AreCut};
 
-use cutting::{count_breaks, parts_of};
+use cutting::parts_of;
 use i_tree::Refusal;
 use plane::edge::Edge;
 use refining::relieved;
@@ -50,10 +50,11 @@ pub fn stretches_of<A: Allocator + Copy>(
         AreCut (take count edges.now) (drop count edges.now) edges.now told.ends.items told.count)) }
     ensures refused { IfErr result (λ cause. cause ≡ OutOfMemory) }
 {
-    if are_short(&edges[..count], &edges[count..]) {
+    let longest = longest_of(edges.len());
+    let breaks = most_breaks(count, edges.len() - count);
+    let Some(parts) = parts_of(alloc, edges, count, longest, breaks)? else {
         return Ok(None);
-    }
-    let parts = parts_of(alloc, edges, count, longest_of(edges.len()))?;
+    };
     if parts.len() > edges.len() / 8 {
         return Ok(None);
     }
@@ -80,9 +81,8 @@ fn longest_of(count: usize) -> usize
     if count < MANY { LONGEST / 2 } else { LONGEST }
 }
 
-// Whether there are so many runs that more parts would be left than an eighth of the edges.
-fn are_short(subject: &[Edge], clip: &[Edge]) -> bool {
-    let most = subject.len() / 24 + clip.len() / 24;
-    let count = count_breaks(subject, most);
-    count > most || count_breaks(clip, most - count) > most - count
+// At how many places edges of so many may not follow the one before: with more, more parts would be left than an eighth of the
+// edges.
+fn most_breaks(subject: usize, clip: usize) -> usize {
+    subject / 24 + clip / 24
 }
