@@ -1,9 +1,10 @@
 -- Of edges that bound a region some ring runs counterclockwise.
-use Rattle.std.proofs.Common.{◌≡◌, ◌≢◌, ◌<◌, ◌++◌, [], ◌∷◌, inl, inr, ℕ, zero, suc, length, get_or, map, Bool, true, false, not, ◌&&◌, cond, ℤ, pos, ◌<ℤ◌, List, Option, Some, None, refl, sym, subst, ◌∙◌, append_assoc, append-nil, arith}
+use Rattle.std.proofs.Common.{◌≡◌, ◌≢◌, ◌<◌, ◌++◌, [], ◌∷◌, inl, inr, ℕ, zero, suc, length, get_or, map, Bool, true, false, not, ◌&&◌, cond, ℤ, pos, ◌<ℤ◌, List, Option, Some, None, Ordering, Less, Equal, Greater, refl, ap, sym, subst, ◌∙◌, append_assoc, append-nil, arith}
 use Rattle.std.specs.List.{All, Contains, flat_map, position, position_or_len}
 use Rattle.std.specs.Prelude.{IfSome, nat_lt}
 use Rattle.std.specs.Int.Signed.{lt_z}
-use Rattle.std.specs.Ordering.{int_eq}
+use Rattle.std.specs.Ordering.{MatchOrdering, int_cmp, int_eq, is_lt}
+use Rattle.std.proofs.lemmas.Cmp.{int_ranked}
 use Rattle.std.proofs.lemmas.Bool.{ltb-false}
 use Rattle.std.proofs.lemmas.Int.{ints}
 use Rattle.std.proofs.lemmas.List.Elements.{All-head, Contains-append_cases, Contains-append_left, Contains-append_right}
@@ -13,6 +14,7 @@ use Rattle.plane.specs.declared.edge.Edge.{Edge}
 use Rattle.plane.specs.declared.point.Point.{Point}
 use Rattle.plane.specs.SweepLine.Heights.{rightwards}
 use Rattle.plane.proofs.PairsLemmas.Bags.{Contains-map}
+use Rattle.plane.proofs.SweepLineLemmas.Active.{then_cmp-differ}
 use Rattle.overlay.specs.declared.fill.pieces.Piece.{Piece}
 use Rattle.overlay.specs.Contours.Outlines.{next_or}
 use Rattle.overlay.specs.Contours.Rings.{IsRing, ring_edges}
@@ -42,6 +44,18 @@ Told edges (Some first) = IsFirst edges first
 
 abbrev as_piece : Edge → Piece
 as_piece edge = record { edge = rightwards edge; subject = pos 0; clip = pos 0 }
+
+-- ---- an edge that begins further right
+
+not_less : (o : Ordering) (a b : ℤ) → MatchOrdering o (a <ℤ b) (a ≡ b) (b <ℤ a) → b <ℤ a → is_lt o ≡ false
+not_less Less a b said further = absurd (omega (arith, ints, said, further))
+not_less Equal a b said further = refl
+not_less Greater a b said further = refl
+
+pub begins_behind : (edge best : Edge) → (rightwards best).x0 <ℤ (rightwards edge).x0 → begins_before edge (Some best) ≡ false
+begins_behind edge best further =
+    ap is_lt (sym (then_cmp-differ (rightwards edge).x0 (rightwards best).x0 _ (λ same. omega (arith, ints, same, further))))
+    ∙ not_less (int_cmp (rightwards edge).x0 (rightwards best).x0) (rightwards edge).x0 (rightwards best).x0 (int_ranked (rightwards edge).x0 (rightwards best).x0 (int_cmp (rightwards edge).x0 (rightwards best).x0) refl) further
 
 -- ---- one edge more
 

@@ -1,6 +1,7 @@
 //! Which way rings run.
 
-ghost use Rattle.std.specs.Prelude.{◌≡◌, ◌≢◌, IfOk, IfSome, None, length, map};
+ghost use Rattle.std.specs.Bool.{OnTrue};
+ghost use Rattle.std.specs.Prelude.{◌≡◌, ◌≢◌, ◌<ℤ◌, false, IfOk, IfSome, None, length, map};
 ghost use Rattle.overlay.specs.Contours.Rings.{ring_edges};
 ghost use Rattle.polygons.specs.Grouping.{sooner};
 ghost use Rattle.polygons.specs.Polygons.{begins_before, first_sloped, is_counterclockwise, runs_rightwards};
@@ -55,13 +56,30 @@ pub fn first_edge(ring: &[Point]) -> Option<Edge>
 fn sooner(best: Option<Edge>, edge: Edge) -> Option<Edge>
     ensures { result ≡ sooner best edge }
 {
-    if edge.x0 == edge.x1 {
+    if edge.x0 == edge.x1 || begins_behind(edge, best) {
         return best;
     }
     if begins_before(edge, best) {
         return Some(edge);
     }
     best
+}
+
+// Whether the edge begins further right than the best one so far: that tells most of the edges by one comparison.
+fn begins_behind(edge: Edge, best: Option<Edge>) -> bool
+    ensures { OnTrue result (begins_before edge best ≡ false) }
+{
+    match best {
+        Some(other) => starts_before(turn_rightwards(other), turn_rightwards(edge)),
+        None => false,
+    }
+}
+
+// Whether the one edge starts further left than the other.
+fn starts_before(one: Edge, other: Edge) -> bool
+    ensures { OnTrue result (one.x0 <ℤ other.x0) }
+{
+    one.x0 < other.x0
 }
 
 // Whether the edge begins before the best one so far, or there is none.
