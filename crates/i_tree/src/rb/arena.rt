@@ -2,6 +2,7 @@
 
 ghost use Rattle.std.specs.Prelude.{⊤, ◌≡◌, ◌≢◌, ◌≤◌, ◌<◌, ◌+◌, ◌-◌, ℕ, List, length, Some, slice_get, OnOk, MatchBool, IsTrue, max, vec_len, vec_capacity};
 ghost use Rattle.std.specs.Borrow.{sem};
+ghost use Rattle.i_tree.specs.declared.rb.links.Links.{Links};
 ghost use Rattle.i_tree.specs.Rb.Balance.{is_black};
 ghost use Rattle.i_tree.specs.Rb.Capacity.{MakesEmpty, Reserves, TakesSlotBy};
 ghost use Rattle.i_tree.specs.Rb.Context.{Frame, fork_on, plug, hole_parent, Replaces, HasOneSubtree, HasRoomOn};
@@ -9,12 +10,12 @@ ghost use Rattle.i_tree.specs.Rb.ArenaLends.{lends_item};
 ghost use Rattle.i_tree.specs.Rb.RbTree.{slots};
 ghost use Rattle.i_tree.specs.Rb.FreeSlots.{IsFree, Keeps, with_numbers};
 ghost use Rattle.i_tree.specs.Rb.Shape.{Shape, leaf, fork, top, entries, IsHandle, AreHandles, occurs};
-ghost use Rattle.i_tree.specs.Rb.Slots.{IsChain, IsSound, IsUsed};
+ghost use Rattle.i_tree.specs.Rb.Slots.{IsChain, IsSound, IsUsed, node_slot};
 ghost use Rattle.i_tree.specs.Root.Steps.{one_rotation};
 ghost use Rattle.i_tree.specs.Rb.Rotation.{Rotation, unrotated, rotated, CanRotation, HoldsRotation, Rehangs, Reparents};
 
 use super::links::{
-    Colour, Links, Side, Slot, hang, links_at, write_child, write_colour, write_parent,
+    Colour, Side, Slot, Ties, hang, links_at, write_child, write_colour, write_parent,
 };
 use crate::steps::Counter;
 use crate::{EMPTY_REF, Refusal};
@@ -88,22 +89,22 @@ fn take_slot<T>(
     ensures handle { result ≡ first_free.old }
     ensures next { slice_get slots.old result ≡ Some (Slot.Free first_free.new) }
     ensures used { slice_get slots.new result ≡ Some
-        (Slot.Used (record { parent = parent; left = EMPTY_REF; right = EMPTY_REF; colour = colour }) item) }
+        (node_slot (record { parent = parent; left = EMPTY_REF; right = EMPTY_REF; colour = colour }) item) }
     ensures others { (other : ℕ) → other ≢ result → slice_get slots.new other ≡ slice_get slots.old other }
 {
     let handle = *first_free;
     let node = Slot::Used(
-        Links {
+        colour,
+        Ties {
             parent,
             left: EMPTY_REF,
             right: EMPTY_REF,
-            colour,
         },
         item,
     );
     match mem::replace(&mut slots[handle as usize], node) {
         Slot::Free(next) => *first_free = next,
-        Slot::Used(_, _) => unreachable!(),
+        Slot::Used(_, _, _) => unreachable!(),
     }
     handle
 }
@@ -111,13 +112,13 @@ fn take_slot<T>(
 // Puts the slot of a node before the free ones, and answers its item.
 fn free_slot<T>(slots: &mut [Slot<T>], first_free: u32, handle: u32) -> T
     requires { IsUsed slots.old handle }
-    ensures item { (links : Links) (item : T) → slice_get slots.old handle ≡ Some (Slot.Used links item) →
+    ensures item { (links : Links) (item : T) → slice_get slots.old handle ≡ Some (node_slot links item) →
         result ≡ item }
     ensures freed { slice_get slots.new handle ≡ Some (Slot.Free first_free) }
     ensures others { (other : ℕ) → other ≢ handle → slice_get slots.new other ≡ slice_get slots.old other }
 {
     match mem::replace(&mut slots[handle as usize], Slot::Free(first_free)) {
-        Slot::Used(_, item) => item,
+        Slot::Used(_, _, item) => item,
         Slot::Free(_) => unreachable!(),
     }
 }
@@ -258,7 +259,7 @@ impl<T, A: Allocator + Copy> Arena<T, A> {
         ensures { MatchBool result (IsHandle self.now.shape handle) (occurs handle self.now.shape ≡ 0) }
     {
         match self.slots.get(handle as usize) {
-            Some(Slot::Used(_, _)) => true,
+            Some(Slot::Used(_, _, _)) => true,
             Some(Slot::Free(_)) => false,
             None => false,
         }
@@ -308,7 +309,7 @@ impl<T, A: Allocator + Copy> Arena<T, A> {
             self.now.shape ≡ plug around (fork colour before handle item after) → result.now ≡ item }
     {
         match &self.slots[handle as usize] {
-            Slot::Used(_, item) => item,
+            Slot::Used(_, _, item) => item,
             Slot::Free(_) => unreachable!(),
         }
     }

@@ -3,7 +3,7 @@
 ghost use Rattle.std.specs.Prelude.{◌≡◌, Some, IsSome};
 ghost use Rattle.std.specs.Borrow.{sem, Lends};
 ghost use Rattle.i_tree.specs.Rb.Context.{other_side};
-ghost use Rattle.i_tree.specs.Rb.Slots.{IsUsed, Relinks, child_link, with_child_link, with_parent_link, with_colour, hung_links, links_of, slot_links, slot_item, with_slot_item};
+ghost use Rattle.i_tree.specs.Rb.Slots.{IsUsed, Relinks, child_link, with_child_link, with_child_tie, with_parent_link, with_colour, hung_links, links_of, slot_links, slot_item, with_slot_item};
 
 /// The colour of a node, by which the tree keeps its balance.
 #[derive(Clone, Copy, PartialEq, Eq)]
@@ -48,9 +48,19 @@ impl Links {
             Side::Right => self.right,
         }
     }
+}
 
+/// The handles among a node's links. Its colour lies beside the slot's tag, where it takes no room of its own.
+#[derive(Clone, Copy)]
+pub struct Ties {
+    pub parent: u32,
+    pub left: u32,
+    pub right: u32,
+}
+
+impl Ties {
     pub fn set_child(&mut self, side: Side, child: u32)
-        ensures { self.new ≡ with_child_link side child self.old }
+        ensures { self.new ≡ with_child_tie side child self.old }
     {
         match side {
             Side::Left => self.left = child,
@@ -63,8 +73,11 @@ impl Links {
 #[derive(Drop)]
 pub enum Slot<T> {
     Free(u32),
-    Used(Links, T),
+    Used(Colour, Ties, T),
 }
+
+// In a large tree each step waits for the memory of a slot, so all but the item takes 16 bytes.
+const _: () = prove!(size_of::<Slot<[u64; 3]>>() == 40);
 
 impl<T> Slot<T> {
     ghost use Rattle.i_tree.specs.contracts.rb.links.Slot.{the_row};
@@ -76,7 +89,7 @@ impl<T> Slot<T> {
         ensures value { slot_item self.old ≡ Some result.now }
     {
         match self {
-            Slot::Used(_, item) => item,
+            Slot::Used(_, _, item) => item,
             Slot::Free(_) => unreachable!(),
         }
     }
@@ -88,7 +101,12 @@ pub fn links_at<T>(slots: &[Slot<T>], handle: u32) -> Links
     ensures { links_of slots.now handle ≡ Some result }
 {
     match &slots[handle as usize] {
-        Slot::Used(links, _) => *links,
+        Slot::Used(colour, ties, _) => Links {
+            parent: ties.parent,
+            left: ties.left,
+            right: ties.right,
+            colour: *colour,
+        },
         Slot::Free(_) => unreachable!(),
     }
 }
@@ -99,7 +117,7 @@ pub fn write_parent<T>(slots: &mut [Slot<T>], handle: u32, parent: u32)
     ensures { Relinks slots.old slots.new handle (with_parent_link parent) }
 {
     match &mut slots[handle as usize] {
-        Slot::Used(links, _) => links.parent = parent,
+        Slot::Used(_, ties, _) => ties.parent = parent,
         Slot::Free(_) => {}
     }
 }
@@ -110,7 +128,7 @@ pub fn write_child<T>(slots: &mut [Slot<T>], handle: u32, side: Side, child: u32
     ensures { Relinks slots.old slots.new handle (with_child_link side child) }
 {
     match &mut slots[handle as usize] {
-        Slot::Used(links, _) => links.set_child(side, child),
+        Slot::Used(_, ties, _) => ties.set_child(side, child),
         Slot::Free(_) => {}
     }
 }
@@ -121,7 +139,7 @@ pub fn write_colour<T>(slots: &mut [Slot<T>], handle: u32, colour: Colour)
     ensures { Relinks slots.old slots.new handle (with_colour colour) }
 {
     match &mut slots[handle as usize] {
-        Slot::Used(links, _) => links.colour = colour,
+        Slot::Used(shade, _, _) => *shade = colour,
         Slot::Free(_) => {}
     }
 }
@@ -139,10 +157,10 @@ pub fn hang<T>(
     ensures { Relinks slots.old slots.new handle (hung_links parent colour side child) }
 {
     match &mut slots[handle as usize] {
-        Slot::Used(links, _) => {
-            links.set_child(side, child);
-            links.parent = parent;
-            links.colour = colour;
+        Slot::Used(shade, ties, _) => {
+            ties.set_child(side, child);
+            ties.parent = parent;
+            *shade = colour;
         }
         Slot::Free(_) => {}
     }

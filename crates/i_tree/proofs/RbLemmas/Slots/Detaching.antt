@@ -7,10 +7,10 @@ use Rattle.i_tree.specs.declared.rb.links.Links.{Links}
 use Rattle.i_tree.specs.declared.rb.links.Side.{Side}
 use Rattle.i_tree.specs.declared.rb.links.Side.TheVariants.{Left, Right}
 use Rattle.i_tree.specs.declared.rb.links.Slot.{Slot}
-use Rattle.i_tree.specs.declared.rb.links.Slot.TheVariants.{Free, Used}
+use Rattle.i_tree.specs.declared.rb.links.Slot.TheVariants.{Free}
 use Rattle.i_tree.specs.Rb.Context.{Frame, fork_on, plug, hole_parent, HasOneSubtree}
 use Rattle.i_tree.specs.Rb.Shape.{Shape, leaf, top, entries, occurs, one_if_same}
-use Rattle.i_tree.specs.Rb.Slots.{links_of, IsUsed, IsAt, IsSound, one_if_slot}
+use Rattle.i_tree.specs.Rb.Slots.{node_slot, links_of, IsUsed, IsAt, IsSound, one_if_slot}
 use Rattle.i_tree.specs.Rb.Rotation.{Rehangs, Reparents}
 use Rattle.i_tree.proofs.RbLemmas.Shape.Contexts.{one_if_same-same, occurs_around, occurs-fork_on, occurs-plug, top-fork_on, length-plug}
 use Rattle.i_tree.proofs.RbLemmas.Slots.Layout.{links_on, one_if_slot-le, IsAround, IsAt-from_fork_on, IsAt-from_plug, IsAt-plug, IsAt-same, IsAround-same, AreHandles-sound, IsChain-same}
@@ -29,8 +29,8 @@ pub record OnlySubtree (links : Links) (taken : ℕ) : Type 0 where
 
 module _ {T : Type 0} where
   -- the item of a node is the one that was read
-  pub read_item : (slots : List (Slot T)) (handle : ℕ) (read : Slot T) (found links : Links) (held item : T) → get_or slots handle read ≡ Used found held
-      → slice_get slots handle ≡ Some (Used links item) → held ≡ item
+  pub read_item : (slots : List (Slot T)) (handle : ℕ) (read : Slot T) (found links : Links) (held item : T) → get_or slots handle read ≡ node_slot found held
+      → slice_get slots handle ≡ Some (node_slot links item) → held ≡ item
   read_item slots handle read found links held item is at = grind (arith, slice_get-get_or, slice_get_within)
 
   pub taken_is : (side : Side) (above taken : ℕ) (shade : Colour) (subtree : Shape T) → occurs EMPTY_REF subtree ≡ 0
@@ -44,7 +44,7 @@ module _ {T : Type 0} where
   -- a node with one subtree in its frames, and no handle twice
   pub record Alone (slots : List (Slot T)) (around : List (Frame T)) (side : Side) (colour : Colour) (subtree : Shape T) (handle : ℕ) (item : T) : Type 0 where
     pub held : IsAround slots around handle
-    pub own : slice_get slots handle ≡ Some (Used (links_on side (hole_parent around) (top subtree) EMPTY_REF colour) item)
+    pub own : slice_get slots handle ≡ Some (node_slot (links_on side (hole_parent around) (top subtree) EMPTY_REF colour) item)
     pub below : IsAt slots handle subtree
     pub once : (other : ℕ) → occurs_around other around + one_if_same other handle + occurs other subtree ≤ 1
     pub none : occurs_around EMPTY_REF around + one_if_same EMPTY_REF handle + occurs EMPTY_REF subtree ≡ 0

@@ -9,10 +9,10 @@ use Rattle.i_tree.specs.declared.rb.links.Links.{Links}
 use Rattle.i_tree.specs.declared.rb.links.Side.{Side}
 use Rattle.i_tree.specs.declared.rb.links.Side.TheVariants.{Left, Right}
 use Rattle.i_tree.specs.declared.rb.links.Slot.{Slot}
-use Rattle.i_tree.specs.declared.rb.links.Slot.TheVariants.{Free, Used}
+use Rattle.i_tree.specs.declared.rb.links.Slot.TheVariants.{Free}
 use Rattle.i_tree.specs.Rb.Shape.{Shape, leaf, fork, top, occurs, one_if_same}
 use Rattle.i_tree.specs.Rb.Context.{Frame, plug, hole_parent}
-use Rattle.i_tree.specs.Rb.Slots.{with_child_link, slot_links, read_tree, IsUsed, IsChain, IsSound, Relinks, occurs_in, one_if_slot}
+use Rattle.i_tree.specs.Rb.Slots.{node_slot, with_child_link, slot_links, read_tree, IsUsed, IsChain, IsSound, Relinks, occurs_in, one_if_slot}
 use Rattle.i_tree.proofs.RbLemmas.Shape.Contexts.{one_if_same-same, occurs_around, occurs-plug, length-plug}
 use Rattle.i_tree.proofs.RbLemmas.Slots.Layout.{links_on, one_if_slot-le, IsAround-child, IsAt-plug, IsAt-from_plug, top-plug, read_sound, IsUsed-live, IsChain-same}
 
@@ -35,7 +35,7 @@ module _ {T : Type 0} where
       → slice_get slots handle ≡ Some (Free found)
   read_free slots handle next read found free is = slice_get-get_or slots handle read (slice_get_within slots handle (Free next) free) ∙ ap Some is
 
-  pub read_not_used : (slots : List (Slot T)) (handle next : ℕ) (read : Slot T) (links : Links) (item : T) → slice_get slots handle ≡ Some (Free next) → get_or slots handle read ≡ Used links item → ⊥
+  pub read_not_used : (slots : List (Slot T)) (handle next : ℕ) (read : Slot T) (links : Links) (item : T) → slice_get slots handle ≡ Some (Free next) → get_or slots handle read ≡ node_slot links item → ⊥
   read_not_used slots handle next read links item free is = grind (arith, slice_get-get_or, slice_get_within)
 
   -- the first free slot, and the chain behind it
@@ -89,7 +89,7 @@ module _ {T : Type 0} where
   -- a black node in the first free slot, in the empty tree
   pub sound-rooted : (old new : List (Slot T)) (root first next free : ℕ) (item : T) → IsSound old root first free leaf → 0 < free
       → slice_get old first ≡ Some (Free next)
-      → slice_get new first ≡ Some (Used (record { parent = EMPTY_REF; left = EMPTY_REF; right = EMPTY_REF; colour = Black }) item)
+      → slice_get new first ≡ Some (node_slot (record { parent = EMPTY_REF; left = EMPTY_REF; right = EMPTY_REF; colour = Black }) item)
       → ((other : ℕ) → other ≢ first → slice_get new other ≡ slice_get old other)
       → length new ≡ length old
       → IsSound new first next (free - 1) (fork Black leaf first item leaf)
@@ -112,11 +112,11 @@ module _ {T : Type 0} where
 
   -- the links of the parent, once the new node is tied to it
   pub relinked : (taken new : List (Slot T)) (side : Side) (above far first handle : ℕ) (shade : Colour) (item : T)
-      → slice_get taken handle ≡ Some (Used (links_on side above EMPTY_REF far shade) item) → Relinks taken new handle (with_child_link side first)
-      → slice_get new handle ≡ Some (Used (links_on side above first far shade) item)
+      → slice_get taken handle ≡ Some (node_slot (links_on side above EMPTY_REF far shade) item) → Relinks taken new handle (with_child_link side first)
+      → slice_get new handle ≡ Some (node_slot (links_on side above first far shade) item)
   relinked taken new side above far first handle shade item own relinks =
       relinks.at (links_on side above EMPTY_REF far shade) item own
-      ∙ ap (λ (given : Links). Some (Used given item)) (with_child-links_on side above EMPTY_REF far first shade)
+      ∙ ap (λ (given : Links). Some (node_slot given item)) (with_child-links_on side above EMPTY_REF far first shade)
 
   -- the node that gains a subtree is in the tree, and isn't the first free slot
   pub parent_live : (frame : Frame T) (around : List (Frame T)) (subtree : Shape T) → 0 < occurs frame.handle (plug (frame ∷ around) subtree)
@@ -139,7 +139,7 @@ module _ {T : Type 0} where
   pub sound-attached : (old taken new : List (Slot T)) (root first next free : ℕ) (frame : Frame T) (around : List (Frame T)) (item : T)
       → IsSound old root first free (plug (frame ∷ around) leaf) → 0 < free
       → slice_get old first ≡ Some (Free next)
-      → slice_get taken first ≡ Some (Used (record { parent = frame.handle; left = EMPTY_REF; right = EMPTY_REF; colour = Red }) item)
+      → slice_get taken first ≡ Some (node_slot (record { parent = frame.handle; left = EMPTY_REF; right = EMPTY_REF; colour = Red }) item)
       → ((other : ℕ) → other ≢ first → slice_get taken other ≡ slice_get old other)
       → Relinks taken new frame.handle (with_child_link frame.side first)
       → length new ≡ length old

@@ -7,11 +7,10 @@ use Rattle.i_tree.specs.declared.TheConstants.{EMPTY_REF}
 use Rattle.i_tree.specs.declared.rb.links.Colour.{Colour}
 use Rattle.i_tree.specs.declared.rb.links.Links.{Links}
 use Rattle.i_tree.specs.declared.rb.links.Slot.{Slot}
-use Rattle.i_tree.specs.declared.rb.links.Slot.TheVariants.{Used}
 use Rattle.i_tree.specs.Rb.Context.{Frame, plug}
 use Rattle.i_tree.specs.Rb.RbTree.{Contents}
 use Rattle.i_tree.specs.Rb.Shape.{Shape, leaf, fork, top, entries, occurs, with_item, IsHandle}
-use Rattle.i_tree.specs.Rb.Slots.{slot_item, with_slot_item, slot_links, IsAt, IsSound}
+use Rattle.i_tree.specs.Rb.Slots.{node_slot, slot_item, with_slot_item, slot_links, IsAt, IsSound}
 use Rattle.i_tree.proofs.RbLemmas.Slots.Writes.{InUse, in_use, IsUsed-within, slice_get-set_other, slice_get-set_same, IsSound-kept}
 use Rattle.i_tree.proofs.RbLemmas.Slots.Reads.{IsUsed-sound, item_at}
 
@@ -33,8 +32,8 @@ module _ {T : Type 0} where
       omega (arith, entries-with_item handle item before, entries-with_item handle item after)
 
   -- the tree in slots, one of which has another item
-  pub IsAt-with_item : (slots : List (Slot T)) (above handle : ℕ) (links : Links) (held item : T) (tree : Shape T) → slice_get slots handle ≡ Some (Used links held)
-      → IsAt slots above tree → IsAt (slice_set slots handle (Used links item)) above (with_item handle item tree)
+  pub IsAt-with_item : (slots : List (Slot T)) (above handle : ℕ) (links : Links) (held item : T) (tree : Shape T) → slice_get slots handle ≡ Some (node_slot links held)
+      → IsAt slots above tree → IsAt (slice_set slots handle (node_slot links item)) above (with_item handle item tree)
   IsAt-with_item slots above handle links held item leaf used at = tt
   IsAt-with_item slots above handle links held item (fork shade before own was after) used at = (
     by_test (eqb handle own) refl,
@@ -49,23 +48,23 @@ module _ {T : Type 0} where
           let Second : ℕ → Links = λ far. record { parent = above; left = top (with_item handle item before); right = far; colour = shade } in
           ap First (sym (top-with_item handle item before)) ∙ ap Second (sym (top-with_item handle item after))
 
-      by_test : (test : Bool) → eqb handle own ≡ test → slice_get (slice_set slots handle (Used links item)) own
-          ≡ Some (Used (record { parent = above; left = top (with_item handle item before); right = top (with_item handle item after); colour = shade }) (cond (eqb handle own) item was))
+      by_test : (test : Bool) → eqb handle own ≡ test → slice_get (slice_set slots handle (node_slot links item)) own
+          ≡ Some (node_slot (record { parent = above; left = top (with_item handle item before); right = top (with_item handle item after); colour = shade }) (cond (eqb handle own) item was))
       by_test test is = grind (arith, eqb-true, slice_get-set_same, slice_get_within, same_links, eqb-false, slice_get-set_other)
 
   pub sound-item : (slots : List (Slot T)) (root first_free free handle : ℕ) (links : Links) (held item : T) (tree : Shape T) → IsSound slots root first_free free tree
-      → IsHandle tree handle → slice_get slots handle ≡ Some (Used links held)
-      → IsSound (slice_set slots handle (Used links item)) root first_free free (with_item handle item tree)
+      → IsHandle tree handle → slice_get slots handle ≡ Some (node_slot links held)
+      → IsSound (slice_set slots handle (node_slot links item)) root first_free free (with_item handle item tree)
   sound-item slots root first_free free handle links held item tree sound live used =
-      IsSound-kept slots (slice_set slots handle (Used links item)) root root first_free free tree (with_item handle item tree) sound
-      (length-set slots handle (Used links item))
-      (λ other gone. slice_get-set_other slots handle other (Used links item) (λ same. let moved = ap (λ h. occurs h tree) same in omega arith))
+      IsSound-kept slots (slice_set slots handle (node_slot links item)) root root first_free free tree (with_item handle item tree) sound
+      (length-set slots handle (node_slot links item))
+      (λ other gone. slice_get-set_other slots handle other (node_slot links item) (λ same. let moved = ap (λ h. occurs h tree) same in omega arith))
       (IsAt-with_item slots EMPTY_REF handle links held item tree used sound.at)
       (sound.root_is ∙ sym (top-with_item handle item tree)) (λ other. occurs-with_item other handle item tree) (entries-with_item handle item tree)
 
   -- what the slot of a live handle has in it
   pub slot_live : (slots : List (Slot T)) (root first_free free handle : ℕ) (slot : Slot T) (tree : Shape T) → IsSound slots root first_free free tree
-      → IsHandle tree handle → slot ≡ get_or slots handle slot → (held : InUse slots handle) × (slot ≡ Used held.links held.item)
+      → IsHandle tree handle → slot ≡ get_or slots handle slot → (held : InUse slots handle) × (slot ≡ node_slot held.links held.item)
   slot_live slots root first_free free handle slot tree sound live is =
       let used = IsUsed-sound slots root first_free free handle tree sound live in
       let held = in_use slots handle used in

@@ -8,10 +8,9 @@ use Rattle.i_tree.specs.declared.rb.links.Links.{Links}
 use Rattle.i_tree.specs.declared.rb.links.Side.{Side}
 use Rattle.i_tree.specs.declared.rb.links.Side.TheVariants.{Left, Right}
 use Rattle.i_tree.specs.declared.rb.links.Slot.{Slot}
-use Rattle.i_tree.specs.declared.rb.links.Slot.TheVariants.{Used}
 use Rattle.i_tree.specs.Rb.Shape.{Shape, leaf, fork, top, entries, occurs, AreHandles}
 use Rattle.i_tree.specs.Rb.Context.{Frame, fork_on, fill, plug, hole_parent}
-use Rattle.i_tree.specs.Rb.Slots.{slot_links, IsUsed, IsAt, IsSound, read_slot, read_tree, one_if_slot, IsChain, occurs_in}
+use Rattle.i_tree.specs.Rb.Slots.{node_slot, slot_links, IsUsed, IsAt, IsSound, read_slot, read_tree, one_if_slot, IsChain, occurs_in}
 use Rattle.i_tree.proofs.RbLemmas.Shape.Contexts.{one_if_same-same, occurs_where, occurs_around, top-fork_on}
 
 -- the links of a node by its side
@@ -37,7 +36,7 @@ module _ {T : Type 0} where
   abbrev pub IsAround : List (Slot T) → List (Frame T) → ℕ → Type 0
   IsAround slots [] child = Unit {0}
   IsAround slots (frame ∷ around) child =
-      (slice_get slots frame.handle ≡ Some (Used (links_on frame.side (hole_parent around) child (top frame.sibling) frame.colour) frame.item))
+      (slice_get slots frame.handle ≡ Some (node_slot (links_on frame.side (hole_parent around) child (top frame.sibling) frame.colour) frame.item))
       × IsAt slots frame.handle frame.sibling × IsAround slots around frame.handle
 
   -- a chain in slots that are the same along it
@@ -50,12 +49,12 @@ module _ {T : Type 0} where
 
   pub IsAt-from_fork_on : (slots : List (Slot T)) (above : ℕ) (side : Side) (shade : Colour) (near : Shape T) (handle : ℕ) (item : T) (far : Shape T)
       → IsAt slots above (fork_on side shade near handle item far)
-      → (slice_get slots handle ≡ Some (Used (links_on side above (top near) (top far) shade) item)) × IsAt slots handle near × IsAt slots handle far
+      → (slice_get slots handle ≡ Some (node_slot (links_on side above (top near) (top far) shade) item)) × IsAt slots handle near × IsAt slots handle far
   IsAt-from_fork_on slots above Left shade near handle item far at = at
   IsAt-from_fork_on slots above Right shade near handle item far at = (at.0, at.2, at.1)
 
   pub IsAt-fork_on : (slots : List (Slot T)) (above : ℕ) (side : Side) (shade : Colour) (near : Shape T) (handle : ℕ) (item : T) (far : Shape T)
-      → slice_get slots handle ≡ Some (Used (links_on side above (top near) (top far) shade) item) → IsAt slots handle near → IsAt slots handle far
+      → slice_get slots handle ≡ Some (node_slot (links_on side above (top near) (top far) shade) item) → IsAt slots handle near → IsAt slots handle far
       → IsAt slots above (fork_on side shade near handle item far)
   IsAt-fork_on slots above Left shade near handle item far own near_at far_at = (own, near_at, far_at)
   IsAt-fork_on slots above Right shade near handle item far own near_at far_at = (own, far_at, near_at)
@@ -105,7 +104,7 @@ module _ {T : Type 0} where
 
   -- another handle in the hole of the frames
   pub IsAround-child : (old new : List (Slot T)) (frame : Frame T) (around : List (Frame T)) (child : ℕ) (other : ℕ)
-      → slice_get new frame.handle ≡ Some (Used (links_on frame.side (hole_parent around) other (top frame.sibling) frame.colour) frame.item)
+      → slice_get new frame.handle ≡ Some (node_slot (links_on frame.side (hole_parent around) other (top frame.sibling) frame.colour) frame.item)
       → ((handle : ℕ) → handle ≢ frame.handle → 0 < occurs_around handle (frame ∷ around) → slice_get new handle ≡ slice_get old handle)
       → occurs_around frame.handle (frame ∷ around) ≤ 1
       → IsAround old (frame ∷ around) child → IsAround new (frame ∷ around) other
@@ -118,7 +117,7 @@ module _ {T : Type 0} where
 
   -- the top of a tree with another parent
   pub IsAt-parent : (old new : List (Slot T)) (above other : ℕ) (shade : Colour) (before : Shape T) (own : ℕ) (item : T) (after : Shape T)
-      → slice_get new own ≡ Some (Used (record { parent = other; left = top before; right = top after; colour = shade }) item)
+      → slice_get new own ≡ Some (node_slot (record { parent = other; left = top before; right = top after; colour = shade }) item)
       → ((handle : ℕ) → handle ≢ own → 0 < occurs handle (fork shade before own item after) → slice_get new handle ≡ slice_get old handle)
       → occurs own (fork shade before own item after) ≤ 1
       → IsAt old above (fork shade before own item after) → IsAt new other (fork shade before own item after)

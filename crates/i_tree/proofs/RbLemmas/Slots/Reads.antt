@@ -7,12 +7,12 @@ use Rattle.i_tree.specs.declared.rb.links.Links.{Links}
 use Rattle.i_tree.specs.declared.rb.links.Side.{Side}
 use Rattle.i_tree.specs.declared.rb.links.Side.TheVariants.{Left, Right}
 use Rattle.i_tree.specs.declared.rb.links.Slot.{Slot}
-use Rattle.i_tree.specs.declared.rb.links.Slot.TheVariants.{Free, Used}
+use Rattle.i_tree.specs.declared.rb.links.Slot.TheVariants.{Free}
 use Rattle.i_tree.specs.Rb.Balance.{is_black, is_black_colour}
 use Rattle.i_tree.specs.Rb.Context.{Frame, fork_on, plug, hole_parent}
 use Rattle.i_tree.specs.Rb.RbTree.{Contents}
 use Rattle.i_tree.specs.Rb.Shape.{Shape, leaf, fork, top, occurs, one_if_same, IsHandle, AreHandles}
-use Rattle.i_tree.specs.Rb.Slots.{child_link, slot_links, links_of, IsUsed, IsChain, IsSound, read_tree, occurs_in}
+use Rattle.i_tree.specs.Rb.Slots.{node_slot, child_link, slot_links, links_of, IsUsed, IsChain, IsSound, read_tree, occurs_in}
 use Rattle.i_tree.proofs.RbLemmas.Shape.Contexts.{one_if_same-same, one_if_same-cases, occurs-plug}
 use Rattle.i_tree.proofs.RbLemmas.Slots.Layout.{one_if_slot-inside, links_on, IsAt-from_fork_on, IsAt-from_plug, IsUsed-live, AreHandles-sound}
 use Rattle.i_tree.proofs.RbLemmas.Slots.Writes.{not_free}
@@ -35,12 +35,12 @@ module _ {T : Type 0} where
   -- the slot of a node in its frames
   pub node_at : (slots : List (Slot T)) (root first_free free : ℕ) (tree : Shape T) (around : List (Frame T)) (shade : Colour) (before : Shape T) (own : ℕ) (item : T) (after : Shape T)
       → IsSound slots root first_free free tree → tree ≡ plug around (fork shade before own item after)
-      → slice_get slots own ≡ Some (Used (record { parent = hole_parent around; left = top before; right = top after; colour = shade }) item)
+      → slice_get slots own ≡ Some (node_slot (record { parent = hole_parent around; left = top before; right = top after; colour = shade }) item)
   node_at slots root first_free free tree around shade before own item after sound is = grind (arith, IsAt-from_plug)
 
   pub node_on : (slots : List (Slot T)) (root first_free free : ℕ) (tree : Shape T) (around : List (Frame T)) (side : Side) (shade : Colour) (near : Shape T) (own : ℕ) (item : T) (far : Shape T)
       → IsSound slots root first_free free tree → tree ≡ plug around (fork_on side shade near own item far)
-      → slice_get slots own ≡ Some (Used (links_on side (hole_parent around) (top near) (top far) shade) item)
+      → slice_get slots own ≡ Some (node_slot (links_on side (hole_parent around) (top near) (top far) shade) item)
   node_on slots root first_free free tree around side shade near own item far sound is = grind (arith, IsAt-from_plug, IsAt-from_fork_on)
 
   pub IsUsed-sound : (slots : List (Slot T)) (root first_free free handle : ℕ) (tree : Shape T) → IsSound slots root first_free free tree → IsHandle tree handle → IsUsed slots handle
@@ -76,7 +76,7 @@ module _ {T : Type 0} where
 
   -- the item of a node in its frames
   pub item_at : (slots : List (Slot T)) (root first_free free handle : ℕ) (tree : Shape T) (links : Links) (held : T) (around : List (Frame T)) (shade : Colour) (before : Shape T) (item : T) (after : Shape T)
-      → IsSound slots root first_free free tree → slice_get slots handle ≡ Some (Used links held) → tree ≡ plug around (fork shade before handle item after)
+      → IsSound slots root first_free free tree → slice_get slots handle ≡ Some (node_slot links held) → tree ≡ plug around (fork shade before handle item after)
       → held ≡ item
   item_at slots root first_free free handle tree links held around shade before item after sound read is =
       let at = node_at slots root first_free free tree around shade before handle item after sound is in
@@ -98,12 +98,12 @@ module _ {T : Type 0} where
 
   -- a slot in use is that of a node
   pub live_used : (slots : List (Slot T)) (root first_free free handle : ℕ) (tree : Shape T) (links : Links) (item : T) → IsSound slots root first_free free tree
-      → slice_get slots handle ≡ Some (Used links item) → IsHandle tree handle
+      → slice_get slots handle ≡ Some (node_slot links item) → IsHandle tree handle
   live_used slots root first_free free handle tree links item sound used = by_count (occurs_in handle sound.chain) refl
     where
       by_count : (count : ℕ) → occurs_in handle sound.chain ≡ count → IsHandle tree handle
       by_count zero is =
-          let within = slice_get_within slots handle (Used links item) used in
+          let within = slice_get_within slots handle (node_slot links item) used in
           let some : handle ≢ 0 = λ same. let moved = ap (slice_get slots) same in let reserved = sound.reserved in cc in
           let once = sound.each_once handle in
           let here = one_if_slot-inside (length slots) handle (omega arith) within in omega arith

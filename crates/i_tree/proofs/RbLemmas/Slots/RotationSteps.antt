@@ -6,10 +6,9 @@ use Rattle.i_tree.specs.declared.rb.links.Links.{Links}
 use Rattle.i_tree.specs.declared.rb.links.Side.{Side}
 use Rattle.i_tree.specs.declared.rb.links.Side.TheVariants.{Left, Right}
 use Rattle.i_tree.specs.declared.rb.links.Slot.{Slot}
-use Rattle.i_tree.specs.declared.rb.links.Slot.TheVariants.{Used}
 use Rattle.i_tree.specs.Rb.Context.{Frame, fork_on, plug, other_side, hole_parent}
 use Rattle.i_tree.specs.Rb.Shape.{Shape, leaf, fork, top, entries, occurs, one_if_same}
-use Rattle.i_tree.specs.Rb.Slots.{child_link, with_child_link, hung_links, slot_links, links_of, IsUsed, Relinks, IsAt}
+use Rattle.i_tree.specs.Rb.Slots.{node_slot, child_link, with_child_link, hung_links, slot_links, links_of, IsUsed, Relinks, IsAt}
 use Rattle.i_tree.specs.Rb.Rotation.{Rehangs, Reparents}
 use Rattle.i_tree.proofs.RbLemmas.Shape.Contexts.{one_if_same-same, one_if_same-cases, occurs_around}
 use Rattle.i_tree.proofs.RbLemmas.Slots.Layout.{links_on, IsAround, top-plug, IsAround-child, IsAt-parent}
@@ -47,7 +46,7 @@ module _ {T : Type 0} where
   entries-rotation_on Left colour outer handle item raised_colour inner raised raised_item far = simp append_assoc
   entries-rotation_on Right colour outer handle item raised_colour inner raised raised_item far = simp append_assoc
 
-  pub used_by : (slots : List (Slot T)) (handle : ℕ) (links : Links) (item : T) → slice_get slots handle ≡ Some (Used links item) → IsUsed slots handle
+  pub used_by : (slots : List (Slot T)) (handle : ℕ) (links : Links) (item : T) → slice_get slots handle ≡ Some (node_slot links item) → IsUsed slots handle
   used_by slots handle links item at = ap (λ (slot : Option (Slot T)). is_some (slot_links slot)) at
 
   -- no subtree has the top of another at its own top
@@ -56,10 +55,10 @@ module _ {T : Type 0} where
 
   -- a child of a node has another handle
   pub relinked : (old new : List (Slot T)) (side : Side) (parent above child other far : ℕ) (shade : Colour) (item : T)
-      → slice_get old parent ≡ Some (Used (links_on side above child far shade) item) → far ≢ child
+      → slice_get old parent ≡ Some (node_slot (links_on side above child far shade) item) → far ≢ child
       → ((links : Links) → links_of old parent ≡ Some links → links.left ≡ child → Relinks old new parent (with_child_link Left other))
       → ((links : Links) → links_of old parent ≡ Some links → links.left ≢ child → Relinks old new parent (with_child_link Right other))
-      → (slice_get new parent ≡ Some (Used (links_on side above other far shade) item)) × ((handle : ℕ) → handle ≢ parent → slice_get new handle ≡ slice_get old handle)
+      → (slice_get new parent ≡ Some (node_slot (links_on side above other far shade) item)) × ((handle : ℕ) → handle ≢ parent → slice_get new handle ≡ slice_get old handle)
   relinked old new Left parent above child other far shade item at apart left right =
       let Node : Links = links_on Left above child far shade in
       let relinks = left Node (ap slot_links at) refl in (relinks.at Node item at, relinks.others)

@@ -4,10 +4,9 @@ use Rattle.i_tree.specs.declared.TheConstants.{EMPTY_REF}
 use Rattle.i_tree.specs.declared.rb.links.Links.{Links}
 use Rattle.i_tree.specs.declared.rb.links.Side.{Side}
 use Rattle.i_tree.specs.declared.rb.links.Slot.{Slot}
-use Rattle.i_tree.specs.declared.rb.links.Slot.TheVariants.{Used}
 use Rattle.i_tree.specs.Rb.Context.{fork_on, plug, other_side, hole_parent}
 use Rattle.i_tree.specs.Rb.Shape.{Shape, top, entries, occurs, one_if_same}
-use Rattle.i_tree.specs.Rb.Slots.{child_link, hung_links, links_of, IsUsed, Relinks, IsAt, IsSound}
+use Rattle.i_tree.specs.Rb.Slots.{node_slot, child_link, hung_links, links_of, IsUsed, Relinks, IsAt, IsSound}
 use Rattle.i_tree.specs.Rb.Rotation.{Rotation, unrotated, rotated, Rehangs, Reparents}
 use Rattle.i_tree.proofs.RbLemmas.Shape.Contexts.{one_if_same-same, occurs_around, occurs-fork_on, occurs-plug, top-fork_on}
 use Rattle.i_tree.proofs.RbLemmas.Slots.Layout.{links_on, IsAround, IsAt-from_fork_on, IsAt-fork_on, IsAt-from_plug, IsAt-plug, IsAt-same, IsAround-same, AreHandles-sound}
@@ -19,9 +18,9 @@ module _ {T : Type 0} {handle : ℕ} {side : Side} where
   -- the slots of a node that can be rotated, and no handle twice
   pub record Laid (slots : List (Slot T)) (rotation : Rotation T handle side) : Type 0 where
     pub around : IsAround slots rotation.around handle
-    pub own : slice_get slots handle ≡ Some (Used (links_on side (hole_parent rotation.around) (top rotation.outer) rotation.raised rotation.colour) rotation.item)
+    pub own : slice_get slots handle ≡ Some (node_slot (links_on side (hole_parent rotation.around) (top rotation.outer) rotation.raised rotation.colour) rotation.item)
     pub outer : IsAt slots handle rotation.outer
-    pub raised : slice_get slots rotation.raised ≡ Some (Used (links_on side handle (top rotation.inner) (top rotation.far) rotation.raised_colour) rotation.raised_item)
+    pub raised : slice_get slots rotation.raised ≡ Some (node_slot (links_on side handle (top rotation.inner) (top rotation.far) rotation.raised_colour) rotation.raised_item)
     pub inner : IsAt slots rotation.raised rotation.inner
     pub far : IsAt slots rotation.raised rotation.far
     pub once : (other : ℕ) → occurs_around other rotation.around + one_if_same other handle + occurs other rotation.outer + one_if_same other rotation.raised + occurs other rotation.inner + occurs other rotation.far ≤ 1
@@ -42,7 +41,7 @@ module _ {T : Type 0} {handle : ℕ} {side : Side} where
       let Held : ℕ → Type 0 = λ child. IsAround slots rotation.around child in
       record {
         around = subst Held (top-fork_on side rotation.colour rotation.outer handle rotation.item below) whole.0;
-        own = node.0 ∙ ap (λ far. Some (Used (links_on side (hole_parent rotation.around) (top rotation.outer) far rotation.colour) rotation.item)) below_top;
+        own = node.0 ∙ ap (λ far. Some (node_slot (links_on side (hole_parent rotation.around) (top rotation.outer) far rotation.colour) rotation.item)) below_top;
         outer = node.1;
         raised = raised.0;
         inner = raised.1;
@@ -94,7 +93,7 @@ module _ {T : Type 0} {handle : ℕ} {side : Side} where
   -- the raised node's slot is the same after the write of the node
   pub raised_lowered : (s0 s1 s2 : List (Slot T)) (root new_root : ℕ) (rotation : Rotation T handle side) (links : Links) (up : ℕ) (raised_links : Links) (low : ℕ) (lowered : Links → Links) → Laid s0 rotation
       → Found rotation links up raised_links low → Rehangs s0 s1 root new_root links.parent handle up → Relinks s1 s2 handle lowered
-      → slice_get s2 rotation.raised ≡ Some (Used (links_on side handle (top rotation.inner) (top rotation.far) rotation.raised_colour) rotation.raised_item)
+      → slice_get s2 rotation.raised ≡ Some (node_slot (links_on side handle (top rotation.inner) (top rotation.far) rotation.raised_colour) rotation.raised_item)
   raised_lowered s0 s1 s2 root new_root rotation links up raised_links low lowered lies values rehangs down =
       let here = one_if_same-same rotation.raised in let once = lies.once rotation.raised in
       down.others rotation.raised (apart_by rotation.raised handle (omega arith))
@@ -151,8 +150,8 @@ module _ {T : Type 0} {handle : ℕ} {side : Side} where
 
   -- the rotated tree, from its subtrees
   pub rotated_at : (slots : List (Slot T)) (rotation : Rotation T handle side) → IsAround slots rotation.around rotation.raised
-      → slice_get slots handle ≡ Some (Used (links_on side rotation.raised (top rotation.outer) (top rotation.inner) rotation.raised_colour) rotation.item)
-      → slice_get slots rotation.raised ≡ Some (Used (links_on side (hole_parent rotation.around) handle (top rotation.far) rotation.colour) rotation.raised_item)
+      → slice_get slots handle ≡ Some (node_slot (links_on side rotation.raised (top rotation.outer) (top rotation.inner) rotation.raised_colour) rotation.item)
+      → slice_get slots rotation.raised ≡ Some (node_slot (links_on side (hole_parent rotation.around) handle (top rotation.far) rotation.colour) rotation.raised_item)
       → IsAt slots handle rotation.outer → IsAt slots handle rotation.inner → IsAt slots rotation.raised rotation.far → IsAt slots EMPTY_REF (plug rotation.around (rotated rotation))
   rotated_at slots rotation held own raised outer inner far = grind (arith, top-fork_on, IsAround, IsAt-plug, IsAt-fork_on, links_on)
 
@@ -178,11 +177,11 @@ module _ {T : Type 0} {handle : ℕ} {side : Side} where
       λ other gone. inner.1 other (omega arith) ∙ same_lifted s0 s1 s2 s3 root new_root rotation links up raised_links low DownAs LiftAs lies values rehangs down raised_lift other (omega arith) in
       let own_at = inner.1 handle (omega arith) ∙ raised_lift.others handle (apart_by handle rotation.raised (omega arith))
       ∙ down.at (links_on side (hole_parent rotation.around) (top rotation.outer) rotation.raised rotation.colour) rotation.item (frames.1 handle (omega arith) ∙ lies.own)
-      ∙ ap (λ (l : Links). Some (Used l rotation.item)) (lowered_links rotation links up raised_links low away values away_is) in
+      ∙ ap (λ (l : Links). Some (node_slot l rotation.item)) (lowered_links rotation links up raised_links low away values away_is) in
       let raised_at = inner.1 rotation.raised (omega arith)
       ∙ raised_lift.at (links_on side handle (top rotation.inner) (top rotation.far) rotation.raised_colour) rotation.raised_item
       (raised_lowered s0 s1 s2 root new_root rotation links up raised_links low DownAs lies values rehangs down)
-      ∙ ap (λ (l : Links). Some (Used l rotation.raised_item)) (lifted_links rotation links up raised_links low values) in
+      ∙ ap (λ (l : Links). Some (node_slot l rotation.raised_item)) (lifted_links rotation links up raised_links low values) in
       let held = IsAround-same s1 s4 rotation.around rotation.raised
       (λ other inside. let once = lies.once other in
       inner.1 other (omega arith) ∙ raised_lift.others other (apart_by other rotation.raised (omega arith)) ∙ down.others other (apart_by other handle (omega arith))) frames.0 in

@@ -4,20 +4,28 @@ use Rattle.std.proofs.lemmas.Option.{slice_get_within}
 use Rattle.i_tree.specs.declared.TheConstants.{EMPTY_REF}
 use Rattle.i_tree.specs.declared.rb.links.Colour.{Colour}
 use Rattle.i_tree.specs.declared.rb.links.Links.{Links}
+use Rattle.i_tree.specs.declared.rb.links.Side.{Side}
+use Rattle.i_tree.specs.declared.rb.links.Side.TheVariants.{Left, Right}
 use Rattle.i_tree.specs.declared.rb.links.Slot.{Slot}
 use Rattle.i_tree.specs.declared.rb.links.Slot.TheVariants.{Free, Used}
+use Rattle.i_tree.specs.declared.rb.links.Ties.{Ties}
 use Rattle.i_tree.specs.Rb.Context.{Frame, plug, hole_parent}
 use Rattle.i_tree.specs.Rb.Shape.{Shape, fork, top, entries, occurs}
-use Rattle.i_tree.specs.Rb.Slots.{slot_links, IsUsed, Relinks, IsAt, IsSound, with_colour, read_tree}
+use Rattle.i_tree.specs.Rb.Slots.{node_slot, tied_links, with_child_link, with_child_tie, slot_links, IsUsed, Relinks, IsAt, IsSound, with_colour, read_tree}
 use Rattle.i_tree.proofs.RbLemmas.Shape.Contexts.{one_if_same-same, occurs_around, occurs_among, occurs_among-entries, occurs-plug, before_hole, after_hole, entries-plug}
 use Rattle.i_tree.proofs.RbLemmas.Slots.Layout.{one_if_slot-le, IsAt-from_plug, IsAt-plug, top-plug, IsAt-same, IsAround-same, AreHandles-sound, read_sound, IsChain-same}
+
+-- another subtree on a side, in the two parts and in the links
+pub with_child-tied : (side : Side) (child : ℕ) (colour : Colour) (ties : Ties) → tied_links colour (with_child_tie side child ties) ≡ with_child_link side child (tied_links colour ties)
+with_child-tied Left child colour ties = refl
+with_child-tied Right child colour ties = refl
 
 module _ {T : Type 0} where
   -- a slot in use, with what is in it
   pub record InUse (slots : List (Slot T)) (handle : ℕ) : Type 0 where
     pub links : Links
     pub item : T
-    pub is : slice_get slots handle ≡ Some (Used links item)
+    pub is : slice_get slots handle ≡ Some (node_slot links item)
 
   pub in_use : (slots : List (Slot T)) (handle : ℕ) → IsUsed slots handle → InUse slots handle
   in_use slots handle used = by_slot (slice_get slots handle) refl used
@@ -25,7 +33,7 @@ module _ {T : Type 0} where
       by_slot : (slot : Option (Slot T)) → slice_get slots handle ≡ slot → IsSome (slot_links slot) → InUse slots handle
       by_slot None is used = cc
       by_slot (Some (Free next)) is used = cc
-      by_slot (Some (Used links item)) is used = record { links = links; item = item; is = is }
+      by_slot (Some (Used colour ties item)) is used = record { links = tied_links colour ties; item = item; is = is }
 
   pub IsUsed-within : (slots : List (Slot T)) (handle : ℕ) → IsUsed slots handle → handle < length slots
   IsUsed-within slots handle used = slice_get_within slots handle _ (in_use slots handle used).is
@@ -46,9 +54,9 @@ module _ {T : Type 0} where
   slice_get-set_same (slot ∷ rest) (suc handle) new within = slice_get-set_same rest handle new (omega arith)
 
   -- a write of a node's links
-  pub Relinks-set : (slots : List (Slot T)) (handle : ℕ) (was links : Links) (change : Links → Links) (item : T) → slice_get slots handle ≡ Some (Used was item) → links ≡ change was
-      → Relinks slots (slice_set slots handle (Used links item)) handle change
-  Relinks-set slots handle was links change item at is = grind (arith, slice_get-set_same, slice_get_within, slice_get-set_other)
+  pub Relinks-set : (slots : List (Slot T)) (handle : ℕ) (was_colour colour : Colour) (was ties : Ties) (change : Links → Links) (item : T) → slice_get slots handle ≡ Some (Used was_colour was item)
+      → tied_links colour ties ≡ change (tied_links was_colour was) → Relinks slots (slice_set slots handle (Used colour ties item)) handle change
+  Relinks-set slots handle was_colour colour was ties change item at is = grind (arith, slice_get-set_same, slice_get_within, slice_get-set_other)
 
   -- the fields hold the tree that is read from them
   pub IsSound-read : (slots : List (Slot T)) (root first_free free : ℕ) (tree : Shape T) → IsSound slots root first_free free tree

@@ -1,5 +1,6 @@
 use Rattle.std.proofs.Common.{◌<◌, length, Some, sym, ap, ◌∙◌, rules}
 use Rattle.std.proofs.lemmas.Option.{slice_get-get_or}
+use Rattle.i_tree.specs.Rb.Slots.{tied_links}
 use Rattle.i_tree.proofs.RbLemmas.Slots.Writes.{IsUsed-within, not_free, slice_get-set_same, slice_get-set_other}
 use Rattle.i_tree.proofs.RbLemmas.Slots.Detaching.{read_item}
 use Rattle.i_tree.proofs.rb.arena.free_slot.Goals as goal
@@ -19,7 +20,7 @@ unreachable-requires g c =
 
 pub returns-clause-item : goal.returns-clause-item
 returns-clause-item g c links item at =
-    read_item c.args.slots.now c.args.handle c.index-slots-handle.result c.in-Used.field-0 links c.in-Used.item item (sym c.replace.ensures.value ∙ c.in-Used.is) at
+    read_item c.args.slots.now c.args.handle c.index-slots-handle.result (tied_links c.in-Used.field-0 c.in-Used.field-1) links c.in-Used.item item (sym c.replace.ensures.value ∙ c.in-Used.is) at
 
 pub returns-clause-freed : goal.returns-clause-freed
 returns-clause-freed g c =

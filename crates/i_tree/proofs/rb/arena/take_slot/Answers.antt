@@ -1,6 +1,7 @@
 use Rattle.std.proofs.Common.{◌<◌, length, Some, sym, ap, ◌∙◌, rules}
 use Rattle.std.proofs.lemmas.Option.{slice_get_within}
 use Rattle.i_tree.specs.declared.rb.links.Slot.TheVariants.{Free}
+use Rattle.i_tree.specs.Rb.Slots.{tied_links}
 use Rattle.i_tree.proofs.RbLemmas.Slots.Writes.{slice_get-set_same, slice_get-set_other}
 use Rattle.i_tree.proofs.RbLemmas.Slots.FreeSlots.{read_free, read_not_used}
 use Rattle.i_tree.proofs.rb.arena.take_slot.Goals as goal
@@ -14,7 +15,7 @@ bounds-slots-handle g c = slice_get_within c.args.slots.now c.args.first_free.no
 
 pub unreachable-requires : goal.unreachable-requires
 unreachable-requires g c =
-    read_not_used c.args.slots.now c.args.first_free.now c.requires.0 c.index-slots-handle.result c.in-Used.field-0 c.in-Used.field-1 c.requires.1 (sym c.replace.ensures.value ∙ c.in-Used.is)
+    read_not_used c.args.slots.now c.args.first_free.now c.requires.0 c.index-slots-handle.result (tied_links c.in-Used.field-0 c.in-Used.field-1) c.in-Used.field-2 c.requires.1 (sym c.replace.ensures.value ∙ c.in-Used.is)
 
 pub returns-clause-next : goal.returns-clause-next
 returns-clause-next g c =

@@ -14,7 +14,7 @@ bounds-slots-handle g c = IsUsed-within c.args.slots.now c.args.handle c.require
 pub returns-in-Used : goal.returns-in-Used
 returns-in-Used g c =
     let inside = IsUsed-within c.args.slots.now c.args.handle c.requires in
-    Relinks-set c.args.slots.now c.args.handle c.in-Used.links _ (with_parent_link c.args.parent) c.in-Used.field-1
+    Relinks-set c.args.slots.now c.args.handle c.in-Used.field-0 _ c.in-Used.ties _ (with_parent_link c.args.parent) c.in-Used.field-2
     (slice_get-get_or c.args.slots.now c.args.handle c.index-slots-handle.result inside ∙ ap Some c.in-Used.is) refl
 
 pub returns-in-Free : goal.returns-in-Free
