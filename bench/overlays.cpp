@@ -58,13 +58,16 @@ Run run(const Side &side, const Input &input) {
     return apart::run<double>(side.name + ", " + input.workload, work, MOST);
 }
 
+/// How often each side runs with so many edges: the shorter a run, the more of it is chance.
+int turns_of(std::size_t size) { return size <= 2'000 ? 40 : size < 200'000 ? 5 : 3; }
+
 bool is_wanted(const Run &least, int turn) { return turn == 0 || (0 < least.seconds && least.seconds < LONG); }
 
 /// The least seconds and memory of several runs, in turn. A side that comes to nothing is no longer one of those left.
 void measure(const Input &input, std::vector<Side> &left) {
     const std::size_t size = size_of(input);
     std::vector<Run> least(left.size());
-    for (int turn = 0; turn < (size < 200'000 ? 5 : 3); turn++) {
+    for (int turn = 0; turn < turns_of(size); turn++) {
         for (std::size_t place = 0; place < left.size(); place++) {
             if (size > left[place].most_edges || !is_wanted(least[place], turn)) continue;
             const Run it = run(left[place], input);
