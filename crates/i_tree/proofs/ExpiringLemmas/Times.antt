@@ -1,12 +1,15 @@
 -- Facts on times and on what is live at them.
-use Rattle.std.proofs.Common.{arith, ◌≡◌, ℕ, ◌+◌, ◌<◌, true, false, Option, Some, List, length, get_or, take, refl, ap, subst}
+use Rattle.std.proofs.Common.{arith, ◌≡◌, ℕ, ◌+◌, ◌-◌, ◌<◌, Bool, true, false, cond, Option, Some, List, [], ◌∷◌, ◌++◌, length, get_or, take, refl, sym, ap, ◌∙◌, subst, append-nil}
 use Rattle.std.specs.Cmp.{IsTotalOrder, upto}
+use Rattle.std.specs.List.{remove}
 use Rattle.std.specs.Ordering.{is_ge, is_gt, is_lt, is_some_and, ord_min, partial_ge}
 use Rattle.std.specs.declared.cmp.Ordering.{Ordering}
 use Rattle.std.specs.declared.cmp.Ordering.TheVariants.{Less, Equal, Greater}
 use Rattle.std.proofs.lemmas.Bool.{cond_both, both_ways}
-use Rattle.std.proofs.lemmas.List.Elements.{All-more, All-weaker}
-use Rattle.i_tree.specs.Expiring.Live.{live_pairs, NoneExpiresBefore}
+use Rattle.std.proofs.lemmas.List.{length-append}
+use Rattle.std.proofs.lemmas.List.Edits.{remove-append_left, remove-append_right}
+use Rattle.std.proofs.lemmas.List.Elements.{All-more, All-push, All-weaker, filter-append}
+use Rattle.i_tree.specs.Expiring.Live.{AreExpired, live_pairs, NoneExpiresBefore}
 use Rattle.i_tree.specs.Root.Live.{is_live}
 use Rattle.i_tree.proofs.RootLemmas.Lists.{filter_all}
 use Rattle.i_tree.proofs.RootLemmas.Orders.{gt-reversed, ge-reversed, at_or_after-reversed, not_after-reversed}
@@ -57,3 +60,46 @@ module _ {E : Type 0} {cmp : E → E → Ordering} (o : IsTotalOrder cmp) where
     -- up to a time before which nothing expires all are live
     pub live_pairs-early : (bound time : E) (pairs : List (K × V)) → is_ge (cmp bound time) ≡ true → NoneExpiresBefore expiration cmp bound pairs → live_pairs expiration cmp time pairs ≡ pairs
     live_pairs-early bound time pairs early h = grind (arith, filter_all, All-weaker, is_live-before, ge-reversed)
+
+    -- ---- what is expired of some pairs, and of one more
+
+    pub none_expired : (time latest : E) → AreExpired expiration cmp {V = V} time [] 0 0 latest
+    none_expired time latest = record {
+      none = λ _. refl;
+      one = λ is. absurd (omega (arith, is));
+      rest = λ k d within. absurd (omega (arith, within));
+    }
+
+    module _ (time : E) (pairs : List (K × V)) (pair : K × V) (count last : ℕ) (earliest : E) (are : AreExpired expiration cmp time pairs count last earliest) where
+      abbrev lives : K × V → Bool
+      lives other = is_live expiration cmp time other.0
+
+      one_of : (b : Bool) → lives pair ≡ b → live_pairs expiration cmp time (pairs ++ pair ∷ []) ≡ live_pairs expiration cmp time pairs ++ cond b (pair ∷ []) []
+      one_of b is = filter-append lives pairs (pair ∷ []) ∙ ap (λ (b : Bool). live_pairs expiration cmp time pairs ++ cond b (pair ∷ []) []) is
+
+      -- the pair is live
+      pub AreExpired-live : lives pair ≡ true → AreExpired expiration cmp time (pairs ++ pair ∷ []) count last (ord_min cmp earliest (expiration pair.0))
+      AreExpired-live is = record {
+        none = λ no. one_of true is ∙ ap (λ (live : List (K × V)). live ++ pair ∷ []) (are.none no);
+        one = λ single. (
+          (let inside = (are.one single).0 in omega (arith, inside, length-append pairs (pair ∷ []))),
+          one_of true is ∙ ap (λ (live : List (K × V)). live ++ pair ∷ []) ((are.one single).1) ∙ sym (remove-append_left pairs (pair ∷ []) last (are.one single).0),
+        );
+        rest = subst (NoneExpiresBefore expiration cmp least) (sym (one_of true is))
+            (All-push (λ other. is_gt (cmp least (expiration other.0)) ≡ false) (live_pairs expiration cmp time pairs) pair
+            (NoneExpiresBefore-min earliest (expiration pair.0) (live_pairs expiration cmp time pairs) are.rest) (not_after-min_second earliest (expiration pair.0)));
+      }
+        where
+          least : E
+          least = ord_min cmp earliest (expiration pair.0)
+
+      -- it is expired
+      pub AreExpired-expired : lives pair ≡ false → AreExpired expiration cmp time (pairs ++ pair ∷ []) (count + 1) (length pairs) earliest
+      AreExpired-expired is = record {
+        none = λ no. absurd (omega (arith, no));
+        one = λ single. (
+          omega (arith, length-append pairs (pair ∷ [])),
+          one_of false is ∙ ap (λ (live : List (K × V)). live ++ []) (are.none (omega (arith, single))) ∙ sym (remove-append_right pairs (pair ∷ []) (length pairs) (length pairs) refl (omega arith) ∙ ap (λ (n : ℕ). pairs ++ remove (pair ∷ []) n) (let n : length pairs - length pairs ≡ 0 = omega arith in n)),
+        );
+        rest = subst (NoneExpiresBefore expiration cmp earliest) (sym (one_of false is ∙ append-nil (live_pairs expiration cmp time pairs))) are.rest;
+      }

@@ -1,5 +1,6 @@
 -- Which pairs have a live key. `expiration` gives a key's expiration, and `cmp` compares expirations.
-use Rattle.std.specs.Prelude.{◌≡◌, true, false, List, All, filter}
+use Rattle.std.specs.Prelude.{◌≡◌, ◌<◌, ℕ, true, false, List, All, filter, length}
+use Rattle.std.specs.List.{remove}
 use Rattle.std.specs.Ordering.{is_gt}
 use Rattle.std.specs.declared.cmp.Ordering.{Ordering}
 use Rattle.i_tree.specs.Root.Live.{is_live}
@@ -20,3 +21,10 @@ module _ {K E : Type 0} (expiration : K → E) (cmp : E → E → Ordering) wher
   -- no key of the pairs expires before a time
   abbrev pub NoneExpiresBefore : {V : Type 0} → E → List (K × V) → Type 0
   NoneExpiresBefore time pairs = All (λ pair. is_gt (cmp time (expiration pair.0)) ≡ false) pairs
+
+  -- as many of the pairs are expired at a time, of which one alone is the last one, and none of the others expires before the
+  -- earliest time
+  pub record AreExpired {V : Type 0} (time : E) (pairs : List (K × V)) (count last : ℕ) (earliest : E) : Type 0 where
+    pub none : count ≡ 0 → live_pairs time pairs ≡ pairs
+    pub one : count ≡ 1 → (last < length pairs) × (live_pairs time pairs ≡ remove pairs last)
+    pub rest : NoneExpiresBefore earliest (live_pairs time pairs)
