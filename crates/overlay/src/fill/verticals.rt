@@ -18,7 +18,7 @@ use std::cmp::Ordering;
 pub struct End {
     pub x: i32,
     pub y: i32,
-    pub change: i64,
+    pub change: i8,
 }
 
 /// Appends the vertical edges that close those from the place `first` on, which aren't vertical and bound a region.
@@ -149,7 +149,7 @@ fn sum_with(sum: i64, end: End) -> i64
     requires change { (negsuc 0 ≤ℤ end.change) × (end.change ≤ℤ pos 1) }
     ensures { result ≡ sum +ℤ end.change }
 {
-    sum + end.change
+    sum + end.change as i64
 }
 
 // The vertical edge between two ends that are next to each other, by the ends less the starts upto the first of them.
