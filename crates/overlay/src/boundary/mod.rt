@@ -8,7 +8,7 @@ ghost use Rattle.overlay.specs.Snap.Offsets.{Extends};
 ghost use Rattle.overlay.specs.Snap.Windings.{IsClosed};
 ghost use Rattle.overlay.specs.Stretches.Cut.{AreCut};
 
-use super::contours::contours;
+use super::contours::contours_in_place;
 use super::fill::fill;
 use super::fill::rules::{FillRule, Operation};
 use super::stretches::chords::chords_of;
@@ -130,7 +130,7 @@ where
 {
     let alloc = *points.allocator();
     let bounding = bounding_edges(alloc, edges, count, rule, operation, status)?;
-    contours(&bounding, points, ring_ends)?;
+    contours_in_place(bounding, points, ring_ends)?;
     Ok(())
 }
 
@@ -164,7 +164,7 @@ where
     let bounding = bounding_edges(alloc, &chords, stretches.count, rule, operation, status)?;
     let mut rings = Vec::with_capacity(alloc, bounding.len())?;
     let mut ends = Vec::new(alloc);
-    contours(&bounding, &mut rings, &mut ends)?;
+    contours_in_place(bounding, &mut rings, &mut ends)?;
     append_widened(edges, stretch_ends, &rings, &ends, points, ring_ends)?;
     Ok(())
 }

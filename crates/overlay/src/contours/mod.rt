@@ -12,7 +12,7 @@ ghost use Rattle.overlay.specs.Snap.Windings.{IsClosed};
 use bends::append_outlines;
 pub use bends::{append_outline, next_in, settle_outline};
 use i_tree::Refusal;
-use order::edges_in_order;
+use order::put_in_order;
 use plane::edge::Edge;
 use plane::point::Point;
 use std::alloc::{AllocError, Allocator};
@@ -43,6 +43,23 @@ pub fn contours<A: Allocator + Copy>(
 ) -> Result<(), Refusal>
     requires { IsClosed edges.now }
     ensures ok { OnOk result ((rings : List (List Point)) × AreContours edges.now rings
+        × (points.new.items ≡ points.old.items ++ flat_map (λ ring. ring) rings)
+        × (ring_ends.new.items ≡ ring_ends.old.items ++ offsets (length points.old.items) rings)) }
+    ensures err { OnErr result ((points.new.items ≡ points.old.items) × (ring_ends.new.items ≡ ring_ends.old.items)) }
+    ensures refused { IfErr result (λ cause. cause ≡ OutOfMemory) }
+{
+    let list = Vec::from_slice(*points.allocator(), edges)?;
+    contours_in_place(list, points, ring_ends)
+}
+
+/// As `contours`, of edges in a list that is no longer needed: they are sorted in it, so that no copy of them is made.
+pub(crate) fn contours_in_place<A: Allocator + Copy>(
+    edges: Vec<Edge, A>,
+    points: &mut Vec<Point, A>,
+    ring_ends: &mut Vec<usize, A>,
+) -> Result<(), Refusal>
+    requires { IsClosed edges.items }
+    ensures ok { OnOk result ((rings : List (List Point)) × AreContours edges.items rings
         × (points.new.items ≡ points.old.items ++ flat_map (λ ring. ring) rings)
         × (ring_ends.new.items ≡ ring_ends.old.items ++ offsets (length points.old.items) rings)) }
     ensures err { OnErr result ((points.new.items ≡ points.old.items) × (ring_ends.new.items ≡ ring_ends.old.items)) }
@@ -105,24 +122,24 @@ fn append_all_outlines<A: Allocator + Copy>(
     let alloc = *points.allocator();
     let mut rings = Vec::with_capacity(alloc, edges.len())?;
     let mut ends = Vec::new(alloc);
-    append_all(edges, &mut rings, &mut ends)?;
+    let list = Vec::from_slice(alloc, edges)?;
+    append_all(list, &mut rings, &mut ends)?;
     append_outlines(&rings, &ends, points, ring_ends)
 }
 
-// As `contours`, but where it is refused, it may have appended something.
+// As `contours_in_place`, but where it is refused, it may have appended something.
 fn append_all<A: Allocator + Copy>(
-    edges: &[Edge],
+    mut edges: Vec<Edge, A>,
     points: &mut Vec<Point, A>,
     ring_ends: &mut Vec<usize, A>,
 ) -> Result<(), AllocError>
-    requires { IsClosed edges.now }
-    ensures ok { OnOk result ((rings : List (List Point)) × AreContours edges.now rings
+    requires { IsClosed edges.items }
+    ensures ok { OnOk result ((rings : List (List Point)) × AreContours edges.items rings
         × (points.new.items ≡ points.old.items ++ flat_map (λ ring. ring) rings)
         × (ring_ends.new.items ≡ ring_ends.old.items ++ offsets (length points.old.items) rings)) }
     ensures err { OnErr result (Extends points.old.items points.new.items
         × Extends ring_ends.old.items ring_ends.new.items) }
 {
-    let alloc = *points.allocator();
-    let sorted = edges_in_order(alloc, edges)?;
-    append_rings(alloc, &sorted, points, ring_ends)
+    put_in_order(&mut edges)?;
+    append_rings(*points.allocator(), &edges, points, ring_ends)
 }

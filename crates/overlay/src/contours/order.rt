@@ -1,6 +1,6 @@
 //! Edges in the order of their starts, and where those that start at a point stand.
 
-ghost use Rattle.std.specs.Prelude.{◌≡◌, IfOk, IsPermutation, MatchBool};
+ghost use Rattle.std.specs.Prelude.{◌≡◌, IsPermutation, MatchBool, OnOk};
 ghost use Rattle.overlay.specs.Contours.Order.{AreInOrder, IsBehind, IsFirstFrom, corner_at};
 ghost use Rattle.overlay.specs.Snap.Windings.{start_of};
 
@@ -18,23 +18,18 @@ pub struct Corner {
     pub y: i32,
 }
 
-/// The edges in the order of their starts.
-pub fn edges_in_order<A: Allocator + Copy>(
-    alloc: A,
-    edges: &[Edge],
-) -> Result<Vec<Edge, A>, AllocError>
-    ensures { IfOk result (λ sorted. IsPermutation edges.now sorted.items × AreInOrder sorted.items) }
+/// Puts the edges in the order of their starts.
+pub fn put_in_order<A: Allocator + Copy>(edges: &mut Vec<Edge, A>) -> Result<(), AllocError>
+    ensures moved { IsPermutation edges.old.items edges.new.items }
+    ensures order { OnOk result (AreInOrder edges.new.items) }
 {
-    let mut sorted = Vec::with_capacity(alloc, edges.len())?;
-    sorted.extend_from_slice(edges)?;
     sort_in_buckets(
-        &mut sorted,
+        edges,
         |edge| number_at(edge.x0, edge.y0),
         |one: &Edge, other: &Edge| -> Ordering {
             corner_at(start_of(*one)).cmp(&corner_at(start_of(*other)))
         },
-    )?;
-    Ok(sorted)
+    )
 }
 
 /// The corner at the point.

@@ -5,7 +5,6 @@ use Rattle.i_tree.proofs.RootLemmas.Joined.{All-behind, All-front}
 use Rattle.plane.specs.declared.edge.Edge.{Edge}
 use Rattle.plane.specs.declared.point.Point.{Point}
 use Rattle.overlay.specs.Boundary.{AreBroken}
-use Rattle.overlay.specs.Contours.Rings.{AreContours}
 use Rattle.overlay.specs.Snap.Offsets.{offsets}
 use Rattle.overlay.specs.Snap.Windings.{IsClosed}
 use Rattle.overlay.specs.Stretches.{IsStretch, IsWidened, chord}
@@ -66,11 +65,6 @@ bounding_edges-requires-clause-clip_closed g c =
     subst IsClosed (sym (clip-chords c.in_ok-chords.chords.items c.deref-2.result.now c.deref-2.ensures.value stretches clip_stretches chords c.args.stretches.now.count (count ∙ sym (length-map parts way))))
     (chords-closed clip_stretches (All-behind IsStretch stretches clip_stretches are.each) (subst IsClosed are.clip_is clip_closed))
 
-pub contours-requires : goal.contours-requires
-contours-requires g c =
-    let (broken, broken_clip, are, filled) = c.in_ok-bounding.ensures.filled in
-    subst IsClosed (sym c.deref-3.ensures.value) filled.closed
-
 pub returns-clause-ok : goal.returns-clause-ok
 returns-clause-ok g c = λ subject clip cut.
     let (parts, clip_parts, are, told, count) = cut in
@@ -81,11 +75,10 @@ returns-clause-ok g c = λ subject clip cut.
     let second = clip-chords c.in_ok-chords.chords.items c.deref-2.result.now c.deref-2.ensures.value stretches clip_stretches chords c.args.stretches.now.count (count ∙ sym (length-map parts way)) in
     let (broken, broken_clip, are_broken, filled) = c.in_ok-bounding.ensures.filled in
     let of_chords = subst₂ (λ (one other : List Edge). AreBroken one other broken broken_clip) first second are_broken in
-    let (rings, told_rings, points_are, ends_are) = c.in_ok-contours.ensures.ok in
-    let contours = subst (λ (list : List Edge). AreContours list rings) c.deref-3.ensures.value told_rings in
+    let (rings, contours, points_are, ends_are) = c.in_ok-contours_in_place.ensures.ok in
     let none = c.in_ok-rings.ensures.items in
-    let points = c.deref-5.ensures.value ∙ points_are ∙ ap (λ (before : List Point). before ++ flat_map (λ ring. ring) rings) none in
-    let ends = c.deref-6.ensures.value ∙ ends_are ∙ ap (λ before. before ++ offsets (length c.in_ok-rings.rings.items) rings) c.new-ends.ensures.items ∙ ap (λ (before : List Point). offsets (length before) rings) none in
-    let (widened, wide, widened_points, widened_ends) = c.in_ok-append_widened.ensures.ok (parts ++ clip_parts) (subst (λ (stops : List ℕ). AreParts c.args.edges.now stops (parts ++ clip_parts)) (sym c.deref-4.ensures.value) told) rings (points, ends) in
+    let points = c.deref-4.ensures.value ∙ points_are ∙ ap (λ (before : List Point). before ++ flat_map (λ ring. ring) rings) none in
+    let ends = c.deref-5.ensures.value ∙ ends_are ∙ ap (λ before. before ++ offsets (length c.in_ok-rings.rings.items) rings) c.new-ends.ensures.items ∙ ap (λ (before : List Point). offsets (length before) rings) none in
+    let (widened, wide, widened_points, widened_ends) = c.in_ok-append_widened.ensures.ok (parts ++ clip_parts) (subst (λ (stops : List ℕ). AreParts c.args.edges.now stops (parts ++ clip_parts)) (sym c.deref-3.ensures.value) told) rings (points, ends) in
     let (boundary, sloped) = widened-boundary c.args.rule c.args.operation subject clip stretches clip_stretches are broken broken_clip of_chords c.in_ok-bounding.bounding.items filled rings contours widened (subst (λ (stretches : List (List Point)). AllZip (IsWidened stretches) rings widened) (map-append way parts clip_parts) wide) in
     (widened, boundary, sloped, widened_points, widened_ends)

@@ -12,15 +12,15 @@ use Rattle.overlay.proofs.contours.append_all.Goals as goal
 
 pub append_rings-requires-clause-closed : goal.append_rings-requires-clause-closed
 append_rings-requires-clause-closed g c =
-    let edges = c.args.edges.now in
-    let moved = c.in_ok-sorted.ensures.0 in
-    subst (λ (sorted : List Edge). IsClosed sorted) (sym c.deref.ensures.value) (IsClosed-permuted edges c.in_ok-sorted.sorted.items moved c.requires)
+    let edges = c.args.edges.items in
+    let sorted = c.put_in_order.new.edges.items in
+    subst (λ (list : List Edge). IsClosed list) (sym c.deref.ensures.value) (IsClosed-permuted edges sorted c.put_in_order.ensures.moved c.requires)
 
 pub returns-clause-ok : goal.returns-clause-ok
 returns-clause-ok g c =
-    let edges = c.args.edges.now in
+    let edges = c.args.edges.items in
     let sorted = c.deref.result.now in
-    let moved : IsPermutation edges sorted = subst (λ (list : List Edge). IsPermutation edges list) (sym c.deref.ensures.value) c.in_ok-sorted.ensures.0 in
+    let moved : IsPermutation edges sorted = subst (λ (list : List Edge). IsPermutation edges list) (sym c.deref.ensures.value) c.put_in_order.ensures.moved in
     on_ok_weaker c.append_rings.result (λ (found : (rings : List (List Point)) × AreAppended rings c.args.points.now.items c.append_rings.new.points.items c.args.ring_ends.now.items c.append_rings.new.ring_ends.items
     × IsPermutation (flat_map ring_edges rings) sorted). (
       found.0,
