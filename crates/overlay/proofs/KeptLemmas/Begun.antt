@@ -1,5 +1,5 @@
 -- What the status holds in the sweep of a fill: the pieces that have begun and not ended, sorted.
-use Rattle.std.proofs.Common.{◌≡◌, ◌⊎◌, ◌<◌, ◌≤◌, ◌+◌, ◌++◌, [], ◌∷◌, inl, inr, true, false, ℕ, ℤ, pos, ◌≤ℤ◌, ◌<ℤ◌, List, Option, Some, None, length, get_or, refl, ap, sym, subst, suc, zero, ◌∙◌, arith}
+use Rattle.std.proofs.Common.{◌≡◌, ◌⊎◌, ◌<◌, ◌≤◌, ◌+◌, ◌++◌, [], ◌∷◌, inl, inr, true, false, ℕ, ℤ, ◌≤ℤ◌, ◌<ℤ◌, List, Option, Some, None, length, get_or, refl, ap, sym, subst, suc, zero, ◌∙◌, arith}
 use Rattle.std.specs.List.{All, Contains}
 use Rattle.std.proofs.lemmas.Bool.{cases_lt}
 use Rattle.std.proofs.lemmas.Int.{ints}
@@ -19,12 +19,8 @@ use Rattle.plane.specs.SweepLine.Line.{BeganBefore, IsSortedAt, JoinsAt, NoneCro
 use Rattle.plane.proofs.SweepLineLemmas.Live.{is_live_at-before}
 use Rattle.overlay.specs.declared.fill.pieces.Piece.{Piece}
 use Rattle.overlay.specs.Fill.Begins.{BeginsUpto}
-use Rattle.overlay.specs.Fill.Sweep.{AreFillPieces}
+use Rattle.overlay.specs.Fill.Sweep.{AreFillPieces, no_piece}
 use Rattle.overlay.proofs.FillLemmas.Callers.{pieces-uncrossed}
-
--- a piece in place of none
-abbrev pub no_piece : Piece
-no_piece = record { edge = record { x0 = pos 0; y0 = pos 0; x1 = pos 0; y1 = pos 0 }; subject = pos 0; clip = pos 0 }
 
 abbrev pub piece_at : List Piece → ℕ → Piece
 piece_at pieces i = get_or pieces i no_piece
@@ -123,7 +119,7 @@ module _ (pieces : List Piece) (fill : AreFillPieces pieces) where
     pub begin-last : All (λ entry. BeganBefore entry.0 beginning) (live_entries start stored)
     begin-last = All-weaker (IsEntryOf pieces k) (λ entry. BeganBefore entry.0 beginning) began (live_entries start stored) live_of
 
-    pub begin-places : (size : ℕ) → size ≡ k → All (λ entry. entry.0.place < size) (live_entries start stored)
+    pub begin-places : (size : ℕ) → k ≤ size → All (λ entry. entry.0.place < size) (live_entries start stored)
     begin-places size is = All-weaker (IsEntryOf pieces k) (λ entry. entry.0.place < size) (λ entry of. (let below = of.below in omega (arith, below, is))) (live_entries start stored) live_of
 
     -- ---- one more

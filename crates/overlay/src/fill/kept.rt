@@ -8,7 +8,7 @@ ghost use Rattle.plane.specs.SweepLine.Active.{Entry, cmp_active, live_entries};
 ghost use Rattle.plane.specs.SweepLine.Line.{BeganBefore, IsSortedAt, JoinsAt, NoneCrossAmong};
 ghost use Rattle.overlay.specs.Fill.Counts.{kept_edge};
 ghost use Rattle.overlay.specs.Fill.Rules.{is_result};
-ghost use Rattle.overlay.specs.Fill.Sweep.{AreFillPieces, Fits, above_or, kept_of, plus};
+ghost use Rattle.overlay.specs.Fill.Sweep.{AreFillPieces, Fits, above_of, above_or, kept_of, plus, with_above};
 ghost use Rattle.overlay.specs.Snap.Offsets.{Extends};
 
 use super::counts::{Counts, is_result};
@@ -23,10 +23,11 @@ use std::alloc::{AllocError, Allocator};
 
 /// Appends the edges kept of these pieces: those that have the result on one of their sides alone, so that it is on the left.
 ///
-/// The pieces begin in turn. What is below one is what is above the one before it in the status.
+/// The pieces begin in turn. What is below one is what is above the one before it in the status. Of a piece that was swept
+/// the weights are asked for no longer: what is above it stands in place of them.
 pub fn append_kept<C, A>(
     status: &mut C,
-    pieces: &[Piece],
+    pieces: &mut [Piece],
     rule: FillRule,
     operation: Operation,
     out: &mut Vec<Edge, A>,
@@ -35,24 +36,24 @@ where
     C: StatusCollection<ActiveEdge, i64, ()>,
     A: Allocator + Copy,
     requires empty { C.stored status.old ≡ [] }
-    requires pieces { AreFillPieces pieces.now }
+    requires pieces { AreFillPieces pieces.old }
     ensures ok { OnOk result (out.new.items ≡ out.old.items
-        ++ kept_of (λ counts. is_result rule operation counts.subject counts.clip) pieces.now pieces.now) }
+        ++ kept_of (λ counts. is_result rule operation counts.subject counts.clip) pieces.old pieces.old) }
     ensures err { OnErr result (Extends out.old.items out.new.items) }
-    ensures refused { length pieces.now ≤ C.room status.old → IfErr result (λ cause. cause ≡ OutOfMemory) }
+    ensures refused { length pieces.old ≤ C.room status.old → IfErr result (λ cause. cause ≡ OutOfMemory) }
 {
-    let mut above = Vec::with_capacity(*out.allocator(), pieces.len())?;
-    for (place, piece) in pieces.iter().enumerate() {
+    for place in 0..pieces.len() {
+        let piece = pieces[place];
         let below = begin(
             status,
             ActiveEdge {
                 edge: piece.edge,
                 place,
             },
-            &above,
+            pieces,
         )?;
-        let counts = plus(below, *piece);
-        above.push(counts)?;
+        let counts = plus(below, piece);
+        pieces[place] = with_above(piece, counts);
         let is_below = is_result(rule, operation, below);
         let is_above = is_result(rule, operation, counts);
         keep(out, piece.edge, is_below, is_above)?;
@@ -60,22 +61,23 @@ where
     Ok(())
 }
 
-// Puts an edge that begins into the status, and tells what is just below it: what is above the last edge below, or nothing.
+// Puts an edge that begins into the status, and tells what is just below it: what is above the last edge below, as it stands in
+// its piece, which was swept, or nothing.
 fn begin<C: StatusCollection<ActiveEdge, i64, ()>>(
     status: &mut C,
     beginning: ActiveEdge,
-    above: &[Counts],
+    pieces: &[Piece],
 ) -> Result<Counts, Refusal>
     requires right { beginning.edge.x0 <ℤ beginning.edge.x1 }
     requires sorted { IsSortedAt beginning.edge.x0 (live_entries beginning.edge.x0 (C.stored status.old)) }
     requires last { All (λ entry. BeganBefore entry.0 beginning)
         (live_entries beginning.edge.x0 (C.stored status.old)) }
-    requires places { All (λ entry. entry.0.place < length above.now)
+    requires places { All (λ entry. entry.0.place < length pieces.now)
         (live_entries beginning.edge.x0 (C.stored status.old)) }
     ensures below { IfOk result (λ counts. (found : Option Entry)
         × IsLast (λ entry. cmp_active entry.0 beginning ≢ Greater)
         (live_entries beginning.edge.x0 (C.stored status.old)) found
-        × (counts ≡ above_or above.now found)) }
+        × (counts ≡ above_or pieces.now found)) }
     ensures joins { OnOk result (JoinsAt beginning.edge.x0 (beginning, tt) (C.stored status.old)
         (C.stored status.new)) }
     ensures sorted { OnOk result ((later : ℤ) → beginning.edge.x0 ≤ℤ later
@@ -86,7 +88,7 @@ fn begin<C: StatusCollection<ActiveEdge, i64, ()>>(
 {
     let (before, _) = insert_beginning(status, beginning)?;
     match before {
-        Some((active, _)) => Ok(above[active.place]),
+        Some((active, _)) => Ok(above_of(pieces[active.place])),
         None => Ok(Counts {
             subject: 0,
             clip: 0,
@@ -102,6 +104,27 @@ fn plus(below: Counts, piece: Piece) -> Counts
     Counts {
         subject: sum(below.subject, piece.subject),
         clip: sum(below.clip, piece.clip),
+    }
+}
+
+// The piece that was swept, with what is above it in place of its weights.
+fn with_above(piece: Piece, above: Counts) -> Piece
+    ensures { result ≡ with_above piece above }
+{
+    Piece {
+        edge: piece.edge,
+        subject: above.subject,
+        clip: above.clip,
+    }
+}
+
+// What is above a piece that was swept.
+fn above_of(piece: Piece) -> Counts
+    ensures { result ≡ above_of piece }
+{
+    Counts {
+        subject: piece.subject,
+        clip: piece.clip,
     }
 }
 

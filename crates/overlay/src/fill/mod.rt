@@ -93,8 +93,8 @@ where
         → IfErr result (λ cause. cause ≡ OutOfMemory) }
 {
     let first = out.len();
-    let pieces = pieces_in_order(*out.allocator(), subject, clip)?;
-    append_kept(status, &pieces, rule, operation, out)?;
+    let mut pieces = pieces_in_order(*out.allocator(), subject, clip)?;
+    append_kept(status, &mut pieces, rule, operation, out)?;
     append_verticals(out, first)?;
     Ok(())
 }

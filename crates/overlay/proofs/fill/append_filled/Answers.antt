@@ -24,7 +24,7 @@ append_verticals-requires-clause-bound g c =
     } in
     let kept : List Edge = kept_of (λ counts. is_result c.args.rule c.args.operation counts.subject counts.clip) items items in
     let all : c.append_kept.new.out.items ≡ before ++ kept =
-    c.in_ok-append_kept.ensures.ok ∙ ap (λ (pieces : List Piece). before ++ kept_of (λ counts. is_result c.args.rule c.args.operation counts.subject counts.clip) pieces pieces) c.deref.ensures.value in
+    c.in_ok-append_kept.ensures.ok ∙ ap (λ (pieces : List Piece). before ++ kept_of (λ counts. is_result c.args.rule c.args.operation counts.subject counts.clip) pieces pieces) c.deref_mut.ensures.value in
     let size : c.len-first.result ≡ length before = (let told = c.len-first.ensures in omega (arith, told)) in
     let are : drop c.len-first.result c.append_kept.new.out.items ≡ kept = ap₂ (λ (n : ℕ) (edges : List Edge). drop n edges) size all ∙ drop-append_seam before kept in
     subst BoundRegion (sym are) (kept-region c.args.rule c.args.operation items fill)
@@ -45,7 +45,7 @@ returns-clause-ok g c =
     } in
     let kept : List Edge = kept_of (λ counts. is_result c.args.rule c.args.operation counts.subject counts.clip) items items in
     let all : c.append_kept.new.out.items ≡ before ++ kept =
-    c.in_ok-append_kept.ensures.ok ∙ ap (λ (pieces : List Piece). before ++ kept_of (λ counts. is_result c.args.rule c.args.operation counts.subject counts.clip) pieces pieces) c.deref.ensures.value in
+    c.in_ok-append_kept.ensures.ok ∙ ap (λ (pieces : List Piece). before ++ kept_of (λ counts. is_result c.args.rule c.args.operation counts.subject counts.clip) pieces pieces) c.deref_mut.ensures.value in
     let size : c.len-first.result ≡ length before = (let told = c.len-first.ensures in omega (arith, told)) in
     let are : drop c.len-first.result c.append_kept.new.out.items ≡ kept = ap₂ (λ (n : ℕ) (edges : List Edge). drop n edges) size all ∙ drop-append_seam before kept in
     let (verticals, gained, closes) = c.in_ok-append_verticals.ensures.ok in (
