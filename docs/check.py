@@ -54,6 +54,7 @@ SOURCES = {
     "`overlay::contours`": ["overlay/src/contours/*.rt"],
     "`overlay::fill`": ["overlay/src/fill/*.rt"],
     "`overlay::boundary`": ["overlay/src/boundary/*.rt"],
+    "`overlay::stretches`": ["overlay/src/stretches/*.rt"],
     "`polygons`": ["polygons/src/*.rt"],
     "`itree_c`": ["itree_c/src/*.rt"],
     "`itree`": ["itree/src/program.rt"],

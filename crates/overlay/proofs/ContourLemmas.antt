@@ -5,6 +5,7 @@ pub mod Counts
 pub mod Ends
 pub mod Order
 pub mod Outlines
+pub mod RealEdges
 pub mod Rings
 pub mod Settled
 pub mod Straight

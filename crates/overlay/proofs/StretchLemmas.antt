@@ -9,7 +9,6 @@ pub mod Closed
 pub mod Columns
 pub mod CutCallers
 pub mod CutClear
-pub mod CutCounts
 pub mod CutGroups
 pub mod CutLines
 pub mod CutLists

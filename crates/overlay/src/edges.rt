@@ -1,11 +1,13 @@
 //! Edges and the points at which they start and end.
 
 ghost use Rattle.std.specs.Bool.{OnTrue};
-ghost use Rattle.std.specs.Prelude.{◌≡◌, All};
-ghost use Rattle.overlay.specs.Snap.Windings.{IsAlongAxis, edge_between, end_of, reversed, start_of};
+ghost use Rattle.std.specs.Prelude.{◌≡◌, ◌^◌, All};
+ghost use Rattle.plane.specs.Meet.Crosses.{IsWithin};
+ghost use Rattle.overlay.specs.Snap.Windings.{IsAlongAxis, edge_between, end_of, height_over, margin_of, reversed, start_of};
 
 use plane::edge::Edge;
 use plane::point::Point;
+use plane::ways::{cross_product, way_along};
 
 /// The point at which the edge starts.
 pub fn start_of(edge: Edge) -> Point
@@ -68,4 +70,24 @@ fn is_along_axis(edge: Edge) -> bool
     ensures { OnTrue result (IsAlongAxis edge) }
 {
     edge.x1 == edge.x0 || edge.y1 == edge.y0
+}
+
+/// How far the point lies to the left of the line, times its length.
+pub fn height_over(line: Edge, point: Point) -> i128
+    ensures value { result ≡ height_over line point }
+    ensures within { IsWithin (2 ^ 65) result }
+{
+    cross_product(
+        way_along(line),
+        way_along(edge_between(start_of(line), point)),
+    )
+}
+
+/// A unit on both axes, times the line's length.
+pub fn margin_of(line: Edge) -> i128
+    ensures value { result ≡ margin_of line }
+    ensures within { IsWithin (2 ^ 33) result }
+{
+    let way = way_along(line);
+    way.x.unsigned_abs() as i128 + way.y.unsigned_abs() as i128
 }

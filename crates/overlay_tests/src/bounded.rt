@@ -1,14 +1,12 @@
 //! Rings and the boundary of what an operation makes of them, as worked by hand, and each request for memory refused in turn.
 
-use crate::walks::{Regions, bound_walks, edges_of_both};
+use crate::walks::{Regions, bound_walks};
 use i_tree::Refusal;
-use i_tree::status::exp::StatusCollection;
 use i_tree::status::tree::StatusTree;
-use overlay::boundary::boundary;
 use overlay::fill::{FillRule, Operation};
 use plane::point::Point;
 use plane::sweep_line::ActiveEdge;
-use std::alloc::{AllocError, Allocator, Global};
+use std::alloc::{AllocError, Global};
 use std::test::Fail;
 use test_kit::Refusing;
 use test_kit::in_turn::{Trial, refuse_in_turn};
@@ -151,63 +149,6 @@ fn rings_are_bounded_as_worked_by_hand(rt: HostRuntime) -> Result<(), Fail> {
     Ok(())
 }
 
-// The side of a ring that goes up and down in many steps.
-fn push_steps(points: &mut Vec<[i32; 2]>) -> Result<(), AllocError> {
-    for x in 0..250i32 {
-        points.push([x.saturating_mul(3), x % 2])?;
-    }
-    points.push([750, 0])?;
-    Ok(())
-}
-
-// Appends the boundary of a ring with such a side and of a square that lies over its other side.
-fn bound_steps<C, A>(
-    alloc: Global,
-    status: &mut C,
-    points: &mut Vec<Point, A>,
-    ends: &mut Vec<usize, A>,
-) -> Result<Result<(), Refusal>, AllocError>
-where
-    C: StatusCollection<ActiveEdge, i64, ()>,
-    A: Allocator + Copy,
-{
-    let mut ring = Vec::new(alloc);
-    push_steps(&mut ring)?;
-    ring.push([750, 50])?;
-    ring.push([0, 50])?;
-    let square: &[[i32; 2]] = &[[20, 40], [30, 40], [30, 60], [20, 60]];
-    let (edges, count) = edges_of_both(alloc, &[ring.as_slice()], &[square])?;
-    Ok(boundary(
-        &edges,
-        count,
-        FillRule::NonZero,
-        Operation::Union,
-        status,
-        points,
-        ends,
-    ))
-}
-
-// The points of its one ring.
-fn stepped_ring(alloc: Global) -> Result<Vec<Point>, AllocError> {
-    let mut ring = Vec::new(alloc);
-    push_steps(&mut ring)?;
-    ring.extend_from_slice(&[[750, 50], [30, 50], [30, 60], [20, 60], [20, 50], [0, 50]])?;
-    points_of(alloc, &ring)
-}
-
-#[test]
-fn a_side_of_many_steps_keeps_its_points(rt: HostRuntime) -> Result<(), Fail> {
-    let mut status = StatusTree::new(rt.alloc(), 0)?;
-    let mut points = Vec::new(rt.alloc());
-    let mut ends = Vec::new(rt.alloc());
-    let outcome = bound_steps(rt.alloc(), &mut status, &mut points, &mut ends)?;
-    assert_eq!(rt; outcome, Ok(()));
-    assert!(rt; points == stepped_ring(rt.alloc())?);
-    assert!(rt; ends.as_slice() == [257].as_slice());
-    Ok(())
-}
-
 // The rings behind what was there.
 #[derive(Drop)]
 struct Bounded<'a> {
@@ -247,7 +188,7 @@ impl<'a> Trial for Bounding<'a> {
             ends,
             outcome,
         } = bounded;
-        *outcome = bound_steps(self.alloc, status, points, ends).ok();
+        *outcome = bound_walks(self.alloc, XOR, status, points, ends).ok();
     }
 
     // Where room for all was asked in advance and refused, the call may still have found room for each.
@@ -263,7 +204,7 @@ impl<'a> Trial for Bounding<'a> {
     }
 
     fn is_done(&self, bounded: &mut Bounded<'a>) -> bool {
-        bounded.outcome == Some(Ok(())) && bounded.points.len() == 258 && bounded.ends.len() == 2
+        bounded.outcome == Some(Ok(())) && bounded.points.len() == 13 && bounded.ends.len() == 3
     }
 }
 

@@ -82,6 +82,69 @@ fn rings_are_overlaid_as_shapely_tells(rt: HostRuntime) -> Result<(), Fail> {
     Ok(())
 }
 
+// The lower side of a ring, which goes up and down in 250 steps to the right: its points from this one on.
+fn push_steps(left: i32, low: i32, from: i32, points: &mut Vec<Point>) -> Result<(), AllocError> {
+    for step in from..251i32 {
+        points.push(Point {
+            x: left.saturating_add(step.saturating_mul(3)),
+            y: low.saturating_add(step % 2),
+        })?;
+    }
+    Ok(())
+}
+
+// Appends the union of two rings with such sides, the one with a hole. The one's right side ends the other's 217th step.
+fn overlay_steps<A: Allocator + Copy>(
+    alloc: Global,
+    out: &mut Polygons<A>,
+) -> Result<Result<(), OverlayFault>, AllocError> {
+    let mut points = Vec::new(alloc);
+    push_steps(0, 0, 0, &mut points)?;
+    push_points(&[[750, 50], [0, 50]], &mut points)?;
+    let outer = points.len();
+    push_points(HOLE, &mut points)?;
+    let mut clip_points = Vec::new(alloc);
+    push_steps(99, 30, 0, &mut clip_points)?;
+    push_points(&[[849, 80], [99, 80]], &mut clip_points)?;
+    let subject = Rings {
+        points: &points,
+        ends: &[outer, points.len()],
+    };
+    let clip = Rings {
+        points: &clip_points,
+        ends: &[clip_points.len()],
+    };
+    Ok(overlay(subject, clip, FillRule::NonZero, Operation::Union, out))
+}
+
+// Its one polygon.
+fn stepped_polygon(alloc: Global) -> Result<Polygons<Global>, AllocError> {
+    let mut wanted = Polygons::new(alloc);
+    push_steps(0, 0, 0, &mut wanted.points)?;
+    push_steps(99, 30, 217, &mut wanted.points)?;
+    push_rings(
+        &[&[[849, 80], [99, 80], [99, 50], [0, 50]], HOLE],
+        &mut wanted.points,
+        &mut wanted.ring_ends,
+    )?;
+    wanted.polygon_ends.push(2)?;
+    Ok(wanted)
+}
+
+// Runs clockwise.
+const HOLE: &[[i32; 2]] = &[[300, 10], [300, 20], [310, 20], [310, 10]];
+
+#[test]
+fn sides_of_many_steps_keep_their_points(rt: HostRuntime) -> Result<(), Fail> {
+    let mut told = Polygons::new(rt.alloc());
+    let outcome = overlay_steps(rt.alloc(), &mut told)?;
+    assert_eq!(rt; outcome, Ok(()));
+    let wanted = stepped_polygon(rt.alloc())?;
+    assert!(rt; told.points == wanted.points);
+    assert!(rt; told.ring_ends == wanted.ring_ends && told.polygon_ends == wanted.polygon_ends);
+    Ok(())
+}
+
 // The rings of a square and a point, by where they would stop.
 static ENDS: [(&[usize], bool); 6] = [
     (&[4, 5], true),
@@ -127,17 +190,6 @@ struct Overlaying<'a> {
     alloc: Global,
 }
 
-// A square with two holes, which touch the rhomb between them.
-const WITH_HOLES: Regions = Regions {
-    subject: &[
-        &[[0, 0], [6, 0], [6, 6], [0, 6]],
-        &[[2, 2], [2, 4], [4, 4], [4, 2]],
-    ],
-    clip: &[&[[2, 3], [6, -1], [10, 3], [6, 7]]],
-    rule: FillRule::NonZero,
-    operation: Operation::Union,
-};
-
 impl<'a> Trial for Overlaying<'a> {
     type State = Overlaid<'a>;
 
@@ -150,7 +202,7 @@ impl<'a> Trial for Overlaying<'a> {
     }
 
     fn call(&self, overlaid: &mut Overlaid<'a>) {
-        overlaid.outcome = overlay_regions(self.alloc, WITH_HOLES, &mut overlaid.out).ok();
+        overlaid.outcome = overlay_steps(self.alloc, &mut overlaid.out).ok();
     }
 
     // Where room for all was asked in advance and refused, the call may still have found room for each.
@@ -169,8 +221,8 @@ impl<'a> Trial for Overlaying<'a> {
 
     fn is_done(&self, overlaid: &mut Overlaid<'a>) -> bool {
         let out = &overlaid.out;
-        let is_whole = out.points.len() == 14
-            && out.ring_ends.len() == 4
+        let is_whole = out.points.len() == 294
+            && out.ring_ends.len() == 3
             && out.polygon_ends.len() == 2;
         overlaid.outcome == Some(Ok(())) && is_whole
     }

@@ -86,8 +86,8 @@ fn joined(alloc: Global, edges: &[Edge], others: &[Edge]) -> Result<Vec<Edge>, A
     Ok(both)
 }
 
-/// The edges of the subject's walks and then of the clip's, and how many of them are the subject's.
-pub fn edges_of_both(
+// The edges of the subject's walks and then of the clip's, and how many of them are the subject's.
+fn edges_of_both(
     alloc: Global,
     subject: &[&[[i32; 2]]],
     clip: &[&[[i32; 2]]],

@@ -1,10 +1,11 @@
 -- Rings in one list of points, by where each stops.
-use Rattle.std.specs.Prelude.{ℕ, ◌≤◌, ⊤, Bool, not, ◌||◌, List, [], ◌∷◌, filter, length}
+use Rattle.std.specs.Prelude.{ℕ, ◌≤◌, ⊤, List, [], ◌∷◌, length}
 use Rattle.std.specs.List.{between, flat_map}
-use Rattle.std.specs.Ordering.{int_eq}
 use Rattle.plane.specs.declared.edge.Edge.{Edge}
 use Rattle.plane.specs.declared.point.Point.{Point}
 use Rattle.overlay.specs.Contours.Rings.{ring_edges}
+-- edges that go from one point to another
+pub use Rattle.overlay.specs.Contours.Rings.{has_two_ends, real_edges}
 use Rattle.polygons.specs.declared.rings.Rings.{Rings}
 
 -- From the start on each ring stops where it begins or later, and none behind the last of so many points.
@@ -28,11 +29,3 @@ edges_in points ends = flat_map ring_edges (rings_of points 0 ends)
 -- The edges of all rings. A ring may end with its first point again: then that edge goes nowhere.
 abbrev pub edges_of : Rings → List Edge
 edges_of rings = edges_in rings.points.now rings.ends.now
-
--- The edge goes from one point to another.
-abbrev pub has_two_ends : Edge → Bool
-has_two_ends edge = not (int_eq edge.x0 edge.x1) || not (int_eq edge.y0 edge.y1)
-
--- Those of the edges that do. The others are points, and wind around nothing.
-abbrev pub real_edges : List Edge → List Edge
-real_edges edges = filter has_two_ends edges

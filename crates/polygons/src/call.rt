@@ -5,15 +5,18 @@ ghost use Rattle.plane.specs.declared.point.Point.{Point};
 ghost use Rattle.overlay.specs.declared.fill.rules.Operation.TheVariants.{Union};
 ghost use Rattle.polygons.specs.Overlay.{IsOverlay};
 ghost use Rattle.polygons.specs.Polygons.{Appends, AreAsBefore, AreExtended};
-ghost use Rattle.polygons.specs.Rings.{HasEnds, edges_of};
+ghost use Rattle.overlay.specs.Boundary.{AppendsBoundary};
+ghost use Rattle.polygons.specs.Rings.{HasEnds, edges_of, real_edges};
 
 use crate::fault::OverlayFault;
 use crate::grouping::append_polygons;
 use crate::rings::{Polygons, Rings, are_ends, real_edges_of};
+use crate::stretched::stretches_along;
 use i_tree::Refusal;
 use i_tree::status::exp::StatusCollection;
-use overlay::boundary::boundary;
+use overlay::boundary::{boundary, boundary_along};
 use overlay::fill::{FillRule, Operation};
+use plane::point::Point;
 use plane::sweep_line::{ActiveEdge, GrowingStatus};
 use std::alloc::Allocator;
 
@@ -112,12 +115,11 @@ where
     ensures err { OnErr result (AreExtended out.old out.new) }
 {
     let alloc = *out.points.allocator();
-    let (edges, count) = real_edges_of(alloc, subject, clip)?;
     let mut points = Vec::new(alloc);
     let mut ends = Vec::new(alloc);
-    boundary(
-        &edges,
-        count,
+    append_boundary(
+        subject,
+        clip,
         rule,
         operation,
         status,
@@ -125,6 +127,33 @@ where
         &mut ends,
     )?;
     append_polygons(status, points, &ends, out)
+}
+
+// Appends rings that bound what the operation makes of subject and clip: by the chords of stretches, where that pays.
+fn append_boundary<C, A>(
+    subject: Rings,
+    clip: Rings,
+    rule: FillRule,
+    operation: Operation,
+    status: &mut C,
+    points: &mut Vec<Point, A>,
+    ends: &mut Vec<usize, A>,
+) -> Result<(), Refusal>
+where
+    C: StatusCollection<ActiveEdge, i64, ()>,
+    A: Allocator + Copy,
+    requires ends { HasEnds subject }
+    requires clip_ends { HasEnds clip }
+    ensures ok { OnOk result (AppendsBoundary rule operation (real_edges (edges_of subject.entry)) (real_edges (edges_of clip.entry))
+        points.old.items points.new.items ends.old.items ends.new.items) }
+    ensures empty { OnOk result (C.stored status.new ≡ []) }
+{
+    let alloc = *points.allocator();
+    if let Some(stretches) = stretches_along(alloc, subject, clip)? {
+        return boundary_along(&stretches, rule, operation, status, points, ends);
+    }
+    let (edges, count) = real_edges_of(alloc, subject, clip)?;
+    boundary(&edges, count, rule, operation, status, points, ends)
 }
 
 /// The polygons of what is inside of the rings by the rule: the union of them with nothing. So rings that cross themselves

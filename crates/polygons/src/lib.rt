@@ -9,6 +9,7 @@ pub mod call;
 pub mod fault;
 mod grouping;
 pub mod rings;
+mod stretched;
 
 pub use call::{overlay, overlay_over, simplify};
 pub use fault::OverlayFault;

@@ -34,8 +34,8 @@ zip-back R (x ∷ xs) xs' (y ∷ ys) zip = zip-back R xs xs' ys zip.1
 zip-back R (x ∷ xs) xs' [] zip = absurd zip
 
 -- what of a list is from a place on to its end
-pub rest-is : (items list : List Edge) (count : ℕ) → list ≡ items → take (length list - count) (drop count list) ≡ drop count items
-rest-is items list count is = take_all (length list - count) (drop count list) (let size = length-drop count list in omega (arith, size)) ∙ ap (λ (edges : List Edge). drop count edges) is
+pub rest-is : {X : Type 0} (items list : List X) (count : ℕ) → list ≡ items → take (length list - count) (drop count list) ≡ drop count items
+rest-is items list count is = take_all (length list - count) (drop count list) (let size = length-drop count list in omega (arith, size)) ∙ ap (drop count) is
 
 -- the chains of both are those of all edges
 pub all-chains : (subject clip broken broken_clip : List Edge) (are : AreBroken subject clip broken broken_clip) → AreChains (subject ++ clip) (are.chains ++ are.clip_chains)
@@ -82,7 +82,7 @@ cut-broken edges all chains bound count within are is size = (
 more_points : (a b c d e f : ℕ) → a ≡ b + c → b + 1 ≡ d → c + e ≡ f → a + suc e ≡ d + f
 more_points a b c d e f sum first rest = omega (arith, sum, first, rest)
 
-chain-length : (chain : List Point) → 0 < length chain → length (pieces chain) + 1 ≡ length chain
+pub chain-length : (chain : List Point) → 0 < length chain → length (pieces chain) + 1 ≡ length chain
 chain-length [] some = absurd (omega (arith, some))
 chain-length (from ∷ []) some = refl
 chain-length (from ∷ to ∷ others) some = let rest = chain-length (to ∷ others) (omega arith) in omega (arith, rest)

@@ -1,111 +1,112 @@
--- What the code that cuts edges asks, as lemmas over plain variables.
-use Rattle.std.proofs.Common.{◌≡◌, ◌⊎◌, inl, inr, ℕ, suc, ◌+◌, ◌-◌, ◌<◌, ◌≤◌, Bool, true, false, leb, List, [], ◌∷◌, ◌++◌, length, get_or, take, drop, sym, ap, ap₂, ◌∙◌, subst, arith}
-use Rattle.std.specs.List.{All, AllPairs, count_by}
-use Rattle.std.proofs.lemmas.List.{flat_map_more, length-take-le, take-append-drop, take_more}
-use Rattle.std.proofs.lemmas.List.Elements.{All-weaker}
+-- What the code that cuts parts anew asks, as lemmas over plain variables.
+use Rattle.std.proofs.Common.{◌≡◌, ◌⊎◌, inl, inr, ℕ, ◌≤◌, Bool, true, false, List, [], ◌∷◌, ◌++◌, length, get_or, take, drop, sym, ap, ap₂, ◌∙◌, subst, subst₂, arith}
+use Rattle.std.specs.List.{All, AllPairs, AllZip}
+use Rattle.std.proofs.Math.Seq.{drop-append_seam, take-append_seam}
+use Rattle.std.proofs.lemmas.List.{length-append, length-take-le, take-append-drop}
 use Rattle.plane.specs.declared.edge.Edge.{Edge}
-use Rattle.overlay.specs.Snap.Offsets.{offsets}
-use Rattle.overlay.specs.Stretches.{AreClear, IsLong}
-use Rattle.overlay.specs.Stretches.Cut.{AreCut, AreParts, AreRefined, AreRelieved, AreSplit, IsCutInto, IsPart, IsSettled, way}
-use Rattle.overlay.proofs.ChainLemmas.Offsets.{joined, offset-at}
-use Rattle.overlay.proofs.SnapLemmas.Standing.{length-offsets}
-use Rattle.overlay.proofs.StretchLemmas.CutCounts.{count-upto}
-use Rattle.overlay.proofs.StretchLemmas.CutRefined.{AreRefined-more, AreSplit-cut}
+use Rattle.overlay.specs.Stretches.{AreApart, AreClear, IsLong}
+use Rattle.overlay.specs.Stretches.Cut.{AreCut, AreRefined, AreRelieved, AreSettled, IsPart, IsSettled, edges_along, way}
+use Rattle.overlay.specs.declared.stretches.parts.Part.{Part}
+use Rattle.overlay.proofs.BoundaryLemmas.Broken.{zip-back, zip-front}
+use Rattle.overlay.proofs.ChainLemmas.Offsets.{joined}
+use Rattle.overlay.proofs.ChainLemmas.Zips.{AllZip-length}
 use Rattle.overlay.proofs.StretchLemmas.CutGroups.{AreStretches-ways, clear-parts}
-use Rattle.overlay.proofs.StretchLemmas.CutLists.{joined-append, joined-cut, offsets-append}
-
--- ---- all parts
-
-pub AreParts-split : (edges : List Edge) (bound : ℕ) (ends : List ℕ) (front back : List (List Edge)) → AreSplit edges bound ends front back → AreParts edges ends (front ++ back)
-AreParts-split edges bound ends front back (first, second, stops, each) = (
-  (sym (take-append-drop bound edges) ∙ ap₂ (λ (a b : List Edge). a ++ b) first second ∙ sym (joined-append front back), stops),
-  each,
-)
-
-pub refined-more : (most : ℕ) (parts : List (List Edge)) (busy : List Bool) (i start : ℕ) (part : List Edge) (mark : Bool) (refined refined' : List ℕ) → i < length parts
-    → start ≡ length (joined (take i parts)) → part ≡ get_or parts i [] → mark ≡ get_or busy i false
-    → ((group : List (List Edge)) × IsCutInto part group × (mark ≡ false → group ≡ part ∷ []) × (mark ≡ true → All (λ part. length part ≤ most) group) × (refined' ≡ refined ++ offsets start group))
-    → ((groups : List (List (List Edge))) × AreRefined most (take i parts) groups busy × (refined ≡ offsets 0 (joined groups)))
-    → (groups : List (List (List Edge))) × AreRefined most (take (i + 1) parts) groups busy × (refined' ≡ offsets 0 (joined groups))
-refined-more most parts busy i start part mark refined refined' inside begins is marked (group, cut, keeps, cuts, more) (groups, so_far, stops) = (
-  groups ++ group ∷ [],
-  subst (λ (done : List (List Edge)). AreRefined most done (groups ++ group ∷ []) busy) (ap (λ (one : List Edge). take i parts ++ one ∷ []) is ∙ sym (take_more parts i [] inside))
-      (AreRefined-more most (take i parts) groups busy part group mark so_far
-      (marked ∙ ap (λ (n : ℕ). get_or busy n false) (sym (length-take-le i parts (omega (arith, inside))))) cut keeps cuts),
-  more ∙ ap₂ (λ (list : List ℕ) (n : ℕ). list ++ offsets n group) stops here
-      ∙ sym (offsets-append 0 (joined groups) group)
-      ∙ ap (λ (lists : List (List Edge)). offsets 0 lists) (flat_map_more (λ (list : List (List Edge)). list) [] groups group),
-)
-  where
-    here : start ≡ 0 + length (joined (joined groups))
-    here =
-        let same = ap (λ (list : List Edge). length list) (joined-cut IsCutInto (λ list group is. is.is) (take i parts) groups so_far.cut) in
-        omega (arith, begins, same)
-
--- where the list at a place begins
-pub begins-at : (parts : List (List Edge)) (ends : List ℕ) (place d : ℕ) → ends ≡ offsets 0 parts → place < length ends → 0 < place → get_or ends (place - 1) d ≡ length (joined (take place parts))
-begins-at parts ends place d are within some =
-    let size = length-offsets 0 parts in
-    let same = ap (λ (list : List ℕ). length list) are in
-    let at = offset-at 0 parts (place - 1) d (omega (arith, within, size, same, some)) in
-    let back : suc (place - 1) ≡ place = omega (arith, some) in
-    let here = ap (λ (n : ℕ). length (joined (take n parts))) back in
-    let read = ap (λ (list : List ℕ). get_or list (place - 1) d) are in
-    omega (arith, at, here, read)
+use Rattle.overlay.proofs.StretchLemmas.CutLists.{joined-append}
+use Rattle.overlay.proofs.StretchLemmas.CutRefined.{AreRefined-both, Cut, edges-cut, parts-cut}
 
 -- a pair stays settled where marks stay
-pub IsSettled-kept : (parts : List (List Edge)) (before after : List Bool) (pair : ℕ × ℕ) → ((k : ℕ) → get_or before k false ≡ true → get_or after k false ≡ true) → IsSettled parts before pair → IsSettled parts after pair
-IsSettled-kept parts before after pair keeps (inl (one, other)) = inl (keeps pair.0 one, keeps pair.1 other)
-IsSettled-kept parts before after pair keeps (inr apart) = inr apart
+pub IsSettled-kept : (parts : List Part) (before after : List Bool) (pair : ℕ × ℕ) → ((k : ℕ) → get_or before k false ≡ true → get_or after k false ≡ true) → IsSettled parts before pair → IsSettled parts after pair
+IsSettled-kept parts before after pair keeps is d = on (is d)
+  where
+    on : ((get_or before pair.0 false ≡ true) × (get_or before pair.1 false ≡ true)) ⊎ AreApart (way (get_or parts pair.0 d)) (way (get_or parts pair.1 d))
+        → ((get_or after pair.0 false ≡ true) × (get_or after pair.1 false ≡ true)) ⊎ AreApart (way (get_or parts pair.0 d)) (way (get_or parts pair.1 d))
+    on (inl (one, other)) = inl (keeps pair.0 one, keeps pair.1 other)
+    on (inr apart) = inr apart
 
 -- ---- one round after another
 
--- the parts of both sides, where the ends are read as these
-pub given-parts : (edges : List Edge) (ends given : List ℕ) (bound : ℕ) → given ≡ ends
-    → (front : List (List Edge)) × (back : List (List Edge)) × AreSplit edges bound ends front back → (parts : List (List Edge)) × AreParts edges given parts
-given-parts edges ends given bound same (front, back, split) =
-    (front ++ back, subst (λ (stops : List ℕ). AreParts edges stops (front ++ back)) (sym same) (AreParts-split edges bound ends front back split))
+-- parts of both sides that are cut, one side after the other
+pub cut-both : (most count bound : ℕ) (parts before middle after : List Part) (busy : List Bool) → count ≤ length parts → length busy ≡ length parts → AreSettled parts busy → before ≡ [] → bound ≡ length middle
+    → ((groups : List (List Part)) × AreRefined most (take count parts) groups (take count busy) × (middle ≡ before ++ joined groups))
+    → ((groups : List (List Part)) × AreRefined most (drop count parts) groups (drop count busy) × (after ≡ middle ++ joined groups))
+    → (groups : List (List Part)) × AreRelieved most parts groups × (after ≡ joined groups) × (bound ≡ length (joined (take count groups)))
+cut-both most count bound parts before middle after busy within marks clear none stops (groups, first, is) (groups', second, is') = (
+  groups ++ groups',
+  record {
+    busy = busy;
+    refined = subst₂ (λ (all : List Part) (set : List Bool). AreRefined most all (groups ++ groups') set) (take-append-drop count parts) (take-append-drop count busy)
+        (AreRefined-both most (take count parts) (drop count parts) groups groups' (take count busy) (drop count busy)
+        (length-take-le count busy (omega (arith, within, marks)) ∙ sym (length-take-le count parts within)) first second);
+    clear = clear;
+  },
+  is' ∙ ap (λ (list : List Part). list ++ joined groups') start ∙ sym (joined-append groups groups'),
+  stops ∙ ap (λ (list : List Part). length list) (start ∙ ap (λ (lists : List (List Part)). joined lists) (sym front_groups)),
+)
+  where
+    start : middle ≡ joined groups
+    start = is ∙ ap (λ (list : List Part). list ++ joined groups) none
 
--- what they are cut into
-pub given-cut : (edges : List Edge) (ends given refined : List ℕ) (bound most : ℕ) → given ≡ ends
-    → ((parts : List (List Edge)) → AreParts edges given parts → (groups : List (List (List Edge))) × AreRelieved most parts groups × (refined ≡ offsets 0 (joined groups)))
-    → (front back : List (List Edge)) → AreSplit edges bound ends front back
-    → (groups : List (List (List Edge))) × AreRelieved most (front ++ back) groups × (refined ≡ offsets 0 (joined groups))
-given-cut edges ends given refined bound most same cuts front back split =
-    cuts (front ++ back) (subst (λ (stops : List ℕ). AreParts edges stops (front ++ back)) (sym same) (AreParts-split edges bound ends front back split))
+    -- the first groups are those of the first parts
+    front_groups : take count (groups ++ groups') ≡ groups
+    front_groups = ap (λ (n : ℕ). take n (groups ++ groups')) (sym (AllZip-length Cut (take count parts) groups first.cut ∙ length-take-le count parts within)) ∙ take-append_seam groups groups'
 
-pub next-split : (edges : List Edge) (ends given refined : List ℕ) (bound most : ℕ) → given ≡ ends
-    → ((parts : List (List Edge)) → AreParts edges given parts → (groups : List (List (List Edge))) × AreRelieved most parts groups × (refined ≡ offsets 0 (joined groups)))
-    → (front : List (List Edge)) × (back : List (List Edge)) × AreSplit edges bound ends front back
-    → (front : List (List Edge)) × (back : List (List Edge)) × AreSplit edges bound refined front back
-next-split edges ends given refined bound most same cuts (front, back, split) =
-    let (groups, relieved, stops) = given-cut edges ends given refined bound most same cuts front back split in
-    (joined (take (length front) groups), joined (drop (length front) groups), AreSplit-cut edges bound ends refined front back groups split relieved.refined.cut stops)
+-- parts, so many first ones of one side, and what they are cut into
+module _ (parts refined : List Part) (groups : List (List Part)) (count bound : ℕ) (within : count ≤ length parts) (zip : AllZip Cut parts groups)
+    (is : refined ≡ joined groups) (stops : bound ≡ length (joined (take count groups))) where
+  abbrev front : List Part
+  front = joined (take count groups)
+
+  abbrev back : List Part
+  back = joined (drop count groups)
+
+  whole : refined ≡ front ++ back
+  whole = is ∙ ap (λ (all : List (List Part)). joined all) (sym (take-append-drop count groups)) ∙ joined-append (take count groups) (drop count groups)
+
+  together : AllZip Cut (take count parts ++ drop count parts) groups
+  together = subst (λ (all : List Part). AllZip Cut all groups) (sym (take-append-drop count parts)) zip
+
+  size : length (take count parts) ≡ count
+  size = length-take-le count parts within
+
+  front-kept : edges_along (take count parts) ≡ edges_along (take bound refined)
+  front-kept =
+      edges-cut (take count parts) (take count groups) (subst (λ (n : ℕ). AllZip Cut (take count parts) (take n groups)) size (zip-front Cut (take count parts) (drop count parts) groups together))
+      ∙ ap (λ (list : List Part). edges_along list) (sym (ap₂ (λ (n : ℕ) (list : List Part). take n list) stops whole ∙ take-append_seam front back))
+
+  back-kept : edges_along (drop count parts) ≡ edges_along (drop bound refined)
+  back-kept =
+      edges-cut (drop count parts) (drop count groups) (subst (λ (n : ℕ). AllZip Cut (drop count parts) (drop n groups)) size (zip-back Cut (take count parts) (drop count parts) groups together))
+      ∙ ap (λ (list : List Part). edges_along list) (sym (ap₂ (λ (n : ℕ) (list : List Part). drop n list) stops whole ∙ drop-append_seam front back))
+
+  pub bound-within : bound ≤ length refined
+  bound-within = let all = ap (λ (list : List Part). length list) whole in let sum = length-append front back in omega (arith, stops, all, sum)
+
+  pub all-parts : All IsPart refined
+  all-parts = subst (All IsPart) (sym is) (parts-cut parts groups zip)
 
 -- ---- the result
 
-pub AreCut-last : (edges : List Edge) (bound : ℕ) (ends refined : List ℕ) (front back : List (List Edge)) (groups : List (List (List Edge))) (count : ℕ)
-    → bound ≤ length edges → AreSplit edges bound ends front back → AreRelieved 1 (front ++ back) groups → refined ≡ offsets 0 (joined groups)
-    → count ≡ count_by (λ end. leb end bound) refined
-    → AreCut (take bound edges) (drop bound edges) edges refined count
-AreCut-last edges bound ends refined front back groups count within split relieved at counted = (
-  first,
-  second,
-  AreStretches-ways (take bound edges) (drop bound edges) first second split'.0 split'.1 split'.3
-      (subst (AllPairs (λ one other. (IsLong (way one)) ⊎ (IsLong (way other)) → AreClear (way one) (way other))) whole (clear-parts (front ++ back) groups split.3 relieved)),
-  AreParts-split edges bound refined first second split',
-  counted ∙ ap₂ (λ (n : ℕ) (list : List ℕ). count_by (λ end. leb end n) list) (sym (length-take-le bound edges within) ∙ ap (λ (list : List Edge). length list) split'.0) split'.2
-      ∙ count-upto first second (All-weaker IsPart (λ part. 0 < length part) (λ part is. is.some) (first ++ second) split'.3),
+AreCut-last : (subject clip : List Edge) (parts refined : List Part) (groups : List (List Part)) (count bound : ℕ) → All IsPart parts → count ≤ length parts → AreRelieved 1 parts groups
+    → refined ≡ joined groups → bound ≡ length (joined (take count groups)) → subject ≡ edges_along (take count parts) → clip ≡ edges_along (drop count parts)
+    → AreCut subject clip refined bound
+AreCut-last subject clip parts refined groups count bound each within relieved is stops first second = (
+  AreStretches-ways subject clip (take bound refined) (drop bound refined)
+      (first ∙ front-kept parts refined groups count bound within relieved.refined.cut is stops)
+      (second ∙ back-kept parts refined groups count bound within relieved.refined.cut is stops)
+      (subst (All IsPart) (sym (take-append-drop bound refined)) (all-parts parts refined groups count bound within relieved.refined.cut is stops))
+      (subst (AllPairs (λ one other. IsLong (way one) ⊎ IsLong (way other) → AreClear (way one) (way other))) (sym is ∙ sym (take-append-drop bound refined)) (clear-parts parts groups each relieved)),
+  bound-within parts refined groups count bound within relieved.refined.cut is stops,
 )
+
+-- where they were cut before
+pub AreCut-next : (parts shorter given refined : List Part) (groups : List (List Part)) (count bound refined_count : ℕ) → count ≤ length parts → AllZip Cut parts groups
+    → shorter ≡ joined groups → bound ≡ length (joined (take count groups)) → given ≡ shorter
+    → ((groups' : List (List Part)) × AreRelieved 1 given groups' × (refined ≡ joined groups') × (refined_count ≡ length (joined (take bound groups'))))
+    → AreCut (edges_along (take count parts)) (edges_along (drop count parts)) refined refined_count
+AreCut-next parts shorter given refined groups count bound refined_count within zip is stops same (groups', relieved, is', stops') =
+    AreCut-last (edges_along (take count parts)) (edges_along (drop count parts)) given refined groups' bound refined_count
+    (all-parts parts given groups count bound within zip here stops) (bound-within parts given groups count bound within zip here stops) relieved is' stops'
+    (front-kept parts given groups count bound within zip here stops) (back-kept parts given groups count bound within zip here stops)
   where
-    first : List (List Edge)
-    first = joined (take (length front) groups)
-
-    second : List (List Edge)
-    second = joined (drop (length front) groups)
-
-    split' : AreSplit edges bound refined first second
-    split' = AreSplit-cut edges bound ends refined front back groups split relieved.refined.cut at
-
-    whole : joined groups ≡ first ++ second
-    whole = ap (λ (all : List (List (List Edge))). joined all) (sym (take-append-drop (length front) groups)) ∙ joined-append (take (length front) groups) (drop (length front) groups)
+    here : given ≡ joined groups
+    here = same ∙ is

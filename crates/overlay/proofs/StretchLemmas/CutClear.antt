@@ -3,11 +3,11 @@ use Rattle.std.proofs.Common.{◌≡◌, ◌⊎◌, inl, inr, ⊎_elim, suc, pos
 use Rattle.std.specs.List.{All, Contains}
 use Rattle.std.proofs.lemmas.Int.{by_lt_z, ints}
 use Rattle.std.proofs.lemmas.List.Elements.{All-nil, All-cons, All-contains, All-head, All-tail, All-weaker}
-use Rattle.plane.specs.declared.edge.Edge.{Edge}
 use Rattle.plane.specs.declared.point.Point.{Point}
-use Rattle.overlay.specs.Stretches.{AreClear, AreApart, GoesOn}
+use Rattle.overlay.specs.Stretches.{AreClear, AreApart, GoesOn, IsLong}
 use Rattle.overlay.specs.Stretches.Cut.{AreClearParts, way}
 use Rattle.overlay.specs.Stretches.Spans.{AreSeveral, IsSpan, IsWithin, LeadsTo, SpansMeet, bounds_of_span}
+use Rattle.overlay.specs.declared.stretches.parts.Part.{Part}
 use Rattle.overlay.specs.declared.stretches.spans.Span.{Span}
 use Rattle.overlay.proofs.StretchLemmas.Apart.{AreApart-exchanged}
 use Rattle.overlay.proofs.StretchLemmas.CutTests.{apart-boxes, leads_or}
@@ -32,7 +32,7 @@ apart_right some others order = record {
   beyond = λ p q held held'. let a = order p q held held' in omega (arith, ints, a);
 }
 
-module _ (one other : List Edge) (span next : Span) (is : IsSpan one span) (is_next : IsSpan other next)
+module _ (one other : Part) (span next : Span) (is : IsSpan one span) (is_next : IsSpan other next)
     (some others : List Point) (of : All (Contains (way one)) some) (of_others : All (Contains (way other)) others) where
   within : (p : Point) → Contains some p → IsWithin span p
   within p held = All-contains (IsWithin span) (way one) p is.within (All-contains (Contains (way one)) some p of held)
@@ -102,7 +102,7 @@ module _ (one other : List Edge) (span next : Span) (is : IsSpan one span) (is_n
       on (inr before) second = inl (apart_right some others (λ p q held held'. let a = All-contains (λ p. (p.x +ℤ pos 1) <ℤ span.right.x) some p before held in let b = (within_next q held').left in omega (arith, ints, a, b, at_x)))
       on (inl held) (inr behind) = inl (apart_right some others (λ p q inside inside'. let a = (within p inside).right in let b = All-contains (λ q. (span.right.x +ℤ pos 1) <ℤ q.x) others q behind inside' in omega (arith, ints, a, b)))
 
-pub clear-of_spans : (one other : List Edge) (span next : Span) → IsSpan one span → IsSpan other next → (SpansMeet span next → ⊥) → AreClearParts one other
+pub clear-of_spans : (one other : Part) (span next : Span) → IsSpan one span → IsSpan other next → (SpansMeet span next → ⊥) → AreClearParts one other
 clear-of_spans one other span next is is_next apart = λ several some others of of_others.
     by_lt_z (bounds_of_span next).right (bounds_of_span span).left
     (λ order. inl (right_of one other span next is is_next some others of of_others (apart-boxes next.left.x next.right.x span.left.x span.right.x is.fits.0 order)))
@@ -134,6 +134,6 @@ clear-of_spans one other span next is is_next apart = λ several some others of 
     back some others (inl apart) = inl (AreApart-exchanged others some apart)
     back some others (inr goes) = inr (inr goes)
 
-    many : (1 < length one) ⊎ (1 < length other) → AreSeveral span next
+    many : IsLong (way one) ⊎ IsLong (way other) → AreSeveral span next
     many (inl more) = inl (is.several more)
     many (inr more) = inr (is_next.several more)

@@ -7,11 +7,11 @@ use Rattle.plane.specs.declared.edge.Edge.{Edge}
 use Rattle.plane.specs.declared.point.Point.{Point}
 use Rattle.plane.proofs.MeetLemmas.Identities.{identity, minus, number, plus, times}
 use Rattle.overlay.specs.Stretches.{AreApart}
-use Rattle.overlay.specs.Stretches.Spans.{height_over, margin_of}
+use Rattle.overlay.specs.Snap.Windings.{height_over, margin_of}
 use Rattle.overlay.proofs.SnapLemmas.Numbers.{n_of}
 use Rattle.overlay.proofs.StretchLemmas.Apart.{abs-negative}
 
-over : (x0 y0 x1 y1 x y : ℤ) → (((x1 -ℤ x0) *ℤ (y -ℤ y0)) -ℤ ((y1 -ℤ y0) *ℤ (x -ℤ x0))) ≡ ((((pos 0 -ℤ (y1 -ℤ y0)) *ℤ x) +ℤ ((x1 -ℤ x0) *ℤ y)) -ℤ (((pos 0 -ℤ (y1 -ℤ y0)) *ℤ x0) +ℤ ((x1 -ℤ x0) *ℤ y0)))
+pub over : (x0 y0 x1 y1 x y : ℤ) → (((x1 -ℤ x0) *ℤ (y -ℤ y0)) -ℤ ((y1 -ℤ y0) *ℤ (x -ℤ x0))) ≡ ((((pos 0 -ℤ (y1 -ℤ y0)) *ℤ x) +ℤ ((x1 -ℤ x0) *ℤ y)) -ℤ (((pos 0 -ℤ (y1 -ℤ y0)) *ℤ x0) +ℤ ((x1 -ℤ x0) *ℤ y0)))
 over x0 y0 x1 y1 x y =
     let run = minus (number x1) (number x0) in
     let rise = minus (number y1) (number y0) in

@@ -1,13 +1,12 @@
--- Lists of lists that are cut into lists of these.
-use Rattle.std.proofs.Common.{◌≡◌, ℕ, zero, suc, ◌+◌, ◌-◌, ◌≤◌, List, [], ◌∷◌, ◌++◌, length, get_or, take, drop, refl, sym, ap, ap₂, ◌∙◌, subst, arith}
-use Rattle.std.specs.List.{All, AllPairs, AllZip, Contains, between}
+-- Parts of lists, and lists joined.
+use Rattle.std.proofs.Common.{◌≡◌, ℕ, ◌+◌, ◌-◌, ◌≤◌, List, [], ◌∷◌, ◌++◌, get_or, take, drop, ap, ◌∙◌, arith}
+use Rattle.std.specs.List.{All, AllPairs, between}
 use Rattle.std.proofs.lemmas.Grind.{flat_map-append}
-use Rattle.std.proofs.lemmas.List.{drop-drop, length-append}
-use Rattle.std.proofs.lemmas.List.Elements.{All-nil, All-head, All-tail, All-append, All-weaker, Contains-append_left, Contains-append_right, Contains-get_or}
+use Rattle.std.proofs.lemmas.List.{drop-drop}
+use Rattle.std.proofs.lemmas.List.Elements.{All-nil, All-head, All-tail, All-append}
 use Rattle.std.proofs.Math.Seq.{take-add}
 use Rattle.i_tree.proofs.RootLemmas.Joined.{AllPairs-append, AllPairs-nil}
 use Rattle.i_tree.proofs.RootLemmas.Lists.{AllPairs-head, AllPairs-tail}
-use Rattle.overlay.specs.Snap.Offsets.{offsets}
 use Rattle.overlay.proofs.ChainLemmas.Offsets.{joined}
 
 module _ {X : Type 0} where
@@ -21,39 +20,6 @@ module _ {X : Type 0} where
 
   pub joined-append : (xs ys : List (List X)) → joined (xs ++ ys) ≡ joined xs ++ joined ys
   joined-append xs ys = flat_map-append (λ (list : List X). list) xs ys
-
-  -- where the lists of two lists stop
-  pub offsets-append : (start : ℕ) (xs ys : List (List X)) → offsets start (xs ++ ys) ≡ offsets start xs ++ offsets (start + length (joined xs)) ys
-  offsets-append start [] ys = ap (λ (n : ℕ). offsets n ys) (omega arith)
-  offsets-append start (x ∷ xs) ys =
-      ap (λ (rest : List ℕ). (start + length x) ∷ rest)
-      (offsets-append (start + length x) xs ys ∙ ap (λ (n : ℕ). offsets (start + length x) xs ++ offsets n ys) (omega (arith, length-append x (joined xs))))
-
-  -- lists that are cut have the items of what they are cut into
-  pub joined-cut : (R : List X → List (List X) → Type 0) → ((list : List X) (group : List (List X)) → R list group → list ≡ joined group)
-      → (lists : List (List X)) (groups : List (List (List X))) → AllZip R lists groups → joined lists ≡ joined (joined groups)
-  joined-cut R is [] [] zip = refl
-  joined-cut R is (list ∷ lists) (group ∷ groups) zip =
-      ap₂ (λ (a b : List X). a ++ b) (is list group zip.0) (joined-cut R is lists groups zip.1) ∙ sym (joined-append group (joined groups))
-  joined-cut R is [] (group ∷ groups) zip = absurd zip
-  joined-cut R is (list ∷ lists) [] zip = absurd zip
-
-  -- what stands in one of the lists stands in all, and there are no more of it
-  pub Contains-joined : (lists : List (List X)) (list : List X) → Contains lists list → All (Contains (joined lists)) list
-  Contains-joined [] list (k, within, at) = absurd (omega (arith, within))
-  Contains-joined (first ∷ lists) list (zero, within, at) = λ k d inside.
-      Contains-append_left first (joined lists) (get_or list k d)
-      (subst (λ (xs : List X). Contains xs (get_or list k d)) (sym at) (Contains-get_or list k d inside))
-  Contains-joined (first ∷ lists) list (suc k, within, at) =
-      All-weaker (Contains (joined lists)) (Contains (first ++ joined lists)) (λ x held. Contains-append_right first (joined lists) x held) list
-      (Contains-joined lists list (k, omega (arith, within), at))
-
-  pub length-in_joined : (lists : List (List X)) (list : List X) → Contains lists list → length list ≤ length (joined lists)
-  length-in_joined [] list (k, within, at) = absurd (omega (arith, within))
-  length-in_joined (first ∷ lists) list (zero, within, at) = let size = ap (λ (xs : List X). length xs) at in omega (arith, size, length-append first (joined lists))
-  length-in_joined (first ∷ lists) list (suc k, within, at) =
-      let rest = length-in_joined lists list (k, omega (arith, within), at) in
-      omega (arith, rest, length-append first (joined lists))
 
 -- a relation of all pairs of items of lists: those of one list, and those of two
 module _ {X : Type 0} (R : X → X → Type 0) where

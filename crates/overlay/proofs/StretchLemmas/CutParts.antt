@@ -1,147 +1,121 @@
--- Parts of edges, one after another: those so far, and one more.
-use Rattle.std.proofs.Common.{◌≡◌, ℕ, zero, suc, ◌+◌, ◌-◌, ◌<◌, ◌≤◌, Bool, true, false, List, [], ◌∷◌, ◌++◌, length, get_or, take, drop, refl, sym, ap, ap₂, ◌∙◌, subst₂, append-nil, append_assoc, arith}
-use Rattle.std.specs.List.{All, between}
-use Rattle.std.proofs.lemmas.List.{flat_map_more, length-drop, length-take-le, take_all}
-use Rattle.std.proofs.lemmas.List.Elements.{All-append, All-nil, All-push}
+-- Parts behind those that were there.
+use Rattle.std.proofs.Common.{◌≡◌, ◌≢◌, ℕ, ◌+◌, ◌-◌, ◌<◌, ◌≤◌, List, [], ◌∷◌, ◌++◌, length, map, refl, sym, ap, ap₂, ◌∙◌, subst, append-nil, append_assoc, arith}
+use Rattle.std.specs.List.{All, Contains, between, flat_map}
+use Rattle.std.proofs.lemmas.Grind.{flat_map-append}
+use Rattle.std.proofs.lemmas.List.{map-append}
+use Rattle.std.proofs.lemmas.List.Edits.{length-between}
+use Rattle.std.proofs.lemmas.List.Elements.{All-append, All-nil, All-push, All-same, All-weaker, Contains-append_left, Contains-append_right, Contains-get_or, filter-append}
 use Rattle.plane.specs.declared.edge.Edge.{Edge}
-use Rattle.overlay.specs.Snap.Offsets.{offsets}
-use Rattle.overlay.specs.Stretches.Cut.{AreSplit, Follows, IsCutInParts, IsCutInto, IsPart}
-use Rattle.overlay.proofs.ChainLemmas.Offsets.{joined}
-use Rattle.overlay.proofs.ChainLemmas.Runs.{between-at, length-between, offsets-more}
-use Rattle.overlay.proofs.StretchLemmas.CutLists.{between-joined, joined-append, offsets-append}
+use Rattle.plane.specs.declared.point.Point.{Point}
+use Rattle.overlay.specs.Contours.Outlines.{ring_point}
+use Rattle.overlay.specs.Contours.Rings.{has_two_ends, real_edges, ring_edges}
+use Rattle.overlay.specs.Snap.Windings.{edge_between, pieces}
+use Rattle.overlay.specs.Stretches.{IsStretch}
+use Rattle.overlay.specs.Stretches.Cut.{AppendsParts, IsCutInParts, IsPart, IsShort, edges_along, way}
+use Rattle.overlay.specs.declared.stretches.parts.Part.{Part}
+use Rattle.overlay.proofs.ContourLemmas.RealEdges.{closing, few_pieces}
+use Rattle.overlay.proofs.StretchLemmas.CutLists.{between-joined}
+use Rattle.overlay.proofs.StretchLemmas.CutWays.{IsStretch-within, between-all, length-way, pieces-joined}
 
--- ---- parts so far, and one more
+-- ---- parts of edges
 
-pub cut-none : (edges : List Edge) (from most : ℕ) (ends : List ℕ) → IsCutInParts edges from from most ends ends
-cut-none edges from most ends = (
+-- the edges of parts, and of others behind them
+pub edges_along-append : (parts others : List Part) → edges_along (parts ++ others) ≡ edges_along parts ++ edges_along others
+edges_along-append parts others = ap (λ (ways : List (List Point)). flat_map pieces ways) (map-append way parts others) ∙ flat_map-append pieces (map way parts) (map way others)
+
+-- parts of some edges, and then of others
+pub AppendsParts-then : (edges first second : List Edge) (before so_far after : List Part) → edges ≡ first ++ second → AppendsParts first before so_far → AppendsParts second so_far after → AppendsParts edges before after
+AppendsParts-then edges first second before so_far after both (parts, are, each, is) (others, are', each', is') = (
+  parts ++ others,
+  both ∙ ap₂ (λ (one other : List Edge). one ++ other) are are' ∙ sym (edges_along-append parts others),
+  All-append IsPart parts others each each',
+  is' ∙ ap (λ (list : List Part). list ++ others) is ∙ append_assoc before parts others,
+)
+
+-- of the real edges of points up to one, and then of a run from it on
+pub AppendsParts-run : (mid upto : ℕ) (points run : List Point) (before so_far after : List Part) → mid ≤ upto → upto < length points → run ≡ between mid (upto + 1) points
+    → AppendsParts (real_edges (pieces (between 0 (mid + 1) points))) before so_far → AppendsParts (real_edges (pieces run)) so_far after
+    → AppendsParts (real_edges (pieces (between 0 (upto + 1) points))) before after
+AppendsParts-run mid upto points run before so_far after order within along =
+    let first = pieces (between 0 (mid + 1) points) in
+    AppendsParts-then (real_edges (pieces (between 0 (upto + 1) points))) (real_edges first) (real_edges (pieces run)) before so_far after
+    (ap real_edges (pieces-joined 0 mid upto points (omega arith) order within ∙ ap (λ (rest : List Point). first ++ pieces rest) (sym along))
+    ∙ filter-append has_two_ends first (pieces run))
+
+-- of those along a ring, and then of the one from its last point to the first
+pub AppendsParts-ring : (ring : List Point) (before so_far after : List Part) → ring ≢ [] → AppendsParts (real_edges (pieces ring)) before so_far
+    → AppendsParts (real_edges (edge_between (ring_point ring (length ring - 1)) (ring_point ring 0) ∷ [])) so_far after → AppendsParts (real_edges (ring_edges ring)) before after
+AppendsParts-ring ring before so_far after some =
+    let last = ring_point ring (length ring - 1) in
+    let first = ring_point ring 0 in
+    let closed = edge_between last first ∷ [] in
+    AppendsParts-then (real_edges (ring_edges ring)) (real_edges (pieces ring)) (real_edges closed) before so_far after
+    (ap real_edges (closing ring last first _ some refl refl) ∙ filter-append has_two_ends (pieces ring) closed)
+
+-- ---- parts that points are cut into
+
+pub cut-none : (points : List Point) (most : ℕ) (parts : List Part) → length points < 2 → IsCutInParts points most parts parts
+cut-none points most parts few = (
   [],
-  ap (λ (n : ℕ). take n (drop from edges)) (let e : from - from ≡ 0 = omega arith in e) ∙ take-zero (drop from edges),
-  All-nil IsPart,
-  All-nil (λ part. length part ≤ most),
-  sym (append-nil ends),
+  record { is = few_pieces points few; each = All-nil IsPart; within = All-nil (λ part. All (Contains points) (way part)) },
+  All-nil (IsShort most),
+  sym (append-nil parts),
+)
+
+-- one more
+pub cut-more : (points : List Point) (from next end most : ℕ) (before so_far after : List Part) (part : Part) → IsStretch points → from ≤ next → next < end → end < length points → end ≤ next + most
+    → way part ≡ between next (end + 1) points → after ≡ so_far ++ part ∷ []
+    → IsCutInParts (between from (next + 1) points) most before so_far → IsCutInParts (between from (end + 1) points) most before after
+cut-more points from next end most before so_far after part stretch rising later inside small along pushed (group, cut, few, is) = (
+  group ++ part ∷ [],
+  record {
+    is = pieces-joined from next end points rising (omega (arith, later)) inside
+        ∙ ap₂ (λ (one other : List Edge). one ++ other) cut.is (ap pieces (sym along) ∙ sym (append-nil (pieces (way part))))
+        ∙ sym (edges_along-append group (part ∷ []));
+    each = All-push IsPart group part cut.each (subst IsStretch (sym along) (IsStretch-within points next end later inside stretch));
+    within = All-push Inside group part (All-weaker (λ one. All (Contains (between from (next + 1) points)) (way one)) Inside wider group cut.within) here;
+  },
+  All-push (IsShort most) group part few short,
+  pushed ∙ ap (λ (list : List Part). list ++ part ∷ []) is ∙ append_assoc before group (part ∷ []),
 )
   where
-    take-zero : (list : List Edge) → take 0 list ≡ []
-    take-zero [] = refl
-    take-zero (x ∷ list) = refl
+    whole : List Point
+    whole = between from (end + 1) points
 
-pub cut-more : (edges : List Edge) (from next after most : ℕ) (before ends ends' : List ℕ) → from ≤ next → next < after → after ≤ length edges → after ≤ next + most
-    → IsPart (between next after edges) → ends' ≡ ends ++ after ∷ [] → IsCutInParts edges from next most before ends → IsCutInParts edges from after most before ends'
-cut-more edges from next after most before ends ends' rising later inside small is pushed (parts, cut, each, few, stops) = (
-  parts ++ part ∷ [],
-  between-joined from next after edges rising (omega (arith, later)) ∙ ap (λ (done : List Edge). done ++ part) cut ∙ flat_map_more (λ (list : List Edge). list) [] parts part,
-  All-push IsPart parts part each is,
-  All-push (λ part. length part ≤ most) parts part few (let n = size in omega (arith, n, small)),
-  pushed ∙ ap₂ (λ (list : List ℕ) (n : ℕ). list ++ n ∷ []) stops here
-      ∙ append_assoc before (offsets from parts) (((from + length (joined parts)) + length part) ∷ [])
-      ∙ ap (λ (list : List ℕ). before ++ list) (sym (offsets-more from parts part)),
-)
-  where
-    part : List Edge
-    part = between next after edges
+    Inside : Part → Type 0
+    Inside one = All (Contains whole) (way one)
 
-    size : length part ≡ after - next
-    size = length-between next after edges (omega (arith, later)) inside
+    short : IsShort most part
+    short =
+        let size = length-between points next (end + 1) (omega (arith, inside)) in
+        let same = ap (λ (list : List Point). length list) along in
+        omega (arith, size, same, length-way part, small, later)
 
-    here : after ≡ (from + length (joined parts)) + length part
+    wider : (one : Part) → All (Contains (between from (next + 1) points)) (way one) → Inside one
+    wider one all =
+        subst (λ (list : List Point). All (Contains list) (way one)) (sym (between-joined from (next + 1) (end + 1) points (omega (arith, rising)) (omega (arith, later))))
+        (All-weaker (Contains (between from (next + 1) points)) (Contains (between from (next + 1) points ++ between (next + 1) (end + 1) points))
+        (λ point held. Contains-append_left (between from (next + 1) points) (between (next + 1) (end + 1) points) point held) (way one) all)
+
+    here : Inside part
     here =
-        let so_far = length-between from next edges rising (omega (arith, later, inside)) in
-        let same = ap (λ (done : List Edge). length done) cut in
-        let n = size in
-        omega (arith, so_far, same, n, rising, later)
+        subst (λ (list : List Point). All (Contains list) (way part)) (sym (between-joined from next (end + 1) points rising (omega (arith, later))))
+        (All-same (Contains (between from next points ++ between next (end + 1) points)) (way part) (between next (end + 1) points) along
+        (λ k d within. Contains-append_right (between from next points) (between next (end + 1) points) _ (Contains-get_or (between next (end + 1) points) k d within)))
 
--- one part more, and parts of more
-pub cut-then : (edges : List Edge) (from mid upto most : ℕ) (before middle ends : List ℕ) → from ≤ mid → mid ≤ upto → mid ≤ length edges
-    → IsCutInParts edges from mid most before middle → IsCutInParts edges mid upto most middle ends → IsCutInParts edges from upto most before ends
-cut-then edges from mid upto most before middle ends first second inside (parts, cut, each, few, stops) (more, cut', each', few', stops') = (
-  parts ++ more,
-  between-joined from mid upto edges first second ∙ ap₂ (λ (a b : List Edge). a ++ b) cut cut' ∙ sym (joined-append parts more),
-  All-append IsPart parts more each each',
-  All-append (λ part. length part ≤ most) parts more few few',
-  stops' ∙ ap (λ (list : List ℕ). list ++ offsets mid more) stops ∙ append_assoc before (offsets from parts) (offsets mid more)
-      ∙ ap (λ (list : List ℕ). before ++ list) (ap (λ (n : ℕ). offsets from parts ++ offsets n more) here ∙ sym (offsets-append from parts more)),
-)
-  where
-    here : mid ≡ from + length (joined parts)
-    here =
-        let size = length-between from mid edges first inside in
-        let same = ap (λ (list : List Edge). length list) cut in
-        omega (arith, size, same, first)
+-- they are parts of these edges
+cut-appends : (points : List Point) (most : ℕ) (before after : List Part) → IsCutInParts points most before after → AppendsParts (pieces points) before after
+cut-appends points most before after (group, cut, few, is) = (group, cut.is, cut.each, is)
 
--- edges of a run
-pub IsPart-within : (edges : List Edge) (from upto start end : ℕ) → from ≤ start → start < end → end ≤ upto → upto ≤ length edges → IsPart (between from upto edges) → IsPart (between start end edges)
-IsPart-within edges from upto start end first some last inside is = record {
-  some = (let n = size in omega (arith, n, some));
-  next = λ k d below.
-      let n = size in
-      subst₂ Follows
-      (between-at from upto ((start - from) + k) edges d (omega (arith, below, n, first, last)) inside ∙ ap (λ (n : ℕ). get_or edges n d) (let e : from + ((start - from) + k) ≡ start + k = omega (arith, first) in e)
-      ∙ sym (between-at start end k edges d (omega (arith, below, n)) (omega (arith, last, inside))))
-      (between-at from upto (suc ((start - from) + k)) edges d (omega (arith, below, n, first, last)) inside ∙ ap (λ (n : ℕ). get_or edges n d) (let e : from + suc ((start - from) + k) ≡ start + suc k = omega (arith, first) in e)
-      ∙ sym (between-at start end (suc k) edges d (omega (arith, below, n)) (omega (arith, last, inside))))
-      (is.next ((start - from) + k) d (let m = whole in omega (arith, below, n, m, first, last)));
-}
-  where
-    size : length (between start end edges) ≡ end - start
-    size = length-between start end edges (omega (arith, some)) (omega (arith, last, inside))
-
-    whole : length (between from upto edges) ≡ upto - from
-    whole = length-between from upto edges (omega (arith, first, some, last)) inside
-
--- both sides, one after the other
-pub AreSplit-both : (edges : List Edge) (bound most : ℕ) (none first second : List ℕ) → bound ≤ length edges → none ≡ []
-    → IsCutInParts edges 0 bound most none first → IsCutInParts edges bound (length edges) most first second
-    → (front : List (List Edge)) × (back : List (List Edge)) × AreSplit edges bound second front back
-AreSplit-both edges bound most none first second inside empty (front, cut, each, few, stops) (back, cut', each', few', stops') = (
-  front,
-  back,
-  (
-    front_is,
-    sym (take_all (length edges - bound) (drop bound edges) (omega (arith, length-drop bound edges))) ∙ cut',
-    stops' ∙ ap (λ (list : List ℕ). list ++ offsets bound back) (stops ∙ ap (λ (list : List ℕ). list ++ offsets 0 front) empty)
-        ∙ ap (λ (n : ℕ). offsets 0 front ++ offsets n back) at_bound ∙ sym (offsets-append 0 front back),
-    All-append IsPart front back each each',
-  ),
-)
-  where
-    front_is : take bound edges ≡ joined front
-    front_is = ap (λ (n : ℕ). take n edges) (let e : bound ≡ bound - 0 = omega arith in e) ∙ cut
-
-    at_bound : bound ≡ 0 + length (joined front)
-    at_bound =
-        let size = length-take-le bound edges inside in
-        let same = ap (λ (list : List Edge). length list) front_is in
-        omega (arith, size, same)
-
--- ---- one part that is cut anew, or not
-
-pub cut-kept : (edges : List Edge) (start end most : ℕ) (busy : Bool) (before after : List ℕ) → start ≤ end → end ≤ length edges → IsPart (between start end edges) → busy ≡ false
-    → after ≡ before ++ end ∷ []
-    → (group : List (List Edge)) × IsCutInto (between start end edges) group × (busy ≡ false → group ≡ between start end edges ∷ [])
-    × (busy ≡ true → All (λ part. length part ≤ most) group) × (after ≡ before ++ offsets start group)
-cut-kept edges start end most busy before after rising inside is quiet pushed = (
-  part ∷ [],
-  record { is = sym (append-nil part); each = λ k d within. single k d within },
-  (λ same. refl),
-  (λ same. absurd (differ busy same quiet)),
-  pushed ∙ ap (λ (n : ℕ). before ++ n ∷ []) (let size = length-between start end edges rising inside in omega (arith, size, rising)),
-)
-  where
-    part : List Edge
-    part = between start end edges
-
-    single : All IsPart (part ∷ [])
-    single zero d within = is
-    single (suc k) d within = absurd (omega (arith, within))
-
-    differ : (b : Bool) → b ≡ true → b ≡ false → ⊥
-    differ b set unset = cc
-
-pub cut-anew : (edges : List Edge) (start end most : ℕ) (busy : Bool) (before after : List ℕ) → busy ≡ true → IsCutInParts edges start end most before after
-    → (group : List (List Edge)) × IsCutInto (between start end edges) group × (busy ≡ false → group ≡ between start end edges ∷ [])
-    × (busy ≡ true → All (λ part. length part ≤ most) group) × (after ≡ before ++ offsets start group)
-cut-anew edges start end most busy before after marked (parts, cut, each, few, stops) =
-    (parts, record { is = cut; each = each }, (λ quiet. absurd (differ busy marked quiet)), (λ same. few), stops)
-  where
-    differ : (b : Bool) → b ≡ true → b ≡ false → ⊥
-    differ b set unset = cc
+-- the first of the points, those between, and the last
+pub cut-three : (points : List Point) (first last upto most : ℕ) (before one two after : List Part) → first ≤ last → last ≤ upto → length points ≡ upto + 1
+    → IsCutInParts (between 0 (first + 1) points) 1 before one → IsCutInParts (between first (last + 1) points) most one two → IsCutInParts (between last (upto + 1) points) 1 two after
+    → AppendsParts (pieces points) before after
+cut-three points first last upto most before one two after order rest size begin middle end =
+    AppendsParts-then (pieces points) (pieces (between 0 (first + 1) points)) (pieces (between first (upto + 1) points)) before one after
+    (ap pieces (sym (between-all points (upto + 1) (omega (arith, size)))) ∙ pieces-joined 0 first upto points (omega arith) (omega (arith, order, rest)) (omega (arith, size)))
+    (cut-appends (between 0 (first + 1) points) 1 before one begin)
+    (AppendsParts-then (pieces (between first (upto + 1) points)) (pieces (between first (last + 1) points)) (pieces (between last (upto + 1) points)) one two after
+    (pieces-joined first last upto points order rest (omega (arith, size)))
+    (cut-appends (between first (last + 1) points) most one two middle)
+    (cut-appends (between last (upto + 1) points) 1 two after end))

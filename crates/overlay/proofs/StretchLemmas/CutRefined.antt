@@ -1,98 +1,130 @@
--- Parts that are cut anew, one by one, and those of each side.
-use Rattle.std.proofs.Common.{◌≡◌, ◌⊎◌, inl, inr, ℕ, zero, suc, ◌<◌, ◌≤◌, Bool, true, false, List, [], ◌∷◌, ◌++◌, length, get_or, take, drop, refl, sym, ap, ◌∙◌, subst, arith}
-use Rattle.std.specs.List.{All, AllZip}
-use Rattle.std.proofs.lemmas.List.{take-append-drop}
-use Rattle.std.proofs.lemmas.List.Elements.{All-append}
+-- Parts that are cut anew: those of two lists, one by one, and what they have.
+use Rattle.std.proofs.Common.{◌≡◌, ◌⊎◌, inl, inr, ℕ, zero, suc, ◌+◌, ◌-◌, ◌<◌, ◌≤◌, Bool, true, false, List, [], ◌∷◌, ◌++◌, length, get_or, take, refl, sym, ap, ap₂, ◌∙◌, subst, subst₂, append-nil, append_assoc, arith}
+use Rattle.std.specs.List.{All, AllZip, Contains}
+use Rattle.std.proofs.lemmas.Bool.{cases_lt}
+use Rattle.std.proofs.lemmas.List.{flat_map_more, get_or_append_left, get_or-append_right, length-append, length-take-le, take_more}
+use Rattle.std.proofs.lemmas.List.Elements.{All-append, All-cons, All-nil, Contains-get_or}
 use Rattle.plane.specs.declared.edge.Edge.{Edge}
-use Rattle.overlay.specs.Snap.Offsets.{offsets}
-use Rattle.overlay.specs.Stretches.Cut.{AreRefined, AreSplit, IsCutInto, IsPart}
-use Rattle.overlay.proofs.BoundaryLemmas.Broken.{zip-back, zip-front}
+use Rattle.overlay.specs.Snap.Windings.{pieces}
+use Rattle.overlay.specs.Stretches.Cut.{AreRefined, IsCutInto, IsPart, IsShort, edges_along, way}
+use Rattle.overlay.specs.declared.stretches.parts.Part.{Part}
+use Rattle.overlay.proofs.BoundaryLemmas.Broken.{zip-append}
 use Rattle.overlay.proofs.ChainLemmas.Offsets.{joined}
-use Rattle.overlay.proofs.ChainLemmas.Zips.{AllZip-length, AllZip-more}
-use Rattle.overlay.proofs.StretchLemmas.CutLists.{joined-append, joined-cut}
+use Rattle.overlay.proofs.ChainLemmas.Zips.{AllZip-length}
+use Rattle.overlay.proofs.StretchLemmas.CutParts.{edges_along-append}
+
+-- ---- two lists of parts
+
+-- what a part is cut into
+abbrev pub Cut : Part → List Part → Type 0
+Cut part group = IsCutInto (way part) group
+
+pub AreRefined-both : (most : ℕ) (front back : List Part) (groups groups' : List (List Part)) (busy busy' : List Bool) → length busy ≡ length front
+    → AreRefined most front groups busy → AreRefined most back groups' busy' → AreRefined most (front ++ back) (groups ++ groups') (busy ++ busy')
+AreRefined-both most front back groups groups' busy busy' marks first second = record {
+  cut = zip-append Cut front back groups groups' first.cut second.cut;
+  kept = λ k d e within quiet. kept k d e within quiet (cases_lt k (length front));
+  few = λ k e within marked. few k e within marked (cases_lt k (length front));
+}
+  where
+    size : length groups ≡ length front
+    size = AllZip-length Cut front groups first.cut
+
+    behind : (k : ℕ) → k < length (front ++ back) → length front ≤ k → k - length front < length back
+    behind k within from = let sum = length-append front back in omega (arith, within, from, sum)
+
+    mark_front : (k : ℕ) → k < length front → get_or (busy ++ busy') k false ≡ get_or busy k false
+    mark_front k below = get_or_append_left busy busy' false k (let n = marks in omega (arith, n, below))
+
+    mark_back : (k : ℕ) → length front ≤ k → get_or (busy ++ busy') k false ≡ get_or busy' (k - length front) false
+    mark_back k from = get_or-append_right busy busy' (length front) k false marks from
+
+    group_front : (k : ℕ) (e : List Part) → k < length front → get_or (groups ++ groups') k e ≡ get_or groups k e
+    group_front k e below = get_or_append_left groups groups' e k (let n = size in omega (arith, n, below))
+
+    group_back : (k : ℕ) (e : List Part) → length front ≤ k → get_or (groups ++ groups') k e ≡ get_or groups' (k - length front) e
+    group_back k e from = get_or-append_right groups groups' (length front) k e size from
+
+    kept : (k : ℕ) (d : Part) (e : List Part) → k < length (front ++ back) → get_or (busy ++ busy') k false ≡ false → (k < length front) ⊎ (length front ≤ k)
+        → get_or (groups ++ groups') k e ≡ get_or (front ++ back) k d ∷ []
+    kept k d e within quiet (inl below) =
+        group_front k e below ∙ first.kept k d e below (sym (mark_front k below) ∙ quiet)
+        ∙ ap (λ (part : Part). part ∷ []) (sym (get_or_append_left front back d k below))
+    kept k d e within quiet (inr from) =
+        group_back k e from ∙ second.kept (k - length front) d e (behind k within from) (sym (mark_back k from) ∙ quiet)
+        ∙ ap (λ (part : Part). part ∷ []) (sym (get_or-append_right front back (length front) k d refl from))
+
+    few : (k : ℕ) (e : List Part) → k < length (front ++ back) → get_or (busy ++ busy') k false ≡ true → (k < length front) ⊎ (length front ≤ k)
+        → All (IsShort most) (get_or (groups ++ groups') k e)
+    few k e within marked (inl below) =
+        subst (All (IsShort most)) (sym (group_front k e below)) (first.few k e below (sym (mark_front k below) ∙ marked))
+    few k e within marked (inr from) =
+        subst (All (IsShort most)) (sym (group_back k e from)) (second.few (k - length front) e (behind k within from) (sym (mark_back k from) ∙ marked))
 
 -- ---- one part more
 
-pub AreRefined-none : (most : ℕ) (busy : List Bool) → AreRefined most [] [] busy
-AreRefined-none most busy = record {
-  cut = tt;
-  kept = λ k d e within is. absurd (omega (arith, within));
-  few = λ k e within is. absurd (omega (arith, within));
-}
-
-at_end : {X : Type 0} (xs : List X) (x d : X) → get_or (xs ++ x ∷ []) (length xs) d ≡ x
-at_end [] x d = refl
-at_end (y ∷ xs) x d = at_end xs x d
-
-before_end : {X : Type 0} (xs : List X) (x d : X) (k : ℕ) → k < length xs → get_or (xs ++ x ∷ []) k d ≡ get_or xs k d
-before_end [] x d k within = absurd (omega (arith, within))
-before_end (y ∷ xs) x d zero within = refl
-before_end (y ∷ xs) x d (suc k) within = before_end xs x d k (omega (arith, within))
-
-upto_end : {X : Type 0} (xs : List X) (x : X) (k : ℕ) → k < length (xs ++ x ∷ []) → (k < length xs) ⊎ (k ≡ length xs)
-upto_end [] x zero within = inr refl
-upto_end [] x (suc k) within = absurd (omega (arith, within))
-upto_end (y ∷ xs) x zero within = inl (omega arith)
-upto_end (y ∷ xs) x (suc k) within = up (upto_end xs x k (omega (arith, within)))
-  where
-    up : (k < length xs) ⊎ (k ≡ length xs) → (suc k < length (y ∷ xs)) ⊎ (suc k ≡ length (y ∷ xs))
-    up (inl before) = inl (omega (arith, before))
-    up (inr same) = inr (ap suc same)
-
-pub AreRefined-more : (most : ℕ) (parts : List (List Edge)) (groups : List (List (List Edge))) (busy : List Bool) (part : List Edge) (group : List (List Edge)) (mark : Bool)
-    → AreRefined most parts groups busy → mark ≡ get_or busy (length parts) false → IsCutInto part group
-    → (mark ≡ false → group ≡ part ∷ []) → (mark ≡ true → All (λ some. length some ≤ most) group)
-    → AreRefined most (parts ++ part ∷ []) (groups ++ group ∷ []) busy
-AreRefined-more most parts groups busy part group mark are marked cut keeps cuts = record {
-  cut = AllZip-more IsCutInto parts groups part group are.cut cut;
-  kept = λ k d e within is. kept k d e (upto_end parts part k within) is;
-  few = λ k e within is. few k e (upto_end parts part k within) is;
+-- one part with its mark
+AreRefined-single : (most : ℕ) (part : Part) (group : List Part) (mark : Bool) → IsCutInto (way part) group → (mark ≡ false → group ≡ part ∷ []) → (mark ≡ true → All (IsShort most) group)
+    → AreRefined most (part ∷ []) (group ∷ []) (mark ∷ [])
+AreRefined-single most part group mark cut keeps cuts = record {
+  cut = (cut, tt);
+  kept = kept;
+  few = few;
 }
   where
-    size : length groups ≡ length parts
-    size = AllZip-length IsCutInto parts groups are.cut
+    kept : (k : ℕ) (d : Part) (e : List Part) → k < 1 → get_or (mark ∷ []) k false ≡ false → get_or (group ∷ []) k e ≡ get_or (part ∷ []) k d ∷ []
+    kept zero d e within quiet = keeps quiet
+    kept (suc k) d e within quiet = absurd (omega (arith, within))
 
-    last : (e : List (List Edge)) → get_or (groups ++ group ∷ []) (length parts) e ≡ group
-    last e = ap (λ (n : ℕ). get_or (groups ++ group ∷ []) n e) (sym size) ∙ at_end groups group e
+    few : (k : ℕ) (e : List Part) → k < 1 → get_or (mark ∷ []) k false ≡ true → All (IsShort most) (get_or (group ∷ []) k e)
+    few zero e within marked = cuts marked
+    few (suc k) e within marked = absurd (omega (arith, within))
 
-    inside : (k : ℕ) → k < length parts → k < length groups
-    inside k before = let n = size in omega (arith, before, n)
+-- the next part of a list
+pub AreRefined-next : (most : ℕ) (parts : List Part) (busy : List Bool) (i : ℕ) (d : Part) (b : Bool) (old before after : List Part) → i < length parts → length busy ≡ length parts
+    → ((group : List Part) × IsCutInto (way (get_or parts i d)) group × (get_or busy i b ≡ false → group ≡ get_or parts i d ∷ []) × (get_or busy i b ≡ true → All (IsShort most) group) × (after ≡ before ++ group))
+    → ((groups : List (List Part)) × AreRefined most (take i parts) groups (take i busy) × (before ≡ old ++ joined groups))
+    → (groups : List (List Part)) × AreRefined most (take (i + 1) parts) groups (take (i + 1) busy) × (after ≡ old ++ joined groups)
+AreRefined-next most parts busy i d b old before after inside marks (group, cut, keeps, cuts, more) (groups, so_far, stands) = (
+  groups ++ group ∷ [],
+  subst₂ (λ (done : List Part) (set : List Bool). AreRefined most done (groups ++ group ∷ []) set) (sym (take_more parts i d inside)) (sym (take_more busy i b (omega (arith, inside, marks))))
+      (AreRefined-both most (take i parts) (get_or parts i d ∷ []) groups (group ∷ []) (take i busy) (get_or busy i b ∷ [])
+      (length-take-le i busy (omega (arith, inside, marks)) ∙ sym (length-take-le i parts (omega (arith, inside))))
+      so_far (AreRefined-single most (get_or parts i d) group (get_or busy i b) cut keeps cuts)),
+  more ∙ ap (λ (list : List Part). list ++ group) stands ∙ append_assoc old (joined groups) group
+      ∙ ap (λ (list : List Part). old ++ list) (flat_map_more (λ (list : List Part). list) [] groups group),
+)
 
-    kept : (k : ℕ) (d : List Edge) (e : List (List Edge)) → (k < length parts) ⊎ (k ≡ length parts) → get_or busy k false ≡ false → get_or (groups ++ group ∷ []) k e ≡ get_or (parts ++ part ∷ []) k d ∷ []
-    kept k d e (inl before) is =
-        before_end groups group e k (inside k before) ∙ are.kept k d e before is ∙ ap (λ (one : List Edge). one ∷ []) (sym (before_end parts part d k before))
-    kept k d e (inr same) is =
-        ap (λ (n : ℕ). get_or (groups ++ group ∷ []) n e) same ∙ last e
-        ∙ keeps (marked ∙ ap (λ (n : ℕ). get_or busy n false) (sym same) ∙ is)
-        ∙ ap (λ (one : List Edge). one ∷ []) (sym (ap (λ (n : ℕ). get_or (parts ++ part ∷ []) n d) same ∙ at_end parts part d))
-
-    few : (k : ℕ) (e : List (List Edge)) → (k < length parts) ⊎ (k ≡ length parts) → get_or busy k false ≡ true → All (λ some. length some ≤ most) (get_or (groups ++ group ∷ []) k e)
-    few k e (inl before) is = subst (All (λ some. length some ≤ most)) (sym (before_end groups group e k (inside k before))) (are.few k e before is)
-    few k e (inr same) is =
-        subst (All (λ some. length some ≤ most)) (sym (ap (λ (n : ℕ). get_or (groups ++ group ∷ []) n e) same ∙ last e))
-        (cuts (marked ∙ ap (λ (n : ℕ). get_or busy n false) (sym same) ∙ is))
-
--- ---- the parts of both sides
-
--- what stands on each side is cut for itself
-pub AreSplit-cut : (edges : List Edge) (bound : ℕ) (ends refined : List ℕ) (front back : List (List Edge)) (groups : List (List (List Edge)))
-    → AreSplit edges bound ends front back → AllZip IsCutInto (front ++ back) groups → refined ≡ offsets 0 (joined groups)
-    → AreSplit edges bound refined (joined (take (length front) groups)) (joined (drop (length front) groups))
-AreSplit-cut edges bound ends refined front back groups (first, second, at, parts) cut stops = (
-  first ∙ joined-cut IsCutInto is_cut front (take (length front) groups) (zip-front IsCutInto front back groups cut),
-  second ∙ joined-cut IsCutInto is_cut back (drop (length front) groups) (zip-back IsCutInto front back groups cut),
-  stops ∙ ap (offsets 0) whole,
-  subst (All IsPart) whole (each (front ++ back) groups cut),
+-- a part that is kept
+pub cut-kept : (part : Part) (most : ℕ) (busy : Bool) (before after : List Part) → IsPart part → busy ≡ false → after ≡ before ++ part ∷ []
+    → (group : List Part) × IsCutInto (way part) group × (busy ≡ false → group ≡ part ∷ []) × (busy ≡ true → All (IsShort most) group) × (after ≡ before ++ group)
+cut-kept part most busy before after is quiet pushed = (
+  part ∷ [],
+  record {
+    is = sym (append-nil (pieces (way part)));
+    each = All-cons IsPart part [] is (All-nil IsPart);
+    within = All-cons (λ one. All (Contains (way part)) (way one)) part [] (λ k d inside. Contains-get_or (way part) k d inside) (All-nil (λ one. All (Contains (way part)) (way one)));
+  },
+  (λ same. refl),
+  (λ marked. absurd (differ busy marked quiet)),
+  pushed,
 )
   where
-    is_cut : (list : List Edge) (group : List (List Edge)) → IsCutInto list group → list ≡ joined group
-    is_cut list group is = is.is
+    differ : (b : Bool) → b ≡ true → b ≡ false → ⊥
+    differ b set unset = cc
 
-    whole : joined groups ≡ joined (take (length front) groups) ++ joined (drop (length front) groups)
-    whole = ap (λ (all : List (List (List Edge))). joined all) (sym (take-append-drop (length front) groups)) ∙ joined-append (take (length front) groups) (drop (length front) groups)
+-- ---- what parts that are cut have
 
-    each : (lists : List (List Edge)) (groups : List (List (List Edge))) → AllZip IsCutInto lists groups → All IsPart (joined groups)
-    each [] [] zip = λ k d within. absurd (omega (arith, within))
-    each (list ∷ lists) (group ∷ groups) zip = All-append IsPart group (joined groups) zip.0.each (each lists groups zip.1)
-    each [] (group ∷ groups) zip = absurd zip
-    each (list ∷ lists) [] zip = absurd zip
+-- they have the edges of what they are cut into
+pub edges-cut : (parts : List Part) (groups : List (List Part)) → AllZip Cut parts groups → edges_along parts ≡ edges_along (joined groups)
+edges-cut [] [] zip = refl
+edges-cut (part ∷ parts) (group ∷ groups) zip =
+    ap₂ (λ (a b : List Edge). a ++ b) zip.0.is (edges-cut parts groups zip.1) ∙ sym (edges_along-append group (joined groups))
+edges-cut [] (group ∷ groups) zip = absurd zip
+edges-cut (part ∷ parts) [] zip = absurd zip
+
+pub parts-cut : (parts : List Part) (groups : List (List Part)) → AllZip Cut parts groups → All IsPart (joined groups)
+parts-cut [] [] zip = All-nil IsPart
+parts-cut (part ∷ parts) (group ∷ groups) zip = All-append IsPart group (joined groups) zip.0.each (parts-cut parts groups zip.1)
+parts-cut [] (group ∷ groups) zip = absurd zip
+parts-cut (part ∷ parts) [] zip = absurd zip

@@ -1,24 +1,17 @@
 -- Points in a row along x.
-use Rattle.std.proofs.Common.{◌≡◌, ◌⊎◌, inl, inr, ℕ, ◌+◌, ◌-◌, ◌<◌, pos, ◌+ℤ◌, ◌<ℤ◌, ◌≤ℤ◌, List, [], ◌∷◌, length, get_or, map, sym, ap, subst, arith}
+use Rattle.std.proofs.Common.{◌≡◌, ◌⊎◌, inl, inr, ℕ, ◌+◌, ◌-◌, ◌<◌, pos, ◌+ℤ◌, ◌<ℤ◌, ◌≤ℤ◌, List, [], ◌∷◌, ◌++◌, length, get_or, sym, ap, subst, arith}
 use Rattle.std.specs.List.{All, Contains}
 use Rattle.std.proofs.lemmas.Bool.{cases_eq}
 use Rattle.std.proofs.lemmas.Int.{ints}
-use Rattle.std.proofs.lemmas.List.{get_or-map, length-map}
-use Rattle.std.proofs.lemmas.List.Elements.{All-cons, All-from_get_or, Contains-get_or}
-use Rattle.plane.specs.declared.edge.Edge.{Edge}
+use Rattle.std.proofs.lemmas.List.Elements.{All-cons, All-from_get_or, All-push, Contains-get_or}
 use Rattle.plane.specs.declared.point.Point.{Point}
-use Rattle.overlay.specs.Snap.Windings.{end_of, start_of}
 use Rattle.overlay.specs.Stretches.{Falls, Rises}
 use Rattle.overlay.specs.Stretches.Cut.{way}
+use Rattle.overlay.specs.declared.stretches.parts.Part.{Part}
 
--- what holds where the part starts, and at each edge's end
-pub All-way : (P : Point → Type 0) (part : List Edge) (d : Edge) → 0 < length part → P (start_of (get_or part 0 d)) → ((k : ℕ) → k < length part → P (end_of (get_or part k d))) → All P (way part)
-All-way P [] d some begins each = absurd (omega (arith, some))
-All-way P (edge ∷ more) d some begins each =
-    All-cons P (start_of edge) (map end_of (edge ∷ more)) begins
-    (All-from_get_or P (map end_of (edge ∷ more)) (end_of d) (λ k within.
-    let inside : k < length (edge ∷ more) = (let size = length-map (edge ∷ more) end_of in omega (arith, size, within)) in
-    subst P (sym (get_or-map end_of (edge ∷ more) k d (end_of d) inside)) (each k inside)))
+-- what holds at both ends and between them
+pub All-way : (P : Point → Type 0) (part : Part) → P part.from → P part.to → All P part.inner.now → All P (way part)
+All-way P part begins ends each = All-cons P part.from (part.inner.now ++ part.to ∷ []) begins (All-push P part.inner.now part.to each ends)
 
 -- ---- points in a row
 

@@ -1,203 +1,178 @@
--- The points along which parts go are stretches.
-use Rattle.std.proofs.Common.{◌≡◌, ◌⊎◌, inl, inr, ℕ, zero, suc, ◌+◌, ◌-◌, ◌<◌, ℤ, ◌<ℤ◌, List, [], ◌∷◌, length, get_or, map, reverse, take, refl, sym, ap, ap₂, ◌∙◌, subst, arith}
-use Rattle.std.specs.List.{All, AllPairs, Contains}
-use Rattle.std.proofs.lemmas.Int.{by_lt_z, ints}
-use Rattle.std.proofs.lemmas.List.{get_or-map, length-map}
-use Rattle.std.proofs.lemmas.List.Elements.{All-nil, All-cons, All-head, All-tail, All-weaker}
-use Rattle.std.proofs.lemmas.List.Kept.{AllPairs-cons}
-use Rattle.i_tree.proofs.RootLemmas.Joined.{AllPairs-nil}
-use Rattle.i_tree.proofs.RootLemmas.Lists.{AllPairs-head, Contains-here}
+-- The points along which parts go, and parts of points.
+use Rattle.std.proofs.Common.{◌≡◌, ◌⊎◌, inl, inr, ℕ, suc, ◌+◌, ◌-◌, ◌<◌, ◌≤◌, pos, ◌<ℤ◌, true, false, List, [], ◌∷◌, ◌++◌, length, get_or, take, drop, refl, sym, ap, ap₂, ◌∙◌, subst, arith}
+use Rattle.std.specs.List.{All, AllPairs, between}
+use Rattle.std.proofs.lemmas.Bool.{cases_lt}
+use Rattle.std.proofs.lemmas.Int.{ints}
+use Rattle.std.proofs.lemmas.List.{drop-append-le, drop_more, get_or_at, get_or_default, length-drop, length_push, nil_from_length, take-append-drop, take-append-le, take_all}
+use Rattle.std.proofs.lemmas.List.Edits.{get_or-between, length-between}
+use Rattle.std.proofs.lemmas.List.Elements.{All-cons, All-nil}
+use Rattle.std.proofs.lemmas.List.Quantifiers.{all_pairs_push}
+use Rattle.std.proofs.lemmas.Slice.{between_from_start}
+use Rattle.i_tree.proofs.RootLemmas.Joined.{AllPairs-behind, AllPairs-front}
+use Rattle.i_tree.proofs.RootLemmas.Lists.{filter_all}
 use Rattle.plane.specs.declared.edge.Edge.{Edge}
 use Rattle.plane.specs.declared.point.Point.{Point}
 use Rattle.overlay.specs.Contours.Outlines.{ring_point}
-use Rattle.overlay.specs.Snap.Windings.{edge_between, end_of, pieces, start_of}
-use Rattle.overlay.specs.Stretches.{Falls, IsStretch, Rises, but_last, chord}
-use Rattle.overlay.specs.Stretches.Cut.{Follows, GoAlong, IsPart, way}
-use Rattle.overlay.proofs.StretchLemmas.Ways.{but_last-reverse}
+use Rattle.overlay.specs.Contours.Rings.{has_two_ends, real_edges}
+use Rattle.overlay.specs.Snap.Windings.{edge_between, pieces}
+use Rattle.overlay.specs.Stretches.{Falls, IsStretch, Rises}
+use Rattle.overlay.specs.Stretches.Cut.{IsPart, IsPoint, way}
+use Rattle.overlay.specs.declared.stretches.parts.Part.{Part}
+use Rattle.overlay.proofs.ChainLemmas.Runs.{between-more}
+use Rattle.overlay.proofs.ContourLemmas.RealEdges.{no-two_ends, two_ends-differ}
+use Rattle.overlay.proofs.ContourLemmas.Rings.{pieces-append}
+use Rattle.overlay.proofs.StretchLemmas.CutLists.{between-joined}
+use Rattle.overlay.proofs.StretchLemmas.NodedWays.{at-pieces}
 
--- ---- the next edge of a part
+-- ---- the points of a part, by place
 
-meets : (one other : Edge) → Follows one other → end_of one ≡ start_of other
-meets one other follows = ap₂ (λ (x y : ℤ). let point : Point = record { x = x; y = y } in point) follows.x follows.y
+pub length-way : (part : Part) → length (way part) ≡ suc (suc (length part.inner.now))
+length-way part = omega (arith, length_push part.inner.now part.to)
 
-first : (edge next : Edge) (more : List Edge) → IsPart (edge ∷ next ∷ more) → Follows edge next
-first edge next more part = part.next 0 edge (omega arith)
+pub way-last : (part : Part) (d : Point) → get_or (way part) (suc (length part.inner.now)) d ≡ part.to
+way-last part d = get_or_at part.inner.now part.to [] d (length part.inner.now) refl
 
-rest : (edge next : Edge) (more : List Edge) → IsPart (edge ∷ next ∷ more) → IsPart (next ∷ more)
-rest edge next more part = record {
-  some = omega arith;
-  next = λ k d within. part.next (suc k) d (omega (arith, within));
-}
+-- ---- items in a row
 
-pub IsPart-single : (edge : Edge) → IsPart (edge ∷ [])
-IsPart-single edge = record {
-  some = omega arith;
-  next = λ k d within. absurd (omega (arith, within));
-}
+module _ {X : Type 0} where
+  -- all of them
+  pub between-all : (items : List X) (n : ℕ) → length items ≤ n → between 0 n items ≡ items
+  between-all items n upto = between_from_start items n ∙ take_all n items upto
 
--- ---- the edges of a way
+  -- the first one apart
+  between-first : (start end : ℕ) (items : List X) (d : X) → start < end → start < length items → between start end items ≡ get_or items start d ∷ between (start + 1) end items
+  between-first start end items d some within =
+      ap₂ (λ (n : ℕ) (rest : List X). take n rest) (let n : end - start ≡ suc (end - (start + 1)) = omega (arith, some) in n) (drop_more items start d within)
 
-pub pieces-way : (part : List Edge) → IsPart part → pieces (way part) ≡ part
-pieces-way [] part = absurd (let some = part.some in omega (arith, some))
-pieces-way (edge ∷ []) part = refl
-pieces-way (edge ∷ next ∷ more) part =
-    ap (λ (edges : List Edge). edge ∷ edges)
-    (ap (λ (point : Point). pieces (point ∷ map end_of (next ∷ more))) (meets edge next (first edge next more part))
-    ∙ pieces-way (next ∷ more) (rest edge next more part))
+  -- and the last one
+  pub between-ends : (from upto : ℕ) (items : List X) (d : X) → from < upto → upto < length items
+      → between from (upto + 1) items ≡ get_or items from d ∷ (between (from + 1) upto items ++ get_or items upto d ∷ [])
+  between-ends from upto items d some within =
+      between-first from (upto + 1) items d (omega (arith, some)) (omega (arith, some, within))
+      ∙ ap (λ (rest : List X). get_or items from d ∷ rest) (between-more (from + 1) upto items d (omega (arith, some)) within)
 
-pub length-way : (part : List Edge) → 0 < length part → length (way part) ≡ length part + 1
-length-way [] some = absurd (omega (arith, some))
-length-way (edge ∷ more) some = omega (arith, length-map more end_of)
+  -- what holds of each two of them
+  AllPairs-between : (R : X → X → Type 0) (start end : ℕ) (items : List X) → AllPairs R items → AllPairs R (between start end items)
+  AllPairs-between R start end items all =
+      AllPairs-front R (between start end items) (drop (end - start) (drop start items))
+      (subst (AllPairs R) (sym (take-append-drop (end - start) (drop start items)))
+      (AllPairs-behind R (take start items) (drop start items) (subst (AllPairs R) (sym (take-append-drop start items)) all)))
 
--- the points by the edges
-pub way-end : (part : List Edge) (k : ℕ) (d : Edge) (e : Point) → k < length part → get_or (way part) (suc k) e ≡ end_of (get_or part k d)
-way-end [] k d e within = absurd (omega (arith, within))
-way-end (edge ∷ more) k d e within = get_or-map end_of (edge ∷ more) k d e within
+-- ---- parts of points, and of a part
 
-pub way-start : (part : List Edge) (k : ℕ) (d : Edge) (e : Point) → IsPart part → k < length part → get_or (way part) k e ≡ start_of (get_or part k d)
-way-start [] k d e is within = absurd (omega (arith, within))
-way-start (edge ∷ more) zero d e is within = refl
-way-start (edge ∷ more) (suc k) d e is within =
-    way-end (edge ∷ more) k d e (omega (arith, within)) ∙ meets (get_or (edge ∷ more) k d) (get_or (edge ∷ more) (suc k) d) (is.next k d within)
-
--- the chord by the edges
-pub chord-way_of : (part : List Edge) (d e : Edge) → 0 < length part → chord (way part) ≡ edge_between (start_of (get_or part 0 d)) (end_of (get_or part (length part - 1) e))
-chord-way_of [] d e some = absurd (omega (arith, some))
-chord-way_of (edge ∷ more) d e some =
-    let part = edge ∷ more in
-    let size = length-way part some in
-    ap (λ (last : Point). edge_between (start_of edge) last)
-    (ap (λ (k : ℕ). ring_point (way part) k) (let k : length (way part) - 1 ≡ suc (length part - 1) = omega (arith, size) in k)
-    ∙ way-end part (length part - 1) e _ (omega arith))
-
--- all points but the last, and back from the last all but the first
-but_last-cons : (one next : Point) (more : List Point) → but_last (one ∷ next ∷ more) ≡ one ∷ but_last (next ∷ more)
-but_last-cons one next more = ap (λ (n : ℕ). take n (one ∷ next ∷ more)) (let n : length (one ∷ next ∷ more) - 1 ≡ suc (length (next ∷ more) - 1) = omega arith in n)
-
-pub but_last-starts : (part : List Edge) → IsPart part → but_last (way part) ≡ map start_of part
-but_last-starts [] is = absurd (let some = is.some in omega (arith, some))
-but_last-starts (edge ∷ []) is = refl
-but_last-starts (edge ∷ next ∷ more) is =
-    ap (λ (point : Point). but_last (start_of edge ∷ point ∷ map end_of (next ∷ more))) (meets edge next (first edge next more is))
-    ∙ but_last-cons (start_of edge) (start_of next) (map end_of (next ∷ more))
-    ∙ ap (λ (points : List Point). start_of edge ∷ points) (but_last-starts (next ∷ more) (rest edge next more is))
-
-pub but_last-ends : (part : List Edge) → but_last (reverse (way part)) ≡ reverse (map end_of part)
-but_last-ends [] = refl
-but_last-ends (edge ∷ more) = but_last-reverse (way (edge ∷ more))
-
--- both ends of each edge are of it
-pub ends-in_way : (part : List Edge) → All (λ edge. Contains (way part) (end_of edge)) part
-ends-in_way [] k d within = absurd (omega (arith, within))
-ends-in_way (edge ∷ more) k d within =
-    let size = length-map more end_of in
-    (suc k, omega (arith, within, size), at (edge ∷ more) k within (end_of (get_or (edge ∷ more) k d)))
+-- the points of a part of a part: those at both places, and the inner ones between them
+pub way-within : (part : Part) (from upto : ℕ) → from < upto → upto ≤ suc (length part.inner.now)
+    → ring_point (way part) from ∷ (between from (upto - 1) part.inner.now ++ ring_point (way part) upto ∷ []) ≡ between from (upto + 1) (way part)
+way-within part from upto some within =
+    ap (λ (points : List Point). ring_point (way part) from ∷ (points ++ ring_point (way part) upto ∷ [])) (sym inside)
+    ∙ sym (between-ends from upto (way part) _ some (omega (arith, within, length-way part)))
   where
-    at : (edges : List Edge) (k : ℕ) → k < length edges → (e : Point) → get_or (map end_of edges) k e ≡ end_of (get_or edges k d)
-    at [] k within e = absurd (omega (arith, within))
-    at (one ∷ edges) zero within e = refl
-    at (one ∷ edges) (suc k) within e = at edges k (omega (arith, within)) e
+    inside : between (from + 1) upto (way part) ≡ between from (upto - 1) part.inner.now
+    inside =
+        ap₂ (λ (n k : ℕ). take n (drop k (way part))) (let n : upto - (from + 1) ≡ (upto - 1) - from = omega (arith, some) in n) (let k : from + 1 ≡ suc from = omega arith in k)
+        ∙ ap (λ (points : List Point). take ((upto - 1) - from) points) (drop-append-le from part.inner.now (part.to ∷ []) (omega (arith, some, within)))
+        ∙ take-append-le ((upto - 1) - from) (drop from part.inner.now) (part.to ∷ []) (omega (arith, some, within, length-drop from part.inner.now))
 
-pub starts-in_way : (part : List Edge) → IsPart part → All (λ edge. Contains (way part) (start_of edge)) part
-starts-in_way [] is k d within = absurd (omega (arith, within))
-starts-in_way (edge ∷ more) is zero d within = Contains-here (start_of edge) (map end_of (edge ∷ more))
-starts-in_way (edge ∷ more) is (suc k) d within =
-    subst (Contains (way (edge ∷ more))) (meets (get_or (edge ∷ more) k d) (get_or (edge ∷ more) (suc k) d) (is.next k d within))
-    (ends-in_way (edge ∷ more) k d (omega (arith, within)))
-
--- the points along some edges of a part are points along the part
-pub way-in_way : (part some : List Edge) → IsPart part → All (Contains part) some → All (Contains (way part)) (way some)
-way-in_way part [] is held = All-nil (Contains (way part))
-way-in_way part (edge ∷ more) is held =
-    All-cons (Contains (way part)) (start_of edge) (map end_of (edge ∷ more))
-    (of (λ one. Contains (way part) (start_of one)) (starts-in_way part is) edge (All-head (Contains part) edge more held))
-    (ends (edge ∷ more) held)
+-- points of a stretch in a row are one
+pub IsStretch-within : (points : List Point) (from upto : ℕ) → from < upto → upto < length points → IsStretch points → IsStretch (between from (upto + 1) points)
+IsStretch-within points from upto some within is = record { some = omega (arith, size, some); along = on is.along }
   where
-    of : (P : Edge → Type 0) → All P part → (one : Edge) → Contains part one → P one
-    of P all one (k, within, at) = subst P at (all k one within)
+    size : length (between from (upto + 1) points) ≡ (upto + 1) - from
+    size = length-between points from (upto + 1) (omega (arith, within))
 
-    ends : (edges : List Edge) → All (Contains part) edges → All (Contains (way part)) (map end_of edges)
-    ends [] held = All-nil (Contains (way part))
-    ends (one ∷ edges) held =
-        All-cons (Contains (way part)) (end_of one) (map end_of edges)
-        (of (λ one. Contains (way part) (end_of one)) (ends-in_way part) one (All-head (Contains part) one edges held))
-        (ends edges (All-tail (Contains part) one edges held))
+    on : (length points ≡ 2) ⊎ (Rises points ⊎ Falls points) → (length (between from (upto + 1) points) ≡ 2) ⊎ (Rises (between from (upto + 1) points) ⊎ Falls (between from (upto + 1) points))
+    on (inl two) = inl (omega (arith, size, two, some, within))
+    on (inr (inl rises)) = inr (inl (AllPairs-between (λ one later. one.x <ℤ later.x) from (upto + 1) points rises))
+    on (inr (inr falls)) = inr (inr (AllPairs-between (λ one later. later.x <ℤ one.x) from (upto + 1) points falls))
 
--- ---- along x
+-- ---- one point more along x
 
 module _ (R : Point → Point → Type 0) (through : (p q r : Point) → R p q → R q r → R p r) where
-  way-along : (part : List Edge) → IsPart part → All (λ edge. R (start_of edge) (end_of edge)) part → AllPairs R (way part)
-  way-along [] is all = AllPairs-nil R
-  way-along (edge ∷ []) is all =
-      AllPairs-cons R (start_of edge) (end_of edge ∷ [])
-      (All-cons (R (start_of edge)) (end_of edge) [] (All-head (λ e. R (start_of e) (end_of e)) edge [] all) (All-nil (R (start_of edge))))
-      (AllPairs-cons R (end_of edge) [] (All-nil (R (end_of edge))) (AllPairs-nil R))
-  way-along (edge ∷ next ∷ more) is all =
-      let P : Edge → Type 0 = λ e. R (start_of e) (end_of e) in
-      let points = map end_of (next ∷ more) in
-      let later : AllPairs R (end_of edge ∷ points) =
-      subst (λ (point : Point). AllPairs R (point ∷ points)) (sym (meets edge next (first edge next more is)))
-      (way-along (next ∷ more) (rest edge next more is) (All-tail P edge (next ∷ more) all)) in
-      let here = All-head P edge (next ∷ more) all in
-      AllPairs-cons R (start_of edge) (end_of edge ∷ points)
-      (All-cons (R (start_of edge)) (end_of edge) points here
-      (All-weaker (R (end_of edge)) (R (start_of edge)) (λ q beyond. through (start_of edge) (end_of edge) q here beyond) points (AllPairs-head R (end_of edge) points later)))
-      later
+  along-more : (points : List Point) (from end : ℕ) → from ≤ end → end + 1 < length points → AllPairs R (between from (end + 1) points)
+      → R (ring_point points end) (ring_point points (end + 1)) → AllPairs R (between from ((end + 1) + 1) points)
+  along-more points from end rising inside all step =
+      subst (AllPairs R) (sym (between-more from (end + 1) points none (omega (arith, rising)) inside))
+      (all_pairs_push R some next all (λ k d within. subst (λ (p : Point). R p next) (get_or_default some k none d within) (at k within)))
+    where
+      none : Point
+      none = record { x = pos 0; y = pos 0 }
 
-abbrev Right : Edge → Type 0
-Right edge = edge.x0 <ℤ edge.x1
+      some : List Point
+      some = between from (end + 1) points
 
-abbrev Left : Edge → Type 0
-Left edge = edge.x1 <ℤ edge.x0
+      next : Point
+      next = ring_point points (end + 1)
 
-right_on : (edge next : Edge) → Right edge → GoAlong edge next → Right next
-right_on edge next here (inl (one, other)) = other
-right_on edge next here (inr (one, other)) = absurd (omega (arith, ints, here, one))
+      size : length some ≡ (end + 1) - from
+      size = length-between points from (end + 1) (omega (arith, inside))
 
-left_on : (edge next : Edge) → Left edge → GoAlong edge next → Left next
-left_on edge next here (inl (one, other)) = absurd (omega (arith, ints, here, one))
-left_on edge next here (inr (one, other)) = other
+      last : get_or some (end - from) none ≡ ring_point points end
+      last = get_or-between points from (end + 1) (end - from) none (omega (arith, rising)) ∙ ap (λ (n : ℕ). ring_point points n) (let n : from + (end - from) ≡ end = omega (arith, rising) in n)
 
-rightwards : (edge : Edge) (more : List Edge) → IsPart (edge ∷ more) → Right edge → All Right (edge ∷ more)
-rightwards edge [] is here = All-cons Right edge [] here (All-nil Right)
-rightwards edge (next ∷ more) is here =
-    All-cons Right edge (next ∷ more) here (rightwards next more (rest edge next more is) (right_on edge next here (first edge next more is).along))
+      goes : R (get_or some (end - from) none) next
+      goes = subst (λ (p : Point). R p next) (sym last) step
 
-leftwards : (edge : Edge) (more : List Edge) → IsPart (edge ∷ more) → Left edge → All Left (edge ∷ more)
-leftwards edge [] is here = All-cons Left edge [] here (All-nil Left)
-leftwards edge (next ∷ more) is here =
-    All-cons Left edge (next ∷ more) here (leftwards next more (rest edge next more is) (left_on edge next here (first edge next more is).along))
+      at : (k : ℕ) → k < length some → R (get_or some k none) next
+      at k within = elim (cases_lt k (end - from)) [
+        | inl earlier ↦ through (get_or some k none) (get_or some (end - from) none) next (all k (end - from) none earlier (omega (arith, size, rising))) goes
+        | inr upto ↦
+            let here : end - from ≡ k = omega (arith, within, size, upto) in
+            subst (λ (n : ℕ). R (get_or some n none) next) here goes
+      ]
 
-rises : (part : List Edge) → IsPart part → All Right part → Rises (way part)
-rises part is all = way-along (λ p q. p.x <ℤ q.x) (λ p q r one other. omega (arith, ints, one, other)) part is all
+pub rises-more : (points : List Point) (from end : ℕ) → from ≤ end → end + 1 < length points → Rises (between from (end + 1) points) → (ring_point points end).x <ℤ (ring_point points (end + 1)).x
+    → Rises (between from ((end + 1) + 1) points)
+rises-more = along-more (λ one later. one.x <ℤ later.x) (λ p q r one other. omega (arith, ints, one, other))
 
-falls : (part : List Edge) → IsPart part → All Left part → Falls (way part)
-falls part is all = way-along (λ p q. q.x <ℤ p.x) (λ p q r one other. omega (arith, ints, one, other)) part is all
+pub falls-more : (points : List Point) (from end : ℕ) → from ≤ end → end + 1 < length points → Falls (between from (end + 1) points) → (ring_point points (end + 1)).x <ℤ (ring_point points end).x
+    → Falls (between from ((end + 1) + 1) points)
+falls-more = along-more (λ one later. later.x <ℤ one.x) (λ p q r one other. omega (arith, ints, one, other))
 
--- a single edge that doesn't go along x
-abbrev pub IsUpright : List Edge → Type 0
-IsUpright part = (edge : Edge) × (part ≡ edge ∷ []) × (edge.x0 ≡ edge.x1)
+-- ---- pieces of parts
 
-pub part-along : (part : List Edge) → IsPart part → IsUpright part ⊎ (Rises (way part) ⊎ Falls (way part))
-part-along [] is = absurd (let some = is.some in omega (arith, some))
-part-along (edge ∷ []) is =
-    by_lt_z edge.x0 edge.x1
-    (λ right. inr (inl (rises (edge ∷ []) is (rightwards edge [] is right))))
-    (λ upto. by_lt_z edge.x1 edge.x0
-    (λ left. inr (inr (falls (edge ∷ []) is (leftwards edge [] is left))))
-    (λ from. inl (edge, refl, omega (arith, ints, upto, from))))
-part-along (edge ∷ next ∷ more) is = on (first edge next more is).along
+-- those up to a point, and those from there on
+pub pieces-joined : (from mid upto : ℕ) (points : List Point) → from ≤ mid → mid ≤ upto → upto < length points
+    → pieces (between from (upto + 1) points) ≡ pieces (between from (mid + 1) points) ++ pieces (between mid (upto + 1) points)
+pieces-joined from mid upto points first second within =
+    let at = ring_point points mid in
+    let begins = between-first mid (upto + 1) points _ (omega (arith, second)) (omega (arith, second, within)) in
+    ap pieces (between-joined from mid (upto + 1) points first (omega (arith, second)) ∙ ap (λ (rest : List Point). between from mid points ++ rest) begins)
+    ∙ pieces-append (between from mid points) at (between (mid + 1) (upto + 1) points)
+    ∙ ap₂ (λ (one other : List Point). pieces one ++ pieces other) (sym (between-more from mid points _ first (omega (arith, second, within)))) (sym begins)
+
+-- ---- edges of a part from a point to itself
+
+pub real-point : (part : Part) → IsPoint part → real_edges (pieces (way part)) ≡ []
+real-point part is =
+    ap₂ (λ (inner : List Point) (to : Point). real_edges (pieces (part.from ∷ (inner ++ to ∷ [])))) is.none (sym is.same)
+    ∙ none (edge_between part.from part.from) (no-two_ends part.from)
   where
-    on : GoAlong edge next → IsUpright (edge ∷ next ∷ more) ⊎ (Rises (way (edge ∷ next ∷ more)) ⊎ Falls (way (edge ∷ next ∷ more)))
-    on (inl (one, other)) = inr (inl (rises (edge ∷ next ∷ more) is (rightwards edge (next ∷ more) is one)))
-    on (inr (one, other)) = inr (inr (falls (edge ∷ next ∷ more) is (leftwards edge (next ∷ more) is one)))
+    none : (edge : Edge) → has_two_ends edge ≡ false → real_edges (edge ∷ []) ≡ []
+    none edge isnt = rw isnt
 
-pub IsStretch-way : (part : List Edge) → IsPart part → IsStretch (way part)
-IsStretch-way part is = record {
-  some = (let some = is.some in omega (arith, some, length-way part some));
-  along = on (part-along part is);
-}
+pub real-way : (part : Part) → IsPart part → ¬ (IsPoint part) → real_edges (pieces (way part)) ≡ pieces (way part)
+real-way part is isnt = filter_all has_two_ends (pieces (way part)) (on is.along)
   where
-    on : IsUpright part ⊎ (Rises (way part) ⊎ Falls (way part)) → (length (way part) ≡ 2) ⊎ (Rises (way part) ⊎ Falls (way part))
-    on (inl (edge, same, upright)) = inl (ap (λ (edges : List Edge). length (way edges)) same)
-    on (inr along) = inr along
+    apart : (point later : Point) → (point.x ≡ later.x → ⊥) → has_two_ends (edge_between point later) ≡ true
+    apart point later differ = two_ends-differ (edge_between point later) (λ same. differ same.0)
+
+    -- where x goes on from each point to the next
+    along : (R : Point → Point → Type 0) → ((point later : Point) → R point later → point.x ≡ later.x → ⊥) → AllPairs R (way part) → All (λ edge. has_two_ends edge ≡ true) (pieces (way part))
+    along R differ all k d within =
+        let (inside, at) = at-pieces (way part) k part.from d within in
+        let point = get_or (way part) k part.from in
+        let later = get_or (way part) (suc k) part.from in
+        subst (λ (edge : Edge). has_two_ends edge ≡ true) (sym at) (apart point later (differ point later (all k (suc k) part.from (omega arith) inside)))
+
+    -- where one edge is all
+    single : part.inner.now ≡ [] → All (λ edge. has_two_ends edge ≡ true) (pieces (way part))
+    single none =
+        subst (λ (inner : List Point). All (λ edge. has_two_ends edge ≡ true) (pieces (part.from ∷ (inner ++ part.to ∷ [])))) (sym none)
+        (All-cons (λ edge. has_two_ends edge ≡ true) (edge_between part.from part.to) []
+        (two_ends-differ (edge_between part.from part.to) (λ same. isnt (record { none = none; same = ap₂ (λ x y. let point : Point = record { x = x; y = y } in point) same.0 same.1 })))
+        (All-nil (λ edge. has_two_ends edge ≡ true)))
+
+    on : (length (way part) ≡ 2) ⊎ (Rises (way part) ⊎ Falls (way part)) → All (λ edge. has_two_ends edge ≡ true) (pieces (way part))
+    on (inl two) = single (nil_from_length part.inner.now (omega (arith, two, length-way part)))
+    on (inr (inl rises)) = along (λ one later. one.x <ℤ later.x) (λ point later less same. omega (arith, ints, less, same)) rises
+    on (inr (inr falls)) = along (λ one later. later.x <ℤ one.x) (λ point later less same. omega (arith, ints, less, same)) falls

@@ -21,7 +21,7 @@ turned-same : (one other : Edge) → rightwards one ≡ rightwards other → Hav
 turned-same one other same =
     same-trans one (rightwards one) other (same-exchanged (rightwards one) one (same-rightwards one)) (subst (λ (edge : Edge). HaveSameEnds edge other) (sym same) (same-rightwards other))
 
-pub chord_of-same : (one other : Edge) → chord_of one ≡ chord_of other → HaveSameEnds one other
+chord_of-same : (one other : Edge) → chord_of one ≡ chord_of other → HaveSameEnds one other
 chord_of-same one other same = turned-same one other (ap (λ (c : Chord). let is : Edge = record { x0 = c.x0; y0 = c.y0; x1 = c.x1; y1 = c.y1 } in is) same)
 
 -- an edge that isn't vertical and the same back are one if turned so

@@ -1,79 +1,58 @@
 -- The entries of a table of long stretches: where these stand, and along which way an edge goes by what is found of it.
-use Rattle.std.proofs.Common.{◌≡◌, ◌≢◌, inl, inr, ℕ, ◌+◌, ◌<◌, ◌≤◌, List, [], ◌∷◌, ◌++◌, Result, get_or, length, map, reverse, take, refl, sym, ap, ◌∙◌, subst, arith}
+use Rattle.std.proofs.Common.{◌≡◌, ◌≢◌, inl, inr, ℕ, ◌<◌, List, [], ◌∷◌, ◌++◌, Result, get_or, length, map, reverse, refl, sym, ap, ◌∙◌, subst, arith}
 use Rattle.std.specs.List.{All, Contains}
 use Rattle.std.specs.Result.{OnOk}
 use Rattle.std.proofs.lemmas.Int.{by_lt_z, ints}
-use Rattle.std.proofs.lemmas.List.{get_or_default, reverse-reverse}
-use Rattle.std.proofs.lemmas.List.Elements.{All-contains, All-weaker, Contains-get_or}
+use Rattle.std.proofs.lemmas.List.{reverse-reverse}
+use Rattle.std.proofs.lemmas.List.Elements.{All-contains, Contains-get_or}
 use Rattle.std.proofs.lemmas.Result.{on_ok_weaker}
 use Rattle.i_tree.proofs.RootLemmas.Joined.{All-to_map}
 use Rattle.plane.proofs.PairsLemmas.Bags.{Contains-from_map, Contains-map}
 use Rattle.plane.specs.declared.edge.Edge.{Edge}
 use Rattle.plane.specs.declared.point.Point.{Point}
 use Rattle.overlay.specs.Contours.Outlines.{ring_point}
-use Rattle.overlay.specs.Snap.Offsets.{between, offsets}
 use Rattle.overlay.specs.Snap.Windings.{edge_between, reversed}
 use Rattle.overlay.specs.Stretches.{GoesAlong, IsLong, IsStretch, but_last, chord}
-use Rattle.overlay.specs.Stretches.Cut.{IsPart, way}
-use Rattle.overlay.specs.Stretches.Widening.{HasSeveral, IsTable, chord_of, entry_at}
+use Rattle.overlay.specs.Stretches.Cut.{way}
+use Rattle.overlay.specs.Stretches.Widening.{IsTable, chord_of, entry_of}
+use Rattle.overlay.specs.declared.stretches.parts.Part.{Part}
 use Rattle.overlay.specs.declared.stretches.widening.LongStretch.{LongStretch}
-use Rattle.overlay.proofs.ChainLemmas.Offsets.{joined}
-use Rattle.overlay.proofs.SnapLemmas.Standing.{IsNext-at, length-offsets}
 use Rattle.overlay.proofs.StretchLemmas.Boxes.{chord-sloped}
-use Rattle.overlay.proofs.StretchLemmas.CutWays.{IsStretch-way, length-way}
 use Rattle.overlay.proofs.StretchLemmas.Directed.{chord_of-reversed, goes-along, goes-back}
 use Rattle.overlay.proofs.StretchLemmas.Reverse.{chord-reverse}
 
--- One of the parts has this entry, and stands at its places.
-pub record Stands (parts : List (List Edge)) (edges : List Edge) (entry : LongStretch) : Type 0 where
-  pub part : List Edge
-  pub is_part : IsPart part
-  pub among : Contains (map way parts) (way part)
-  pub long : IsLong (way part)
-  pub chord_is : entry.chord ≡ chord_of (chord (way part))
-  pub rising : entry.start ≤ entry.end
-  pub within : entry.end ≤ length edges
-  pub is : between entry.start entry.end edges ≡ part
+-- The part at the entry's place is long, and the entry has its chord.
+pub record Stands (parts : List Part) (entry : LongStretch) (d : Part) : Type 0 where
+  pub inside : entry.place < length parts
+  pub among : Contains (map way parts) (way (get_or parts entry.place d))
+  pub long : IsLong (way (get_or parts entry.place d))
+  pub chord_is : entry.chord ≡ chord_of (chord (way (get_or parts entry.place d)))
 
-module _ (parts : List (List Edge)) (edges : List Edge) (table : List LongStretch) (are : IsTable parts edges table) where
+module _ (parts : List Part) (table : List LongStretch) (are : IsTable parts table) where
   abbrev stretches : List (List Point)
   stretches = map way parts
 
-  pub entry-stands : (entry : LongStretch) → Contains table entry → Stands parts edges entry
-  entry-stands entry among =
-      let (k, inside, several, is) = All-contains (λ (e : LongStretch). (k : ℕ) × (k < length parts) × HasSeveral (get_or parts k []) × (e ≡ entry_at parts k)) table entry are.long.each among in
-      let start : entry.start ≡ length (joined (take k parts)) = ap (λ (e : LongStretch). e.start) is in
-      let end : entry.end ≡ length (joined (take (k + 1) parts)) = ap (λ (e : LongStretch). e.end) is in
-      let next = IsNext-at parts edges (offsets 0 parts) k entry.start (are.joined, refl) (let size = length-offsets 0 parts in omega (arith, size, inside)) start in
-      let stops = next.stops in
-      let same : get_or (offsets 0 parts) k 0 ≡ entry.end = omega (arith, stops, end) in
-      let rising = next.rising in
-      let within = next.within in
-      let size = length-way (get_or parts k []) (omega (arith, several)) in record {
-        part = get_or parts k [];
-        is_part = are.each k [] inside;
-        among = Contains-map way parts (get_or parts k []) (Contains-get_or parts k [] inside);
-        long = omega (arith, several, size);
-        chord_is = ap (λ (e : LongStretch). e.chord) is;
-        rising = omega (arith, rising, same);
-        within = omega (arith, within, same);
-        is = ap (λ (n : ℕ). between entry.start n edges) (sym same) ∙ next.is;
+  pub entry-stands : (entry : LongStretch) (d : Part) → Contains table entry → Stands parts entry d
+  entry-stands entry d among =
+      let (k, inside, of) = All-contains (λ (e : LongStretch). (k : ℕ) × (k < length parts) × ((d : Part) → IsLong (way (get_or parts k d)) × (e ≡ entry_of k (get_or parts k d)))) table entry are.long.each among in
+      let (long, is) = of d in
+      let place : k ≡ entry.place = sym (ap (λ (e : LongStretch). e.place) is) in record {
+        inside = omega (arith, inside, place);
+        among = subst (λ (n : ℕ). Contains (map way parts) (way (get_or parts n d))) place (Contains-map way parts (get_or parts k d) (Contains-get_or parts k d inside));
+        long = subst (λ (n : ℕ). IsLong (way (get_or parts n d))) place long;
+        chord_is = subst (λ (n : ℕ). entry.chord ≡ chord_of (chord (way (get_or parts n d)))) place (ap (λ (e : LongStretch). e.chord) is);
       }
 
   -- each long stretch has one
-  pub long-entry : (stretch : List Point) → Contains stretches stretch → IsLong stretch → (entry : LongStretch) × Contains table entry × (entry.chord ≡ chord_of (chord stretch))
+  long-entry : (stretch : List Point) → Contains stretches stretch → IsLong stretch → (entry : LongStretch) × Contains table entry × (entry.chord ≡ chord_of (chord stretch))
   long-entry stretch among long =
       let (part, (k, inside, at), is) = Contains-from_map way parts stretch among in
-      let here : get_or parts k [] ≡ part = get_or_default parts k [] part inside ∙ at in
-      let goes : way (get_or parts k []) ≡ stretch = ap way here ∙ is in
-      let some = (are.each k [] inside).some in
-      let size = length-way (get_or parts k []) some in
-      let same = ap (λ (points : List Point). length points) goes in
-      (entry_at parts k, are.long.all k inside (omega (arith, size, same, long)), ap (λ (s : List Point). chord_of (chord s)) goes)
+      let goes : way (get_or parts k part) ≡ stretch = ap way at ∙ is in
+      (entry_of k (get_or parts k part), are.long.all k part inside (subst IsLong (sym goes) long), ap (λ (s : List Point). chord_of (chord s)) goes)
 
   -- the points along which they go are stretches
   each : All IsStretch stretches
-  each = All-to_map IsStretch way parts (All-weaker IsPart (λ part. IsStretch (way part)) IsStretch-way parts are.each)
+  each = All-to_map IsStretch way parts are.each
 
   -- an edge whose chord none of them has goes straight
   pub straight-goes : (from to : Point) → (from.x ≢ to.x → (entry : LongStretch) → Contains table entry → entry.chord ≢ chord_of (edge_between from to))

@@ -1,7 +1,7 @@
 -- The ways of edges: from the start of an edge to its end, along the points of a stretch where it is a chord.
-use Rattle.std.proofs.Common.{◌≡◌, ◌⊎◌, inl, inr, ℕ, suc, ◌-◌, ◌≤◌, List, [], ◌∷◌, ◌++◌, length, drop, reverse, refl, sym, ap, ◌∙◌, subst, arith}
+use Rattle.std.proofs.Common.{◌≡◌, ◌⊎◌, inl, inr, ℕ, suc, ◌-◌, ◌≤◌, List, [], ◌∷◌, ◌++◌, length, reverse, refl, sym, ap, ◌∙◌, subst, arith}
 use Rattle.std.specs.List.{All, Contains}
-use Rattle.std.proofs.lemmas.List.{get_or_at, length_push, length-reverse, reverse-append, take_at}
+use Rattle.std.proofs.lemmas.List.{get_or_at, length_push, length-reverse, take_at}
 use Rattle.std.proofs.lemmas.List.Elements.{All-contains}
 use Rattle.i_tree.proofs.RootLemmas.Joined.{last_cut}
 use Rattle.plane.specs.declared.edge.Edge.{Edge}
@@ -12,12 +12,8 @@ use Rattle.overlay.specs.Stretches.{GoesAlong, IsStretch, but_last, chord}
 
 -- ---- all points but the last
 
-pub but_last-push : (front : List Point) (last : Point) → but_last (front ++ last ∷ []) ≡ front
+but_last-push : (front : List Point) (last : Point) → but_last (front ++ last ∷ []) ≡ front
 but_last-push front last = take_at front (last ∷ []) (length (front ++ last ∷ []) - 1) (let long = length_push front last in omega (arith, long))
-
-pub but_last-reverse : (points : List Point) → but_last (reverse points) ≡ reverse (drop 1 points)
-but_last-reverse [] = refl
-but_last-reverse (first ∷ others) = ap but_last (reverse-append (first ∷ []) others) ∙ but_last-push (reverse others) first
 
 -- ---- the ends of points
 

@@ -1,7 +1,8 @@
 -- Rings, and the edges of rings.
 use Rattle.std.specs.List.{flat_map}
 use Rattle.std.specs.List.Sorted.{IsPermutation}
-use Rattle.std.specs.Prelude.{◌≢◌, List, [], ◌∷◌, ◌++◌, All, AllPairs}
+use Rattle.std.specs.Ordering.{int_eq}
+use Rattle.std.specs.Prelude.{◌≢◌, Bool, not, ◌||◌, List, [], ◌∷◌, ◌++◌, All, AllPairs, filter}
 use Rattle.plane.specs.declared.edge.Edge.{Edge}
 use Rattle.plane.specs.declared.point.Point.{Point}
 use Rattle.overlay.specs.Snap.Windings.{pieces}
@@ -11,6 +12,14 @@ use Rattle.overlay.specs.Snap.Windings.{pieces}
 abbrev pub ring_edges : List Point → List Edge
 ring_edges [] = []
 ring_edges (first ∷ others) = pieces (first ∷ (others ++ first ∷ []))
+
+-- The edge goes from one point to another.
+abbrev pub has_two_ends : Edge → Bool
+has_two_ends edge = not (int_eq edge.x0 edge.x1) || not (int_eq edge.y0 edge.y1)
+
+-- Those of the edges that do. The others are points, and wind around nothing.
+abbrev pub real_edges : List Edge → List Edge
+real_edges edges = filter has_two_ends edges
 
 -- Some points, none twice.
 pub record IsRing (ring : List Point) : Type 0 where

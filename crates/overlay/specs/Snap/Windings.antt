@@ -1,6 +1,6 @@
 -- How often edges wind around a point: those under it that go rightwards, less those under it that go leftwards.
 use Rattle.std.specs.List.{count_by, zip}
-use Rattle.std.specs.Prelude.{◌≡◌, ◌⊎◌, Bool, ◌&&◌, List, ℤ, pos, ◌-ℤ◌, ◌*ℤ◌, drop, int_le, int_lt, map}
+use Rattle.std.specs.Prelude.{◌≡◌, ◌⊎◌, Bool, ◌&&◌, List, ℤ, pos, ◌+◌, ◌-ℤ◌, ◌*ℤ◌, drop, int_le, int_lt, map, unsigned_abs}
 use Rattle.plane.specs.declared.edge.Edge.{Edge}
 use Rattle.plane.specs.declared.point.Point.{Point}
 use Rattle.plane.specs.Meet.Crosses.{cross}
@@ -15,6 +15,13 @@ edge_between from to = record { x0 = from.x; y0 = from.y; x1 = to.x; y1 = to.y }
 -- The edge from its end to its start.
 abbrev pub reversed : Edge → Edge
 reversed edge = edge_between (end_of edge) (start_of edge)
+
+-- How far the point lies to the left of the line, times its length; and a unit on both axes, times that.
+abbrev pub height_over : Edge → Point → ℤ
+height_over line point = cross (line.x1 -ℤ line.x0) (line.y1 -ℤ line.y0) (point.x -ℤ line.x0) (point.y -ℤ line.y0)
+
+abbrev pub margin_of : Edge → ℤ
+margin_of line = pos (unsigned_abs (line.x1 -ℤ line.x0) + unsigned_abs (line.y1 -ℤ line.y0))
 
 -- The edge goes rightwards and is under the point: it covers the point's x, from its start up to and without its end, and the
 -- point isn't to the right of it.

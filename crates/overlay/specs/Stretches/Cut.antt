@@ -1,72 +1,72 @@
--- How edges are cut into parts whose points are stretches. For private contracts.
-use Rattle.std.specs.Prelude.{◌≡◌, ◌⊎◌, ℕ, suc, ◌<◌, ◌≤◌, ◌<ℤ◌, Bool, true, false, List, [], ◌∷◌, ◌++◌, All, Contains, drop, get_or, length, map, take}
-use Rattle.std.specs.List.{AllZip, between, flat_map}
+-- How rings are cut into parts, along which stretches go.
+use Rattle.std.specs.Prelude.{◌≡◌, ◌⊎◌, ℕ, ◌<◌, ◌≤◌, Bool, true, false, List, ◌∷◌, ◌++◌, [], All, Contains, drop, get_or, length, map, take}
+use Rattle.std.specs.List.{AllZip, flat_map}
 use Rattle.plane.specs.declared.edge.Edge.{Edge}
 use Rattle.plane.specs.declared.point.Point.{Point}
-use Rattle.overlay.specs.Snap.Offsets.{AreJoined, offsets}
-use Rattle.overlay.specs.Snap.Windings.{end_of, start_of}
-use Rattle.overlay.specs.Stretches.{AreApart, AreClear, AreStretches}
-
--- Both edges go strictly rightwards, or both strictly leftwards.
-abbrev pub GoAlong : Edge → Edge → Type 0
-GoAlong one other = ((one.x0 <ℤ one.x1) × (other.x0 <ℤ other.x1)) ⊎ ((one.x1 <ℤ one.x0) × (other.x1 <ℤ other.x0))
-
--- They do, and the other one starts where the one ends.
-pub record Follows (one other : Edge) : Type 0 where
-  pub x : one.x1 ≡ other.x0
-  pub y : one.y1 ≡ other.y0
-  pub along : GoAlong one other
-
--- Edges that follow each other, or one edge of any kind.
-pub record IsPart (part : List Edge) : Type 0 where
-  pub some : 0 < length part
-  pub next : (k : ℕ) (d : Edge) → suc k < length part → Follows (get_or part k d) (get_or part (suc k) d)
+use Rattle.overlay.specs.Snap.Windings.{pieces}
+use Rattle.overlay.specs.Stretches.{AreApart, AreClear, AreStretches, IsLong, IsStretch}
+use Rattle.overlay.specs.declared.stretches.parts.Part.{Part}
 
 -- The points along which a part goes.
-abbrev pub way : List Edge → List Point
-way [] = []
-way (edge ∷ rest) = start_of edge ∷ map end_of (edge ∷ rest)
+abbrev pub way : Part → List Point
+way part = part.from ∷ (part.inner.now ++ part.to ∷ [])
 
--- The parts of edges, one after another, and where each stops among these.
-abbrev pub AreParts : List Edge → List ℕ → List (List Edge) → Type 0
-AreParts edges ends parts = AreJoined parts edges ends × All IsPart parts
+abbrev pub IsPart : Part → Type 0
+IsPart part = IsStretch (way part)
 
--- Behind the ends before stand those of parts of the edges from the one place on, and before the other, each of so many at most.
-abbrev pub IsCutInParts : List Edge → ℕ → ℕ → ℕ → List ℕ → List ℕ → Type 0
-IsCutInParts edges from upto most before ends =
-    (parts : List (List Edge)) × (between from upto edges ≡ flat_map (λ part. part) parts) × All IsPart parts × All (λ part. length part ≤ most) parts
-    × (ends ≡ before ++ offsets from parts)
+-- The edges along parts, one part after another.
+abbrev pub edges_along : List Part → List Edge
+edges_along parts = flat_map pieces (map way parts)
 
--- So are these, some up to this place among the edges and the others from there on.
-abbrev pub AreSplit : List Edge → ℕ → List ℕ → List (List Edge) → List (List Edge) → Type 0
-AreSplit edges bound ends front back =
-    (take bound edges ≡ flat_map (λ part. part) front) × (drop bound edges ≡ flat_map (λ part. part) back)
-    × (ends ≡ offsets 0 (front ++ back)) × All IsPart (front ++ back)
+-- The stretches of the subject's edges go along the first parts, so many, and those of the clip's along the others.
+abbrev pub AreCut : List Edge → List Edge → List Part → ℕ → Type 0
+AreCut subject clip parts count =
+    AreStretches subject clip (map way (take count parts)) (map way (drop count parts)) × (count ≤ length parts)
 
--- What a part is cut into.
-pub record IsCutInto (part : List Edge) (group : List (List Edge)) : Type 0 where
-  pub is : part ≡ flat_map (λ some. some) group
+-- ---- for private contracts
+
+-- Behind the parts before stand parts of these edges.
+abbrev pub AppendsParts : List Edge → List Part → List Part → Type 0
+AppendsParts edges before after = (group : List Part) × (edges ≡ edges_along group) × All IsPart group × (after ≡ before ++ group)
+
+-- The part is an edge from a point to itself.
+pub record IsPoint (part : Part) : Type 0 where
+  pub none : part.inner.now ≡ []
+  pub same : part.from ≡ part.to
+
+-- The part has so many edges at most.
+abbrev pub IsShort : ℕ → Part → Type 0
+IsShort most part = length part.inner.now < most
+
+-- What points are cut into.
+pub record IsCutInto (points : List Point) (group : List Part) : Type 0 where
+  pub is : pieces points ≡ edges_along group
   pub each : All IsPart group
+  pub within : All (λ part. All (Contains points) (way part)) group
 
--- Where any points of the one part and any of the other are clear of each other, if one of the parts has several edges.
-abbrev pub AreClearParts : List Edge → List Edge → Type 0
+-- Behind the parts before stand those that the points are cut into, each of so many edges at most.
+abbrev pub IsCutInParts : List Point → ℕ → List Part → List Part → Type 0
+IsCutInParts points most before after = (group : List Part) × IsCutInto points group × All (IsShort most) group × (after ≡ before ++ group)
+
+-- Any points of the one part and any of the other are clear of each other, if one of the parts has several edges.
+abbrev pub AreClearParts : Part → Part → Type 0
 AreClearParts one other =
-    (1 < length one) ⊎ (1 < length other)
+    IsLong (way one) ⊎ IsLong (way other)
     → (some others : List Point) → All (Contains (way one)) some → All (Contains (way other)) others → AreClear some others
 
 -- Two parts are both busy or clear of each other.
-abbrev pub AreSettled : List (List Edge) → List Bool → Type 0
+abbrev pub AreSettled : List Part → List Bool → Type 0
 AreSettled parts busy =
-    (i j : ℕ) → i < j → j < length parts → ((get_or busy i false ≡ true) × (get_or busy j false ≡ true)) ⊎ AreClearParts (get_or parts i []) (get_or parts j [])
+    (i j : ℕ) (d : Part) → i < j → j < length parts → ((get_or busy i false ≡ true) × (get_or busy j false ≡ true)) ⊎ AreClearParts (get_or parts i d) (get_or parts j d)
 
 -- The parts are cut anew: those that are busy into parts of few edges, and the others are kept.
-pub record AreRefined (most : ℕ) (parts : List (List Edge)) (groups : List (List (List Edge))) (busy : List Bool) : Type 0 where
-  pub cut : AllZip IsCutInto parts groups
-  pub kept : (k : ℕ) (d : List Edge) (e : List (List Edge)) → k < length parts → get_or busy k false ≡ false → get_or groups k e ≡ get_or parts k d ∷ []
-  pub few : (k : ℕ) (e : List (List Edge)) → k < length parts → get_or busy k false ≡ true → All (λ part. length part ≤ most) (get_or groups k e)
+pub record AreRefined (most : ℕ) (parts : List Part) (groups : List (List Part)) (busy : List Bool) : Type 0 where
+  pub cut : AllZip (λ part group. IsCutInto (way part) group) parts groups
+  pub kept : (k : ℕ) (d : Part) (e : List Part) → k < length parts → get_or busy k false ≡ false → get_or groups k e ≡ get_or parts k d ∷ []
+  pub few : (k : ℕ) (e : List Part) → k < length parts → get_or busy k false ≡ true → All (IsShort most) (get_or groups k e)
 
 -- They are cut so, and two parts are both busy or clear of each other.
-pub record AreRelieved (most : ℕ) (parts : List (List Edge)) (groups : List (List (List Edge))) : Type 0 where
+pub record AreRelieved (most : ℕ) (parts : List Part) (groups : List (List Part)) : Type 0 where
   pub busy : List Bool
   pub refined : AreRefined most parts groups busy
   pub clear : AreSettled parts busy
@@ -77,12 +77,6 @@ pub record Marks (place : ℕ) (before after : List Bool) : Type 0 where
   pub keeps : (k : ℕ) → get_or before k false ≡ true → get_or after k false ≡ true
 
 -- Both parts of the pair are marked, or some line keeps their points apart.
-abbrev pub IsSettled : List (List Edge) → List Bool → ℕ × ℕ → Type 0
+abbrev pub IsSettled : List Part → List Bool → ℕ × ℕ → Type 0
 IsSettled parts busy pair =
-    ((get_or busy pair.0 false ≡ true) × (get_or busy pair.1 false ≡ true)) ⊎ AreApart (way (get_or parts pair.0 [])) (way (get_or parts pair.1 []))
-
--- The edges are those of parts along which stretches of both go, and each stops at its end; so many of them are the subject's.
-abbrev pub AreCut : List Edge → List Edge → List Edge → List ℕ → ℕ → Type 0
-AreCut subject clip edges ends count =
-    (parts : List (List Edge)) × (clip_parts : List (List Edge)) × AreStretches subject clip (map way parts) (map way clip_parts)
-    × AreParts edges ends (parts ++ clip_parts) × (count ≡ length parts)
+    (d : Part) → ((get_or busy pair.0 false ≡ true) × (get_or busy pair.1 false ≡ true)) ⊎ AreApart (way (get_or parts pair.0 d)) (way (get_or parts pair.1 d))

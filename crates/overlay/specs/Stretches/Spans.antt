@@ -1,13 +1,16 @@
--- Where parts of edges lie, and when two of them come to each other. For private contracts.
-use Rattle.std.specs.Prelude.{◌≡◌, ◌⊎◌, ◌<◌, ◌+◌, ℤ, pos, ◌+ℤ◌, ◌-ℤ◌, ◌<ℤ◌, ◌≤ℤ◌, cond, IsTrue, List, All, Contains, length, unsigned_abs}
+-- Where parts of rings lie, and when two of them come to each other. For private contracts.
+use Rattle.std.specs.Prelude.{◌≡◌, ◌⊎◌, ◌++◌, ◌<◌, ◌+◌, ℤ, pos, ◌+ℤ◌, ◌-ℤ◌, ◌<ℤ◌, ◌≤ℤ◌, cond, IsTrue, List, All, Contains, length, unsigned_abs}
 use Rattle.std.specs.Int.Signed.{lt_z}
+use Rattle.std.specs.List.{AllZip}
 use Rattle.plane.specs.declared.edge.Edge.{Edge}
 use Rattle.plane.specs.declared.pairs.items.Bounds.{Bounds}
 use Rattle.plane.specs.declared.point.Point.{Point}
 use Rattle.plane.specs.Meet.Boxes.{bounds_of}
 use Rattle.plane.specs.Meet.Crosses.{cross}
 use Rattle.plane.specs.Pairs.Bounds.{BoundsMeet}
+use Rattle.overlay.specs.Stretches.{IsLong}
 use Rattle.overlay.specs.Stretches.Cut.{way}
+use Rattle.overlay.specs.declared.stretches.parts.Part.{Part}
 use Rattle.overlay.specs.declared.stretches.spans.Heights.{Heights}
 use Rattle.overlay.specs.declared.stretches.spans.Span.{Span}
 
@@ -30,22 +33,15 @@ pub record ShareSome (from upto other_from other_upto : ℤ) : Type 0 where
   pub first : from ≤ℤ other_upto
   pub second : other_from ≤ℤ upto
 
--- The edge's ends are more than a unit apart along x.
-abbrev pub IsFar : Edge → Type 0
-IsFar edge = ((edge.x0 +ℤ pos 1) <ℤ edge.x1) ⊎ ((edge.x1 +ℤ pos 1) <ℤ edge.x0)
+-- The points are more than a unit apart along x.
+abbrev pub AreFar : Point → Point → Type 0
+AreFar one other = ((one.x +ℤ pos 1) <ℤ other.x) ⊎ ((other.x +ℤ pos 1) <ℤ one.x)
 
 -- The one part ends far from its other points where the other part begins far from its own.
 pub record LeadsTo (one other : Span) : Type 0 where
   pub closes : IsTrue one.closes
   pub opens : IsTrue other.opens
   pub at : one.right ≡ other.left
-
--- How far the point lies to the left of the line, times its length; and a unit on both axes, times that.
-abbrev pub height_over : Edge → Point → ℤ
-height_over line point = cross (line.x1 -ℤ line.x0) (line.y1 -ℤ line.y0) (point.x -ℤ line.x0) (point.y -ℤ line.y0)
-
-abbrev pub margin_of : Edge → ℤ
-margin_of line = pos (unsigned_abs (line.x1 -ℤ line.x0) + unsigned_abs (line.y1 -ℤ line.y0))
 
 -- One of them has several edges.
 abbrev pub AreSeveral : Span → Span → Type 0
@@ -74,11 +70,15 @@ pub record HasHeights (heights : Heights) (point : Point) : Type 0 where
   pub high : point.y ≤ℤ heights.high
 
 -- Where the points of a part lie: in the box, and where that opens or closes none but the one end within a unit of its side.
-pub record IsSpan (part : List Edge) (span : Span) : Type 0 where
+pub record IsSpan (part : Part) (span : Span) : Type 0 where
   pub left : Contains (way part) span.left
   pub right : Contains (way part) span.right
   pub within : All (IsWithin span) (way part)
   pub leftmost : IsTrue span.opens → All (λ point. (point ≡ span.left) ⊎ ((span.left.x +ℤ pos 1) <ℤ point.x)) (way part)
   pub rightmost : IsTrue span.closes → All (λ point. (point ≡ span.right) ⊎ ((point.x +ℤ pos 1) <ℤ span.right.x)) (way part)
-  pub several : 1 < length part → IsTrue span.several
+  pub several : IsLong (way part) → IsTrue span.several
   pub fits : (span.left.x ≤ℤ pos 2147483647) × (span.low ≤ℤ pos 2147483647)
+
+-- Behind the spans before stand those of these parts.
+abbrev pub AppendsSpans : List Part → List Span → List Span → Type 0
+AppendsSpans parts before after = (spans : List Span) × AllZip IsSpan parts spans × (after ≡ before ++ spans)

@@ -11,9 +11,9 @@ ghost use Rattle.overlay.specs.Stretches.Cut.{AreCut};
 use super::contours::contours_in_place;
 use super::fill::fill;
 use super::fill::rules::{FillRule, Operation};
+use super::stretches::Stretches;
 use super::stretches::chords::chords_of;
 use super::stretches::widening::append_widened;
-use super::stretches::{Stretches, stretches_of};
 use broken::broken_of;
 use i_tree::Refusal;
 use i_tree::status::exp::StatusCollection;
@@ -30,9 +30,6 @@ pub mod broken;
 /// The first `count` of the edges are the subject's, and the others the clip's. Both are closed, as those of rings are; they may
 /// cross, touch, lie along one another, and stand there more than once. They are broken where they meet and rounded (`snap`),
 /// which of the pieces bound the result is told by their winding numbers (`fill`), and these become rings (`contours`).
-///
-/// Where many edges follow each other along x and no other comes near, one edge stands for all of these, from the first point
-/// to the last. In the rings these points are put in again.
 ///
 /// The rings have the result on their left. None visits a point twice, and no two of their edges cross, or share more than an
 /// end. Around each point that isn't within half a unit, on both axes, of an edge given, they wind once where it is of the
@@ -62,9 +59,37 @@ where
     ensures empty { C.stored status.new ≡ [] }
 {
     status.clear();
+    let alloc = *points.allocator();
+    let bounding = bounding_edges(alloc, edges, count, rule, operation, status)?;
+    contours_in_place(bounding, points, ring_ends)?;
+    Ok(())
+}
+
+/// As `boundary`, of edges that are cut into stretches, by the chords of these: one edge stands for all of a stretch, from its first
+/// point to its last. In the rings the points of the stretches stand in place of them.
+pub fn boundary_along<C, A>(
+    stretches: &Stretches<A>,
+    rule: FillRule,
+    operation: Operation,
+    status: &mut C,
+    points: &mut Vec<Point, A>,
+    ring_ends: &mut Vec<usize, A>,
+) -> Result<(), Refusal>
+where
+    C: StatusCollection<ActiveEdge, i64, ()>,
+    A: Allocator + Copy,
+    requires cut { (subject clip : List Edge) × IsClosed subject × IsClosed clip
+        × AreCut subject clip stretches.now.parts.items stretches.now.count }
+    ensures ok { (subject clip : List Edge) → AreCut subject clip stretches.now.parts.items stretches.now.count
+        → OnOk result (AppendsBoundary rule operation subject clip
+        points.old.items points.new.items ring_ends.old.items ring_ends.new.items) }
+    ensures err { OnErr result ((points.new.items ≡ points.old.items) × (ring_ends.new.items ≡ ring_ends.old.items)) }
+    ensures empty { C.stored status.new ≡ [] }
+{
+    status.clear();
     let points_before = points.len();
     let ends_before = ring_ends.len();
-    let outcome = append_boundary(edges, count, rule, operation, status, points, ring_ends);
+    let outcome = append_along(stretches, rule, operation, status, points, ring_ends);
     if outcome.is_err() {
         points.truncate(points_before);
         ring_ends.truncate(ends_before);
@@ -72,71 +97,8 @@ where
     outcome
 }
 
-// As `boundary`, over an empty status. Where it is refused, it may have appended something.
-fn append_boundary<C, A>(
-    edges: &[Edge],
-    count: usize,
-    rule: FillRule,
-    operation: Operation,
-    status: &mut C,
-    points: &mut Vec<Point, A>,
-    ring_ends: &mut Vec<usize, A>,
-) -> Result<(), Refusal>
-where
-    C: StatusCollection<ActiveEdge, i64, ()>,
-    A: Allocator + Copy,
-    requires empty { C.stored status.old ≡ [] }
-    requires count { count ≤ length edges.now }
-    requires closed { IsClosed (take count edges.now) }
-    requires clip_closed { IsClosed (drop count edges.now) }
-    ensures ok { OnOk result (AppendsBoundary rule operation (take count edges.now) (drop count edges.now)
-        points.old.items points.new.items ring_ends.old.items ring_ends.new.items) }
-    ensures err { OnErr result (Extends points.old.items points.new.items
-        × Extends ring_ends.old.items ring_ends.new.items) }
-    ensures empty { C.stored status.new ≡ [] }
-{
-    let alloc = *points.allocator();
-    match stretches_of(alloc, edges, count)? {
-        Some(stretches) => {
-            append_by_chords(
-                edges, &stretches, rule, operation, status, points, ring_ends,
-            )
-        }
-        None => append_by_edges(edges, count, rule, operation, status, points, ring_ends),
-    }
-}
-
-// The same without stretches.
-fn append_by_edges<C, A>(
-    edges: &[Edge],
-    count: usize,
-    rule: FillRule,
-    operation: Operation,
-    status: &mut C,
-    points: &mut Vec<Point, A>,
-    ring_ends: &mut Vec<usize, A>,
-) -> Result<(), Refusal>
-where
-    C: StatusCollection<ActiveEdge, i64, ()>,
-    A: Allocator + Copy,
-    requires empty { C.stored status.old ≡ [] }
-    requires count { count ≤ length edges.now }
-    requires closed { IsClosed (take count edges.now) }
-    requires clip_closed { IsClosed (drop count edges.now) }
-    ensures ok { OnOk result (AppendsBoundary rule operation (take count edges.now) (drop count edges.now)
-        points.old.items points.new.items ring_ends.old.items ring_ends.new.items) }
-    ensures err { OnErr result ((points.new.items ≡ points.old.items) × (ring_ends.new.items ≡ ring_ends.old.items)) }
-    ensures empty { C.stored status.new ≡ [] }
-{
-    let alloc = *points.allocator();
-    let bounding = bounding_edges(alloc, edges, count, rule, operation, status)?;
-    contours_in_place(bounding, points, ring_ends)?;
-    Ok(())
-}
-
-// The same by the chords of stretches: where they are edges of its rings, the points of the stretches stand in place of them.
-fn append_by_chords<C, A>(
-    edges: &[Edge],
+// As `boundary_along`, over an empty status. Where it is refused, it may have appended something.
+fn append_along<C, A>(
     stretches: &Stretches<A>,
     rule: FillRule,
     operation: Operation,
@@ -149,9 +111,8 @@ where
     A: Allocator + Copy,
     requires empty { C.stored status.old ≡ [] }
     requires cut { (subject clip : List Edge) × IsClosed subject × IsClosed clip
-        × AreCut subject clip edges.now stretches.now.ends.items stretches.now.count }
-    ensures ok { (subject clip : List Edge)
-        → AreCut subject clip edges.now stretches.now.ends.items stretches.now.count
+        × AreCut subject clip stretches.now.parts.items stretches.now.count }
+    ensures ok { (subject clip : List Edge) → AreCut subject clip stretches.now.parts.items stretches.now.count
         → OnOk result (AppendsBoundary rule operation subject clip
         points.old.items points.new.items ring_ends.old.items ring_ends.new.items) }
     ensures err { OnErr result (Extends points.old.items points.new.items
@@ -159,13 +120,13 @@ where
     ensures empty { C.stored status.new ≡ [] }
 {
     let alloc = *points.allocator();
-    let stretch_ends = &stretches.ends;
-    let chords = chords_of(alloc, edges, stretch_ends)?;
+    let parts = &stretches.parts;
+    let chords = chords_of(alloc, parts)?;
     let bounding = bounding_edges(alloc, &chords, stretches.count, rule, operation, status)?;
     let mut rings = Vec::with_capacity(alloc, bounding.len())?;
     let mut ends = Vec::new(alloc);
     contours_in_place(bounding, &mut rings, &mut ends)?;
-    append_widened(edges, stretch_ends, &rings, &ends, points, ring_ends)?;
+    append_widened(parts, &rings, &ends, points, ring_ends)?;
     Ok(())
 }
 

@@ -1,37 +1,38 @@
 //! Which parts others come to.
 
-ghost use Rattle.std.specs.Prelude.{◌≡◌, ◌<◌, ℕ, true, false, List, All, IfErr, IfOk, get_or, length};
+ghost use Rattle.std.specs.Prelude.{◌≡◌, ◌<◌, ℕ, true, false, All, IfErr, IfOk, get_or, length};
+ghost use Rattle.std.specs.List.{AllZip};
 ghost use Rattle.i_tree.specs.declared.Refusal.TheVariants.{OutOfMemory};
-ghost use Rattle.plane.specs.declared.edge.Edge.{Edge};
-ghost use Rattle.overlay.specs.Stretches.Cut.{AreParts, AreSettled, IsSettled, Marks};
+ghost use Rattle.overlay.specs.Stretches.Cut.{AreSettled, IsSettled, Marks};
+ghost use Rattle.overlay.specs.Stretches.Spans.{IsSpan};
 
 use super::lines::are_apart;
-use super::spans::{part_of, spans_of};
+use super::parts::Part;
+use super::spans::Span;
 use i_tree::Refusal;
-use plane::edge::Edge;
 use plane::pairs::pairs_upto;
 use std::alloc::{AllocError, Allocator};
 
-/// Marks of the parts: of two parts both are marked, or they are clear of each other. Where more pairs of parts come near
-/// each other than there are edges, all are marked.
+/// Marks of the parts that lie there: of two parts both are marked, or they are clear of each other. Where more pairs of parts come near
+/// each other than so many, all are marked.
 pub fn busy_of<A: Allocator + Copy>(
     alloc: A,
-    edges: &[Edge],
-    ends: &[usize],
+    parts: &[Part],
+    spans: &[Span],
+    limit: usize,
 ) -> Result<Vec<bool, A>, Refusal>
-    requires { (parts : List (List Edge)) × AreParts edges.now ends.now parts }
-    ensures ok { IfOk result (λ busy. (length busy.items ≡ length ends.now)
-        × ((parts : List (List Edge)) → AreParts edges.now ends.now parts → AreSettled parts busy.items)) }
+    requires { AllZip IsSpan parts.now spans.now }
+    ensures size { IfOk result (λ busy. length busy.items ≡ length parts.entry.now) }
+    ensures settled { IfOk result (λ busy. AreSettled parts.entry.now busy.items) }
     ensures refused { IfErr result (λ cause. cause ≡ OutOfMemory) }
 {
-    let spans = spans_of(alloc, edges, ends)?;
     let mut pairs = Vec::new(alloc);
-    let are_all = pairs_upto(&spans, edges.len(), &mut pairs)?;
+    let are_all = pairs_upto(spans, limit, &mut pairs)?;
     if !are_all {
-        return Ok(all_busy(alloc, ends.len())?);
+        return Ok(all_busy(alloc, parts.len())?);
     }
-    let mut busy = vec![in alloc; false; ends.len()]?;
-    mark(edges, ends, &pairs, &mut busy);
+    let mut busy = vec![in alloc; false; parts.len()]?;
+    mark(parts, &pairs, &mut busy);
     Ok(busy)
 }
 
@@ -43,27 +44,25 @@ fn all_busy<A: Allocator + Copy>(alloc: A, count: usize) -> Result<Vec<bool, A>,
 }
 
 // Marks both places of each pair of parts that no line keeps apart.
-fn mark(edges: &[Edge], ends: &[usize], pairs: &[(usize, usize)], busy: &mut [bool])
-    requires parts { (parts : List (List Edge)) × AreParts edges.now ends.now parts }
-    requires within { All (λ pair. (pair.0 < length ends.now) × (pair.1 < length ends.now)) pairs.now }
-    requires size { length busy.old ≡ length ends.now }
-    ensures { (parts : List (List Edge)) → AreParts edges.now ends.now parts → All (IsSettled parts busy.new) pairs.now }
+fn mark(parts: &[Part], pairs: &[(usize, usize)], busy: &mut [bool])
+    requires within { All (λ pair. (pair.0 < length parts.now) × (pair.1 < length parts.now)) pairs.now }
+    requires size { length busy.old ≡ length parts.now }
+    ensures { All (IsSettled parts.entry.now busy.new) pairs.now }
 {
     for pair in pairs {
-        settle(edges, ends, pair.0, pair.1, busy);
+        settle(parts, pair.0, pair.1, busy);
     }
 }
 
 // Marks both parts where no line keeps them apart.
-fn settle(edges: &[Edge], ends: &[usize], first: usize, second: usize, busy: &mut [bool])
-    requires parts { (parts : List (List Edge)) × AreParts edges.now ends.now parts }
-    requires first { first < length ends.now }
-    requires second { second < length ends.now }
-    requires size { length busy.old ≡ length ends.now }
-    ensures settled { (parts : List (List Edge)) → AreParts edges.now ends.now parts → IsSettled parts busy.new (first, second) }
+fn settle(parts: &[Part], first: usize, second: usize, busy: &mut [bool])
+    requires first { first < length parts.now }
+    requires second { second < length parts.now }
+    requires size { length busy.old ≡ length parts.now }
+    ensures settled { IsSettled parts.entry.now busy.new (first, second) }
     ensures keeps { (k : ℕ) → get_or busy.old k false ≡ true → get_or busy.new k false ≡ true }
 {
-    if are_apart(part_of(edges, ends, first), part_of(edges, ends, second)) {
+    if are_apart(parts[first], parts[second]) {
         return;
     }
     mark_at(first, busy);

@@ -1,84 +1,119 @@
 //! Parts cut anew, where others come to them.
 
-ghost use Rattle.std.specs.Prelude.{◌≡◌, ◌<◌, ◌≤◌, ◌++◌, ◌∷◌, [], true, false, List, All, IfErr, IfOk, OnOk, length};
-ghost use Rattle.std.specs.List.{between, flat_map};
+ghost use Rattle.std.specs.Prelude.{◌≡◌, ◌<◌, ◌≤◌, ◌++◌, ◌∷◌, [], true, false, List, All, IfErr, IfOk, OnOk, length, take};
+ghost use Rattle.std.specs.List.{AllZip, flat_map};
 ghost use Rattle.i_tree.specs.declared.Refusal.TheVariants.{OutOfMemory};
-ghost use Rattle.plane.specs.declared.edge.Edge.{Edge};
-ghost use Rattle.overlay.specs.Snap.Offsets.{offsets};
-ghost use Rattle.overlay.specs.Stretches.Cut.{AreParts, AreRefined, AreRelieved, IsCutInto, IsPart};
+ghost use Rattle.overlay.specs.declared.stretches.parts.Part.{Part};
+ghost use Rattle.overlay.specs.Stretches.Cut.{AreRefined, AreRelieved, IsCutInto, IsPart, IsShort, way};
+ghost use Rattle.overlay.specs.Stretches.Spans.{IsSpan};
 
-use super::cutting::push_parts;
+use super::cutting::cut_part;
 use super::marking::busy_of;
+use super::parts::{Part, count_edges};
+use super::spans::{Span, append_spans};
 use i_tree::Refusal;
-use plane::edge::Edge;
 use std::alloc::{AllocError, Allocator};
 
-/// Where the parts stop when those to which others come are cut into parts of so many edges at most.
-pub fn relieved<A: Allocator + Copy>(
+/// Parts, where each lies, and how many of them are the subject's, which stand first.
+#[derive(Drop)]
+pub struct Refined<'a, A: Allocator> {
+    pub parts: Vec<Part<'a>, A>,
+    pub spans: Vec<Span, A>,
+    pub count: usize,
+}
+
+/// The parts that lie there, where those to which others come are cut into parts of so many edges at most. The first `count` are
+/// the subject's. What isn't cut lies where it lay.
+pub fn relieved<'a, A: Allocator + Copy>(
     alloc: A,
-    edges: &[Edge],
-    ends: &[usize],
+    parts: &[Part<'a>],
+    spans: &[Span],
+    count: usize,
     most: usize,
-) -> Result<Vec<usize, A>, Refusal>
-    requires parts { (parts : List (List Edge)) × AreParts edges.now ends.now parts }
+    limit: usize,
+) -> Result<Refined<'a, A>, Refusal>
+    requires parts { All IsPart parts.now }
+    requires spans { AllZip IsSpan parts.now spans.now }
+    requires count { count ≤ length parts.now }
     requires most { 0 < most }
-    ensures ok { IfOk result (λ refined. (parts : List (List Edge)) → AreParts edges.now ends.now parts →
-        (groups : List (List (List Edge))) × AreRelieved most parts groups
-        × (refined.items ≡ offsets 0 (flat_map (λ group. group) groups))) }
+    ensures ok { IfOk result (λ refined. (groups : List (List Part)) × AreRelieved most parts.entry.now groups
+        × (refined.parts.items ≡ flat_map (λ group. group) groups)
+        × (refined.count ≡ length (flat_map (λ group. group) (take count groups)))) }
+    ensures spans { IfOk result (λ refined. AllZip IsSpan refined.parts.items refined.spans.items) }
     ensures refused { IfErr result (λ cause. cause ≡ OutOfMemory) }
 {
-    let busy = busy_of(alloc, edges, ends)?;
-    let mut refined = Vec::with_capacity(alloc, ends.len())?;
-    refine(edges, ends, &busy, most, &mut refined)?;
+    let busy = busy_of(alloc, parts, spans, limit)?;
+    let mut refined = Refined {
+        parts: Vec::with_capacity(alloc, parts.len())?,
+        spans: Vec::with_capacity(alloc, parts.len())?,
+        count: 0,
+    };
+    refine(
+        &parts[..count],
+        &spans[..count],
+        &busy[..count],
+        most,
+        &mut refined,
+    )?;
+    let refined_count = refined.parts.len();
+    refine(
+        &parts[count..],
+        &spans[count..],
+        &busy[count..],
+        most,
+        &mut refined,
+    )?;
+    refined.count = refined_count;
     Ok(refined)
 }
 
-// Appends where the parts stop when those that are busy are cut into parts of so many edges at most.
-fn refine<A: Allocator>(
-    edges: &[Edge],
-    ends: &[usize],
+// Appends the parts that lie there, where those that are busy are cut into parts of so many edges at most.
+fn refine<'a, A: Allocator>(
+    parts: &[Part<'a>],
+    spans: &[Span],
     busy: &[bool],
     most: usize,
-    refined: &mut Vec<usize, A>,
+    refined: &mut Refined<'a, A>,
 ) -> Result<(), AllocError>
-    requires parts { (parts : List (List Edge)) × AreParts edges.now ends.now parts }
-    requires marks { length busy.now ≡ length ends.now }
+    requires parts { All IsPart parts.now }
+    requires spans { AllZip IsSpan parts.now spans.now }
+    requires marks { length busy.now ≡ length parts.now }
     requires most { 0 < most }
-    requires empty { refined.old.items ≡ [] }
-    ensures { OnOk result ((parts : List (List Edge)) → AreParts edges.now ends.now parts →
-        (groups : List (List (List Edge))) × AreRefined most parts groups busy.now
-        × (refined.new.items ≡ offsets 0 (flat_map (λ group. group) groups))) }
+    requires so_far { AllZip IsSpan refined.old.parts.items refined.old.spans.items }
+    ensures ok { OnOk result ((groups : List (List Part)) × AreRefined most parts.entry.now groups busy.now
+        × (refined.new.parts.items ≡ refined.old.parts.items ++ flat_map (λ group. group) groups)) }
+    ensures spans { OnOk result (AllZip IsSpan refined.new.parts.items refined.new.spans.items) }
 {
-    let mut start = 0;
-    for (place, end) in ends.iter().enumerate() {
-        refine_part(edges, start, *end, busy[place], most, refined)?;
-        start = *end;
+    for (place, part) in parts.iter().enumerate() {
+        refine_part(*part, spans[place], busy[place], most, refined)?;
     }
     Ok(())
 }
 
-// Appends where the part from the one place to the other stops, or if it is busy where the parts of it do.
-fn refine_part<A: Allocator>(
-    edges: &[Edge],
-    start: usize,
-    end: usize,
+// Appends the part that lies there, or if it is busy its parts.
+fn refine_part<'a, A: Allocator>(
+    part: Part<'a>,
+    span: Span,
     busy: bool,
     most: usize,
-    refined: &mut Vec<usize, A>,
+    refined: &mut Refined<'a, A>,
 ) -> Result<(), AllocError>
-    requires order { start ≤ end }
-    requires within { end ≤ length edges.now }
-    requires part { IsPart (between start end edges.now) }
+    requires part { IsPart part }
+    requires span { IsSpan part span }
     requires most { 0 < most }
-    ensures { OnOk result ((group : List (List Edge)) × IsCutInto (between start end edges.now) group
-        × (busy ≡ false → group ≡ between start end edges.now ∷ [])
-        × (busy ≡ true → All (λ part. length part ≤ most) group)
-        × (refined.new.items ≡ refined.old.items ++ offsets start group)) }
+    requires so_far { AllZip IsSpan refined.old.parts.items refined.old.spans.items }
+    ensures ok { OnOk result ((group : List Part) × IsCutInto (way part.entry) group
+        × (busy ≡ false → group ≡ part.entry ∷ [])
+        × (busy ≡ true → All (IsShort most) group)
+        × (refined.new.parts.items ≡ refined.old.parts.items ++ group)) }
+    ensures spans { OnOk result (AllZip IsSpan refined.new.parts.items refined.new.spans.items) }
 {
     if busy {
-        push_parts(edges, start, end, most, most, refined)?;
-    } else {
-        refined.push(end)?;
+        let start = refined.parts.len();
+        cut_part(part, 0, count_edges(part), most, &mut refined.parts)?;
+        return append_spans(&refined.parts[start..], &mut refined.spans);
     }
+    refined.parts.push(part)?;
+    refined.spans.push(span)?;
     Ok(())
 }

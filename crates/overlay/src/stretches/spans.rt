@@ -1,21 +1,20 @@
-//! Where parts of edges lie, and whether two of them come to each other.
+//! Where parts of rings lie, and whether two of them come to each other.
 
-ghost use Rattle.std.specs.Prelude.{◌≡◌, ◌⊎◌, ◌<◌, ◌≤◌, [], pos, ◌+ℤ◌, ◌<ℤ◌, List, All, IfOk, MatchBool, get_or, length, take};
+ghost use Rattle.std.specs.Prelude.{◌≡◌, ◌⊎◌, pos, ◌+ℤ◌, ◌<ℤ◌, All, IfOk, OnOk, MatchBool, length};
 ghost use Rattle.std.specs.Bool.{OnTrue};
-ghost use Rattle.std.specs.List.{AllZip, between, flat_map};
-ghost use Rattle.plane.specs.declared.edge.Edge.{Edge};
+ghost use Rattle.std.specs.List.{AllZip};
 ghost use Rattle.plane.specs.Pairs.Bounds.{BoundsMeet};
-ghost use Rattle.overlay.specs.Snap.Offsets.{offsets};
-ghost use Rattle.overlay.specs.Stretches.Cut.{AreParts, IsPart, way};
-ghost use Rattle.overlay.specs.Stretches.Spans.{AreSeveral, ComeNear, HasHeights, IsFar, IsSpan, LeadsTo, ShareSome, SpansMeet, beside, bounds_of_span, box_of, widened};
+ghost use Rattle.overlay.specs.Contours.Outlines.{ring_point};
+ghost use Rattle.overlay.specs.Stretches.Cut.{IsPart, way};
+ghost use Rattle.overlay.specs.Stretches.Spans.{AppendsSpans, AreFar, AreSeveral, ComeNear, HasHeights, IsSpan, LeadsTo, ShareSome, SpansMeet, beside, bounds_of_span, box_of, widened};
 
-use crate::edges::{end_of, reverse, start_of};
+use super::parts::Part;
 use plane::edge::Edge;
 use plane::pairs::items::{Bounds, Boxed, Meets};
 use plane::point::Point;
 use std::alloc::{AllocError, Allocator};
 
-/// Where a part of edges lies: its leftmost and its rightmost point, and its least and its greatest y. Whether its other
+/// Where a part of a ring lies: its leftmost and its rightmost point, and its least and its greatest y. Whether its other
 /// points are more than a unit from the leftmost one along x, and from the rightmost one; and whether it has several edges.
 #[derive(Clone, Copy)]
 pub struct Span {
@@ -141,116 +140,110 @@ fn leads_to(one: Span, other: Span) -> bool
     one.closes && other.opens && one.right == other.left
 }
 
-/// Where each part of the edges lies.
-pub fn spans_of<A: Allocator>(
-    alloc: A,
-    edges: &[Edge],
-    ends: &[usize],
-) -> Result<Vec<Span, A>, AllocError>
-    requires { (parts : List (List Edge)) × AreParts edges.now ends.now parts }
-    ensures { IfOk result (λ spans. (parts : List (List Edge)) → AreParts edges.now ends.now parts →
-        AllZip IsSpan parts spans.items) }
+/// Where each part lies.
+pub fn spans_of<A: Allocator>(alloc: A, parts: &[Part]) -> Result<Vec<Span, A>, AllocError>
+    requires { All IsPart parts.now }
+    ensures { IfOk result (λ spans. AllZip IsSpan parts.entry.now spans.items) }
 {
-    let mut spans = Vec::with_capacity(alloc, ends.len())?;
-    let mut start = 0;
-    for end in ends {
-        spans.push(span_of(part_at(edges, start, *end)))?;
-        start = *end;
-    }
+    let mut spans = Vec::with_capacity(alloc, parts.len())?;
+    append_spans(parts, &mut spans)?;
     Ok(spans)
 }
 
-/// The part at this place.
-pub fn part_of<'a>(edges: &'a [Edge], ends: &[usize], place: usize) -> &'a [Edge]
-    requires parts { (parts : List (List Edge)) × AreParts edges.now ends.now parts }
-    requires within { place < length ends.now }
-    ensures { (parts : List (List Edge)) → AreParts edges.now ends.now parts → result.now ≡ get_or parts place [] }
+/// Appends where each of the parts lies.
+pub fn append_spans<A: Allocator>(
+    parts: &[Part],
+    spans: &mut Vec<Span, A>,
+) -> Result<(), AllocError>
+    requires { All IsPart parts.now }
+    ensures { OnOk result (AppendsSpans parts.entry.now spans.old.items spans.new.items) }
 {
-    part_at(edges, begin_of(ends, place), ends[place])
-}
-
-// Where the list at this place begins among all items, by where the lists stop.
-fn begin_of(ends: &[usize], place: usize) -> usize
-    requires { place < length ends.now }
-    ensures { (parts : List (List Edge)) → ends.now ≡ offsets 0 parts → result ≡ length (flat_map (λ part. part) (take place parts)) }
-{
-    if place == 0 {
-        return 0;
+    for part in parts {
+        spans.push(span_of(*part))?;
     }
-    ends[place - 1]
-}
-
-/// The edges from the one place on, and before the other.
-pub fn part_at(edges: &[Edge], start: usize, end: usize) -> &[Edge]
-    requires { (start ≤ end) × (end ≤ length edges.now) }
-    ensures { result.now ≡ between start end edges.now }
-{
-    &edges[start..end]
+    Ok(())
 }
 
 // Where the part lies.
-fn span_of(part: &[Edge]) -> Span
-    requires { IsPart part.now }
-    ensures { IsSpan part.now result }
+fn span_of(part: Part) -> Span
+    requires { IsPart part }
+    ensures { IsSpan part.entry result }
 {
-    let first = start_of(part[0]);
-    let last = end_of(part[part.len() - 1]);
     let heights = heights_of(part);
     let low = heights.low;
     let high = heights.high;
-    let several = part.len() > 1;
-    let far_first = is_far(part[0]);
-    let far_last = is_far(part[part.len() - 1]);
-    if first.x <= last.x {
+    let several = !part.inner.is_empty();
+    let opens = are_far(part.from, second_of(part));
+    let closes = are_far(before_last(part), part.to);
+    if part.from.x <= part.to.x {
         Span {
-            left: first,
-            right: last,
+            left: part.from,
+            right: part.to,
             low,
             high,
-            opens: far_first,
-            closes: far_last,
+            opens,
+            closes,
             several,
         }
     } else {
         Span {
-            left: last,
-            right: first,
+            left: part.to,
+            right: part.from,
             low,
             high,
-            opens: far_last,
-            closes: far_first,
+            opens: closes,
+            closes: opens,
             several,
         }
     }
 }
 
-// Whether the edge's ends are more than a unit apart along x.
-fn is_far(edge: Edge) -> bool
-    ensures { OnTrue result (IsFar edge) }
+// The part's second point.
+fn second_of(part: Part) -> Point
+    ensures { result ≡ ring_point (way part.entry) 1 }
 {
-    if goes_far(edge) {
-        return true;
+    if part.inner.is_empty() {
+        return part.to;
     }
-    goes_far(reverse(edge))
+    part.inner[0]
 }
 
-// Whether the edge goes rightwards by more than a unit.
-fn goes_far(edge: Edge) -> bool
-    ensures { OnTrue result ((edge.x0 +ℤ pos 1) <ℤ edge.x1) }
+// The part's last point but one.
+fn before_last(part: Part) -> Point
+    ensures { result ≡ ring_point (way part.entry) (length part.entry.inner.now) }
 {
-    (edge.x0 as i64) + 1 < edge.x1 as i64
+    if part.inner.is_empty() {
+        return part.from;
+    }
+    part.inner[part.inner.len() - 1]
+}
+
+// Whether the points are more than a unit apart along x.
+fn are_far(one: Point, other: Point) -> bool
+    ensures { OnTrue result (AreFar one other) }
+{
+    if lies_far(one, other) {
+        return true;
+    }
+    lies_far(other, one)
+}
+
+// Whether the other point lies to the right of the one by more than a unit.
+fn lies_far(one: Point, other: Point) -> bool
+    ensures { OnTrue result ((one.x +ℤ pos 1) <ℤ other.x) }
+{
+    (one.x as i64) + 1 < other.x as i64
 }
 
 // The least and the greatest y of the part's points.
-fn heights_of(part: &[Edge]) -> Heights
-    requires { 0 < length part.now }
-    ensures { All (HasHeights result) (way part.now) }
+fn heights_of(part: Part) -> Heights
+    ensures { All (HasHeights result) (way part.entry) }
 {
-    let mut low = part[0].y0;
-    let mut high = low;
-    for edge in part {
-        low = low.min(edge.y1);
-        high = high.max(edge.y1);
+    let mut low = part.from.y.min(part.to.y);
+    let mut high = part.from.y.max(part.to.y);
+    for point in part.inner {
+        low = low.min(point.y);
+        high = high.max(point.y);
     }
     Heights { low, high }
 }

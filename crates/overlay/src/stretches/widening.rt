@@ -1,20 +1,18 @@
 //! Rings with the points of stretches in place of their chords.
 
-ghost use Rattle.std.specs.Prelude.{◌≡◌, ◌≢◌, ◌++◌, ◌∷◌, [], ◌<◌, ◌≤◌, ◌-◌, List, Contains, IfOk, MatchOption, OnErr, OnOk, length, map, reverse};
+ghost use Rattle.std.specs.Prelude.{◌≡◌, ◌≢◌, ◌++◌, ◌∷◌, [], ◌<◌, ◌≤◌, List, All, Contains, IfOk, MatchOption, OnErr, OnOk, get_or, length, map, reverse};
 ghost use Rattle.std.specs.List.{AllZip, between, flat_map};
-ghost use Rattle.plane.specs.declared.edge.Edge.{Edge};
 ghost use Rattle.plane.specs.declared.point.Point.{Point};
-ghost use Rattle.overlay.specs.Contours.Outlines.{ring_point};
 ghost use Rattle.overlay.specs.Snap.Offsets.{AreJoined, Extends, offsets};
 ghost use Rattle.overlay.specs.Snap.Windings.{edge_between};
-ghost use Rattle.overlay.specs.Stretches.{GoesAlong, IsWidened, but_last};
-ghost use Rattle.overlay.specs.Stretches.Cut.{AreParts, IsPart, way};
+ghost use Rattle.overlay.specs.Stretches.{GoesAlong, IsLong, IsWidened, but_last};
+ghost use Rattle.overlay.specs.Stretches.Cut.{IsPart, way};
 ghost use Rattle.overlay.specs.Stretches.Widening.{AreInOrder, HasLong, IsTable, chord_of, entry_of};
 
-use super::chords::chord_at;
-use super::spans::part_at;
+use super::chords::chord_of_part;
+use super::parts::Part;
 use crate::contours::next_in;
-use crate::edges::{edge_between, end_of, start_of};
+use crate::edges::edge_between;
 use plane::edge::Edge;
 use plane::point::Point;
 use plane::sweep_line::heights::turn_rightwards;
@@ -29,40 +27,37 @@ pub struct Chord {
     pub y1: i32,
 }
 
-/// A stretch of several edges: its chord, and where its edges stand among those of all stretches.
+/// A stretch of several edges: its chord, and its place among all stretches.
 #[derive(Clone, Copy, Debug)]
 pub struct LongStretch {
     pub chord: Chord,
-    pub start: usize,
-    pub end: usize,
+    pub place: usize,
 }
 
-/// Appends each ring with the points of stretches in place of their chords, and where it stops. The edges of the stretches, and
-/// the points of the rings, stand one after another, and each stops at its end. A stretch of a single edge is its chord.
+/// Appends each ring with the points of stretches in place of their chords, and where it stops. The points of the rings stand one
+/// after another, and each ring stops at its end. A stretch of a single edge is its chord.
 ///
 /// Memory that is refused is the only error, and then something may have been appended.
 pub fn append_widened<A: Allocator + Copy>(
-    edges: &[Edge],
-    stretch_ends: &[usize],
+    parts: &[Part],
     ring_points: &[Point],
     ring_ends: &[usize],
     points: &mut Vec<Point, A>,
     ends: &mut Vec<usize, A>,
 ) -> Result<(), AllocError>
-    requires parts { (parts : List (List Edge)) × AreParts edges.now stretch_ends.now parts }
+    requires parts { All IsPart parts.now }
     requires rings { (rings : List (List Point)) × AreJoined rings ring_points.now ring_ends.now }
-    ensures ok { (parts : List (List Edge)) → AreParts edges.now stretch_ends.now parts
-        → (rings : List (List Point)) → AreJoined rings ring_points.now ring_ends.now → OnOk result (
-        (widened : List (List Point)) × AllZip (IsWidened (map way parts)) rings widened
+    ensures ok { (rings : List (List Point)) → AreJoined rings ring_points.now ring_ends.now → OnOk result (
+        (widened : List (List Point)) × AllZip (IsWidened (map way parts.entry.now)) rings widened
         × (points.new.items ≡ points.old.items ++ flat_map (λ ring. ring) widened)
         × (ends.new.items ≡ ends.old.items ++ offsets (length points.old.items) widened)) }
     ensures err { OnErr result (Extends points.old.items points.new.items × Extends ends.old.items ends.new.items) }
 {
-    let table = table_of(*points.allocator(), edges, stretch_ends)?;
+    let table = table_of(*points.allocator(), parts)?;
     let mut start = 0;
     for end in ring_ends {
         let ring = points_between(ring_points, start, *end);
-        append_ring(edges, &table, ring, points)?;
+        append_ring(parts, &table, ring, points)?;
         ends.push(points.len())?;
         start = *end;
     }
@@ -71,40 +66,37 @@ pub fn append_widened<A: Allocator + Copy>(
 
 // Appends the ring with the points of stretches in place of their chords.
 fn append_ring<A: Allocator>(
-    edges: &[Edge],
+    parts: &[Part],
     table: &[LongStretch],
     ring: &[Point],
     points: &mut Vec<Point, A>,
 ) -> Result<(), AllocError>
-    requires { (parts : List (List Edge)) × IsTable parts edges.now table.now }
-    ensures ok { (parts : List (List Edge)) → IsTable parts edges.now table.now → OnOk result ((widened : List Point)
-        × IsWidened (map way parts) ring.now widened × (points.new.items ≡ points.old.items ++ widened)) }
+    requires { IsTable parts.now table.now }
+    ensures ok { OnOk result ((widened : List Point) × IsWidened (map way parts.entry.now) ring.now widened
+        × (points.new.items ≡ points.old.items ++ widened)) }
     ensures err { OnErr result (Extends points.old.items points.new.items) }
 {
     for (place, at) in ring.iter().enumerate() {
-        append_way(edges, table, *at, next_in(ring, place), points)?;
+        append_way(parts, table, *at, next_in(ring, place), points)?;
     }
     Ok(())
 }
 
 // Appends the points along which the edge from the one point to the other goes, but the last.
 fn append_way<A: Allocator>(
-    edges: &[Edge],
+    parts: &[Part],
     table: &[LongStretch],
     from: Point,
     to: Point,
     points: &mut Vec<Point, A>,
 ) -> Result<(), AllocError>
-    requires { (parts : List (List Edge)) × IsTable parts edges.now table.now }
-    ensures ok { (parts : List (List Edge)) → IsTable parts edges.now table.now → OnOk result ((along : List Point)
-        × GoesAlong (map way parts) (edge_between from to) along × (points.new.items ≡ points.old.items ++ but_last along)) }
+    requires { IsTable parts.now table.now }
+    ensures ok { OnOk result ((along : List Point) × GoesAlong (map way parts.entry.now) (edge_between from to) along
+        × (points.new.items ≡ points.old.items ++ but_last along)) }
     ensures err { OnErr result (Extends points.old.items points.new.items) }
 {
     match stretch_between(table, from, to) {
-        Some(stretch) => {
-            let part = part_at(edges, stretch.start, stretch.end);
-            append_stretch(part, from, points)
-        }
+        Some(stretch) => append_stretch(parts[stretch.place], from, points),
         None => {
             points.push(from)?;
             Ok(())
@@ -160,97 +152,74 @@ fn chord_of(edge: Edge) -> Chord
 
 // Appends the points along which the part goes but the last, or back along it where it doesn't begin at this x.
 fn append_stretch<A: Allocator>(
-    part: &[Edge],
+    part: Part,
     from: Point,
     points: &mut Vec<Point, A>,
 ) -> Result<(), AllocError>
-    requires { IsPart part.now }
-    ensures along { (ring_point (way part.now) 0).x ≡ from.x → OnOk result (
-        points.new.items ≡ points.old.items ++ but_last (way part.now)) }
-    ensures back { (ring_point (way part.now) 0).x ≢ from.x → OnOk result (
-        points.new.items ≡ points.old.items ++ but_last (reverse (way part.now))) }
+    ensures along { part.entry.from.x ≡ from.x → OnOk result (
+        points.new.items ≡ points.old.items ++ but_last (way part.entry)) }
+    ensures back { part.entry.from.x ≢ from.x → OnOk result (
+        points.new.items ≡ points.old.items ++ but_last (reverse (way part.entry))) }
     ensures err { OnErr result (Extends points.old.items points.new.items) }
 {
-    if part[0].x0 == from.x {
-        return append_starts(part, points);
+    if part.from.x == from.x {
+        points.push(part.from)?;
+        points.extend_from_slice(part.inner)?;
+        return Ok(());
     }
-    append_back(part, points)
+    points.push(part.to)?;
+    append_back(part.inner, points)
 }
 
-// Appends the points at which the edges start.
-fn append_starts<A: Allocator>(part: &[Edge], points: &mut Vec<Point, A>) -> Result<(), AllocError>
-    requires { IsPart part.now }
-    ensures ok { OnOk result (points.new.items ≡ points.old.items ++ but_last (way part.now)) }
+// Appends the points from the last one back to the first.
+fn append_back<A: Allocator>(inner: &[Point], points: &mut Vec<Point, A>) -> Result<(), AllocError>
+    ensures ok { OnOk result (points.new.items ≡ points.old.items ++ reverse inner.now) }
     ensures err { OnErr result (Extends points.old.items points.new.items) }
 {
-    for edge in part {
-        points.push(start_of(*edge))?;
-    }
-    Ok(())
-}
-
-// Appends the points at which the edges end, from the last edge back to the first.
-fn append_back<A: Allocator>(part: &[Edge], points: &mut Vec<Point, A>) -> Result<(), AllocError>
-    requires { IsPart part.now }
-    ensures ok { OnOk result (points.new.items ≡ points.old.items ++ but_last (reverse (way part.now))) }
-    ensures err { OnErr result (Extends points.old.items points.new.items) }
-{
-    for place in (0..part.len()).rev() {
-        points.push(end_of(part[place]))?;
+    for point in inner.iter().rev() {
+        points.push(*point)?;
     }
     Ok(())
 }
 
 // The stretches of several edges, in the order of their chords.
-fn table_of<A: Allocator>(
-    alloc: A,
-    edges: &[Edge],
-    ends: &[usize],
-) -> Result<Vec<LongStretch, A>, AllocError>
-    requires { (parts : List (List Edge)) × AreParts edges.now ends.now parts }
-    ensures { IfOk result (λ table. (parts : List (List Edge)) → AreParts edges.now ends.now parts →
-        IsTable parts edges.now table.items) }
+fn table_of<A: Allocator>(alloc: A, parts: &[Part]) -> Result<Vec<LongStretch, A>, AllocError>
+    requires { All IsPart parts.now }
+    ensures { IfOk result (λ table. IsTable parts.entry.now table.items) }
 {
     let mut table = Vec::new(alloc);
-    push_long(edges, ends, &mut table)?;
+    push_long(parts, &mut table)?;
     table.sort_unstable_by_key(|stretch| stretch.chord);
     Ok(table)
 }
 
 // Appends the stretches of several edges.
 fn push_long<A: Allocator>(
-    edges: &[Edge],
-    ends: &[usize],
+    parts: &[Part],
     table: &mut Vec<LongStretch, A>,
 ) -> Result<(), AllocError>
-    requires parts { (parts : List (List Edge)) × AreParts edges.now ends.now parts }
     requires none { table.old.items ≡ [] }
-    ensures { OnOk result ((parts : List (List Edge)) → AreParts edges.now ends.now parts →
-        HasLong parts (length parts) table.new.items) }
+    ensures { OnOk result (HasLong parts.entry.now (length parts.entry.now) table.new.items) }
 {
-    let mut start = 0;
-    for end in ends {
-        push_if_long(edges, start, *end, table)?;
-        start = *end;
+    for (place, part) in parts.iter().enumerate() {
+        push_if_long(*part, place, table)?;
     }
     Ok(())
 }
 
-// Appends the stretch that stands there, if it has several edges.
+// Appends the stretch at this place, if it has several edges.
 fn push_if_long<A: Allocator>(
-    edges: &[Edge],
-    start: usize,
-    end: usize,
+    part: Part,
+    place: usize,
     table: &mut Vec<LongStretch, A>,
 ) -> Result<(), AllocError>
-    requires { (start ≤ end) × (end ≤ length edges.now) }
-    ensures long { 1 < end - start → OnOk result (
-        table.new.items ≡ table.old.items ++ entry_of start end (between start end edges.now) ∷ []) }
-    ensures short { end - start ≤ 1 → OnOk result (table.new.items ≡ table.old.items) }
+    ensures long { IsLong (way part.entry) → OnOk result (
+        table.new.items ≡ table.old.items ++ entry_of place part.entry ∷ []) }
+    ensures short { ¬ (IsLong (way part.entry)) → OnOk result (table.new.items ≡ table.old.items) }
 {
-    if end - start > 1 {
-        let chord = chord_of(chord_at(edges, start, end));
-        table.push(LongStretch { chord, start, end })?;
+    if !part.inner.is_empty() {
+        let chord = chord_of(chord_of_part(part));
+        table.push(LongStretch { chord, place })?;
     }
     Ok(())
 }

@@ -3,7 +3,7 @@ use Rattle.std.proofs.lemmas.Bool.{eqb-false}
 use Rattle.plane.specs.declared.edge.Edge.{Edge}
 use Rattle.plane.specs.declared.point.Point.{Point}
 use Rattle.overlay.specs.Snap.Windings.{edge_between, pieces}
-use Rattle.polygons.proofs.RingLemmas.{closing, few_pieces}
+use Rattle.overlay.proofs.ContourLemmas.RealEdges.{closing, few_pieces}
 use Rattle.polygons.proofs.rings.append_edges.Goals as goal
 
 pub returns : goal.returns

@@ -5,8 +5,8 @@ use Rattle.std.proofs.lemmas.Result.{on_ok_weaker}
 use Rattle.plane.specs.declared.edge.Edge.{Edge}
 use Rattle.plane.specs.declared.point.Point.{Point}
 use Rattle.overlay.specs.Snap.Windings.{edge_between, pieces}
+use Rattle.overlay.proofs.ContourLemmas.RealEdges.{closing, few_pieces}
 use Rattle.polygons.specs.Rings.{has_two_ends, real_edges}
-use Rattle.polygons.proofs.RingLemmas.{closing, few_pieces}
 use Rattle.polygons.proofs.rings.append_real_ones.Goals as goal
 
 pub returns : goal.returns

@@ -6,6 +6,6 @@ use Rattle.overlay.proofs.stretches.lines.are_apart.Goals as goal
 
 pub returns : goal.returns
 returns c =
-    let one = way c.args.one.now in
-    let other = way c.args.other.now in
+    let one = way c.args.one in
+    let other = way c.args.other in
     OnTrue-weaker c.lies_beside-2.result (AreApart other one) (AreApart one other) (AreApart-exchanged other one) c.lies_beside-2.ensures

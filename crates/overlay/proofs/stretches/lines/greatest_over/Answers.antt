@@ -1,47 +1,39 @@
-use Rattle.std.proofs.Common.{◌≡◌, inl, inr, ◌^◌, ◌≤ℤ◌, ℕ, ℤ, pos, to_z, of_z, get_or, ap, sym, subst, ◌∙◌, rules, arith}
+use Rattle.std.proofs.Common.{◌≡◌, ◌^◌, ◌≤ℤ◌, ℤ, List, get_or, pos, take, to_z, of_z, sym, subst, rules, arith}
 use Rattle.std.specs.Int.{w128}
-use Rattle.std.proofs.lemmas.Bool.{cases_lt}
+use Rattle.std.specs.List.{All}
 use Rattle.std.proofs.lemmas.Int.{ints}
-use Rattle.std.proofs.lemmas.List.{get_or_default}
-use Rattle.plane.specs.declared.edge.Edge.{Edge}
-use Rattle.plane.specs.declared.point.Point.{Point}
+use Rattle.std.proofs.lemmas.List.{take_all}
+use Rattle.std.proofs.lemmas.List.Elements.{All-more, All-weaker}
 use Rattle.plane.specs.Meet.Crosses.{IsWithin}
-use Rattle.overlay.specs.Snap.Windings.{end_of, start_of}
-use Rattle.overlay.specs.Stretches.Spans.{height_over}
+use Rattle.plane.specs.declared.point.Point.{Point}
+use Rattle.overlay.specs.Snap.Windings.{height_over}
 use Rattle.overlay.proofs.StretchLemmas.CutRows.{All-way}
 use Rattle.overlay.proofs.stretches.lines.greatest_over.Goals as goal
 
-upto-more : (a b c : ℤ) → b ≤ℤ c → a ≤ℤ b → a ≤ℤ c
-upto-more a b c more upto = omega (arith, ints, more, upto)
-
-pub loop-edge-preserved : goal.loop-edge-preserved
-loop-edge-preserved c =
-    let (small, first, upto) = c.loop-edge.invariant in
-    let none : Edge = record { x0 = pos 0; y0 = pos 0; x1 = pos 0; y1 = pos 0 } in
-    let part = c.args.part.now in
+pub loop-point-preserved : goal.loop-point-preserved
+loop-point-preserved c =
+    let (small, first, second, upto) = c.loop-point.invariant in
+    let none : Point = record { x = pos 0; y = pos 0 } in
+    let part = c.args.part in
     let line = c.args.line in
-    let i = c.loop-edge.edge-index in
-    let inside = c.loop-edge-test.true in
-    let was : ℤ = to_z w128 c.loop-edge.most-bits in
-    let now : ℤ = to_z w128 (of_z w128 c.higher-most.result) in
-    let is : c.higher-most.result ≡ now = sym (let same : now ≡ c.higher-most.result = search rules in same) in
-    let more : was ≤ℤ now = subst (λ (z : ℤ). was ≤ℤ z) is c.higher-most.ensures.most in
-    let here : height_over line c.end_of.result ≤ℤ now = subst (λ (z : ℤ). height_over line c.end_of.result ≤ℤ z) is c.higher-most.ensures.point in (
-      subst (λ (z : ℤ). IsWithin (2 ^ 65) z) is c.higher-most.ensures.within,
-      (λ d. upto-more (height_over line (start_of (get_or part 0 d))) was now more (first d)),
-      (λ k d within. elim (cases_lt k i) [
-        | inl before ↦ upto-more (height_over line (end_of (get_or part k d))) was now more (upto k d before)
-        | inr most ↦
-            let same : i ≡ k = omega (arith, most, within) in
-            subst (λ (point : Point). height_over line point ≤ℤ now)
-            (c.end_of.ensures ∙ ap (λ (n : ℕ). end_of (get_or part n none)) same ∙ ap end_of (get_or_default part k none d (omega (arith, same, inside)))) here
-      ]),
+    let i = c.loop-point.point-index in
+    let was : ℤ = to_z w128 c.loop-point.most-bits in
+    let now : ℤ = to_z w128 (of_z w128 c.higher-most-in-loop-point.result) in
+    let is : c.higher-most-in-loop-point.result ≡ now = sym (let same : now ≡ c.higher-most-in-loop-point.result = search rules in same) in
+    let rising : was ≤ℤ now = subst (λ (z : ℤ). was ≤ℤ z) is c.higher-most-in-loop-point.ensures.most in
+    let more : (point : Point) → height_over line point ≤ℤ was → height_over line point ≤ℤ now = λ point below. omega (arith, ints, rising, below) in (
+      subst (λ (z : ℤ). IsWithin (2 ^ 65) z) is c.higher-most-in-loop-point.ensures.within,
+      more part.from first,
+      more part.to second,
+      All-more (λ point. height_over line point ≤ℤ now) part.inner.now i none c.loop-point-test.true
+          (All-weaker (λ point. height_over line point ≤ℤ was) (λ point. height_over line point ≤ℤ now) more (take i part.inner.now) upto)
+          (subst (λ (z : ℤ). height_over line (get_or part.inner.now i none) ≤ℤ z) is c.higher-most-in-loop-point.ensures.point),
     )
 
 pub returns-clause-most : goal.returns-clause-most
 returns-clause-most c =
-    let (small, first, upto) = c.loop-edge.invariant in
-    let none : Edge = record { x0 = pos 0; y0 = pos 0; x1 = pos 0; y1 = pos 0 } in
-    let past = c.loop-edge-test.false in
-    let most : ℤ = to_z w128 c.loop-edge.most-bits in
-    All-way (λ point. height_over c.args.line point ≤ℤ most) c.args.part.now none c.requires (first none) (λ k within. upto k none (omega (arith, past, within)))
+    let (small, first, second, upto) = c.loop-point.invariant in
+    let past = c.loop-point-test.false in
+    let lower : Point → Type 0 = λ point. height_over c.args.line point ≤ℤ to_z w128 c.loop-point.most-bits in
+    All-way lower c.args.part first second
+    (subst (λ (points : List Point). All lower points) (take_all c.loop-point.point-index c.args.part.inner.now (omega (arith, past))) upto)

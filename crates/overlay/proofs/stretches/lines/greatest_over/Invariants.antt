@@ -1,13 +1,13 @@
-use Rattle.std.proofs.Common.{ℕ, ◌<◌, ◌^◌, ◌≤ℤ◌, get_or}
-use Rattle.plane.specs.declared.edge.Edge.{Edge}
+use Rattle.std.proofs.Common.{◌^◌, ◌≤ℤ◌, take}
+use Rattle.std.specs.List.{All}
 use Rattle.plane.specs.Meet.Crosses.{IsWithin}
-use Rattle.overlay.specs.Snap.Windings.{end_of, start_of}
-use Rattle.overlay.specs.Stretches.Spans.{height_over}
+use Rattle.overlay.specs.Snap.Windings.{height_over}
 use Rattle.overlay.proofs.stretches.lines.greatest_over.Given as goal
 
 -- no point so far lies further
-abbrev pub invariant-loop-edge : goal.invariant-loop-edge
-invariant-loop-edge l =
+abbrev pub invariant-loop-point : goal.invariant-loop-point
+invariant-loop-point l =
     IsWithin (2 ^ 65) l.most
-    × ((d : Edge) → height_over l.line (start_of (get_or l.part 0 d)) ≤ℤ l.most)
-    × ((k : ℕ) (d : Edge) → k < l.edge-index → height_over l.line (end_of (get_or l.part k d)) ≤ℤ l.most)
+    × (height_over l.line l.part.from ≤ℤ l.most)
+    × (height_over l.line l.part.to ≤ℤ l.most)
+    × All (λ point. height_over l.line point ≤ℤ l.most) (take l.point-index l.part.inner.now)

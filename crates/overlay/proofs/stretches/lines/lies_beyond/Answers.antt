@@ -4,7 +4,7 @@ use Rattle.std.specs.Int.{w128}
 use Rattle.std.specs.List.{All}
 use Rattle.overlay.specs.Stretches.{AreApart}
 use Rattle.overlay.specs.Stretches.Cut.{way}
-use Rattle.overlay.specs.Stretches.Spans.{height_over, margin_of}
+use Rattle.overlay.specs.Snap.Windings.{height_over, margin_of}
 use Rattle.overlay.proofs.StretchLemmas.CutTests.{OnTrue-weaker}
 use Rattle.overlay.proofs.StretchLemmas.CutLines.{AreApart-line}
 use Rattle.overlay.proofs.stretches.lines.lies_beyond.Goals as goal
@@ -13,8 +13,8 @@ pub returns : goal.returns
 returns c =
     let line = c.args.line in
     let top = c.greatest_over-top.result in
-    let one = way c.args.one.now in
-    let other = way c.args.other.now in
+    let one = way c.args.one in
+    let other = way c.args.other in
     let is : to_z w128 (of_z w128 top) ≡ top = search rules in
     OnTrue-weaker c.all_above.result (All (λ point. (top +ℤ margin_of line) <ℤ height_over line point) other) (AreApart one other)
     (AreApart-line line top one other c.greatest_over-top.ensures.most)

@@ -1,18 +1,15 @@
-use Rattle.std.proofs.Common.{◌≡◌, inl, inr, ℕ, get_or, ap, ◌∙◌, subst, arith}
-use Rattle.std.proofs.lemmas.Bool.{cases_lt}
-use Rattle.std.proofs.lemmas.List.{get_or_default}
+use Rattle.std.proofs.Common.{take}
+use Rattle.std.proofs.lemmas.List.Elements.{All-more, All-weaker}
 use Rattle.overlay.specs.Stretches.Cut.{IsSettled}
 use Rattle.overlay.proofs.StretchLemmas.CutCallers.{IsSettled-kept}
 use Rattle.overlay.proofs.stretches.marking.mark.Goals as goal
 
 pub loop-pair-preserved : goal.loop-pair-preserved
-loop-pair-preserved c = λ parts are k d within.
+loop-pair-preserved c =
+    let parts = c.args.parts.now in
     let pairs = c.args.pairs.now in
     let i = c.loop-pair.pair-index in
-    let inside = c.loop-pair-test.true in
-    elim (cases_lt k i) [
-      | inl before ↦ IsSettled-kept parts c.loop-pair.busy c.settle.new.busy (get_or pairs k d) c.settle.ensures.keeps (c.loop-pair.invariant parts are k d before)
-      | inr upto ↦
-          let same : i ≡ k = omega (arith, upto, within) in
-          subst (IsSettled parts c.settle.new.busy) (ap (λ (n : ℕ). get_or pairs n (0, 0)) same ∙ get_or_default pairs k (0, 0) d (omega (arith, same, inside))) (c.settle.ensures.settled parts are)
-    ]
+    All-more (IsSettled parts c.settle.new.busy) pairs i (0, 0) c.loop-pair-test.true
+    (All-weaker (IsSettled parts c.loop-pair.busy) (IsSettled parts c.settle.new.busy) (λ pair is. IsSettled-kept parts c.loop-pair.busy c.settle.new.busy pair c.settle.ensures.keeps is)
+    (take i pairs) c.loop-pair.invariant)
+    c.settle.ensures.settled

@@ -1,19 +1,32 @@
-use Rattle.std.proofs.Common.{arith}
-use Rattle.overlay.proofs.ChainLemmas.Runs.{length-between}
-use Rattle.overlay.proofs.StretchLemmas.CutParts.{cut-anew, cut-kept}
+use Rattle.std.proofs.Common.{◌≡◌, List, length, subst, sym, ◌∙◌, rules}
+use Rattle.std.specs.List.{All, AllZip}
+use Rattle.std.proofs.lemmas.Result.{on_ok_weaker}
+use Rattle.overlay.specs.Stretches.Cut.{IsPart}
+use Rattle.overlay.specs.Stretches.Spans.{IsSpan}
+use Rattle.overlay.specs.declared.stretches.parts.Part.{Part}
+use Rattle.overlay.proofs.StretchLemmas.CutRefined.{cut-kept}
+use Rattle.overlay.proofs.StretchLemmas.CutSpans.{parts-behind, span-behind, spans-behind}
 use Rattle.overlay.proofs.stretches.refining.refine_part.Goals as goal
 
-pub push_parts-requires-clause-order : goal.push_parts-requires-clause-order
-push_parts-requires-clause-order g c =
-    let order = c.requires.order in
-    let some = c.requires.part.some in
-    let size = length-between c.args.start c.args.end c.args.edges.now c.requires.order c.requires.within in
-    omega (arith, order, some, size)
+pub append_spans-requires : goal.append_spans-requires
+append_spans-requires g c =
+    let (group, cut, few, is) = c.in_ok-cut_part.ensures in
+    let begins : c.len-start.result ≡ length c.args.refined.now.parts.items = search rules in
+    subst (All IsPart) (sym (parts-behind c.args.refined.now.parts.items c.deref.result.now group c.len-start.result begins (c.deref.ensures.value ∙ is))) cut.each
 
-pub returns-in_ok-push : goal.returns-in_ok-push
-returns-in_ok-push g c =
-    cut-kept c.args.edges.now c.args.start c.args.end c.args.most c.args.busy c.args.refined.now.items c.push.new.self.items c.requires.order c.requires.within c.requires.part c.if-busy.false c.in_ok-push.ensures.items
+pub returns-then-busy-clause-spans : goal.returns-then-busy-clause-spans
+returns-then-busy-clause-spans g c =
+    let (group, cut, few, is) = c.in_ok-cut_part.ensures in
+    let begins : c.len-start.result ≡ length c.args.refined.now.parts.items = search rules in
+    on_ok_weaker c.append_spans.result (λ appended.
+    subst (λ (parts : List Part). AllZip IsSpan parts c.append_spans.new.spans.items) c.deref.ensures.value
+    (spans-behind c.args.refined.now.parts.items c.deref.result.now group c.len-start.result c.args.refined.now.spans.items c.append_spans.new.spans.items begins (c.deref.ensures.value ∙ is)
+    c.requires.so_far appended)) c.append_spans.ensures
 
-pub returns-in_ok-push_parts : goal.returns-in_ok-push_parts
-returns-in_ok-push_parts g c =
-    cut-anew c.args.edges.now c.args.start c.args.end c.args.most c.args.busy c.args.refined.now.items c.push_parts.new.ends.items c.if-busy.true c.in_ok-push_parts.ensures
+pub returns-clause-ok : goal.returns-clause-ok
+returns-clause-ok g c = cut-kept c.args.part c.args.most c.args.busy c.args.refined.now.parts.items c.push.new.self.items c.requires.part c.if-busy.false c.in_ok-push.ensures.items
+
+pub returns-clause-spans : goal.returns-clause-spans
+returns-clause-spans g c =
+    span-behind c.args.refined.now.parts.items c.push.new.self.items c.args.part c.args.refined.now.spans.items c.push-2.new.self.items c.args.span
+    c.in_ok-push.ensures.items c.in_ok-push-2.ensures.items c.requires.so_far c.requires.span

@@ -1,9 +1,11 @@
-use Rattle.std.proofs.Common.{ℕ, ◌<◌, ◌≤ℤ◌, get_or}
-use Rattle.plane.specs.declared.edge.Edge.{Edge}
+use Rattle.std.proofs.Common.{take}
+use Rattle.std.specs.List.{All}
+use Rattle.overlay.specs.Stretches.Spans.{HasHeights}
+use Rattle.overlay.specs.declared.stretches.spans.Heights.{Heights}
 use Rattle.overlay.proofs.stretches.spans.heights_of.Given as goal
 
 -- the y so far lie between these
-abbrev pub invariant-loop-edge : goal.invariant-loop-edge
-invariant-loop-edge l =
-    ((d : Edge) → (l.low ≤ℤ (get_or l.part 0 d).y0) × ((get_or l.part 0 d).y0 ≤ℤ l.high))
-    × ((k : ℕ) (d : Edge) → k < l.edge-index → (l.low ≤ℤ (get_or l.part k d).y1) × ((get_or l.part k d).y1 ≤ℤ l.high))
+abbrev pub invariant-loop-point : goal.invariant-loop-point
+invariant-loop-point l =
+    let heights : Heights = record { low = l.low; high = l.high } in
+    HasHeights heights l.part.from × HasHeights heights l.part.to × All (HasHeights heights) (take l.point-index l.part.inner.now)

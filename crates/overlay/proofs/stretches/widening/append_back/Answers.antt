@@ -1,26 +1,28 @@
-use Rattle.std.proofs.Common.{◌≡◌, ◌++◌, ◌∷◌, [], ℕ, List, refl, drop, map, reverse, sym, ap, ◌∙◌, arith}
-use Rattle.plane.specs.declared.edge.Edge.{Edge}
+use Rattle.std.proofs.Common.{◌≡◌, ◌++◌, ◌∷◌, [], Bor, List, map, sym, ap, ◌∙◌, append_assoc, append-nil}
+use Rattle.std.proofs.lemmas.List.{map-append}
+use Rattle.std.proofs.lemmas.Iterator.Adapters.{YieldsList-from_rev_slice}
+use Rattle.std.proofs.lemmas.Iterator.Consumers.{YieldsList-end}
 use Rattle.plane.specs.declared.point.Point.{Point}
 use Rattle.plane.proofs.PairsLemmas.Extends.{OnErr-always}
-use Rattle.overlay.specs.Snap.Windings.{end_of}
-use Rattle.overlay.proofs.StretchLemmas.CutWays.{but_last-ends}
 use Rattle.overlay.proofs.stretches.widening.append_back.Goals as goal
 
-pub returns-in_err-push-clause-err : goal.returns-in_err-push-clause-err
-returns-in_err-push-clause-err g c = OnErr-always c.from_residual.result _ (_, c.in_err-push.ensures.items ∙ c.loop-place.invariant)
+pub loop-point-init : goal.loop-point-init
+loop-point-init g c = sym (append-nil c.args.points.now.items)
 
--- from the first edge on there are all
-drop-none : (edges : List Edge) (place : ℕ) → place ≡ 0 → drop place edges ≡ edges
-drop-none edges place none = ap (λ (n : ℕ). drop n edges) none ∙ from_first edges
-  where
-    from_first : (edges : List Edge) → drop 0 edges ≡ edges
-    from_first [] = refl
-    from_first (edge ∷ more) = refl
+pub loop-point-preserved : goal.loop-point-preserved
+loop-point-preserved g c =
+    c.in_ok-push.ensures.items
+    ∙ ap (λ (list : List Point). list ++ c.in-Some.point.now ∷ []) c.loop-point.invariant
+    ∙ append_assoc c.args.points.now.items (map (λ (point : Bor Point). point.now) c.loop-point.yielded) (c.in-Some.point.now ∷ [])
+    ∙ ap (λ (list : List Point). c.args.points.now.items ++ list) (sym (map-append (λ (point : Bor Point). point.now) c.loop-point.yielded (c.in-Some.point ∷ [])))
+
+pub returns-in_err-push-clause-err : goal.returns-in_err-push-clause-err
+returns-in_err-push-clause-err g c = OnErr-always c.from_residual.result _ (_, c.in_err-push.ensures.items ∙ c.loop-point.invariant)
 
 pub returns-clause-ok : goal.returns-clause-ok
 returns-clause-ok g c =
-    let part = c.args.part.now in
-    let past = c.loop-place-test.false in
-    c.loop-place.invariant
-    ∙ ap (λ (list : List Point). c.args.points.now.items ++ list)
-    (ap (λ (edges : List Edge). reverse (map end_of edges)) (drop-none part c.loop-place.place (omega (arith, past))) ∙ sym (but_last-ends part))
+    let source = c.into_iter-point-iterator.ensures.into_iter_gives in
+    let of = c.rev-point-items.ensures.source in
+    let rest : c.into_iter-point-iterator.result.iter.rest.now ≡ c.args.inner.now = ap (λ items. items.iter.rest.now) source ∙ ap (λ items. items.rest.now) of ∙ c.iter.ensures.rest in
+    let all = YieldsList-end (YieldsList-from_rev_slice c.args.inner.now rest) c.loop-point.yielded _ c.loop-point.yielded_by _ _ c.in-None.is c.next.ensures.steps in
+    c.loop-point.invariant ∙ ap (λ (list : List Point). c.args.points.now.items ++ list) all.0

@@ -1,7 +1,7 @@
-use Rattle.std.proofs.Common.{◌≡◌, ◌++◌, drop, map, reverse}
-use Rattle.overlay.specs.Snap.Windings.{end_of}
+use Rattle.std.proofs.Common.{◌≡◌, ◌++◌, Bor, map}
+use Rattle.plane.specs.declared.point.Point.{Point}
 use Rattle.overlay.proofs.stretches.widening.append_back.Given as goal
 
--- the ends of the edges from this place on are appended, from the last one back
-abbrev pub invariant-loop-place : goal.invariant-loop-place
-invariant-loop-place g l = l.points.items ≡ l.fn.points.items ++ reverse (map end_of (drop l.place l.part))
+-- the points so far are appended
+abbrev pub invariant-loop-point : goal.invariant-loop-point
+invariant-loop-point g l = l.points.items ≡ l.fn.points.items ++ map (λ (point : Bor Point). point.now) l.yielded

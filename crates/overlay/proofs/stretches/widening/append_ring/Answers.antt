@@ -15,17 +15,17 @@ use Rattle.overlay.proofs.StretchLemmas.RingEdges.{length-ring_edges, ring-edge}
 use Rattle.overlay.proofs.stretches.widening.append_ring.Goals as goal
 
 pub loop-place-init : goal.loop-place-init
-loop-place-init g c =
-    let old = c.args.points.now.items in
-    (λ parts are. ([], tt, sym (append-nil old)), ([], sym (append-nil old)))
+loop-place-init g c = ([], tt, sym (append-nil c.args.points.now.items))
 
 pub returns-in_err-append_way-clause-err : goal.returns-in_err-append_way-clause-err
 returns-in_err-append_way-clause-err g c =
-    OnErr-always c.from_residual.result _ (Extends-trans c.args.points.now.items c.loop-place.points.items c.append_way.new.points.items c.loop-place.invariant.1 c.in_err-append_way.ensures.err)
+    let (ways, goes, is) = c.loop-place.invariant in
+    OnErr-always c.from_residual.result _ (Extends-trans c.args.points.now.items c.loop-place.points.items c.append_way.new.points.items (_, is) c.in_err-append_way.ensures.err)
 
 pub loop-place-preserved : goal.loop-place-preserved
 loop-place-preserved g c =
-    let (told, extends) = c.loop-place.invariant in
+    let (ways, goes, is) = c.loop-place.invariant in
+    let (on, along, now) = c.in_ok-append_way.ensures.ok in
     let ring = c.args.ring.now in
     let k = c.loop-place.place in
     let old = c.args.points.now.items in
@@ -36,23 +36,17 @@ loop-place-preserved g c =
     let size = length-ring_edges ring in
     let stands = ring-edge ring k none inside ∙ sym (ap (λ (to : Point). edge_between (ring_point ring k) to) c.next_in.ensures) in
     let more = take_more edges k none (omega (arith, size, inside)) ∙ ap (λ (e : Edge). take k edges ++ e ∷ []) stands in
-    let (parts, are) = c.requires in
-    let (_, _, now) = c.in_ok-append_way.ensures.ok parts are in (
-      (λ parts are.
-          (let (ways, goes, is) = told parts are in
-          let (on, along, now) = c.in_ok-append_way.ensures.ok parts are in (
-            ways ++ on ∷ [],
-            subst (λ (some : List Edge). AllZip (GoesAlong (map way parts)) some (ways ++ on ∷ [])) (sym more) (AllZip-more (GoesAlong (map way parts)) (take k edges) ways edge on goes along),
-            now ∙ ap (λ (list : List Point). list ++ but_last on) is ∙ flat_map_more but_last old ways on,
-          ))),
-      Extends-trans old c.loop-place.points.items c.append_way.new.points.items extends (_, now),
+    let goes_on = GoesAlong (map way c.args.parts.now) in (
+      ways ++ on ∷ [],
+      subst (λ (some : List Edge). AllZip goes_on some (ways ++ on ∷ [])) (sym more) (AllZip-more goes_on (take k edges) ways edge on goes along),
+      now ∙ ap (λ (list : List Point). list ++ but_last on) is ∙ flat_map_more but_last old ways on,
     )
 
 pub returns-clause-ok : goal.returns-clause-ok
-returns-clause-ok g c = λ parts are.
-    (let (ways, goes, is) = c.loop-place.invariant.0 parts are in
+returns-clause-ok g c =
+    let (ways, goes, is) = c.loop-place.invariant in
     let edges = ring_edges c.args.ring.now in
     let past = c.loop-place-test.false in
     let size = length-ring_edges c.args.ring.now in
     let all = take_all c.loop-place.place edges (omega (arith, past, size)) in
-    (_, (ways, subst (λ (some : List Edge). AllZip (GoesAlong (map way parts)) some ways) all goes, refl), is))
+    (_, (ways, subst (λ (some : List Edge). AllZip (GoesAlong (map way c.args.parts.now)) some ways) all goes, refl), is)

@@ -1,17 +1,12 @@
 use Rattle.std.proofs.Common.{◌≡◌, ◌++◌, List, map, take}
 use Rattle.std.specs.List.{AllZip, flat_map}
-use Rattle.plane.specs.declared.edge.Edge.{Edge}
 use Rattle.plane.specs.declared.point.Point.{Point}
 use Rattle.overlay.specs.Contours.Rings.{ring_edges}
-use Rattle.overlay.specs.Snap.Offsets.{Extends}
 use Rattle.overlay.specs.Stretches.{GoesAlong, but_last}
 use Rattle.overlay.specs.Stretches.Cut.{way}
-use Rattle.overlay.specs.Stretches.Widening.{IsTable}
 use Rattle.overlay.proofs.stretches.widening.append_ring.Given as goal
 
 -- the ways of the edges so far are appended
 abbrev pub invariant-loop-place : goal.invariant-loop-place
 invariant-loop-place g l =
-    ((parts : List (List Edge)) → IsTable parts l.edges l.table
-    → (ways : List (List Point)) × AllZip (GoesAlong (map way parts)) (take l.place (ring_edges l.ring)) ways × (l.points.items ≡ l.fn.points.items ++ flat_map but_last ways))
-    × Extends l.fn.points.items l.points.items
+    (ways : List (List Point)) × AllZip (GoesAlong (map way l.parts)) (take l.place (ring_edges l.ring)) ways × (l.points.items ≡ l.fn.points.items ++ flat_map but_last ways)

@@ -1,39 +1,30 @@
-use Rattle.std.proofs.Common.{◌≡◌, ◌≢◌, ◌++◌, List, map, reverse, sym, ◌∙◌, subst}
-use Rattle.std.specs.Result.{OnOk}
-use Rattle.plane.specs.declared.edge.Edge.{Edge}
-use Rattle.overlay.specs.Contours.Outlines.{ring_point}
-use Rattle.overlay.specs.Stretches.{but_last}
-use Rattle.overlay.specs.Stretches.Cut.{IsPart, way}
+use Rattle.std.proofs.Common.{rules, pos, [], ◌<◌, length, map, sym, ◌∙◌}
+use Rattle.overlay.specs.Stretches.Cut.{way}
+use Rattle.overlay.specs.declared.stretches.parts.Part.{Part}
 use Rattle.overlay.proofs.StretchLemmas.Entries.{entry-stands, straight-goes, stretch-goes}
 use Rattle.overlay.proofs.stretches.widening.append_way.Goals as goal
 
-pub part_at-part-requires : goal.part_at-part-requires
-part_at-part-requires g c =
-    let (parts, are) = c.requires in
-    let (sloped, among, same) = c.in-Some.ensures in
-    let stands = entry-stands parts c.args.edges.now c.args.table.now are c.in-Some.stretch among in
-    (stands.rising, stands.within)
+none : Part
+none = record { from = record { x = pos 0; y = pos 0 }; inner = record { ref_ptr = (0, 0); now = [] }; to = record { x = pos 0; y = pos 0 } }
 
-pub append_stretch-requires : goal.append_stretch-requires
-append_stretch-requires g c =
-    let (parts, are) = c.requires in
+pub bounds-parts-stretch : goal.bounds-parts-stretch
+bounds-parts-stretch g c =
     let (sloped, among, same) = c.in-Some.ensures in
-    let stands = entry-stands parts c.args.edges.now c.args.table.now are c.in-Some.stretch among in
-    subst IsPart (sym (c.part_at-part.ensures ∙ stands.is)) stands.is_part
+    (entry-stands c.args.parts.now c.args.table.now c.requires c.in-Some.stretch none among).inside
+
+pub offset_bounds-parts-stretch : goal.offset_bounds-parts-stretch
+offset_bounds-parts-stretch g c =
+    let (sloped, among, same) = c.in-Some.ensures in
+    let inside : c.in-Some.stretch.place < length c.args.parts.now = (entry-stands c.args.parts.now c.args.table.now c.requires c.in-Some.stretch none among).inside in
+    search rules
 
 pub returns-in-Some-clause-ok : goal.returns-in-Some-clause-ok
-returns-in-Some-clause-ok g c = λ parts are.
-    (let (sloped, among, same) = c.in-Some.ensures in
-    let stands = entry-stands parts c.args.edges.now c.args.table.now are c.in-Some.stretch among in
-    let is = c.part_at-part.ensures ∙ stands.is in
-    let old = c.args.points.now.items in
-    let new = c.append_stretch.new.points.items in
-    let result = c.append_stretch.result in
-    let from = c.args.from in
-    stretch-goes (map way parts) (way stands.part) from c.args.to result old new stands.among stands.long sloped (sym stands.chord_is ∙ same)
-    (subst (λ (part : List Edge). (ring_point (way part) 0).x ≡ from.x → OnOk result (new ≡ old ++ but_last (way part))) is c.append_stretch.ensures.along)
-    (subst (λ (part : List Edge). (ring_point (way part) 0).x ≢ from.x → OnOk result (new ≡ old ++ but_last (reverse (way part)))) is c.append_stretch.ensures.back))
+returns-in-Some-clause-ok g c =
+    let (sloped, among, same) = c.in-Some.ensures in
+    let parts = c.args.parts.now in
+    let stands = entry-stands parts c.args.table.now c.requires c.in-Some.stretch _ among in
+    stretch-goes (map way parts) _ c.args.from c.args.to c.append_stretch.result c.args.points.now.items c.append_stretch.new.points.items stands.among stands.long sloped (sym stands.chord_is ∙ same)
+    c.append_stretch.ensures.along c.append_stretch.ensures.back
 
 pub returns-in_ok-push-in-None-clause-ok : goal.returns-in_ok-push-in-None-clause-ok
-returns-in_ok-push-in-None-clause-ok g c = λ parts are.
-    (_, straight-goes parts c.args.edges.now c.args.table.now are c.args.from c.args.to c.in-None.ensures, c.in_ok-push-in-None.ensures.items)
+returns-in_ok-push-in-None-clause-ok g c = (_, straight-goes c.args.parts.now c.args.table.now c.requires c.args.from c.args.to c.in-None.ensures, c.in_ok-push-in-None.ensures.items)

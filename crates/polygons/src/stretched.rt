@@ -1,0 +1,93 @@
+//! Rings as stretches, where that pays.
+
+ghost use Rattle.std.specs.Prelude.{◌≡◌, ◌<◌, ◌≤◌, IfErr, IfOk, IfSome, IsTrue, length};
+ghost use Rattle.i_tree.specs.declared.Refusal.TheVariants.{OutOfMemory};
+ghost use Rattle.overlay.specs.Stretches.Cut.{AppendsParts, AreCut};
+ghost use Rattle.polygons.specs.Rings.{HasEnds, edges_of, real_edges};
+
+use crate::rings::Rings;
+use i_tree::Refusal;
+use overlay::stretches::cutting::append_parts;
+use overlay::stretches::parts::Part;
+use overlay::stretches::{Stretches, longest_of, stretches_of};
+use plane::point::Point;
+use std::alloc::{AllocError, Allocator};
+
+/// How many of the first points are looked at before a ring is cut, to tell whether x turns often along it.
+const FIRST: usize = 256;
+
+/// The real edges of subject and clip as stretches, or nothing where few would have several edges.
+///
+/// It is refused for want of memory alone.
+pub(crate) fn stretches_along<'a, A: Allocator + Copy>(
+    alloc: A,
+    subject: Rings<'a>,
+    clip: Rings<'a>,
+) -> Result<Option<Stretches<'a, A>>, Refusal>
+    requires ends { HasEnds subject }
+    requires clip_ends { HasEnds clip }
+    ensures ok { IfOk result (λ found. IfSome found (λ told.
+        AreCut (real_edges (edges_of subject.entry)) (real_edges (edges_of clip.entry)) told.parts.items told.count)) }
+    ensures refused { IfErr result (λ cause. cause ≡ OutOfMemory) }
+{
+    if turns_often(subject.points) || turns_often(clip.points) {
+        return Ok(None);
+    }
+    let edges = subject.points.len().saturating_add(clip.points.len());
+    let most = longest_of(edges);
+    let mut parts = Vec::new(alloc);
+    if !append_rings(subject, most, edges / 8, &mut parts)? {
+        return Ok(None);
+    }
+    let count = parts.len();
+    if !append_rings(clip, most, edges / 8, &mut parts)? {
+        return Ok(None);
+    }
+    let stretches = stretches_of(alloc, &parts, count, edges)?;
+    if stretches.parts.len() >= edges / 2 {
+        return Ok(None);
+    }
+    Ok(Some(stretches))
+}
+
+// Whether x turns at more than one in twelve of the first points.
+fn turns_often(points: &[Point]) -> bool {
+    let mut left = points.len().min(FIRST) / 12;
+    for three in points.windows(3).take(FIRST) {
+        if goes_on(three[0].x, three[1].x, three[2].x) {
+            continue;
+        }
+        if left == 0 {
+            return true;
+        }
+        left -= 1;
+    }
+    false
+}
+
+// Whether the numbers rise, or fall.
+fn goes_on(first: i32, second: i32, third: i32) -> bool {
+    (first < second && second < third) || (third < second && second < first)
+}
+
+// Appends parts of the real edges of all rings, each of so many edges at most, and tells whether these are all.
+fn append_rings<'a, A: Allocator>(
+    rings: Rings<'a>,
+    most: usize,
+    limit: usize,
+    parts: &mut Vec<Part<'a>, A>,
+) -> Result<bool, AllocError>
+    requires ends { HasEnds rings }
+    requires most { 0 < most }
+    ensures { IfOk result (λ are_all. IsTrue are_all
+        → AppendsParts (real_edges (edges_of rings.entry)) parts.old.items parts.new.items) }
+{
+    let mut start = 0;
+    for end in rings.ends {
+        if !append_parts(&rings.points[start..*end], most, limit, parts)? {
+            return Ok(false);
+        }
+        start = *end;
+    }
+    Ok(true)
+}
