@@ -1,6 +1,7 @@
 -- Lemmas of snap rounding.
 pub mod Along
 pub mod Axes
+pub mod Beside
 pub mod Callers
 pub mod Clear
 pub mod Common

@@ -1,13 +1,14 @@
 //! Whether an edge passes a whole point.
 
-ghost use Rattle.std.specs.Prelude.{◌≡◌, ◌*◌, pos, ◌-ℤ◌, ◌≤ℤ◌, MatchBool};
+ghost use Rattle.std.specs.Prelude.{◌≡◌, ◌*◌, pos, ◌-ℤ◌, ◌≤ℤ◌, IsTrue, MatchBool};
 ghost use Rattle.overlay.specs.Snap.Chains.{IsEnd, Passes};
 ghost use Rattle.overlay.specs.Snap.Close.{InBox, PassesInside};
 ghost use Rattle.overlay.specs.Snap.Tests.{IsPassed};
 
-use crate::edges::reverse;
+use crate::edges::{height_over, margin_of, reverse};
 use plane::edge::Edge;
 use plane::pairs::items::Boxed;
+use plane::point::Point;
 
 /// Whether the edge passes the whole point (x, y) between its ends. Most points that are asked for lie beside its box, so that
 /// this is told where it is asked.
@@ -18,7 +19,21 @@ pub fn passes_inside(edge: Edge, x: i32, y: i32) -> bool
     if !is_in_box(edge, x, y) {
         return false;
     }
+    if !lies_beside(edge, x, y) {
+        return false;
+    }
     !is_end(edge, x, y) && passes(edge, x, y)
+}
+
+// Whether the whole point (x, y) lies so near to the edge's line that the edge may pass it. Most points in the box of a long edge
+// don't.
+#[inline(always)]
+fn lies_beside(edge: Edge, x: i32, y: i32) -> bool
+    ensures { Passes edge x y → IsTrue result }
+{
+    let over = height_over(edge, Point { x, y });
+    let margin = margin_of(edge);
+    (0 <= over + over + margin) & (over + over <= margin)
 }
 
 /// Whether the whole point (x, y) lies in the edge's box.
