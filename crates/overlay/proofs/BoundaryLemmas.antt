@@ -1,4 +1,5 @@
 -- Lemmas on the boundary of a result.
 pub mod Broken
+pub mod Steps
 pub mod Bounding
 pub mod Sloped

@@ -1,18 +1,22 @@
 -- The boundary of what an operation makes of two sets of closed edges, on the grid again.
 use Rattle.std.specs.List.{AllZip, flat_map}
-use Rattle.std.specs.Prelude.{◌≡◌, ◌≢◌, ◌⊎◌, ◌++◌, ◌<◌, ◌≤◌, List, [], All, Contains, ℕ, ℤ, pos, length}
+use Rattle.std.specs.Prelude.{◌≡◌, ◌≢◌, ◌⊎◌, ◌++◌, ◌<◌, ◌≤◌, List, [], ◌∷◌, All, Contains, ℕ, ℤ, pos, drop, length, take}
 use Rattle.plane.specs.declared.edge.Edge.{Edge}
 use Rattle.plane.specs.declared.point.Point.{Point}
 use Rattle.plane.specs.Meet.Edges.{RationalPoint}
+use Rattle.overlay.specs.declared.fill.pieces.Piece.{Piece}
+use Rattle.overlay.specs.declared.fill.pieces.Role.{Role}
+use Rattle.overlay.specs.declared.fill.pieces.Role.TheVariants.{Subject, Clip}
 use Rattle.overlay.specs.declared.fill.rules.FillRule.{FillRule}
 use Rattle.overlay.specs.declared.fill.rules.Operation.{Operation}
 use Rattle.overlay.specs.Contours.Rings.{IsRing, ring_edges}
 use Rattle.overlay.specs.Fill.Filled.{AreDistinct, AreNoded}
+use Rattle.overlay.specs.Fill.Turned.{turned}
 use Rattle.overlay.specs.Fill.Rules.{count, is_result}
 use Rattle.overlay.specs.Snap.Chains.{IsChain}
 use Rattle.overlay.specs.Snap.Near.{IsNear}
 use Rattle.overlay.specs.Snap.Offsets.{offsets}
-use Rattle.overlay.specs.Snap.Windings.{pieces, winding, IsAlongAxis}
+use Rattle.overlay.specs.Snap.Windings.{edge_between, end_of, pieces, start_of, winding, IsAlongAxis}
 
 -- 1 around a point of the result, else 0, by the winding numbers of the subject and of the clip there.
 abbrev pub result_at : FillRule → Operation → List Edge → List Edge → RationalPoint → ℤ
@@ -59,3 +63,13 @@ AllSome lists = All (λ list. 0 < length list) lists
 -- Where so many lists and more stop, of which none is empty.
 abbrev pub StopSome : List ℕ → ℕ → Type 0
 StopSome ends count = (lists : List (List Point)) × (ends ≡ offsets 0 lists) × AllSome lists × (count ≤ length lists)
+
+-- The pieces of chains that aren't vertical, turned rightwards: those of the first so many chains, the subject's, and then those of
+-- the others, the clip's.
+abbrev pub chain_pieces : ℕ → List (List Point) → List Piece
+chain_pieces count chains = turned Subject (flat_map pieces (take count chains)) ++ turned Clip (flat_map pieces (drop count chains))
+
+-- The piece of the step from this point to the edge's end stands behind the others, unless the edge is a point.
+abbrev pub GoesOnToEnd : Role → Edge → Point → List Piece → List Piece → Type 0
+GoesOnToEnd role edge from before after =
+    (start_of edge ≡ end_of edge) × (after ≡ before) ⊎ (start_of edge ≢ end_of edge) × (after ≡ before ++ turned role (edge_between from (end_of edge) ∷ []))

@@ -1,5 +1,5 @@
 -- From the pieces of closed edges to the edges that bound the result, and to rings.
-use Rattle.std.proofs.Common.{◌≡◌, ◌⊎◌, ◌++◌, inl, inr, Bool, true, false, ℤ, pos, List, ap, ap₂, sym, subst, ◌∙◌, refl}
+use Rattle.std.proofs.Common.{◌≡◌, ◌⊎◌, ◌++◌, ◌+◌, ◌<◌, ◌^◌, length, inl, inr, Bool, true, false, ℤ, pos, List, ap, ap₂, sym, subst, ◌∙◌, refl}
 use Rattle.std.specs.List.{All, Contains, flat_map}
 use Rattle.std.proofs.lemmas.Grind.{flat_map-append}
 use Rattle.std.proofs.lemmas.List.Elements.{Contains-append_left, Contains-append_right}
@@ -9,12 +9,15 @@ use Rattle.plane.specs.declared.edge.Edge.{Edge}
 use Rattle.plane.specs.declared.point.Point.{Point}
 use Rattle.plane.specs.Meet.Edges.{RationalPoint}
 use Rattle.plane.proofs.PairsLemmas.Bags.{AllPairs-permutation}
+use Rattle.overlay.specs.declared.fill.pieces.Piece.{Piece}
+use Rattle.overlay.specs.declared.fill.pieces.Role.TheVariants.{Subject, Clip}
 use Rattle.overlay.specs.declared.fill.rules.FillRule.{FillRule}
 use Rattle.overlay.specs.declared.fill.rules.Operation.{Operation}
 use Rattle.overlay.specs.Boundary.{AreBroken, BoundsResult, IsBoundary}
 use Rattle.overlay.specs.Contours.Rings.{AreContours, ring_edges}
 use Rattle.overlay.specs.Fill.Filled.{AreNoded, HaveSameEnds, IsFilled}
 use Rattle.overlay.specs.Fill.Rules.{count, is_result}
+use Rattle.overlay.specs.Fill.Turned.{AreUnjoined, turned}
 use Rattle.overlay.specs.Snap.Near.{IsNear}
 use Rattle.overlay.specs.Snap.Windings.{pieces, winding, IsAlongAxis, IsClosed}
 use Rattle.overlay.proofs.BoundaryLemmas.Broken.{all-chains}
@@ -39,6 +42,16 @@ module _ (subject clip broken broken_clip : List Edge) (are : AreBroken subject 
 
   pub clip-closed : IsClosed clip → IsClosed broken_clip
   clip-closed closed = subst IsClosed (sym are.clip_is) (some-closed all clip are.clip_chains (Contains-append_right subject clip) are.clip_are closed)
+
+  -- so their pieces that aren't vertical can be filled
+  pub broken-unjoined : IsClosed subject → IsClosed clip → (unjoined : List Piece) → unjoined ≡ turned Subject broken ++ turned Clip broken_clip → length broken + length broken_clip < 2 ^ 63 → AreUnjoined broken broken_clip unjoined
+  broken-unjoined closed clip_too unjoined is few = record {
+    closed = broken-closed closed;
+    clip_closed = clip-closed clip_too;
+    noded = broken-noded;
+    are = is;
+    countable = few;
+  }
 
   -- they wind as the edges do, where no edge is near
   clear-subject : (point : RationalPoint) → All (λ edge. ¬ (IsNear edge point)) all → winding broken point ≡ winding subject point

@@ -1,5 +1,5 @@
 -- Two lists of edges that are broken together.
-use Rattle.std.proofs.Common.{◌≡◌, ◌<◌, ◌≤◌, ◌+◌, ◌-◌, ◌++◌, [], ◌∷◌, ℕ, suc, pos, List, length, drop, take, get_or, ap, ap₂, sym, subst, ◌∙◌, arith, refl}
+use Rattle.std.proofs.Common.{◌≡◌, ◌<◌, ◌≤◌, ◌+◌, ◌-◌, ◌++◌, [], ◌∷◌, ℕ, suc, pos, List, length, drop, take, get_or, ap, ap₂, sym, subst, subst₂, ◌∙◌, arith, refl}
 use Rattle.std.specs.List.{All, AllZip, flat_map}
 use Rattle.std.proofs.lemmas.Grind.{flat_map-append}
 use Rattle.std.proofs.lemmas.List.{length-append, length-drop, length-take-le, take-append-drop, take_all}
@@ -41,20 +41,17 @@ rest-is items list count is = take_all (length list - count) (drop count list) (
 pub all-chains : (subject clip broken broken_clip : List Edge) (are : AreBroken subject clip broken broken_clip) → AreChains (subject ++ clip) (are.chains ++ are.clip_chains)
 all-chains subject clip broken broken_clip are = zip-append (IsChain (subject ++ clip)) subject clip are.chains are.clip_chains are.are are.clip_are
 
--- the pieces of all chains, cut behind those of the subject's
-pub cut-broken : (edges all : List Edge) (chains : List (List Point)) (bound count : ℕ) → bound ≤ length edges → AreChains edges chains → all ≡ flat_map pieces chains → count ≡ length (flat_map pieces (take bound chains))
-    → (count ≤ length all) × AreBroken (take bound edges) (drop bound edges) (take count all) (drop count all)
-cut-broken edges all chains bound count within are is size = (
-  (let sum = length-append front back in let whole = ap (λ (list : List Edge). length list) parts in omega (arith, size, sum, whole)),
-  record {
-    chains = take bound chains;
-    clip_chains = drop bound chains;
-    are = subst (λ (n : ℕ). AllZip (IsChain (subject ++ clip)) subject (take n chains)) first (zip-front (IsChain (subject ++ clip)) subject clip chains together);
-    clip_are = subst (λ (n : ℕ). AllZip (IsChain (subject ++ clip)) clip (drop n chains)) first (zip-back (IsChain (subject ++ clip)) subject clip chains together);
-    is = ap₂ (λ (n : ℕ) (list : List Edge). take n list) size parts ∙ take-append_seam front back;
-    clip_is = ap₂ (λ (n : ℕ) (list : List Edge). drop n list) size parts ∙ drop-append_seam front back;
-  },
-)
+-- the chains of all edges, cut behind those of the subject's
+pub broken-chains : (edges : List Edge) (chains : List (List Point)) (bound : ℕ) → bound ≤ length edges → AreChains edges chains
+    → AreBroken (take bound edges) (drop bound edges) (flat_map pieces (take bound chains)) (flat_map pieces (drop bound chains))
+broken-chains edges chains bound within are = record {
+  chains = take bound chains;
+  clip_chains = drop bound chains;
+  are = subst (λ (n : ℕ). AllZip (IsChain (subject ++ clip)) subject (take n chains)) first (zip-front (IsChain (subject ++ clip)) subject clip chains together);
+  clip_are = subst (λ (n : ℕ). AllZip (IsChain (subject ++ clip)) clip (drop n chains)) first (zip-back (IsChain (subject ++ clip)) subject clip chains together);
+  is = refl;
+  clip_is = refl;
+}
   where
     subject : List Edge
     subject = take bound edges
@@ -68,6 +65,15 @@ cut-broken edges all chains bound count within are is size = (
     together : AreChains (subject ++ clip) chains
     together = subst (λ (list : List Edge). AreChains list chains) (sym (take-append-drop bound edges)) are
 
+-- and the pieces of all chains
+pub cut-broken : (edges all : List Edge) (chains : List (List Point)) (bound count : ℕ) → bound ≤ length edges → AreChains edges chains → all ≡ flat_map pieces chains → count ≡ length (flat_map pieces (take bound chains))
+    → (count ≤ length all) × AreBroken (take bound edges) (drop bound edges) (take count all) (drop count all)
+cut-broken edges all chains bound count within are is size = (
+  (let sum = length-append front back in let whole = ap (λ (list : List Edge). length list) parts in omega (arith, size, sum, whole)),
+  subst₂ (AreBroken (take bound edges) (drop bound edges)) (sym (ap₂ (λ (n : ℕ) (list : List Edge). take n list) size parts ∙ take-append_seam front back)) (sym (ap₂ (λ (n : ℕ) (list : List Edge). drop n list) size parts ∙ drop-append_seam front back))
+      (broken-chains edges chains bound within are),
+)
+  where
     front : List Edge
     front = flat_map pieces (take bound chains)
 

@@ -31,22 +31,22 @@ edge-is a b = by (int_eq a.x0 b.x0) (int_eq a.y0 b.y0) (int_eq a.x1 b.x1) (int_e
     by true true false s e f g h = λ same. unequal a.x1 b.x1 g (ap (λ (edge : Edge). edge.x1) same)
     by true true true false e f g h = λ same. unequal a.y1 b.y1 h (ap (λ (edge : Edge). edge.y1) same)
 
--- ---- one edge more
+-- ---- more edges
 
 by_first : (role : Role) (first : Edge) (all front back : List Piece) (t : Bool) → all ≡ front ++ back → cond t all (piece_of role first ∷ all) ≡ cond t front (piece_of role first ∷ front) ++ back
 by_first role first all front back true is = is
 by_first role first all front back false is = ap (λ (pieces : List Piece). piece_of role first ∷ pieces) is
 
-turned-append : (role : Role) (edges : List Edge) (edge : Edge) → turned role (edges ++ edge ∷ []) ≡ turned role edges ++ turned role (edge ∷ [])
-turned-append role [] edge = refl
-turned-append role (first ∷ edges) edge = by_first role first (turned role (edges ++ edge ∷ [])) (turned role edges) (turned role (edge ∷ [])) (int_eq first.x0 first.x1) (turned-append role edges edge)
+pub turned-append : (role : Role) (edges others : List Edge) → turned role (edges ++ others) ≡ turned role edges ++ turned role others
+turned-append role [] others = refl
+turned-append role (first ∷ edges) others = by_first role first (turned role (edges ++ others)) (turned role edges) (turned role others) (int_eq first.x0 first.x1) (turned-append role edges others)
 
 -- one that isn't vertical, and one that is
 pub turned-sloped : (role : Role) (edges : List Edge) (edge : Edge) (before now after : List Piece) → edge.x0 ≢ edge.x1 → now ≡ before ++ turned role edges → after ≡ now ++ piece_of role edge ∷ []
     → after ≡ before ++ turned role (edges ++ edge ∷ [])
 turned-sloped role edges edge before now after sloped is more =
     more ∙ ap (λ (list : List Piece). list ++ piece_of role edge ∷ []) is ∙ append_assoc before (turned role edges) (piece_of role edge ∷ [])
-    ∙ ap (λ (list : List Piece). before ++ (turned role edges ++ list)) (sym (by (int_eq edge.x0 edge.x1) refl)) ∙ ap (λ (list : List Piece). before ++ list) (sym (turned-append role edges edge))
+    ∙ ap (λ (list : List Piece). before ++ (turned role edges ++ list)) (sym (by (int_eq edge.x0 edge.x1) refl)) ∙ ap (λ (list : List Piece). before ++ list) (sym (turned-append role edges (edge ∷ [])))
   where
     by : (t : Bool) → int_eq edge.x0 edge.x1 ≡ t → cond t [] (piece_of role edge ∷ []) ≡ piece_of role edge ∷ []
     by false e = refl
@@ -54,7 +54,7 @@ turned-sloped role edges edge before now after sloped is more =
 
 pub turned-vertical : (role : Role) (edges : List Edge) (edge : Edge) (before now : List Piece) → edge.x0 ≡ edge.x1 → now ≡ before ++ turned role edges → now ≡ before ++ turned role (edges ++ edge ∷ [])
 turned-vertical role edges edge before now vertical is =
-    is ∙ ap (λ (list : List Piece). before ++ list) (sym (append-nil (turned role edges)) ∙ ap (λ (list : List Piece). turned role edges ++ list) (sym (by (int_eq edge.x0 edge.x1) refl)) ∙ sym (turned-append role edges edge))
+    is ∙ ap (λ (list : List Piece). before ++ list) (sym (append-nil (turned role edges)) ∙ ap (λ (list : List Piece). turned role edges ++ list) (sym (by (int_eq edge.x0 edge.x1) refl)) ∙ sym (turned-append role edges (edge ∷ [])))
   where
     by : (t : Bool) → int_eq edge.x0 edge.x1 ≡ t → cond t [] (piece_of role edge ∷ []) ≡ []
     by true e = refl

@@ -8,7 +8,7 @@ use Rattle.std.specs.Ordering.{int_eq}
 use Rattle.std.proofs.lemmas.Int.{ints, clamps, by_lt_z}
 use Rattle.std.proofs.lemmas.List.{length-append}
 use Rattle.std.proofs.lemmas.List.Elements.{All-append, All-cons, All-contains, All-nil, All-weaker, Contains-append_left, Contains-append_right}
-use Rattle.std.proofs.lemmas.List.Sorted.{All-permutation, length_permutation, sorted_far}
+use Rattle.std.proofs.lemmas.List.Sorted.{All-permutation, sorted_far}
 use Rattle.i_tree.proofs.RootLemmas.Lists.{Contains-here, Contains-there}
 use Rattle.plane.specs.declared.edge.Edge.{Edge}
 use Rattle.plane.specs.SweepLine.Heights.{run, rise, rightwards}
@@ -212,9 +212,9 @@ turned-length role (edge ∷ edges) = by (int_eq edge.x0 edge.x1) (turned-length
     by true few = omega (arith, few)
     by false few = omega (arith, few)
 
-pub turned-few : (subject clip : List Edge) (pieces : List Piece) → AreTurned subject clip pieces → length pieces ≤ length subject + length clip
+pub turned-few : (subject clip : List Edge) (pieces : List Piece) → pieces ≡ turned Subject subject ++ turned Clip clip → length pieces ≤ length subject + length clip
 turned-few subject clip pieces are =
-    let all = length_permutation (turned Subject subject ++ turned Clip clip) pieces are in
+    let all = ap (λ (list : List Piece). length list) are in
     let sum = length-append (turned Subject subject) (turned Clip clip) in
     let first = turned-length Subject subject in
     let second = turned-length Clip clip in

@@ -1,5 +1,5 @@
 -- Edges as pieces of their own, and pieces of one edge joined.
-use Rattle.std.specs.Prelude.{◌≡◌, ◌≢◌, ◌⊎◌, ◌++◌, ◌≤◌, ℕ, Bool, cond, List, [], ◌∷◌, All, AllPairs, Contains, length, get_or, slice_set, ◌-◌, ◌<◌, ℤ, pos, ◌+ℤ◌, ◌-ℤ◌, ◌≤ℤ◌, ◌<ℤ◌, ◌^◌}
+use Rattle.std.specs.Prelude.{◌≡◌, ◌≢◌, ◌⊎◌, ◌++◌, ◌+◌, ◌≤◌, ℕ, Bool, cond, List, [], ◌∷◌, All, AllPairs, Contains, length, get_or, slice_set, ◌-◌, ◌<◌, ℤ, pos, ◌+ℤ◌, ◌-ℤ◌, ◌≤ℤ◌, ◌<ℤ◌, ◌^◌}
 use Rattle.std.specs.Ordering.{int_eq}
 use Rattle.std.specs.List.Sorted.{IsPermutation}
 use Rattle.plane.specs.declared.edge.Edge.{Edge}
@@ -8,7 +8,9 @@ use Rattle.overlay.specs.declared.fill.pieces.Piece.{Piece}
 use Rattle.overlay.specs.declared.fill.pieces.Role.{Role}
 use Rattle.overlay.specs.declared.fill.pieces.Role.TheVariants.{Subject, Clip}
 use Rattle.overlay.specs.Fill.Begins.{BeginsUpto}
+use Rattle.overlay.specs.Fill.Filled.{AreNoded}
 use Rattle.overlay.specs.Fill.Pieces.{total, weight}
+use Rattle.overlay.specs.Snap.Windings.{IsClosed}
 
 -- The edge alone as a piece.
 abbrev pub piece_of : Role → Edge → Piece
@@ -23,6 +25,14 @@ turned role (edge ∷ edges) = cond (int_eq edge.x0 edge.x1) (turned role edges)
 -- The pieces of both, in some order.
 abbrev pub AreTurned : List Edge → List Edge → List Piece → Type 0
 AreTurned subject clip pieces = IsPermutation (turned Subject subject ++ turned Clip clip) pieces
+
+-- The pieces of closed and noded edges before they are sorted and joined: those of the subject, and then those of the clip.
+pub record AreUnjoined (subject clip : List Edge) (pieces : List Piece) : Type 0 where
+  pub closed : IsClosed subject
+  pub clip_closed : IsClosed clip
+  pub noded : AreNoded (subject ++ clip)
+  pub are : pieces ≡ turned Subject subject ++ turned Clip clip
+  pub countable : length subject + length clip < 2 ^ 63
 
 -- The piece weighs at most so much, either way.
 pub record IsSmall (most : ℕ) (piece : Piece) : Type 0 where

@@ -29,8 +29,8 @@ pub fn broken<A: Allocator + Copy>(
     broken_of(alloc, &edges, subject.len())
 }
 
-/// The same of edges in one list, of which the first `count` are the subject's and the others the clip's.
-pub(crate) fn broken_of<A: Allocator + Copy>(
+// The same of edges in one list, of which the first `count` are the subject's and the others the clip's.
+fn broken_of<A: Allocator + Copy>(
     alloc: A,
     edges: &[Edge],
     count: usize,

@@ -9,20 +9,21 @@ ghost use Rattle.overlay.specs.Snap.Windings.{IsClosed};
 ghost use Rattle.overlay.specs.Stretches.Cut.{AreCut};
 
 use super::contours::contours_in_place;
-use super::fill::fill;
+use super::fill::fill_pieces;
 use super::fill::rules::{FillRule, Operation};
 use super::stretches::Stretches;
 use super::stretches::chords::chords_of;
 use super::stretches::widening::append_widened;
-use broken::broken_of;
 use i_tree::Refusal;
 use i_tree::status::exp::StatusCollection;
 use plane::edge::Edge;
 use plane::point::Point;
 use plane::sweep_line::ActiveEdge;
 use std::alloc::Allocator;
+use steps::pieces_of_steps;
 
 pub mod broken;
+mod steps;
 
 /// Appends rings that bound what the operation makes of the inside of the subject and that of the clip to `points`, one after
 /// another, and to `ring_ends` where each stops among these.
@@ -151,15 +152,9 @@ where
         × IsFilled rule operation broken broken_clip bounding.items) }
     ensures empty { C.stored status.new ≡ [] }
 {
-    let (pieces, count) = broken_of(alloc, edges, count)?;
-    let mut bounding = Vec::with_capacity(alloc, pieces.len())?;
-    fill(
-        &pieces[..count],
-        &pieces[count..],
-        rule,
-        operation,
-        status,
-        &mut bounding,
-    )?;
+    let mut pieces = pieces_of_steps(alloc, edges, count)?;
+    // Of vertical edges there are no pieces, but some are among those of the boundary.
+    let mut bounding = Vec::with_capacity(alloc, pieces.capacity())?;
+    fill_pieces(&mut pieces, rule, operation, status, &mut bounding)?;
     Ok(bounding)
 }

@@ -4,13 +4,14 @@ ghost use Rattle.std.specs.Prelude.{◌≡◌, ◌++◌, ◌+◌, ◌≤◌, [],
 ghost use Rattle.i_tree.specs.declared.Refusal.TheVariants.{OutOfMemory};
 ghost use Rattle.plane.specs.declared.edge.Edge.{Edge};
 ghost use Rattle.overlay.specs.Fill.Filled.{AreNoded, IsFilled};
+ghost use Rattle.overlay.specs.Fill.Turned.{AreUnjoined};
 ghost use Rattle.overlay.specs.Snap.Offsets.{Extends};
 ghost use Rattle.overlay.specs.Snap.Windings.{IsClosed};
 
 use i_tree::Refusal;
 use i_tree::status::exp::StatusCollection;
 use kept::append_kept;
-use pieces::pieces_in_order;
+use pieces::{Piece, join_in_order, turned_pieces};
 use plane::edge::Edge;
 use plane::sweep_line::ActiveEdge;
 pub use rules::{FillRule, Operation};
@@ -66,7 +67,6 @@ where
     if outcome.is_err() {
         out.truncate(before);
     }
-    status.clear();
     outcome
 }
 
@@ -91,10 +91,60 @@ where
     ensures err { OnErr result (Extends out.old.items out.new.items) }
     ensures refused { length subject.now + length clip.now ≤ C.room status.old
         → IfErr result (λ cause. cause ≡ OutOfMemory) }
+    ensures empty { C.stored status.new ≡ [] }
+{
+    let mut pieces = turned_pieces(*out.allocator(), subject, clip)?;
+    fill_pieces(&mut pieces, rule, operation, status, out)
+}
+
+/// As `fill`, of pieces that aren't sorted and joined yet, and from an empty status on. Where it is refused, it may have appended
+/// something. What becomes of the pieces isn't told.
+pub(crate) fn fill_pieces<C, A>(
+    pieces: &mut Vec<Piece, A>,
+    rule: FillRule,
+    operation: Operation,
+    status: &mut C,
+    out: &mut Vec<Edge, A>,
+) -> Result<(), Refusal>
+where
+    C: StatusCollection<ActiveEdge, i64, ()>,
+    A: Allocator + Copy,
+    requires empty { C.stored status.old ≡ [] }
+    requires unjoined { (subject clip : List Edge) × AreUnjoined subject clip pieces.old.items }
+    ensures ok { (subject clip : List Edge) → AreUnjoined subject clip pieces.old.items
+        → OnOk result ((edges : List Edge) × (out.new.items ≡ out.old.items ++ edges)
+        × IsFilled rule operation subject clip edges) }
+    ensures err { OnErr result (Extends out.old.items out.new.items) }
+    ensures refused { length pieces.old.items ≤ C.room status.old → IfErr result (λ cause. cause ≡ OutOfMemory) }
+    ensures empty { C.stored status.new ≡ [] }
+{
+    let outcome = append_joined(pieces, rule, operation, status, out);
+    status.clear();
+    outcome
+}
+
+// The same, but the status may hold something at the end.
+fn append_joined<C, A>(
+    pieces: &mut Vec<Piece, A>,
+    rule: FillRule,
+    operation: Operation,
+    status: &mut C,
+    out: &mut Vec<Edge, A>,
+) -> Result<(), Refusal>
+where
+    C: StatusCollection<ActiveEdge, i64, ()>,
+    A: Allocator + Copy,
+    requires empty { C.stored status.old ≡ [] }
+    requires unjoined { (subject clip : List Edge) × AreUnjoined subject clip pieces.old.items }
+    ensures ok { (subject clip : List Edge) → AreUnjoined subject clip pieces.old.items
+        → OnOk result ((edges : List Edge) × (out.new.items ≡ out.old.items ++ edges)
+        × IsFilled rule operation subject clip edges) }
+    ensures err { OnErr result (Extends out.old.items out.new.items) }
+    ensures refused { length pieces.old.items ≤ C.room status.old → IfErr result (λ cause. cause ≡ OutOfMemory) }
 {
     let first = out.len();
-    let mut pieces = pieces_in_order(*out.allocator(), subject, clip)?;
-    append_kept(status, &mut pieces, rule, operation, out)?;
+    join_in_order(pieces)?;
+    append_kept(status, pieces, rule, operation, out)?;
     append_verticals(out, first)?;
     Ok(())
 }

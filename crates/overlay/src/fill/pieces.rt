@@ -1,11 +1,12 @@
 //! The pieces of a fill: edges that aren't vertical, turned rightwards, those with the same ends joined.
 
-ghost use Rattle.std.specs.Prelude.{◌≡◌, ◌≢◌, ◌++◌, ◌+◌, ◌≤◌, ◌<◌, ◌^◌, ◌+ℤ◌, ◌-ℤ◌, ◌≤ℤ◌, ◌<ℤ◌, pos, All, drop, length, take, IfOk, MatchBool, OnOk};
+ghost use Rattle.std.specs.Prelude.{◌≡◌, ◌≢◌, ◌++◌, ◌+◌, ◌≤◌, ◌<◌, ◌^◌, ◌+ℤ◌, ◌-ℤ◌, ◌≤ℤ◌, ◌<ℤ◌, pos, All, List, drop, length, take, IfOk, MatchBool, OnOk};
+ghost use Rattle.plane.specs.declared.edge.Edge.{Edge};
 ghost use Rattle.plane.specs.SweepLine.Heights.{rise};
 ghost use Rattle.overlay.specs.Fill.Begins.{cmp_begins, steps, BeginInOrder};
-ghost use Rattle.overlay.specs.Fill.Filled.{AreNoded};
+ghost use Rattle.overlay.specs.declared.fill.pieces.Role.TheVariants.{Subject, Clip};
 ghost use Rattle.overlay.specs.Fill.Pieces.{ArePieces, weight};
-ghost use Rattle.overlay.specs.Fill.Turned.{Adds, AreJoinOf, AreTurned, BeginApart, EndIn, Fit, IsSmall, piece_of, sum_of, turned};
+ghost use Rattle.overlay.specs.Fill.Turned.{Adds, AreJoinOf, AreUnjoined, BeginApart, EndIn, Fit, IsSmall, piece_of, sum_of, turned};
 
 use crate::edges::number_at;
 use event_queue::buckets::sort_in_buckets;
@@ -30,48 +31,45 @@ pub enum Role {
     Clip,
 }
 
-/// The pieces of the subject and of the clip, in the order in which they begin.
-pub fn pieces_in_order<A: Allocator + Copy>(
+/// The edges of both that aren't vertical, turned rightwards: the subject's, and then the clip's.
+pub(crate) fn turned_pieces<A: Allocator>(
     alloc: A,
     subject: &[Edge],
     clip: &[Edge],
 ) -> Result<Vec<Piece, A>, AllocError>
-    requires { AreNoded (subject.now ++ clip.now) }
-    ensures pieces { IfOk result (λ pieces. ArePieces subject.now clip.now pieces.items) }
-    ensures order { IfOk result (λ pieces. BeginInOrder pieces.items) }
-    ensures few { IfOk result (λ pieces. length pieces.items ≤ length subject.now + length clip.now) }
-    ensures countable { IfOk result (λ _. length subject.now + length clip.now < 2 ^ 63) }
-{
-    let mut pieces = turned_pieces(alloc, subject, clip)?;
-    join(&mut pieces);
-    Ok(pieces)
-}
-
-// The edges of both that aren't vertical, turned rightwards, in the order in which they begin.
-fn turned_pieces<A: Allocator + Copy>(
-    alloc: A,
-    subject: &[Edge],
-    clip: &[Edge],
-) -> Result<Vec<Piece, A>, AllocError>
-    ensures turned { IfOk result (λ pieces. AreTurned subject.now clip.now pieces.items × BeginInOrder pieces.items) }
+    ensures turned { IfOk result (λ pieces. pieces.items ≡ turned Subject subject.now ++ turned Clip clip.now) }
     ensures countable { IfOk result (λ _. length subject.now + length clip.now < 2 ^ 63) }
 {
     let mut pieces = Vec::with_capacity(alloc, room_for(subject, clip)?)?;
     append_turned(&mut pieces, subject, Role::Subject)?;
     append_turned(&mut pieces, clip, Role::Clip)?;
-    sort_in_buckets(
-        &mut pieces,
-        |piece| number_at(piece.edge.x0, piece.edge.y0),
-        |one: &Piece, other: &Piece| -> Ordering { compare_begins(one.edge, other.edge) },
-    )?;
     Ok(pieces)
 }
 
-/// How many edges there are. More than `i64` counts have no room in any memory.
-pub fn room_for(subject: &[Edge], clip: &[Edge]) -> Result<usize, AllocError>
-    ensures { IfOk result (λ all. (all ≡ length subject.now + length clip.now) × (all < 2 ^ 63)) }
+/// Puts the pieces in the order in which they begin, and joins those of one edge.
+pub(crate) fn join_in_order<A: Allocator + Copy>(
+    pieces: &mut Vec<Piece, A>,
+) -> Result<(), AllocError>
+    requires { (subject clip : List Edge) × AreUnjoined subject clip pieces.old.items }
+    ensures pieces { OnOk result ((subject clip : List Edge) → AreUnjoined subject clip pieces.old.items
+        → ArePieces subject clip pieces.new.items) }
+    ensures order { OnOk result (BeginInOrder pieces.new.items) }
+    ensures few { OnOk result (length pieces.new.items ≤ length pieces.old.items) }
 {
-    let all = subject.len().saturating_add(clip.len());
+    sort_in_buckets(
+        pieces,
+        |piece| number_at(piece.edge.x0, piece.edge.y0),
+        |one: &Piece, other: &Piece| -> Ordering { compare_begins(one.edge, other.edge) },
+    )?;
+    join(pieces);
+    Ok(())
+}
+
+/// How many items both have. More than `i64` counts have no room in any memory.
+pub fn room_for<X, Y>(some: &[X], others: &[Y]) -> Result<usize, AllocError>
+    ensures { IfOk result (λ all. (all ≡ length some.now + length others.now) × (all < 2 ^ 63)) }
+{
+    let all = some.len().saturating_add(others.len());
     if all > i64::MAX as usize {
         return Err(AllocError);
     }

@@ -21,7 +21,7 @@ mod crossing;
 mod crossings;
 mod passing;
 pub mod pieces;
-mod stops;
+pub(crate) mod stops;
 
 /// Appends the chain of each edge in turn to `points`, and to `ends` where each chain stops among these.
 ///
