@@ -780,6 +780,6 @@ fn keeps_out_at_each_refusal(rt: HostRuntime) -> Result<(), Fail> {
         memory: &memory,
         alloc: rt.alloc(),
     };
-    assert!(rt; refuse_in_turn(&memory, &filling).is_ok_and(|requests| requests > 4));
+    assert!(rt; refuse_in_turn(&memory, &filling).is_ok_and(|requests| requests > 3));
     Ok(())
 }

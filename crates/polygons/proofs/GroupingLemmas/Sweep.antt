@@ -1,5 +1,5 @@
 -- How far the sweep over the sides of rings has come.
-use Rattle.std.proofs.Common.{◌≡◌, ◌<◌, ◌+◌, ℕ, ℤ, [], Option, Some, ◌≤ℤ◌, List, length, get_or, refl, sym, subst, arith}
+use Rattle.std.proofs.Common.{◌≡◌, ◌<◌, ◌+◌, ℕ, ℤ, [], Option, Some, ◌≤ℤ◌, List, length, get_or, sym, subst, arith}
 use Rattle.std.specs.List.{All}
 use Rattle.std.proofs.lemmas.Int.{ints}
 use Rattle.std.proofs.lemmas.List.{get_or-map, length-map}
@@ -8,8 +8,8 @@ use Rattle.plane.specs.declared.edge.Edge.{Edge}
 use Rattle.plane.specs.SweepLine.Active.{Entry, live_entries}
 use Rattle.plane.specs.SweepLine.Line.{BeganBefore, IsSortedAt, JoinsAt, NoneCrossAmong}
 use Rattle.overlay.specs.declared.fill.pieces.Piece.{Piece}
-use Rattle.overlay.specs.Fill.Sweep.{AreFillPieces}
-use Rattle.overlay.proofs.KeptLemmas.Begun.{HasBegun, HasBegun-more, HasBegun-none, begin-last, begin-places, last-holds, no_piece, piece_at, x_order}
+use Rattle.overlay.specs.Fill.Sweep.{AreFillPieces, no_piece}
+use Rattle.overlay.proofs.KeptLemmas.Begun.{HasBegun, HasBegun-more, HasBegun-none, begin-last, begin-places, last-holds, piece_at, x_order}
 use Rattle.polygons.specs.Grouping.{pieces_of}
 use Rattle.polygons.specs.declared.grouping.sides.Side.{Side}
 
@@ -48,7 +48,7 @@ module _ (pieces : List Piece) (fill : AreFillPieces pieces) (k : ℕ) (within :
   pub come-below : (P : Entry → Type 0) (found : Option Entry) (entry : Entry) → found ≡ Some entry → IsLast P (live_entries edge.x0 stored) found → entry.0.place < k
   come-below P found entry told last =
       last-holds (λ (one : Entry). one.0.place < k) P (live_entries edge.x0 stored) found entry told
-      (subst (λ (e : Edge). All (λ one. one.0.place < k) (live_entries e.x0 stored)) (sym is) (begin-places pieces fill k within come.x (come.upto within) stored come.begun k refl)) last
+      (subst (λ (e : Edge). All (λ one. one.0.place < k) (live_entries e.x0 stored)) (sym is) (begin-places pieces fill k within come.x (come.upto within) stored come.begun k (omega arith))) last
 
   pub come-more : (after : List Entry) → JoinsAt edge.x0 (record { edge = edge; place = k }, tt) stored after
       → ((later : ℤ) → edge.x0 ≤ℤ later → NoneCrossAmong (live_entries edge.x0 after) → IsSortedAt later (live_entries later after)) → HasCome pieces (k + 1) after
