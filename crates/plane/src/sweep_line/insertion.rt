@@ -7,7 +7,7 @@ ghost use Rattle.plane.specs.declared.sweep_line.active.ActiveEdge.{ActiveEdge};
 ghost use Rattle.plane.specs.SweepLine.Active.{cmp_active, live_entries};
 ghost use Rattle.plane.specs.SweepLine.Line.{BeganBefore, IsSortedAt, JoinsAt, NoneCrossAmong};
 
-use super::active::{ActiveEdge, compare_to_beginning};
+use super::active::{ActiveEdge, compare_active};
 use i_tree::Refusal;
 use i_tree::status::exp::StatusCollection;
 use std::cmp::Ordering;
@@ -46,10 +46,10 @@ pub fn insert_beginning<C: StatusCollection<ActiveEdge, i64, ()>>(
         status,
         beginning,
         |other: ActiveEdge| -> Ordering
-            requires begun { other.edge.x0 ≤ℤ beginning.edge.x0 }
+            requires right { other.edge.x0 <ℤ other.edge.x1 }
             requires beginning_right { beginning.edge.x0 <ℤ beginning.edge.x1 }
             ensures { result ≡ cmp_active other beginning }
-        { compare_to_beginning(other, beginning) },
+        { compare_active(other, beginning) },
     )
 }
 
