@@ -13,7 +13,7 @@ use overlay::stretches::{Stretches, longest_of, stretches_of};
 use plane::point::Point;
 use std::alloc::{AllocError, Allocator};
 
-/// How many of the first points are looked at before a ring is cut, to tell whether x turns often along it.
+/// How many of the first points of each are looked at before rings are cut, to tell whether x turns often along them.
 const FIRST: usize = 256;
 
 /// The real edges of subject and clip as stretches, or nothing where few would have several edges.
@@ -30,7 +30,7 @@ pub(crate) fn stretches_along<'a, A: Allocator + Copy>(
         AreCut (real_edges (edges_of subject.entry)) (real_edges (edges_of clip.entry)) told.parts.items told.count)) }
     ensures refused { IfErr result (λ cause. cause ≡ OutOfMemory) }
 {
-    if turns_often(subject.points) || turns_often(clip.points) {
+    if turn_often(subject.points, clip.points) {
         return Ok(None);
     }
     let edges = subject.points.len().saturating_add(clip.points.len());
@@ -50,19 +50,21 @@ pub(crate) fn stretches_along<'a, A: Allocator + Copy>(
     Ok(Some(stretches))
 }
 
-// Whether x turns at more than one in twelve of the first points.
-fn turns_often(points: &[Point]) -> bool {
-    let mut left = points.len().min(FIRST) / 12;
+// Whether x turns at more than one in twelve of the first points of both.
+fn turn_often(subject: &[Point], clip: &[Point]) -> bool {
+    let looked_at = subject.len().min(FIRST) + clip.len().min(FIRST);
+    looked_at / 12 < count_turns(subject).saturating_add(count_turns(clip))
+}
+
+// How often x turns at the first points.
+fn count_turns(points: &[Point]) -> usize {
+    let mut turns: usize = 0;
     for three in points.windows(3).take(FIRST) {
-        if goes_on(three[0].x, three[1].x, three[2].x) {
-            continue;
+        if !goes_on(three[0].x, three[1].x, three[2].x) {
+            turns = turns.saturating_add(1);
         }
-        if left == 0 {
-            return true;
-        }
-        left -= 1;
     }
-    false
+    turns
 }
 
 // Whether the numbers rise, or fall.

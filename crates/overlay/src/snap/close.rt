@@ -1,13 +1,13 @@
 //! Which edges come close to each other: pairs that may have stops on one another.
 
 ghost use Rattle.std.specs.Bool.{OnTrue};
-ghost use Rattle.std.specs.Prelude.{◌≡◌, ◌⊎◌, ◌<◌, All, IfErr, IfOk, MatchBool, length, map};
+ghost use Rattle.std.specs.Prelude.{◌≡◌, ◌⊎◌, ◌<◌, All, IfErr, IfOk, IsTrue, MatchBool, length, map};
 ghost use Rattle.i_tree.specs.declared.Refusal.TheVariants.{OutOfMemory};
 ghost use Rattle.plane.specs.Meet.Boxes.{bounds_of};
 ghost use Rattle.plane.specs.Pairs.Pairs.{ArePairs};
 ghost use Rattle.overlay.specs.Snap.Close.{ComeClose, HaveOnePoint, HoldsEnd, PassesEnd, ShareEnd, item_of};
 
-use super::passing::{is_end, is_in_box, passes_inside};
+use super::passing::{is_end, is_in_box, may_pass_inside, passes_inside};
 use i_tree::Refusal;
 use plane::edge::Edge;
 use plane::meet::meet;
@@ -108,13 +108,23 @@ fn one_passes_end(one: Edge, other: Edge) -> bool
     passes_end(one, other) || passes_end(other, one)
 }
 
-// Whether the edge passes an end of the other one between its own ends. Most often none lies in its box, which is told where it is
-// asked.
+// Whether the edge passes an end of the other one between its own ends. Most often it can't, which is told where it is asked.
 #[inline(always)]
 fn passes_end(edge: Edge, other: Edge) -> bool
     ensures { MatchBool result (PassesEnd edge other) (¬ (PassesEnd edge other)) }
 {
-    holds_end(edge, other) && passes_end_held(edge, other)
+    may_pass_end(edge, other) && passes_end_held(edge, other)
+}
+
+// Whether the edge may do so: an end of the other one lies in its box, and one beside its line.
+#[inline(always)]
+fn may_pass_end(edge: Edge, other: Edge) -> bool
+    ensures { PassesEnd edge other → IsTrue result }
+{
+    if !holds_end(edge, other) {
+        return false;
+    }
+    may_pass_inside(edge, other.x0, other.y0) | may_pass_inside(edge, other.x1, other.y1)
 }
 
 // Whether an end of the other edge lies in the edge's box. Both are looked for, since a branch between them would be guessed wrongly
@@ -126,7 +136,7 @@ fn holds_end(edge: Edge, other: Edge) -> bool
     is_in_box(edge, other.x0, other.y0) | is_in_box(edge, other.x1, other.y1)
 }
 
-// As `passes_end`, which asks it where an end lies in the edge's box.
+// As `passes_end`, which asks it where it may be so.
 #[inline(never)]
 fn passes_end_held(edge: Edge, other: Edge) -> bool
     ensures { MatchBool result (PassesEnd edge other) (¬ (PassesEnd edge other)) }

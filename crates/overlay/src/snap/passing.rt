@@ -25,6 +25,15 @@ pub fn passes_inside(edge: Edge, x: i32, y: i32) -> bool
     !is_end(edge, x, y) && passes(edge, x, y)
 }
 
+/// Whether the edge may pass the whole point (x, y) between its ends: the point lies beside its line, and is no end of it. Both are
+/// looked for, since a branch between them would be guessed wrongly often.
+#[inline(always)]
+pub fn may_pass_inside(edge: Edge, x: i32, y: i32) -> bool
+    ensures { PassesInside edge x y → IsTrue result }
+{
+    lies_beside(edge, x, y) & !is_end(edge, x, y)
+}
+
 // Whether the whole point (x, y) lies so near to the edge's line that the edge may pass it. Most points in the box of a long edge
 // don't.
 #[inline(always)]

@@ -1,12 +1,12 @@
-use Rattle.std.proofs.Common.{◌≡◌, Bool, MatchBool, true, false}
+use Rattle.std.proofs.Common.{◌≡◌, Bool, IsTrue, MatchBool, true, false, rules}
 use Rattle.plane.specs.declared.edge.Edge.{Edge}
-use Rattle.overlay.specs.Snap.Close.{HoldsEnd, PassesEnd}
-use Rattle.overlay.proofs.ChainLemmas.Close.{held}
+use Rattle.overlay.specs.Snap.Close.{PassesEnd}
 use Rattle.overlay.proofs.snap.close.passes_end.Goals as goal
 
-none_held : (edge other : Edge) (holds : Bool) → MatchBool holds (HoldsEnd edge other) (¬ (HoldsEnd edge other)) → holds ≡ false → MatchBool holds (PassesEnd edge other) (¬ (PassesEnd edge other))
-none_held edge other false none is = held edge other none
-none_held edge other true some is = absurd (cc)
+-- what may not be isn't
+may_not : (edge other : Edge) (may : Bool) → (PassesEnd edge other → IsTrue may) → may ≡ false → MatchBool may (PassesEnd edge other) (¬ (PassesEnd edge other))
+may_not edge other false is none = λ passes. (let set = is passes in search (rules, set))
+may_not edge other true is none = absurd (cc)
 
-pub returns-else-holds_end : goal.returns-else-holds_end
-returns-else-holds_end c = none_held c.args.edge c.args.other c.holds_end.result c.holds_end.ensures c.if-holds_end.false
+pub returns-else-may_pass_end : goal.returns-else-may_pass_end
+returns-else-may_pass_end c = may_not c.args.edge c.args.other c.may_pass_end.result c.may_pass_end.ensures c.if-may_pass_end.false
