@@ -94,8 +94,8 @@ impl<X: Expires<K, E>, K: Copy, E: Expiration, V: Copy, A: Allocator + Copy> Exp
         &self.pairs
     }
 
-    /// Removes what is expired at `time`, unless the bound says that nothing is. The answer is where the last pair stood that was,
-    /// among those that are left, if there was one: no clause says it.
+    /// Removes what is expired at `time`, unless the bound says that nothing is. The answer is where the first pair stood that was,
+    /// if there was one: no clause says it.
     pub fn remove_expired(&mut self, time: E) -> Option<usize>
         ensures kept { Without (IsExpired X.expiration E.cmp time) self.old.pairs self.new.pairs }
         ensures leaves { ListLeaves X.expiration E.cmp time self.old self.new }
@@ -106,7 +106,7 @@ impl<X: Expires<K, E>, K: Copy, E: Expiration, V: Copy, A: Allocator + Copy> Exp
         let expired = expired_of::<X, K, E, V>(&self.pairs, time);
         keep_live::<X, K, E, V, A>(&mut self.pairs, time, expired);
         self.earliest = expired.earliest;
-        Some(expired.last.saturating_add(1).saturating_sub(expired.count))
+        Some(expired.first)
     }
 
     /// Puts the pair at the place. A refusal changes nothing, and is for want of memory alone, never while there is room.

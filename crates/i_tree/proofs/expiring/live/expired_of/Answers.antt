@@ -1,4 +1,4 @@
-use Rattle.std.proofs.Common.{◌≡◌, ◌+◌, ◌∷◌, ◌++◌, [], take, sym, ap, ◌∙◌, subst, arith}
+use Rattle.std.proofs.Common.{length, ◌≡◌, ◌+◌, ◌∷◌, ◌++◌, [], take, sym, ap, ◌∙◌, subst, arith}
 use Rattle.std.proofs.lemmas.List.{length-take-le, take_all, take_more}
 use Rattle.std.specs.Ordering.{is_ge, ord_min}
 use Rattle.i_tree.specs.declared.expiring.live.Expired.{Expired}
@@ -29,26 +29,27 @@ lives-is g c =
 pub loop-place-preserved : goal.loop-place-preserved
 loop-place-preserved g c = (elim c.if-ge.branch [
   | then-ge w ↦ (
-    subst (λ pairs. AreExpired g.X.Expires.expiration g.E.Ord.cmp c.args.time pairs c.if-ge.expired.count c.if-ge.expired.last c.if-ge.expired.earliest) (sym (item-is g c))
-        (subst (λ (expired : Expired g.row.E.Denot). AreExpired g.X.Expires.expiration g.E.Ord.cmp c.args.time (take c.loop-place.place c.args.pairs.now ++ c.index-pairs-place.result ∷ []) expired.count expired.last expired.earliest) (sym w.expired-is)
-        (subst (λ earliest. AreExpired g.X.Expires.expiration g.E.Ord.cmp c.args.time (take c.loop-place.place c.args.pairs.now ++ c.index-pairs-place.result ∷ []) c.loop-place.expired.count c.loop-place.expired.last earliest)
+    subst (λ pairs. AreExpired g.X.Expires.expiration g.E.Ord.cmp c.args.time pairs c.if-ge.expired.count c.if-ge.expired.first c.if-ge.expired.last c.if-ge.expired.earliest) (sym (item-is g c))
+        (subst (λ (expired : Expired g.row.E.Denot). AreExpired g.X.Expires.expiration g.E.Ord.cmp c.args.time (take c.loop-place.place c.args.pairs.now ++ c.index-pairs-place.result ∷ []) expired.count expired.first expired.last expired.earliest) (sym w.expired-is)
+        (subst (λ earliest. AreExpired g.X.Expires.expiration g.E.Ord.cmp c.args.time (take c.loop-place.place c.args.pairs.now ++ c.index-pairs-place.result ∷ []) c.loop-place.expired.count c.loop-place.expired.first c.loop-place.expired.last earliest)
         (sym (w.min-expired.ensures ∙ ap (λ expiration. ord_min g.E.Ord.cmp c.loop-place.expired.earliest expiration) c.expiration-expiration.ensures))
-        (AreExpired-live g.met.E.Ord.total g.X.Expires.expiration c.args.time (take c.loop-place.place c.args.pairs.now) c.index-pairs-place.result c.loop-place.expired.count c.loop-place.expired.last c.loop-place.expired.earliest
-        c.loop-place.invariant.0 (sym (lives-is g c) ∙ w.if-ge.true)))),
+        (AreExpired-live g.met.E.Ord.total g.X.Expires.expiration c.args.time (take c.loop-place.place c.args.pairs.now) c.index-pairs-place.result c.loop-place.expired.count c.loop-place.expired.first c.loop-place.expired.last
+        c.loop-place.expired.earliest c.loop-place.invariant.0 (sym (lives-is g c) ∙ w.if-ge.true)))),
     (let few = c.loop-place.invariant.1 in let same = ap (λ (expired : Expired g.row.E.Denot). expired.count) w.expired-is in omega (arith, few, same)),
   )
   | else-ge w ↦ (
-    subst (λ pairs. AreExpired g.X.Expires.expiration g.E.Ord.cmp c.args.time pairs c.if-ge.expired.count c.if-ge.expired.last c.if-ge.expired.earliest) (sym (item-is g c))
-        (subst (λ (expired : Expired g.row.E.Denot). AreExpired g.X.Expires.expiration g.E.Ord.cmp c.args.time (take c.loop-place.place c.args.pairs.now ++ c.index-pairs-place.result ∷ []) expired.count expired.last expired.earliest) (sym w.expired-is)
-        (subst (λ last. AreExpired g.X.Expires.expiration g.E.Ord.cmp c.args.time (take c.loop-place.place c.args.pairs.now ++ c.index-pairs-place.result ∷ []) (c.loop-place.expired.count + 1) last c.loop-place.expired.earliest)
-        (length-take-le c.loop-place.place c.args.pairs.now (omega (arith, c.loop-place-test.true)))
-        (AreExpired-expired g.met.E.Ord.total g.X.Expires.expiration c.args.time (take c.loop-place.place c.args.pairs.now) c.index-pairs-place.result c.loop-place.expired.count c.loop-place.expired.last c.loop-place.expired.earliest
-        c.loop-place.invariant.0 (sym (lives-is g c) ∙ w.if-ge.false)))),
-    (let few = c.loop-place.invariant.1 in let same = ap (λ (expired : Expired g.row.E.Denot). expired.count) w.expired-is in omega (arith, few, same)),
-  )
+      let size : length (take c.loop-place.place c.args.pairs.now) ≡ c.loop-place.place = length-take-le c.loop-place.place c.args.pairs.now (omega (arith, c.loop-place-test.true)) in (
+        subst (λ pairs. AreExpired g.X.Expires.expiration g.E.Ord.cmp c.args.time pairs c.if-ge.expired.count c.if-ge.expired.first c.if-ge.expired.last c.if-ge.expired.earliest) (sym (item-is g c))
+            (subst (λ (expired : Expired g.row.E.Denot). AreExpired g.X.Expires.expiration g.E.Ord.cmp c.args.time (take c.loop-place.place c.args.pairs.now ++ c.index-pairs-place.result ∷ []) expired.count expired.first expired.last expired.earliest) (sym w.expired-is)
+            (subst (λ last. AreExpired g.X.Expires.expiration g.E.Ord.cmp c.args.time (take c.loop-place.place c.args.pairs.now ++ c.index-pairs-place.result ∷ []) (c.loop-place.expired.count + 1) w.first_of.result last c.loop-place.expired.earliest) size
+            (AreExpired-expired g.met.E.Ord.total g.X.Expires.expiration c.args.time (take c.loop-place.place c.args.pairs.now) c.index-pairs-place.result c.loop-place.expired.count c.loop-place.expired.first c.loop-place.expired.last
+            c.loop-place.expired.earliest c.loop-place.invariant.0 (sym (lives-is g c) ∙ w.if-ge.false) w.first_of.result (λ no. w.first_of.ensures.none no ∙ sym size) w.first_of.ensures.some))),
+        (let few = c.loop-place.invariant.1 in let same = ap (λ (expired : Expired g.row.E.Denot). expired.count) w.expired-is in omega (arith, few, same)),
+      )
+      )
 ])
 
 pub returns : goal.returns
 returns g c =
-    subst (λ pairs. AreExpired g.X.Expires.expiration g.E.Ord.cmp c.args.time pairs c.loop-place.expired.count c.loop-place.expired.last c.loop-place.expired.earliest)
+    subst (λ pairs. AreExpired g.X.Expires.expiration g.E.Ord.cmp c.args.time pairs c.loop-place.expired.count c.loop-place.expired.first c.loop-place.expired.last c.loop-place.expired.earliest)
     (take_all c.loop-place.place c.args.pairs.now c.loop-place-test.false) c.loop-place.invariant.0
