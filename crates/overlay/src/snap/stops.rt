@@ -89,7 +89,9 @@ fn push_ends_of<A: Allocator>(
     Ok(())
 }
 
-// Appends the stop of the edge, which is at this place, at the whole point (x, y), if it passes that between its ends.
+// Appends the stop of the edge, which is at this place, at the whole point (x, y), if it passes that between its ends. Most often it
+// doesn't, which is told where it is asked.
+#[inline(always)]
 fn push_if_inside<A: Allocator>(
     place: usize,
     edge: Edge,
