@@ -1,18 +1,20 @@
 //! Which edges come close to each other: pairs that may have stops on one another.
 
 ghost use Rattle.std.specs.Bool.{OnTrue};
-ghost use Rattle.std.specs.Prelude.{◌≡◌, ◌⊎◌, ◌<◌, All, IfErr, IfOk, IsTrue, MatchBool, length, map};
+ghost use Rattle.std.specs.Prelude.{◌≡◌, ◌⊎◌, ◌<◌, true, All, IfErr, IfOk, IsTrue, MatchBool, length, map};
 ghost use Rattle.i_tree.specs.declared.Refusal.TheVariants.{OutOfMemory};
 ghost use Rattle.plane.specs.Meet.Boxes.{bounds_of};
 ghost use Rattle.plane.specs.Pairs.Pairs.{ArePairs};
 ghost use Rattle.overlay.specs.Snap.Close.{ComeClose, HaveOnePoint, HoldsEnd, PassesEnd, ShareEnd, item_of};
 
 use super::passing::{is_end, is_in_box, may_pass_inside, passes_inside};
+use crate::edges::margin_of;
 use i_tree::Refusal;
 use plane::edge::Edge;
 use plane::meet::meet;
 use plane::pairs::items::{Bounds, Boxed, Meets};
 use plane::pairs::pairs_among;
+use plane::ways::{cross_product, way_along};
 use std::alloc::{AllocError, Allocator};
 
 /// An edge as an item that meets those that come close to it. Of edges by themselves the sweep asks which share a point.
@@ -80,7 +82,22 @@ fn pass_beside(one: Edge, other: Edge) -> bool
     if have_one_point(one.bounds(), other.bounds()) {
         return false;
     }
+    if part_widely(one, other) {
+        return false;
+    }
     one_passes_end(one, other)
+}
+
+// Whether edges that share an end go so far apart that neither passes an end of the other one. Either's far end lies as far from the
+// other's line, by one cross product.
+#[inline(always)]
+fn part_widely(one: Edge, other: Edge) -> bool
+    requires { ShareEnd one other }
+    ensures { result ≡ true → ¬ (PassesEnd one other ⊎ PassesEnd other one) }
+{
+    let apart = cross_product(way_along(one), way_along(other));
+    let most = margin_of(one) + margin_of(other);
+    (most < apart + apart) | (apart + apart + most < 0)
 }
 
 // Whether the boxes have one point in common at most. All comparisons are made, since a branch between them would be guessed
