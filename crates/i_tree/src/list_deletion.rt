@@ -1,6 +1,6 @@
 //! Deletion from a vector.
 
-ghost use Rattle.std.specs.Prelude.{◌≡◌, ◌<◌, ◌≤◌, ◌+◌, ◌++◌, drop, length, take, vec_len, vec_capacity};
+ghost use Rattle.std.specs.Prelude.{◌≡◌, ◌<◌, ◌+◌, length, vec_len, vec_capacity};
 ghost use Rattle.std.specs.List.{remove};
 
 use std::alloc::Allocator;
@@ -24,15 +24,4 @@ pub fn delete_at<T: Drop, A: Allocator>(items: &mut Vec<T, A>, place: usize)
         gone += block;
     }
     items.remove(gone);
-}
-
-// Takes so many items out, from the place on. Those behind them move to the front at once.
-pub fn delete_run<T: Copy, A: Allocator>(items: &mut Vec<T, A>, place: usize, count: usize)
-    requires { place + count ≤ vec_len items.old }
-    ensures items { items.new.items ≡ take place items.old.items ++ drop (place + count) items.old.items }
-    ensures capacity { vec_capacity items.new ≡ vec_capacity items.old }
-{
-    let left = items.len() - count;
-    items.copy_within(place + count.., place);
-    items.truncate(left);
 }

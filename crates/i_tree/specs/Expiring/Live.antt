@@ -1,5 +1,5 @@
 -- Which pairs have a live key. `expiration` gives a key's expiration, and `cmp` compares expirations.
-use Rattle.std.specs.Prelude.{◌≡◌, ◌<◌, ◌≤◌, ◌+◌, ◌++◌, ℕ, suc, true, false, List, All, drop, filter, length, take}
+use Rattle.std.specs.Prelude.{◌≡◌, true, false, List, All, filter}
 use Rattle.std.specs.Ordering.{is_gt}
 use Rattle.std.specs.declared.cmp.Ordering.{Ordering}
 use Rattle.i_tree.specs.Root.Live.{is_live}
@@ -20,11 +20,3 @@ module _ {K E : Type 0} (expiration : K → E) (cmp : E → E → Ordering) wher
   -- no key of the pairs expires before a time
   abbrev pub NoneExpiresBefore : {V : Type 0} → E → List (K × V) → Type 0
   NoneExpiresBefore time pairs = All (λ pair. is_gt (cmp time (expiration pair.0)) ≡ false) pairs
-
-  -- as many of the pairs are expired at a time, from the first one on up to the last, and none of the others expires before the
-  -- earliest time
-  pub record AreExpired {V : Type 0} (time : E) (pairs : List (K × V)) (count first last : ℕ) (earliest : E) : Type 0 where
-    pub none : count ≡ 0 → live_pairs time pairs ≡ pairs
-    pub some : 0 < count → (first + count ≤ suc last) × (last < length pairs)
-    pub run : 0 < count → first + count ≡ suc last → live_pairs time pairs ≡ take first pairs ++ drop (suc last) pairs
-    pub rest : NoneExpiresBefore earliest (live_pairs time pairs)

@@ -1,13 +1,13 @@
 //! `ExpiringList`: pairs whose keys expire, in a vector. Both lists stand on it.
 
-ghost use Rattle.std.specs.Prelude.{◌≡◌, ◌<◌, ◌≤◌, ◌+◌, [], length, IsOk, OnOk, OnErr, IfOk};
+ghost use Rattle.std.specs.Prelude.{◌≡◌, ◌<◌, ◌≤◌, ◌+◌, [], length, IsOk, OnOk, OnErr, IfOk, IfSome};
 ghost use Rattle.std.specs.List.{insert};
 ghost use Rattle.i_tree.specs.Root.Causes.{RefusedFor};
 ghost use Rattle.i_tree.specs.Root.Change.{Without};
 ghost use Rattle.i_tree.specs.Expiring.List.{ListLeaves};
 ghost use Rattle.i_tree.specs.Expiring.Live.{IsExpired};
 
-use super::live::{Expires, expired_of, keep_live};
+use super::live::{Expires, earliest_expiration, is_live, keep_live};
 use crate::list_insertion::insert_at;
 use crate::{Expiration, Refusal};
 use std::alloc::{AllocError, Allocator};
@@ -94,19 +94,28 @@ impl<X: Expires<K, E>, K: Copy, E: Expiration, V: Copy, A: Allocator + Copy> Exp
         &self.pairs
     }
 
-    /// Removes what is expired at `time`, unless the bound says that nothing is. The answer is where the first pair stood that was,
-    /// if there was one: no clause says it.
-    pub fn remove_expired(&mut self, time: E) -> Option<usize>
-        ensures kept { Without (IsExpired X.expiration E.cmp time) self.old.pairs self.new.pairs }
-        ensures leaves { ListLeaves X.expiration E.cmp time self.old self.new }
+    /// Where the first pair stands that is expired at `time`, if there is one.
+    pub fn first_expired(&self, time: E) -> Option<usize>
+        ensures { IfSome result (λ place. place < length self.now.pairs) }
     {
         if self.earliest >= time {
             return None;
         }
-        let expired = expired_of::<X, K, E, V>(&self.pairs, time);
-        keep_live::<X, K, E, V, A>(&mut self.pairs, time, expired);
-        self.earliest = expired.earliest;
-        Some(expired.first)
+        self.pairs
+            .iter()
+            .position(|pair| !is_live::<X, K, E>(&pair.0, time))
+    }
+
+    /// Removes what is expired at `time`, unless the bound says that nothing is.
+    pub fn remove_expired(&mut self, time: E)
+        ensures kept { Without (IsExpired X.expiration E.cmp time) self.old.pairs self.new.pairs }
+        ensures leaves { ListLeaves X.expiration E.cmp time self.old self.new }
+    {
+        if self.earliest >= time {
+            return;
+        }
+        keep_live::<X, K, E, V, A>(&mut self.pairs, time);
+        self.earliest = earliest_expiration::<X, K, E, V>(&self.pairs);
     }
 
     /// Puts the pair at the place. A refusal changes nothing, and is for want of memory alone, never while there is room.

@@ -1,10 +1,9 @@
 //! Which keys are live at a time.
 
-ghost use Rattle.std.specs.Prelude.{◌≡◌, ◌<◌, Bool, vec_capacity};
-ghost use Rattle.i_tree.specs.Expiring.Live.{AreExpired, live_pairs};
+ghost use Rattle.std.specs.Prelude.{◌≡◌, Bool, vec_capacity};
+ghost use Rattle.i_tree.specs.Expiring.Live.{live_pairs, NoneExpiresBefore};
 ghost use Rattle.i_tree.specs.Root.Live.{is_live};
 
-use crate::list_deletion::delete_run;
 use crate::{Expiration, ExpiredKey, ExpiredVal};
 use std::alloc::Allocator;
 
@@ -76,63 +75,24 @@ impl<X: Expires<K, E>, K, E: Expiration> Liveness<K> for LiveAt<X, E> {
     }
 }
 
-/// What is expired of some pairs at a time.
-#[derive(Clone, Copy)]
-pub struct Expired<E> {
-    /// How many pairs are.
-    pub count: usize,
-    /// Where the first of these stands, and the last.
-    pub first: usize,
-    pub last: usize,
-    /// A time before which none of the others expires: the least of their expirations, if there are any.
-    pub earliest: E,
-}
-
-/// What is expired of the pairs at `time`.
-pub fn expired_of<X: Expires<K, E>, K, E: Expiration, V>(pairs: &[(K, V)], time: E) -> Expired<E>
-    ensures { AreExpired X.expiration E.cmp time pairs.now result.count result.first result.last result.earliest }
-{
-    let mut expired = Expired {
-        count: 0,
-        first: 0,
-        last: 0,
-        earliest: E::max_expiration(),
-    };
-    for (place, pair) in pairs.iter().enumerate() {
-        let expiration = X::expiration(&pair.0);
-        if expiration >= time {
-            expired.earliest = expired.earliest.min(expiration);
-        } else {
-            expired.first = first_of(expired.count, expired.first, place);
-            expired.last = place;
-            expired.count += 1;
-        }
-    }
-    expired
-}
-
-// Where the first pair expired stands: at this place, if none was before.
-fn first_of(count: usize, first: usize, place: usize) -> usize
-    ensures none { count ≡ 0 → result ≡ place }
-    ensures some { 0 < count → result ≡ first }
-{
-    if count == 0 { place } else { first }
-}
-
-/// Removes the pairs that are expired at `time`. Mostly these stand together, and all behind them move at once.
+/// Removes the pairs that are expired at `time`.
 pub fn keep_live<X: Expires<K, E>, K: Copy, E: Expiration, V: Copy, A: Allocator>(
     pairs: &mut Vec<(K, V), A>,
     time: E,
-    expired: Expired<E>,
 )
-    requires { AreExpired X.expiration E.cmp time pairs.old.items
-        expired.count expired.first expired.last expired.earliest }
     ensures live { pairs.new.items ≡ live_pairs X.expiration E.cmp time pairs.old.items }
     ensures capacity { vec_capacity pairs.new ≡ vec_capacity pairs.old }
 {
-    if 0 < expired.count && expired.last - expired.first < expired.count {
-        delete_run(pairs, expired.first, expired.count);
-        return;
-    }
     pairs.retain(|pair| is_live::<X, K, E>(&pair.0, time));
+}
+
+/// A time before which no key of the pairs expires: the least of their expirations, if there are any.
+pub fn earliest_expiration<X: Expires<K, E>, K, E: Expiration, V>(pairs: &[(K, V)]) -> E
+    ensures { NoneExpiresBefore X.expiration E.cmp result pairs.now }
+{
+    let mut earliest = E::max_expiration();
+    for pair in pairs {
+        earliest = earliest.min(X::expiration(&pair.0));
+    }
+    earliest
 }

@@ -87,12 +87,14 @@ impl<K: ExpiredVal<E>, E: Expiration, V: Copy, A: Allocator + Copy> StatusList<K
         self.held.pairs()
     }
 
-    // Where a pair that comes now mostly belongs: where one has expired, as an edge begins where another ends, else right behind
-    // the one that came last. It is a guess, on which no answer depends. There is none where guesses are mostly wrong.
-    fn likely_place(&self, expired: Option<usize>) -> Option<usize> {
+    // Where a pair that comes at `time` mostly belongs once what is expired has gone: where one has expired, as an edge begins
+    // where another ends, else right behind the one that came last. It is a guess, on which no answer depends. There is none
+    // where guesses are mostly wrong.
+    fn likely_place(&self, time: E) -> Option<usize> {
         if self.wrong_guesses >= GIVE_UP {
             return None;
         }
+        let expired = self.held.first_expired(time);
         Some(expired.unwrap_or(self.last_place.saturating_add(1)))
     }
 }
@@ -146,8 +148,8 @@ impl<K: ExpiredVal<E>, E: Expiration, V: Copy, A: Allocator + Copy> StatusCollec
         key: K,
         val: V,
     ) -> Result<Option<(Option<(K, V)>, Option<(K, V)>)>, Refusal> {
-        let expired = self.held.remove_expired(time);
-        let guess = self.likely_place(expired);
+        let guess = self.likely_place(time);
+        self.held.remove_expired(time);
         let Some(place) = place_by(self.held.pairs(), guess, f) else {
             return Ok(None);
         };

@@ -20,7 +20,7 @@ returns-then-ge-clause-kept g c =
     (Without-filter (λ pair. is_live g.X.Expires.expiration g.E.Ord.cmp c.args.time pair.0) c.args.self.now.pairs)
 
 -- the pairs that went left their room
-room : (g : _) (c : goal.After-self-2-1 g) → length c.keep_live.new.pairs.items + (vec_capacity c.keep_live.new.pairs - vec_len c.keep_live.new.pairs) ≡ length c.args.self.now.pairs + c.args.self.now.spare
+room : (g : _) (c : goal.After-self-1 g) → length c.keep_live.new.pairs.items + (vec_capacity c.keep_live.new.pairs - vec_len c.keep_live.new.pairs) ≡ length c.args.self.now.pairs + c.args.self.now.spare
 room g c =
     let shorter = length-filter_le (λ pair. is_live g.X.Expires.expiration g.E.Ord.cmp c.args.time pair.0) c.self.inside.pairs.items in
     rw (← c.self.view_is)

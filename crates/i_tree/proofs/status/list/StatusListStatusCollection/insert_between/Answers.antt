@@ -13,19 +13,19 @@ use Rattle.i_tree.proofs.status.list.StatusListStatusCollection.insert_between.G
 
 -- a live key is called Equal
 pub returns-in_default-clause-cases : goal.returns-in_default-clause-cases
-returns-in_default-clause-cases g c = rw (← c.self.view_is, ← c.remove_expired-expired.ensures.leaves.keeps_live, ← c.pairs.ensures) c.in_default.ensures.place
+returns-in_default-clause-cases g c = rw (← c.self.view_is, ← c.remove_expired.ensures.leaves.keeps_live, ← c.pairs.ensures) c.in_default.ensures.place
 
 pub returns-in_default-clause-ok : goal.returns-in_default-clause-ok
-returns-in_default-clause-ok g c = rw (← c.self.view_is) c.remove_expired-expired.ensures.kept
+returns-in_default-clause-ok g c = rw (← c.self.view_is) c.remove_expired.ensures.kept
 
 -- a refusal leaves the list that is left as it is, and nothing had gone
-full : (g : _) (c : goal.After-from_residual g) → c.remove_expired-expired.new.self.spare ≡ 0
-full g c = none_spare c.remove_expired-expired.new.self.spare (c.in_err-put.ensures).with_spare
+full : (g : _) (c : goal.After-from_residual g) → c.remove_expired.new.self.spare ≡ 0
+full g c = none_spare c.remove_expired.new.self.spare (c.in_err-put.ensures).with_spare
 
 stays : (g : _) (c : goal.After-from_residual g) → c.put.new.self ≡ c.args.self.now
 stays g c =
     (c.in_err-put.ensures).err
-    ∙ all_stayed g.K.ExpiredVal.expiration g.E.Ord.cmp c.args.time c.self.inside.held c.remove_expired-expired.new.self c.remove_expired-expired.ensures.leaves (full g c)
+    ∙ all_stayed g.K.ExpiredVal.expiration g.E.Ord.cmp c.args.time c.self.inside.held c.remove_expired.new.self c.remove_expired.ensures.leaves (full g c)
     ∙ c.self.view_is
 
 pub returns-in_err-put-clause-err : goal.returns-in_err-put-clause-err
@@ -34,14 +34,14 @@ returns-in_err-put-clause-err g c =
 
 pub returns-in_err-put-clause-with_room : goal.returns-in_err-put-clause-with_room
 returns-in_err-put-clause-with_room g c few =
-    absurd (omega (arith, few, ap (λ list. list.spare) c.self.view_is, had_no_spare g.K.ExpiredVal.expiration g.E.Ord.cmp c.args.time c.self.inside.held c.remove_expired-expired.new.self c.remove_expired-expired.ensures.leaves (full g c)))
+    absurd (omega (arith, few, ap (λ list. list.spare) c.self.view_is, had_no_spare g.K.ExpiredVal.expiration g.E.Ord.cmp c.args.time c.self.inside.held c.remove_expired.new.self c.remove_expired.ensures.leaves (full g c)))
 
 pub returns-in_err-put-clause-err_new : goal.returns-in_err-put-clause-err_new
 returns-in_err-put-clause-err_new g c =
     let live = live_pairs g.K.ExpiredVal.expiration g.E.Ord.cmp {V = g.row.V.Denot} c.args.time in
     MatchResult-from_err c.from_residual.result _ _ c.from_residual.ensures.0 (λ _.
     none_equal (is_live g.K.ExpiredVal.expiration g.E.Ord.cmp c.args.time) (goal.F-post g c.args.f) c.args.self.now.pairs c.in-Some.place
-    (subst (IsPlaced (is_live g.K.ExpiredVal.expiration g.E.Ord.cmp c.args.time) (goal.F-post g c.args.f) c.args.self.now.pairs c.in-Some.place) (c.pairs.ensures ∙ c.remove_expired-expired.ensures.leaves.keeps_live ∙ ap (λ list. live list.pairs) c.self.view_is)
+    (subst (IsPlaced (is_live g.K.ExpiredVal.expiration g.E.Ord.cmp c.args.time) (goal.F-post g c.args.f) c.args.self.now.pairs c.in-Some.place) (c.pairs.ensures ∙ c.remove_expired.ensures.leaves.keeps_live ∙ ap (λ list. live list.pairs) c.self.view_is)
     (c.in-Some.ensures).place))
 
 pub returns-in_err-put-clause-inserts : goal.returns-in_err-put-clause-inserts
@@ -51,9 +51,9 @@ returns-in_err-put-clause-inserts g c =
       err = OnErr-joined c.from_residual.result _ (MatchResult-from_err c.from_residual.result _ _ c.from_residual.ensures.0 (λ _. stays g c));
       refused = let p = err_from_is_err_and c.from_residual.result c.from_residual.ensures.1 in rw p.1 (p.2 ∙ (c.in_err-put.ensures).refused);
       with_spare = λ room.
-          absurd (omega (arith, room, ap (λ list. list.spare) c.self.view_is, had_no_spare g.K.ExpiredVal.expiration g.E.Ord.cmp c.args.time c.self.inside.held c.remove_expired-expired.new.self c.remove_expired-expired.ensures.leaves (full g c)));
+          absurd (omega (arith, room, ap (λ list. list.spare) c.self.view_is, had_no_spare g.K.ExpiredVal.expiration g.E.Ord.cmp c.args.time c.self.inside.held c.remove_expired.new.self c.remove_expired.ensures.leaves (full g c)));
       with_expired = λ expired.
-          absurd (false≢true (none_was_expired g.K.ExpiredVal.expiration g.E.Ord.cmp c.args.time c.self.inside.held c.remove_expired-expired.new.self c.remove_expired-expired.ensures.leaves (full g c)
+          absurd (false≢true (none_was_expired g.K.ExpiredVal.expiration g.E.Ord.cmp c.args.time c.self.inside.held c.remove_expired.new.self c.remove_expired.ensures.leaves (full g c)
           (subst (λ list. Any (IsExpired g.K.ExpiredVal.expiration g.E.Ord.cmp {V = g.row.V.Denot} c.args.time) list.pairs) (sym c.self.view_is) expired)));
     }
 
@@ -62,7 +62,7 @@ pub returns-clause-cases : goal.returns-clause-cases
 returns-clause-cases g c =
     let live = live_pairs g.K.ExpiredVal.expiration g.E.Ord.cmp {V = g.row.V.Denot} c.args.time in
     none_equal (is_live g.K.ExpiredVal.expiration g.E.Ord.cmp c.args.time) (goal.F-post g c.args.f) c.args.self.now.pairs c.in-Some.place
-    (subst (IsPlaced (is_live g.K.ExpiredVal.expiration g.E.Ord.cmp c.args.time) (goal.F-post g c.args.f) c.args.self.now.pairs c.in-Some.place) (c.pairs.ensures ∙ c.remove_expired-expired.ensures.leaves.keeps_live ∙ ap (λ list. live list.pairs) c.self.view_is)
+    (subst (IsPlaced (is_live g.K.ExpiredVal.expiration g.E.Ord.cmp c.args.time) (goal.F-post g c.args.f) c.args.self.now.pairs c.in-Some.place) (c.pairs.ensures ∙ c.remove_expired.ensures.leaves.keeps_live ∙ ap (λ list. live list.pairs) c.self.view_is)
     (c.in-Some.ensures).place)
 
 pub returns-clause-ok : goal.returns-clause-ok
@@ -70,16 +70,16 @@ returns-clause-ok g c =
     let live = live_pairs g.K.ExpiredVal.expiration g.E.Ord.cmp {V = g.row.V.Denot} c.args.time in
     let lives = is_live g.K.ExpiredVal.expiration g.E.Ord.cmp c.args.time in
     subst (JoinsAlong lives (goal.F-post g c.args.f) (c.args.key, c.args.val) c.args.self.now.pairs)
-    (sym ((c.in_ok-put.ensures).ok ∙ ap (λ pairs. insert pairs c.in-Some.place (c.args.key, c.args.val)) (c.remove_expired-expired.ensures.leaves.keeps_live ∙ ap (λ list. live list.pairs) c.self.view_is)))
+    (sym ((c.in_ok-put.ensures).ok ∙ ap (λ pairs. insert pairs c.in-Some.place (c.args.key, c.args.val)) (c.remove_expired.ensures.leaves.keeps_live ∙ ap (λ list. live list.pairs) c.self.view_is)))
     (joins_placed lives (goal.F-post g c.args.f) c.args.self.now.pairs c.in-Some.place
-    (subst (IsPlaced lives (goal.F-post g c.args.f) c.args.self.now.pairs c.in-Some.place) (c.pairs.ensures ∙ c.remove_expired-expired.ensures.leaves.keeps_live ∙ ap (λ list. live list.pairs) c.self.view_is) (c.in-Some.ensures).place)
+    (subst (IsPlaced lives (goal.F-post g c.args.f) c.args.self.now.pairs c.in-Some.place) (c.pairs.ensures ∙ c.remove_expired.ensures.leaves.keeps_live ∙ ap (λ list. live list.pairs) c.self.view_is) (c.in-Some.ensures).place)
     (c.args.key, c.args.val))
 
 pub returns-clause-neighbours : goal.returns-clause-neighbours
 returns-clause-neighbours g c =
     let live = live_pairs g.K.ExpiredVal.expiration g.E.Ord.cmp {V = g.row.V.Denot} c.args.time in
     let lives = is_live g.K.ExpiredVal.expiration g.E.Ord.cmp c.args.time in
-    let left = c.remove_expired-expired.ensures.leaves.keeps_live ∙ ap (λ list. live list.pairs) c.self.view_is in
+    let left = c.remove_expired.ensures.leaves.keeps_live ∙ ap (λ list. live list.pairs) c.self.view_is in
     neighbours_placed lives (goal.F-post g c.args.f) c.args.self.now.pairs c.in-Some.place
     (subst (IsPlaced lives (goal.F-post g c.args.f) c.args.self.now.pairs c.in-Some.place) (c.pairs.ensures ∙ left) (c.in-Some.ensures).place)
     c.beside-neighbours.result
