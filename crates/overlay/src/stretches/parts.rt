@@ -35,7 +35,7 @@ pub fn part_between(points: &[Point], from: usize, upto: usize) -> Part
     }
 }
 
-/// The part of a part from the end of its edge at the one place, or from its begin, up to the end of an edge.
+/// The part of this one from its point at the one place up to that at the other.
 pub fn part_within<'a>(part: Part<'a>, from: usize, upto: usize) -> Part<'a>
     requires { (from < upto) × (upto ≤ suc (length part.inner.now)) }
     ensures { way result ≡ between from (upto + 1) (way part.entry) }
