@@ -1,0 +1,10 @@
+pub mod AreaLemmas
+pub mod BitsLemmas
+pub mod CornerLemmas
+pub mod FitLemmas
+pub mod HeldLemmas
+pub mod NearestLemmas
+pub mod OrderLemmas
+pub mod PlacesLemmas
+pub mod PointLemmas
+pub mod RoundingLemmas
