@@ -13,8 +13,12 @@ use overlay::stretches::{Stretches, longest_of, stretches_of};
 use plane::point::Point;
 use std::alloc::{AllocError, Allocator};
 
-/// How many of the first points of each are looked at before rings are cut, to tell whether x turns often along them.
-const FIRST: usize = 256;
+/// At how many places, all along subject and clip, a few points are looked at before rings are cut, to tell whether x turns often
+/// along them. It is a prime number, so that places seldom fall in step with rings that have as many points each.
+const PLACES: usize = 31;
+
+/// How many points are looked at in one place.
+const AT_EACH: usize = 8;
 
 /// The real edges of subject and clip as stretches, or nothing where few would have several edges.
 ///
@@ -50,16 +54,28 @@ pub(crate) fn stretches_along<'a, A: Allocator + Copy>(
     Ok(Some(stretches))
 }
 
-// Whether x turns at more than one in twelve of the first points of both.
+// Whether x turns at more than one in twelve of the points that are looked at in both.
 fn turn_often(subject: &[Point], clip: &[Point]) -> bool {
-    let looked_at = subject.len().min(FIRST) + clip.len().min(FIRST);
+    let most = PLACES * AT_EACH;
+    let looked_at = subject.len().min(most) + clip.len().min(most);
     looked_at / 12 < count_turns(subject).saturating_add(count_turns(clip))
 }
 
-// How often x turns at the first points.
+// How often x turns at the points that are looked at. Where a long ring is steep, points that follow one another may have one x: so no
+// place tells of the whole ring.
 fn count_turns(points: &[Point]) -> usize {
+    let apart = (points.len() / PLACES).max(AT_EACH + 2);
     let mut turns: usize = 0;
-    for three in points.windows(3).take(FIRST) {
+    for some in points.chunks(apart) {
+        turns = turns.saturating_add(count_first_turns(some));
+    }
+    turns
+}
+
+// How often x turns at the first points.
+fn count_first_turns(points: &[Point]) -> usize {
+    let mut turns: usize = 0;
+    for three in points.windows(3).take(AT_EACH) {
         if !goes_on(three[0].x, three[1].x, three[2].x) {
             turns = turns.saturating_add(1);
         }
