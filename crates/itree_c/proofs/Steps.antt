@@ -16,7 +16,7 @@ pub use borrow.Table.OneValue.{part_in, part_out}
 pub use contract.BorrowLft.{◌⊑◌}
 pub use contract.Monad.{fact, fact_i}
 pub use contract.Running.{tables}
-pub use denote.Builtin.{SliceRefOf, i32, unit, usize}
+pub use denote.Builtin.{SliceRefOf, i32, i64, u8, unit, usize}
 pub use denote.Exit.{no, yes}
 pub use denote.Laws.{Is, shows}
 pub use denote.Memory.{cell_at, lone, part_at}

@@ -1,10 +1,12 @@
--- A fill rule and an operation, as C names them: by numbers.
+-- A fill rule, an operation and a form, as C names them: by numbers.
 use Rattle.std.specs.Prelude.{◌≡◌, ◌≢◌, ℤ, Option, Some, None}
 use Rattle.overlay.specs.declared.fill.rules.FillRule.{FillRule}
 use Rattle.overlay.specs.declared.fill.rules.FillRule.TheVariants.{EvenOdd, NonZero, Positive, Negative}
 use Rattle.overlay.specs.declared.fill.rules.Operation.{Operation}
 use Rattle.overlay.specs.declared.fill.rules.Operation.TheVariants.{Union, Intersection, Difference, Xor}
-use Rattle.itree_c.specs.declared.choices.TheConstants.{EVEN_ODD, NON_ZERO, POSITIVE, NEGATIVE, UNION, INTERSECTION, DIFFERENCE, XOR}
+use Rattle.wkb.specs.declared.writing.Form.{Form}
+use Rattle.wkb.specs.declared.writing.Form.TheVariants.{MultiPolygon, EachPolygon}
+use Rattle.itree_c.specs.declared.choices.TheConstants.{EVEN_ODD, NON_ZERO, POSITIVE, NEGATIVE, UNION, INTERSECTION, DIFFERENCE, XOR, MULTIPOLYGON, EACH_POLYGON}
 
 -- the number of each rule
 abbrev pub number_of_rule : FillRule → ℤ
@@ -34,3 +36,17 @@ IsOperation number None = (operation : Operation) → number ≢ number_of_opera
 abbrev pub AreChoices : ℤ → ℤ → Type 0
 AreChoices rule operation =
     ((named : FillRule) × (rule ≡ number_of_rule named)) × ((chosen : Operation) × (operation ≡ number_of_operation chosen))
+
+-- the number of each form
+abbrev pub number_of_form : Form → ℤ
+number_of_form MultiPolygon = MULTIPOLYGON
+number_of_form EachPolygon = EACH_POLYGON
+
+-- it is the form that has the number, or no form has it
+abbrev pub IsForm : ℤ → Option Form → Type 0
+IsForm number (Some form) = number ≡ number_of_form form
+IsForm number None = (form : Form) → number ≢ number_of_form form
+
+-- a form has the number
+abbrev pub IsNumberOfForm : ℤ → Type 0
+IsNumberOfForm number = (form : Form) × (number ≡ number_of_form form)

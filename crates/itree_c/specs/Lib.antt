@@ -1,5 +1,6 @@
 pub mod Chains
 pub mod Choices
+pub mod Grids
 pub mod Handle
 pub mod Heights
 pub mod Kinds
@@ -7,4 +8,6 @@ pub mod Meetings
 pub mod Overlay
 pub mod Places
 pub mod Raw
+pub mod Shapes
 pub mod Status
+pub mod Written

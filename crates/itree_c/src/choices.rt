@@ -1,8 +1,9 @@
-//! The numbers by which C names a fill rule and an operation.
+//! The numbers by which C names a fill rule, an operation and a form of well-known binary.
 
-ghost use Rattle.itree_c.specs.Choices.{IsOperation, IsRule};
+ghost use Rattle.itree_c.specs.Choices.{IsForm, IsOperation, IsRule};
 
 use polygons::{FillRule, Operation};
+use wkb::writing::Form;
 
 /// Inside are the points with an odd winding number.
 pub const EVEN_ODD: i32 = 0;
@@ -28,8 +29,16 @@ pub const DIFFERENCE: i32 = 2;
 /// The points of just one of the two.
 pub const XOR: i32 = 3;
 
+/// One multipolygon.
+pub const MULTIPOLYGON: i32 = 0;
+
+/// Each polygon by itself.
+pub const EACH_POLYGON: i32 = 1;
+
 // `itree.h` has these numbers.
 const _: () = prove!(EVEN_ODD == 0 && NON_ZERO == 1 && POSITIVE == 2 && NEGATIVE == 3);
+
+const _: () = prove!(MULTIPOLYGON == 0 && EACH_POLYGON == 1);
 
 const _: () = prove!(UNION == 0 && INTERSECTION == 1 && DIFFERENCE == 2 && XOR == 3);
 
@@ -55,6 +64,17 @@ pub(crate) fn operation_of(number: i32) -> Option<Operation>
         INTERSECTION => Some(Operation::Intersection),
         DIFFERENCE => Some(Operation::Difference),
         XOR => Some(Operation::Xor),
+        _ => None,
+    }
+}
+
+// The form that has the number, or none.
+pub(crate) fn form_of(number: i32) -> Option<Form>
+    ensures { IsForm number result }
+{
+    match number {
+        MULTIPOLYGON => Some(Form::MultiPolygon),
+        EACH_POLYGON => Some(Form::EachPolygon),
         _ => None,
     }
 }

@@ -40,7 +40,7 @@ pub extern "C" fn itree_below(
     ensures lengths { (result ≡ LENGTHS) ↔ (length heights.old ≢ length points.now) }
     ensures kept { result ≢ ANSWERED → heights.new ≡ heights.old }
     ensures place { result ≢ OVERLAP → overlap.new ≡ overlap.old }
-    ensures status { IsStatus result }
+    ensures status { IsStatus OVERLAP result }
 {
     if heights.len() != points.len() {
         return LENGTHS;

@@ -1,5 +1,5 @@
-//! Calls from C, and so from each language that calls C: a static library over `itree_lib`, `plane`, `overlay` and
-//! `polygons`.
+//! Calls from C, and so from each language that calls C: a static library over `itree_lib`, `plane`, `overlay`,
+//! `polygons`, `grid` and `wkb`.
 //!
 //! Each function takes slices, which are a pointer and a length in C, writes its answers into slices of its caller's,
 //! and answers a status. An answer whose size isn't known before goes out as a handle, which the caller gives back.
@@ -9,6 +9,7 @@
 
 pub mod chains;
 pub mod choices;
+pub mod grids;
 pub mod handle;
 pub mod heights;
 pub mod kinds;
@@ -18,5 +19,8 @@ pub mod pairs;
 pub mod places;
 pub mod polygon_lists;
 pub mod raw;
+pub mod shapes;
+pub mod shapes_read;
+pub mod shapes_written;
 pub mod snapped;
 pub mod status;

@@ -49,7 +49,7 @@ pub extern "C" fn itree_meetings(
 
 /// Writes the places of some two edges that meet, the lesser first, where two do.
 ///
-/// The status is `ANSWERED` (0), and no two edges meet; `MEETING` (2) where two do, and then `first` and `second` are the
+/// The status is `ANSWERED` (0), and no two edges meet; `MEETING` (7) where two do, and then `first` and `second` are the
 /// places of two that do; or `REFUSED` (1) where memory was refused. Only at `MEETING` is anything written. Which edges
 /// meet, and that it stops at the first edge that meets others before it, is said at `first_meeting` of `plane::meet`.
 #[unsafe(no_mangle)]

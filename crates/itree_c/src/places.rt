@@ -25,7 +25,7 @@ pub struct Place {
 /// Writes for each of the points, in order, the place of the edge straight below it.
 ///
 /// The status is `ANSWERED` (0), and no two edges cross; `REFUSED` (1) where memory was refused, or where more edges than
-/// there are handles are met at once; `CROSSING` (2) where two cross, and then `first` and `second` are the places of two
+/// there are handles are met at once; `CROSSING` (6) where two cross, and then `first` and `second` are the places of two
 /// that do, the lesser first; `LENGTHS` (3) where there are not as many places as points. Only at `ANSWERED` are places
 /// written, and only at `CROSSING` the pair. Which edge lies straight below a point, which edges cross, and what it costs,
 /// is said at `locate` of `plane`.
@@ -43,7 +43,7 @@ pub extern "C" fn itree_locate(
     ensures lengths { (result ≡ LENGTHS) ↔ (length places.old ≢ length points.now) }
     ensures kept { result ≢ ANSWERED → places.new ≡ places.old }
     ensures pair { result ≢ CROSSING → (first.new ≡ first.old) × (second.new ≡ second.old) }
-    ensures status { IsStatus result }
+    ensures status { IsStatus CROSSING result }
 {
     if places.len() != points.len() {
         return LENGTHS;

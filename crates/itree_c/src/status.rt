@@ -9,25 +9,29 @@ pub const REFUSED: i32 = 1;
 /// The input overlaps: the call tells where.
 pub const OVERLAP: i32 = 2;
 
-/// Two edges cross: the call tells which.
-pub const CROSSING: i32 = 2;
-
-/// Two edges meet: the call tells which.
-pub const MEETING: i32 = 2;
-
 /// The lengths of two slices don't fit each other.
 pub const LENGTHS: i32 = 3;
 
 /// A rule or an operation isn't one of their numbers. `itree.h` has 4 for a faulty pointer, which no call here answers.
 pub const CHOICE: i32 = 5;
 
+/// Two edges cross: the call tells which.
+pub const CROSSING: i32 = 6;
+
+/// Two edges meet: the call tells which.
+pub const MEETING: i32 = 7;
+
+/// What was given can't be taken: the call tells where.
+pub const FAULTY: i32 = 8;
+
 // `itree.h` has these numbers.
 const _: () = prove!(
     ANSWERED == 0
         && REFUSED == 1
         && OVERLAP == 2
-        && CROSSING == 2
-        && MEETING == 2
         && LENGTHS == 3
         && CHOICE == 5
+        && CROSSING == 6
+        && MEETING == 7
+        && FAULTY == 8
 );
