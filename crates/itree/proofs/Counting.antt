@@ -5,7 +5,7 @@ use Rattle.std.specs.List.{All, cons_option}
 use Rattle.std.specs.Option.{option_to_list}
 use Rattle.itree.specs.Grammar.{LineSays, LinesSay, IsFaulty, IsFirstFaulty}
 use Rattle.itree.specs.declared.fault.Fault.{Fault}
-use Rattle.itree.specs.declared.fault.Fault.TheVariants.{Line, Stopped}
+use Rattle.itree.specs.declared.fault.Fault.TheVariants.{Line, Memory}
 
 -- one option before a list, and the rest after it
 cons_option-append : {X : Type 0} (o : Option X) (xs ys : List X) → cons_option o xs ++ ys ≡ cons_option o (xs ++ ys)
@@ -23,7 +23,7 @@ shorter rest left None number total is within less = tt
 shorter rest left (Some text) number total is within less = let here : number + length left.now ≤ total = rw is at within in omega (arith, here, less)
 
 -- a fault that names a line names the one that it may name
-pub named : (fault : Fault) (number other : ℕ) → (fault ≡ Line number) ⊎ (fault ≡ Stopped) → fault ≡ Line other → number ≡ other
+pub named : (fault : Fault) (number other : ℕ) → (fault ≡ Line number) ⊎ (fault ≡ Memory) → fault ≡ Line other → number ≡ other
 named fault number other (inl is) says = cc
 named fault number other (inr is) says = cc
 

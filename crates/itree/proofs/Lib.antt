@@ -4,6 +4,7 @@ pub mod Chained
 pub mod CommandLines
 pub mod Counting
 pub mod Faults
+pub mod FaultyWords
 pub mod Located
 pub mod Meetings
 pub mod Ringed

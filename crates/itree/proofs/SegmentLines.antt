@@ -1,5 +1,5 @@
 -- Segments that lines say, counted as the lines pass.
-use Rattle.std.proofs.Common.{◌≡◌, ◌+◌, ℕ, Bool, true, cond, List, [], ◌∷◌, ◌++◌, Option, Some, None, length, refl, sym, ap, ◌∙◌, subst, length-append, append_assoc, append-nil, arith}
+use Rattle.std.proofs.Common.{◌≡◌, ◌+◌, ℕ, Bool, cond, List, [], ◌∷◌, ◌++◌, Option, Some, None, length, sym, ap, ◌∙◌, subst, length-append, append_assoc, append-nil, arith}
 use Rattle.std.proofs.lemmas.List.Elements.{filter_map-append}
 use Rattle.std.specs.List.{cons_option}
 use Rattle.std.specs.Option.{option_to_list}
@@ -7,7 +7,6 @@ use Rattle.itree.specs.Grammar.{LineSays, LinesSay}
 use Rattle.itree.specs.SweepLines.{SaysSweepLine, segment_in, segments_of, says_segment}
 use Rattle.itree.specs.declared.lines.sweep.SweepLine.{SweepLine}
 use Rattle.itree.specs.declared.lines.sweep.SweepLine.TheVariants as sweep_line
-use Rattle.itree_lib.specs.declared.sweep.Segment.{Segment}
 use Rattle.itree.proofs.Counting.{LinesSay-push}
 
 -- what is said, cut where some lines have passed and the others are left; as many segments have passed

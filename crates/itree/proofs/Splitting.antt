@@ -14,7 +14,7 @@ use Rattle.std.specs.Str.Iter.{split_ascii_whitespace_steps, split_ascii_whitesp
 use Rattle.itree.specs.Grammar.{words_of}
 
 -- white space before the words is passed over
-words_of-gap : (gap rest : List ℕ) → AllPass is_ascii_whitespace gap → words_of (gap ++ rest) ≡ words_of rest
+pub words_of-gap : (gap rest : List ℕ) → AllPass is_ascii_whitespace gap → words_of (gap ++ rest) ≡ words_of rest
 words_of-gap [] rest blank = refl
 words_of-gap (x ∷ gap) rest blank =
     ap (filter (λ word. nat_lt 0 (length word))) (slice_split-cons_yes is_ascii_whitespace x (gap ++ rest) (All-head (λ byte. is_ascii_whitespace byte ≡ true) x gap blank))
@@ -40,7 +40,7 @@ kept word parts some =
     ap (λ (b : Bool). cond b (word ∷ others) others) test
 
 -- a word comes first, and the words after the white space that ends it follow
-words_of-word : (word sep rest : List ℕ) → 0 < length word → All (λ byte. is_ascii_whitespace byte ≡ false) word → IsAsciiSeparator sep rest → words_of (word ++ (sep ++ rest)) ≡ word ∷ words_of rest
+pub words_of-word : (word sep rest : List ℕ) → 0 < length word → All (λ byte. is_ascii_whitespace byte ≡ false) word → IsAsciiSeparator sep rest → words_of (word ++ (sep ++ rest)) ≡ word ∷ words_of rest
 words_of-word word [] [] some solid ends =
     ap words_of (append-nil word) ∙ ap (filter (λ part. nat_lt 0 (length part))) (slice_split_none is_ascii_whitespace word solid) ∙ kept word [] some
 words_of-word word [] (y ∷ rest) some solid ends = let last : length (y ∷ rest) ≡ 0 = ends.2 refl in absurd (omega (arith, last))

@@ -4,7 +4,7 @@ use Rattle.std.specs.Borrow.{Bor}
 use Rattle.itree.specs.Grammar.{lines_of, LinesSay, IsFirstFaulty}
 use Rattle.itree.specs.Modes.{row_of, Names}
 use Rattle.itree.specs.declared.fault.Fault.{Fault}
-use Rattle.itree.specs.declared.fault.Fault.TheVariants.{Arguments, Line, Overlap, Cross, Stopped}
+use Rattle.itree.specs.declared.fault.Fault.TheVariants.{Arguments, Line, Overlap, Cross, Memory, Reading, Writing}
 use Rattle.itree.specs.declared.mode.Mode.{Mode}
 
 -- the output answers the commands that the lines of the text say; whether a tree or a list is kept makes no difference
@@ -44,4 +44,6 @@ IsFaultOf words input (Overlap number) = (mode : Mode) → Names words mode → 
 IsFaultOf words input (Cross first second) =
     (mode : Mode) → Names words mode → IfSome input (λ text. HasCrossingLines mode text first second)
 IsFaultOf words input Arguments = ⊤
-IsFaultOf words input Stopped = ⊤
+IsFaultOf words input Memory = ⊤
+IsFaultOf words input (Reading error) = ⊤
+IsFaultOf words input (Writing error) = ⊤

@@ -43,7 +43,7 @@ mod sweep;
 ///
 /// The range of a mode of segments is to have a layout. The answer is `Fault::Line` with the number of the first faulty
 /// line, before any command is run, `Fault::Overlap` with the number of the line whose segment is the first of a sweep that
-/// overlaps, `Fault::Cross` with the numbers of two lines whose edges cross, where they are not to, or `Fault::Stopped` where
+/// overlaps, `Fault::Cross` with the numbers of two lines whose edges cross, where they are not to, or `Fault::Memory` where
 /// memory was refused.
 pub fn answer_text<A: Allocator + Copy>(
     alloc: A,
@@ -126,7 +126,7 @@ fn answer_keys<A: Allocator + Copy, C: KeyExpCollection<TimedKey, i32, i32>>(
 ) -> Result<String<A>, Fault>
     ensures answered { IfOk result (λ output. AnswersKeys (C.stored collection.old) commands.now
         (string_bytes output)) }
-    ensures err { IfErr result (λ fault. fault ≡ Fault.Stopped) }
+    ensures err { IfErr result (λ fault. fault ≡ Fault.Memory) }
 {
     let mut replies = Vec::new(alloc);
     run_keys(collection, commands, compare_key, &mut replies)?;
@@ -142,7 +142,7 @@ fn answer_set<A: Allocator + Copy, C: SetCollection<i32, SetKey>>(
     requires { IsOrdered (λ value. value.key) int_cmp (C.pairs set.old) }
     ensures answered { IfOk result (λ output. AnswersSet (values (C.pairs set.old)) commands.items
         (string_bytes output)) }
-    ensures err { IfErr result (λ fault. fault ≡ Fault.Stopped) }
+    ensures err { IfErr result (λ fault. fault ≡ Fault.Memory) }
 {
     let mut replies = Vec::new(alloc);
     run_sets(set, commands, &mut replies)?;
@@ -158,7 +158,7 @@ fn answer_segments<A: Allocator + Copy>(
     requires empty { tree.old.members ≡ [] }
     requires new { tree.old.latest ≡ None }
     ensures answered { IfOk result (λ output. AnswersSegments tree.old.buckets commands.now (string_bytes output)) }
-    ensures err { IfErr result (λ fault. fault ≡ Fault.Stopped) }
+    ensures err { IfErr result (λ fault. fault ≡ Fault.Memory) }
 {
     let mut replies = Vec::new(alloc);
     run_segments(tree, commands, &mut replies)?;

@@ -1,14 +1,19 @@
 //! Why the program ends without replies.
 
 ghost use Rattle.std.specs.Prelude.{◌≡◌};
-ghost use Rattle.itree.specs.declared.fault.Fault.TheVariants.{Stopped};
+ghost use Rattle.itree.specs.declared.fault.Fault.TheVariants.{Memory, Reading};
 
 use i_tree::{Refusal, Refused};
 use std::alloc::{AllocError, AllocFailed};
-use std::io::{self, Write};
+use std::io;
+
+pub mod arguments;
+pub mod tell;
+pub mod wanted;
+pub mod words;
 
 /// Why the program ends without replies.
-#[derive(Clone, Copy, Debug, PartialEq, Eq)]
+#[derive(Clone, Copy, Debug)]
 pub enum Fault {
     /// The arguments name no mode.
     Arguments,
@@ -19,14 +24,16 @@ pub enum Fault {
     Overlap(usize),
     /// These two lines, counted from 1 and the first above the second, say edges that cross.
     Cross(usize, usize),
-    /// Reading, writing or memory failed.
-    Stopped,
+    /// Memory was refused.
+    Memory,
+    /// Reading failed, and this is why. It may be that memory was refused.
+    Reading(io::Error),
+    /// Writing failed, and this is why.
+    Writing(io::Error),
 }
 
 impl Fault {
-    ghost use Rattle.std.specs.Prelude.{OnOk};
-    ghost use Rattle.std.specs.Io.KnownBytes.{Appends};
-    ghost use Rattle.itree.specs.Faults.{status_of, fault_line};
+    ghost use Rattle.itree.specs.Faults.{status_of};
 
     /// What the process ends with.
     pub fn status(self) -> u8
@@ -34,61 +41,47 @@ impl Fault {
     {
         match self {
             Fault::Arguments | Fault::Line(_) | Fault::Overlap(_) | Fault::Cross(_, _) => 2,
-            Fault::Stopped => 1,
-        }
-    }
-
-    /// Writes the line that tells the fault. Of `Stopped` there is none, and nothing is written.
-    pub fn tell<X: Write>(self, faults: &mut X) -> io::Result<()>
-        ensures told { OnOk result (Appends (X.contents faults.old) (X.contents faults.new) (fault_line self)) }
-        ensures untold { self ≡ Fault.Stopped → faults.new ≡ faults.old }
-    {
-        match self {
-            Fault::Arguments => faults.write_all(b"itree: arguments\n"),
-            Fault::Line(number) => writeln!(faults, "itree: line {number}"),
-            Fault::Overlap(number) => writeln!(faults, "itree: overlap {number}"),
-            Fault::Cross(first, second) => writeln!(faults, "itree: cross {first} {second}"),
-            Fault::Stopped => Ok(()),
+            Fault::Memory | Fault::Reading(_) | Fault::Writing(_) => 1,
         }
     }
 }
 
 impl From<AllocError> for Fault {
-    ghost from_gives = { λ _ fault. fault ≡ Stopped };
+    ghost from_gives = { λ _ fault. fault ≡ Memory };
 
     fn from(_refused: AllocError) -> Fault {
-        Fault::Stopped
+        Fault::Memory
     }
 }
 
 impl<T: Drop> From<AllocFailed<T>> for Fault {
-    ghost from_gives = { λ _ fault. fault ≡ Stopped };
+    ghost from_gives = { λ _ fault. fault ≡ Memory };
 
     fn from(_refused: AllocFailed<T>) -> Fault {
-        Fault::Stopped
+        Fault::Memory
     }
 }
 
 impl From<Refusal> for Fault {
-    ghost from_gives = { λ _ fault. fault ≡ Stopped };
+    ghost from_gives = { λ _ fault. fault ≡ Memory };
 
     fn from(_refused: Refusal) -> Fault {
-        Fault::Stopped
+        Fault::Memory
     }
 }
 
 impl<T: Drop> From<Refused<T>> for Fault {
-    ghost from_gives = { λ _ fault. fault ≡ Stopped };
+    ghost from_gives = { λ _ fault. fault ≡ Memory };
 
     fn from(_refused: Refused<T>) -> Fault {
-        Fault::Stopped
+        Fault::Memory
     }
 }
 
 impl From<io::Error> for Fault {
-    ghost from_gives = { λ _ fault. fault ≡ Stopped };
+    ghost from_gives = { λ error fault. fault ≡ Reading error };
 
-    fn from(_failed: io::Error) -> Fault {
-        Fault::Stopped
+    fn from(error: io::Error) -> Fault {
+        Fault::Reading(error)
     }
 }

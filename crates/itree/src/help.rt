@@ -52,7 +52,8 @@ where edges are broken where they meet, from its beginning to its end. No two th
 itree overlay OPERATION RULE: polygons of what OPERATION, union, intersection, difference or xor,
 makes of the inside of the subject and that of the clip, by RULE, evenodd, nonzero, positive or
 negative. Each line is a ring. A polygon has a line, polygon X Y .., its outer ring, and behind it
-one for each of its holes, hole X Y .., which run clockwise.
+one for each of its holes, hole X Y .., which run clockwise. Options do as well, in any order:
+--operation OPERATION, union where it isn't there, and --rule RULE, nonzero where it isn't there.
   subject X Y ..
   clip X Y ..
 
@@ -61,11 +62,14 @@ itree --version, itree -V: the version, as itree NUMBER.NUMBER.NUMBER
 
 Numbers are whole, from -2147483648 to 2147483647. A line without words counts, and has no reply.
 refused: there is no memory. The status is 0 where all is answered, 1 where memory, reading or
-writing failed, and 2 where nothing is answered. Standard error then has one of these lines:
-  itree: arguments                     they are none of those above
-  itree: line N                        line N is the first that is no line of the mode
+writing failed, and 2 where nothing is answered. At 1 and 2 standard error has one of these lines:
+  itree: arguments: ..                 they are none of those above: which one, and what is wanted
+  itree: line N: column C: ..          line N is the first that is no line of the mode: which word
   itree: overlap N                     the segment of line N overlaps another at one height
   itree: cross N M                     the edges of lines N and M cross
+  itree: memory was refused
+  itree: reading failed: ..            why, as the system says
+  itree: writing failed: ..            why, as the system says
 There are examples in docs/COMMANDS.md.
 ";
 

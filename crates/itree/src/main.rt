@@ -9,19 +9,28 @@ mod fault;
 mod help;
 mod lines;
 mod mode;
+mod options;
 mod program;
 mod set_key;
 mod timed_key;
 mod timed_val;
 mod version;
 
+use fault::Fault;
+use fault::tell::tell_fault;
+use options::chosen;
 use program::run_itree;
 use std::env;
-use std::io::{self, ErrorKind};
+use std::io::{self, ErrorKind, Write};
 use std::process::ExitCode;
 
 fn main(rt: HostRuntime) -> ExitCode {
-    exit_code(run_process(&rt))
+    let outcome = run_process(&rt);
+    if outcome.is_err() {
+        // Where standard error takes no more, the status tells it alone.
+        let _ = tell_fault(Fault::Memory, &[], &[], &mut rt.stderr());
+    }
+    exit_code(outcome)
 }
 
 // What the process ends with: the status, or 1 where there is none.
@@ -36,22 +45,41 @@ fn exit_code(outcome: io::Result<u8>) -> ExitCode
 
 // Runs the program over the process's arguments and streams. An error says that memory was refused.
 fn run_process(rt: &HostRuntime) -> io::Result<u8> {
-    let arguments = match env::args(rt) {
+    let arguments: Vec<String> = match env::args(rt) {
         Ok(arguments) => arguments.skip(1).collect(rt.alloc())?,
-        // An argument that is not text is faulty, and so is having none.
-        Err(error) if error.kind() == ErrorKind::InvalidData => Vec::new(rt.alloc()),
+        // An argument that is not text is faulty.
+        Err(error) if error.kind() == ErrorKind::InvalidData => return Ok(told_no_text(rt)),
         Err(error) => return Err(error),
     };
     let words: Vec<&str> = arguments
         .iter()
         .map(|argument| argument.as_str())
         .collect(rt.alloc())?;
-    let status = run_itree(
+    // An overlay's options stand for its two words.
+    match chosen(&words) {
+        Some((operation, rule)) => Ok(run_words(rt, &["overlay", operation, rule])),
+        None => Ok(run_words(rt, &words)),
+    }
+}
+
+// Runs the program over these words and the process's streams.
+fn run_words(rt: &HostRuntime, words: &[&str]) -> u8 {
+    run_itree(
         rt.alloc(),
-        &words,
+        words,
         &mut rt.stdin(),
         &mut rt.stdout(),
         &mut rt.stderr(),
-    );
-    Ok(status)
+    )
+}
+
+// Tells that an argument is not text, and gives the status of that.
+fn told_no_text(rt: &HostRuntime) -> u8
+    ensures { result ≡ 2 }
+{
+    // Where standard error takes no more, the status tells it alone.
+    let _ = rt
+        .stderr()
+        .write_all(b"itree: arguments: one is no text in UTF-8\n");
+    2
 }

@@ -87,8 +87,8 @@ fn overlay_by(operation: &str, rule: &str) -> Option<Mode>
     Some(Mode::Overlay { operation, rule })
 }
 
-// The operation that the word names.
-fn operation_named(word: &str) -> Option<Operation>
+/// The operation that the word names.
+pub fn operation_named(word: &str) -> Option<Operation>
     ensures named { IfSome result (λ operation. word.now ≡ operation_word operation) }
     ensures unnamed { IsNone result → (operation : Operation) → word.now ≢ operation_word operation }
 {
@@ -101,8 +101,8 @@ fn operation_named(word: &str) -> Option<Operation>
     }
 }
 
-// The rule that the word names.
-fn rule_named(word: &str) -> Option<FillRule>
+/// The rule that the word names.
+pub fn rule_named(word: &str) -> Option<FillRule>
     ensures named { IfSome result (λ rule. word.now ≡ rule_word rule) }
     ensures unnamed { IsNone result → (rule : FillRule) → word.now ≢ rule_word rule }
 {

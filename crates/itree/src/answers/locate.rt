@@ -16,7 +16,7 @@ use std::alloc::{AllocError, Allocator};
 
 /// The text of the replies to the points that the lines of the text say, among the edges that they say.
 ///
-/// The answer is `Fault::Cross` with the numbers of two lines that say edges which cross, or `Fault::Stopped` where memory
+/// The answer is `Fault::Cross` with the numbers of two lines that say edges which cross, or `Fault::Memory` where memory
 /// was refused.
 pub fn answer_locate<A: Allocator + Copy, C: StatusCollection<ActiveEdge, i64, ()>>(
     alloc: A,
@@ -28,7 +28,7 @@ pub fn answer_locate<A: Allocator + Copy, C: StatusCollection<ActiveEdge, i64, (
     ensures answered { IfOk result (λ output. AnswersLocate (lines_of text.now) said.now (string_bytes output)) }
     ensures crossing { (first second : ℕ) → result ≡ Err (Fault.Cross first second) →
         AreCrossingLines (lines_of text.now) first second }
-    ensures err { IfErr result (λ fault. (fault ≡ Fault.Stopped)
+    ensures err { IfErr result (λ fault. (fault ≡ Fault.Memory)
         ⊎ ((first : ℕ) × (second : ℕ) × (fault ≡ Fault.Cross first second))) }
 {
     let edges = edges_in(alloc, said)?;
@@ -40,7 +40,7 @@ pub fn answer_locate<A: Allocator + Copy, C: StatusCollection<ActiveEdge, i64, (
             let replies = numbers_at(alloc, &places, &numbers)?;
             Ok(reply_text(alloc, &replies)?)
         }
-        Err(LocateFault::Refused(_)) => Err(Fault::Stopped),
+        Err(LocateFault::Refused(_)) => Err(Fault::Memory),
         Err(LocateFault::Cross(one, other)) => Err(crossing(&numbers, one, other)),
     }
 }

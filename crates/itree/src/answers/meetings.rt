@@ -21,7 +21,7 @@ pub fn answer_meetings<A: Allocator + Copy>(
 ) -> Result<String<A>, Fault>
     requires { LinesSay SaysEdge (lines_of text.now) edges.now }
     ensures answered { IfOk result (λ output. AnswersMeetings (lines_of text.now) edges.now (string_bytes output)) }
-    ensures err { IfErr result (λ fault. fault ≡ Fault.Stopped) }
+    ensures err { IfErr result (λ fault. fault ≡ Fault.Memory) }
 {
     let numbers = command_lines(alloc, text)?;
     let pairs = ordered_meetings(alloc, edges)?;

@@ -20,13 +20,13 @@ pub fn answer_rings<A: Allocator + Copy>(
     requires { (said : List RingLine) × HoldsSaid rings.now said }
     ensures answered { IfOk result (λ output. (said : List RingLine) → HoldsSaid rings.now said →
         AnswersOverlay operation rule said (string_bytes output)) }
-    ensures err { IfErr result (λ fault. fault ≡ Fault.Stopped) }
+    ensures err { IfErr result (λ fault. fault ≡ Fault.Memory) }
 {
     let mut polygons = Polygons::new(alloc);
     let (subject, clip) = (rings.subject.rings(), rings.clip.rings());
     match overlay(subject, clip, rule, operation, &mut polygons) {
         Ok(()) => Ok(polygon_text(alloc, &polygons)?),
-        Err(OverlayFault::Refused(_)) => Err(Fault::Stopped),
+        Err(OverlayFault::Refused(_)) => Err(Fault::Memory),
         Err(OverlayFault::Lengths) => unreachable!(),
     }
 }

@@ -12,7 +12,7 @@ use std::alloc::Allocator;
 /// The text of the replies to the edges.
 pub fn answer_snap<A: Allocator + Copy>(alloc: A, edges: &[Edge]) -> Result<String<A>, Fault>
     ensures answered { IfOk result (λ output. AnswersSnap edges.now (string_bytes output)) }
-    ensures err { IfErr result (λ fault. fault ≡ Fault.Stopped) }
+    ensures err { IfErr result (λ fault. fault ≡ Fault.Memory) }
 {
     let mut points = Vec::new(alloc);
     let mut ends = Vec::new(alloc);

@@ -14,7 +14,7 @@ use std::alloc::{AllocError, Allocator};
 /// The text of the replies to the points that the lines of the text say, over the segments that they say.
 ///
 /// The answer is `Fault::Overlap` with the number of the line that says the first segment that overlaps, or
-/// `Fault::Stopped` where memory was refused.
+/// `Fault::Memory` where memory was refused.
 pub fn answer_sweep<A: Allocator + Copy, C: KeyExpCollection<Level, i32, Option<i32>>>(
     alloc: A,
     store: &mut C,
@@ -24,14 +24,14 @@ pub fn answer_sweep<A: Allocator + Copy, C: KeyExpCollection<Level, i32, Option<
     requires { LinesSay SaysSweepLine (lines_of text.now) said.now }
     ensures answered { IfOk result (λ output. AnswersSweep said.now (string_bytes output)) }
     ensures overlap { (number : ℕ) → result ≡ Err (Fault.Overlap number) → IsOverlapLine (lines_of text.now) number }
-    ensures err { IfErr result (λ fault. (fault ≡ Fault.Stopped) ⊎ ((number : ℕ) × (fault ≡ Fault.Overlap number))) }
+    ensures err { IfErr result (λ fault. (fault ≡ Fault.Memory) ⊎ ((number : ℕ) × (fault ≡ Fault.Overlap number))) }
 {
     let segments = segments_in(alloc, said)?;
     let points = points_in(alloc, said)?;
     let mut answers = Vec::new(alloc);
     match below(store, &segments, &points, &mut answers) {
         Ok(()) => Ok(reply_text(alloc, &answers)?),
-        Err(SweepFault::Refused(_)) => Err(Fault::Stopped),
+        Err(SweepFault::Refused(_)) => Err(Fault::Memory),
         Err(SweepFault::Overlap(place)) => Err(Fault::Overlap(segment_line(text, place))),
     }
 }

@@ -56,7 +56,7 @@ pub trait LineReply {
 /// The commands of a text, in order. A line feed ends a line, and the last line may lack it.
 ///
 /// A line without words has no command, and counts in the numbers of the lines. The answer is `Fault::Line` with the
-/// number of the first faulty line, or `Fault::Stopped` where memory was refused before that line.
+/// number of the first faulty line, or `Fault::Memory` where memory was refused before that line.
 pub fn parse_commands<A: Allocator + Copy, C: LineCommand>(
     alloc: A,
     text: &[u8],
@@ -64,7 +64,7 @@ pub fn parse_commands<A: Allocator + Copy, C: LineCommand>(
     ensures said { IfOk result (λ commands. LinesSay C.says (lines_of text.now) commands.items) }
     ensures faulty { (number : ℕ) → result ≡ Err (Fault.Line number) →
         IsFirstFaulty C.says (lines_of text.now) number }
-    ensures err { IfErr result (λ fault. (fault ≡ Fault.Stopped) ⊎ ((number : ℕ) × (fault ≡ Fault.Line number))) }
+    ensures err { IfErr result (λ fault. (fault ≡ Fault.Memory) ⊎ ((number : ℕ) × (fault ≡ Fault.Line number))) }
 {
     let mut commands = Vec::new(alloc);
     let mut number = 0;
@@ -105,8 +105,8 @@ fn is_blank(line: &[u8]) -> bool
     line.iter().all(|byte| byte.is_ascii_whitespace())
 }
 
-// The first line of a text, and what follows its line feed, where it has one.
-fn cut_line(text: &[u8]) -> (&[u8], Option<&[u8]>)
+/// The first line of a text, and what follows its line feed, where it has one.
+pub fn cut_line(text: &[u8]) -> (&[u8], Option<&[u8]>)
     ensures first { lines_of text.now ≡ result.0.now ∷ lines_left result.1 }
     ensures shorter { IfSome result.1 (λ after. length after.now < length text.now) }
 {
@@ -131,7 +131,7 @@ fn parse_line<A: Allocator, C: LineCommand>(
 ) -> Result<Option<C>, Fault>
     ensures said { IfOk result (LineSays C.says line.now) }
     ensures faulty { result ≡ Err (Fault.Line number) → IsFaulty C.says line.now }
-    ensures err { IfErr result (λ fault. (fault ≡ Fault.Line number) ⊎ (fault ≡ Fault.Stopped)) }
+    ensures err { IfErr result (λ fault. (fault ≡ Fault.Line number) ⊎ (fault ≡ Fault.Memory)) }
 {
     let text = ascii_text(line).ok_or(Fault::Line(number))?;
     let words = line_words(alloc, text)?;
@@ -142,8 +142,8 @@ fn parse_line<A: Allocator, C: LineCommand>(
     Ok(Some(command))
 }
 
-// The line as text, unless a byte lies outside ASCII.
-fn ascii_text(line: &[u8]) -> Option<&str>
+/// The line as text, unless a byte lies outside ASCII.
+pub fn ascii_text(line: &[u8]) -> Option<&str>
     ensures text { IfSome result (λ text. (text.now ≡ line.now) × IsAscii line.now) }
     ensures other { IsNone result → ¬ (IsAscii line.now) }
 {

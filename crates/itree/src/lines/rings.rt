@@ -100,7 +100,7 @@ pub fn parse_rings<A: Allocator + Copy>(alloc: A, text: &[u8]) -> Result<SaidRin
         × HoldsSaid rings said) }
     ensures faulty { (number : ℕ) → result ≡ Err (Fault.Line number) →
         IsFirstFaulty SaysRing (lines_of text.now) number }
-    ensures err { IfErr result (λ fault. (fault ≡ Fault.Stopped) ⊎ ((number : ℕ) × (fault ≡ Fault.Line number))) }
+    ensures err { IfErr result (λ fault. (fault ≡ Fault.Memory) ⊎ ((number : ℕ) × (fault ≡ Fault.Line number))) }
 {
     let mut rings = SaidRings {
         subject: RingList::new(alloc),
@@ -127,7 +127,7 @@ fn take_line<A: Allocator + Copy>(
     ensures said { OnOk result ((ring : Option RingLine) × LineSays SaysRing line.now ring
         × ((said : List RingLine) → HoldsSaid rings.old said → HoldsSaid rings.new (said ++ option_to_list ring))) }
     ensures faulty { result ≡ Err (Fault.Line number) → IsFaulty SaysRing line.now }
-    ensures err { IfErr result (λ fault. (fault ≡ Fault.Line number) ⊎ (fault ≡ Fault.Stopped)) }
+    ensures err { IfErr result (λ fault. (fault ≡ Fault.Line number) ⊎ (fault ≡ Fault.Memory)) }
 {
     let text = ascii_text(line).ok_or(Fault::Line(number))?;
     let words = line_words(alloc, text)?;

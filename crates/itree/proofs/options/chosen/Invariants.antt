@@ -1,0 +1,6 @@
+use Rattle.std.proofs.Common.{◌-◌, length}
+use Rattle.itree.proofs.options.chosen.Given as goal
+
+-- how many words are left
+abbrev pub decreases-options : goal.decreases-options
+decreases-options l = length l.words - l.place
