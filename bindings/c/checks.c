@@ -1,10 +1,12 @@
 /* What a call from C meets first. The proved calls take slices: pointers that are aligned and not null, also where
- * there are no items. Here a pointer at which no items can stand is told by a status, and null does where there is none.
+ * there are no items. Here a pointer at which no items can stand is told by a status, and null does where there is
+ * none. A call that takes memory begins and ends within the limits of its thread.
  *
  * bindings/build gives the proved calls the names that they have here, and keeps those to itself. */
 #include <itree.h>
-
 #include <stdalign.h>
+
+#include "call_limits.h"
 
 int32_t proved_itree_below(const struct itree_segment *segments, size_t segment_count, const struct itree_point *points,
                            size_t point_count, struct itree_height *heights, size_t height_count, size_t *overlap);
@@ -32,6 +34,23 @@ void proved_itree_polygons_free(struct itree_polygons *polygons);
 int32_t proved_itree_locate(const struct itree_edge *edges, size_t edge_count, const struct itree_point *points,
                             size_t point_count, struct itree_place *places, size_t place_count, size_t *first,
                             size_t *second);
+int32_t proved_itree_grid_fit(const struct itree_position *positions, size_t count, struct itree_grid *grid,
+                              size_t *fault);
+int32_t proved_itree_grid_round(const struct itree_grid *grid, const struct itree_position *positions, size_t count,
+                                struct itree_point *points, size_t point_count, size_t *fault);
+int32_t proved_itree_grid_positions(const struct itree_grid *grid, const struct itree_point *points, size_t count,
+                                    struct itree_position *positions, size_t position_count);
+int32_t proved_itree_wkb_corners(const uint8_t *bytes, size_t byte_count, const size_t *offsets, size_t offset_count,
+                                 struct itree_position *corners, size_t corner_count, size_t *found,
+                                 struct itree_wkb_place *fault);
+int32_t proved_itree_wkb_read(const uint8_t *bytes, size_t byte_count, const size_t *offsets, size_t offset_count,
+                              int64_t x, int64_t y, int32_t exponent, struct itree_polygons **shapes);
+int32_t proved_itree_wkb_fault(const uint8_t *bytes, size_t byte_count, const size_t *offsets, size_t offset_count,
+                               const struct itree_grid *grid, struct itree_wkb_place *fault);
+int32_t proved_itree_wkb_srid(const uint8_t *bytes, size_t byte_count, uint32_t *srid);
+int32_t proved_itree_wkb_write(const struct itree_point *points, size_t point_count, const size_t *ring_ends,
+                               size_t rings, const size_t *polygon_ends, size_t polygons, const struct itree_grid *grid,
+                               int32_t form, uint32_t srid, uint8_t *bytes, size_t byte_count, size_t *size);
 
 #define OF(type) sizeof(type), alignof(type)
 
@@ -56,8 +75,10 @@ int32_t itree_below(const struct itree_segment *segments, size_t segment_count, 
         !can_hold(heights, height_count, OF(struct itree_height)) || !can_take(overlap)) {
         return ITREE_POINTER;
     }
-    return proved_itree_below(slice(segments, segment_count), segment_count, slice(points, point_count), point_count,
-                              slice(heights, height_count), height_count, overlap ? overlap : &untold);
+    limits_begin();
+    return limits_end(proved_itree_below(slice(segments, segment_count), segment_count, slice(points, point_count),
+                                         point_count, slice(heights, height_count), height_count,
+                                         overlap ? overlap : &untold));
 }
 
 int32_t itree_meetings(const struct itree_edge *edges, size_t edge_count, struct itree_pair *pairs, size_t pair_count,
@@ -67,25 +88,28 @@ int32_t itree_meetings(const struct itree_edge *edges, size_t edge_count, struct
         !can_take(count)) {
         return ITREE_POINTER;
     }
-    return proved_itree_meetings(slice(edges, edge_count), edge_count, slice(pairs, pair_count), pair_count,
-                                 count ? count : &untold);
+    limits_begin();
+    return limits_end(proved_itree_meetings(slice(edges, edge_count), edge_count, slice(pairs, pair_count), pair_count,
+                                            count ? count : &untold));
 }
 
 int32_t itree_meetings_all(const struct itree_edge *edges, size_t edge_count, struct itree_pairs **pairs) {
     if (!can_hold(edges, edge_count, OF(struct itree_edge)) || !can_hold(pairs, 1, OF(struct itree_pairs *))) {
         return ITREE_POINTER;
     }
-    return proved_itree_meetings_all(slice(edges, edge_count), edge_count, pairs);
+    limits_begin();
+    return limits_end(proved_itree_meetings_all(slice(edges, edge_count), edge_count, pairs));
 }
 
 int32_t itree_meetings_between(const struct itree_edge *edges, size_t edge_count, const struct itree_edge *others,
                                size_t other_count, struct itree_pairs **pairs) {
-    if (!can_hold(edges, edge_count, OF(struct itree_edge)) ||
-        !can_hold(others, other_count, OF(struct itree_edge)) || !can_hold(pairs, 1, OF(struct itree_pairs *))) {
+    if (!can_hold(edges, edge_count, OF(struct itree_edge)) || !can_hold(others, other_count, OF(struct itree_edge)) ||
+        !can_hold(pairs, 1, OF(struct itree_pairs *))) {
         return ITREE_POINTER;
     }
-    return proved_itree_meetings_between(slice(edges, edge_count), edge_count, slice(others, other_count), other_count,
-                                         pairs);
+    limits_begin();
+    return limits_end(proved_itree_meetings_between(slice(edges, edge_count), edge_count, slice(others, other_count),
+                                                    other_count, pairs));
 }
 
 int32_t itree_first_meeting(const struct itree_edge *edges, size_t edge_count, size_t *first, size_t *second) {
@@ -93,8 +117,9 @@ int32_t itree_first_meeting(const struct itree_edge *edges, size_t edge_count, s
     if (!can_hold(edges, edge_count, OF(struct itree_edge)) || !can_take(first) || !can_take(second)) {
         return ITREE_POINTER;
     }
-    return proved_itree_first_meeting(slice(edges, edge_count), edge_count, first ? first : &untold[0],
-                                      second ? second : &untold[1]);
+    limits_begin();
+    return limits_end(proved_itree_first_meeting(slice(edges, edge_count), edge_count, first ? first : &untold[0],
+                                                 second ? second : &untold[1]));
 }
 
 int32_t itree_how_they_meet(const struct itree_edge *one, const struct itree_edge *other, int32_t *meeting) {
@@ -124,7 +149,8 @@ int32_t itree_snap(const struct itree_edge *edges, size_t edge_count, struct itr
     if (!can_hold(edges, edge_count, OF(struct itree_edge)) || !can_hold(chains, 1, OF(struct itree_chains *))) {
         return ITREE_POINTER;
     }
-    return proved_itree_snap(slice(edges, edge_count), edge_count, chains);
+    limits_begin();
+    return limits_end(proved_itree_snap(slice(edges, edge_count), edge_count, chains));
 }
 
 /* There is one offset more than there are chains. */
@@ -165,9 +191,10 @@ int32_t itree_overlay(const struct itree_point *subject, size_t subject_count, c
         !can_be_rings(clip, clip_count, clip_ends, clip_rings) || !can_hold(polygons, 1, OF(struct itree_polygons *))) {
         return ITREE_POINTER;
     }
-    return proved_itree_overlay(slice(subject, subject_count), subject_count, slice(subject_ends, subject_rings),
-                                subject_rings, slice(clip, clip_count), clip_count, slice(clip_ends, clip_rings),
-                                clip_rings, rule, operation, polygons);
+    limits_begin();
+    return limits_end(proved_itree_overlay(
+        slice(subject, subject_count), subject_count, slice(subject_ends, subject_rings), subject_rings,
+        slice(clip, clip_count), clip_count, slice(clip_ends, clip_rings), clip_rings, rule, operation, polygons));
 }
 
 size_t itree_polygons_points(const struct itree_polygons *polygons, const struct itree_point **first) {
@@ -199,12 +226,101 @@ int32_t itree_locate(const struct itree_edge *edges, size_t edge_count, const st
                      size_t point_count, struct itree_place *places, size_t place_count, size_t *first,
                      size_t *second) {
     size_t untold[2] = {0, 0};
-    if (!can_hold(edges, edge_count, OF(struct itree_edge)) ||
-        !can_hold(points, point_count, OF(struct itree_point)) ||
+    if (!can_hold(edges, edge_count, OF(struct itree_edge)) || !can_hold(points, point_count, OF(struct itree_point)) ||
         !can_hold(places, place_count, OF(struct itree_place)) || !can_take(first) || !can_take(second)) {
         return ITREE_POINTER;
     }
-    return proved_itree_locate(slice(edges, edge_count), edge_count, slice(points, point_count), point_count,
-                               slice(places, place_count), place_count, first ? first : &untold[0],
-                               second ? second : &untold[1]);
+    limits_begin();
+    return limits_end(proved_itree_locate(slice(edges, edge_count), edge_count, slice(points, point_count), point_count,
+                                          slice(places, place_count), place_count, first ? first : &untold[0],
+                                          second ? second : &untold[1]));
+}
+
+int32_t itree_grid_fit(const struct itree_position *positions, size_t count, struct itree_grid *grid, size_t *fault) {
+    size_t untold = 0;
+    if (!can_hold(positions, count, OF(struct itree_position)) || !can_hold(grid, 1, OF(struct itree_grid)) ||
+        !can_take(fault)) {
+        return ITREE_POINTER;
+    }
+    return proved_itree_grid_fit(slice(positions, count), count, grid, fault ? fault : &untold);
+}
+
+int32_t itree_grid_round(const struct itree_grid *grid, const struct itree_position *positions, size_t count,
+                         struct itree_point *points, size_t point_count, size_t *fault) {
+    size_t untold = 0;
+    if (!can_hold(grid, 1, OF(struct itree_grid)) || !can_hold(positions, count, OF(struct itree_position)) ||
+        !can_hold(points, point_count, OF(struct itree_point)) || !can_take(fault)) {
+        return ITREE_POINTER;
+    }
+    return proved_itree_grid_round(grid, slice(positions, count), count, slice(points, point_count), point_count,
+                                   fault ? fault : &untold);
+}
+
+int32_t itree_grid_positions(const struct itree_grid *grid, const struct itree_point *points, size_t count,
+                             struct itree_position *positions, size_t position_count) {
+    if (!can_hold(grid, 1, OF(struct itree_grid)) || !can_hold(points, count, OF(struct itree_point)) ||
+        !can_hold(positions, position_count, OF(struct itree_position))) {
+        return ITREE_POINTER;
+    }
+    return proved_itree_grid_positions(grid, slice(points, count), count, slice(positions, position_count),
+                                       position_count);
+}
+
+/* Whether shapes in well-known binary can stand there, and what is faulty of them can be told. */
+static int can_be_shapes(const uint8_t *bytes, size_t byte_count, const size_t *offsets, size_t offset_count,
+                         const struct itree_wkb_place *fault) {
+    return can_hold(bytes, byte_count, OF(uint8_t)) && can_hold(offsets, offset_count, OF(size_t)) &&
+           (fault == NULL || can_hold(fault, 1, OF(struct itree_wkb_place)));
+}
+
+int32_t itree_wkb_corners(const uint8_t *bytes, size_t byte_count, const size_t *offsets, size_t offset_count,
+                          struct itree_position *corners, size_t corner_count, size_t *found,
+                          struct itree_wkb_place *fault) {
+    struct itree_wkb_place untold = {0, 0, 0};
+    if (!can_be_shapes(bytes, byte_count, offsets, offset_count, fault) ||
+        !can_hold(corners, corner_count, OF(struct itree_position)) || !can_hold(found, 1, OF(size_t))) {
+        return ITREE_POINTER;
+    }
+    limits_begin();
+    return limits_end(proved_itree_wkb_corners(slice(bytes, byte_count), byte_count, slice(offsets, offset_count),
+                                               offset_count, slice(corners, corner_count), corner_count, found,
+                                               fault ? fault : &untold));
+}
+
+/* What is faulty is told by a second call, for the first writes a handle alone. */
+int32_t itree_wkb_read(const uint8_t *bytes, size_t byte_count, const size_t *offsets, size_t offset_count,
+                       const struct itree_grid *grid, struct itree_polygons **shapes, struct itree_wkb_place *fault) {
+    struct itree_wkb_place untold = {0, 0, 0};
+    int32_t status;
+    if (!can_be_shapes(bytes, byte_count, offsets, offset_count, fault) || !can_hold(grid, 1, OF(struct itree_grid)) ||
+        !can_hold(shapes, 1, OF(struct itree_polygons *))) {
+        return ITREE_POINTER;
+    }
+    limits_begin();
+    status = proved_itree_wkb_read(slice(bytes, byte_count), byte_count, slice(offsets, offset_count), offset_count,
+                                   grid->x, grid->y, grid->exponent, shapes);
+    if (status == ITREE_FAULTY) {
+        status = proved_itree_wkb_fault(slice(bytes, byte_count), byte_count, slice(offsets, offset_count),
+                                        offset_count, grid, fault ? fault : &untold);
+    }
+    return limits_end(status);
+}
+
+int32_t itree_wkb_srid(const uint8_t *bytes, size_t byte_count, uint32_t *srid) {
+    if (!can_hold(bytes, byte_count, OF(uint8_t)) || !can_hold(srid, 1, OF(uint32_t))) return ITREE_POINTER;
+    return proved_itree_wkb_srid(slice(bytes, byte_count), byte_count, srid);
+}
+
+int32_t itree_wkb_write(const struct itree_point *points, size_t point_count, const size_t *ring_ends, size_t rings,
+                        const size_t *polygon_ends, size_t polygons, const struct itree_grid *grid, int32_t form,
+                        uint32_t srid, uint8_t *bytes, size_t byte_count, size_t *size) {
+    size_t untold = 0;
+    if (!can_be_rings(points, point_count, ring_ends, rings) || !can_hold(polygon_ends, polygons, OF(size_t)) ||
+        !can_hold(grid, 1, OF(struct itree_grid)) || !can_hold(bytes, byte_count, OF(uint8_t)) || !can_take(size)) {
+        return ITREE_POINTER;
+    }
+    limits_begin();
+    return limits_end(proved_itree_wkb_write(slice(points, point_count), point_count, slice(ring_ends, rings), rings,
+                                             slice(polygon_ends, polygons), polygons, grid, form, srid,
+                                             slice(bytes, byte_count), byte_count, size ? size : &untold));
 }

@@ -1,5 +1,5 @@
 /* itree, for C: sweeps over horizontal segments, pairs of edges that meet, edges broken where they meet, polygons of what
- * two sets of rings make, and points among edges.
+ * two sets of rings make, points among edges, doubles rounded to a grid, and well-known binary read and written.
  *
  * Each call looks at the pointers that it is given, and then makes one that is proved in Rattle: that answers as said
  * here for every input, reads and writes inside the arrays that it is given, and returns. Link it by what
@@ -9,10 +9,12 @@
  * anything, as NULL. A pointer is faulty where there is an item and it is NULL or isn't aligned, or where no memory is
  * as large as so many items: then a call returns ITREE_POINTER. Nothing checks the rest: so many items stand there,
  * what is read has values, what is written overlaps nothing else that the call is given, and no other thread writes an
- * array during the call. What is written needs no values before. The library keeps no pointer, has no state, and gives
- * back what it takes from malloc before it returns, but for what a handle owns: so several threads may call it at once.
+ * array during the call. What is written needs no values before. The library keeps no pointer but that of a thread's stop
+ * flag, has no state but a thread's limits, and gives back what it takes from malloc before it returns, but for what a
+ * handle owns: so several threads may call it at once.
  *
- * Numbers are 32-bit and whole, in a unit of the caller's: pixels, or millionths of a degree. Places count from 0. */
+ * Numbers are 32-bit and whole, in a unit of the caller's: pixels, or millionths of a degree; doubles become such numbers
+ * by a grid, and doubles again. Places count from 0. */
 #ifndef ITREE_H
 #define ITREE_H
 
@@ -26,17 +28,41 @@
 extern "C" {
 #endif
 
-/* What a call returns. At every status but ITREE_ANSWERED no array is written. */
+/* What a call returns. At every status but ITREE_ANSWERED no array is written, unless the call says so. */
 enum itree_status {
     ITREE_ANSWERED = 0, /* The answers are written. */
     ITREE_REFUSED = 1,  /* Memory was refused, or more than 4,294,967,294 items are met at once. */
     ITREE_OVERLAP = 2,  /* Two segments collide. */
-    ITREE_CROSSING = 2, /* Two edges cross. */
-    ITREE_MEETING = 2,  /* Two edges meet. */
     ITREE_LENGTHS = 3,  /* The lengths of two arrays don't fit each other, or a ring stops where it can't. */
     ITREE_POINTER = 4,  /* A pointer is faulty. */
-    ITREE_CHOICE = 5    /* A rule or an operation is none of their numbers. */
+    ITREE_CHOICE = 5,   /* A rule, an operation or a form is none of their numbers, or a grid is none. */
+    ITREE_CROSSING = 6, /* Two edges cross. */
+    ITREE_MEETING = 7,  /* Two edges meet. */
+    ITREE_FAULTY = 8,   /* A coordinate or a geometry is faulty. */
+    ITREE_STOPPED = 9   /* The flag of itree_stop_flag stopped the call. */
 };
+
+/* A status in words, which stay as long as the library does; of a number that is none, that it is none. */
+const char *itree_status_text(int32_t status);
+
+/* The version of the library, as "0.3.0". It is ITREE_VERSION of the header that came with it. */
+const char *itree_version(void);
+
+/* Limits the memory of this thread's calls, from the next one on: no call holds more bytes at once than so many, of those
+ * that it has asked malloc for; 0 is no limit, as at first. A call that would is refused memory, gives back all it took,
+ * and returns ITREE_REFUSED. Arrays of the caller's and handles of calls before don't count. */
+void itree_limit_memory(size_t bytes);
+
+/* The most bytes that this thread's last call held at once, whatever its status was; 0 before the first. A handle that it
+ * wrote is among them. Calls that take no memory, as those that read a handle or give it back, and those with a faulty
+ * pointer aren't counted. */
+size_t itree_memory_peak(void);
+
+/* Gives this thread's calls a flag that stops them, from the next one on; NULL takes it away. Where *flag isn't 0 when a
+ * call asks for memory, the call gives back all it took, and returns ITREE_STOPPED. It is looked at there alone: a call
+ * that asks for nothing any more answers. Another thread may write the flag, and a signal handler of this one. It has to
+ * stay where it is until it is taken away. */
+void itree_stop_flag(const volatile int *flag);
 
 /* A horizontal segment at the height y, from x0 to x1, both of which it covers. One with x1 < x0 covers nothing. */
 struct itree_segment {
@@ -266,6 +292,133 @@ struct itree_place {
  * NULL. For n edges and points it makes O(n log n) steps, and takes room for n events and answers. */
 int32_t itree_locate(const struct itree_edge *edges, size_t edge_count, const struct itree_point *points,
                      size_t point_count, struct itree_place *places, size_t place_count, size_t *first, size_t *second);
+
+/* Where something is: two doubles. */
+struct itree_position {
+    double x, y;
+};
+
+/* A grid, by which positions become points, and points positions. Its unit is 2 to the power of its exponent, from -1022
+ * to 970; its origin is told in units, each number of which is at most 2^53 - 2^31 from 0. The point (n, m) is the position
+ * ((n + x) * unit, (m + y) * unit), which is exact. A grid that isn't so is none. */
+struct itree_grid {
+    int64_t x, y;
+    int32_t exponent;
+};
+
+/* Writes the grid of the finest unit by which all positions lie within 2^30 units of its origin, which is the middle of
+ * them, but not a finer one than doubles lie apart at the greatest coordinate. Where there are no positions, or all are
+ * (0, 0), the unit is 1 and the origin (0, 0). The call returns
+ *   ITREE_ANSWERED  and *grid is written;
+ *   ITREE_FAULTY    and *fault is the place of the first position that isn't finite; or count, where all are and they lie
+ *                   too far apart for a grid;
+ *   ITREE_POINTER   exactly where a pointer is faulty.
+ * *fault is written at ITREE_FAULTY alone; fault may be NULL, and grid may not. It takes no memory. To fit a grid to more
+ * than one array, fit it to their corners. */
+int32_t itree_grid_fit(const struct itree_position *positions, size_t count, struct itree_grid *grid, size_t *fault);
+
+/* Writes for each position, in order, the point of the grid that is nearest to it on each axis; where two are, the one
+ * whose number and the origin's make an even one. So a position that itree_grid_positions writes becomes its point again.
+ * The call returns
+ *   ITREE_ANSWERED  and the points are written;
+ *   ITREE_FAULTY    and *fault is the place of the first position that isn't finite, or whose nearest point has no numbers
+ *                   of 32 bits: then points before that place may be written;
+ *   ITREE_POINTER   exactly where a pointer is faulty;
+ *   ITREE_CHOICE    exactly where none is, and the grid is none;
+ *   ITREE_LENGTHS   exactly where all that is well, and point_count isn't count.
+ * *fault is written at ITREE_FAULTY alone; fault may be NULL, and grid may not. It takes no memory. */
+int32_t itree_grid_round(const struct itree_grid *grid, const struct itree_position *positions, size_t count,
+                         struct itree_point *points, size_t point_count, size_t *fault);
+
+/* Writes for each point of the grid, in order, its position. It is exact. The call returns
+ *   ITREE_ANSWERED  and the positions are written;
+ *   ITREE_POINTER   exactly where a pointer is faulty;
+ *   ITREE_CHOICE    exactly where none is, and the grid is none;
+ *   ITREE_LENGTHS   exactly where all that is well, and position_count isn't count.
+ * grid may not be NULL. It takes no memory. */
+int32_t itree_grid_positions(const struct itree_grid *grid, const struct itree_point *points, size_t count,
+                             struct itree_position *positions, size_t position_count);
+
+/* What is faulty of shapes in well-known binary. */
+enum itree_wkb_fault {
+    ITREE_WKB_SHORT = 1,      /* The shape's bytes end before it does. */
+    ITREE_WKB_BYTE_ORDER = 2, /* A byte order is neither 0 nor 1. */
+    ITREE_WKB_KIND = 3,       /* A geometry is of another kind than a Polygon, a MultiPolygon or a collection. */
+    ITREE_WKB_NESTED = 4,     /* Collections lie within one another more than 16 deep. */
+    ITREE_WKB_NOT_FINITE = 5, /* A coordinate isn't finite. */
+    ITREE_WKB_OFF_GRID = 6,   /* The point that is nearest to a position has no numbers of 32 bits. */
+    ITREE_WKB_LEFT_OVER = 7,  /* Bytes stand behind the shape's geometry. */
+    ITREE_WKB_OFFSETS = 8     /* An offset is less than the one before it, or stands behind the bytes. */
+};
+
+/* What is faulty, one of itree_wkb_fault; of which shape; and the place among all bytes at which it begins. */
+struct itree_wkb_place {
+    size_t kind, shape, byte;
+};
+
+/* Tells the least and the greatest coordinates of shapes in well-known binary, to which a grid is fitted. The shapes are as
+ * itree_wkb_read takes them. The call returns
+ *   ITREE_ANSWERED  and *found is 2, where there is a position: corners[0] has the least x and the least y of all, and
+ *                   corners[1] the greatest; or 0, where there is none, and corners stay as they were;
+ *   ITREE_FAULTY    and *fault tells what is faulty;
+ *   ITREE_REFUSED   and nothing is told;
+ *   ITREE_POINTER   exactly where a pointer is faulty;
+ *   ITREE_LENGTHS   exactly where none is, and corner_count isn't 2.
+ * *fault is written at ITREE_FAULTY alone; fault may be NULL, and found may not. */
+int32_t itree_wkb_corners(const uint8_t *bytes, size_t byte_count, const size_t *offsets, size_t offset_count,
+                          struct itree_position *corners, size_t corner_count, size_t *found,
+                          struct itree_wkb_place *fault);
+
+/* Writes a handle of shapes that stand in well-known binary, their positions rounded to a grid as itree_grid_round does.
+ *
+ * The shape at i is the bytes from the offset at i on and before that at i + 1, as in a list of the Arrow format: there is
+ * one offset more than there are shapes, or none. It is a Polygon, a MultiPolygon, or a GeometryCollection of these and of
+ * such collections, by ISO's format or EWKB, of either byte order. Coordinates z and m and an SRID are passed over. A ring
+ * that ends with its first position again loses it. Outer rings are turned counterclockwise, and the others clockwise,
+ * before they are rounded: so their even-odd and their non-zero inside is that of the shape.
+ *
+ * The handle is as itree_overlay's, but for each shape where it stops among the rings stands where for each polygon does
+ * there; and the rings are as they were given. The call returns
+ *   ITREE_ANSWERED  and *shapes is the caller's, also where there are none;
+ *   ITREE_FAULTY    and *fault tells what is faulty; *shapes is NULL;
+ *   ITREE_REFUSED   and *shapes is NULL;
+ *   ITREE_POINTER   exactly where a pointer is faulty, and *shapes stays as it was;
+ *   ITREE_CHOICE    exactly where none is, and the grid is none: *shapes is NULL.
+ * *fault is written at ITREE_FAULTY alone; fault may be NULL, and grid and shapes may not. */
+int32_t itree_wkb_read(const uint8_t *bytes, size_t byte_count, const size_t *offsets, size_t offset_count,
+                       const struct itree_grid *grid, struct itree_polygons **shapes, struct itree_wkb_place *fault);
+
+/* Tells the number of the reference system that the bytes of one shape in EWKB have, or 0 where they have none. It looks at
+ * the first 9 bytes at most. The call returns
+ *   ITREE_ANSWERED  and *srid is written;
+ *   ITREE_POINTER   exactly where a pointer is faulty.
+ * srid may not be NULL. It takes no memory. */
+int32_t itree_wkb_srid(const uint8_t *bytes, size_t byte_count, uint32_t *srid);
+
+/* As what polygons are written. */
+enum itree_wkb_form {
+    ITREE_WKB_MULTIPOLYGON = 0, /* As one MultiPolygon. */
+    ITREE_WKB_EACH_POLYGON = 1  /* Each as a Polygon, one behind the other. */
+};
+
+/* Writes polygons in well-known binary, little-endian, their points as positions of a grid, each ring's first one once more
+ * at its end. Where srid isn't 0, it is written as EWKB has it.
+ *
+ * *size is how many bytes there are. They are written where byte_count is *size; where it is 0 they are counted alone. In
+ * the form ITREE_WKB_EACH_POLYGON a polygon has 9 bytes, 4 more with an SRID, and for each ring 4 and 16 for each point and
+ * for the first one again; so it is known where each begins. Points, ends and polygons are as a handle of itree_overlay has
+ * them, the offsets without the first, which is 0. A ring without points is written without any. The call returns
+ *   ITREE_ANSWERED  and *size is written, and so are the bytes, or none are where byte_count is 0;
+ *   ITREE_POINTER   exactly where a pointer is faulty;
+ *   ITREE_CHOICE    exactly where none is, and the form is none of itree_wkb_form, or the grid is none;
+ *   ITREE_LENGTHS   exactly where all that is well, and a ring or a polygon stops before it begins or behind the points or
+ *                   the rings, or has more parts than 32 bits count; or byte_count is neither 0 nor how many bytes there
+ *                   are, which *size is then;
+ *   ITREE_REFUSED   and nothing is written.
+ * size may be NULL, and grid may not. */
+int32_t itree_wkb_write(const struct itree_point *points, size_t point_count, const size_t *ring_ends, size_t rings,
+                        const size_t *polygon_ends, size_t polygons, const struct itree_grid *grid, int32_t form,
+                        uint32_t srid, uint8_t *bytes, size_t byte_count, size_t *size);
 
 #ifdef __cplusplus
 }

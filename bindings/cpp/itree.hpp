@@ -6,6 +6,8 @@
 
 #include <itree.h>
 
+#include <atomic>
+#include <cmath>
 #include <cstddef>
 #include <cstdint>
 #include <initializer_list>
@@ -32,6 +34,14 @@ constexpr bool operator==(const itree_edge &one, const itree_edge &other) noexce
 constexpr bool operator==(const itree_pair &one, const itree_pair &other) noexcept {
     return one.first == other.first && one.second == other.second;
 }
+constexpr bool operator==(const itree_position &one, const itree_position &other) noexcept {
+    return one.x == other.x && one.y == other.y;
+}
+constexpr bool operator==(const itree_grid &one, const itree_grid &other) noexcept {
+    return one.x == other.x && one.y == other.y && one.exponent == other.exponent;
+}
+constexpr bool operator!=(const itree_position &one, const itree_position &other) noexcept { return !(one == other); }
+constexpr bool operator!=(const itree_grid &one, const itree_grid &other) noexcept { return !(one == other); }
 constexpr bool operator!=(const itree_segment &one, const itree_segment &other) noexcept { return !(one == other); }
 constexpr bool operator!=(const itree_point &one, const itree_point &other) noexcept { return !(one == other); }
 constexpr bool operator!=(const itree_edge &one, const itree_edge &other) noexcept { return !(one == other); }
@@ -46,6 +56,7 @@ namespace itree {
 using Segment = ::itree_segment;
 using Point = ::itree_point;
 using Edge = ::itree_edge;
+using Position = ::itree_position;
 
 /// The places of two edges that meet: of one list, `first` below `second`, or one of each of two lists.
 using Pair = ::itree_pair;
@@ -109,10 +120,30 @@ private:
     Pair pair_;
 };
 
+/// A call was stopped, by a `Stopper`.
+class Stopped : public std::runtime_error {
+public:
+    Stopped() : std::runtime_error("the call was stopped") {}
+};
+
+/// A coordinate isn't finite, or has no place on a grid.
+class OffGrid : public std::invalid_argument {
+public:
+    explicit OffGrid(std::size_t index)
+        : std::invalid_argument("the point at place " + std::to_string(index) + " isn't finite or is off the grid"),
+          index_(index) {}
+    /// The place of the first such point, counted over all rings of an argument.
+    std::size_t index() const { return index_; }
+
+private:
+    std::size_t index_;
+};
+
 namespace detail {
 
 /// Throws what a status says that each call may return.
 inline void throw_unless_answered(std::int32_t status) {
+    if (status == ITREE_STOPPED) throw Stopped();
     if (status == ITREE_POINTER) throw std::invalid_argument("a span is null, misaligned or larger than memory can be");
     if (status == ITREE_LENGTHS) throw std::invalid_argument("a ring stops before it begins, or behind the points");
     if (status == ITREE_CHOICE) throw std::invalid_argument("there is no such rule or operation");
@@ -120,6 +151,36 @@ inline void throw_unless_answered(std::int32_t status) {
 }
 
 }  // namespace detail
+
+/// While it lives, no call of the thread that made it holds more bytes at once than so many: one that would throws
+/// `std::bad_alloc`. What this header copies, vectors that it answers and handles don't count.
+class MemoryLimit {
+public:
+    explicit MemoryLimit(std::size_t bytes) noexcept { ::itree_limit_memory(bytes); }
+    MemoryLimit(const MemoryLimit &) = delete;
+    MemoryLimit &operator=(const MemoryLimit &) = delete;
+    ~MemoryLimit() { ::itree_limit_memory(0); }
+};
+
+/// The most bytes that this thread's last call held at once.
+[[nodiscard]] inline std::size_t memory_peak() noexcept { return ::itree_memory_peak(); }
+
+/// While it lives, calls of the thread that made it throw `Stopped` once `stop()` was called, by any thread or a signal
+/// handler: the call that runs where it next asks for memory, and those after it.
+class Stopper {
+public:
+    Stopper() noexcept { ::itree_stop_flag(reinterpret_cast<const volatile int *>(&flag_)); }
+    Stopper(const Stopper &) = delete;
+    Stopper &operator=(const Stopper &) = delete;
+    ~Stopper() { ::itree_stop_flag(nullptr); }
+    void stop() noexcept { flag_.store(1, std::memory_order_relaxed); }
+    [[nodiscard]] bool is_stopped() const noexcept { return flag_.load(std::memory_order_relaxed) != 0; }
+
+private:
+    static_assert(sizeof(std::atomic<int>) == sizeof(int) && std::atomic<int>::is_always_lock_free);
+
+    std::atomic<int> flag_{0};
+};
 
 /// For each point, in order, the greatest height at most its own among the segments that cover its x, if there is one.
 /// Throws `Overlap` where two segments collide, and `std::bad_alloc` where memory was refused, which may be in that case
@@ -468,31 +529,180 @@ private:
     Span<std::size_t> ring_offsets_, polygon_offsets_;
 };
 
+/// Shapes that were read, in memory that is theirs: for each the rings of all its polygons. They are moved, and not copied.
+/// Any number of threads may read them.
+class Shapes : private Polygons {
+public:
+    using Polygons::empty;
+    using Polygons::points;
+    using Polygons::Polygons;
+    using Polygons::ring_offsets;
+    using Polygons::rings;
+    using Polygons::size;
+
+    /// The rings of the shape at a place below `size()`.
+    [[nodiscard]] RingList operator[](std::size_t place) const noexcept { return Polygons::operator[](place); }
+    /// Where each shape begins among the rings, and at last how many rings there are: `size() + 1` numbers, or none
+    /// where nothing was taken over.
+    [[nodiscard]] Span<std::size_t> shape_offsets() const noexcept { return polygon_offsets(); }
+};
+
+/// Bytes that are only read: a vector of `std::byte`, a string or what else has characters or bytes side by side. It owns
+/// nothing.
+class Bytes {
+public:
+    Bytes() = default;
+    Bytes(const void *bytes, std::size_t count) : bytes_(static_cast<const std::uint8_t *>(bytes)), count_(count) {}
+    template <typename Items, typename Data = decltype(std::declval<const Items &>().data()),
+              typename = std::enable_if_t<sizeof(*std::declval<Data>()) == 1>>
+    Bytes(const Items &items) : Bytes(items.data(), items.size()) {}
+
+    [[nodiscard]] const std::uint8_t *data() const noexcept { return bytes_; }
+    [[nodiscard]] std::size_t size() const noexcept { return count_; }
+
+private:
+    const std::uint8_t *bytes_ = nullptr;
+    std::size_t count_ = 0;
+};
+
+/// Shapes in well-known binary that are only read: one, or many, of which the one at i is the bytes from the offset at i on
+/// and before that at i + 1, as in a list of the Arrow format. Which ones are read is said at `itree_wkb_read` of itree.h.
+class Wkb {
+public:
+    explicit Wkb(Bytes one) : bytes_(one), ends_{0, one.size()} {}
+    Wkb(Bytes all, Span<std::size_t> offsets) : bytes_(all), offsets_(offsets), is_many_(true) {}
+
+    [[nodiscard]] Bytes bytes() const noexcept { return bytes_; }
+    [[nodiscard]] Span<std::size_t> offsets() const noexcept { return is_many_ ? offsets_ : Span<std::size_t>(ends_); }
+
+private:
+    Bytes bytes_;
+    std::size_t ends_[2] = {0, 0};
+    Span<std::size_t> offsets_;
+    bool is_many_ = false;
+};
+
+/// A shape in well-known binary is faulty.
+class WkbFault : public std::invalid_argument {
+public:
+    explicit WkbFault(const ::itree_wkb_place &fault)
+        : std::invalid_argument("the shape at place " + std::to_string(fault.shape) + ", from byte " +
+                                std::to_string(fault.byte) + " on: " + text_of(fault.kind)),
+          fault_(fault) {}
+    /// One of `itree_wkb_fault`.
+    [[nodiscard]] std::size_t kind() const noexcept { return fault_.kind; }
+    /// The place of the shape.
+    [[nodiscard]] std::size_t shape() const noexcept { return fault_.shape; }
+    /// The place among all bytes at which what is faulty begins.
+    [[nodiscard]] std::size_t byte() const noexcept { return fault_.byte; }
+
+private:
+    static const char *text_of(std::size_t kind) {
+        switch (kind) {
+        case ITREE_WKB_SHORT: return "the bytes end before it does";
+        case ITREE_WKB_BYTE_ORDER: return "a byte order is neither 0 nor 1";
+        case ITREE_WKB_KIND: return "a geometry is no polygon, multipolygon or collection";
+        case ITREE_WKB_NESTED: return "collections lie within one another too deep";
+        case ITREE_WKB_NOT_FINITE: return "a coordinate isn't finite";
+        case ITREE_WKB_OFF_GRID: return "a position is off the grid";
+        case ITREE_WKB_LEFT_OVER: return "bytes are left over";
+        default: return "an offset is faulty";
+        }
+    }
+
+    ::itree_wkb_place fault_;
+};
+
 namespace detail {
 
 /// Rings in memory of their own.
+template <typename Item>
 struct OwnRings {
-    std::vector<Point> points;
+    std::vector<Item> points;
     std::vector<std::size_t> ends;
 
     operator Rings() const { return {points, ends}; }
 };
+
+/// What an argument in braces is: rings in braces, points and ends, or nothing. It is read before the call ends.
+template <typename Item>
+struct InBraces {
+    InBraces() = default;
+    InBraces(std::initializer_list<Span<Item>> all) {
+        for (const auto &ring : all) {
+            own.points.insert(own.points.end(), ring.begin(), ring.end());
+            own.ends.push_back(own.points.size());
+        }
+        points = own.points;
+        ends = own.ends;
+    }
+    InBraces(Span<Item> all_points, Span<std::size_t> all_ends) : points(all_points), ends(all_ends) {}
+    InBraces(const InBraces &) = delete;
+    InBraces &operator=(const InBraces &) = delete;
+
+    OwnRings<Item> own;
+    Span<Item> points;
+    Span<std::size_t> ends;
+};
+
+template <typename Items, typename = void>
+struct HasRings : std::false_type {};
+template <typename Items>
+struct HasRings<Items, std::enable_if_t<std::is_convertible_v<decltype(std::declval<const Items &>().rings()), Rings>>>
+    : std::true_type {};
+
+template <typename Item, typename = void>
+struct HasDoubles : std::false_type {};
+template <typename Item>
+struct HasDoubles<Item,
+                  std::enable_if_t<std::is_floating_point_v<std::decay_t<decltype(std::declval<const Item &>().x)>>>>
+    : std::is_floating_point<std::decay_t<decltype(std::declval<const Item &>().y)>> {};
+
+/// What the rings of a range have.
+template <typename Items>
+using ItemOf = std::decay_t<decltype(*std::begin(*std::begin(std::declval<const Items &>())))>;
+
+/// Each ring's points, made by `as`, behind those of the ring before it.
+template <typename Item, typename Items, typename As>
+OwnRings<Item> copied(const Items &items, As as) {
+    OwnRings<Item> rings;
+    for (const auto &ring : items) {
+        for (const auto &point : ring) rings.points.push_back(as(point));
+        rings.ends.push_back(rings.points.size());
+    }
+    return rings;
+}
 
 /// Rings as the library takes them: as they are, or each ring's points behind those of the ring before it.
 template <typename Items>
 auto rings_of(const Items &items) {
     if constexpr (std::is_same_v<Items, Rings>) {
         return items;
-    } else if constexpr (std::is_same_v<Items, Polygons>) {
+    } else if constexpr (std::is_same_v<Items, InBraces<Point>>) {
+        return Rings(items.points, items.ends);
+    } else if constexpr (HasRings<Items>::value) {
         return items.rings();
     } else {
-        OwnRings rings;
-        for (const auto &ring : items) {
-            rings.points.insert(rings.points.end(), std::begin(ring), std::end(ring));
-            rings.ends.push_back(rings.points.size());
-        }
-        return rings;
+        using Item = ItemOf<Items>;
+        static_assert(!HasDoubles<Item>::value,
+                      "the points have floating-point coordinates: give a grid as the last argument, as in overlay("
+                      "subject, clip, operation, rule, itree::Grid::fit(subject, clip))");
+        static_assert(HasDoubles<Item>::value || std::is_convertible_v<Item, Point>,
+                      "rings are ranges of itree::Point, or of what converts to it");
+        return copied<Point>(items, [](const auto &point) -> Point { return point; });
     }
+}
+
+/// Positions of rings, side by side.
+template <typename Items>
+OwnRings<Position> positions_of(const Items &items) {
+    using Item = ItemOf<Items>;
+    static_assert(HasDoubles<Item>::value,
+                  "with a grid, rings are ranges of points with floating-point x and y; or itree::Rings, Polygons or "
+                  "Shapes, which are points of the grid");
+    return copied<Position>(items, [](const auto &point) -> Position {
+        return {static_cast<double>(point.x), static_cast<double>(point.y)};
+    });
 }
 
 inline Polygons overlay(const Rings &subject, const Rings &clip, Operation operation, FillRule rule) {
@@ -504,27 +714,249 @@ inline Polygons overlay(const Rings &subject, const Rings &clip, Operation opera
     return Polygons(handle);
 }
 
+/// The least and the greatest coordinates of positions.
+class Corners {
+public:
+    /// Adds all positions of rings, or of shapes. Throws where one isn't finite, or a shape is faulty.
+    template <typename Items>
+    void add(const Items &items) {
+        if constexpr (std::is_same_v<Items, Wkb>) {
+            add_shapes(items);
+        } else {
+            std::size_t place = 0;
+            for (const auto &position : positions_of(items).points) {
+                if (!std::isfinite(position.x) || !std::isfinite(position.y)) throw OffGrid(place);
+                add_one(position);
+                place++;
+            }
+        }
+    }
+    [[nodiscard]] ::itree_grid fitted() const {
+        ::itree_grid grid{0, 0, 0};
+        const auto status = ::itree_grid_fit(corners_, is_empty_ ? 0 : 2, &grid, nullptr);
+        if (status == ITREE_FAULTY) throw std::invalid_argument("the points lie too far apart for a grid");
+        throw_unless_answered(status);
+        return grid;
+    }
+
+private:
+    void add_shapes(const Wkb &shapes) {
+        Position corners[2] = {{0, 0}, {0, 0}};
+        std::size_t found = 0;
+        ::itree_wkb_place fault{0, 0, 0};
+        const auto offsets = shapes.offsets();
+        const auto status = ::itree_wkb_corners(shapes.bytes().data(), shapes.bytes().size(), offsets.data(),
+                                                offsets.size(), corners, 2, &found, &fault);
+        if (status == ITREE_FAULTY) throw WkbFault(fault);
+        throw_unless_answered(status);
+        for (std::size_t place = 0; place < found; place++) add_one(corners[place]);
+    }
+    void add_one(const Position &position) {
+        if (is_empty_) corners_[0] = corners_[1] = position;
+        is_empty_ = false;
+        corners_[0] = {std::fmin(corners_[0].x, position.x), std::fmin(corners_[0].y, position.y)};
+        corners_[1] = {std::fmax(corners_[1].x, position.x), std::fmax(corners_[1].y, position.y)};
+    }
+
+    Position corners_[2] = {{0, 0}, {0, 0}};
+    bool is_empty_ = true;
+};
+
+}  // namespace detail
+
+/// A grid, by which positions in doubles become points in whole numbers, and positions again. Its unit is a power of two.
+/// Which grids there are is said at `itree_grid` of itree.h.
+class Grid {
+public:
+    /// The grid of the unit 1 and the origin (0, 0).
+    Grid() = default;
+    /// Throws `std::invalid_argument` where this is no grid.
+    explicit Grid(const ::itree_grid &grid) : grid_(grid) {
+        if (::itree_grid_positions(&grid_, nullptr, 0, nullptr, 0) != ITREE_ANSWERED) {
+            throw std::invalid_argument("there is no such grid");
+        }
+    }
+    /// The grid of the finest unit by which all positions lie within 2^30 units of its origin, their middle: of ranges of
+    /// ranges of points with floating-point `x` and `y`, and of `Wkb`. Throws `OffGrid` where a position isn't finite,
+    /// `WkbFault` where a shape is faulty, and `std::invalid_argument` where they lie too far apart.
+    template <typename... Items>
+    [[nodiscard]] static Grid fit(const Items &...items) {
+        detail::Corners corners;
+        (corners.add(items), ...);
+        return Grid(corners.fitted());
+    }
+
+    /// How far the lines of the grid lie apart.
+    [[nodiscard]] double unit() const { return std::ldexp(1.0, grid_.exponent); }
+    /// The point (0, 0).
+    [[nodiscard]] Position origin() const { return back({0, 0}); }
+    /// The grid as itree.h has it.
+    [[nodiscard]] const ::itree_grid &get() const noexcept { return grid_; }
+
+    /// The point that is nearest to a position on each axis. Throws `OffGrid` where there is none.
+    [[nodiscard]] Point round(const Position &position) const {
+        Point point{0, 0};
+        round_to(&position, 1, &point);
+        return point;
+    }
+    /// The points of positions, in order.
+    [[nodiscard]] std::vector<Point> round_all(Span<Position> positions) const {
+        std::vector<Point> points(positions.size());
+        round_to(positions.data(), positions.size(), points.data());
+        return points;
+    }
+    /// The position of a point of the grid. It is exact.
+    [[nodiscard]] Position back(const Point &point) const {
+        Position position{0, 0};
+        detail::throw_unless_answered(::itree_grid_positions(&grid_, &point, 1, &position, 1));
+        return position;
+    }
+    /// The positions of points, in order.
+    [[nodiscard]] std::vector<Position> back_all(Span<Point> points) const {
+        std::vector<Position> positions(points.size());
+        detail::throw_unless_answered(
+            ::itree_grid_positions(&grid_, points.data(), points.size(), positions.data(), positions.size()));
+        return positions;
+    }
+
+    friend bool operator==(const Grid &one, const Grid &other) noexcept { return one.grid_ == other.grid_; }
+    friend bool operator!=(const Grid &one, const Grid &other) noexcept { return !(one == other); }
+
+private:
+    void round_to(const Position *positions, std::size_t count, Point *points) const {
+        std::size_t fault = 0;
+        const auto status = ::itree_grid_round(&grid_, positions, count, points, count, &fault);
+        if (status == ITREE_FAULTY) throw OffGrid(fault);
+        detail::throw_unless_answered(status);
+    }
+
+    ::itree_grid grid_{0, 0, 0};
+};
+
+namespace detail {
+
+/// Rings on a grid: those that are on it, or positions that are rounded to it.
+template <typename Items>
+auto rings_on(const Grid &grid, const Items &items) {
+    if constexpr (std::is_same_v<Items, Rings> || HasRings<Items>::value) {
+        return rings_of(items);
+    } else if constexpr (std::is_same_v<Items, InBraces<Position>>) {
+        return OwnRings<Point>{grid.round_all(items.points), {items.ends.begin(), items.ends.end()}};
+    } else {
+        auto rings = positions_of(items);
+        return OwnRings<Point>{grid.round_all(rings.points), std::move(rings.ends)};
+    }
+}
+
 }  // namespace detail
 
 /// The polygons of what the operation makes of the inside of the subject and that of the clip, where the library wrote
 /// them. What they are is said at `itree_overlay` of itree.h.
 ///
-/// Subject and clip are `Rings` or `Polygons`, which are read where they lie; or a vector of vectors of points, or any
-/// other range of ranges, which is copied; or `{}`. A ring may run either way, cross itself and others, and end with
-/// its first point again. Throws `std::invalid_argument` where a ring of `Rings` stops before it begins or behind the
-/// points, and `std::bad_alloc` where memory was refused.
-template <typename Subject = Rings, typename Clip = Rings>
+/// Subject and clip are `Rings`, `Polygons` or `Shapes`, which are read where they lie; or a vector of vectors of points,
+/// or any other range of ranges, which is copied; or rings in braces, as `{{{0, 0}, {2, 0}, {2, 2}}}`; or `{}`. A ring may
+/// run either way, cross itself and others, and end with its first point again. Throws `std::invalid_argument` where a ring
+/// of `Rings` stops before it begins or behind the points, `std::bad_alloc` where memory was refused, and `Stopped` where a
+/// `Stopper` stopped it.
+template <typename Subject = detail::InBraces<Point>, typename Clip = detail::InBraces<Point>>
 [[nodiscard]] Polygons overlay(const Subject &subject, const Clip &clip, Operation operation, FillRule rule) {
     const auto subject_rings = detail::rings_of(subject);
     const auto clip_rings = detail::rings_of(clip);
     return detail::overlay(subject_rings, clip_rings, operation, rule);
 }
 
+/// The same of positions: ranges of ranges of points with floating-point `x` and `y`, or rings in braces, are first rounded
+/// to the grid; `Rings`, `Polygons` and `Shapes` are points of the grid. So are the polygons: `grid.back_all(polygon.outer())`
+/// are positions. Throws `OffGrid` where a position isn't finite, or is off the grid, and what `overlay` throws.
+template <typename Subject = detail::InBraces<Position>, typename Clip = detail::InBraces<Position>>
+[[nodiscard]] Polygons overlay(const Subject &subject, const Clip &clip, Operation operation, FillRule rule,
+                               const Grid &grid) {
+    const auto subject_rings = detail::rings_on(grid, subject);
+    const auto clip_rings = detail::rings_on(grid, clip);
+    return detail::overlay(subject_rings, clip_rings, operation, rule);
+}
+
 /// The polygons of what is inside of the rings: the union of them with nothing. So rings that cross themselves become
 /// valid polygons. It takes and throws what `overlay` does.
-template <typename Items = Rings>
+template <typename Items = detail::InBraces<Point>>
 [[nodiscard]] Polygons simplify(const Items &rings, FillRule rule) {
     return overlay(rings, Rings(), Operation::union_, rule);
+}
+
+/// The same of positions, which are first rounded to the grid.
+template <typename Items = detail::InBraces<Position>>
+[[nodiscard]] Polygons simplify(const Items &rings, FillRule rule, const Grid &grid) {
+    return overlay(rings, Rings(), Operation::union_, rule, grid);
+}
+
+/// The rings of shapes in well-known binary, their positions rounded to the grid: outer rings counterclockwise, and holes
+/// clockwise. What is read is said at `itree_wkb_read` of itree.h. Throws `WkbFault` where a shape is faulty, and
+/// `std::bad_alloc` where memory was refused.
+[[nodiscard]] inline Shapes read_wkb(const Wkb &shapes, const Grid &grid) {
+    ::itree_polygons *handle = nullptr;
+    ::itree_wkb_place fault{0, 0, 0};
+    const auto offsets = shapes.offsets();
+    const auto status = ::itree_wkb_read(shapes.bytes().data(), shapes.bytes().size(), offsets.data(), offsets.size(),
+                                         &grid.get(), &handle, &fault);
+    if (status == ITREE_FAULTY) throw WkbFault(fault);
+    detail::throw_unless_answered(status);
+    return Shapes(handle);
+}
+
+/// The number of the reference system that a shape in EWKB has, or 0 where it has none.
+[[nodiscard]] inline std::uint32_t wkb_srid(Bytes shape) {
+    std::uint32_t srid = 0;
+    detail::throw_unless_answered(::itree_wkb_srid(shape.data(), shape.size(), &srid));
+    return srid;
+}
+
+namespace detail {
+
+/// Polygons of a grid in well-known binary.
+inline std::vector<std::byte> written(const Polygons &polygons, const Grid &grid, std::int32_t form,
+                                      std::uint32_t srid) {
+    const auto rings = polygons.rings();
+    const auto stops = polygons.polygon_offsets();
+    const auto write = [&](std::byte *bytes, std::size_t count, std::size_t *size) {
+        throw_unless_answered(::itree_wkb_write(rings.points.data(), rings.points.size(), rings.ends.data(),
+                                                rings.ends.size(), stops.empty() ? nullptr : stops.data() + 1,
+                                                polygons.size(), &grid.get(), form, srid,
+                                                reinterpret_cast<std::uint8_t *>(bytes), count, size));
+    };
+    std::size_t size = 0;
+    write(nullptr, 0, &size);
+    std::vector<std::byte> bytes(size);
+    if (size != 0) write(bytes.data(), size, &size);
+    return bytes;
+}
+
+}  // namespace detail
+
+/// Polygons of a grid as one MultiPolygon in well-known binary, and in EWKB where the number of a reference system is
+/// given. Throws `std::bad_alloc` where memory was refused.
+[[nodiscard]] inline std::vector<std::byte> to_wkb(const Polygons &polygons, const Grid &grid, std::uint32_t srid = 0) {
+    return detail::written(polygons, grid, ITREE_WKB_MULTIPOLYGON, srid);
+}
+
+/// Polygons in well-known binary, one behind the other: the one at i is the bytes from the offset at i on and before that
+/// at i + 1.
+struct EachWkb {
+    std::vector<std::byte> bytes;
+    std::vector<std::size_t> offsets;
+
+    /// They are read while this stays.
+    [[nodiscard]] Wkb wkb() const { return {bytes, offsets}; }
+};
+
+/// The same, each polygon a shape of its own.
+[[nodiscard]] inline EachWkb to_wkb_each(const Polygons &polygons, const Grid &grid, std::uint32_t srid = 0) {
+    EachWkb each{detail::written(polygons, grid, ITREE_WKB_EACH_POLYGON, srid), {0}};
+    for (const auto &polygon : polygons) {
+        auto size = each.offsets.back() + (srid == 0 ? 9 : 13);
+        for (const auto &ring : polygon) size += 4 + 16 * (ring.size() + 1);
+        each.offsets.push_back(size);
+    }
+    return each;
 }
 
 /// The places of some two edges that share a point, `first` below `second`, or nothing where no two do. Throws

@@ -1,4 +1,5 @@
-# itree::itree is the shared object, itree::static the archive. Both bring itree.h and, for C++17, itree.hpp.
+# itree::itree is the shared object, itree::static the archive. Both bring itree.h, and for C++ itree.hpp, for which they ask
+# for C++17.
 get_filename_component(_itree_prefix "${CMAKE_CURRENT_LIST_DIR}/../../.." ABSOLUTE)
 
 if(NOT TARGET itree::itree)
@@ -14,6 +15,11 @@ if(NOT TARGET itree::itree)
         IMPORTED_LINK_INTERFACE_LANGUAGES "C"
         INTERFACE_LINK_LIBRARIES "@LIBRARIES@"
         INTERFACE_INCLUDE_DIRECTORIES "${_itree_prefix}/include")
+
+    # In a project of C alone CMake knows no feature of C++.
+    if(CMAKE_CXX_COMPILER_LOADED)
+        set_target_properties(itree::itree itree::static PROPERTIES INTERFACE_COMPILE_FEATURES cxx_std_17)
+    endif()
 endif()
 
 unset(_itree_prefix)

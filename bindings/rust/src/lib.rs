@@ -13,16 +13,34 @@
 //! assert_eq!(below(&segments, &points), Ok(vec![Some(5), None]));
 //! ```
 //!
-//! Numbers are 32-bit and whole, in a unit of the caller's; places count from 0.
+//! Numbers are 32-bit and whole, in a unit of the caller's, and a `Grid` makes such numbers of doubles, and doubles again;
+//! places count from 0. Points and edges are made of tuples and arrays too: `Point::from((4, 5))`.
 
 #![deny(missing_docs)]
 
 use std::collections::TryReserveError;
 use std::error::Error;
+use std::ffi::CStr;
 use std::fmt::{self, Debug, Display, Formatter};
 use std::ops::{Deref, DerefMut, Range};
 use std::ptr::{self, NonNull};
 use std::slice;
+
+pub use grid::{overlay_on, simplify_on, Grid, GridFault, Position, PositionRings, ToRings};
+pub use limits::{limited_to, memory_peak, stopped_by};
+pub use wkb::{read_wkb, wkb_corners, wkb_srid, Shapes, WkbFault, WkbFaultKind};
+
+mod grid;
+mod limits;
+mod wkb;
+
+/// The version of the library, as `"0.3.0"`.
+pub fn version() -> &'static str {
+    // SAFETY: the library answers a text that ends with 0 and stays.
+    unsafe { CStr::from_ptr(calls::itree_version()) }
+        .to_str()
+        .unwrap_or_default()
+}
 
 /// A horizontal segment at the height `y`, from `x0` to `x1`, both of which it covers. One with `x1 < x0` covers
 /// nothing. They are ordered by `x0`, then `x1`, then `y`.
@@ -62,15 +80,79 @@ pub struct Edge {
     pub y1: i32,
 }
 
-/// Memory was refused.
+impl From<(i32, i32)> for Point {
+    fn from((x, y): (i32, i32)) -> Point {
+        Point { x, y }
+    }
+}
+
+impl From<[i32; 2]> for Point {
+    fn from([x, y]: [i32; 2]) -> Point {
+        Point { x, y }
+    }
+}
+
+impl From<Point> for (i32, i32) {
+    fn from(point: Point) -> (i32, i32) {
+        (point.x, point.y)
+    }
+}
+
+impl From<Point> for [i32; 2] {
+    fn from(point: Point) -> [i32; 2] {
+        [point.x, point.y]
+    }
+}
+
+impl From<(i32, i32, i32, i32)> for Edge {
+    fn from((x0, y0, x1, y1): (i32, i32, i32, i32)) -> Edge {
+        Edge { x0, y0, x1, y1 }
+    }
+}
+
+impl From<[i32; 4]> for Edge {
+    fn from([x0, y0, x1, y1]: [i32; 4]) -> Edge {
+        Edge { x0, y0, x1, y1 }
+    }
+}
+
+/// From the one point to the other, which may be tuples or arrays.
+impl<P: Into<Point>> From<(P, P)> for Edge {
+    fn from((from, to): (P, P)) -> Edge {
+        Edge::from([from, to])
+    }
+}
+
+/// From the one point to the other, which may be tuples or arrays.
+impl<P: Into<Point>> From<[P; 2]> for Edge {
+    fn from(ends: [P; 2]) -> Edge {
+        let [from, to] = ends.map(Into::into);
+        Edge {
+            x0: from.x,
+            y0: from.y,
+            x1: to.x,
+            y1: to.y,
+        }
+    }
+}
+
+impl From<(i32, i32, i32)> for Segment {
+    fn from((x0, x1, y): (i32, i32, i32)) -> Segment {
+        Segment { x0, x1, y }
+    }
+}
+
+/// Memory was refused, or a call was stopped by the flag of `stopped_by`.
 #[derive(Clone, Copy, Debug, PartialEq, Eq, Hash)]
 pub struct Refused;
 
 impl Display for Refused {
     fn fmt(&self, f: &mut Formatter<'_>) -> fmt::Result {
-        write!(f, "memory was refused")
+        write!(f, "{REFUSED}")
     }
 }
+
+const REFUSED: &str = "memory was refused, or the call was stopped";
 
 impl Error for Refused {}
 
@@ -83,7 +165,7 @@ impl From<TryReserveError> for Refused {
 /// Why a sweep has no answers.
 #[derive(Clone, Copy, Debug, PartialEq, Eq, Hash)]
 pub enum Fault {
-    /// Memory was refused.
+    /// Memory was refused, or the call was stopped.
     Refused,
     /// The segment at this place is the first, in the order of `x0` and then of place, that collides with one before
     /// it.
@@ -93,7 +175,7 @@ pub enum Fault {
 impl Display for Fault {
     fn fmt(&self, f: &mut Formatter<'_>) -> fmt::Result {
         match self {
-            Fault::Refused => write!(f, "memory was refused"),
+            Fault::Refused => write!(f, "{REFUSED}"),
             Fault::Overlap(place) => write!(f, "the segment at place {place} overlaps an earlier one"),
         }
     }
@@ -110,7 +192,7 @@ impl From<TryReserveError> for Fault {
 /// Why points among edges have no answers.
 #[derive(Clone, Copy, Debug, PartialEq, Eq, Hash)]
 pub enum LocateFault {
-    /// Memory was refused.
+    /// Memory was refused, or the call was stopped.
     Refused,
     /// The edges at these two places cross, of which the first is the lesser.
     Cross(usize, usize),
@@ -119,7 +201,7 @@ pub enum LocateFault {
 impl Display for LocateFault {
     fn fmt(&self, f: &mut Formatter<'_>) -> fmt::Result {
         match self {
-            LocateFault::Refused => write!(f, "memory was refused"),
+            LocateFault::Refused => write!(f, "{REFUSED}"),
             LocateFault::Cross(first, second) => write!(f, "the edges at places {first} and {second} cross"),
         }
     }
@@ -313,7 +395,7 @@ pub enum Operation {
 /// Why there are no polygons.
 #[derive(Clone, Copy, Debug, PartialEq, Eq, Hash)]
 pub enum OverlayFault {
-    /// Memory was refused.
+    /// Memory was refused, or the call was stopped.
     Refused,
     /// A ring stops before it begins, or behind the points.
     Lengths,
@@ -322,7 +404,7 @@ pub enum OverlayFault {
 impl Display for OverlayFault {
     fn fmt(&self, f: &mut Formatter<'_>) -> fmt::Result {
         match self {
-            OverlayFault::Refused => write!(f, "memory was refused"),
+            OverlayFault::Refused => write!(f, "{REFUSED}"),
             OverlayFault::Lengths => write!(f, "a ring stops before it begins, or behind the points"),
         }
     }
@@ -507,13 +589,18 @@ impl ExactSizeIterator for PolygonsIter<'_> {}
 
 /// The calls of `itree.h`.
 mod calls {
-    use super::{Edge, Pair, Point, Segment};
+    use super::{Edge, Grid, Pair, Point, Position, Segment};
+    use std::os::raw::c_char;
 
     pub const ANSWERED: i32 = 0;
     pub const OVERLAP: i32 = 2;
-    pub const CROSSING: i32 = 2;
-    pub const MEETING: i32 = 2;
     pub const LENGTHS: i32 = 3;
+    pub const CROSSING: i32 = 6;
+    pub const MEETING: i32 = 7;
+    pub const FAULTY: i32 = 8;
+
+    pub const MULTIPOLYGON: i32 = 0;
+    pub const EACH_POLYGON: i32 = 1;
 
     pub const APART: i32 = 0;
     pub const TOUCH: i32 = 1;
@@ -539,7 +626,80 @@ mod calls {
         pub place: usize,
     }
 
+    #[repr(C)]
+    #[derive(Clone, Copy, Default)]
+    pub struct WkbPlace {
+        pub kind: usize,
+        pub shape: usize,
+        pub byte: usize,
+    }
+
     extern "C" {
+        pub fn itree_version() -> *const c_char;
+
+        pub fn itree_limit_memory(bytes: usize);
+
+        pub fn itree_memory_peak() -> usize;
+
+        pub fn itree_stop_flag(flag: *const i32);
+
+        pub fn itree_grid_fit(positions: *const Position, count: usize, grid: *mut Grid, fault: *mut usize) -> i32;
+
+        pub fn itree_grid_round(
+            grid: *const Grid,
+            positions: *const Position,
+            count: usize,
+            points: *mut Point,
+            point_count: usize,
+            fault: *mut usize,
+        ) -> i32;
+
+        pub fn itree_grid_positions(
+            grid: *const Grid,
+            points: *const Point,
+            count: usize,
+            positions: *mut Position,
+            position_count: usize,
+        ) -> i32;
+
+        pub fn itree_wkb_corners(
+            bytes: *const u8,
+            byte_count: usize,
+            offsets: *const usize,
+            offset_count: usize,
+            corners: *mut Position,
+            corner_count: usize,
+            found: *mut usize,
+            fault: *mut WkbPlace,
+        ) -> i32;
+
+        pub fn itree_wkb_read(
+            bytes: *const u8,
+            byte_count: usize,
+            offsets: *const usize,
+            offset_count: usize,
+            grid: *const Grid,
+            shapes: *mut *mut Handle,
+            fault: *mut WkbPlace,
+        ) -> i32;
+
+        pub fn itree_wkb_srid(bytes: *const u8, byte_count: usize, srid: *mut u32) -> i32;
+
+        pub fn itree_wkb_write(
+            points: *const Point,
+            point_count: usize,
+            ring_ends: *const usize,
+            rings: usize,
+            polygon_ends: *const usize,
+            polygons: usize,
+            grid: *const Grid,
+            form: i32,
+            srid: u32,
+            bytes: *mut u8,
+            byte_count: usize,
+            size: *mut usize,
+        ) -> i32;
+
         pub fn itree_below(
             segments: *const Segment,
             segment_count: usize,
