@@ -73,13 +73,19 @@ def told():
 
 
 def quoted(python, document, at, **env):
-    """Runs the lines of Python that a document shows, as they stand. A line that ends with a comment prints what it
-    says."""
-    lines = re.search(r"^```python\n(.*?)^```$", document.read_text(encoding="utf-8"), re.M | re.S)
-    wanted = "".join(f"{it}\n" for it in re.findall(r"  # (.*)$", lines.group(1), re.M)) if lines else ""
+    """Runs the lines of Python that a document shows, as they stand, block by block. A line that ends with a comment
+    prints what it says. A block that imports what this Python lacks is left out."""
     what = f"{document.relative_to(TOP)}, its lines of Python"
-    if wanted:
-        compare(what, [python, "-c", lines.group(1)], wanted, at, **env)
-    else:
-        print("none says what it prints")
+    blocks = re.findall(r"^```python\n(.*?)^```$", document.read_text(encoding="utf-8"), re.M | re.S)
+    for block in blocks:
+        imports = "\n".join(re.findall(r"^(?:import|from) .*$", block, re.M)) or "pass"
+        status, said = run([python, "-c", imports], at, **env)
+        lacks = re.search(r"^ModuleNotFoundError: No module named '(?!itree)(\S+)'$", said, re.M)
+        if status and lacks:
+            leave_out(f"{what}, by {python}", f"it has no {lacks.group(1)}")
+            continue
+        wanted = "".join(f"{it}\n" for it in re.findall(r"  # (.*)$", block, re.M))
+        compare(what, [python, "-c", block], wanted, at, **env)
+    if not blocks:
+        print("there are none")
         count(what, 0, 1)

@@ -29,7 +29,7 @@ from unittest import mock
 
 import itree
 from itree import __main__ as command
-from itree import _grid, _library, _overlay, _polygons, _rows, _shapes
+from itree import _gathered, _grid, _library, _overlay, _polygons, _rings, _rows, _shapes
 
 try:
     import numpy
@@ -49,7 +49,7 @@ needs_shapely = unittest.skipUnless(shapely, "shapely isn't there")
 def without_numpy():
     """As if the program hadn't loaded numpy."""
     with contextlib.ExitStack() as stack:
-        for module in _rows, _shapes, _grid:
+        for module in _rows, _shapes, _rings, _gathered:
             stack.enter_context(mock.patch.object(module, "numpy_where_loaded", lambda: None))
         yield
 
@@ -579,22 +579,27 @@ class Faults(unittest.TestCase):
         for number in "1", None, b"1", [1]:
             kind = type(number).__name__
             ring, where = [*BIG, (3, number)], "clip, ring 0, row 4"
-            for given in [ring], of_shape(ring):
-                self.assert_refused(given, TypeError, f"{where}: {kind}; whole numbers are wanted", (None,))
-                self.assert_refused(given, TypeError, f"{where}: {kind}; numbers are wanted", (itree.Grid(),))
+            self.assert_refused([ring], TypeError, f"{where}: {kind}; whole numbers are wanted", (None,))
+            for given, grids in ([ring], (itree.Grid(),)), (of_shape(ring), (None, itree.Grid())):
+                self.assert_refused(given, TypeError, f"{where}: {kind}; numbers are wanted", grids)
 
     def test_numbers_that_are_not_whole(self):
         hint = "whole numbers are wanted; scale and round, e.g. round(x * 1e7); or give a grid: itree.Grid.fit(...)"
         ring = [*BIG, (3, 0.5)]
-        for given in [ring], of_shape(ring):
-            self.assert_refused(given, TypeError, f"clip, ring 0, row 4: 0.5; {hint}", (None,))
-        self.assert_refused([of_shape(ring)], TypeError, f"clip, place 0, ring 0, row 4: 0.5; {hint}", (None,))
+        self.assert_refused([ring], TypeError, f"clip, ring 0, row 4: 0.5; {hint}", (None,))
+        for given in of_shape(ring), [of_shape(ring)], HasShape(of_shape(ring)):
+            # Of shapes the finest grid that fits is taken.
+            answer = itree.overlay([SMALL], given)
+            self.assertEqual((answer.grid, answer), (itree.Grid.fit([SMALL], given), itree.overlay([SMALL], given, grid=answer.grid)))
 
     def test_numbers_that_do_not_fit(self):
         ring, grid = [*BIG, (3, 2**31)], itree.Grid()
         for given in [ring], of_shape(ring), of_shape([(3.0, 2.0**31)] * 9):
-            with self.assertRaisesRegex(OverflowError, "^clip, ring 0, row [04]: 2147483648 doesn't fit in 32 bits$"):
-                itree.overlay([], given)
+            if isinstance(given, list):
+                with self.assertRaisesRegex(OverflowError, "^clip, ring 0, row 4: 2147483648 doesn't fit in 32 bits$"):
+                    itree.overlay([], given)
+            else:
+                self.assertEqual(itree.overlay([], given).grid, itree.Grid.fit(given))
             with self.assertRaisesRegex(ValueError, "^clip, ring 0, row [04]: 2147483648.0 is off the grid, which is "):
                 itree.overlay([], given, grid=grid)
             with self.assertRaisesRegex(ValueError, "^clip, ring 3, row [04]: 2147483648.0 is off the grid, which is "):
@@ -619,9 +624,8 @@ class Faults(unittest.TestCase):
             ring = [*BIG, (3, number)]
             for given in [ring], of_shape(ring), [flat(ring, "d")]:
                 said = f"clip, ring 0, row 4: {number}; finite numbers are wanted"
-                self.assert_refused(given, ValueError, said, (itree.Grid(),))
-            with self.assertRaisesRegex(TypeError, "^clip, ring 0, row 4: .*whole numbers are wanted"):
-                itree.overlay([], of_shape(ring))
+                grids = (None, itree.Grid()) if isinstance(given, dict) else (itree.Grid(),)
+                self.assert_refused(given, ValueError, said, grids)
 
     def test_what_are_no_shapes(self):
         wanted = "Polygon, MultiPolygon, GeometryCollection, Feature or FeatureCollection is wanted"
@@ -764,8 +768,9 @@ class Command(unittest.TestCase):
         self.assertEqual(self.called("overlay", "-", "-"), (2, "", "itree: the standard input can be one file alone\n"))
 
     def test_asked_for_help(self):
-        self.assertEqual(self.called("--version"), (0, f"itree {itree.__version__}\n", ""))
-        for words in ("--help",), ("overlay", "--help"), ("simplify", "-h"):
+        for word in "--version", "-V":
+            self.assertEqual(self.called(word), (0, f"itree {itree.__version__}\n", ""))
+        for words in ("--help",), ("help",), ("overlay", "--help"), ("simplify", "-h"):
             status, output, faults = self.called(*words)
             self.assertEqual((status, faults), (0, ""))
             self.assertIn("usage: python3 -m itree", output)
@@ -889,7 +894,7 @@ class Judge(unittest.TestCase):
 
 
 def load_tests(_loader, tests, _pattern):
-    for module in _grid, _overlay, _polygons, _shapes:
+    for module in _grid, _overlay, _polygons, _rings, _shapes:
         tests.addTests(doctest.DocTestSuite(module))
     return tests
 

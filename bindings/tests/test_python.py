@@ -33,7 +33,7 @@ import unittest
 from unittest import mock
 
 import itree
-from itree import _answers, _library, _memory, _rows
+from itree import _answers, _edges, _library, _memory, _rows
 
 try:
     import numpy
@@ -1055,6 +1055,13 @@ polygons = itree.overlay(polygons, [polygons[0], [(1, 2)]], grid=None)
 polygons = itree.simplify([{"type": "Polygon", "coordinates": []}, [[0.5, 1]]], grid=grid)
 outer: List[Tuple[float, float]] = polygons[0].outer + [point for it in polygons[1:] for hole in it.holes for point in hole]
 view = polygons.ring_offsets
+polygons = itree.unary_union([b"", bytearray(), None, polygons], memory_limit=10**9)
+polygons = itree.make_valid(itree.Rings(array.array("d"), [0]), grid=grid)
+data: bytes = polygons.to_wkb()
+each: List[bytes] = polygons.to_wkb(srid=4326, each=True)
+drawn: str = polygons.to_svg()
+pairs = itree.meetings(edges, memory_limit=10**6)
+view = itree.meetings(edges, as_array=True, memory_limit=10**6)
 version: str = itree.__version__
 itree.meetings([(0.5, 1, 2, 3)])  # error
 itree.meetings("abcd")  # error
@@ -1068,12 +1075,14 @@ itree.overlay([[("a", 1)]], [])  # error
 itree.overlay([], [], "sum")  # error
 itree.simplify([], "even-odd")  # error
 itree.simplify(7)  # error
+itree.simplify([], memory_limit="1 GB")  # error
+data = polygons.to_wkb(each=True)  # error
 unit = polygons.grid  # error
 """
 
 
 def load_tests(_loader, tests, _pattern):
-    for module in itree, _answers, _library, _memory, _rows:
+    for module in itree, _answers, _edges, _library, _memory, _rows:
         tests.addTests(doctest.DocTestSuite(module))
     return tests
 

@@ -40,6 +40,12 @@ Generator: itree_wheel
 Root-Is-Purelib: false
 {tags}"""
 
+# The command that pip installs.
+ENTRY_POINTS = """\
+[console_scripts]
+itree = itree.__main__:main
+"""
+
 FIRST_OF_ZIP = 315532800  # 1980, before which the format knows no time.
 OLDER_NAMES = {5: "manylinux1", 12: "manylinux2010", 17: "manylinux2014"}
 
@@ -72,6 +78,7 @@ def contents(version, tags):
     files[f"{about}/LICENSE"] = (TOP / "LICENSE").read_bytes()
     files[f"{about}/METADATA"] = METADATA.format(version=version, readme=readme).encode()
     files[f"{about}/WHEEL"] = WHEEL.format(tags=tags).encode()
+    files[f"{about}/entry_points.txt"] = ENTRY_POINTS.encode()
     record = f"{about}/RECORD"
     rows = [f"{path},sha256={checksum(data)},{len(data)}\n" for path, data in files.items()]
     files[record] = "".join([*rows, f"{record},,\n"]).encode()

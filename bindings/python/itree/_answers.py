@@ -6,10 +6,11 @@ import array
 import ctypes
 import itertools
 import sys
-from typing import Callable, Iterable, Iterator, List, Literal, Tuple
+from typing import Any, Callable, Iterable, Iterator, List, Literal, NamedTuple, Tuple
 
-from ._library import checked, library
-from ._memory import numpy_where_loaded, room_for
+from ._calls import made
+from ._library import LENGTHS, checked, library
+from ._memory import address_of, numpy_where_loaded, room_for
 from ._rows import HeldRows
 from ._shapes import HeldRings
 
@@ -47,45 +48,60 @@ def places_of(numbers: memoryview) -> memoryview:
     return memoryview(places)
 
 
-class _Handle:
-    """A handle of the library's, which is given back with this object."""
+class Handle:
+    """A handle of the library's, which is given back with this object. A call writes it; before, it is none.
 
-    def __init__(self, at: ctypes.c_void_p, free: Callable[[ctypes.c_void_p], None]) -> None:
+    at: the handle. to_write: where a call writes it.
+    """
+
+    __slots__ = "at", "to_write", "_free"
+
+    def __init__(self, free: Callable[[ctypes.c_void_p], None]) -> None:
+        self.at = ctypes.c_void_p()
+        self.to_write = ctypes.byref(self.at)
         # The call, for at the interpreter's end the module may be empty.
-        self._free, self._at = free, at
+        self._free = free
 
     def __del__(self) -> None:
-        self._free(self._at)
+        if self.at:
+            self._free(self.at)
 
 
-def pairs_that_meet(edges: HeldRows) -> memoryview:
+def pairs_that_meet(edges: HeldRows, limit: int) -> memoryview:
     """All pairs of edges that meet, as flat 64-bit numbers, where the library wrote them. Their memory is given back once
     there is neither a view of them nor an array over one."""
-    at = ctypes.c_void_p()
-    checked(library.itree_meetings_all(edges.at, edges.count, ctypes.byref(at)))
-    return _numbers_of(at)
+    handle = Handle(library.itree_pairs_free)
+    kept = edges.kept(), handle
+    call = library.itree_meetings_all
+    checked(made(call, edges.at, edges.count, handle.to_write, size=edges.count, limit=limit, kept=kept), limit)
+    return _numbers_of(handle)
 
 
-def pairs_between(edges: HeldRows, others: HeldRows) -> memoryview:
+def pairs_between(edges: HeldRows, others: HeldRows, limit: int) -> memoryview:
     """All pairs of an edge of the one list and one of the other that meet, as those of `pairs_that_meet`."""
-    at = ctypes.c_void_p()
+    handle = Handle(library.itree_pairs_free)
+    kept = edges.kept(), others.kept(), handle
     rows = edges.at, edges.count, others.at, others.count
-    checked(library.itree_meetings_between(*rows, ctypes.byref(at)))
-    return _numbers_of(at)
+    size = edges.count + others.count
+    call = library.itree_meetings_between
+    checked(made(call, *rows, handle.to_write, size=size, limit=limit, kept=kept), limit)
+    return _numbers_of(handle)
 
 
-def _numbers_of(at: ctypes.c_void_p) -> memoryview:
+def _numbers_of(handle: Handle) -> memoryview:
     """The numbers of a handle of pairs, which is given back with the last view of them."""
-    handle = _Handle(at, library.itree_pairs_free)
+    at = handle.at
     return _held(handle, library.itree_pairs_first(at), 2 * library.itree_pairs_count(at), "Q")
 
 
-def chains_of(edges: HeldRows) -> Tuple[memoryview, memoryview]:
+def chains_of(edges: HeldRows, limit: int) -> Tuple[memoryview, memoryview]:
     """The points of all chains, as flat 32-bit numbers, and the offsets, as signed 64-bit numbers, where the library wrote
     them. Their memory is given back once there is neither a view of them nor an array over one."""
-    at = ctypes.c_void_p()
-    checked(library.itree_snap(edges.at, edges.count, ctypes.byref(at)))
-    handle = _Handle(at, library.itree_chains_free)
+    handle = Handle(library.itree_chains_free)
+    kept = edges.kept(), handle
+    call = library.itree_snap
+    checked(made(call, edges.at, edges.count, handle.to_write, size=edges.count, limit=limit, kept=kept), limit)
+    at = handle.at
     points = _held(handle, library.itree_chains_points(at), 2 * library.itree_chains_point_count(at), "i")
     return points, _held(handle, library.itree_chains_offsets(at), library.itree_chains_count(at) + 1, "q")
 
@@ -96,32 +112,78 @@ def in_chains(points: memoryview, offsets: memoryview) -> List[List[Tuple[int, i
     return [list(itertools.islice(numbers, stop - start)) for start, stop in zip(offsets, offsets[1:])]
 
 
-def polygons_of(
-    subject: HeldRings, clip: HeldRings, rule: int, operation: int
-) -> Tuple[memoryview, memoryview, memoryview]:
-    """The points of all polygons, as flat 32-bit numbers, the offsets of the rings among them, and of the polygons among
-    the rings, as signed 64-bit numbers, where the library wrote them, and read-only. Their memory is given back once
-    there is neither a view of them nor an array over one."""
-    at = ctypes.c_void_p()
-    checked(library.itree_overlay(*subject.given(), *clip.given(), rule, operation, ctypes.byref(at)))
-    handle, first = _Handle(at, library.itree_polygons_free), ctypes.c_void_p()
+class Lists(NamedTuple):
+    """The three lists of polygons where they lie: the points of all rings, the offsets of the rings among them, and of
+    the polygons among the rings; each with how many there are. The memory is given back once there is neither this, nor a
+    view of it, nor an array over one."""
 
-    def held(read: Callable[..., int], width: int, letter: Literal["i", "q"]) -> memoryview:
-        count = read(at, ctypes.byref(first))
-        return _held(handle, first.value or 0, width * count, letter).toreadonly()
+    owner: Any
+    points: int
+    point_count: int
+    rings: int
+    ring_count: int
+    polygons: int
+    polygon_count: int
 
-    points = held(library.itree_polygons_points, 2, "i")
-    ring_offsets = held(library.itree_polygons_ring_offsets, 1, "q")
-    return points, ring_offsets, held(library.itree_polygons_polygon_offsets, 1, "q")
+    def numbers(self) -> memoryview:
+        """The points, as flat 32-bit numbers, read-only."""
+        return _held(self.owner, self.points, 2 * self.point_count, "i").toreadonly()
+
+    def ring_offsets(self) -> memoryview:
+        """One more than there are rings, as signed 64-bit numbers, read-only."""
+        return _held(self.owner, self.rings, self.ring_count + 1, "q").toreadonly()
+
+    def polygon_offsets(self) -> memoryview:
+        """One more than there are polygons, as signed 64-bit numbers, read-only."""
+        return _held(self.owner, self.polygons, self.polygon_count + 1, "q").toreadonly()
+
+    def given(self) -> Tuple[int, int, int, int]:
+        """The rings as `overlay` takes them, for as long as this stays."""
+        return self.points, self.point_count, self.rings + 8, self.ring_count
+
+
+def polygons_of(subject: HeldRings, clip: HeldRings, rule: int, operation: int, limit: int) -> Lists:
+    """The polygons, where the library wrote them.
+
+    Raises ValueError where a ring stops before it begins, or behind the points.
+    """
+    handle = Handle(library.itree_polygons_free)
+    words = *subject.given, *clip.given, rule, operation, handle.to_write
+    size = subject.given[1] + clip.given[1]
+    status = made(library.itree_overlay, *words, size=size, limit=limit, kept=(subject, clip, handle))
+    if status == LENGTHS:
+        raise ValueError("the offsets of rings: one stops before it begins, or behind the points")
+    checked(status, limit)
+    return lists_in(handle)
+
+
+def lists_in(handle: Handle) -> Lists:
+    """The lists of a handle of polygons."""
+    at, first = handle.at, ctypes.c_void_p()
+    address = ctypes.byref(first)
+    point_count = library.itree_polygons_points(at, address)
+    points = first.value or 0
+    rings = library.itree_polygons_ring_offsets(at, address)
+    ring_offsets = first.value or 0
+    polygons = library.itree_polygons_polygon_offsets(at, address)
+    return Lists(handle, points, point_count, ring_offsets, rings - 1, first.value or 0, polygons - 1)
+
+
+def lists_of(numbers: memoryview, ring_offsets: memoryview, polygon_offsets: memoryview) -> Lists:
+    """The lists in views, which they own."""
+    views = numbers, ring_offsets, polygon_offsets
+    points, rings, polygons = map(address_of, views)
+    counts = len(numbers) // 2, len(ring_offsets) - 1, len(polygon_offsets) - 1
+    return Lists(views, points, counts[0], rings, counts[1], polygons, counts[2])
 
 
 _TYPES = {"i": ctypes.c_int32, "q": ctypes.c_int64, "Q": ctypes.c_uint64}
 
 
-def _held(handle: _Handle, at: int, count: int, letter: Literal["i", "q", "Q"]) -> memoryview:
-    """So many numbers of a handle, which is given back with the last view of them."""
+def _held(owner: Any, at: int, count: int, letter: Literal["i", "q", "Q"]) -> memoryview:
+    """So many numbers at an address. What owns them is given back with the last view of them."""
     if count == 0:
         return memoryview(array.array(letter))
     memory = (_TYPES[letter] * count).from_address(at)
-    setattr(memory, "handle", handle)
+    setattr(memory, "owner", owner)
     return memoryview(memory).cast("B").cast(letter)

@@ -3,16 +3,15 @@
 from __future__ import annotations
 
 import array
+import ctypes
 import dataclasses
 import math
-from typing import Callable, Iterable, List, Optional, Tuple
+from typing import Any, Callable, List, Optional, Tuple
 
 from . import _shapes
-from ._memory import numpy_where_loaded
+from ._library import FAULTY, GridOfC, checked, library
 from ._rows import _GREATEST, _LEAST
 
-# Where a grid is fitted, the greatest whole number that a coordinate becomes: half of what fits in 32 bits.
-_FITTED = 2**30
 _BITS_OF_FLOAT = 53
 # Of units. All points of a grid are floats then.
 _LEAST_EXPONENT, _GREATEST_EXPONENT = -1022, 970
@@ -73,10 +72,14 @@ class Grid:
         Grid(origin=(0.5, 0.5), unit=0.125)
 
         Raises ValueError where a coordinate isn't finite, or doesn't fit with
-        the unit that was given. What is raised for faulty rings is told at
-        help(itree).
+        the unit that was given. Raises TypeError of an iterator, as a generator
+        or a map, for nothing would be left of it for `overlay`. What is raised
+        for faulty rings is told at help(itree).
         """
-        return fitted([(given, f"shape {place}") for place, given in enumerate(shapes)], unit)
+        from ._gathered import corners_of
+
+        named = [(given, f"shape {place}") for place, given in enumerate(shapes)]
+        return fitted(corners_of(named, kept=True), unit)
 
     def to_grid(self, point: Tuple[float, float]) -> Tuple[int, int]:
         """The point of the grid next to a point, in units from the origin.
@@ -85,6 +88,8 @@ class Grid:
         of the grid as far off.
         """
         numbers = array.array("d", point)
+        if len(numbers) != 2:
+            raise ValueError(f"the point: {len(numbers)} numbers, 2 are wanted")
         _shapes.check_finite(numbers, "the point")
         x, y = self.rounded(numbers, "the point, row {}".format)
         return x, y
@@ -99,27 +104,36 @@ class Grid:
         return x * self.unit + x0, y * self.unit + y0
 
     def rounded(self, floats: array.array[float], row_of: Callable[[int], str]) -> array.array[int]:
-        """Finite coordinates x, y, x, y and so on, in units from the origin. By its place `row_of` tells what a point is."""
-        whole = array.array("i", bytes(4 * len(floats)))
-        for axis in 0, 1:
-            numbers = floats[axis::2]
-            try:
-                whole[axis::2] = self._units(numbers, axis)
-            except OverflowError:
-                place, number = next(it for it in enumerate(numbers) if not self._holds(it[1], axis))
-                raise ValueError(f"{row_of(place)}: {number} is off the grid, which is {self}") from None
+        """Coordinates x, y, x, y and so on, in units from the origin. By its place `row_of` tells what a point is."""
+        whole = array.array("i", [0]) * len(floats)
+        self.round_into(whole.buffer_info()[0], floats.buffer_info()[0], len(floats) // 2, floats, row_of)
         return whole
 
-    def _units(self, numbers: array.array[float], axis: int) -> array.array[int]:
-        numpy = numpy_where_loaded()
-        exponent, start = self._scale(axis)
-        if numpy is None:
-            return array.array("i", [round(math.ldexp(number, exponent)) - start for number in numbers])
-        with numpy.errstate(over="ignore", under="ignore"):
-            units = numpy.rint(numpy.ldexp(numpy.asarray(numbers), exponent)) - start
-        if units.size and not _LEAST <= units.min() <= units.max() <= _GREATEST:
-            raise OverflowError
-        return array.array("i", units.astype("i").tobytes())
+    def round_into(self, whole: int, floats: int, count: int, numbers: Any, row_of: Callable[[int], str]) -> None:
+        """The same of so many points at an address, whose coordinates are `numbers`, written to an address."""
+        fault = ctypes.c_size_t()
+        words = floats, count, whole, count, ctypes.byref(fault)
+        status = library.itree_grid_round(ctypes.byref(self.of_c()), *words)
+        if status == FAULTY:
+            place = fault.value
+            pair = numbers[2 * place], numbers[2 * place + 1]
+            for number in pair:
+                if not math.isfinite(number):
+                    raise ValueError(f"{row_of(place)}: {number}; finite numbers are wanted")
+            off = next(number for axis, number in enumerate(pair) if not self._holds(number, axis))
+            raise ValueError(f"{row_of(place)}: {off} is off the grid, which is {self}")
+        checked(status)
+
+    def of_c(self) -> GridOfC:
+        """As the library takes it."""
+        known: Optional[GridOfC] = self.__dict__.get("_of_c")
+        if known is None:
+            (_, x), (exponent, y) = self._scale(0), self._scale(1)
+            known = self.__dict__["_of_c"] = GridOfC(x, y, -exponent)
+        return known
+
+    def __reduce__(self) -> Tuple[Any, ...]:
+        return type(self), (self.origin, self.unit)
 
     def _scale(self, axis: int) -> Tuple[int, int]:
         """The power of two that a coordinate is multiplied by, and what is taken away then."""
@@ -145,33 +159,30 @@ def _checked_unit(unit: float) -> float:
     return unit
 
 
-def fitted(named: Iterable[Tuple[_shapes.Shapes, str]], unit: Optional[float]) -> Grid:
-    """`Grid.fit` of shapes, each with the name by which its faults are told."""
-    bounds = _bounds_of(named)
+def grid_of(told: GridOfC) -> Grid:
+    """The grid that the library tells."""
+    grid, unit = object.__new__(Grid), math.ldexp(1.0, told.exponent)
+    # All of it is known to be well.
+    grid.__dict__.update(origin=(told.x * unit, told.y * unit), unit=unit, _of_c=told)
+    return grid
+
+
+def fitted(corners: array.array[float], unit: Optional[float] = None) -> Grid:
+    """`Grid.fit` of finite positions, x, y, x, y and so on."""
     if unit is not None:
-        return _with_unit(bounds, unit)
-    greatest = max(abs(number) for axis in bounds for number in axis)
-    if greatest == 0:
-        return Grid()
-    exponent = max(math.frexp(greatest)[1] - _BITS_OF_FLOAT, _LEAST_EXPONENT)
-    while _span(bounds, exponent) > 2 * _FITTED:
-        exponent += 1
-    return _with_unit(bounds, math.ldexp(1.0, exponent))
+        return _with_unit([_bounds(corners[axis::2]) for axis in (0, 1)], unit)
+    told, fault = GridOfC(), ctypes.c_size_t()
+    at, count = corners.buffer_info()
+    status = library.itree_grid_fit(at, count // 2, ctypes.byref(told), ctypes.byref(fault))
+    if status == FAULTY:
+        raise ValueError(f"no grid has as wide a unit as these coordinates take, up to {max(abs(it) for it in corners)}")
+    checked(status)
+    return grid_of(told)
 
 
-def _bounds_of(named: Iterable[Tuple[_shapes.Shapes, str]]) -> List[Tuple[float, float]]:
-    """The least and the greatest coordinate, on each axis; 0 where there is no point."""
-    found: List[List[float]] = [[], []]
-    for ring in (ring for given, name in named for ring in _shapes.rings_in(given, name)):
-        numbers = _shapes.floats(ring)
-        for axis, known in enumerate(found if numbers else []):
-            known[:] = min([*known, *numbers[axis::2]]), max([*known, *numbers[axis::2]])
-    return [(known[0], known[1]) if known else (0.0, 0.0) for known in found]
-
-
-def _span(bounds: List[Tuple[float, float]], exponent: int) -> int:
-    """How many units the wider axis has."""
-    return max(round(math.ldexp(high, -exponent)) - round(math.ldexp(low, -exponent)) for low, high in bounds)
+def _bounds(numbers: array.array[float]) -> Tuple[float, float]:
+    """The least and the greatest; 0 where there is none."""
+    return (min(numbers), max(numbers)) if numbers else (0.0, 0.0)
 
 
 def _with_unit(bounds: List[Tuple[float, float]], unit: float) -> Grid:

@@ -5,7 +5,8 @@ from __future__ import annotations
 import ctypes
 import os
 
-ANSWERED, REFUSED, OVERLAP, CROSSING, MEETING = 0, 1, 2, 2, 2
+# As itree.h has them.
+ANSWERED, REFUSED, OVERLAP, LENGTHS, CROSSING, MEETING, FAULTY, STOPPED = 0, 1, 2, 3, 6, 7, 8, 9
 
 _address, _length = ctypes.c_void_p, ctypes.c_size_t
 _status = ctypes.c_int32
@@ -18,7 +19,11 @@ _CALLS = {
     "itree_chains_point_count": (_length, [_address]),
     "itree_chains_points": (_address, [_address]),
     "itree_first_meeting": (_status, [_address, _length, _address, _address]),
+    "itree_grid_fit": (_status, [_address, _length, _address, _address]),
+    "itree_grid_positions": (_status, [_address, _address, _length, _address, _length]),
+    "itree_grid_round": (_status, [_address, _address, _length, _address, _length, _address]),
     "itree_how_they_meet": (_status, [_address, _address, _address]),
+    "itree_limit_memory": (None, [_length]),
     "itree_locate": (_status, [_address, _length, _address, _length, _address, _length, _address, _address]),
     "itree_meetings_all": (_status, [_address, _length, _address]),
     "itree_meetings_between": (_status, [_address, _length, _address, _length, _address]),
@@ -31,15 +36,42 @@ _CALLS = {
     "itree_polygons_polygon_offsets": (_length, [_address, _address]),
     "itree_polygons_ring_offsets": (_length, [_address, _address]),
     "itree_snap": (_status, [_address, _length, _address]),
+    "itree_stop_flag": (None, [_address]),
+    "itree_wkb_corners": (_status, [_address, _length, _address, _length, _address, _length, _address, _address]),
+    "itree_wkb_read": (_status, [_address, _length, _address, _length, _address, _address, _address]),
+    "itree_wkb_srid": (_status, [_address, _length, _address]),
+    "itree_wkb_write": (
+        _status,
+        [*[_address, _length] * 3, _address, _status, ctypes.c_uint32, _address, _length, _address],
+    ),
 }
 
 
-def checked(status: int) -> None:
-    """Raises what a status says that is no answer."""
+class GridOfC(ctypes.Structure):
+    """itree_grid: the origin in units, and the exponent of the unit."""
+
+    _fields_ = [("x", ctypes.c_int64), ("y", ctypes.c_int64), ("exponent", ctypes.c_int32)]
+
+
+class PlaceOfC(ctypes.Structure):
+    """itree_wkb_place: what is faulty, in which shape, and the byte at which it begins."""
+
+    _fields_ = [("kind", ctypes.c_size_t), ("shape", ctypes.c_size_t), ("byte", ctypes.c_size_t)]
+
+
+def checked(status: int, limit: int = 0) -> None:
+    """Raises what a status says that is no answer, of a call that was held to a limit of memory, or to none (0)."""
     if status == REFUSED:
-        raise MemoryError
+        raise MemoryError(_refused(limit))
+    if status == STOPPED:
+        raise KeyboardInterrupt
     if status != ANSWERED:
         raise SystemError(f"itree's library ends with the status {status}, which it has no reason for")
+
+
+def _refused(limit: int) -> str:
+    said = "itree: memory was refused"
+    return f"{said}: the call would hold more than memory_limit, {limit} bytes, or than there is" if limit else said
 
 
 def _beside(*names: str) -> str:

@@ -6,7 +6,7 @@ import array
 import ctypes
 import sys
 from types import ModuleType
-from typing import Optional, Tuple
+from typing import Any, Literal, Optional, Tuple
 
 
 class _Buffer(ctypes.Structure):
@@ -42,6 +42,12 @@ def address_of(view: memoryview) -> int:
     at: int = buffer.at or 0
     _release_buffer(ctypes.byref(buffer))
     return at
+
+
+def view_of(data: Any, letter: Literal["i", "q", "Q", "?"]) -> memoryview:
+    """A flat view of the numbers in bytes, by the letter that array.array has for them."""
+    view = memoryview(data)
+    return view.cast("B").cast(letter) if view.nbytes else memoryview(bytearray()).cast(letter)
 
 
 def room_for(count: int, typecode: str) -> Tuple[array.array[int], int]:

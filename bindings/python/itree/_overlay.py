@@ -2,13 +2,13 @@
 
 from __future__ import annotations
 
-import array
 from typing import Dict, Literal, Optional, Sequence, Tuple
 
-from . import _answers, _shapes
+from . import _answers, _direct, _gathered
+from ._calls import limit_of
 from ._grid import Grid
 from ._polygons import Polygons
-from ._shapes import GatheredRings, HeldRings, Shapes
+from ._shapes import Shapes
 
 Rule = Literal["evenodd", "nonzero", "positive", "negative"]
 Operation = Literal["union", "intersection", "difference", "xor"]
@@ -25,16 +25,20 @@ def overlay(
     rule: Rule = "nonzero",
     *,
     grid: Optional[Grid] = None,
+    memory_limit: Optional[int] = None,
 ) -> Polygons:
     """The polygons of what an operation makes of the insides of two sets of rings.
 
-    subject, clip: each a sequence of rings, or what has a __geo_interface__.
+    subject, clip: each a sequence of rings; Rings; shapely's or geopandas'
+    objects; well-known binary; GeoJSON, or what has a __geo_interface__; or an
+    answer. help(itree) tells them all.
     operation: "union", what is inside of any; "intersection", of both;
     "difference", of the subject and not of the clip; "xor", of just one.
     rule: which points are inside of rings, by how often these wind around them
     counterclockwise: "evenodd", an odd number of times; "nonzero", not 0 times;
     "positive", more often; "negative", less often.
     grid: by which floats become whole numbers, as Grid.fit(subject, clip).
+    memory_limit: how many bytes the call may hold at once; None: as it likes.
 
     A ring is a sequence of points (x, y), or a buffer of whole numbers of the
     shape (n, 2), or flat. It goes from each point to the next one, and from the
@@ -50,25 +54,25 @@ def overlay(
     order, is open. Rings visit no point twice, have no points on straight
     lines, and share no more than single points.
 
-    What has a __geo_interface__ is taken as it is, and so are GeoJSON's dicts
-    and sequences of both: Polygon, MultiPolygon, and Feature, FeatureCollection
-    and GeometryCollection of these. Outer rings are turned counterclockwise
-    there, and holes clockwise, so that each rule but "negative" finds the
-    polygon inside. Of a point the first two coordinates are taken. They may be
-    floats that are whole.
+    Shapes are Polygon, MultiPolygon and GeometryCollection of these, and of
+    GeoJSON Feature and FeatureCollection, too; alone or in a sequence, in which
+    None is nothing. Outer rings are turned counterclockwise there, and holes
+    clockwise, so that each rule but "negative" finds the polygon inside. Of a
+    point the first two coordinates are taken.
 
     >>> shape = {"type": "Polygon", "coordinates": [[(0, 0), (2, 0), (2, 2), (0, 0)]]}
     >>> overlay(shape, [other]).__geo_interface__["type"]
     'MultiPolygon'
 
-    Without a grid coordinates are whole numbers of 32 bits, and so are those of
-    the answer: rings are broken where they meet, and moved there to the next
+    Without a grid coordinates are whole numbers of 32 bits, which may be floats
+    in shapes, and so are those of the answer: rings are broken where they meet, and moved there to the next
     whole point. A point is told rightly, inside or not, that isn't within half
     a unit of an edge on both axes. Where all edges run along the axes, each
     point is.
 
     With a grid coordinates are floats, and so are those of the answer, which
-    are points of the grid. Each coordinate is first rounded to the grid: so a
+    are points of the grid. Where shapes have others than whole numbers of 32
+    bits, and no grid is given, it is the finest that fits: Grid.fit. Each coordinate is first rounded to the grid: so a
     point is told rightly that isn't within one unit, `grid.unit`, of an edge on
     both axes.
 
@@ -77,18 +81,25 @@ def overlay(
     >>> sorted(answer[0].outer), answer.grid.unit
     ([(0.5, 0.5), (0.5, 0.75), (0.75, 0.5)], 0.25)
 
-    Raises ValueError where an operation or a rule is none, and with a grid where
-    a coordinate isn't finite, or is off the grid. Raises MemoryError where
-    memory was refused. What is raised for faulty rings is told at help(itree).
+    The answer's crs is that of a GeoSeries, and its srid that of extended
+    well-known binary, where there is one.
+
+    Raises ValueError where an operation or a rule is none, where two crs or two
+    srids differ, where well-known binary is faulty, which is told by its shape
+    and its byte, and with a grid where a coordinate isn't finite, or is off the
+    grid. Raises MemoryError where memory was refused, or the call would hold more
+    than memory_limit. What is raised for faulty rings is told at help(itree).
     """
-    return overlaid([(subject, "subject"), (clip, "clip")], operation, rule, grid)
+    return overlaid([(subject, "subject"), (clip, "clip")], operation, rule, grid, memory_limit)
 
 
-def simplify(rings: Shapes, rule: Rule = "nonzero", *, grid: Optional[Grid] = None) -> Polygons:
+def simplify(
+    rings: Shapes, rule: Rule = "nonzero", *, grid: Optional[Grid] = None, memory_limit: Optional[int] = None
+) -> Polygons:
     """The polygons of what is inside of rings, by a rule: `overlay` of them and nothing.
 
-    rings: a sequence of rings, or what has a __geo_interface__, as of `overlay`.
-    rule, grid: as those of `overlay`.
+    rings: what `overlay` takes.
+    rule, grid, memory_limit: as those of `overlay`.
 
     So rings that cross or touch, themselves, too, become valid polygons. A
     bow-tie becomes two triangles:
@@ -99,10 +110,41 @@ def simplify(rings: Shapes, rule: Rule = "nonzero", *, grid: Optional[Grid] = No
 
     Raises what `overlay` does.
     """
-    return overlaid([(rings, "rings")], "union", rule, grid)
+    return overlaid([(rings, "rings")], "union", rule, grid, memory_limit)
 
 
-def overlaid(named: Sequence[Tuple[Shapes, str]], operation: str, rule: str, grid: Optional[Grid]) -> Polygons:
+def unary_union(shapes: Shapes, *, grid: Optional[Grid] = None, memory_limit: Optional[int] = None) -> Polygons:
+    """The polygons of what is inside of any of some shapes, as shapely's unary_union: `simplify` by "nonzero".
+
+    >>> [sorted(it.outer) for it in unary_union([[(0, 0), (2, 0), (2, 2), (0, 2)], [(2, 0), (4, 0), (4, 2), (2, 2)]])]
+    [[(0, 0), (0, 2), (4, 0), (4, 2)]]
+
+    Raises what `overlay` does.
+    """
+    return overlaid([(shapes, "shapes")], "union", "nonzero", grid, memory_limit)
+
+
+def make_valid(shape: Shapes, *, grid: Optional[Grid] = None, memory_limit: Optional[int] = None) -> Polygons:
+    """Valid polygons of a shape whose rings cross or touch, as shapely's make_valid: `simplify` by "evenodd".
+
+    A point is inside where rings wind around it an odd number of times: so what
+    is covered twice is outside.
+
+    >>> sorted(sorted(it.outer) for it in make_valid([[(0, 0), (4, 4), (4, 0), (0, 4)]]))
+    [[(0, 0), (0, 4), (2, 2)], [(2, 2), (4, 0), (4, 4)]]
+
+    Raises what `overlay` does.
+    """
+    return overlaid([(shape, "shape")], "union", "evenodd", grid, memory_limit)
+
+
+def overlaid(
+    named: Sequence[Tuple[Shapes, str]],
+    operation: str,
+    rule: str,
+    grid: Optional[Grid],
+    memory_limit: Optional[int] = None,
+) -> Polygons:
     """`overlay` of one or two shapes, each with the name by which its faults are told."""
     if operation not in OPERATIONS:
         raise ValueError(f"the operation {operation!r}: one of {', '.join(OPERATIONS)} is wanted")
@@ -110,18 +152,15 @@ def overlaid(named: Sequence[Tuple[Shapes, str]], operation: str, rule: str, gri
         raise ValueError(f"the rule {rule!r}: one of {', '.join(RULES)} is wanted")
     if not isinstance(grid, (Grid, type(None))):
         raise TypeError(f"the grid is {type(grid).__name__}; a Grid or None is wanted")
-    held = [_held(given, name, grid) for given, name in named]
-    held += [HeldRings(array.array("i"), array.array("Q"))] * (2 - len(held))
-    numbers, ring_offsets, polygon_offsets = _answers.polygons_of(held[0], held[1], RULES[rule], OPERATIONS[operation])
-    return Polygons(numbers, ring_offsets, polygon_offsets, grid)
-
-
-def _held(given: Shapes, name: str, grid: Optional[Grid]) -> HeldRings:
-    if isinstance(given, Polygons) and given.grid == grid:
-        return HeldRings(array.array("i", given._numbers), array.array("Q", given.ring_offsets[1:]))
-    rings = _shapes.rings_in(given, name)
+    limit = limit_of(memory_limit)
+    direct = _direct.taken(named, rule, grid)
+    if direct is not None:
+        grid, (subject, clip) = direct
+        return Polygons(_answers.polygons_of(subject, clip, RULES[rule], OPERATIONS[operation], limit), grid)
+    items = _gathered.gathered(named, grid is not None, kept=False)
+    crs = _gathered.one_of((it.crs for it in items), "crs")
+    srid = _gathered.one_of((it.srid for it in items), "SRID") or 0
     if grid is None:
-        whole = GatheredRings(rings, _shapes.whole_numbers, "i")
-        return HeldRings(whole.numbers, whole.ends)
-    floats = GatheredRings(rings, _shapes.directed_floats, "d")
-    return HeldRings(grid.rounded(floats.numbers, floats.row), floats.ends)
+        grid = _gathered.chosen(items)
+    subject, clip = _gathered.held(items, grid)
+    return Polygons(_answers.polygons_of(subject, clip, RULES[rule], OPERATIONS[operation], limit), grid, crs, srid)

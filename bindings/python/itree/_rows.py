@@ -13,7 +13,7 @@ import numbers
 import operator
 import re
 import sys
-from typing import TYPE_CHECKING, Any, Iterable, Iterator, List, NamedTuple, NoReturn, Optional, Sequence, Tuple, Union
+from typing import TYPE_CHECKING, Any, FrozenSet, Iterable, Iterator, List, NamedTuple, NoReturn, Optional, Sequence, Tuple, Union
 
 from ._memory import address_of, numpy_where_loaded
 
@@ -41,6 +41,8 @@ _TYPECODES = {(letter.islower(), array.array(letter).itemsize): letter for lette
 _NUMPY_SCALES = "scale and round, e.g. (xy * 1e7).round().astype('int32')"
 _SCALES = "scale and round, e.g. round(x * 1e7)"
 _MANY_ROWS = 4096
+# Types of what has no order.
+UNORDERED: FrozenSet[type] = frozenset((set, frozenset))
 
 
 class Kind(NamedTuple):
@@ -66,6 +68,10 @@ class HeldRows:
     def __init__(self, given: Rows, kind: Kind) -> None:
         self._view, self.at = _numbers_of(given, kind)
         self.count = self._view.nbytes // (4 * kind.width)
+
+    def kept(self) -> memoryview:
+        """What keeps the memory as it is, also behind the end of the `with`, as long as it stays."""
+        return memoryview(self._view)
 
     def __enter__(self) -> HeldRows:
         return self
@@ -221,6 +227,8 @@ def _append(copied: array.array[int], rows: Sequence[Any], first: int, kind: Kin
 def _flat(rows: Sequence[Any], kind: Kind) -> Iterable[Any]:
     """The numbers of rows that are all alike. Raises TypeError or ValueError where they aren't."""
     lengths = set(map(len, rows))
+    if not UNORDERED.isdisjoint(map(type, rows)):
+        raise TypeError
     if kind.takes_points() and lengths == {2}:
         return _flat(list(itertools.chain.from_iterable(rows)), POINTS)
     if lengths - {kind.width}:
@@ -245,6 +253,8 @@ def _numbers_in(row: Any, where: str, kind: Kind) -> List[int]:
 
 def _iterated(given: Any, where: str, wanted: str) -> Iterator[Any]:
     items: Optional[Iterator[Any]] = None
+    if isinstance(given, (set, frozenset)):
+        raise TypeError(f"{where}: a {_type(given)}, which has no order; a list is wanted")
     if not isinstance(given, (str, bytes, bytearray)):
         with contextlib.suppress(TypeError):
             items = iter(given)

@@ -12,6 +12,7 @@ import itertools
 import math
 import operator
 import struct
+from collections.abc import Iterator as IsIterator
 from collections.abc import Mapping
 from fractions import Fraction
 from numbers import Number
@@ -30,8 +31,9 @@ if TYPE_CHECKING:
 
     Numbers = Union[memoryview, array.array[int], array.array[float], _rows._HasBuffer, _rows._HasArray]
     Ring = Union[Iterable[Iterable[SupportsFloat]], Numbers]
-    Shape = Union[Mapping[str, Any], HasGeoInterface]
-    Shapes = Union[Shape, Iterable[Union[Ring, Shape]]]
+    Shape = Union[Mapping[str, Any], HasGeoInterface, bytes, bytearray, memoryview]
+    # Rings of this package, and Polygons, are iterables of rings, and have a __geo_interface__.
+    Shapes = Union[Shape, Iterable[Union[Ring, Shape, None]]]
 else:
     HasGeoInterface = Ring = Shape = Shapes = object
 
@@ -42,33 +44,31 @@ class GivenRing(NamedTuple):
     """A ring as it was given, and where.
 
     is_hole: of a polygon of GeoJSON whether it is one of its holes; else None.
+    kept: whether it is read again later, so that no part of it may be an iterator.
     """
 
     points: Any
     where: str
     is_hole: Optional[bool] = None
+    kept: bool = False
 
     def row(self, place: int) -> str:
         return f"{self.where}, row {place}"
 
 
-def rings_in(given: Any, name: str) -> Iterator[GivenRing]:
-    """The rings of an argument, each with its place in it."""
-    shape = _shape_of(given)
-    if shape is not None:
-        yield from _rings_of_shape(shape, name)
-        return
-    if _is_ring(given):
-        raise TypeError(f"{name}: a ring alone; a sequence of rings is wanted: put it into a list")
-    for place, item in enumerate(_rows._iterated(given, name, "rings, or what has a __geo_interface__,")):
-        shape = _shape_of(item)
-        if shape is None:
-            yield GivenRing(item, f"{name}, ring {place}")
-        else:
-            yield from _rings_of_shape(shape, f"{name}, place {place}")
+def rings_of_shape(shape: Any, where: str, kept: bool) -> Iterator[GivenRing]:
+    """The rings of GeoJSON. kept: whether they are read again later."""
+    for ring in _rings_of_shape(shape, where):
+        yield ring._replace(kept=kept)
 
 
-def _is_ring(given: Any) -> bool:
+def check_order(given: Any, where: str, kept: bool) -> None:
+    """Raises TypeError of what can't be read again, where it is to be."""
+    if kept and isinstance(given, IsIterator):
+        raise TypeError(f"{where} is an iterator, which can be read once alone; give a list")
+
+
+def is_ring(given: Any) -> bool:
     """Whether it is a ring itself: a list of points, or a buffer that is flat, or whose rows are points."""
     if isinstance(given, (list, tuple)):
         first = given[0] if given else None
@@ -80,7 +80,7 @@ def _is_ring(given: Any) -> bool:
     return view.format != "O" and (view.ndim == 1 or (view.shape or ())[1:] == (2,))
 
 
-def _shape_of(given: Any) -> Optional[Any]:
+def shape_of(given: Any) -> Optional[Any]:
     """What GeoJSON says of something, or None where it says nothing."""
     if isinstance(given, Mapping):
         return given
@@ -126,6 +126,7 @@ class GatheredRings:
         self.numbers: array.array[Any] = array.array(typecode)
         self.ends, self._names = array.array("Q"), []
         for ring in rings:
+            check_order(ring.points, ring.where, ring.kept)
             self.numbers.extend(numbers_of(ring))
             self.ends.append(len(self.numbers) // 2)
             self._names.append(ring.where)
@@ -138,14 +139,22 @@ class GatheredRings:
 
 
 class HeldRings(NamedTuple):
-    """Points of all rings, as whole numbers, and where each ring stops among them."""
+    """Points of all rings, as whole numbers, and where each ring stops among them.
 
-    numbers: array.array[int]
-    ends: array.array[int]
+    given: as the library takes them, for as long as this stays.
+    kept: what owns the memory.
+    """
 
-    def given(self) -> Tuple[int, int, int, int]:
-        """As the library takes them, for as long as this stays."""
-        return (self.numbers.buffer_info()[0], len(self.numbers) // 2, *self.ends.buffer_info())
+    given: Tuple[int, int, int, int]
+    kept: Any
+
+
+def held_rings(numbers: array.array[int], ends: array.array[int]) -> HeldRings:
+    """Rings whose numbers, and whose ends, lie side by side."""
+    return HeldRings((numbers.buffer_info()[0], len(numbers) // 2, *ends.buffer_info()), (numbers, ends))
+
+
+NOTHING = held_rings(array.array("i"), array.array("Q"))
 
 
 def directed(ring: GivenRing, numbers: array.array[Any]) -> array.array[Any]:
@@ -159,8 +168,6 @@ def directed(ring: GivenRing, numbers: array.array[Any]) -> array.array[Any]:
 
 def _is_counterclockwise(xs: array.array[Any], ys: array.array[Any]) -> bool:
     """Whether the ring winds around a positive area."""
-    if xs.typecode == "i":
-        return _twice_area(xs, ys) > 0
     # Floats near the first point, and fractions where the sum isn't clearly more than the roundings make.
     products = list(_products(*(array.array("d", [number - axis[0] for number in axis]) for axis in (xs, ys))))
     with contextlib.suppress(OverflowError, ValueError):
@@ -170,8 +177,8 @@ def _is_counterclockwise(xs: array.array[Any], ys: array.array[Any]) -> bool:
     return _twice_area(list(map(Fraction, xs)), list(map(Fraction, ys))) > 0
 
 
-def _twice_area(xs: Any, ys: Any) -> Union[int, Fraction]:
-    area: Union[int, Fraction] = sum(_products(xs, ys))
+def _twice_area(xs: List[Fraction], ys: List[Fraction]) -> Fraction:
+    area: Fraction = sum(_products(xs, ys), Fraction(0))
     return area
 
 
@@ -182,16 +189,8 @@ def _products(xs: Any, ys: Any) -> Iterator[Any]:
 
 
 def whole_numbers(ring: GivenRing) -> array.array[int]:
-    """The coordinates of a ring, which have to be whole."""
-    return _copied(ring) if ring.is_hole is None else directed(ring, _whole_of_shape(ring))
-
-
-def _whole_of_shape(ring: GivenRing) -> array.array[int]:
-    rows = _pairs(ring)
-    with contextlib.suppress(OverflowError, TypeError):
-        return array.array("i", _rows._whole(itertools.chain.from_iterable(rows)))
-    numbers = [_whole_float(number, ring.row(place)) for place, row in enumerate(rows) for number in row]
-    return array.array("i", numbers)
+    """The coordinates of a ring that is none of GeoJSON, which have to be whole."""
+    return _copied(ring)
 
 
 def _copied(ring: GivenRing) -> array.array[int]:
@@ -210,16 +209,6 @@ def _with_grid(fault: TypeError) -> TypeError:
     """The fault, which says what else floats are taken by."""
     said = str(fault)
     return TypeError(f"{said}; or give a grid: itree.Grid.fit(...)") if "scale and round" in said else fault
-
-
-def _whole_float(number: Any, where: str) -> int:
-    """A whole number, which may be a float, as GeoJSON has them."""
-    if isinstance(number, float) and number.is_integer():
-        number = int(number)
-    try:
-        return _rows._checked(number, where)
-    except TypeError as fault:
-        raise _with_grid(fault) from None
 
 
 def floats(ring: GivenRing) -> array.array[float]:
@@ -293,15 +282,16 @@ def _pairs(ring: GivenRing) -> List[Any]:
     rows = list(_rows._iterated(ring.points, ring.where, "points"))
     of_shape = ring.is_hole is not None
     with contextlib.suppress(TypeError):
-        lengths = set(map(len, rows))
+        lengths = set(map(len, rows)) if _rows.UNORDERED.isdisjoint(map(type, rows)) else {0}
         if lengths <= {2} or (of_shape and min(lengths) > 2):
             pairs = rows if lengths <= {2} else [row[:2] for row in rows]
             return _opened(pairs) if of_shape else pairs
-    pairs = [_pair(row, ring.row(place), of_shape) for place, row in enumerate(rows)]
+    pairs = [_pair(row, ring.row(place), of_shape, ring.kept) for place, row in enumerate(rows)]
     return _opened(pairs) if of_shape else pairs
 
 
-def _pair(row: Any, where: str, of_shape: bool) -> List[Any]:
+def _pair(row: Any, where: str, of_shape: bool, kept: bool) -> List[Any]:
+    check_order(row, where, kept)
     items = list(_rows._iterated(row, where, "2 numbers"))
     if len(items) < 2 or (len(items) > 2 and not of_shape):
         raise ValueError(f"{where}: {len(items)} numbers, 2 are wanted")
