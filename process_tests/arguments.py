@@ -4,7 +4,7 @@ and sound ranges."""
 import os
 
 from documents import help_text, text_of
-from processes import ARGUMENTS, SOON, Case, Outcome, answered, by_file, outcome_of, redirected
+from processes import ARGUMENTS, SOON, WRITING, Case, Outcome, answered, by_file, outcome_of, redirected
 
 FAULTY = (
     ("no argument", []),
@@ -59,7 +59,6 @@ FAULTY = (
     ("locate twice", ["locate", "locate"]),
     ("one too many after snap", ["snap", "extra"]),
     ("snap twice", ["snap", "snap"]),
-    ("overlay alone", ["overlay"]),
     ("overlay and an operation", ["overlay", "union"]),
     ("overlay and a rule", ["overlay", "nonzero"]),
     ("overlay and a range", ["overlay", "0", "128"]),
@@ -151,7 +150,7 @@ def asking_for(words, text):
         for over, how in INPUTS:
             yield Case(f"{word}, over {over}", [word], b"nonsense\n", Outcome(0, text), how)
         for over, redirections in (("a full device", "> /dev/full"), ("nothing", ">&-")):
-            yield Case(f"{word}, to {over}", [word], b"", Outcome(1), redirected(redirections))
+            yield Case(f"{word}, to {over}", [word], b"", Outcome(1, b"", WRITING), redirected(redirections))
         yield Case(f"{word}, a closed standard error", [word], b"", Outcome(0, text), redirected("2>&-"))
 
 

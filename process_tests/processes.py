@@ -10,12 +10,30 @@ LIMIT = 30
 # So many seconds are enough to decide the arguments.
 SOON = 5
 
-# Faults that standard error is told.
-ARGUMENTS = b"itree: arguments\n"
+# What standard error is told where memory was refused.
+MEMORY = b"itree: memory was refused\n"
+
+
+class Line(bytes):
+    """Stands for each line that begins with these bytes and goes on, if it does, behind a colon."""
+
+    def __eq__(self, got):
+        rest = got[len(self):]
+        return got.startswith(bytes(self)) and rest[:1] in (b":", b"\n") and rest.find(b"\n") == len(rest) - 1
+
+    __hash__ = bytes.__hash__
+
+
+# Faults that standard error is told. What they tell beyond this stands in messages.py.
+ARGUMENTS = Line(b"itree: arguments")
 
 
 def faulty_line(number):
-    return b"itree: line %d\n" % number
+    return Line(b"itree: line %d" % number)
+
+
+# A failure that standard error is told.
+READING, WRITING = Line(b"itree: reading failed"), Line(b"itree: writing failed")
 
 
 class Beginning(bytes):

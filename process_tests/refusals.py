@@ -17,13 +17,13 @@ import locates
 import sweeps
 from documents import help_text, text_of
 from models import Keys, Segments, Sets
-from processes import ARGUMENTS, Case, Outcome, answered, faulty_line, lines, outcome_of, refused
+from processes import ARGUMENTS, MEMORY, READING, WRITING, Case, Outcome, answered, lines, outcome_of, refused
 from text import PLAIN
 
 SOURCE = os.path.join(os.path.dirname(os.path.abspath(__file__)), "refuse.c")
 COMPILER = shlex.split(os.environ.get("CC", "cc"))
 
-STOPPED = Outcome(1)
+STOPPED = Outcome(1, b"", MEMORY)
 
 # Lines of each mode that has a collection, which are more than a small one holds, and places of some that ask for memory. A
 # tree begins with room for seven keys.
@@ -58,11 +58,15 @@ OTHERS = (
 
 # Runs that end with a fault.
 FAULTS = (
-    ("keytree", ("clear", "clean"), faulty_line(2)),
-    ("setlist", ("find 1", "fine 1"), faulty_line(2)),
-    ("seg 0 128", ("clear", "", "query"), faulty_line(3)),
-    ("seg 0 30", ("clear",), ARGUMENTS),
-    ("keylist extra", ("clear",), ARGUMENTS),
+    ("keytree", ("clear", "clean"), b"itree: line 2: column 1: 'clean': insert, less, leq or clear is wanted\n"),
+    ("setlist", ("find 1", "fine 1"), b"itree: line 2: column 1: 'fine': insert, delete, find or before is wanted\n"),
+    ("seg 0 128", ("clear", "", "query"), b"itree: line 3: column 1: 'query': one more number is wanted behind it\n"),
+    (
+        "seg 0 30",
+        ("clear",),
+        b"itree: arguments: '30': a number that is at least 31 more than the one before is wanted\n",
+    ),
+    ("keylist extra", ("clear",), b"itree: arguments: 'extra': no further word is wanted\n"),
     ("sweep", ("segment 0 5 1", "point 0 0", "segment 5 9 1"), b"itree: overlap 3\n"),
     ("locate", ("edge 0 0 5 5", "point 0 0", "edge 0 5 5 0"), b"itree: cross 1 3\n"),
 )
@@ -207,9 +211,9 @@ def of_streams(preloaded, rows=MODES):
             ("a read fails after a faulty line", given + b"nonsense\n", 2),
             ("a read fails in the middle of many lines", given * LINES, 3),
         ):
-            yield Case(f"{mode}: {name}", words, text, STOPPED, preloaded.under(FAILED_READ=nth))
+            yield Case(f"{mode}: {name}", words, text, Outcome(1, b"", READING), preloaded.under(FAILED_READ=nth))
         for room in range(len(reply)):
-            part = Outcome(1, reply[:room])
+            part = Outcome(1, reply[:room], WRITING)
             yield Case(f"{mode}: room for {room} bytes of replies", words, given, part, preloaded.under(ROOM_1=room))
         yield answered("room for the reply alone", mode, given, reply, preloaded.under(ROOM_1=len(reply)))
         yield answered("half of each read and write", mode, given, reply, preloaded.under(HALVES=1))
@@ -225,7 +229,7 @@ def of_texts(preloaded):
     for word, text in asked:
         yield Case(f"{word}: no read", [word], b"nonsense\n", Outcome(0, text), preloaded.under(FAILED_READ=1))
         yield Case(f"{word}: half of each write", [word], b"", Outcome(0, text), preloaded.under(HALVES=1))
-        yield Case(f"{word}: room for 5 bytes", [word], b"", Outcome(1, text[:5]), preloaded.under(ROOM_1=5))
+        yield Case(f"{word}: room for 5 bytes", [word], b"", Outcome(1, text[:5], WRITING), preloaded.under(ROOM_1=5))
 
 
 def of_full_faults(preloaded):

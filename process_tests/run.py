@@ -27,6 +27,7 @@ GROUPS = (
     "worked",
     "rising",
     "arguments",
+    "messages",
     "text",
     "odd",
     "streams",

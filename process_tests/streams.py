@@ -6,7 +6,20 @@ import threading
 import time
 from contextlib import suppress
 
-from processes import ARGUMENTS, Beginning, Case, Outcome, answered, dialogue, faulty_line, outcome_of, redirected
+from processes import (
+    ARGUMENTS,
+    MEMORY,
+    READING,
+    WRITING,
+    Beginning,
+    Case,
+    Outcome,
+    answered,
+    dialogue,
+    faulty_line,
+    outcome_of,
+    redirected,
+)
 from text import PLAIN
 
 # More lines than one write of a pipe takes the replies of.
@@ -110,21 +123,21 @@ def after_first_line(command, given):
         return outcome_of(command, stdin=text)
 
 
-# Streams over which a sound run ends with status 1, and nothing on either stream.
+# Streams over which a sound run ends with status 1, writes nothing to the output, and tells this.
 FAILING = (
-    ("a folder as input", redirected("< /")),
-    ("a closed input", redirected("<&-")),
-    ("an input open for writing alone", redirected("0> /dev/null")),
-    ("an input that fails after a line", hung_up),
-    ("an input that has nothing yet after a line", not_yet),
-    ("a full device as output", redirected("> /dev/full")),
-    ("a closed output", redirected(">&-")),
-    ("an output open for reading alone", redirected("1< /dev/null")),
-    ("an output whose reader is gone", to_nobody),
-    ("an output whose reader is gone, the signal ignored", to_nobody_ignoring),
-    ("a closed input and a closed output", redirected("<&- >&-")),
-    ("all streams closed", redirected("<&- >&- 2>&-")),
-    ("a full device as output and as standard error", redirected("> /dev/full 2> /dev/full")),
+    ("a folder as input", redirected("< /"), READING),
+    ("a closed input", redirected("<&-"), READING),
+    ("an input open for writing alone", redirected("0> /dev/null"), READING),
+    ("an input that fails after a line", hung_up, READING),
+    ("an input that has nothing yet after a line", not_yet, READING),
+    ("a full device as output", redirected("> /dev/full"), WRITING),
+    ("a closed output", redirected(">&-"), WRITING),
+    ("an output open for reading alone", redirected("1< /dev/null"), WRITING),
+    ("an output whose reader is gone", to_nobody, WRITING),
+    ("an output whose reader is gone, the signal ignored", to_nobody_ignoring, WRITING),
+    ("a closed input and a closed output", redirected("<&- >&-"), READING),
+    ("all streams closed", redirected("<&- >&- 2>&-"), b""),
+    ("a full device as output and as standard error", redirected("> /dev/full 2> /dev/full"), b""),
 )
 
 # Streams over which a sound run is served.
@@ -148,8 +161,8 @@ FAULTY = (
 def of_mode(mode, line, reply):
     """Cases of one mode."""
     words = mode.split()
-    for name, how in FAILING:
-        yield Case(f"{mode}: {name}", words, line, Outcome(1), how)
+    for name, how, told in FAILING:
+        yield Case(f"{mode}: {name}", words, line, Outcome(1, b"", told), how)
     for name, how in SERVED:
         yield answered(name, mode, line, reply, how)
     for name, how, is_told in FAULTY:
@@ -160,7 +173,7 @@ def of_mode(mode, line, reply):
     yield answered("an input of nothing", mode, line, b"", redirected("< /dev/null"))
     yield answered("no replies, a full device as output", mode, b"\n", b"", redirected("> /dev/full"))
     too_long, little = b"\n" * 40_000_000, redirected("", "ulimit -v 32768;")
-    yield Case(f"{mode}: too little memory for the text", words, too_long, Outcome(1), little)
+    yield Case(f"{mode}: too little memory for the text", words, too_long, Outcome(1, b"", MEMORY), little)
 
 
 def each_mode(rows=PLAIN):
@@ -181,7 +194,7 @@ def parts_taken():
         ("a pipe that nobody reads as output", to_full_pipe),
         ("a reader that leaves", to_reader_that_leaves),
     ):
-        yield Case(name, ["setlist"], b"find 4\n" * MANY, Outcome(1, replies), how)
+        yield Case(name, ["setlist"], b"find 4\n" * MANY, Outcome(1, replies, WRITING), how)
     given, replies = dialogue("""
         insert 1 -> inserted
 

@@ -16,6 +16,7 @@ sys.dont_write_bytecode = True
 
 import arguments
 import meetings
+import messages
 import documents
 import histories
 import locates
@@ -32,7 +33,7 @@ from run import lists, told
 
 # The parts whose cases are tried, and those of which it is enough to try these modes, since others read lines by the same code.
 PARTS = (
-    *(*documents.PARTS, *worked.PARTS, *arguments.PARTS, sweeps.worked, meetings.worked, locates.worked),
+    *(*documents.PARTS, *worked.PARTS, *arguments.PARTS, *messages.PARTS, sweeps.worked, meetings.worked, locates.worked),
     *(partial(histories.all_modes, 40, [4]), *(partial(part, 300, 60) for part in small.PARTS)),
 )
 TEXTS = text.empty_texts, text.plain_lines, text.faulty_lines, text.numbers
