@@ -56,6 +56,8 @@ SOURCES = {
     "`overlay::boundary`": ["overlay/src/boundary/*.rt"],
     "`overlay::stretches`": ["overlay/src/stretches/*.rt"],
     "`polygons`": ["polygons/src/*.rt"],
+    "`grid`": ["grid/src/*.rt", "grid/src/direction/mod.rt"],
+    "`wkb`": ["wkb/src/*.rt"],
     "`itree_c`": ["itree_c/src/*.rt"],
     "`itree`": ["itree/src/program.rt"],
 }

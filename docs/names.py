@@ -3,7 +3,8 @@
 - A word with a slash or an ending of a file is a path that git tracks (or would), whole or from one of its folders on. One that
   begins in a crate (`src/`, `specs/`, `proofs/`, `must-fail/`) lies in i_tree, or in a crate that its passage or its heading names.
   NAME, FUNCTION and EDIT stand for any.
-- A word with dots is a definition of specs/, or a lemma of proofs/, by its module or the end of that; or such a module.
+- A word with dots is a definition of specs/, or a lemma of proofs/, by its module or the end of that; or such a module; or what a
+  class of Python has.
 - Any other word, and what a piece of code calls, is a name that a source of the libraries, of the wrappers or of the program
   defines, or one of `OTHERS` below.
 - In 'X of Y', and in 'X in Y' where Y is a file, X is defined in the file Y, at the function Y, or where Y is.
@@ -25,7 +26,7 @@ OTHERS = {
     *"i8 if impl inline int_cmp isize nat_cmp no_std partition_point pos push repr requires retain rotate_left rotate_right".split(),
     *"skip std u16 u32 u64 u8 unsafe usize".split(),
     # other tools, libraries and languages
-    *"CMAKE_PREFIX_PATH MemoryError PKG_CONFIG_PATH ValueError __geo_interface__ anyhow ar cc dist free".split(),
+    *"CMAKE_PREFIX_PATH MemoryError PKG_CONFIG_PATH TypeError ValueError __geo_interface__ anyhow ar cc dist free".split(),
     *"malloc memmove memset objcopy pkg-config proves realloc tactic thiserror".split(),
     *"rattle_alloc rattle_dealloc rattle_realloc".split(),
 }
@@ -45,8 +46,9 @@ LISTED = r"`[^`]+`(?:,? (?:and )?`[^`]+`)*"
 BELONGS = re.compile(rf"({LISTED}) (of|in) ({LISTED})(?! of `)")
 CALLED = re.compile(r"\b([a-z_]\w*)\(")
 
-ITEM = re.compile(r"\b(?:fn|struct|enum|trait|mod|const|static|type|class|namespace|ghost|law)\s+(\w+)")
+ITEM = re.compile(r"\b(?:fn|struct|enum|trait|mod|const|static|type|class|def|namespace|ghost|law)\s+(\w+)")
 CONSTANT_OF_C = re.compile(r"\bITREE_\w+")
+CLASS_OF_PYTHON = re.compile(r"^class (\w+)", re.M)
 FIELD_OF_PYTHON = re.compile(r"\bself\.([a-z]\w*) = ")
 FIELD_OR_VARIANT = re.compile(r"^\s*(?:pub(?:\(\w+\))? )?(\w+): |^ {4}([A-Z]\w*)(?:[,({ ]|$)", re.M)
 LITERAL = re.compile(r'b?"(-{0,2}\w+)"')
@@ -107,6 +109,7 @@ class Sources:
         bindings = [text_of(path) for path in self.paths if path.startswith("bindings/")]
         forms = ITEM, CONSTANT_OF_C, FIELD_OF_PYTHON
         wrappers = {name for text in bindings for form in forms for name in form.findall(text)}
+        self.classes = {name for text in bindings for name in CLASS_OF_PYTHON.findall(text)}
         self.all = set().union(stems, words, wrappers, *self.names.values())
 
     def defined_in(self, path):
@@ -173,7 +176,7 @@ def is_known(word, crates, sources):
     if PATH.fullmatch(word):
         return word in BUILT or sources.is_place(word, crates)
     if DOTTED.fullmatch(word):
-        return sources.is_definition(word)
+        return sources.is_definition(word) or word.partition(".")[0] in sources.classes and word.rpartition(".")[2] in sources.all
     if NAME.fullmatch(word):
         return word.split("::")[0] in OTHERS or all(part in sources.all for part in word.split("::"))
     return True

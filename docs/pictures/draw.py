@@ -77,10 +77,12 @@ def layers():
         *titled(257, 22, 206, 46, "uses", "small programs to copy"),
         *titled(479, 22, 206, 46, "itree_c", "calls from other languages"),
         text(360, 87, "each of these three uses crates below, and i_tree", 12, fill=SOFT),
-        *titled(20, 108, 332, 174, "itree_lib", "runs of commands; a sweep over segments"),
-        *titled(368, 108, 332, 50, "polygons", "the overlay of polygons with holes"),
-        *titled(368, 170, 332, 50, "overlay", "edges broken where they meet; what rings bound"),
-        *titled(368, 232, 332, 50, "plane", "edges that meet; the edge below a point"),
+        *titled(20, 108, 160, 174, "itree_lib", "command runs; a sweep"),
+        *titled(196, 108, 160, 50, "wkb", "well-known binary"),
+        *titled(196, 170, 160, 50, "grid", "doubles as points"),
+        *titled(372, 108, 328, 50, "polygons", "the overlay of polygons with holes"),
+        *titled(372, 170, 328, 50, "overlay", "edges broken where they meet; what rings bound"),
+        *titled(196, 232, 504, 50, "plane", "edges that meet; the edge below a point"),
         *titled(20, 294, 680, 50, "event_queue", "what a sweep meets, in order; a sort in buckets; it uses std alone"),
         box(20, 356, 680, 208, PAPER),
         text(30, 374, "i_tree", 14, "start", weight="bold"),
@@ -95,7 +97,7 @@ def layers():
         *titled(35, 449, 318, 45, "expiring", "what keys and statuses share", "#e8f0fa"),
         *titled(35, 501, 484, 50, "rb", "the red-black core of the key, status and set trees", "#e8f0fa"),
         *titled(533, 501, 152, 50, "steps", "what a call counts by", "#e8f0fa"),
-        *titled(20, 576, 680, 45, "std", "event_queue, i_tree, itree_lib, plane, overlay and polygons use nothing else", PAPER),
+        *titled(20, 576, 680, 45, "std", "the crates between it and the first three use nothing else", PAPER),
     ]
     return picture("The crates, each on those below that it uses", 720, 636, parts)
 
