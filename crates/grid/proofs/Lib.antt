@@ -7,4 +7,6 @@ pub mod NearestLemmas
 pub mod OrderLemmas
 pub mod PlacesLemmas
 pub mod PointLemmas
+pub mod PowersLemmas
 pub mod RoundingLemmas
+pub mod StraightLemmas

@@ -26,12 +26,11 @@ RoundsTo-times unit leasts units c some rounds =
     }
 
 -- places behind the point that are taken away, as a whole
-pub RoundsTo-places : (mantissa exponent scale units : ℕ) → exponent < scale → RoundsTo (2 ^ (scale - exponent)) mantissa units → RoundsTo (2 ^ scale) (mantissa * 2 ^ exponent) units
-RoundsTo-places mantissa exponent scale units below rounds =
-    let sum : scale - exponent + exponent ≡ scale = omega arith in
-    let whole : 2 ^ (scale - exponent) * 2 ^ exponent ≡ 2 ^ scale = sym (pow-add 2 (scale - exponent) exponent) ∙ ap (λ (n : ℕ). 2 ^ n) sum in
+pub RoundsTo-places : (mantissa exponent places scale units : ℕ) → places + exponent ≡ scale → RoundsTo (2 ^ places) mantissa units → RoundsTo (2 ^ scale) (mantissa * 2 ^ exponent) units
+RoundsTo-places mantissa exponent places scale units sum rounds =
+    let whole : 2 ^ places * 2 ^ exponent ≡ 2 ^ scale = sym (pow-add 2 places exponent) ∙ ap (λ (n : ℕ). 2 ^ n) sum in
     let R : ℕ → Type 0 = λ unit. RoundsTo unit (mantissa * 2 ^ exponent) units in
-    subst R whole (RoundsTo-times (2 ^ (scale - exponent)) mantissa units (2 ^ exponent) (pow_pos exponent) rounds)
+    subst R whole (RoundsTo-times (2 ^ places) mantissa units (2 ^ exponent) (pow_pos exponent) rounds)
 
 -- a whole number of units is itself
 pub RoundsTo-exact : (unit leasts units : ℕ) → 0 < unit → leasts ≡ units * unit → RoundsTo unit leasts units
@@ -53,11 +52,36 @@ pub RoundsTo-none : (unit leasts : ℕ) → 2 * leasts < unit → RoundsTo unit 
 RoundsTo-none unit leasts few =
     record { not_above = omega arith; not_below = omega arith; even_above = λ e. absurd (omega arith); even_below = λ e. absurd (omega arith) }
 
-pub RoundsTo-far : (mantissa places : ℕ) → mantissa < 2 ^ 53 → 54 < places → RoundsTo (2 ^ places) mantissa 0
-RoundsTo-far mantissa places within many =
-    let upto : 54 ≤ places = omega arith in
-    let least : 2 ^ 54 ≤ 2 ^ places = pow_mono upto in
-    RoundsTo-none (2 ^ places) mantissa (omega (arith, least))
+-- no more units than leasts
+pub RoundsTo-within : (unit leasts units : ℕ) → 0 < unit → RoundsTo unit leasts units → units ≤ leasts
+RoundsTo-within unit leasts units some rounds =
+    elim (cases_lt leasts units) [
+      | inl over ↦ absurd (omega (arith, rounds.not_above, mul-le (leasts + 1) unit units unit (omega arith) (omega arith), mul-le leasts 1 leasts unit (omega arith) (omega arith)))
+      | inr upto ↦ upto
+    ]
+
+pub none_of_few : (unit leasts units : ℕ) → 2 * leasts < unit → RoundsTo unit leasts units → units ≡ 0
+none_of_few unit leasts units few rounds =
+    elim (cases_lt 0 units) [
+      | inl some ↦ absurd (omega (arith, rounds.not_above, mul-le 1 unit units unit (omega arith) (omega arith)))
+      | inr none ↦ omega arith
+    ]
+
+-- 54 places leave nothing of 53 bits, and more places leave nothing too
+RoundsTo-far : (mantissa places units : ℕ) → mantissa < 2 ^ 53 → 54 ≤ places → RoundsTo (2 ^ 54) mantissa units → RoundsTo (2 ^ places) mantissa units
+RoundsTo-far mantissa places units within many rounds =
+    let least : 2 ^ 54 ≤ 2 ^ places = pow_mono many in
+    subst (λ (n : ℕ). RoundsTo (2 ^ places) mantissa n) (sym (none_of_few (2 ^ 54) mantissa units (omega arith) rounds))
+    (RoundsTo-none (2 ^ places) mantissa (omega (arith, least)))
+
+-- so at most 54 places are taken for one and `further` ones
+pub RoundsTo-few : (mantissa further places units : ℕ) → mantissa < 2 ^ 53 → (further < 53 → places ≡ further + 1) → (53 ≤ further → places ≡ 54) → RoundsTo (2 ^ places) mantissa units → RoundsTo (2 ^ (further + 1)) mantissa units
+RoundsTo-few mantissa further places units within same most rounds =
+    let R : ℕ → Type 0 = λ n. RoundsTo (2 ^ n) mantissa units in
+    elim (cases_lt further 53) [
+      | inl few ↦ subst R (same few) rounds
+      | inr many ↦ RoundsTo-far mantissa (further + 1) units within (omega (arith, many)) (subst R (most many) rounds)
+    ]
 
 -- ten places up and a leading one leave 62 bits
 pub beyond_62 : (mantissa exponent scale : ℕ) → 2 ^ 52 ≤ mantissa → scale ≤ exponent → 9 < exponent - scale → 2 ^ 62 * 2 ^ scale ≤ mantissa * 2 ^ exponent
@@ -79,28 +103,28 @@ rounds_at : (unit leasts q r : ℕ) → 0 < unit → q * unit + r ≡ leasts →
 rounds_at unit leasts q r some split less =
     record { not_above = omega arith; not_below = omega arith; even_above = λ e. omega arith; even_below = λ e. omega arith }
 
-rounds_next : (unit leasts q r : ℕ) → q * unit + r ≡ leasts → r < unit → unit + 2 ≤ 2 * r + 2 * (q % 2) → RoundsTo unit leasts (q + 1)
+rounds_next : (unit leasts q r : ℕ) → q * unit + r ≡ leasts → r ≤ unit → unit + 2 ≤ 2 * r + 2 * (q % 2) → RoundsTo unit leasts (q + 1)
 rounds_next unit leasts q r split rest more =
     record { not_above = omega arith; not_below = omega arith; even_above = λ e. omega arith; even_below = λ e. omega arith }
 
--- a half, but for one least, is added, and one least where the whole part is odd: what is left of the sum is rounded
-pub RoundsTo-added : (mantissa half : ℕ) → 0 < half → RoundsTo (2 * half) mantissa ((mantissa + (half - 1) + mantissa / (2 * half) % 2) / (2 * half))
-RoundsTo-added mantissa half some =
+-- to one least less a half is added, and one least where the whole part is odd: what is left of the sum is rounded
+pub RoundsTo-added : (less half : ℕ) → 0 < half → RoundsTo (2 * half) (less + 1) ((less + half + less / (2 * half) % 2) / (2 * half))
+RoundsTo-added less half some =
     let unit : ℕ = 2 * half in
     let positive : 0 < unit = omega arith in
-    let q : ℕ = mantissa / unit in
-    let r : ℕ = mantissa % unit in
-    let sum : ℕ = mantissa + (half - 1) + q % 2 in
+    let q : ℕ = less / unit in
+    let r : ℕ = less % unit in
+    let sum : ℕ = less + half + q % 2 in
     let units : ℕ = sum / unit in
     let t : ℕ = sum % unit in
-    let split : q * unit + r ≡ mantissa = div-add-mod' mantissa unit in
-    let rest : r < unit = mod_below mantissa unit positive in
+    let split : q * unit + r ≡ less = div-add-mod' less unit in
+    let rest : r < unit = mod_below less unit positive in
     let whole : units * unit + t ≡ sum = div-add-mod' sum unit in
     let left : t < unit = mod_below sum unit positive in
-    parts half mantissa q r units t some split rest whole left
+    parts half less q r units t some split rest whole left
   where
-    parts : (half mantissa q r units t : ℕ) → 0 < half → q * (2 * half) + r ≡ mantissa → r < 2 * half → units * (2 * half) + t ≡ mantissa + (half - 1) + q % 2 → t < 2 * half → RoundsTo (2 * half) mantissa units
-    parts half mantissa q r units t some split rest whole left =
+    parts : (half less q r units t : ℕ) → 0 < half → q * (2 * half) + r ≡ less → r < 2 * half → units * (2 * half) + t ≡ less + half + q % 2 → t < 2 * half → RoundsTo (2 * half) (less + 1) units
+    parts half less q r units t some split rest whole left =
         elim (cases_lt units q) [
           | inl under ↦ absurd (omega (arith, mul-le (units + 1) (2 * half) q (2 * half) (omega arith) (omega arith)))
           | inr from ↦ elim (cases_lt q units) [
@@ -108,19 +132,23 @@ RoundsTo-added mantissa half some =
               | inl far ↦ absurd (omega (arith, mul-le (q + 2) (2 * half) units (2 * half) (omega arith) (omega arith)))
               | inr next ↦
                   let same : q + 1 ≡ units = omega arith in
-                  let sum : (q + 1) * (2 * half) + t ≡ mantissa + (half - 1) + q % 2 = ap (λ (n : ℕ). n * (2 * half) + t) same ∙ whole in
-                  subst (λ (n : ℕ). RoundsTo (2 * half) mantissa n) same (rounds_next (2 * half) mantissa q r split rest (omega arith))
+                  let sum : (q + 1) * (2 * half) + t ≡ less + half + q % 2 = ap (λ (n : ℕ). n * (2 * half) + t) same ∙ whole in
+                  subst (λ (n : ℕ). RoundsTo (2 * half) (less + 1) n) same (rounds_next (2 * half) (less + 1) q (r + 1) (omega arith) (omega arith) (omega arith))
             ]
             | inr upto ↦
                 let same : q ≡ units = omega arith in
-                let sum : q * (2 * half) + t ≡ mantissa + (half - 1) + q % 2 = ap (λ (n : ℕ). n * (2 * half) + t) same ∙ whole in
-                subst (λ (n : ℕ). RoundsTo (2 * half) mantissa n) same (rounds_at (2 * half) mantissa q r (omega arith) split (omega arith))
+                let sum : q * (2 * half) + t ≡ less + half + q % 2 = ap (λ (n : ℕ). n * (2 * half) + t) same ∙ whole in
+                subst (λ (n : ℕ). RoundsTo (2 * half) (less + 1) n) same (rounds_at (2 * half) (less + 1) q (r + 1) (omega arith) (omega arith) (omega arith))
           ]
         ]
 
-pub RoundsTo-shifted_down : (mantissa places : ℕ) → 0 < places → RoundsTo (2 ^ places) mantissa ((mantissa + (2 ^ (places - 1) - 1) + mantissa / 2 ^ places % 2) / 2 ^ places)
-RoundsTo-shifted_down mantissa places some =
+pub RoundsTo-shifted_down : (mantissa places : ℕ) → 0 < mantissa → 0 < places
+    → RoundsTo (2 ^ places) mantissa ((mantissa - 1 + 2 ^ (places - 1) + (mantissa - 1) / 2 ^ places % 2) / 2 ^ places)
+RoundsTo-shifted_down mantissa places least some =
+    let less : ℕ = mantissa - 1 in
+    let one_more : less + 1 ≡ mantissa = omega arith in
     let sum : 1 + (places - 1) ≡ places = omega arith in
     let twice : 2 * 2 ^ (places - 1) ≡ 2 ^ places = sym (pow-add 2 1 (places - 1)) ∙ ap (λ (n : ℕ). 2 ^ n) sum in
-    subst (λ (unit : ℕ). RoundsTo unit mantissa ((mantissa + (2 ^ (places - 1) - 1) + mantissa / unit % 2) / unit)) twice
-    (RoundsTo-added mantissa (2 ^ (places - 1)) (pow_pos (places - 1)))
+    let R : ℕ → ℕ → Type 0 = λ unit leasts. RoundsTo unit leasts ((less + 2 ^ (places - 1) + less / unit % 2) / unit) in
+    subst (λ (unit : ℕ). R unit mantissa) twice
+    (subst (λ (leasts : ℕ). R (2 * 2 ^ (places - 1)) leasts) one_more (RoundsTo-added less (2 ^ (places - 1)) (pow_pos (places - 1))))

@@ -1,10 +1,11 @@
 //! One axis of a grid: doubles to whole numbers of units, and back.
 
-ghost use Rattle.std.specs.Prelude.{◌≡◌, ◌≤◌, ◌<◌, ◌*◌, ◌^◌, ◌+◌, ◌+ℤ◌, ◌*ℤ◌, ℤ, pos, IfSome, IfNone, IsSome, IsTrue, ◌↔◌, unsigned_abs, FitsSigned};
+ghost use Rattle.std.specs.Prelude.{◌≡◌, ◌≤◌, ◌<◌, ◌*◌, ◌^◌, ◌+◌, ◌+ℤ◌, ◌*ℤ◌, ℕ, ℤ, pos, IfSome, IfNone, IsSome, IsTrue, ◌↔◌, unsigned_abs, FitsSigned};
 ghost use Rattle.std.specs.Int.{w32};
 ghost use Rattle.grid.specs.Doubles.{IsFinite, magnitude, in_leasts};
 ghost use Rattle.grid.specs.Fit.{last_place};
 ghost use Rattle.grid.specs.Grid.{IsNearest, IsOrigin};
+ghost use Rattle.grid.specs.Rounding.{RoundsTo};
 
 use crate::double::{bits_of, is_negative, magnitude_of};
 use crate::rounding::whole_units;
@@ -49,11 +50,20 @@ pub(crate) fn nearest_units(scale: u32, bits: u64) -> Option<i64>
     let Some(units) = whole_units(magnitude, scale) else {
         return None;
     };
-    Some(if is_negative(bits) {
+    Some(signed(units, bits))
+}
+
+/// So many units, with the sign of a double.
+pub(crate) fn signed(units: u64, bits: u64) -> i64
+    requires { units < 2 ^ 62 }
+    ensures nearest { (unit : ℕ) → RoundsTo unit (magnitude bits) units → IsNearest unit (in_leasts bits) result }
+    ensures within { unsigned_abs result ≡ units }
+{
+    if is_negative(bits) {
         -(units as i64)
     } else {
         units as i64
-    })
+    }
 }
 
 /// The double that is so many units from the origin. It is +0 where that is 0.

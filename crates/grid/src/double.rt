@@ -27,7 +27,7 @@ pub(crate) fn exponent_field(bits: u64) -> u64
 }
 
 /// The 52 bits behind the binary point.
-fn fraction_field(bits: u64) -> u64
+pub(crate) fn fraction_field(bits: u64) -> u64
     ensures value { result ≡ Rattle.grid.specs.Doubles.fraction_field bits }
     ensures within { result < 2 ^ 52 }
 {

@@ -11,7 +11,9 @@ pub mod fit;
 mod order;
 pub mod points;
 pub mod position;
+mod powers;
 mod rounding;
+mod straight;
 pub mod units;
 
 pub use direction::runs_counterclockwise;

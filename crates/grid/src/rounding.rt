@@ -4,6 +4,7 @@ ghost use Rattle.std.specs.Prelude.{◌≡◌, ◌≤◌, ◌<◌, ◌*◌, ◌^
 ghost use Rattle.grid.specs.Rounding.{RoundsTo};
 
 use crate::double::Magnitude;
+use crate::powers::power_of_two;
 
 /// How many units of `2^scale` leasts a magnitude is next to, halves to the even number. None where it is 2^62 units or more.
 pub(crate) fn whole_units(magnitude: Magnitude, scale: u32) -> Option<u64>
@@ -15,7 +16,11 @@ pub(crate) fn whole_units(magnitude: Magnitude, scale: u32) -> Option<u64>
     ensures beyond { IfNone result (2 ^ 62 * 2 ^ scale ≤ magnitude.mantissa * 2 ^ magnitude.exponent) }
 {
     if magnitude.exponent < scale {
-        return Some(shortened(magnitude.mantissa, scale - magnitude.exponent));
+        if magnitude.mantissa == 0 {
+            return Some(0);
+        }
+        let further = scale - magnitude.exponent - 1;
+        return Some(shortened(magnitude.mantissa, further as u64));
     }
     let places = magnitude.exponent - scale;
     if places > 9 {
@@ -24,28 +29,38 @@ pub(crate) fn whole_units(magnitude: Magnitude, scale: u32) -> Option<u64>
     Some(magnitude.mantissa << places)
 }
 
-/// `mantissa / 2^places`, rounded to the next whole number, and halves to the even one.
-fn shortened(mantissa: u64, places: u32) -> u64
-    requires some { 0 < places }
+/// `mantissa / 2^(further + 1)`, rounded to the next whole number, and halves to the even one.
+fn shortened(mantissa: u64, further: u64) -> u64
+    requires some { 0 < mantissa }
     requires within { mantissa < 2 ^ 53 }
-    ensures rounds { RoundsTo (2 ^ places) mantissa result }
-    ensures within { result ≤ 2 ^ 53 }
+    ensures rounds { RoundsTo (2 ^ (further + 1)) mantissa result }
+    ensures within { result < 2 ^ 53 }
 {
-    if places > 54 {
-        return 0;
-    }
-    without_places(mantissa, places)
+    without_places(mantissa, few_places(further))
 }
 
-/// The same for so few places that a number can be shifted by them.
-fn without_places(mantissa: u64, places: u32) -> u64
+/// How many places are taken away for one and `further` ones: at most 54, which leave nothing of 53 bits.
+pub(crate) fn few_places(further: u64) -> u32
+    ensures some { 0 < result }
+    ensures few { result ≤ 54 }
+    ensures same { further < 53 → result ≡ further + 1 }
+    ensures most { 53 ≤ further → result ≡ 54 }
+{
+    if further < 53 { further as u32 + 1 } else { 54 }
+}
+
+/// `mantissa / 2^places`, rounded likewise, for so few places that a number can be shifted by them.
+///
+/// A half of a unit is added to one least less. So just a half goes up only where the number without it is odd.
+pub(crate) fn without_places(mantissa: u64, places: u32) -> u64
+    requires least { 0 < mantissa }
+    requires within { mantissa < 2 ^ 53 }
     requires some { 0 < places }
     requires few { places ≤ 54 }
-    requires within { mantissa < 2 ^ 53 }
     ensures rounds { RoundsTo (2 ^ places) mantissa result }
-    ensures within { result ≤ 2 ^ 53 }
+    ensures within { result < 2 ^ 53 }
 {
-    let odd = (mantissa >> places) % 2;
-    let half = 1u64 << (places - 1);
-    (mantissa + (half - 1) + odd) >> places
+    let less = mantissa - 1;
+    let odd = (less >> places) % 2;
+    (less + power_of_two(places - 1) + odd) >> places
 }

@@ -1,5 +1,5 @@
 -- Numbers in places of 32 bits.
-use Rattle.std.proofs.Common.{◌≡◌, ℕ, zero, suc, ◌+◌, ◌*◌, ◌/◌, ◌%◌, ◌^◌, ◌<◌, ◌≤◌, inl, inr, List, [], ◌∷◌, length, get_or, set, ◌-◌, refl, pow-suc, lit<, sym, ◌∙◌, ap, arith, get_or-set_other, get_or-set_same, length-set, ◌≢◌}
+use Rattle.std.proofs.Common.{◌≡◌, ℕ, zero, suc, ◌+◌, ◌*◌, ◌/◌, ◌%◌, ◌^◌, ◌<◌, ◌≤◌, inl, inr, List, [], ◌∷◌, length, get_or, set, ◌-◌, refl, lit<, sym, ◌∙◌, ap, arith, get_or-set_other, get_or-set_same, length-set, ◌≢◌}
 use Rattle.std.proofs.lemmas.Bool.{cases_eq}
 use Rattle.std.proofs.lemmas.Nat.{pow-add, mul-le}
 use Rattle.std.proofs.Math.Nat.{pow-le-pow_right}
@@ -28,26 +28,6 @@ number_of-none [] h k = refl
 number_of-none (place ∷ rest) h zero = omega arith
 number_of-none (place ∷ rest) h (suc k) =
     let none : number_of rest ≡ 0 = omega arith in number_of-none rest none k
-
-doubled : (number k : ℕ) → 2 * number * 2 ^ k ≡ number * 2 ^ suc k
-doubled number k = rw pow-suc (omega arith)
-
--- So many numbers, each twice the one before.
-abbrev pub powers : ℕ → ℕ → List ℕ
-powers zero number = []
-powers (suc count) number = number ∷ powers count (2 * number)
-
-powers-at : (count number k : ℕ) → k < count → get_or (powers count number) k 0 ≡ number * 2 ^ k
-powers-at zero number k below = absurd (omega arith)
-powers-at (suc count) number zero below = omega arith
-powers-at (suc count) number (suc k) below =
-    let shorter : k < count = omega arith in powers-at count (2 * number) k shorter ∙ doubled number k
-
-one_times : (k : ℕ) → 1 * 2 ^ k ≡ 2 ^ k
-one_times k = omega arith
-
-pub powers_of_two-at : (k : ℕ) → k < 32 → get_or (powers 32 1) k 0 ≡ 2 ^ k
-powers_of_two-at k below = powers-at 32 1 k below ∙ one_times k
 
 weight_of : (e q s : ℕ) → e ≡ s + 32 * q → 2 ^ e ≡ 2 ^ s * 2 ^ (32 * q)
 weight_of e q s h = ap (λ (n : ℕ). 2 ^ n) h ∙ pow-add 2 s (32 * q)

@@ -6,24 +6,11 @@ ghost use Rattle.std.specs.Prelude.{◌≡◌, ℕ, ◌+◌, ◌*◌, ◌^◌, �
 ghost use Rattle.grid.specs.Parts.{signed};
 ghost use Rattle.grid.specs.Places.{number_of, left_of};
 
+use crate::powers::power_of_two;
+
 /// How many places there are. A product's exponent is at most 4090, which is of place 127, and its upper half goes two
 /// places further.
 pub const PLACES: usize = 130;
-
-/// The powers of two below 2 ^ 32. A product by one of them takes fewer steps than a shift of 128 bits.
-static POWERS: [u64; 32] = [
-    0x1, 0x2, 0x4, 0x8, 0x10, 0x20, 0x40, 0x80, 0x100, 0x200, 0x400, 0x800, 0x1000, 0x2000, 0x4000,
-    0x8000, 0x10000, 0x20000, 0x40000, 0x80000, 0x100000, 0x200000, 0x400000, 0x800000, 0x1000000,
-    0x2000000, 0x4000000, 0x8000000, 0x10000000, 0x20000000, 0x40000000, 0x80000000,
-];
-
-/// The power of two of that exponent.
-fn power_of_two(exponent: u32) -> u64
-    requires { exponent < 32 }
-    ensures { result ≡ 2 ^ exponent }
-{
-    POWERS[exponent as usize]
-}
 
 /// The number 0.
 pub fn zero() -> [u128; PLACES]

@@ -1,5 +1,6 @@
-use Rattle.grid.proofs.RoundingLemmas.{RoundsTo-far}
+use Rattle.grid.proofs.RoundingLemmas.{RoundsTo-few}
 use Rattle.grid.proofs.rounding.shortened.Goals as goal
 
-pub returns-then-places-gt54-clause-rounds : goal.returns-then-places-gt54-clause-rounds
-returns-then-places-gt54-clause-rounds c = RoundsTo-far c.args.mantissa c.args.places c.requires.within c.if-places-gt54.true
+pub returns-clause-rounds : goal.returns-clause-rounds
+returns-clause-rounds c =
+    RoundsTo-few c.args.mantissa c.args.further c.few_places.result c.without_places.result c.requires.within c.few_places.ensures.same c.few_places.ensures.most c.without_places.ensures.rounds

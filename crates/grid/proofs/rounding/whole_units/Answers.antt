@@ -1,11 +1,11 @@
-use Rattle.std.proofs.Common.{◌≡◌, ◌*◌, ◌^◌, ◌-◌, ◌%◌, ℕ, arith, subst, sym}
+use Rattle.std.proofs.Common.{◌≡◌, ◌+◌, ◌*◌, ◌^◌, ◌-◌, ◌%◌, ℕ, arith, subst, sym}
 use Rattle.grid.specs.Rounding.{RoundsTo}
 use Rattle.grid.proofs.RoundingLemmas.{RoundsTo-places, RoundsTo-shifted, beyond_62, within_62}
 use Rattle.grid.proofs.rounding.whole_units.Goals as goal
 
 pub returns-then-magnitude-scale-clause-rounds : goal.returns-then-magnitude-scale-clause-rounds
 returns-then-magnitude-scale-clause-rounds c =
-    RoundsTo-places c.args.magnitude.mantissa c.args.magnitude.exponent c.args.scale c.shortened.result c.if-magnitude-scale.true c.shortened.ensures.rounds
+    RoundsTo-places c.args.magnitude.mantissa c.args.magnitude.exponent (c.args.scale - c.args.magnitude.exponent - 1 + 1) c.args.scale c.shortened.result (omega arith) c.shortened.ensures.rounds
 
 pub returns-then-places-gt9-clause-beyond : goal.returns-then-places-gt9-clause-beyond
 returns-then-places-gt9-clause-beyond c =
