@@ -1,0 +1,116 @@
+-- Lists in one list, by where each stops.
+use Rattle.std.proofs.Common.{◌≡◌, ℕ, zero, suc, ◌+◌, ◌-◌, ◌<◌, ◌≤◌, List, [], ◌∷◌, ◌++◌, length, get_or, map, take, drop, refl, sym, subst, ap, ap₂, ◌∙◌, append-nil, append_assoc, arith}
+use Rattle.std.specs.List.{All, between, flat_map}
+use Rattle.std.proofs.lemmas.List.{length-append, length-drop, drop-drop, get_or-drop, take_more}
+use Rattle.std.proofs.lemmas.List.Elements.{All-cons, All-nil}
+use Rattle.std.proofs.Math.Seq.{take-add}
+use Rattle.overlay.specs.Snap.Offsets.{offsets}
+use Rattle.polygons.specs.Rings.{AreEnds}
+use Rattle.layers.specs.Shapes.{lists_of}
+
+-- ends that are right, at one place
+pub AreEnds-at : (start : ℕ) (ends : List ℕ) (count k : ℕ) → AreEnds start ends count → k < length ends → (get_or (start ∷ ends) k 0 ≤ get_or ends k 0) × (get_or ends k 0 ≤ count)
+AreEnds-at start [] count k right within = absurd (omega (arith, within))
+AreEnds-at start (end ∷ ends) count zero (onwards, inside, right) within = (onwards, inside)
+AreEnds-at start (end ∷ ends) count (suc k) (onwards, inside, right) within = AreEnds-at end ends count k right (omega (arith, within))
+
+-- no list starts behind so many
+pub AreEnds-upto : (start : ℕ) (ends : List ℕ) (count k : ℕ) → AreEnds start ends count → start ≤ count → k ≤ length ends → get_or (start ∷ ends) k 0 ≤ count
+AreEnds-upto start ends count zero right upto within = upto
+AreEnds-upto start ends count (suc k) right upto within = (AreEnds-at start ends count k right (omega (arith, within))).1
+
+module _ {X : Type 0} where
+  -- the list at one place
+  pub lists_of-at : (items : List X) (start : ℕ) (ends : List ℕ) (k : ℕ) → k < length ends → get_or (lists_of items start ends) k [] ≡ between (get_or (start ∷ ends) k 0) (get_or ends k 0) items
+  lists_of-at items start [] k within = absurd (omega (arith, within))
+  lists_of-at items start (end ∷ ends) zero within = refl
+  lists_of-at items start (end ∷ ends) (suc k) within = lists_of-at items end ends k (omega (arith, within))
+
+  pub length-lists_of : (items : List X) (start : ℕ) (ends : List ℕ) → length (lists_of items start ends) ≡ length ends
+  length-lists_of items start [] = refl
+  length-lists_of items start (end ∷ ends) = ap suc (length-lists_of items end ends)
+
+  -- one item more behind those between two places
+  pub between-more : (items : List X) (i j : ℕ) (d : X) → i ≤ j → j < length items → between i (j + 1) items ≡ between i j items ++ get_or items j d ∷ []
+  between-more items i j d upto within =
+      ap (λ (n : ℕ). take n (drop i items)) (let same : (j + 1) - i ≡ (j - i) + 1 = omega arith in same)
+      ∙ take_more (drop i items) (j - i) d (let size = length-drop i items in omega (arith, size))
+      ∙ ap (λ (x : X). between i j items ++ x ∷ []) (get_or-drop i items (j - i) d ∙ ap (λ (n : ℕ). get_or items n d) (let same : i + (j - i) ≡ j = omega arith in same))
+
+  pub between-none : (items : List X) (i : ℕ) → between i i items ≡ []
+  between-none items i = ap (λ (n : ℕ). take n (drop i items)) (let same : i - i ≡ 0 = omega arith in same)
+
+  pub flat_map-append : {Y : Type 0} (f : Y → List X) (xs ys : List Y) → flat_map f (xs ++ ys) ≡ flat_map f xs ++ flat_map f ys
+  flat_map-append f [] ys = refl
+  flat_map-append f (x ∷ xs) ys = ap (λ (rest : List X). f x ++ rest) (flat_map-append f xs ys) ∙ sym (append_assoc (f x) (flat_map f xs) (flat_map f ys))
+
+  -- the ends of lists, and of others behind them
+  pub offsets-append : (start : ℕ) (lists others : List (List X)) → offsets start (lists ++ others) ≡ offsets start lists ++ offsets (start + length (flat_map (λ list. list) lists)) others
+  offsets-append start [] others = ap (λ (n : ℕ). offsets n others) (let same : start ≡ start + 0 = omega arith in same)
+  offsets-append start (list ∷ lists) others =
+      let rest = flat_map (λ (list : List X). list) lists in
+      ap (λ (ends : List ℕ). (start + length list) ∷ ends)
+      (offsets-append (start + length list) lists others
+      ∙ ap (λ (n : ℕ). offsets (start + length list) lists ++ offsets n others) (let sum = length-append list rest in omega (arith, sum)))
+
+  pub length-offsets : (start : ℕ) (lists : List (List X)) → length (offsets start lists) ≡ length lists
+  length-offsets start [] = refl
+  length-offsets start (list ∷ lists) = ap suc (length-offsets (start + length list) lists)
+
+  -- none stops behind the last of their items
+  pub offsets-upto : (start : ℕ) (lists : List (List X)) (count : ℕ) → start + length (flat_map (λ list. list) lists) ≤ count → All (λ end. end ≤ count) (offsets start lists)
+  offsets-upto start [] count fits = All-nil _
+  offsets-upto start (list ∷ lists) count fits =
+      let sum = length-append list (flat_map (λ (one : List X). one) lists) in
+      All-cons (λ end. end ≤ count) (start + length list) (offsets (start + length list) lists) (omega (arith, sum, fits)) (offsets-upto (start + length list) lists count (omega (arith, sum, fits)))
+
+  -- where lists stop that are moved on
+  pub offsets-moved : (by start : ℕ) (lists : List (List X)) → map (λ end. by + end) (offsets start lists) ≡ offsets (by + start) lists
+  offsets-moved by start [] = refl
+  offsets-moved by start (list ∷ lists) =
+      ap₂ (λ (n : ℕ) (ends : List ℕ). n ∷ ends) (let same : by + (start + length list) ≡ (by + start) + length list = omega arith in same)
+      (offsets-moved by (start + length list) lists ∙ ap (λ (n : ℕ). offsets n lists) (let same : by + (start + length list) ≡ (by + start) + length list = omega arith in same))
+
+  -- those between two places, and behind these those up to a third
+  pub between-append : (items : List X) (i j k : ℕ) → i ≤ j → j ≤ k → between i j items ++ between j k items ≡ between i k items
+  between-append items i j k low high =
+      let behind = drop i items in
+      sym (ap (λ (n : ℕ). take n behind) (let same : k - i ≡ (j - i) + (k - j) = omega arith in same)
+      ∙ take-add (j - i) (k - j) behind
+      ∙ ap (λ (rest : List X). take (j - i) behind ++ take (k - j) rest) (drop-drop (j - i) i items ∙ ap (λ (n : ℕ). drop n items) (let same : i + (j - i) ≡ j = omega arith in same)))
+
+module _ {X : Type 0} where
+  -- the items of lists that stand beside each other stand beside each other
+  joined-between_more : (items : List X) (start : ℕ) (ends : List ℕ) (i n : ℕ) → AreEnds start ends (length items) → i + n ≤ length ends
+      → (get_or (start ∷ ends) i 0 ≤ get_or (start ∷ ends) (i + n) 0) × (flat_map (λ list. list) (between i (i + n) (lists_of items start ends)) ≡ between (get_or (start ∷ ends) i 0) (get_or (start ∷ ends) (i + n) 0) items)
+  joined-between_more items start ends i zero right within =
+      let same : i ≡ i + 0 = omega arith in
+      subst (λ (j : ℕ). (get_or (start ∷ ends) i 0 ≤ get_or (start ∷ ends) j 0) × (flat_map (λ list. list) (between i j (lists_of items start ends)) ≡ between (get_or (start ∷ ends) i 0) (get_or (start ∷ ends) j 0) items)) same
+      (omega arith, ap (λ (lists : List (List X)). flat_map (λ list. list) lists) (between-none (lists_of items start ends) i) ∙ sym (between-none items (get_or (start ∷ ends) i 0)))
+  joined-between_more items start ends i (suc n) right within =
+      let lists = lists_of items start ends in
+      let from = get_or (start ∷ ends) i 0 in
+      let mid = get_or (start ∷ ends) (i + n) 0 in
+      let upto = get_or ends (i + n) 0 in
+      let (low, before) = joined-between_more items start ends i n right (omega (arith, within)) in
+      let (high, inside) = AreEnds-at start ends (length items) (i + n) right (omega (arith, within)) in
+      let size = length-lists_of items start ends in
+      let grown = between-more lists i (i + n) [] (omega arith) (omega (arith, size, within)) in
+      let here = lists_of-at items start ends (i + n) (omega (arith, within)) in
+      let last : flat_map (λ list. list) (between i ((i + n) + 1) lists) ≡ between from upto items =
+      ap (λ (l : List (List X)). flat_map (λ list. list) l) grown
+      ∙ flat_map-append (λ (list : List X). list) (between i (i + n) lists) (get_or lists (i + n) [] ∷ [])
+      ∙ ap₂ (λ (l rest : List X). l ++ (rest ++ [])) before here
+      ∙ ap (λ (l : List X). between from mid items ++ l) (append-nil (between mid upto items))
+      ∙ between-append items from mid upto low high in
+      let same : (i + n) + 1 ≡ i + suc n = omega arith in
+      let next : suc (i + n) ≡ i + suc n = omega arith in
+      subst (λ (j : ℕ). (from ≤ get_or (start ∷ ends) j 0) × (flat_map (λ list. list) (between i (i + suc n) lists) ≡ between from (get_or (start ∷ ends) j 0) items)) next
+      (omega (arith, low, high), ap (λ (j : ℕ). flat_map (λ (list : List X). list) (between i j lists)) (sym same) ∙ last)
+
+  pub joined-between : (items : List X) (start : ℕ) (ends : List ℕ) (i j : ℕ) → AreEnds start ends (length items) → i ≤ j → j ≤ length ends
+      → (get_or (start ∷ ends) i 0 ≤ get_or (start ∷ ends) j 0) × (flat_map (λ list. list) (between i j (lists_of items start ends)) ≡ between (get_or (start ∷ ends) i 0) (get_or (start ∷ ends) j 0) items)
+  joined-between items start ends i j right upto within =
+      let same : i + (j - i) ≡ j = omega arith in
+      subst (λ (k : ℕ). (get_or (start ∷ ends) i 0 ≤ get_or (start ∷ ends) k 0) × (flat_map (λ list. list) (between i k (lists_of items start ends)) ≡ between (get_or (start ∷ ends) i 0) (get_or (start ∷ ends) k 0) items)) same
+      (joined-between_more items start ends i (j - i) right (omega arith))

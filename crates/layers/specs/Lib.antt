@@ -1,0 +1,10 @@
+pub mod Around
+pub mod Boxed
+pub mod Boxes
+pub mod Chains
+pub mod Each
+pub mod Gathered
+pub mod LineParts
+pub mod Lines
+pub mod Parents
+pub mod Shapes
