@@ -1,12 +1,16 @@
--- A fill rule, an operation and a form, as C names them: by numbers.
+-- A fill rule, an operation, a form, what becomes of a border and which side is kept, as C names them: by numbers.
 use Rattle.std.specs.Prelude.{◌≡◌, ◌≢◌, ℤ, Option, Some, None}
+use Rattle.layers.specs.declared.points.Border.{Border}
+use Rattle.layers.specs.declared.points.Border.TheVariants.{Closed, Open, HalfOpen}
+use Rattle.layers.specs.declared.lines.Keep.{Keep}
+use Rattle.layers.specs.declared.lines.Keep.TheVariants.{Inside, Outside}
 use Rattle.overlay.specs.declared.fill.rules.FillRule.{FillRule}
 use Rattle.overlay.specs.declared.fill.rules.FillRule.TheVariants.{EvenOdd, NonZero, Positive, Negative}
 use Rattle.overlay.specs.declared.fill.rules.Operation.{Operation}
 use Rattle.overlay.specs.declared.fill.rules.Operation.TheVariants.{Union, Intersection, Difference, Xor}
 use Rattle.wkb.specs.declared.writing.Form.{Form}
 use Rattle.wkb.specs.declared.writing.Form.TheVariants.{MultiPolygon, EachPolygon}
-use Rattle.itree_c.specs.declared.choices.TheConstants.{EVEN_ODD, NON_ZERO, POSITIVE, NEGATIVE, UNION, INTERSECTION, DIFFERENCE, XOR, MULTIPOLYGON, EACH_POLYGON}
+use Rattle.itree_c.specs.declared.choices.TheConstants.{EVEN_ODD, NON_ZERO, POSITIVE, NEGATIVE, UNION, INTERSECTION, DIFFERENCE, XOR, MULTIPOLYGON, EACH_POLYGON, CLOSED, OPEN, HALF_OPEN, INSIDE, OUTSIDE}
 
 -- the number of each rule
 abbrev pub number_of_rule : FillRule → ℤ
@@ -50,3 +54,34 @@ IsForm number None = (form : Form) → number ≢ number_of_form form
 -- a form has the number
 abbrev pub IsNumberOfForm : ℤ → Type 0
 IsNumberOfForm number = (form : Form) × (number ≡ number_of_form form)
+
+-- the number of what becomes of a border
+abbrev pub number_of_border : Border → ℤ
+number_of_border Closed = CLOSED
+number_of_border Open = OPEN
+number_of_border HalfOpen = HALF_OPEN
+
+-- it is what has the number, or nothing has it
+abbrev pub IsBorder : ℤ → Option Border → Type 0
+IsBorder number (Some border) = number ≡ number_of_border border
+IsBorder number None = (border : Border) → number ≢ number_of_border border
+
+-- the number of each side
+abbrev pub number_of_keep : Keep → ℤ
+number_of_keep Inside = INSIDE
+number_of_keep Outside = OUTSIDE
+
+-- it is the side that has the number, or no side has it
+abbrev pub IsKeep : ℤ → Option Keep → Type 0
+IsKeep number (Some keep) = number ≡ number_of_keep keep
+IsKeep number None = (keep : Keep) → number ≢ number_of_keep keep
+
+-- a rule has the one number, and something that becomes of a border the other
+abbrev pub AreRuleAndBorder : ℤ → ℤ → Type 0
+AreRuleAndBorder rule border =
+    ((named : FillRule) × (rule ≡ number_of_rule named)) × ((chosen : Border) × (border ≡ number_of_border chosen))
+
+-- a rule has the one number, and a side the other
+abbrev pub AreRuleAndKeep : ℤ → ℤ → Type 0
+AreRuleAndKeep rule keep =
+    ((named : FillRule) × (rule ≡ number_of_rule named)) × ((chosen : Keep) × (keep ≡ number_of_keep chosen))

@@ -4,6 +4,7 @@ pub mod Grids
 pub mod Handle
 pub mod Heights
 pub mod Kinds
+pub mod Layers
 pub mod Meetings
 pub mod Overlay
 pub mod Places

@@ -1,7 +1,9 @@
-//! The numbers by which C names a fill rule, an operation and a form of well-known binary.
+//! The numbers by which C names a fill rule, an operation, a form of well-known binary, what becomes of a border, and which side of
+//! polygons is kept.
 
-ghost use Rattle.itree_c.specs.Choices.{IsForm, IsOperation, IsRule};
+ghost use Rattle.itree_c.specs.Choices.{IsBorder, IsForm, IsKeep, IsOperation, IsRule};
 
+use layers::{Border, Keep};
 use polygons::{FillRule, Operation};
 use wkb::writing::Form;
 
@@ -35,10 +37,27 @@ pub const MULTIPOLYGON: i32 = 0;
 /// Each polygon by itself.
 pub const EACH_POLYGON: i32 = 1;
 
+/// A point on an edge of a shape is in it.
+pub const CLOSED: i32 = 0;
+
+/// A point on an edge of a shape isn't in it.
+pub const OPEN: i32 = 1;
+
+/// A point on a lower or a left border of a shape is in it, and one on an upper or a right border isn't.
+pub const HALF_OPEN: i32 = 2;
+
+/// What lies inside is kept.
+pub const INSIDE: i32 = 0;
+
+/// What lies outside is kept.
+pub const OUTSIDE: i32 = 1;
+
 // `itree.h` has these numbers.
 const _: () = prove!(EVEN_ODD == 0 && NON_ZERO == 1 && POSITIVE == 2 && NEGATIVE == 3);
 
 const _: () = prove!(MULTIPOLYGON == 0 && EACH_POLYGON == 1);
+
+const _: () = prove!(CLOSED == 0 && OPEN == 1 && HALF_OPEN == 2 && INSIDE == 0 && OUTSIDE == 1);
 
 const _: () = prove!(UNION == 0 && INTERSECTION == 1 && DIFFERENCE == 2 && XOR == 3);
 
@@ -75,6 +94,29 @@ pub(crate) fn form_of(number: i32) -> Option<Form>
     match number {
         MULTIPOLYGON => Some(Form::MultiPolygon),
         EACH_POLYGON => Some(Form::EachPolygon),
+        _ => None,
+    }
+}
+
+// What becomes of a border, by its number, or none.
+pub(crate) fn border_of(number: i32) -> Option<Border>
+    ensures { IsBorder number result }
+{
+    match number {
+        CLOSED => Some(Border::Closed),
+        OPEN => Some(Border::Open),
+        HALF_OPEN => Some(Border::HalfOpen),
+        _ => None,
+    }
+}
+
+// The side that has the number, or none.
+pub(crate) fn keep_of(number: i32) -> Option<Keep>
+    ensures { IsKeep number result }
+{
+    match number {
+        INSIDE => Some(Keep::Inside),
+        OUTSIDE => Some(Keep::Outside),
         _ => None,
     }
 }

@@ -1,5 +1,5 @@
 //! Calls from C, and so from each language that calls C: a static library over `itree_lib`, `plane`, `overlay`,
-//! `polygons`, `grid` and `wkb`.
+//! `polygons`, `grid`, `wkb` and `layers`.
 //!
 //! Each function takes slices, which are a pointer and a length in C, writes its answers into slices of its caller's,
 //! and answers a status. An answer whose size isn't known before goes out as a handle, which the caller gives back.
@@ -13,6 +13,10 @@ pub mod grids;
 pub mod handle;
 pub mod heights;
 pub mod kinds;
+pub mod layers_each;
+pub mod layers_lines;
+pub mod layers_pairs;
+pub mod layers_parents;
 pub mod meetings;
 pub mod overlaid;
 pub mod pairs;
