@@ -51,6 +51,31 @@ int32_t proved_itree_wkb_srid(const uint8_t *bytes, size_t byte_count, uint32_t 
 int32_t proved_itree_wkb_write(const struct itree_point *points, size_t point_count, const size_t *ring_ends,
                                size_t rings, const size_t *polygon_ends, size_t polygons, const struct itree_grid *grid,
                                int32_t form, uint32_t srid, uint8_t *bytes, size_t byte_count, size_t *size);
+int32_t proved_itree_overlay_each(const struct itree_point *subjects, size_t subject_points,
+                                  const size_t *subject_ring_ends, size_t subject_rings,
+                                  const size_t *subject_shape_ends, size_t subject_shapes, const size_t *subject_places,
+                                  size_t subject_place_count, const size_t *subject_group_ends, size_t subject_groups,
+                                  const struct itree_point *clips, size_t clip_points, const size_t *clip_ring_ends,
+                                  size_t clip_rings, const size_t *clip_shape_ends, size_t clip_shapes,
+                                  const size_t *clip_places, size_t clip_place_count, const size_t *clip_group_ends,
+                                  size_t clip_groups, int32_t rule, int32_t operation, size_t *ends, size_t end_count,
+                                  struct itree_polygons **polygons);
+int32_t proved_itree_box_pairs(const struct itree_point *points, size_t point_count, const size_t *ring_ends,
+                               size_t rings, const size_t *shape_ends, size_t shapes,
+                               const struct itree_point *other_points, size_t other_point_count,
+                               const size_t *other_ring_ends, size_t other_rings, const size_t *other_shape_ends,
+                               size_t others, struct itree_pairs **pairs);
+int32_t proved_itree_points_in(const struct itree_point *points, size_t count, const struct itree_point *shape_points,
+                               size_t shape_point_count, const size_t *ring_ends, size_t rings,
+                               const size_t *shape_ends, size_t shapes, int32_t rule, int32_t border,
+                               struct itree_pairs **pairs);
+int32_t proved_itree_clip_lines(const struct itree_point *lines, size_t line_points, const size_t *line_ends,
+                                size_t line_count, const struct itree_point *rings, size_t count,
+                                const size_t *ring_ends, size_t ring_count, int32_t rule, int32_t side,
+                                struct itree_polygons **pieces);
+int32_t proved_itree_polygon_parents(const struct itree_point *points, size_t point_count, const size_t *ring_ends,
+                                     size_t rings, const size_t *shape_ends, size_t shapes, size_t *parents,
+                                     size_t parent_count);
 
 #define OF(type) sizeof(type), alignof(type)
 
@@ -220,6 +245,83 @@ size_t itree_polygons_polygon_offsets(const struct itree_polygons *polygons, con
 
 void itree_polygons_free(struct itree_polygons *polygons) {
     if (polygons != NULL) proved_itree_polygons_free(polygons);
+}
+
+/* Whether shapes can stand there, groups, lines. */
+static int can_be_many(const struct itree_shapes *shapes) {
+    return can_hold(shapes, 1, OF(struct itree_shapes)) &&
+           can_be_rings(shapes->points, shapes->point_count, shapes->ring_ends, shapes->ring_count) &&
+           can_hold(shapes->shape_ends, shapes->shape_count, OF(size_t));
+}
+
+static int can_be_groups(const struct itree_groups *groups) {
+    return can_hold(groups, 1, OF(struct itree_groups)) && can_hold(groups->places, groups->place_count, OF(size_t)) &&
+           can_hold(groups->ends, groups->group_count, OF(size_t));
+}
+
+static int can_be_lines(const struct itree_lines *lines) {
+    return can_hold(lines, 1, OF(struct itree_lines)) &&
+           can_be_rings(lines->points, lines->point_count, lines->ends, lines->line_count);
+}
+
+/* Shapes, groups and lines as a proved call takes them. */
+#define SHAPES(it)                                                                                                     \
+    slice((it)->points, (it)->point_count), (it)->point_count, slice((it)->ring_ends, (it)->ring_count),               \
+        (it)->ring_count, slice((it)->shape_ends, (it)->shape_count), (it)->shape_count
+#define GROUPS(it)                                                                                                     \
+    slice((it)->places, (it)->place_count), (it)->place_count, slice((it)->ends, (it)->group_count), (it)->group_count
+#define LINES(it)                                                                                                      \
+    slice((it)->points, (it)->point_count), (it)->point_count, slice((it)->ends, (it)->line_count), (it)->line_count
+
+int32_t itree_overlay_each(const struct itree_shapes *subjects, const struct itree_groups *subject_groups,
+                           const struct itree_shapes *clips, const struct itree_groups *clip_groups, int32_t rule,
+                           int32_t operation, size_t *ends, size_t end_count, struct itree_polygons **polygons) {
+    if (!can_be_many(subjects) || !can_be_groups(subject_groups) || !can_be_many(clips) ||
+        !can_be_groups(clip_groups) || !can_hold(ends, end_count, OF(size_t)) ||
+        !can_hold(polygons, 1, OF(struct itree_polygons *))) {
+        return ITREE_POINTER;
+    }
+    limits_begin();
+    return limits_end(proved_itree_overlay_each(SHAPES(subjects), GROUPS(subject_groups), SHAPES(clips),
+                                                GROUPS(clip_groups), rule, operation, slice(ends, end_count), end_count,
+                                                polygons));
+}
+
+int32_t itree_box_pairs(const struct itree_shapes *shapes, const struct itree_shapes *others,
+                        struct itree_pairs **pairs) {
+    if (!can_be_many(shapes) || !can_be_many(others) || !can_hold(pairs, 1, OF(struct itree_pairs *))) {
+        return ITREE_POINTER;
+    }
+    limits_begin();
+    return limits_end(proved_itree_box_pairs(SHAPES(shapes), SHAPES(others), pairs));
+}
+
+int32_t itree_points_in(const struct itree_point *points, size_t count, const struct itree_shapes *shapes, int32_t rule,
+                        int32_t border, struct itree_pairs **pairs) {
+    if (!can_hold(points, count, OF(struct itree_point)) || !can_be_many(shapes) ||
+        !can_hold(pairs, 1, OF(struct itree_pairs *))) {
+        return ITREE_POINTER;
+    }
+    limits_begin();
+    return limits_end(proved_itree_points_in(slice(points, count), count, SHAPES(shapes), rule, border, pairs));
+}
+
+int32_t itree_clip_lines(const struct itree_lines *lines, const struct itree_point *rings, size_t count,
+                         const size_t *ring_ends, size_t ring_count, int32_t rule, int32_t side,
+                         struct itree_polygons **pieces) {
+    if (!can_be_lines(lines) || !can_be_rings(rings, count, ring_ends, ring_count) ||
+        !can_hold(pieces, 1, OF(struct itree_polygons *))) {
+        return ITREE_POINTER;
+    }
+    limits_begin();
+    return limits_end(proved_itree_clip_lines(LINES(lines), slice(rings, count), count, slice(ring_ends, ring_count),
+                                              ring_count, rule, side, pieces));
+}
+
+int32_t itree_polygon_parents(const struct itree_shapes *polygons, size_t *parents, size_t parent_count) {
+    if (!can_be_many(polygons) || !can_hold(parents, parent_count, OF(size_t))) return ITREE_POINTER;
+    limits_begin();
+    return limits_end(proved_itree_polygon_parents(SHAPES(polygons), slice(parents, parent_count), parent_count));
 }
 
 int32_t itree_locate(const struct itree_edge *edges, size_t edge_count, const struct itree_point *points,

@@ -1,5 +1,6 @@
 /* itree, for C: sweeps over horizontal segments, pairs of edges that meet, edges broken where they meet, polygons of what
- * two sets of rings make, points among edges, doubles rounded to a grid, and well-known binary read and written.
+ * two sets of rings make, the same for many shapes at once, points among edges and in shapes, lines that are clipped,
+ * doubles rounded to a grid, and well-known binary read and written.
  *
  * Each call looks at the pointers that it is given, and then makes one that is proved in Rattle: that answers as said
  * here for every input, reads and writes inside the arrays that it is given, and returns. Link it by what
@@ -35,7 +36,7 @@ enum itree_status {
     ITREE_OVERLAP = 2,  /* Two segments collide. */
     ITREE_LENGTHS = 3,  /* The lengths of two arrays don't fit each other, or a ring stops where it can't. */
     ITREE_POINTER = 4,  /* A pointer is faulty. */
-    ITREE_CHOICE = 5,   /* A rule, an operation or a form is none of their numbers, or a grid is none. */
+    ITREE_CHOICE = 5,   /* A rule, an operation or the like is none of their numbers, or a grid is none. */
     ITREE_CROSSING = 6, /* Two edges cross. */
     ITREE_MEETING = 7,  /* Two edges meet. */
     ITREE_FAULTY = 8,   /* A coordinate or a geometry is faulty. */
@@ -266,6 +267,136 @@ size_t itree_polygons_polygon_offsets(const struct itree_polygons *polygons, con
 
 /* Gives back the handle and its polygons. At NULL it does nothing. */
 void itree_polygons_free(struct itree_polygons *polygons);
+
+/* Shapes: each is some rings, as a polygon with its holes, or a multipolygon. The points of all rings, one ring after the
+ * other; for each ring the place among the points at which it stops; and for each shape the place among the rings at
+ * which it stops. So the ends are the offsets of the Arrow format without the first, which is 0, and a handle of
+ * itree_wkb_read has shapes. Points behind the last ring and rings behind the last shape are of no shape. A ring is as
+ * itree_overlay takes it; a shape may have no ring. */
+struct itree_shapes {
+    const struct itree_point *points;
+    size_t point_count;
+    const size_t *ring_ends;
+    size_t ring_count;
+    const size_t *shape_ends;
+    size_t shape_count;
+};
+
+/* Groups of shapes: the places of the shapes of all groups, one group after the other, and for each group the place among
+ * these at which it stops. A group may have no shape; a shape may be in several groups, and in one more than once. */
+struct itree_groups {
+    const size_t *places;
+    size_t place_count;
+    const size_t *ends;
+    size_t group_count;
+};
+
+/* Lines: the points of all, one line after the other, and for each line the place among the points at which it stops. A
+ * line goes from each of its points to the next one, and not back to the first. Points behind the last are of none. */
+struct itree_lines {
+    const struct itree_point *points;
+    size_t point_count;
+    const size_t *ends;
+    size_t line_count;
+};
+
+/* Writes a handle of the polygons of what the operation makes of groups: for each group of the subjects, one after the
+ * other, all rings of its shapes together, and those of the clips' group at the same place. They are the polygons that
+ * itree_overlay writes of these rings. ends[k] is the place among all polygons of the handle at which those of the groups
+ * at k stop: so these are the polygons from ends[k - 1] on, or from the first on, and before ends[k].
+ *
+ * Pairs of shapes are groups of one shape each. Unions of many shapes each are groups of the subjects and as many empty
+ * groups of the clips. Groups of few points take no memory of their own, so that many small ones cost little more than
+ * their points. The call returns
+ *   ITREE_ANSWERED  and *polygons is the caller's, also where there are none, and the ends are written;
+ *   ITREE_REFUSED   and *polygons is NULL;
+ *   ITREE_POINTER   exactly where a pointer is faulty, and *polygons stays as it was;
+ *   ITREE_CHOICE    exactly where none is, and rule or operation is none of their numbers: *polygons is NULL;
+ *   ITREE_LENGTHS   exactly where all that is well, and a ring, a shape or a group stops before it begins or behind the
+ *                   points, the rings or the places; or a place is that of no shape; or there are not end_count groups of
+ *                   both: *polygons is NULL.
+ * The ends are written at ITREE_ANSWERED alone. No pointer but those of the structs may be NULL, and ends where end_count
+ * is 0. What *polygons was before isn't looked at. Subjects and clips may be the same. */
+int32_t itree_overlay_each(const struct itree_shapes *subjects, const struct itree_groups *subject_groups,
+                           const struct itree_shapes *clips, const struct itree_groups *clip_groups, int32_t rule,
+                           int32_t operation, size_t *ends, size_t end_count, struct itree_polygons **polygons);
+
+/* Writes a handle of the pairs of a shape of the first shapes and one of the others whose boxes share a point, each once,
+ * in no particular order. There first is a place of the first shapes and second one of the others. The box of a shape
+ * goes from the least x and y of its points to the greatest, with its border; a shape without points has none. So these
+ * are the pairs that an overlay has to look at. The call returns
+ *   ITREE_ANSWERED  and *pairs is the caller's, also where there are none;
+ *   ITREE_REFUSED   and *pairs is NULL;
+ *   ITREE_POINTER   exactly where a pointer is faulty, and *pairs stays as it was;
+ *   ITREE_LENGTHS   exactly where none is, and a ring or a shape stops before it begins or behind the points or the
+ *                   rings: *pairs is NULL.
+ * No pointer but those of the structs may be NULL. What *pairs was before isn't looked at. Both may be the same. */
+int32_t itree_box_pairs(const struct itree_shapes *shapes, const struct itree_shapes *others,
+                        struct itree_pairs **pairs);
+
+/* Whether a point on an edge of a shape is in it. By ITREE_HALF_OPEN one on a left or a lower border is, and one on a right or
+ * an upper border isn't: so of shapes that cover the plane side by side each point is in just one. */
+enum itree_border {
+    ITREE_CLOSED = 0,   /* It is. */
+    ITREE_OPEN = 1,     /* It isn't. */
+    ITREE_HALF_OPEN = 2 /* It is on a left or a lower border. */
+};
+
+/* Writes a handle of the pairs of a point and a shape that it is in, each once: by the place of the point, and of one
+ * point by that of the shape. There first is the place of the point and second that of the shape. A point is inside of a
+ * shape by one of itree_fill_rule and one of itree_border. It is exact: nothing is rounded. The call returns
+ *   ITREE_ANSWERED  and *pairs is the caller's, also where there are none;
+ *   ITREE_REFUSED   and *pairs is NULL;
+ *   ITREE_POINTER   exactly where a pointer is faulty, and *pairs stays as it was;
+ *   ITREE_CHOICE    exactly where none is, and rule or border is none of their numbers: *pairs is NULL;
+ *   ITREE_LENGTHS   exactly where all that is well, and a ring or a shape stops before it begins or behind the points or
+ *                   the rings: *pairs is NULL.
+ * shapes and pairs may not be NULL. What *pairs was before isn't looked at. */
+int32_t itree_points_in(const struct itree_point *points, size_t count, const struct itree_shapes *shapes, int32_t rule,
+                        int32_t border, struct itree_pairs **pairs);
+
+/* Which part of lines is kept. */
+enum itree_side {
+    ITREE_INSIDE = 0, /* What lies inside of the rings or along their border. */
+    ITREE_OUTSIDE = 1 /* The rest. */
+};
+
+/* Writes a handle of the pieces of lines that lie inside of rings, or of those that don't, by one of itree_fill_rule and
+ * one of itree_side. The rings are as itree_overlay takes them.
+ *
+ * Lines and rings are broken where they meet, lines one another, too, each at a whole point, as itree_snap breaks edges; so
+ * a line that others cross may be moved by half a unit on either axis, and has the points where they do. A part between two such points is inside where its middle is, or
+ * where that lies on an edge of the broken rings. Parts that are kept and follow each other along a line are one piece,
+ * which has the points between them too. In the handle the pieces are the rings, and the pieces of each line are a
+ * polygon: itree_polygons_ring_offsets tells where each piece stops among the points, and itree_polygons_polygon_offsets
+ * where those of each line stop among the pieces. A piece runs as its line does, and has two points at least; it isn't
+ * closed. The call returns
+ *   ITREE_ANSWERED  and *pieces is the caller's, also where there are none;
+ *   ITREE_REFUSED   and *pieces is NULL;
+ *   ITREE_POINTER   exactly where a pointer is faulty, and *pieces stays as it was;
+ *   ITREE_CHOICE    exactly where none is, and rule or side is none of their numbers: *pieces is NULL;
+ *   ITREE_LENGTHS   exactly where all that is well, and a line or a ring stops before it begins or behind its points:
+ *                   *pieces is NULL.
+ * lines and pieces may not be NULL. What *pieces was before isn't looked at. */
+int32_t itree_clip_lines(const struct itree_lines *lines, const struct itree_point *rings, size_t count,
+                         const size_t *ring_ends, size_t ring_count, int32_t rule, int32_t side,
+                         struct itree_polygons **pieces);
+
+/* Writes for each polygon, in order, the place of the polygon in whose hole it lies, the nearest around it; or SIZE_MAX,
+ * where no other goes round it.
+ *
+ * The polygons are as itree_overlay writes them: the first ring of each shape is its outer one. Whether an outer ring
+ * goes round another polygon is told by the middle of the first edge of that one's outer ring: it does where its winding
+ * number around that middle isn't 0. Of several that go round a polygon the nearest is the one around which the most go;
+ * where as many go round two of them, the first. A polygon whose outer ring has no point goes round none. The call
+ * returns
+ *   ITREE_ANSWERED  and the parents are written;
+ *   ITREE_REFUSED   and nothing is written;
+ *   ITREE_POINTER   exactly where a pointer is faulty;
+ *   ITREE_LENGTHS   exactly where none is, and a ring or a shape stops before it begins or behind the points or the
+ *                   rings, or parent_count isn't shape_count.
+ * polygons may not be NULL. */
+int32_t itree_polygon_parents(const struct itree_shapes *polygons, size_t *parents, size_t parent_count);
 
 /* The edge straight below a point: found is 1 and place its place, or both are 0 where there is none. */
 struct itree_place {

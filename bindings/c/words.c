@@ -11,7 +11,7 @@ const char *itree_status_text(int32_t status) {
     case ITREE_OVERLAP: return "two segments overlap";
     case ITREE_LENGTHS: return "the lengths of two arrays don't fit each other, or a ring stops where it can't";
     case ITREE_POINTER: return "a pointer is null, misaligned or of more items than memory can hold";
-    case ITREE_CHOICE: return "there is no such rule, operation, form or grid";
+    case ITREE_CHOICE: return "there is no such rule, operation, border, side, form or grid";
     case ITREE_CROSSING: return "two edges cross";
     case ITREE_MEETING: return "two edges meet";
     case ITREE_FAULTY: return "a coordinate or a geometry is faulty";

@@ -386,6 +386,25 @@ enum class Operation : std::int32_t {
     xor_ = ITREE_XOR
 };
 
+/// Whether a point on an edge of a shape is in it.
+enum class Border : std::int32_t {
+    /// It is.
+    closed = ITREE_CLOSED,
+    /// It isn't.
+    open = ITREE_OPEN,
+    /// One on a left or a lower border is, and one on a right or an upper border isn't: so of shapes that cover the plane side
+    /// by side each point is in just one.
+    half_open = ITREE_HALF_OPEN
+};
+
+/// Which part of lines is kept.
+enum class Side : std::int32_t {
+    /// What lies inside of rings or along their border.
+    inside = ITREE_INSIDE,
+    /// The rest.
+    outside = ITREE_OUTSIDE
+};
+
 /// Rings that are only read: the points of all of them, one ring after the other, and where each stops among these. So
 /// the ends are the offsets of the Arrow format without the first, which is 0; points behind the last end are of no
 /// ring.
@@ -395,6 +414,27 @@ struct Rings {
 
     Span<Point> points;
     Span<std::size_t> ends;
+};
+
+/// Shapes that are only read, each some rings, as a polygon with its holes: the points of all rings, one ring after the
+/// other; where each ring stops among these; and where each shape stops among the rings. So the ends are the offsets of
+/// the Arrow format without the first, which is 0.
+struct Layer {
+    Layer() = default;
+    Layer(Span<Point> all_points, Span<std::size_t> all_ring_ends, Span<std::size_t> all_shape_ends)
+        : points(all_points), ring_ends(all_ring_ends), shape_ends(all_shape_ends) {}
+
+    Span<Point> points;
+    Span<std::size_t> ring_ends, shape_ends;
+};
+
+/// Groups of shapes that are only read: the places of the shapes of all groups, one group after the other, and where each
+/// group stops among these.
+struct Groups {
+    Groups() = default;
+    Groups(Span<std::size_t> all_places, Span<std::size_t> all_ends) : places(all_places), ends(all_ends) {}
+
+    Span<std::size_t> places, ends;
 };
 
 /// A ring of points, which stand one behind the other in memory that is its `Polygons`'.
@@ -514,6 +554,12 @@ public:
         if (ring_offsets_.empty()) return {};
         return {points_, {ring_offsets_.data() + 1, ring_offsets_.size() - 1}};
     }
+    /// The polygons as shapes, as a further call takes them. They stay with these polygons.
+    [[nodiscard]] Layer layer() const noexcept {
+        const auto all = rings();
+        if (polygon_offsets_.empty()) return {};
+        return {all.points, all.ends, {polygon_offsets_.data() + 1, size()}};
+    }
 
 private:
     struct Free {
@@ -534,6 +580,7 @@ private:
 class Shapes : private Polygons {
 public:
     using Polygons::empty;
+    using Polygons::layer;
     using Polygons::points;
     using Polygons::Polygons;
     using Polygons::ring_offsets;
@@ -545,6 +592,110 @@ public:
     /// Where each shape begins among the rings, and at last how many rings there are: `size() + 1` numbers, or none
     /// where nothing was taken over.
     [[nodiscard]] Span<std::size_t> shape_offsets() const noexcept { return polygon_offsets(); }
+};
+
+/// Polygons that stand one behind the other in memory that is their `Overlays`'.
+class PolygonList {
+public:
+    using Iterator = Polygons::Iterator;
+
+    PolygonList() = default;
+    PolygonList(const Point *points, const std::size_t *rings, const std::size_t *offsets, std::size_t count) noexcept
+        : points_(points), rings_(rings), offsets_(offsets), count_(count) {}
+
+    [[nodiscard]] std::size_t size() const noexcept { return count_; }
+    [[nodiscard]] bool empty() const noexcept { return count_ == 0; }
+    /// The polygon at a place below `size()`.
+    [[nodiscard]] Polygon operator[](std::size_t place) const noexcept { return *at(place); }
+    [[nodiscard]] Iterator begin() const noexcept { return at(0); }
+    [[nodiscard]] Iterator end() const noexcept { return at(count_); }
+
+private:
+    [[nodiscard]] Iterator at(std::size_t place) const noexcept { return {points_, rings_, offsets_ + place}; }
+
+    const Point *points_ = nullptr;
+    const std::size_t *rings_ = nullptr;
+    const std::size_t *offsets_ = nullptr;
+    std::size_t count_ = 0;
+};
+
+/// What `overlay_each` answers: for each pair, or for each group, its polygons, in memory that is theirs. They are moved,
+/// and not copied. Any number of threads may read them.
+class Overlays {
+public:
+    /// Goes over the polygons of each pair.
+    class Iterator {
+    public:
+        using iterator_category = std::input_iterator_tag;
+        using value_type = PolygonList;
+        using difference_type = std::ptrdiff_t;
+        using pointer = const PolygonList *;
+        using reference = PolygonList;
+
+        Iterator() = default;
+        Iterator(const Overlays *overlays, std::size_t place) noexcept : overlays_(overlays), place_(place) {}
+        PolygonList operator*() const noexcept { return (*overlays_)[place_]; }
+        Iterator &operator++() noexcept {
+            ++place_;
+            return *this;
+        }
+        Iterator operator++(int) noexcept {
+            const Iterator before = *this;
+            ++place_;
+            return before;
+        }
+        friend bool operator==(const Iterator &one, const Iterator &other) noexcept {
+            return one.place_ == other.place_;
+        }
+        friend bool operator!=(const Iterator &one, const Iterator &other) noexcept { return !(one == other); }
+
+    private:
+        const Overlays *overlays_ = nullptr;
+        std::size_t place_ = 0;
+    };
+
+    Overlays() = default;
+    /// Takes over all polygons, and where those of each pair stop among them.
+    Overlays(Polygons all, std::vector<std::size_t> ends) noexcept : all_(std::move(all)), ends_(std::move(ends)) {}
+
+    /// How many pairs there were, or groups.
+    [[nodiscard]] std::size_t size() const noexcept { return ends_.size(); }
+    [[nodiscard]] bool empty() const noexcept { return ends_.empty(); }
+    /// The polygons of the pair at a place below `size()`.
+    [[nodiscard]] PolygonList operator[](std::size_t place) const noexcept {
+        const auto start = place == 0 ? 0 : ends_[place - 1];
+        return {all_.points().data(), all_.ring_offsets().data(), all_.polygon_offsets().data() + start,
+                ends_[place] - start};
+    }
+    [[nodiscard]] Iterator begin() const noexcept { return {this, 0}; }
+    [[nodiscard]] Iterator end() const noexcept { return {this, size()}; }
+    /// The polygons of all pairs, one pair behind the other.
+    [[nodiscard]] const Polygons &all() const noexcept { return all_; }
+    /// Where the polygons of each pair stop among all.
+    [[nodiscard]] Span<std::size_t> ends() const noexcept { return ends_; }
+
+private:
+    Polygons all_;
+    std::vector<std::size_t> ends_;
+};
+
+/// Pieces of lines, in memory that is theirs: for each line a list of its pieces, each of which is a span of points. They
+/// are moved, and not copied. Any number of threads may read them.
+class Pieces : private Polygons {
+public:
+    using Polygons::empty;
+    using Polygons::points;
+    using Polygons::Polygons;
+    using Polygons::size;
+
+    /// The pieces of the line at a place below `size()`, in order along it.
+    [[nodiscard]] RingList operator[](std::size_t place) const noexcept { return Polygons::operator[](place); }
+    /// Where each piece begins among the points, and at last how many points there are; or nothing where nothing was
+    /// taken over.
+    [[nodiscard]] Span<std::size_t> piece_offsets() const noexcept { return ring_offsets(); }
+    /// Where the pieces of each line begin among all, and at last how many pieces there are: `size() + 1` numbers, or none
+    /// where nothing was taken over.
+    [[nodiscard]] Span<std::size_t> line_offsets() const noexcept { return polygon_offsets(); }
 };
 
 /// Bytes that are only read: a vector of `std::byte`, a string or what else has characters or bytes side by side. It owns
@@ -662,15 +813,102 @@ struct HasDoubles<Item,
 template <typename Items>
 using ItemOf = std::decay_t<decltype(*std::begin(*std::begin(std::declval<const Items &>())))>;
 
+template <typename Item, typename Ring, typename As>
+void add_ring(OwnRings<Item> &rings, const Ring &ring, As as) {
+    for (const auto &point : ring) rings.points.push_back(as(point));
+    rings.ends.push_back(rings.points.size());
+}
+
 /// Each ring's points, made by `as`, behind those of the ring before it.
 template <typename Item, typename Items, typename As>
 OwnRings<Item> copied(const Items &items, As as) {
     OwnRings<Item> rings;
-    for (const auto &ring : items) {
-        for (const auto &point : ring) rings.points.push_back(as(point));
-        rings.ends.push_back(rings.points.size());
-    }
+    for (const auto &ring : items) add_ring(rings, ring, as);
     return rings;
+}
+
+template <typename Items, typename = void>
+struct HasLayer : std::false_type {};
+template <typename Items>
+struct HasLayer<Items, std::enable_if_t<std::is_convertible_v<decltype(std::declval<const Items &>().layer()), Layer>>>
+    : std::true_type {};
+
+template <typename Item>
+constexpr bool is_point = HasDoubles<Item>::value || std::is_convertible_v<Item, Point>;
+
+/// What a range has, and what the rings of shapes have: of a range of rings each ring is a shape.
+template <typename Items>
+using OneOf = std::decay_t<decltype(*std::begin(std::declval<const Items &>()))>;
+template <typename Items, bool is_of_rings = is_point<ItemOf<Items>>>
+struct PointOf {
+    using Type = ItemOf<Items>;
+};
+template <typename Items>
+struct PointOf<Items, false> {
+    using Type = ItemOf<OneOf<Items>>;
+};
+
+/// Shapes in memory of their own.
+template <typename Item>
+struct CopiedShapes {
+    OwnRings<Item> rings;
+    std::vector<std::size_t> ends;
+
+    operator Layer() const { return {rings.points, rings.ends, ends}; }
+};
+
+/// Rings where they lie, each a shape.
+struct RingShapes {
+    Rings rings;
+    std::vector<std::size_t> ends;
+
+    operator Layer() const { return {rings.points, rings.ends, ends}; }
+};
+
+/// 1, 2, 3 and so on: where each of so many items stops that stands alone.
+inline std::vector<std::size_t> ends_of_each(std::size_t count) {
+    std::vector<std::size_t> ends(count);
+    for (std::size_t place = 0; place < count; place++) ends[place] = place + 1;
+    return ends;
+}
+
+/// Each shape's rings, their points made by `as`, behind those of the shape before it.
+template <typename Item, typename Items, typename As>
+CopiedShapes<Item> copied_shapes(const Items &items, As as) {
+    CopiedShapes<Item> shapes;
+    for (const auto &shape : items) {
+        if constexpr (is_point<OneOf<OneOf<Items>>>) {
+            add_ring(shapes.rings, shape, as);
+        } else {
+            for (const auto &ring : shape) add_ring(shapes.rings, ring, as);
+        }
+        shapes.ends.push_back(shapes.rings.ends.size());
+    }
+    return shapes;
+}
+
+/// Whether shapes lie as the library takes them.
+template <typename Items>
+constexpr bool are_lists = std::is_same_v<Items, Layer> || std::is_same_v<Items, Rings> || HasLayer<Items>::value;
+
+/// Shapes as the library takes them: as they are, or each shape's rings behind those of the shape before it.
+template <typename Items>
+auto shapes_of(const Items &items) {
+    if constexpr (std::is_same_v<Items, Layer>) {
+        return items;
+    } else if constexpr (std::is_same_v<Items, Rings>) {
+        return RingShapes{items, ends_of_each(items.ends.size())};
+    } else if constexpr (HasLayer<Items>::value) {
+        return items.layer();
+    } else {
+        using Item = typename PointOf<Items>::Type;
+        static_assert(!HasDoubles<Item>::value,
+                      "the points have floating-point coordinates: give a grid as the last argument, as in "
+                      "candidate_pairs(shapes, others, itree::Grid::fit(shapes, others))");
+        static_assert(HasDoubles<Item>::value || std::is_convertible_v<Item, Point>,
+                      "shapes are ranges of rings, which are ranges of itree::Point, or of what converts to it");
+        return copied_shapes<Point>(items, [](const auto &point) -> Point { return point; });
+    }
 }
 
 /// Rings as the library takes them: as they are, or each ring's points behind those of the ring before it.
@@ -693,16 +931,18 @@ auto rings_of(const Items &items) {
     }
 }
 
-/// Positions of rings, side by side.
-template <typename Items>
-OwnRings<Position> positions_of(const Items &items) {
-    using Item = ItemOf<Items>;
+template <typename Item>
+Position position_of(const Item &point) {
     static_assert(HasDoubles<Item>::value,
                   "with a grid, rings are ranges of points with floating-point x and y; or itree::Rings, Polygons or "
                   "Shapes, which are points of the grid");
-    return copied<Position>(items, [](const auto &point) -> Position {
-        return {static_cast<double>(point.x), static_cast<double>(point.y)};
-    });
+    return {static_cast<double>(point.x), static_cast<double>(point.y)};
+}
+
+/// Positions of rings, side by side.
+template <typename Items>
+OwnRings<Position> positions_of(const Items &items) {
+    return copied<Position>(items, [](const auto &point) { return position_of(point); });
 }
 
 inline Polygons overlay(const Rings &subject, const Rings &clip, Operation operation, FillRule rule) {
@@ -724,11 +964,7 @@ public:
             add_shapes(items);
         } else {
             std::size_t place = 0;
-            for (const auto &position : positions_of(items).points) {
-                if (!std::isfinite(position.x) || !std::isfinite(position.y)) throw OffGrid(place);
-                add_one(position);
-                place++;
-            }
+            add_each(items, place);
         }
     }
     [[nodiscard]] ::itree_grid fitted() const {
@@ -740,6 +976,21 @@ public:
     }
 
 private:
+    /// Points, rings, shapes: whatever lies how deep.
+    template <typename Items>
+    void add_each(const Items &items, std::size_t &place) {
+        using Item = OneOf<Items>;
+        for (const auto &item : items) {
+            if constexpr (is_point<Item>) {
+                const auto position = position_of(item);
+                if (!std::isfinite(position.x) || !std::isfinite(position.y)) throw OffGrid(place);
+                add_one(position);
+                place++;
+            } else {
+                add_each(item, place);
+            }
+        }
+    }
     void add_shapes(const Wkb &shapes) {
         Position corners[2] = {{0, 0}, {0, 0}};
         std::size_t found = 0;
@@ -777,7 +1028,8 @@ public:
         }
     }
     /// The grid of the finest unit by which all positions lie within 2^30 units of its origin, their middle: of ranges of
-    /// ranges of points with floating-point `x` and `y`, and of `Wkb`. Throws `OffGrid` where a position isn't finite,
+    /// points with floating-point `x` and `y`, of ranges of these, as rings are, or of ranges of these again, as shapes are,
+    /// and of `Wkb`. Throws `OffGrid` where a position isn't finite,
     /// `WkbFault` where a shape is faulty, and `std::invalid_argument` where they lie too far apart.
     template <typename... Items>
     [[nodiscard]] static Grid fit(const Items &...items) {
@@ -887,6 +1139,272 @@ template <typename Items = detail::InBraces<Point>>
 template <typename Items = detail::InBraces<Position>>
 [[nodiscard]] Polygons simplify(const Items &rings, FillRule rule, const Grid &grid) {
     return overlay(rings, Rings(), Operation::union_, rule, grid);
+}
+
+namespace detail {
+
+/// Shapes on a grid: those that are on it, or positions that are rounded to it.
+template <typename Items>
+auto shapes_on(const Grid &grid, const Items &items) {
+    if constexpr (are_lists<Items>) {
+        return shapes_of(items);
+    } else {
+        auto shapes = copied_shapes<Position>(items, [](const auto &point) { return position_of(point); });
+        return CopiedShapes<Point>{{grid.round_all(shapes.rings.points), std::move(shapes.rings.ends)},
+                                   std::move(shapes.ends)};
+    }
+}
+
+/// Throws what a status says that a call of shapes may return.
+inline void throw_unless_shapes_answered(std::int32_t status) {
+    if (status == ITREE_LENGTHS) {
+        throw std::invalid_argument("a ring, a shape or a group stops where it can't, or a place is that of no shape");
+    }
+    if (status == ITREE_CHOICE) throw std::invalid_argument("there is no such rule, operation, border or side");
+    throw_unless_answered(status);
+}
+
+inline ::itree_shapes of_c(const Layer &layer) {
+    return {layer.points.data(),    layer.points.size(),     layer.ring_ends.data(),
+            layer.ring_ends.size(), layer.shape_ends.data(), layer.shape_ends.size()};
+}
+
+inline ::itree_groups of_c(const Groups &groups) {
+    return {groups.places.data(), groups.places.size(), groups.ends.data(), groups.ends.size()};
+}
+
+inline Overlays overlay_groups(const Layer &subjects, const Groups &subject_groups, const Layer &clips,
+                               const Groups &clip_groups, Operation operation, FillRule rule) {
+    const auto subjects_of_c = of_c(subjects), clips_of_c = of_c(clips);
+    const auto subject_groups_of_c = of_c(subject_groups), clip_groups_of_c = of_c(clip_groups);
+    std::vector<std::size_t> ends(subject_groups.ends.size());
+    ::itree_polygons *handle = nullptr;
+    throw_unless_shapes_answered(::itree_overlay_each(&subjects_of_c, &subject_groups_of_c, &clips_of_c,
+                                                      &clip_groups_of_c, static_cast<std::int32_t>(rule),
+                                                      static_cast<std::int32_t>(operation), ends.data(), ends.size(),
+                                                      &handle));
+    return {Polygons(handle), std::move(ends)};
+}
+
+inline Overlays overlay_each(const Layer &subjects, const Layer &clips, Span<Pair> pairs, Operation operation,
+                             FillRule rule) {
+    std::vector<std::size_t> firsts, seconds;
+    firsts.reserve(pairs.size());
+    seconds.reserve(pairs.size());
+    for (const auto &pair : pairs) {
+        firsts.push_back(pair.first);
+        seconds.push_back(pair.second);
+    }
+    const auto ends = ends_of_each(pairs.size());
+    return overlay_groups(subjects, {firsts, ends}, clips, {seconds, ends}, operation, rule);
+}
+
+inline Pairs candidate_pairs(const Layer &shapes, const Layer &others) {
+    const auto shapes_of_c = of_c(shapes), others_of_c = of_c(others);
+    ::itree_pairs *handle = nullptr;
+    throw_unless_shapes_answered(::itree_box_pairs(&shapes_of_c, &others_of_c, &handle));
+    return Pairs(handle);
+}
+
+inline Pairs points_in(Span<Point> points, const Layer &shapes, FillRule rule, Border border) {
+    const auto shapes_of_c = of_c(shapes);
+    ::itree_pairs *handle = nullptr;
+    throw_unless_shapes_answered(::itree_points_in(points.data(), points.size(), &shapes_of_c,
+                                                   static_cast<std::int32_t>(rule), static_cast<std::int32_t>(border),
+                                                   &handle));
+    return Pairs(handle);
+}
+
+inline Pieces clip_lines(const Rings &lines, const Rings &rings, Side side, FillRule rule) {
+    const ::itree_lines lines_of_c{lines.points.data(), lines.points.size(), lines.ends.data(), lines.ends.size()};
+    ::itree_polygons *handle = nullptr;
+    throw_unless_shapes_answered(::itree_clip_lines(&lines_of_c, rings.points.data(), rings.points.size(),
+                                                    rings.ends.data(), rings.ends.size(),
+                                                    static_cast<std::int32_t>(rule), static_cast<std::int32_t>(side),
+                                                    &handle));
+    return Pieces(handle);
+}
+
+}  // namespace detail
+
+/// Shapes in memory of their own: a copy that is made once, for several calls.
+class OwnLayer {
+public:
+    OwnLayer() = default;
+    /// Of shapes as `overlay_each` takes them.
+    template <typename Items>
+    explicit OwnLayer(const Items &shapes) : OwnLayer(detail::shapes_of(shapes), 0) {}
+    /// Of shapes of positions, which are rounded to the grid. Throws `OffGrid` where one isn't finite, or is off the grid.
+    template <typename Items>
+    OwnLayer(const Items &shapes, const Grid &grid) : OwnLayer(detail::shapes_on(grid, shapes), 0) {}
+
+    /// How many shapes there are.
+    [[nodiscard]] std::size_t size() const noexcept { return shape_ends_.size(); }
+    [[nodiscard]] bool empty() const noexcept { return shape_ends_.empty(); }
+    /// The shapes, as calls take them. They stay with this layer.
+    [[nodiscard]] Layer layer() const noexcept { return {points_, ring_ends_, shape_ends_}; }
+
+private:
+    OwnLayer(const Layer &layer, int)
+        : points_(layer.points.begin(), layer.points.end()),
+          ring_ends_(layer.ring_ends.begin(), layer.ring_ends.end()),
+          shape_ends_(layer.shape_ends.begin(), layer.shape_ends.end()) {}
+    OwnLayer(detail::CopiedShapes<Point> &&shapes, int) noexcept
+        : points_(std::move(shapes.rings.points)),
+          ring_ends_(std::move(shapes.rings.ends)),
+          shape_ends_(std::move(shapes.ends)) {}
+
+    std::vector<Point> points_;
+    std::vector<std::size_t> ring_ends_, shape_ends_;
+};
+
+/// For each pair the polygons of what the operation makes of the inside of the first shape, one of the subjects, and that of
+/// the second, one of the clips: as many calls of `overlay`, in one. Small shapes cost little more than their points.
+///
+///     const auto pairs = itree::candidate_pairs(parcels, floods, grid);
+///     const auto wet = itree::overlay_each(parcels, floods, pairs, itree::Operation::intersection,
+///                                          itree::FillRule::non_zero, grid);
+///     for (std::size_t place = 0; place < pairs.size(); place++) {
+///         for (const auto &polygon : wet[place]) add(pairs[place].first, grid.back_all(polygon.outer()));
+///     }
+///
+/// Subjects and clips are each a `Layer`, `Polygons`, `Shapes` or an `OwnLayer`, which are read where they lie; or a range of
+/// shapes, which is copied: each a range of rings, which are ranges of points. A ring may be a shape, too: so a range of rings,
+/// and `Rings`, are as many shapes. Rings are as `overlay` takes them. Throws `std::invalid_argument` where a ring or a shape
+/// stops before it begins, or behind the points or the rings, or a pair has the place of no shape; `std::bad_alloc` where
+/// memory was refused; and `Stopped` where a `Stopper` stopped it.
+template <typename Subjects, typename Clips>
+[[nodiscard]] Overlays overlay_each(const Subjects &subjects, const Clips &clips, Span<Pair> pairs, Operation operation,
+                                    FillRule rule) {
+    const auto subject_shapes = detail::shapes_of(subjects);
+    const auto clip_shapes = detail::shapes_of(clips);
+    return detail::overlay_each(subject_shapes, clip_shapes, pairs, operation, rule);
+}
+
+/// The same of positions: ranges of shapes whose points have floating-point `x` and `y` are first rounded to the grid; what
+/// is read where it lies is points of the grid. So are the polygons. Throws `OffGrid` where a position isn't finite, or is off
+/// the grid, and what `overlay_each` throws.
+template <typename Subjects, typename Clips>
+[[nodiscard]] Overlays overlay_each(const Subjects &subjects, const Clips &clips, Span<Pair> pairs, Operation operation,
+                                    FillRule rule, const Grid &grid) {
+    const auto subject_shapes = detail::shapes_on(grid, subjects);
+    const auto clip_shapes = detail::shapes_on(grid, clips);
+    return detail::overlay_each(subject_shapes, clip_shapes, pairs, operation, rule);
+}
+
+/// The same of groups: for each group of the subjects all of its shapes' rings together, and those of the clips' group at the
+/// same place. Groups of the subjects and as many empty ones of the clips, and `Operation::union_`, make the union of each
+/// group. A group may have no shape, and a shape may be in several groups. Throws what `overlay_each` does, and
+/// `std::invalid_argument` where a group stops before it begins or behind the places, or there aren't as many groups of both.
+template <typename Subjects, typename Clips>
+[[nodiscard]] Overlays overlay_groups(const Subjects &subjects, const Groups &subject_groups, const Clips &clips,
+                                      const Groups &clip_groups, Operation operation, FillRule rule) {
+    const auto subject_shapes = detail::shapes_of(subjects);
+    const auto clip_shapes = detail::shapes_of(clips);
+    return detail::overlay_groups(subject_shapes, subject_groups, clip_shapes, clip_groups, operation, rule);
+}
+
+/// The same of positions, which are first rounded to the grid.
+template <typename Subjects, typename Clips>
+[[nodiscard]] Overlays overlay_groups(const Subjects &subjects, const Groups &subject_groups, const Clips &clips,
+                                      const Groups &clip_groups, Operation operation, FillRule rule,
+                                      const Grid &grid) {
+    const auto subject_shapes = detail::shapes_on(grid, subjects);
+    const auto clip_shapes = detail::shapes_on(grid, clips);
+    return detail::overlay_groups(subject_shapes, subject_groups, clip_shapes, clip_groups, operation, rule);
+}
+
+/// The pairs of a shape of the first list and one of the second whose boxes share a point, each once, in no particular order:
+/// those that an overlay has to look at. `first` is a place of the first list, and `second` one of the second. The box of a
+/// shape goes from its least x and y to its greatest, with its border; a shape without points has none. It takes and throws
+/// what `overlay_each` does.
+template <typename Items, typename Others>
+[[nodiscard]] Pairs candidate_pairs(const Items &shapes, const Others &others) {
+    const auto one = detail::shapes_of(shapes);
+    const auto other = detail::shapes_of(others);
+    return detail::candidate_pairs(one, other);
+}
+
+/// The same of positions, which are first rounded to the grid.
+template <typename Items, typename Others>
+[[nodiscard]] Pairs candidate_pairs(const Items &shapes, const Others &others, const Grid &grid) {
+    const auto one = detail::shapes_on(grid, shapes);
+    const auto other = detail::shapes_on(grid, others);
+    return detail::candidate_pairs(one, other);
+}
+
+/// The pairs of a point and a shape that it is in: by the place of the point, and of one point by that of the shape. `first`
+/// is the place of the point, and `second` that of the shape. It is exact: nothing is rounded.
+///
+///     for (const auto &pair : itree::points_in(wells, parcels, itree::FillRule::non_zero, itree::Border::closed)) {
+///         add(pair.first, pair.second);
+///     }
+///
+/// Shapes are as `overlay_each` takes them, and it throws what `overlay_each` does.
+template <typename Items>
+[[nodiscard]] Pairs points_in(Span<Point> points, const Items &shapes, FillRule rule, Border border) {
+    const auto all = detail::shapes_of(shapes);
+    return detail::points_in(points, all, rule, border);
+}
+
+/// The same of positions: a range of points with floating-point `x` and `y`, and shapes. All are first rounded to the grid,
+/// and what they are then is told.
+template <typename Points, typename Items>
+[[nodiscard]] Pairs points_in(const Points &points, const Items &shapes, FillRule rule, Border border,
+                              const Grid &grid) {
+    std::vector<Position> positions;
+    for (const auto &point : points) positions.push_back(detail::position_of(point));
+    const auto all = detail::shapes_on(grid, shapes);
+    return detail::points_in(grid.round_all(positions), all, rule, border);
+}
+
+/// The pieces of each line that lie inside of rings or along their border, or the pieces that don't. Which ones they are is
+/// said at `itree_clip_lines` of itree.h: a line that rings cross may be moved by half a unit there.
+///
+///     const auto wet = itree::clip_lines(roads, flood, itree::Side::inside, itree::FillRule::non_zero);
+///     for (const auto &piece : wet[0]) draw(piece);
+///
+/// A line goes from each of its points to the next one, and not back to the first. Lines and rings are each given as `overlay`
+/// takes rings: `Rings` of points and of where each line stops, ranges of ranges of points, or either in braces. Throws what
+/// `overlay` does.
+template <typename Lines = detail::InBraces<Point>, typename Items = detail::InBraces<Point>>
+[[nodiscard]] Pieces clip_lines(const Lines &lines, const Items &rings, Side side, FillRule rule) {
+    const auto all_lines = detail::rings_of(lines);
+    const auto all_rings = detail::rings_of(rings);
+    return detail::clip_lines(all_lines, all_rings, side, rule);
+}
+
+/// The same of positions, which are first rounded to the grid. The pieces are points of the grid.
+template <typename Lines = detail::InBraces<Position>, typename Items = detail::InBraces<Position>>
+[[nodiscard]] Pieces clip_lines(const Lines &lines, const Items &rings, Side side, FillRule rule, const Grid &grid) {
+    const auto all_lines = detail::rings_on(grid, lines);
+    const auto all_rings = detail::rings_on(grid, rings);
+    return detail::clip_lines(all_lines, all_rings, side, rule);
+}
+
+/// For each polygon, in order, the place of the polygon in whose hole it lies, the nearest around it; or nothing, where no
+/// other goes round it. So the parent of an island in a lake is the land around the lake.
+///
+///     const auto parent = itree::parents(polygons);
+///     for (std::size_t place = 0; place < polygons.size(); place++) {
+///         if (!parent[place]) draw_with_what_lies_in_it(polygons[place]);
+///     }
+///
+/// It is given an answer of `overlay` or `simplify`, or a `Layer` of such polygons, whose first rings are the outer ones.
+/// Throws `std::invalid_argument` where a ring or a polygon stops before it begins, or behind the points or the rings, and
+/// `std::bad_alloc` where memory was refused.
+[[nodiscard]] inline std::vector<std::optional<std::size_t>> parents(const Layer &polygons) {
+    const auto polygons_of_c = detail::of_c(polygons);
+    std::vector<std::size_t> places(polygons.shape_ends.size());
+    detail::throw_unless_shapes_answered(::itree_polygon_parents(&polygons_of_c, places.data(), places.size()));
+    std::vector<std::optional<std::size_t>> found(places.size());
+    for (std::size_t place = 0; place < found.size(); place++) {
+        if (places[place] != SIZE_MAX) found[place] = places[place];
+    }
+    return found;
+}
+[[nodiscard]] inline std::vector<std::optional<std::size_t>> parents(const Polygons &polygons) {
+    return parents(polygons.layer());
 }
 
 /// The rings of shapes in well-known binary, their positions rounded to the grid: outer rings counterclockwise, and holes

@@ -73,7 +73,11 @@ static int32_t call(int which) {
     static struct itree_height heights[MANY];
     static struct itree_place places[MANY];
     static struct itree_pair found[MANY];
-    const size_t end = MANY;
+    const size_t end = MANY, first = 0, one = 1;
+    const struct itree_shapes shapes = {points, MANY, &end, 1, &one, 1};
+    const struct itree_groups groups = {&first, 1, &one, 1};
+    const struct itree_lines lines = {points, MANY, &end, 1};
+    size_t stop = 0;
     struct itree_pairs *pairs = NULL;
     struct itree_chains *chains = NULL;
     struct itree_polygons *polygons = NULL;
@@ -88,6 +92,11 @@ static int32_t call(int which) {
     case 6: status = itree_overlay(points, MANY, &end, 1, points, MANY, &end, 1, 1, 0, &polygons); break;
     case 7: return itree_locate(edges, MANY, points, MANY, places, MANY, NULL, NULL);
     case 8: status = itree_wkb_read(shape, sizeof shape, shape_ends, 2, &grid, &polygons, NULL); break;
+    case 9: status = itree_overlay_each(&shapes, &groups, &shapes, &groups, 1, 0, &stop, 1, &polygons); break;
+    case 10: status = itree_box_pairs(&shapes, &shapes, &pairs); break;
+    case 11: status = itree_points_in(points, MANY, &shapes, 1, 0, &pairs); break;
+    case 12: status = itree_clip_lines(&lines, points, MANY, &end, 1, 1, 0, &polygons); break;
+    case 13: return itree_polygon_parents(&shapes, &stop, 1);
     }
     const int has_handle = pairs != NULL || chains != NULL || polygons != NULL;
     itree_pairs_free(pairs);
@@ -96,7 +105,7 @@ static int32_t call(int which) {
     return has_handle == (status == ITREE_ANSWERED) ? status : -1;
 }
 
-enum { CALLS = 9 };
+enum { EACH = 9, CALLS = 14 };
 
 static void checks_memory(void) {
     for (int which = 0; which < CALLS; which++) {
@@ -110,7 +119,10 @@ static void checks_memory(void) {
         int ok = 1;
         for (size_t limit = 1; limit < peak; limit += peak / 50 + 1) {
             itree_limit_memory(limit);
-            ok = ok && call(which) == ITREE_REFUSED && itree_memory_peak() <= limit;
+            const int32_t status = call(which);
+            /* Groups of shapes take a smaller arena where a larger one is refused. */
+            ok = ok && (status == ITREE_REFUSED || (which == EACH && status == ITREE_ANSWERED));
+            ok = ok && itree_memory_peak() <= limit;
         }
         check("and with much less", ok);
         itree_limit_memory(0);

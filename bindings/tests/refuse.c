@@ -6,11 +6,14 @@
 void *__real_malloc(size_t size);
 void *__real_realloc(void *block, size_t size);
 
-static size_t left = SIZE_MAX;
+static size_t left = SIZE_MAX, made;
 
 void refuse_after(size_t granted) { left = granted; }
 
+size_t requests_made(void) { return made; }
+
 static int grants(void) {
+    made++;
     if (left == SIZE_MAX) return 1;
     if (left == 0) return 0;
     left--;

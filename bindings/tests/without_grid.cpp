@@ -7,5 +7,9 @@ struct Corner {
 
 int main() {
     const std::vector<std::vector<Corner>> square{{{0, 0}, {1, 0}, {1, 1}, {0, 1}}};
+#if OF_SHAPES
+    return static_cast<int>(itree::candidate_pairs(square, square).size());
+#else
     return static_cast<int>(itree::simplify(square, itree::FillRule::non_zero).size());
+#endif
 }

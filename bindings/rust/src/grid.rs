@@ -237,8 +237,13 @@ impl PositionRings {
         Ok(())
     }
 
+    /// How many rings there are.
+    pub(crate) fn len(&self) -> usize {
+        self.ends.len()
+    }
+
     /// The rings on the grid: their points, and where each stops.
-    fn rounded(&self, grid: &Grid) -> Result<(Vec<Point>, Vec<usize>), GridFault> {
+    pub(crate) fn rounded(&self, grid: &Grid) -> Result<(Vec<Point>, Vec<usize>), GridFault> {
         let mut points = grid.round_all(&self.positions)?;
         let mut ends = Vec::new();
         ends.try_reserve_exact(self.ends.len())?;
@@ -413,7 +418,8 @@ pub fn simplify_on<R: ToRings + ?Sized>(grid: &Grid, rings: &R, rule: FillRule) 
     overlay_rings(rings, Rings::default(), Operation::Union, rule).map_err(|_| GridFault::Refused)
 }
 
-fn rounded<R: ToRings + ?Sized>(grid: &Grid, rings: &R) -> Result<(Vec<Point>, Vec<usize>), GridFault> {
+/// The rings on the grid: their points, and where each stops.
+pub(crate) fn rounded<R: ToRings + ?Sized>(grid: &Grid, rings: &R) -> Result<(Vec<Point>, Vec<usize>), GridFault> {
     let mut all = PositionRings::default();
     rings.add_to(&mut all)?;
     all.rounded(grid)

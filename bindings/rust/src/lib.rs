@@ -1,5 +1,6 @@
-//! Pairs of edges that meet, edges broken where they meet, polygons of what two sets of rings make, and the edge or the
-//! horizontal segment straight below a point, by a library that is proved in Rattle: slices in, a `Result` out.
+//! Pairs of edges that meet, edges broken where they meet, polygons of what two sets of rings make, the same of many shapes
+//! at once, which points lie in which shapes, lines that are clipped, and the edge or the horizontal segment straight below a
+//! point, by a library that is proved in Rattle: slices in, a `Result` out.
 //!
 //! ```
 //! use itree::{below, locate, meetings, Edge, Point, Segment};
@@ -27,10 +28,15 @@ use std::ptr::{self, NonNull};
 use std::slice;
 
 pub use grid::{overlay_on, simplify_on, Grid, GridFault, Position, PositionRings, ToRings};
+pub use layers::{
+    candidate_pairs, clip_lines, clip_lines_by_rings, clip_lines_on, overlay_each, overlay_groups, parents, points_in,
+    Border, Groups, Layer, LayerBuf, LayerFault, Lines, Overlays, OverlaysIter, Pieces, Side,
+};
 pub use limits::{limited_to, memory_peak, stopped_by};
 pub use wkb::{read_wkb, wkb_corners, wkb_srid, Shapes, WkbFault, WkbFaultKind};
 
 mod grid;
+mod layers;
 mod limits;
 mod wkb;
 
@@ -620,6 +626,32 @@ mod calls {
     }
 
     #[repr(C)]
+    pub struct Shapes {
+        pub points: *const Point,
+        pub point_count: usize,
+        pub ring_ends: *const usize,
+        pub ring_count: usize,
+        pub shape_ends: *const usize,
+        pub shape_count: usize,
+    }
+
+    #[repr(C)]
+    pub struct Groups {
+        pub places: *const usize,
+        pub place_count: usize,
+        pub ends: *const usize,
+        pub group_count: usize,
+    }
+
+    #[repr(C)]
+    pub struct Lines {
+        pub points: *const Point,
+        pub point_count: usize,
+        pub ends: *const usize,
+        pub line_count: usize,
+    }
+
+    #[repr(C)]
     #[derive(Clone, Copy)]
     pub struct Place {
         pub found: usize,
@@ -764,6 +796,42 @@ mod calls {
         pub fn itree_polygons_polygon_offsets(polygons: *const Handle, first: *mut *const usize) -> usize;
 
         pub fn itree_polygons_free(polygons: *mut Handle);
+
+        pub fn itree_overlay_each(
+            subjects: *const Shapes,
+            subject_groups: *const Groups,
+            clips: *const Shapes,
+            clip_groups: *const Groups,
+            rule: i32,
+            operation: i32,
+            ends: *mut usize,
+            end_count: usize,
+            polygons: *mut *mut Handle,
+        ) -> i32;
+
+        pub fn itree_box_pairs(shapes: *const Shapes, others: *const Shapes, pairs: *mut *mut Handle) -> i32;
+
+        pub fn itree_points_in(
+            points: *const Point,
+            count: usize,
+            shapes: *const Shapes,
+            rule: i32,
+            border: i32,
+            pairs: *mut *mut Handle,
+        ) -> i32;
+
+        pub fn itree_clip_lines(
+            lines: *const Lines,
+            rings: *const Point,
+            count: usize,
+            ring_ends: *const usize,
+            ring_count: usize,
+            rule: i32,
+            side: i32,
+            pieces: *mut *mut Handle,
+        ) -> i32;
+
+        pub fn itree_polygon_parents(polygons: *const Shapes, parents: *mut usize, parent_count: usize) -> i32;
 
         pub fn itree_locate(
             edges: *const Edge,
