@@ -664,11 +664,6 @@ class Faults(unittest.TestCase):
             itree.simplify([], grid=0.5)
 
 
-class Terminal(io.StringIO):
-    def isatty(self):
-        return True
-
-
 class Command(unittest.TestCase):
     """`python3 -m itree`, over files of GeoJSON."""
 
@@ -692,9 +687,9 @@ class Command(unittest.TestCase):
         ran = subprocess.run([sys.executable, "-m", "itree", *words], **how)
         return ran.returncode, ran.stdout, ran.stderr
 
-    def called(self, *words, errors=io.StringIO):
+    def called(self, *words):
         """The same of a call in this process."""
-        output, faults = io.StringIO(), errors()
+        output, faults = io.StringIO(), io.StringIO()
         with contextlib.redirect_stdout(output), contextlib.redirect_stderr(faults):
             try:
                 status = command.main(list(words))
@@ -790,12 +785,6 @@ class Command(unittest.TestCase):
         status, _, faults = self.ran("simplify", self.files[0], stdout=writing)
         os.close(writing)
         self.assertEqual((status, faults), (1, "itree: the standard output was closed\n"))
-
-    def test_tells_a_terminal_how_far_it_is(self):
-        status, output, faults = self.called("simplify", self.files[0], errors=Terminal)
-        self.assertEqual((status, json.loads(output)["type"]), (0, "Feature"))
-        said = f"reading {self.files[0]}", f"union by the unit {2.0**-27}", "writing 1 polygons of 8 points"
-        self.assertEqual(faults, "".join(f"itree: {it}\n" for it in said))
 
 
 def random_star(numbers, middle, near, far, corners):

@@ -1062,6 +1062,21 @@ each: List[bytes] = polygons.to_wkb(srid=4326, each=True)
 drawn: str = polygons.to_svg()
 pairs = itree.meetings(edges, memory_limit=10**6)
 view = itree.meetings(edges, as_array=True, memory_limit=10**6)
+places = polygons.parents()
+overlays: itree.Overlays = itree.overlay_each([polygons, None, b""], polygons[:3], "xor", pairs=[(0, 1)], grid=grid)
+overlays = itree.overlay_each(overlays, {"type": "FeatureCollection", "features": []}, pairs=memoryview(b""))
+overlays = itree.overlay_each(itree.Rings(array.array("i"), [0]), [[[(0, 0), (9, 9)]]], rule="evenodd", memory_limit=10**9)
+each = overlays.to_wkb(srid=4326)
+polygons = overlays[0]
+several: List[itree.Polygons] = overlays[1:]
+view = overlays.offsets
+pairs = itree.candidate_pairs(overlays, [polygons]) + itree.points_in([(0.5, 1)], polygons, border="half-open")
+view = itree.candidate_pairs(polygons, polygons, True)
+view = itree.points_in(array.array("d"), polygons, as_array=True)
+pieces: itree.Pieces = itree.clip([[(0, 0), (9, 9.5)], None], polygons, "outside", grid=grid)
+pieces = itree.clip({"type": "LineString", "coordinates": []}, [b""])
+piece: List[List[Tuple[float, float]]] = pieces[0]
+each = pieces.to_wkb()
 version: str = itree.__version__
 itree.meetings([(0.5, 1, 2, 3)])  # error
 itree.meetings("abcd")  # error
@@ -1078,6 +1093,11 @@ itree.simplify(7)  # error
 itree.simplify([], memory_limit="1 GB")  # error
 data = polygons.to_wkb(each=True)  # error
 unit = polygons.grid  # error
+itree.overlay_each(7, [])  # error
+itree.overlay_each([], [], "sum")  # error
+itree.points_in([(1, 2)], polygons, border="half")  # error
+view = itree.points_in([(1, 2)], polygons)  # error
+itree.clip([], [], "in")  # error
 """
 
 

@@ -67,7 +67,30 @@ Shapes
     `python3 -m itree overlay a.geojson b.geojson` takes files: see its --help.
 
     There are no offsets or buffers, no triangulation, no coordinates of 64 bits,
-    no Z, and no telling which island lies in which hole.
+    and no Z.
+
+Layers
+    What `overlay_each`, `candidate_pairs` and `points_in` take: many shapes, each
+    of its own, in one call.
+
+    - a list or an array of shapely's objects, a GeoSeries, a GeoDataFrame;
+    - a list of well-known binary, of GeoJSON, of lists of rings, of Polygons, or
+      of a mixture; a FeatureCollection. None is nothing;
+    - Polygons, each polygon a shape; Overlays; Rings, each ring a shape.
+
+    >>> fields = [[[(x, 0), (x + 2, 0), (x + 2, 2), (x, 2)]] for x in (0, 2, 4)]
+    >>> flood = [[[(1, 1), (5, 1), (5, 3), (1, 3)]]]
+    >>> pairs = itree.candidate_pairs(fields, flood)
+    >>> wet = itree.overlay_each(fields, flood, "intersection", pairs=pairs)
+    >>> [(pair, len(polygons)) for pair, polygons in zip(pairs, wet)]
+    [((0, 0), 1), ((1, 0), 1), ((2, 0), 1)]
+    >>> itree.points_in([(1, 1), (2, 1), (9, 9)], fields)
+    [(0, 0), (1, 0), (1, 1)]
+    >>> itree.clip([[(-1, 1), (9, 1)]], fields[1])[0]
+    [[(2, 1), (4, 1)]]
+
+    Where there are floats, all arguments of a call are on one grid. itree.geopandas
+    has overlay, dissolve, unary_union, sjoin and clip by geopandas' signatures.
 
 Long calls
     A call runs without Python's lock. In the main thread KeyboardInterrupt stops
@@ -111,6 +134,8 @@ from __future__ import annotations
 from typing import List as _List
 
 from . import _library
+from ._clip import clip
+from ._each import candidate_pairs, overlay_each
 from ._edges import (
     Chains,
     Crossing,
@@ -126,7 +151,10 @@ from ._edges import (
 )
 from ._grid import Grid
 from ._overlay import make_valid, overlay, simplify, unary_union
+from ._overlays import Overlays
 from ._polygons import Polygon, Polygons
+from ._pieces import Pieces
+from ._points import points_in
 from ._rings import Rings
 
 __all__ = [
@@ -135,10 +163,14 @@ __all__ = [
     "Grid",
     "Heights",
     "Overlap",
+    "Overlays",
+    "Pieces",
     "Polygon",
     "Polygons",
     "Rings",
     "below",
+    "candidate_pairs",
+    "clip",
     "first_meeting",
     "how_they_meet",
     "locate",
@@ -146,6 +178,8 @@ __all__ = [
     "meetings",
     "meetings_between",
     "overlay",
+    "overlay_each",
+    "points_in",
     "simplify",
     "snap",
     "unary_union",

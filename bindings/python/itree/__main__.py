@@ -6,29 +6,34 @@ It ends with 0; with 1 where memory is refused, or the answer isn't taken; with 
 from __future__ import annotations
 
 import argparse
-import json
 import os
 import sys
-from typing import Any, Iterable, List, NamedTuple, Optional
+from typing import Iterable, List, NoReturn, Optional, Sequence
 
-from . import _lines
-from ._gathered import corners_of
-from ._grid import fitted
+from . import _files, _lines, _tasks
+from ._files import Answer
 from ._library import version
 from ._overlay import OPERATIONS, RULES, overlaid
-from ._polygons import Polygons
+from ._progress import Progress
+from ._tasks import Task
 
 DESCRIPTION = """\
-Writes what is made of polygons, as GeoJSON to the standard output: a Feature with a MultiPolygon, whose outer rings run
-counterclockwise and whose holes run clockwise. A FILE is of GeoJSON, or - for the standard input: polygons, as
-geometries, features or collections of these, all of which are taken together. Coordinates are first rounded to whole
-multiples of a unit, a power of two, which the answer's properties tell: so points within a unit of an edge may be told
-wrongly, and no others.
+Writes what is made of polygons, as GeoJSON to the standard output, or into files: a Feature with a MultiPolygon, whose
+outer rings run counterclockwise and whose holes run clockwise. A FILE has polygons, all of which are taken together; - is
+the standard input. It is what its ending says: GeoJSON (.geojson, .json), lines of it (.geojsonl, .ndjson), well-known
+binary in hex, a shape in each line (.wkb.hex, .wkbhex); with fiona GeoPackage (.gpkg, or FILE.gpkg:LAYER), Shapefile
+(.shp) and FlatGeobuf (.fgb); any other is read as GeoJSON. Coordinates are first rounded to whole multiples of a unit, a
+power of two, which the answer's properties tell: so points within a unit of an edge may be told wrongly, and no others.
 """
 LINES = """\
 Without files, as in `overlay union nonzero`, it reads lines `subject X Y ..` and `clip X Y ..` from the standard input, each
 of a ring of whole numbers, and prints lines `polygon X Y ..` and `hole X Y ..`, as the native program does.
 """
+
+
+# Words that are of files alone.
+_OF_FILES = "unit", "each", "by", "features", "digits", "output"
+_MOST_DIGITS = 17
 
 
 class Fault(Exception):
@@ -37,13 +42,6 @@ class Fault(Exception):
     def __init__(self, said: str, status: int = 2) -> None:
         super().__init__(said)
         self.status = status
-
-
-class _File(NamedTuple):
-    """What a file has, and its name."""
-
-    shape: Any
-    name: str
 
 
 def main(words: Optional[List[str]] = None) -> int:
@@ -83,7 +81,28 @@ def _parser() -> argparse.ArgumentParser:
     for command in overlay, simplify:
         command.add_argument("--rule", choices=list(RULES), default="nonzero", help="nonzero where none is given")
         command.add_argument("--unit", type=float, help="a power of two; the finest that fits where none is given")
+        _add_what_is_written(command)
     return parser
+
+
+def _add_what_is_written(command: argparse.ArgumentParser) -> None:
+    one = command.add_mutually_exclusive_group()
+    said = "each feature of the first file by itself, and all of the second; it keeps its properties, and goes where nothing is left"
+    one.add_argument("--each", action="store_true", help=said)
+    said = "the same of those features together that have one value in a field: one feature for each value"
+    one.add_argument("--by", metavar="FIELD", help=said)
+    command.add_argument("--features", action="store_true", help="each polygon is a feature of its own")
+    said = "how many digits stand behind the point; without it as many as tell each number. Rounded so, edges may cross"
+    command.add_argument("--digits", type=_digits, metavar="N", help=said)
+    said = "a file to write into, as its ending says; .svg draws the files and the answer. May be given several times"
+    command.add_argument("--output", "-o", action="append", default=[], metavar="FILE", help=said)
+
+
+def _digits(text: str) -> int:
+    number = int(text)
+    if not 0 <= number <= _MOST_DIGITS:
+        raise ValueError
+    return number
 
 
 def _take_words(parser: argparse.ArgumentParser, asked: argparse.Namespace) -> None:
@@ -93,8 +112,10 @@ def _take_words(parser: argparse.ArgumentParser, asked: argparse.Namespace) -> N
         (asked.operation, asked.rule), asked.files = files, []
     elif asked.command == "overlay" and len(files) not in (0, 2):
         parser.error(f"{len(files)} files; two, or an operation and a rule, or none are wanted")
-    if not asked.files and asked.unit is not None:
-        parser.error("--unit: lines have whole numbers")
+    if not asked.files:
+        for word in _OF_FILES:
+            if getattr(asked, word) not in (None, False, []):
+                parser.error(f"--{word}: lines have whole numbers, and nothing else")
 
 
 def _run_lines(asked: argparse.Namespace) -> None:
@@ -112,50 +133,41 @@ def _run_lines(asked: argparse.Namespace) -> None:
 
 
 def _run(asked: argparse.Namespace) -> None:
-    files = [_read(name) for name in asked.files]
+    """Answers files."""
+    task = Task(
+        asked.operation,
+        asked.rule,
+        asked.unit,
+        asked.each,
+        asked.by,
+        asked.digits,
+        asked.features,
+        any(_files.ending_of(name) == ".svg" for name in asked.output),
+    )
     try:
-        grid = fitted(corners_of(files, kept=True), asked.unit)
-        _tell(f"{asked.operation} by the unit {grid.unit}")
-        answer = overlaid(files, asked.operation, asked.rule, grid)
+        for name in asked.output:
+            _files.check_output(name)
+        with Progress(sys.stderr) as progress:
+            sources = [
+                _files.read(name, place == 0 and task.has_members(), progress) for place, name in enumerate(asked.files)
+            ]
+            answer = _tasks.done(task, sources, progress)
+            _write(answer, asked.output, progress)
     except (TypeError, ValueError) as fault:
         raise Fault(str(fault)) from None
     except MemoryError:
         raise Fault("memory was refused", 1) from None
-    _tell(f"writing {len(answer)} polygons of {len(answer.points)} points")
-    _write(answer, {"operation": asked.operation, "rule": asked.rule, "unit": grid.unit})
-
-
-def _tell(said: str) -> None:
-    """Says how far it is, where someone looks on."""
-    if sys.stderr.isatty():
-        print(f"itree: {said}", file=sys.stderr)
-
-
-def _read(name: str) -> _File:
-    _tell(f"reading {name}")
-    try:
-        shape = json.loads(_bytes_of(name))
     except OSError as fault:
-        raise Fault(f"{name}: {fault.strerror}") from None
-    except json.JSONDecodeError as fault:
-        raise Fault(f"{name}, line {fault.lineno}, column {fault.colno}: {fault.msg}") from None
-    except (ValueError, RecursionError) as fault:
-        raise Fault(f"{name}: {fault}") from None
-    if not isinstance(shape, dict):
-        raise Fault(f"{name}: no object; one of GeoJSON is wanted")
-    return _File(shape, name)
+        raise Fault(f"{'the standard input' if fault.filename is None else fault.filename}: {fault.strerror}") from None
 
 
-def _bytes_of(name: str) -> bytes:
-    if name == "-":
-        return sys.stdin.buffer.read()
-    with open(name, "rb") as file:
-        return file.read()
-
-
-def _write(answer: Polygons, properties: Any) -> None:
-    feature = {"type": "Feature", "properties": properties, "geometry": answer.__geo_interface__}
-    _print([json.dumps(feature), "\n"])
+def _write(answer: Answer, names: Sequence[str], progress: Progress) -> None:
+    try:
+        _files.write(answer, names, progress)
+    except BrokenPipeError:
+        _close_output()
+    except OSError as fault:
+        raise Fault(f"{fault.filename or 'the standard output'}: {fault.strerror}", 1) from None
 
 
 def _print(parts: Iterable[str]) -> None:
@@ -163,11 +175,15 @@ def _print(parts: Iterable[str]) -> None:
         sys.stdout.writelines(parts)
         sys.stdout.flush()
     except BrokenPipeError:
-        # Who reads has enough. What is left isn't written at the end, either.
-        os.dup2(os.open(os.devnull, os.O_WRONLY), sys.stdout.fileno())
-        raise Fault("the standard output was closed", 1) from None
+        _close_output()
     except OSError as fault:
         raise Fault(f"the standard output: {fault.strerror}", 1) from None
+
+
+def _close_output() -> NoReturn:
+    """Who reads has enough. What is left isn't written at the end, either."""
+    os.dup2(os.open(os.devnull, os.O_WRONLY), sys.stdout.fileno())
+    raise Fault("the standard output was closed", 1) from None
 
 
 if __name__ == "__main__":

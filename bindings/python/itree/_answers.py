@@ -9,7 +9,7 @@ import sys
 from typing import Any, Callable, Iterable, Iterator, List, Literal, NamedTuple, Tuple
 
 from ._calls import made
-from ._library import LENGTHS, checked, library
+from ._library import LENGTHS, ShapesOfC, checked, library
 from ._memory import address_of, numpy_where_loaded, room_for
 from ._rows import HeldRows
 from ._shapes import HeldRings
@@ -74,7 +74,7 @@ def pairs_that_meet(edges: HeldRows, limit: int) -> memoryview:
     kept = edges.kept(), handle
     call = library.itree_meetings_all
     checked(made(call, edges.at, edges.count, handle.to_write, size=edges.count, limit=limit, kept=kept), limit)
-    return _numbers_of(handle)
+    return numbers_of(handle)
 
 
 def pairs_between(edges: HeldRows, others: HeldRows, limit: int) -> memoryview:
@@ -85,10 +85,10 @@ def pairs_between(edges: HeldRows, others: HeldRows, limit: int) -> memoryview:
     size = edges.count + others.count
     call = library.itree_meetings_between
     checked(made(call, *rows, handle.to_write, size=size, limit=limit, kept=kept), limit)
-    return _numbers_of(handle)
+    return numbers_of(handle)
 
 
-def _numbers_of(handle: Handle) -> memoryview:
+def numbers_of(handle: Handle) -> memoryview:
     """The numbers of a handle of pairs, which is given back with the last view of them."""
     at = handle.at
     return _held(handle, library.itree_pairs_first(at), 2 * library.itree_pairs_count(at), "Q")
@@ -141,6 +141,10 @@ class Lists(NamedTuple):
         """The rings as `overlay` takes them, for as long as this stays."""
         return self.points, self.point_count, self.rings + 8, self.ring_count
 
+    def shapes_of_c(self) -> ShapesOfC:
+        """The polygons as a layer's shapes, for as long as this stays."""
+        return ShapesOfC(*self.given(), self.polygons + 8, self.polygon_count)
+
 
 def polygons_of(subject: HeldRings, clip: HeldRings, rule: int, operation: int, limit: int) -> Lists:
     """The polygons, where the library wrote them.
@@ -150,11 +154,15 @@ def polygons_of(subject: HeldRings, clip: HeldRings, rule: int, operation: int, 
     handle = Handle(library.itree_polygons_free)
     words = *subject.given, *clip.given, rule, operation, handle.to_write
     size = subject.given[1] + clip.given[1]
-    status = made(library.itree_overlay, *words, size=size, limit=limit, kept=(subject, clip, handle))
+    check_rings(made(library.itree_overlay, *words, size=size, limit=limit, kept=(subject, clip, handle)), limit)
+    return lists_in(handle)
+
+
+def check_rings(status: int, limit: int) -> None:
+    """Raises what a status says of a call that is given rings, whose offsets may be the caller's."""
     if status == LENGTHS:
         raise ValueError("the offsets of rings: one stops before it begins, or behind the points")
     checked(status, limit)
-    return lists_in(handle)
 
 
 def lists_in(handle: Handle) -> Lists:

@@ -14,6 +14,7 @@ from collections.abc import Iterator as IsIterator
 from typing import Any, Callable, Iterable, List, Optional, Sequence, Tuple, TypeVar
 
 from . import _rows, _shapely, _shapes, _wkb
+from ._answers import Lists
 from ._grid import Grid, fitted
 from ._library import GridOfC
 from ._memory import address_of, numpy_where_loaded
@@ -26,11 +27,12 @@ _WHOLE = GridOfC(0, 0, 0)
 _Found = TypeVar("_Found")
 
 
-class _Binaries:
+class Binaries:
     """Shapes as well-known binary, and shapely's objects that it was made of, by their places."""
 
     def __init__(self, objects: Sequence[Any], items: Sequence[bytes], named: Callable[[int], str]) -> None:
         self._objects, self._items, self._named = objects, items, named
+        self._has_empty = True
         made: List[bytes] = _shapely.written(objects) if objects else []
         self.binary = _wkb.joined([*made, *items] if items else made, named)
 
@@ -39,23 +41,21 @@ class _Binaries:
         try:
             return call(self.binary)
         except _wkb.BinaryFault as fault:
-            if fault.kind in _wkb.OF_NUMBERS and fault.shape < len(self._objects):
+            is_object = fault.shape < len(self._objects)
+            if fault.kind in _wkb.OF_NUMBERS and is_object:
                 raise ValueError(f"{_wkb.row_of(self.binary, fault)}: {fault.said}") from None
-            if fault.kind != _wkb.KIND or fault.shape >= len(self._objects):
+            if fault.kind != _wkb.KIND or not is_object:
                 raise ValueError(str(fault)) from None
-            places = [place for place, it in enumerate(self._objects) if not it.is_empty]
-            if len(places) == len(self._objects):
+            if not self._has_empty:
                 raise TypeError(f"{self._named(fault.shape)}: {fault.said}") from None
-        self._keep(places)
+        self._leave_empty()
         return self.by(call)
 
-    def _keep(self, places: List[int]) -> None:
-        """Keeps shapely's objects at some places."""
-        named, less = self._named, len(self._objects) - len(places)
-        self._objects = [self._objects[place] for place in places]
-        self._named = lambda place: named(places[place] if place < len(places) else place + less)
-        items = [*_shapely.written(self._objects), *self._items]
-        self.binary = _wkb.joined(items, self._named)
+    def _leave_empty(self) -> None:
+        """Writes nothing in place of shapely's objects that are empty."""
+        self._has_empty = False
+        self._objects = [None if it is None or it.is_empty else it for it in self._objects]
+        self.binary = _wkb.joined([*_shapely.written(self._objects), *self._items], self._named)
 
 
 class Gathered:
@@ -66,7 +66,7 @@ class Gathered:
     def __init__(self, name: str) -> None:
         self.name = name
         self.own: Any = None  # Rings, or Polygons
-        self.binaries: Optional[_Binaries] = None
+        self.binaries: Optional[Binaries] = None
         self.shapes: Optional[GatheredRings] = None  # of GeoJSON, doubles
         self.rings: Optional[GatheredRings] = None  # whole numbers, or doubles where a grid was given
         self.crs: Any = None
@@ -93,7 +93,7 @@ class Gathered:
             numbers.extend(self.binaries.by(_wkb.corners))
         if self.shapes is not None:
             numbers.extend(self.shapes.numbers)
-        return all(map(float.is_integer, numbers)) and (not numbers or _fit(min(numbers), max(numbers)))
+        return are_whole(numbers)
 
     def corners(self) -> array.array[float]:
         """Positions, among which are the least and the greatest coordinates on each axis."""
@@ -102,10 +102,10 @@ class Gathered:
         if self.binaries is not None:
             numbers.extend(self.binaries.by(_wkb.corners))
         if self.own is not None:
-            numbers.extend(_bounds(self.own._numbers, self._row_of_own))
+            numbers.extend(bounds(self.own._numbers, self._row_of_own))
         for rings in self.shapes, self.rings:
             if rings is not None:
-                numbers.extend(_bounds(memoryview(rings.numbers), rings.row))
+                numbers.extend(bounds(memoryview(rings.numbers), rings.row))
         return numbers
 
     def _row_of_own(self, place: int) -> str:
@@ -131,14 +131,17 @@ class Gathered:
         """Polygons go by their coordinates, for the grid may be another than theirs."""
         own = self.own
         if own is not None and isinstance(own, Polygons):
-            self.own, self.binaries = None, _Binaries((), (own.to_wkb(srid=0),), lambda _: self.name)
+            self.own, self.binaries = None, Binaries((), (own.to_wkb(srid=0),), lambda _: self.name)
 
 
-def _fit(least: float, greatest: float) -> bool:
-    return _LEAST <= least and greatest <= _GREATEST
+def are_whole(numbers: array.array[float]) -> bool:
+    """Whether all are whole numbers of 32 bits."""
+    if not all(map(float.is_integer, numbers)):
+        return False
+    return not numbers or (_LEAST <= min(numbers) and max(numbers) <= _GREATEST)
 
 
-def _bounds(numbers: memoryview, row_of: Callable[[int], str]) -> List[float]:
+def bounds(numbers: memoryview, row_of: Callable[[int], str]) -> List[float]:
     """The least and the greatest position of flat numbers. Raises ValueError where one isn't finite."""
     if len(numbers) == 0:
         return []
@@ -174,8 +177,13 @@ def _held_own(own: Rings, grid: Optional[Grid], name: str) -> HeldRings:
     return HeldRings((at, count, ends, rings), (room, own))
 
 
+def lists_of_binary(binary: _wkb.Binary, grid: Optional[Grid]) -> Lists:
+    """The rings of shapes in well-known binary, in units of a grid, or as they are."""
+    return _wkb.read(binary, _WHOLE if grid is None else grid.of_c(), grid)
+
+
 def _held_binary(binary: _wkb.Binary, grid: Optional[Grid]) -> HeldRings:
-    lists = _wkb.read(binary, _WHOLE if grid is None else grid.of_c(), grid)
+    lists = lists_of_binary(binary, grid)
     return HeldRings(lists.given(), lists)
 
 
@@ -215,7 +223,7 @@ class _Gatherer:
         """What the argument has."""
         found, name = self._gathered, self._gathered.name
         if isinstance(given, Rings):
-            self._check_floats(given)
+            check_floats(given, name, self._has_grid)
             found.own = given
         elif isinstance(given, Polygons):
             found.own = given
@@ -242,7 +250,7 @@ class _Gatherer:
             places = [at for at, it in enumerate(given) if it is not None]
             return f"{name}, place {places[place]}"
 
-        self._gathered.binaries = _Binaries(objects, (), named)
+        self._gathered.binaries = Binaries(objects, (), named)
 
     def _add_each(self, given: Any) -> None:
         name = self._gathered.name
@@ -267,7 +275,7 @@ class _Gatherer:
             self._know(given.crs, given.srid)
             self._items.append((given.to_wkb(srid=0), where))
         elif isinstance(given, Rings):
-            self._check_floats(given)
+            check_floats(given, self._gathered.name, self._has_grid)
             self._rings += [GivenRing(ring, f"{where}, ring {it}") for it, ring in enumerate(given)]
         else:
             return self._add_series(given, where) or self._add_shape(given, where)
@@ -275,15 +283,15 @@ class _Gatherer:
 
     def _add_series(self, given: Any, where: str) -> bool:
         """Whether it is a GeoSeries, a GeoDataFrame or an array of geopandas', which is added."""
-        series = _series_of(given)
+        series = series_of(given)
         if series is None:
             return False
         self._know(series.crs, 0)
-        listed = _listed(series)
+        objects = listed(series)
         if where == self._gathered.name:
-            self._write_objects(listed, where)
+            self._write_objects(objects, where)
         else:
-            self._objects += [(it, f"{where}, place {at}") for at, it in enumerate(listed) if it is not None]
+            self._objects += [(it, f"{where}, place {at}") for at, it in enumerate(objects) if it is not None]
         return True
 
     def _add_shape(self, given: Any, where: str) -> bool:
@@ -292,13 +300,6 @@ class _Gatherer:
             return False
         self._shapes.append(_shapes.rings_of_shape(shape, where, self._kept))
         return True
-
-    def _check_floats(self, rings: Rings) -> None:
-        if rings.has_floats and not self._has_grid:
-            raise TypeError(
-                f"{self._gathered.name}: floats; whole numbers are wanted; {_rows._NUMPY_SCALES}; "
-                "or give a grid: itree.Grid.fit(...)"
-            )
 
     def _know(self, crs: Any, srid: int) -> None:
         found = self._gathered
@@ -310,7 +311,7 @@ class _Gatherer:
         if self._objects or self._items:
             names = [name for _, name in [*self._objects, *self._items]]
             objects, items = [it for it, _ in self._objects], [it for it, _ in self._items]
-            found.binaries = _Binaries(objects, items, names.__getitem__)
+            found.binaries = Binaries(objects, items, names.__getitem__)
         if self._shapes:
             rings = (ring for shape in self._shapes for ring in shape)
             found.shapes = GatheredRings(rings, _shapes.directed_floats, "d")
@@ -322,6 +323,14 @@ class _Gatherer:
 
 
 _WANTED = "rings, or what has a __geo_interface__,"
+
+
+def check_floats(rings: Rings, name: str, has_grid: bool) -> None:
+    """Raises TypeError of floats where no grid was given."""
+    if rings.has_floats and not has_grid:
+        raise TypeError(
+            f"{name}: floats; whole numbers are wanted; {_rows._NUMPY_SCALES}; or give a grid: itree.Grid.fit(...)"
+        )
 
 
 def one_of(items: Iterable[Any], called: str) -> Any:
@@ -336,7 +345,7 @@ def _is_view_of_bytes(given: Any) -> bool:
     return isinstance(given, memoryview) and given.format == "B" and isinstance(given.obj, (bytes, bytearray))
 
 
-def _series_of(given: Any) -> Any:
+def series_of(given: Any) -> Any:
     """What has shapes and a crs, of a GeoSeries, a GeoDataFrame or an array of geopandas'; or None."""
     geopandas: Any = sys.modules.get("geopandas")
     if geopandas is None or not hasattr(geopandas, "GeoSeries"):
@@ -349,7 +358,7 @@ def _series_of(given: Any) -> Any:
     return given if isinstance(given, getattr(arrays, "GeometryArray", ())) else None
 
 
-def _listed(series: Any) -> List[Any]:
+def listed(series: Any) -> List[Any]:
     """The shapes of an array of geopandas', with None where there is none."""
     numpy: Any = importlib.import_module("numpy")
     base = _shapely.base()
@@ -373,7 +382,7 @@ def gathered(named: Sequence[Tuple[Any, str]], has_grid: bool, kept: bool) -> Li
 def _alone(given: Any, name: str) -> Gathered:
     """One of shapely's objects: by far the most frequent, and the shortest way."""
     found = Gathered(name)
-    found.binaries = _Binaries((given,), (), lambda _: name)
+    found.binaries = Binaries((given,), (), lambda _: name)
     return found
 
 

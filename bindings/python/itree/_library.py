@@ -13,11 +13,13 @@ _status = ctypes.c_int32
 # What each call answers, and what it takes.
 _CALLS = {
     "itree_below": (_status, [_address, _length, _address, _length, _address, _length, _address]),
+    "itree_box_pairs": (_status, [_address, _address, _address]),
     "itree_chains_count": (_length, [_address]),
     "itree_chains_free": (None, [_address]),
     "itree_chains_offsets": (_address, [_address]),
     "itree_chains_point_count": (_length, [_address]),
     "itree_chains_points": (_address, [_address]),
+    "itree_clip_lines": (_status, [_address, *[_address, _length] * 2, _status, _status, _address]),
     "itree_first_meeting": (_status, [_address, _length, _address, _address]),
     "itree_grid_fit": (_status, [_address, _length, _address, _address]),
     "itree_grid_positions": (_status, [_address, _address, _length, _address, _length]),
@@ -28,9 +30,12 @@ _CALLS = {
     "itree_meetings_all": (_status, [_address, _length, _address]),
     "itree_meetings_between": (_status, [_address, _length, _address, _length, _address]),
     "itree_overlay": (_status, [*[_address, _length] * 4, _status, _status, _address]),
+    "itree_overlay_each": (_status, [*[_address] * 4, _status, _status, _address, _length, _address]),
     "itree_pairs_count": (_length, [_address]),
     "itree_pairs_first": (_address, [_address]),
     "itree_pairs_free": (None, [_address]),
+    "itree_points_in": (_status, [_address, _length, _address, _status, _status, _address]),
+    "itree_polygon_parents": (_status, [_address, _address, _length]),
     "itree_polygons_free": (None, [_address]),
     "itree_polygons_points": (_length, [_address, _address]),
     "itree_polygons_polygon_offsets": (_length, [_address, _address]),
@@ -51,6 +56,31 @@ class GridOfC(ctypes.Structure):
     """itree_grid: the origin in units, and the exponent of the unit."""
 
     _fields_ = [("x", ctypes.c_int64), ("y", ctypes.c_int64), ("exponent", ctypes.c_int32)]
+
+
+class ShapesOfC(ctypes.Structure):
+    """itree_shapes: the points of all rings, where each ring stops among them, and each shape among the rings."""
+
+    _fields_ = [
+        ("points", _address),
+        ("point_count", _length),
+        ("ring_ends", _address),
+        ("ring_count", _length),
+        ("shape_ends", _address),
+        ("shape_count", _length),
+    ]
+
+
+class GroupsOfC(ctypes.Structure):
+    """itree_groups: the places of the shapes of all groups, and where each group stops among them."""
+
+    _fields_ = [("places", _address), ("place_count", _length), ("ends", _address), ("group_count", _length)]
+
+
+class LinesOfC(ctypes.Structure):
+    """itree_lines: the points of all lines, and where each line stops among them."""
+
+    _fields_ = [("points", _address), ("point_count", _length), ("ends", _address), ("line_count", _length)]
 
 
 class PlaceOfC(ctypes.Structure):

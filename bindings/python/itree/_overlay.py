@@ -146,12 +146,9 @@ def overlaid(
     memory_limit: Optional[int] = None,
 ) -> Polygons:
     """`overlay` of one or two shapes, each with the name by which its faults are told."""
-    if operation not in OPERATIONS:
-        raise ValueError(f"the operation {operation!r}: one of {', '.join(OPERATIONS)} is wanted")
-    if rule not in RULES:
-        raise ValueError(f"the rule {rule!r}: one of {', '.join(RULES)} is wanted")
-    if not isinstance(grid, (Grid, type(None))):
-        raise TypeError(f"the grid is {type(grid).__name__}; a Grid or None is wanted")
+    number_in(OPERATIONS, operation, "operation")
+    number_in(RULES, rule, "rule")
+    check_grid(grid)
     limit = limit_of(memory_limit)
     direct = _direct.taken(named, rule, grid)
     if direct is not None:
@@ -164,3 +161,16 @@ def overlaid(
         grid = _gathered.chosen(items)
     subject, clip = _gathered.held(items, grid)
     return Polygons(_answers.polygons_of(subject, clip, RULES[rule], OPERATIONS[operation], limit), grid, crs, srid)
+
+
+def number_in(numbers: Dict[str, int], word: str, called: str) -> int:
+    """The number of a word. Raises ValueError where the word is none of them."""
+    if word not in numbers:
+        raise ValueError(f"the {called} {word!r}: one of {', '.join(numbers)} is wanted")
+    return numbers[word]
+
+
+def check_grid(grid: object) -> None:
+    """Raises TypeError of what is neither a grid nor None."""
+    if not isinstance(grid, (Grid, type(None))):
+        raise TypeError(f"the grid is {type(grid).__name__}; a Grid or None is wanted")

@@ -9,9 +9,10 @@ import pickle
 from typing import Any, Dict, Iterator, List, Literal, NamedTuple, Optional, Sequence, Tuple, Union, overload
 
 from . import _answers, _picture, _shapely, _wkb
+from ._calls import made
 from ._grid import Grid
 from ._library import GridOfC, checked, library
-from ._memory import view_of
+from ._memory import room_for, view_of
 
 # Whole numbers, or floats where a grid was given.
 Points = List[Tuple[float, float]]
@@ -20,6 +21,8 @@ _WHOLE = GridOfC(0, 0, 0)
 _LONG = 200
 # Of a picture in a notebook: as many steps as its longer side has, where there are more points.
 _STEPS = 3000
+# A place that is none.
+_NONE = ctypes.c_size_t(-1).value
 
 
 class Polygon(NamedTuple):
@@ -203,6 +206,27 @@ class Polygons(Sequence[Polygon]):
         starts = list(self._places(told))
         return [data[start:stop] for start, stop in zip(starts, starts[1:])]
 
+    def parents(self) -> List[Optional[int]]:
+        """For each polygon the place of the one in whose hole it lies, the nearest around it; or None.
+
+        So an island's is the land around its lake.
+
+        >>> import itree
+        >>> land, lake, island = ([(x, x), (y, x), (y, y), (x, y)] for x, y in ((0, 9), (1, 8), (3, 6)))
+        >>> polygons = itree.simplify([land, lake, island], "evenodd")
+        >>> [(polygon.outer[0], parent) for polygon, parent in zip(polygons, polygons.parents())]
+        [((0, 0), None), ((3, 3), 0)]
+
+        Raises MemoryError where memory was refused.
+        """
+        count = len(self)
+        room, at = room_for(count, "Q")
+        shapes = self._lists.shapes_of_c()
+        words = ctypes.byref(shapes), at, count
+        size, kept = self._lists.point_count, (self._lists, shapes, room)
+        checked(made(library.itree_polygon_parents, *words, size=size, kept=kept))
+        return [None if parent == _NONE else parent for parent in room]
+
     def to_svg(self) -> str:
         """The polygons as a picture: SVG, with y upwards, as wide and high as they are."""
         return _picture.drawn(self._views().numbers, self.ring_offsets)
@@ -215,6 +239,18 @@ class Polygons(Sequence[Polygon]):
     def given(self) -> Tuple[int, int, int, int]:
         """The rings as the library takes them: points, how many, and where each ring stops, for as long as this stays."""
         return self._lists.given()
+
+    def lists_of_each(self) -> _answers.Lists:
+        """The rings of each polygon as those of a shape."""
+        return self._lists
+
+    def numbers(self) -> memoryview:
+        """The points of all rings, as flat 32-bit numbers."""
+        return self._views().numbers
+
+    def binary_of_each(self) -> bytearray:
+        """The well-known binary of each polygon, one behind the other."""
+        return self._binary(True, 0)
 
     def _binary(self, each: bool, srid: int) -> bytearray:
         return _wkb.write(self._lists, _WHOLE if self.grid is None else self.grid.of_c(), each, srid)

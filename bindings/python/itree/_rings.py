@@ -79,6 +79,10 @@ class Rings:
         """Whether the points are floats, which a call takes by a grid."""
         return self._numbers.format == "d"
 
+    def numbers(self) -> memoryview:
+        """The coordinates, flat."""
+        return self._numbers
+
     def given(self) -> Tuple[int, int, int, int]:
         """As the library takes them: points, how many, and where each ring stops."""
         points, offsets = self._at
@@ -108,29 +112,30 @@ def _in_rows(numbers: memoryview) -> memoryview:
 
 def _numbers_of(points: Any) -> memoryview:
     """The coordinates, flat: signed 32-bit numbers, or doubles."""
-    floats = _floats_of(points)
+    floats = floats_of(points, _POINTS)
     if floats is None:
         floats, _ = _rows._numbers_of(points, _POINTS)
-    return _flat(floats)
+    return flat(floats)
 
 
-def _flat(view: memoryview) -> memoryview:
+def flat(view: memoryview) -> memoryview:
+    """The numbers of a view, side by side."""
     return view.cast("B").cast(view.format[-1]) if view.nbytes else memoryview(array.array(view.format[-1]))
 
 
-def _floats_of(points: Any) -> Optional[memoryview]:
-    """None where they are no buffer of floats."""
+def floats_of(points: Any, kind: Kind) -> Optional[memoryview]:
+    """Points of floats, as doubles that lie side by side; None where they are no buffer of floats."""
     numpy = numpy_where_loaded()
     if numpy is not None and hasattr(points, "__array__"):
         points = numpy.asarray(points)
-    view = None if isinstance(points, (list, tuple)) else _rows._view_of(points, _POINTS)
+    view = None if isinstance(points, (list, tuple)) else _rows._view_of(points, kind)
     if view is None or not _rows._FLOAT.fullmatch(view.format):
         return None
-    _rows._check_shape(view, _POINTS)
+    _rows._check_shape(view, kind)
     if view.format in ("d", "@d", "=d") and view.c_contiguous and view.nbytes and address_of(view) % 8 == 0:
         return view
     copied = array.array("d")
-    copied.frombytes(_shapes._bytes_of_doubles(points, view, "points"))
+    copied.frombytes(_shapes._bytes_of_doubles(points, view, kind.name))
     return memoryview(copied)
 
 

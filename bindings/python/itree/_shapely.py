@@ -9,17 +9,33 @@ from __future__ import annotations
 import array
 import ctypes
 import importlib
+import itertools
+import math
 import struct
 import sys
 from types import ModuleType
-from typing import Any, Callable, Dict, Iterable, List, Optional, Sequence, Tuple
+from typing import Any, Callable, Dict, Iterable, List, NamedTuple, Optional, Sequence, Tuple
 
 from ._memory import address_of
 
 Coordinates = Tuple[int, memoryview, List[int]]
+
+
+class Lines(NamedTuple):
+    """Lines: their coordinates, where each begins among the points, where those of each shape begin among the lines; and
+    where the last stop."""
+
+    numbers: array.array[float]
+    ends: array.array[int]
+    shapes: array.array[int]
+
+
 # As many coordinates as pay for calls of their own.
 _MANY = 200
-_POLYGON, _MULTIPOLYGON, _COLLECTION = 3, 6, 7
+_POINT, _POLYGON, _MULTILINESTRING, _MULTIPOLYGON, _COLLECTION = 0, 3, 5, 6, 7
+_LINES = 1, 2
+# By the numbers that GEOS has for them.
+_NAMES = "Point", "LineString", "LinearRing", "Polygon", "MultiPoint", "MultiLineString", "MultiPolygon", "GeometryCollection"
 
 
 def base() -> Any:
@@ -29,15 +45,48 @@ def base() -> Any:
 
 
 def written(shapes: Sequence[Any]) -> List[bytes]:
-    """The well-known binary of each of shapely's objects."""
-    items: List[bytes] = _door().written(shapes)
-    return items
+    """The well-known binary of each of shapely's objects, and that of nothing for None."""
+    some = [it for it in shapes if it is not None]
+    items: List[bytes] = _door().written(some) if some else []
+    if len(some) == len(shapes):
+        return items
+    made = iter(items)
+    return [NOTHING if it is None else next(made) for it in shapes]
 
 
 def coordinates(shapes: Sequence[Any]) -> Optional[Coordinates]:
     """The coordinates of polygons without holes, one behind the other: where they lie, a flat view of them, and how many
     points each polygon has, the last of which is the first again. None of others, and of a shapely that tells none."""
     found: Optional[Coordinates] = _door().coordinates(shapes)
+    return found
+
+
+class OtherType(TypeError):
+    """One of shapely's objects has another type than is wanted: at which place, and which."""
+
+    def __init__(self, place: int, shape: Any) -> None:
+        super().__init__(f"place {place}: {shape.geom_type}")
+        self.place, self.said = place, str(shape.geom_type)
+
+    def __reduce__(self) -> Tuple[Any, ...]:
+        return TypeError, self.args
+
+
+def points(shapes: Sequence[Any]) -> array.array[float]:
+    """The coordinates of Points, x, y, x, y and so on; of what is empty, and of None, they aren't numbers.
+
+    Raises OtherType of another.
+    """
+    numbers: array.array[float] = _door().points(shapes)
+    return numbers
+
+
+def lines(shapes: Sequence[Any]) -> Lines:
+    """The lines of LineStrings, LinearRings and MultiLineStrings. What is empty, and None, has none.
+
+    Raises OtherType of another.
+    """
+    found: Lines = _door().lines(shapes)
     return found
 
 
@@ -62,6 +111,15 @@ def built(polygons: Iterable[Sequence[Any]]) -> Any:
     return _door().built(polygons)
 
 
+def series(shapes: List[Any], index: Any, crs: Any) -> Any:
+    """Shapely's objects as geopandas' GeoSeries. Geopandas is loaded where it isn't."""
+    geopandas: Any = importlib.import_module("geopandas")
+    if getattr(geopandas.options, "use_pygeos", False):
+        return geopandas.GeoSeries(shapes, index=index, crs=crs)
+    arrays: Any = importlib.import_module("geopandas.array")
+    return geopandas.GeoSeries(arrays.GeometryArray(object_array(shapes), crs=crs), index=index)
+
+
 class _Shapely2:
     """Of shapely 2, whose calls take arrays."""
 
@@ -72,16 +130,38 @@ class _Shapely2:
         shapely = self._shapely
         if len(shapes) == 1:
             return [self._alone(shapes[0])]
-        # Without a count numpy would look into the shapes.
-        listed = _object_array(shapes)
+        listed = object_array(shapes)
         return list(shapely.to_wkb(listed, output_dimension=2))
 
     def coordinates(self, shapes: Sequence[Any]) -> Optional[Coordinates]:
         shapely = self._shapely
         if any(it.geom_type != "Polygon" or shapely.get_num_interior_rings(it) for it in shapes):
             return None
-        numbers = memoryview(shapely.get_coordinates(_object_array(shapes))).cast("B").cast("d")
+        numbers = memoryview(shapely.get_coordinates(object_array(shapes))).cast("B").cast("d")
         return address_of(numbers), numbers, [int(shapely.get_num_coordinates(it)) for it in shapes]
+
+    def points(self, shapes: Sequence[Any]) -> array.array[float]:
+        shapely, listed = self._shapely, object_array(shapes)
+        kinds = shapely.get_type_id(listed)
+        others = ((kinds > _POINT) & ~shapely.is_empty(listed)).nonzero()[0]
+        if len(others):
+            raise OtherType(int(others[0]), shapes[int(others[0])])
+        numbers = array.array("d", [math.nan]) * (2 * len(shapes))
+        rows, places = shapely.get_coordinates(listed, return_index=True)
+        memory = sys.modules["numpy"].frombuffer(numbers).reshape(-1, 2)
+        memory[places] = rows
+        return numbers
+
+    def lines(self, shapes: Sequence[Any]) -> Lines:
+        shapely, listed, numpy = self._shapely, object_array(shapes), sys.modules["numpy"]
+        kinds = shapely.get_type_id(listed)
+        others = (~numpy.isin(kinds, (-1, *_LINES, _MULTILINESTRING)) & ~shapely.is_empty(listed)).nonzero()[0]
+        if len(others):
+            raise OtherType(int(others[0]), shapes[int(others[0])])
+        parts, owners = shapely.get_parts(listed, return_index=True)
+        counts = numpy.bincount(owners, minlength=len(shapes))
+        numbers = array.array("d", shapely.get_coordinates(parts).tobytes())
+        return Lines(numbers, _offsets(shapely.get_num_coordinates(parts).tolist()), _offsets(counts.tolist()))
 
     def _alone(self, shape: Any) -> bytes:
         shapely = self._shapely
@@ -95,14 +175,22 @@ class _Shapely2:
         shapely = self._shapely
         if len(items) == 1:
             return [shapely.from_wkb(bytes(items[0]))]
-        return list(shapely.from_wkb(_object_array(list(map(bytes, items)))))
+        return list(shapely.from_wkb(object_array(list(map(bytes, items)))))
 
 
-def _object_array(items: Sequence[Any]) -> Any:
+def object_array(items: Sequence[Any]) -> Any:
+    """The items in an array of numpy's."""
     numpy: Any = importlib.import_module("numpy")
     listed = numpy.empty(len(items), dtype=object)
-    listed[:] = items
+    # All at once numpy would look into the items.
+    for place, item in enumerate(items):
+        listed[place] = item
     return listed
+
+
+def _offsets(counts: List[int]) -> array.array[int]:
+    """Where each of so many items begins, and where the last stops."""
+    return array.array("q", itertools.accumulate(counts, initial=0))
 
 
 def _head(kind: int, count: int) -> bytes:
@@ -119,7 +207,7 @@ def _polygon(rings: Sequence[Any]) -> bytes:
     return b"".join(parts)
 
 
-_NOTHING = _head(_COLLECTION, 0)
+NOTHING = _head(_COLLECTION, 0)
 
 
 class _Shapely1:
@@ -139,6 +227,7 @@ class _Shapely1:
         self._reader = self.WKBReader_create(self._handle)
         self.WKBWriter_setOutputDimension(self._handle, self._writer, 2)
         self._factory: Callable[[int], Any] = getattr(sys.modules["shapely.geometry.base"], "geom_factory")
+        self._classes = self._known_classes()
 
     def __getattr__(self, name: str) -> Any:
         # For mypy: the calls of GEOS.
@@ -152,7 +241,7 @@ class _Shapely1:
         for shape in shapes:
             geometry = shape._geom
             if not geometry:
-                items.append(_NOTHING)
+                items.append(NOTHING)
                 continue
             if counted(handle, geometry) >= _MANY:
                 long = self._long(geometry)
@@ -184,6 +273,52 @@ class _Shapely1:
             at += 16 * points
         return first, memoryview(numbers), counts
 
+    def points(self, shapes: Sequence[Any]) -> array.array[float]:
+        numbers = array.array("d", [math.nan]) * (2 * len(shapes))
+        at = numbers.buffer_info()[0]
+        handle, kind, sequence_of, copy = self._handle, self.GeomTypeId, self.Geom_getCoordSeq, self.CoordSeq_copyToBuffer
+        for place, shape in enumerate(shapes):
+            geometry = None if shape is None else shape._geom
+            if geometry:
+                if kind(handle, geometry) == _POINT:
+                    copy(handle, sequence_of(handle, geometry), at, 0, 0)
+                elif not shape.is_empty:
+                    raise OtherType(place, shape)
+            at += 16
+        return numbers
+
+    def lines(self, shapes: Sequence[Any]) -> Lines:
+        sequences: List[int] = []
+        counts, ends = [], array.array("q", [0])
+        for place, shape in enumerate(shapes):
+            geometry = None if shape is None else shape._geom
+            if geometry and not self._add_lines(geometry, sequences) and not shape.is_empty:
+                raise OtherType(place, shape)
+            ends.append(len(sequences))
+        count, handle = ctypes.c_uint(), self._handle
+        for sequence in sequences:
+            self.CoordSeq_getSize(handle, sequence, ctypes.byref(count))
+            counts.append(count.value)
+        numbers = array.array("d", [0.0]) * (2 * sum(counts))
+        at = numbers.buffer_info()[0]
+        for sequence, points in zip(sequences, counts):
+            self.CoordSeq_copyToBuffer(handle, sequence, at, 0, 0)
+            at += 16 * points
+        return Lines(numbers, _offsets(counts), ends)
+
+    def _add_lines(self, geometry: int, sequences: List[int]) -> bool:
+        """Whether it is of lines, whose sequences of coordinates are added."""
+        handle = self._handle
+        kind = self.GeomTypeId(handle, geometry)
+        if kind in _LINES:
+            sequences.append(self.Geom_getCoordSeq(handle, geometry))
+        elif kind == _MULTILINESTRING:
+            parts = (self.GetGeometryN(handle, geometry, it) for it in range(self.GetNumGeometries(handle, geometry)))
+            sequences += [self.Geom_getCoordSeq(handle, it) for it in parts]
+        else:
+            return False
+        return True
+
     def _long(self, geometry: int) -> Optional[bytes]:
         """The binary of a polygon, or of several, with many points; None of what has few to a polygon, or is another."""
         handle = self._handle
@@ -213,7 +348,27 @@ class _Shapely1:
         return numbers
 
     def read(self, items: Sequence[Any]) -> List[Any]:
-        return [self._factory(self._one(item)) for item in items]
+        """The objects of well-known binary that has two coordinates."""
+        if not self._classes:
+            return [self._factory(self._one(item)) for item in items]
+        classes, one, kind, handle, new = self._classes, self._one, self.GeomTypeId, self._handle, object.__new__
+        shapes = []
+        for item in items:
+            geometry = one(item)
+            shape = new(classes[kind(handle, geometry)])
+            # By far the most of the time that shapely's own factory takes goes into setting these.
+            shape.__dict__.update(__geom__=geometry, _ndim=2, _is_empty=False)
+            shapes.append(shape)
+        return shapes
+
+    def _known_classes(self) -> List[Any]:
+        """The class of each type of objects, by its number; none where shapely's factory makes objects of other attributes
+        than shapely 1.8 does."""
+        known = vars(self._factory(self._one(NOTHING)))
+        if known.keys() - {"__p__"} != {"__geom__", "_ndim", "_is_empty"} or known.get("__p__") is not None:
+            return []
+        module: Any = sys.modules["shapely.geometry"]
+        return [getattr(module, name) for name in _NAMES]
 
     def built(self, polygons: Iterable[Sequence[Any]]) -> Any:
         made = [self._polygon(list(map(self._ring, rings))) for rings in polygons]
@@ -278,6 +433,28 @@ class _Plain:
 
     def coordinates(self, _shapes: Sequence[Any]) -> Optional[Coordinates]:
         return None
+
+    def points(self, shapes: Sequence[Any]) -> array.array[float]:
+        numbers = array.array("d", [math.nan]) * (2 * len(shapes))
+        for place, shape in enumerate(shapes):
+            if shape is not None and not shape.is_empty:
+                if shape.geom_type != "Point":
+                    raise OtherType(place, shape)
+                numbers[2 * place], numbers[2 * place + 1] = shape.x, shape.y
+        return numbers
+
+    def lines(self, shapes: Sequence[Any]) -> Lines:
+        numbers, counts, ends = array.array("d"), [], array.array("q", [0])
+        for place, shape in enumerate(shapes):
+            if shape is not None and not shape.is_empty:
+                if shape.geom_type not in ("LineString", "LinearRing", "MultiLineString"):
+                    raise OtherType(place, shape)
+                for part in getattr(shape, "geoms", [shape]):
+                    rows = [row[:2] for row in part.coords]
+                    numbers.extend(itertools.chain.from_iterable(rows))
+                    counts.append(len(rows))
+            ends.append(len(counts))
+        return Lines(numbers, _offsets(counts), ends)
 
     def written(self, shapes: Sequence[Any]) -> List[bytes]:
         return [self._wkb.dumps(shape, output_dimension=2) for shape in shapes]
