@@ -56,6 +56,7 @@ SOURCES = {
     "`overlay::boundary`": ["overlay/src/boundary/*.rt"],
     "`overlay::stretches`": ["overlay/src/stretches/*.rt"],
     "`polygons`": ["polygons/src/*.rt"],
+    "`layers`": ["layers/src/*.rt", "layers/src/lines/mod.rt"],
     "`grid`": ["grid/src/*.rt", "grid/src/direction/mod.rt"],
     "`wkb`": ["wkb/src/*.rt"],
     "`itree_c`": ["itree_c/src/*.rt"],
