@@ -789,6 +789,16 @@ class Parents(unittest.TestCase):
                 nearest = min(around, key=lambda it: outers[it].area, default=None)
                 self.assertEqual(parent, nearest)
 
+    def test_first_edges(self):
+        """An outer ring begins with the lowest of its leftmost corners, and goes on rightwards: parents are told by that."""
+        chance = random.Random(8)
+        for _ in range(4000 if MANY else 100):
+            subject, clip = ([random_ring(chance) for _ in range(chance.randrange(1, 4))] for _ in range(2))
+            for polygon in itree.overlay(subject, clip, chance.choice(OPERATIONS), chance.choice(RULES)):
+                first, second = polygon.outer[:2]
+                self.assertEqual(first, min(polygon.outer), (subject, clip))
+                self.assertLess(first[0], second[0], (subject, clip))
+
 
 class Bulk:
     """A stand-in for the calls of shapely 2 that take arrays, over objects of another shapely."""
