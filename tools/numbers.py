@@ -1,7 +1,7 @@
 #!/usr/bin/env python3
 """How large the proved crates are. It reads their text alone, and proves nothing.
 
-usage: tools/numbers.py [CRATE..]     (with no names: i_tree itree_lib itree)
+usage: tools/numbers.py [CRATE..]     (with no names: i_tree runs itree)
 
 Each crate has a column, and each number a row:
 
@@ -170,7 +170,7 @@ def numbers_of(crate):
 
 
 def main():
-    crates = sys.argv[1:] or ["i_tree", "itree_lib", "itree"]
+    crates = sys.argv[1:] or ["i_tree", "runs", "itree"]
     for crate in crates:
         if not (CRATES / crate / "src").is_dir():
             sys.exit(__doc__)

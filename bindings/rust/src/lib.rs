@@ -40,7 +40,7 @@ mod layers;
 mod limits;
 mod wkb;
 
-/// The version of the library, as `"0.3.0"`.
+/// The version of the library, as `"0.4.0"`.
 pub fn version() -> &'static str {
     // SAFETY: the library answers a text that ends with 0 and stays.
     unsafe { CStr::from_ptr(calls::itree_version()) }

@@ -3,7 +3,7 @@
 use crate::key_types::TimedKey;
 use crate::keys::{KeyRunner, Plain, TestKey};
 use i_tree::Refusal;
-use itree_lib::run::{KeyCommand, KeyReply, same_replies};
+use runs::{KeyCommand, KeyReply, same_replies};
 use std::test::Fail;
 use test_kit::watched::Watched;
 

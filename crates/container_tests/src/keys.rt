@@ -10,7 +10,7 @@ use i_tree::key::list::KeyExpList;
 use i_tree::key::tree::KeyExpTree;
 use i_tree::steps::Steps;
 use i_tree::{Expiration, ExpiredKey, Refusal};
-use itree_lib::run::{KeyCommand, KeyReply, run_key_tree_counted, run_keys};
+use runs::{KeyCommand, KeyReply, run_key_tree_counted, run_keys};
 use std::alloc::{AllocError, Allocator, Global};
 use std::cell::Cell;
 use std::cmp::Ordering;

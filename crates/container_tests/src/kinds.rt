@@ -15,7 +15,7 @@ use crate::set_rows::{ItemList, ItemTree};
 use crate::sloped::Sloped;
 use crate::status_rows::{SlopedList, SlopedTree};
 use crate::{key_rows, set_rows, status_rows};
-use itree_lib::run::{KeyReply, SetReply, StatusReply};
+use runs::{KeyReply, SetReply, StatusReply};
 use std::alloc::Global;
 use std::process::Abort;
 use test_kit::Refusing;

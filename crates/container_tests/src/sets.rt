@@ -5,7 +5,7 @@ use i_tree::set::list::SetList;
 use i_tree::set::sort::SetCollection;
 use i_tree::set::tree::SetTree;
 use i_tree::{EMPTY_REF, Refusal, Refused};
-use itree_lib::run::{SetCommand, SetReply, run_sets};
+use runs::{SetCommand, SetReply, run_sets};
 use std::alloc::{Allocator, Global};
 use std::cell::Cell;
 use test_kit::item::Item;

@@ -7,7 +7,7 @@ use i_tree::Refusal;
 use i_tree::status::exp::StatusCollection;
 use i_tree::status::list::StatusList;
 use i_tree::status::tree::StatusTree;
-use itree_lib::run::{StatusCommand, StatusReply, run_status};
+use runs::{StatusCommand, StatusReply, run_status};
 use std::alloc::{Allocator, Global};
 use std::cell::Cell;
 use std::cmp::Ordering;

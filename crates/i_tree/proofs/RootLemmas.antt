@@ -5,6 +5,7 @@ pub mod Counts
 pub mod Cuts
 pub mod Joined
 pub mod Lists
+pub mod Members
 pub mod Monotone
 pub mod Numbers
 pub mod Orders

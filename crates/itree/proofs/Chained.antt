@@ -2,8 +2,8 @@
 use Rattle.std.proofs.Common.{◌≡◌, ◌<◌, ◌≤◌, ◌+◌, ℕ, List, [], ◌∷◌, ◌++◌, length, take, get_or, sym, ap, ◌∙◌, append_assoc, arith}
 use Rattle.std.proofs.lemmas.List.{flat_map_more, take_all, take_more}
 use Rattle.itree.specs.Replies.{chain_words, reply_lines}
-use Rattle.overlay.specs.Snap.Offsets.{AreJoined}
-use Rattle.overlay.proofs.SnapLemmas.Callers.{length-offsets}
+use Rattle.noding.specs.Offsets.{AreJoined}
+use Rattle.noding.proofs.Callers.{length-offsets}
 use Rattle.plane.specs.declared.point.Point.{Point}
 
 -- one line more

@@ -9,10 +9,10 @@ use Rattle.itree.specs.Replies.{polygon_lines, ring_line}
 use Rattle.itree.specs.RingLines.{RingLine, Subject, Clip, subject_in, clip_in, subject_of, clip_of, coordinates, Holds, HoldsSaid}
 use Rattle.itree.specs.declared.lines.rings.RingList.{RingList}
 use Rattle.itree.specs.declared.lines.rings.SaidRings.{SaidRings}
-use Rattle.overlay.specs.Snap.Offsets.{AreJoined}
-use Rattle.polygons.proofs.GroupingLemmas.Placed.{ends-right, rings-back}
-use Rattle.polygons.specs.Rings.{AreEnds, rings_of}
-use Rattle.overlay.proofs.ChainLemmas.Runs.{between-more, length-between, offsets-more}
+use Rattle.noding.specs.Offsets.{AreJoined}
+use Rattle.overlay.proofs.GroupingLemmas.Placed.{ends-right, rings-back}
+use Rattle.overlay.specs.Rings.{AreEnds, rings_of}
+use Rattle.noding.proofs.ChainLemmas.Runs.{between-more, length-between, offsets-more}
 use Rattle.plane.specs.declared.point.Point.{Point}
 
 -- one ring more of a polygon has its line

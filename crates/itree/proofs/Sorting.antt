@@ -8,10 +8,10 @@ use Rattle.std.proofs.lemmas.List.{drop_more, take_more, take_more_set, map_push
 use Rattle.std.proofs.lemmas.List.Elements.{All-nil, All-cons}
 use Rattle.std.proofs.lemmas.List.Sorted.{IsPermutation-trans}
 use Rattle.i_tree.specs.Seg.Buckets.{Buckets}
-use Rattle.itree_lib.specs.Run.SegMachine.{Reply, reply_of, State, Step, Run}
-use Rattle.itree_lib.specs.Run.SegMachine.Reply.{Inserted, Outside, Late, Refused, Values, Cleared}
-use Rattle.itree_lib.specs.declared.run.segments.SegReply.{SegReply}
-use Rattle.itree_lib.specs.declared.run.segments.SegCommand.TheVariants.{Insert, Query, Clear}
+use Rattle.runs.specs.SegMachine.{Reply, reply_of, State, Step, Run}
+use Rattle.runs.specs.SegMachine.Reply.{Inserted, Outside, Late, Refused, Values, Cleared}
+use Rattle.runs.specs.declared.segments.SegReply.{SegReply}
+use Rattle.runs.specs.declared.segments.SegCommand.TheVariants.{Insert, Query, Clear}
 use Rattle.itree.specs.Replies.{seg_reply_words, reply_lines}
 use Rattle.itree.specs.SegLines.{SegLine}
 use Rattle.itree.specs.Sorting.{Sorts, SortsAll}

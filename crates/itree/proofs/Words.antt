@@ -14,8 +14,8 @@ use Rattle.itree.proofs.Splitting.{IsFirstWord}
 use Rattle.itree.specs.SweepLines.{SaysSweepLine, says_segment}
 use Rattle.itree.specs.declared.lines.sweep.SweepLine.{SweepLine}
 use Rattle.itree.specs.declared.lines.sweep.SweepLine.TheVariants as sweep_line
-use Rattle.itree_lib.specs.declared.run.keys.KeyCommand.TheVariants.{Insert, Less, LessOrEqualBy, Clear}
-use Rattle.itree_lib.specs.declared.run.segments.SegCommand.TheVariants as seg_command
+use Rattle.runs.specs.declared.keys.KeyCommand.TheVariants.{Insert, Less, LessOrEqualBy, Clear}
+use Rattle.runs.specs.declared.segments.SegCommand.TheVariants as seg_command
 use Rattle.itree.specs.Words.{Reads}
 
 -- as many words are read as numbers

@@ -7,16 +7,16 @@ use Rattle.std.specs.declared.cmp.Ordering.{Ordering}
 use Rattle.i_tree.specs.Seg.Buckets.{Buckets, IsLayout}
 use Rattle.itree.specs.MeetingsLines.{AreMetLines}
 use Rattle.itree.specs.KeyLines.{KeyLine}
-use Rattle.itree_lib.specs.Run.KeyMachine as keys
+use Rattle.runs.specs.KeyMachine as keys
 use Rattle.itree.specs.LocateLines.{IsLineBelow, edges_of, points_of as points_among}
 use Rattle.itree.specs.Replies.{key_reply_words, seg_reply_words, set_reply_words, height_words, met_words, edge_words, chain_words, polygon_lines, reply_lines}
 use Rattle.itree.specs.RingLines.{RingLine, subject_of, clip_of}
 use Rattle.itree.specs.SegLines.{SegLine}
-use Rattle.itree_lib.specs.Run.SegMachine as segments
-use Rattle.itree_lib.specs.Run.SegMachine.{Reply as seg_reply}
+use Rattle.runs.specs.SegMachine as segments
+use Rattle.runs.specs.SegMachine.{Reply as seg_reply}
 use Rattle.itree.specs.SetLines.{SetLine}
-use Rattle.itree_lib.specs.Run.SetMachine as sets
-use Rattle.itree_lib.specs.Sweep.Heights.{IsHeightBelow, NoneCollide}
+use Rattle.runs.specs.SetMachine as sets
+use Rattle.horizontal.specs.Heights.{IsHeightBelow, NoneCollide}
 use Rattle.itree.specs.SweepLines.{segments_of, points_of}
 use Rattle.itree.specs.declared.lines.locate.LocateLine.{LocateLine}
 use Rattle.itree.specs.declared.lines.sweep.SweepLine.{SweepLine}
@@ -24,12 +24,12 @@ use Rattle.plane.specs.SweepLine.Crossings.{NoneCross}
 use Rattle.plane.specs.declared.edge.Edge.{Edge}
 use Rattle.plane.specs.declared.point.Point.{Point}
 use Rattle.overlay.specs.Contours.Rings.{ring_edges}
-use Rattle.overlay.specs.Snap.Chains.{AreChains}
+use Rattle.noding.specs.Chains.{AreChains}
 use Rattle.overlay.specs.declared.fill.rules.FillRule.{FillRule}
 use Rattle.overlay.specs.declared.fill.rules.Operation.{Operation}
-use Rattle.polygons.specs.Overlay.{IsOverlay}
-use Rattle.itree_lib.specs.declared.run.keys.KeyReply.{KeyReply}
-use Rattle.itree_lib.specs.declared.run.sets.SetReply.{SetReply}
+use Rattle.overlay.specs.Overlay.{IsOverlay}
+use Rattle.runs.specs.declared.keys.KeyReply.{KeyReply}
+use Rattle.runs.specs.declared.sets.SetReply.{SetReply}
 use Rattle.itree.specs.declared.set_key.SetKey.{SetKey}
 use Rattle.itree.specs.declared.timed_key.TimedKey.{TimedKey}
 use Rattle.itree.specs.declared.timed_val.TimedVal.{TimedVal}

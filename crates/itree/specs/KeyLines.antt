@@ -1,8 +1,8 @@
 -- Which words say which command of keys that expire.
 use Rattle.std.specs.Prelude.{◌≡◌, ℕ, ℤ, pos, List, [], ◌∷◌, codes}
 use Rattle.itree.specs.Grammar.{Says}
-use Rattle.itree_lib.specs.declared.run.keys.KeyCommand.{KeyCommand}
-use Rattle.itree_lib.specs.declared.run.keys.KeyCommand.TheVariants.{Insert, Less, LessOrEqualBy, Clear}
+use Rattle.runs.specs.declared.keys.KeyCommand.{KeyCommand}
+use Rattle.runs.specs.declared.keys.KeyCommand.TheVariants.{Insert, Less, LessOrEqualBy, Clear}
 use Rattle.itree.specs.declared.timed_key.TimedKey.{TimedKey}
 
 -- a command of a line

@@ -1,12 +1,12 @@
 -- The text of replies.
 use Rattle.std.specs.Prelude.{ℕ, ℤ, Bool, true, false, List, [], ◌∷◌, ◌++◌, Option, Some, None, codes, flat_map}
 use Rattle.std.specs.Fmt.{decimal, signed_decimal}
-use Rattle.itree_lib.specs.Run.SegMachine.{Reply}
-use Rattle.itree_lib.specs.Run.SegMachine.{Reply as seg_reply}
-use Rattle.itree_lib.specs.declared.run.keys.KeyReply.{KeyReply}
-use Rattle.itree_lib.specs.declared.run.keys.KeyReply.TheVariants as key_reply
-use Rattle.itree_lib.specs.declared.run.sets.SetReply.{SetReply}
-use Rattle.itree_lib.specs.declared.run.sets.SetReply.TheVariants as set_reply
+use Rattle.runs.specs.SegMachine.{Reply}
+use Rattle.runs.specs.SegMachine.{Reply as seg_reply}
+use Rattle.runs.specs.declared.keys.KeyReply.{KeyReply}
+use Rattle.runs.specs.declared.keys.KeyReply.TheVariants as key_reply
+use Rattle.runs.specs.declared.sets.SetReply.{SetReply}
+use Rattle.runs.specs.declared.sets.SetReply.TheVariants as set_reply
 use Rattle.itree.specs.declared.set_key.SetKey.{SetKey}
 use Rattle.itree.specs.declared.timed_val.TimedVal.{TimedVal}
 use Rattle.plane.specs.declared.point.Point.{Point}

@@ -4,7 +4,7 @@ use Rattle.std.specs.List.{filter_map, flat_map}
 use Rattle.itree.specs.Grammar.{Says}
 use Rattle.itree.specs.declared.lines.rings.RingList.{RingList}
 use Rattle.itree.specs.declared.lines.rings.SaidRings.{SaidRings}
-use Rattle.overlay.specs.Snap.Offsets.{AreJoined}
+use Rattle.noding.specs.Offsets.{AreJoined}
 use Rattle.plane.specs.declared.point.Point.{Point}
 
 -- a ring of the subject, or one of the clip

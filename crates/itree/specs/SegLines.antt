@@ -1,8 +1,8 @@
 -- Which words say which command of segments.
 use Rattle.std.specs.Prelude.{ℕ, ℤ, List, [], ◌∷◌, codes}
 use Rattle.itree.specs.Grammar.{Says}
-use Rattle.itree_lib.specs.declared.run.segments.SegCommand.{SegCommand}
-use Rattle.itree_lib.specs.declared.run.segments.SegCommand.TheVariants.{Insert, Query, Clear}
+use Rattle.runs.specs.declared.segments.SegCommand.{SegCommand}
+use Rattle.runs.specs.declared.segments.SegCommand.TheVariants.{Insert, Query, Clear}
 use Rattle.itree.specs.declared.timed_val.TimedVal.{TimedVal}
 
 -- a command of a line

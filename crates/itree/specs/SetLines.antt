@@ -1,8 +1,8 @@
 -- Which words say which command of a set.
 use Rattle.std.specs.Prelude.{ℕ, ℤ, List, [], ◌∷◌, codes}
 use Rattle.itree.specs.Grammar.{Says}
-use Rattle.itree_lib.specs.declared.run.sets.SetCommand.{SetCommand}
-use Rattle.itree_lib.specs.declared.run.sets.SetCommand.TheVariants.{Insert, Delete, Find, Before}
+use Rattle.runs.specs.declared.sets.SetCommand.{SetCommand}
+use Rattle.runs.specs.declared.sets.SetCommand.TheVariants.{Insert, Delete, Find, Before}
 use Rattle.itree.specs.declared.set_key.SetKey.{SetKey}
 
 -- a command of a line

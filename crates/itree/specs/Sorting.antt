@@ -1,8 +1,8 @@
 -- How the values of replies are put in order before they are written.
 use Rattle.std.specs.Prelude.{◌≡◌, ⊤, List, [], ◌∷◌, IsPermutation}
 use Rattle.std.specs.List.Sorted.{IsSorted}
-use Rattle.itree_lib.specs.Run.SegMachine.{Reply}
-use Rattle.itree_lib.specs.Run.SegMachine.Reply.{Inserted, Outside, Late, Refused, Values, Cleared}
+use Rattle.runs.specs.SegMachine.{Reply}
+use Rattle.runs.specs.SegMachine.Reply.{Inserted, Outside, Late, Refused, Values, Cleared}
 use Rattle.itree.specs.Answers.{cmp_vals}
 use Rattle.itree.specs.declared.timed_val.TimedVal.{TimedVal}
 

@@ -4,9 +4,9 @@ use Rattle.std.specs.List.{filter_map}
 use Rattle.itree.specs.Grammar.{Says, LineSays, LinesSay}
 use Rattle.itree.specs.declared.lines.sweep.SweepLine.{SweepLine}
 use Rattle.itree.specs.declared.lines.sweep.SweepLine.TheVariants as sweep_line
-use Rattle.itree_lib.specs.Sweep.Heights.{IsFirstOverlap}
-use Rattle.itree_lib.specs.declared.sweep.Point.{Point}
-use Rattle.itree_lib.specs.declared.sweep.Segment.{Segment}
+use Rattle.horizontal.specs.Heights.{IsFirstOverlap}
+use Rattle.horizontal.specs.declared.Point.{Point}
+use Rattle.horizontal.specs.declared.Segment.{Segment}
 
 -- the words say the segment, or the point
 abbrev pub SaysSweepLine : List (List ℕ) → SweepLine → Type 0

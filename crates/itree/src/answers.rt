@@ -7,7 +7,7 @@ ghost use Rattle.itree.specs.Answers.{AnswersKeys, AnswersSet, AnswersSegments};
 ghost use Rattle.itree.specs.Modes.{FitsItsNumbers};
 ghost use Rattle.itree.specs.Sorting.{Sorts, SortsAll};
 ghost use Rattle.itree.specs.Texts.{Answers, HasFirstFaulty, HasOverlapLine, HasCrossingLines};
-ghost use Rattle.itree_lib.specs.Run.SegMachine.{reply_of};
+ghost use Rattle.runs.specs.SegMachine.{reply_of};
 
 use crate::fault::Fault;
 use crate::lines::{KeyLine, SegLine, SetLine, parse_commands, parse_rings, reply_text};
@@ -24,7 +24,7 @@ use i_tree::set::list::SetList;
 use i_tree::set::sort::SetCollection;
 use i_tree::set::tree::SetTree;
 use i_tree::status::tree::StatusTree;
-use itree_lib::run::{SegReply, run_keys, run_segments, run_sets};
+use runs::{SegReply, run_keys, run_segments, run_sets};
 use locate::answer_locate;
 use meetings::answer_meetings;
 use rings::answer_rings;

@@ -4,7 +4,7 @@ use Rattle.std.specs.Prelude.{◌↔◌}
 use Rattle.layers.proofs.ListLemmas.{length-offsets}
 use Rattle.layers.specs.declared.fault.LayerFault.{LayerFault}
 use Rattle.layers.specs.declared.fault.LayerFault.TheVariants.{Lengths, NoShape}
-use Rattle.overlay.specs.Snap.Offsets.{offsets}
+use Rattle.noding.specs.Offsets.{offsets}
 
 -- there is one end for each list
 pub length-appended : {X : Type 0} (lists : List (List X)) (before after : List ℕ) (start : ℕ) → before ≡ [] → after ≡ before ++ offsets start lists → length after ≡ length lists

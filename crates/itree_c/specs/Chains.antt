@@ -4,8 +4,8 @@ use Rattle.std.specs.Prelude.{◌≡◌, ◌∷◌, ℤ, List, Option, Some, Non
 use base.Fml.{Fml}
 use denote.RawPtr.{Ptr}
 use Rattle.std.specs.contracts.impls.GlobalAllocator.TheImpl.{ghosts}
-use Rattle.overlay.specs.Snap.Chains.{AreChains}
-use Rattle.overlay.specs.Snap.Offsets.{offsets}
+use Rattle.noding.specs.Chains.{AreChains}
+use Rattle.noding.specs.Offsets.{offsets}
 use Rattle.plane.specs.declared.edge.Edge.{Edge}
 use Rattle.plane.specs.declared.point.Point.{Point}
 use Rattle.itree_c.specs.Raw.{owns_at}

@@ -1,9 +1,9 @@
 -- The heights below points as C reads them: a flag and a number each.
 use Rattle.std.specs.Prelude.{◌≡◌, ℤ, pos, List, Option, Some, None, map}
 use Rattle.std.specs.List.{AllZip}
-use Rattle.itree_lib.specs.Sweep.Heights.{IsHeightBelow}
-use Rattle.itree_lib.specs.declared.sweep.Point.{Point}
-use Rattle.itree_lib.specs.declared.sweep.Segment.{Segment}
+use Rattle.horizontal.specs.Heights.{IsHeightBelow}
+use Rattle.horizontal.specs.declared.Point.{Point}
+use Rattle.horizontal.specs.declared.Segment.{Segment}
 use Rattle.itree_c.specs.declared.heights.Height.{Height}
 
 -- a height as it is written: found is 1 and y the height, or both are 0

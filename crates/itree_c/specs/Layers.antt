@@ -12,15 +12,15 @@ use Rattle.layers.specs.declared.lines.Lines.{Lines}
 use Rattle.layers.specs.declared.points.Border.{Border}
 use Rattle.layers.specs.declared.shapes.Groups.{Groups}
 use Rattle.layers.specs.declared.shapes.Shapes.{Shapes}
-use Rattle.overlay.specs.Snap.Offsets.{offsets}
+use Rattle.noding.specs.Offsets.{offsets}
 use Rattle.overlay.specs.declared.fill.rules.FillRule.{FillRule}
 use Rattle.overlay.specs.declared.fill.rules.Operation.{Operation}
 use Rattle.plane.specs.Pairs.Pairs.{ArePairsBetween}
 use Rattle.plane.specs.declared.edge.Edge.{Edge}
 use Rattle.plane.specs.declared.point.Point.{Point}
-use Rattle.polygons.specs.Polygons.{rings_of}
-use Rattle.polygons.specs.Rings.{HasEnds, edges_of}
-use Rattle.polygons.specs.declared.rings.Rings.{Rings}
+use Rattle.overlay.specs.Polygons.{rings_of}
+use Rattle.overlay.specs.Rings.{HasEnds, edges_of}
+use Rattle.overlay.specs.declared.rings.Rings.{Rings}
 use Rattle.itree_c.specs.Choices.{number_of_border, number_of_keep, number_of_operation, number_of_rule, AreChoices, AreRuleAndBorder, AreRuleAndKeep}
 use Rattle.itree_c.specs.Meetings.{pair_of}
 use Rattle.itree_c.specs.declared.layers_parents.TheConstants.{NO_PARENT}

@@ -5,14 +5,14 @@ use base.Fml.{Fml}
 use denote.RawPtr.{Ptr}
 use Rattle.std.specs.contracts.impls.GlobalAllocator.TheImpl.{ghosts}
 use Rattle.overlay.specs.Contours.Rings.{ring_edges}
-use Rattle.overlay.specs.Snap.Offsets.{offsets}
+use Rattle.noding.specs.Offsets.{offsets}
 use Rattle.overlay.specs.declared.fill.rules.FillRule.{FillRule}
 use Rattle.overlay.specs.declared.fill.rules.Operation.{Operation}
 use Rattle.plane.specs.declared.edge.Edge.{Edge}
 use Rattle.plane.specs.declared.point.Point.{Point}
-use Rattle.polygons.specs.Overlay.{IsOverlay}
-use Rattle.polygons.specs.Polygons.{rings_of as rings_of_polygons}
-use Rattle.polygons.specs.Rings.{AreEnds, rings_of}
+use Rattle.overlay.specs.Overlay.{IsOverlay}
+use Rattle.overlay.specs.Polygons.{rings_of as rings_of_polygons}
+use Rattle.overlay.specs.Rings.{AreEnds, rings_of}
 use Rattle.itree_c.specs.Choices.{number_of_rule, number_of_operation, AreChoices}
 use Rattle.itree_c.specs.Raw.{owns_at}
 use Rattle.itree_c.specs.declared.polygon_lists.PolygonLists.{PolygonLists}

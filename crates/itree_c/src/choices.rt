@@ -4,7 +4,7 @@
 ghost use Rattle.itree_c.specs.Choices.{IsBorder, IsForm, IsKeep, IsOperation, IsRule};
 
 use layers::{Border, Keep};
-use polygons::{FillRule, Operation};
+use overlay::{FillRule, Operation};
 use wkb::writing::Form;
 
 /// Inside are the points with an odd winding number.

@@ -2,14 +2,14 @@
 
 ghost use Rattle.std.specs.Prelude.{◌≡◌, ◌≢◌, ◌↔◌, ℕ, length, map, IfOk};
 ghost use Rattle.std.specs.List.{AllZip};
-ghost use Rattle.itree_lib.specs.Sweep.Heights.{IsHeightBelow, NoneCollide, IsFirstOverlap};
+ghost use Rattle.horizontal.specs.Heights.{IsHeightBelow, NoneCollide, IsFirstOverlap};
 ghost use Rattle.itree_c.specs.Heights.{AreHeights, height_of};
 ghost use Rattle.itree_c.specs.Status.{IsStatus};
 ghost use Rattle.itree_c.specs.declared.status.TheConstants.{ANSWERED, REFUSED, OVERLAP, LENGTHS};
 
 use crate::status::{ANSWERED, LENGTHS, OVERLAP, REFUSED};
 use i_tree::key::tree::KeyExpTree;
-use itree_lib::sweep::{Point, Segment, SweepFault, below};
+use horizontal::{Point, Segment, SweepFault, below};
 use std::alloc::Global;
 
 /// What lies straight below a point: `found` is 1 and `y` a height, or both are 0 where nothing does.
@@ -26,7 +26,7 @@ pub struct Height {
 /// segments than there are handles are met at once; `OVERLAP` (2) where two collide, and then `overlap` is the place of
 /// the first segment, in the order of `x0` and then of place, that collides with one before it; `LENGTHS` (3) where
 /// there are not as many heights as points. Only at `ANSWERED` are heights written, and only at `OVERLAP` the place.
-/// Which segments collide, and what a sweep costs, is said at `below` of `itree_lib::sweep`.
+/// Which segments collide, and what a sweep costs, is said at `below` of `horizontal`.
 #[unsafe(no_mangle)]
 pub extern "C" fn itree_below(
     alloc: Global,

@@ -4,7 +4,7 @@ ghost use Rattle.std.specs.Prelude.{◌≡◌, ◌↔◌, Option, Err, IfOk};
 ghost use Rattle.std.specs.Borrow.{sem};
 ghost use Rattle.layers.specs.Lines.{HasLines, lines_of};
 ghost use Rattle.layers.specs.declared.fault.LayerFault.TheVariants.{Lengths};
-ghost use Rattle.polygons.specs.Rings.{HasEnds, edges_of};
+ghost use Rattle.overlay.specs.Rings.{HasEnds, edges_of};
 ghost use Rattle.itree_c.specs.Overlay.{owns_polygons};
 ghost use Rattle.itree_c.specs.Layers.{AnswersPieces, AreAllPieces};
 ghost use Rattle.itree_c.specs.declared.polygon_lists.PolygonLists.{PolygonLists as Held};

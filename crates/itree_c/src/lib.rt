@@ -1,5 +1,5 @@
-//! Calls from C, and so from each language that calls C: a static library over `itree_lib`, `plane`, `overlay`,
-//! `polygons`, `grid`, `wkb` and `layers`.
+//! Calls from C, and so from each language that calls C: a static library over `horizontal`, `plane`, `noding`, `overlay`,
+//! `monotone_chains`, `grid`, `wkb` and `layers`.
 //!
 //! Each function takes slices, which are a pointer and a length in C, writes its answers into slices of its caller's,
 //! and answers a status. An answer whose size isn't known before goes out as a handle, which the caller gives back.

@@ -4,8 +4,8 @@
 ghost use Rattle.std.specs.Prelude.{◌≡◌, ◌↔◌, Option, Some, Err, IfOk, length};
 ghost use Rattle.std.specs.Borrow.{sem};
 ghost use Rattle.std.specs.Vec.{vec_ptr};
-ghost use Rattle.polygons.specs.Rings.{HasEnds, edges_of};
-ghost use Rattle.polygons.specs.declared.fault.OverlayFault.TheVariants.{Lengths};
+ghost use Rattle.overlay.specs.Rings.{HasEnds, edges_of};
+ghost use Rattle.overlay.specs.declared.fault.OverlayFault.TheVariants.{Lengths};
 ghost use Rattle.itree_c.specs.Overlay.{owns_polygons, AnswersOverlay, AreAllPolygons};
 ghost use Rattle.itree_c.specs.declared.polygon_lists.PolygonLists.{PolygonLists as Held};
 
@@ -14,7 +14,8 @@ use crate::handle::Handle;
 use crate::polygon_lists::{PolygonLists, boxed_lists, drop_polygons};
 use crate::raw::Raw;
 use crate::status::{ANSWERED, CHOICE, LENGTHS, REFUSED};
-use polygons::{FillRule, Operation, OverlayFault, Point, Polygons, Rings, overlay};
+use monotone_chains::overlay;
+use overlay::{FillRule, Operation, OverlayFault, Point, Polygons, Rings};
 use std::alloc::Global;
 
 /// Writes a handle of the polygons of what the operation makes of the inside of the subject and that of the clip, or null.

@@ -6,7 +6,7 @@ ghost use Rattle.std.specs.Option.{IsSome};
 ghost use denote.Param.Send.{IsSend};
 
 use crate::raw::Raw;
-use polygons::{Point, Polygons};
+use overlay::{Point, Polygons};
 use std::alloc::{AllocError, Global};
 
 /// The points of polygons, one ring behind the other, at which places among them each ring begins and stops, and at which

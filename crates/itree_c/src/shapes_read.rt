@@ -15,7 +15,7 @@ use crate::shapes::MOST_NESTED;
 use crate::status::{ANSWERED, CHOICE, FAULTY, REFUSED};
 use grid::Grid;
 use grid::units::is_grid;
-use polygons::Polygons;
+use overlay::Polygons;
 use std::alloc::Global;
 use wkb::{ReadFault, Shapes, read};
 

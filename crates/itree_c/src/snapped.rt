@@ -12,7 +12,7 @@ use crate::handle::Handle;
 use crate::raw::Raw;
 use crate::status::{ANSWERED, REFUSED};
 use i_tree::Refusal;
-use overlay::snap::snap;
+use noding::snap;
 use plane::edge::Edge;
 use plane::point::Point;
 use std::alloc::Global;
@@ -21,7 +21,7 @@ use std::alloc::Global;
 ///
 /// The status is `ANSWERED` (0), and then the caller owns the handle and gives it to `itree_chains_free` once; or
 /// `REFUSED` (1) where memory was refused, and then null is written, and all memory has been given back. Which points are of
-/// a chain is said at `snap` of `overlay::snap`.
+/// a chain is said at `snap` of `noding`.
 #[unsafe(no_mangle)]
 pub unsafe extern "C" fn itree_snap(alloc: Global, edges: &[Edge], chains: &mut *mut Handle) -> i32
     ensures* made { ∃ₛ (λ (made : Option Held).

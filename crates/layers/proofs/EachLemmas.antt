@@ -8,12 +8,12 @@ use Rattle.plane.specs.declared.point.Point.{Point}
 use Rattle.overlay.specs.declared.fill.rules.FillRule.{FillRule}
 use Rattle.overlay.specs.declared.fill.rules.Operation.{Operation}
 use Rattle.overlay.specs.Contours.Rings.{ring_edges}
-use Rattle.overlay.specs.Snap.Offsets.{AreJoined, offsets}
-use Rattle.polygons.specs.Overlay.{IsOverlay}
-use Rattle.polygons.specs.Polygons.{AreAppended, rings_of}
-use Rattle.polygons.specs.Rings.{HasEnds, edges_of}
-use Rattle.polygons.specs.declared.rings.Rings.{Rings}
-use Rattle.polygons.proofs.Callers.{AreEnds-joined, rings-joined}
+use Rattle.noding.specs.Offsets.{AreJoined, offsets}
+use Rattle.overlay.specs.Overlay.{IsOverlay}
+use Rattle.overlay.specs.Polygons.{AreAppended, rings_of}
+use Rattle.overlay.specs.Rings.{HasEnds, edges_of}
+use Rattle.overlay.specs.declared.rings.Rings.{Rings}
+use Rattle.overlay.proofs.Callers.{AreEnds-joined, rings-joined}
 use Rattle.layers.specs.Each.{AreOverlays}
 use Rattle.layers.specs.Gathered.{group_edges, group_rings}
 use Rattle.layers.specs.Shapes.{edges_of_groups, groups_of, rings_at, shape_edges}

@@ -4,8 +4,8 @@ use Rattle.std.specs.List.{All, between, flat_map}
 use Rattle.std.proofs.lemmas.List.{length-append, length-drop, drop-drop, get_or-drop, take_more}
 use Rattle.std.proofs.lemmas.List.Elements.{All-cons, All-nil}
 use Rattle.std.proofs.Math.Seq.{take-add}
-use Rattle.overlay.specs.Snap.Offsets.{offsets}
-use Rattle.polygons.specs.Rings.{AreEnds}
+use Rattle.noding.specs.Offsets.{offsets}
+use Rattle.overlay.specs.Rings.{AreEnds}
 use Rattle.layers.specs.Shapes.{lists_of}
 
 -- ends that are right, at one place

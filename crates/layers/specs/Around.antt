@@ -9,7 +9,7 @@ use Rattle.plane.specs.Meet.Kinds.{AreSame}
 use Rattle.plane.specs.Pairs.Pairs.{ArePairsBetween}
 use Rattle.overlay.specs.declared.fill.rules.FillRule.{FillRule}
 use Rattle.overlay.specs.Fill.Rules.{is_inside}
-use Rattle.overlay.specs.Snap.Windings.{winding}
+use Rattle.noding.specs.Windings.{winding}
 use Rattle.layers.specs.declared.around.half_point.HalfPoint.{HalfPoint}
 use Rattle.layers.specs.declared.points.Border.{Border}
 use Rattle.layers.specs.declared.points.Border.TheVariants.{Closed, Open, HalfOpen}

@@ -9,8 +9,7 @@ use Rattle.plane.specs.declared.point.Point.{Point}
 use Rattle.plane.specs.Meet.Crosses.{cross}
 use Rattle.plane.specs.Meet.Edges.{RationalPoint}
 use Rattle.overlay.specs.declared.fill.rules.FillRule.{FillRule}
-use Rattle.overlay.specs.Fill.Rules.{count}
-use Rattle.overlay.specs.Snap.Windings.{pieces, winding}
+use Rattle.noding.specs.Windings.{pieces, winding, count}
 use Rattle.layers.specs.declared.around.chains.Chain.{Chain}
 use Rattle.layers.specs.declared.around.extents.Extent.{Extent}
 use Rattle.layers.specs.declared.around.half_point.HalfPoint.{HalfPoint}

@@ -4,7 +4,7 @@ use Rattle.plane.specs.declared.edge.Edge.{Edge}
 use Rattle.plane.specs.declared.point.Point.{Point}
 use Rattle.overlay.specs.declared.fill.rules.FillRule.{FillRule}
 use Rattle.overlay.specs.declared.fill.rules.Operation.{Operation}
-use Rattle.polygons.specs.Overlay.{IsOverlay}
+use Rattle.overlay.specs.Overlay.{IsOverlay}
 use Rattle.layers.specs.declared.shapes.Groups.{Groups}
 use Rattle.layers.specs.declared.shapes.Shapes.{Shapes}
 use Rattle.layers.specs.Shapes.{AreNamed, HasGroups, HasShapes}

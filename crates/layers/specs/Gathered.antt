@@ -3,7 +3,7 @@ use Rattle.std.specs.Prelude.{◌≡◌, ◌++◌, ℕ, ◌<◌, List, All, leng
 use Rattle.std.specs.List.{flat_map}
 use Rattle.plane.specs.declared.edge.Edge.{Edge}
 use Rattle.plane.specs.declared.point.Point.{Point}
-use Rattle.overlay.specs.Snap.Offsets.{offsets}
+use Rattle.noding.specs.Offsets.{offsets}
 use Rattle.layers.specs.declared.gathered.Group.{Group}
 use Rattle.layers.specs.Shapes.{HasShapes, rings_at, shape_edges}
 

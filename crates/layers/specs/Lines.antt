@@ -7,11 +7,11 @@ use Rattle.plane.specs.declared.point.Point.{Point}
 use Rattle.plane.specs.Meet.Edges.{RationalPoint}
 use Rattle.overlay.specs.declared.fill.rules.FillRule.{FillRule}
 use Rattle.overlay.specs.Contours.Rings.{real_edges}
-use Rattle.overlay.specs.Snap.Chains.{IsChain}
-use Rattle.overlay.specs.Snap.Offsets.{Extends}
-use Rattle.overlay.specs.Snap.Windings.{pieces}
-use Rattle.polygons.specs.Polygons.{AreAppended}
-use Rattle.polygons.specs.Rings.{AreEnds}
+use Rattle.noding.specs.Chains.{IsChain}
+use Rattle.noding.specs.Offsets.{Extends}
+use Rattle.noding.specs.Windings.{pieces}
+use Rattle.overlay.specs.Polygons.{AreAppended}
+use Rattle.overlay.specs.Rings.{AreEnds}
 use Rattle.layers.specs.declared.lines.Keep.{Keep}
 use Rattle.layers.specs.declared.lines.Keep.TheVariants.{Inside, Outside}
 use Rattle.layers.specs.declared.lines.Lines.{Lines}

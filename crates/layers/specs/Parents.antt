@@ -5,8 +5,8 @@ use Rattle.std.specs.Prelude.{◌≡◌, ◌≢◌, ◌<◌, ◌≤◌, ◌⊎�
 use Rattle.overlay.specs.Contours.Outlines.{next_or}
 use Rattle.overlay.specs.Contours.Rings.{ring_edges}
 use Rattle.overlay.specs.Fill.Rules.{is_inside}
-use Rattle.overlay.specs.Snap.Offsets.{AreJoined, offsets}
-use Rattle.overlay.specs.Snap.Windings.{winding}
+use Rattle.noding.specs.Offsets.{AreJoined, offsets}
+use Rattle.noding.specs.Windings.{winding}
 use Rattle.overlay.specs.declared.fill.rules.FillRule.TheVariants.{NonZero}
 use Rattle.plane.specs.Meet.Edges.{RationalPoint}
 use Rattle.plane.specs.declared.point.Point.{Point}

@@ -4,7 +4,7 @@ use Rattle.std.specs.List.{between, flat_map}
 use Rattle.plane.specs.declared.edge.Edge.{Edge}
 use Rattle.plane.specs.declared.point.Point.{Point}
 use Rattle.overlay.specs.Contours.Rings.{ring_edges}
-use Rattle.polygons.specs.Rings.{AreEnds}
+use Rattle.overlay.specs.Rings.{AreEnds}
 use Rattle.layers.specs.declared.shapes.Shapes.{Shapes}
 use Rattle.layers.specs.declared.shapes.Groups.{Groups}
 

@@ -1,10 +1,10 @@
 //! Polygons appended to others.
 
 ghost use Rattle.std.specs.Prelude.{◌≡◌, ◌++◌, ◌+◌, ◌^◌, ◌<◌, ◌≤◌, All, OnErr, OnOk, length, map};
-ghost use Rattle.overlay.specs.Snap.Offsets.{Extends};
-ghost use Rattle.polygons.specs.Polygons.{AreExtended};
+ghost use Rattle.noding.specs.Offsets.{Extends};
+ghost use Rattle.overlay.specs.Polygons.{AreExtended};
 
-use polygons::Polygons;
+use overlay::Polygons;
 use std::alloc::{AllocError, Allocator};
 
 /// Appends polygons that stand in lists of their own.

@@ -3,9 +3,9 @@
 ghost use Rattle.std.specs.Prelude.{◌≡◌, ◌++◌, ◌↔◌, ◌<◌, [], List, IsTrue, OnErr, OnOk, Err, get_or, length};
 ghost use Rattle.std.specs.List.{flat_map};
 ghost use Rattle.plane.specs.declared.point.Point.{Point};
-ghost use Rattle.overlay.specs.Snap.Offsets.{Extends, offsets};
-ghost use Rattle.polygons.specs.Overlay.{IsOverlay};
-ghost use Rattle.polygons.specs.Polygons.{Appends, AreAsBefore, AreExtended};
+ghost use Rattle.noding.specs.Offsets.{Extends, offsets};
+ghost use Rattle.overlay.specs.Overlay.{IsOverlay};
+ghost use Rattle.overlay.specs.Polygons.{Appends, AreAsBefore, AreExtended};
 ghost use Rattle.layers.specs.Each.{AreOverlays, HaveLengths, HaveShapes};
 ghost use Rattle.layers.specs.Gathered.{HasGroup, group_edges, group_rings};
 ghost use Rattle.layers.specs.Shapes.{AreNamed, HasGroups, HasShapes, edges_of_groups, groups_of, rings_at};
@@ -16,8 +16,9 @@ use crate::gathered::{Group, gathered, point_count};
 use crate::shapes::{Groups, Shapes, are_groups, are_named, are_shapes, list_at};
 use bumpalo::Bump;
 use i_tree::Refusal;
+use monotone_chains::overlay;
 use overlay::fill::{FillRule, Operation};
-use polygons::{OverlayFault, Polygons, overlay};
+use overlay::{OverlayFault, Polygons};
 use std::alloc::Allocator;
 
 // Two groups with so many points together, or fewer, take their working lists from the arena, which keeps what lists gave back until
@@ -28,7 +29,7 @@ const FEW_POINTS: usize = 4096;
 /// Appends, for each two groups at one place, the polygons of what the operation makes of the subjects of the one and the clips of
 /// the other, and where these polygons stop among all polygons.
 ///
-/// All rings of a group's shapes are taken together, as one set of rings by `polygons::overlay`, which says what the polygons are.
+/// All rings of a group's shapes are taken together, as one set of rings by `monotone_chains::overlay`, which says what the polygons are.
 /// So a pair of shapes is two groups of one place each. Groups without clips and the union join the shapes of each group. A subject
 /// and all clips that touch it, by the difference, leave what none of these covers.
 ///

@@ -1,13 +1,13 @@
 //! `GatheredRings`: the rings of a group of shapes, in one list.
 
 ghost use Rattle.std.specs.Prelude.{◌≡◌, ◌<◌, [], IfOk, OnOk, get_or, length};
-ghost use Rattle.overlay.specs.Snap.Offsets.{AreJoined};
+ghost use Rattle.noding.specs.Offsets.{AreJoined};
 ghost use Rattle.layers.specs.Gathered.{AreGathered, HasGroup, group_rings};
 ghost use Rattle.layers.specs.Shapes.{HasShapes, shapes_of};
 
 use crate::shapes::{Shapes, list_at, points_at, range_at};
+use overlay::Rings;
 use plane::point::Point;
-use polygons::Rings;
 use std::alloc::{AllocError, Allocator};
 
 /// The shapes at these places.

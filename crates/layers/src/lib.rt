@@ -19,7 +19,7 @@ pub use each::overlay_each;
 pub use fault::LayerFault;
 pub use lines::{Keep, Lines, Pieces, clip_lines};
 pub use overlay::fill::{FillRule, Operation};
+pub use overlay::{Polygons, Rings};
 pub use plane::point::Point;
 pub use points::{Border, points_in};
-pub use polygons::{Polygons, Rings};
 pub use shapes::{Groups, Shapes};

@@ -1,7 +1,7 @@
 //! Shapes and groups of shapes, as lists and where each stops.
 
 ghost use Rattle.std.specs.Prelude.{◌≡◌, ◌↔◌, ◌<◌, ◌≤◌, ℕ, [], IsTrue, get_or, length, slice_index};
-ghost use Rattle.polygons.specs.Rings.{AreEnds};
+ghost use Rattle.overlay.specs.Rings.{AreEnds};
 ghost use Rattle.layers.specs.Shapes.{AreNamed, HasGroups, HasShapes, lists_of, shape_points, shapes_of, start_of};
 
 use plane::point::Point;

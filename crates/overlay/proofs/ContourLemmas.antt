@@ -7,7 +7,6 @@ pub mod Order
 pub mod Outlines
 pub mod RealEdges
 pub mod Rings
-pub mod Settled
 pub mod Straight
 pub mod Turns
 pub mod Walks

@@ -12,11 +12,11 @@ use Rattle.overlay.specs.declared.fill.rules.Operation.{Operation}
 use Rattle.overlay.specs.Contours.Rings.{IsRing, ring_edges}
 use Rattle.overlay.specs.Fill.Filled.{AreDistinct, AreNoded}
 use Rattle.overlay.specs.Fill.Turned.{turned}
-use Rattle.overlay.specs.Fill.Rules.{count, is_result}
-use Rattle.overlay.specs.Snap.Chains.{IsChain}
-use Rattle.overlay.specs.Snap.Near.{IsNear}
-use Rattle.overlay.specs.Snap.Offsets.{offsets}
-use Rattle.overlay.specs.Snap.Windings.{edge_between, end_of, pieces, start_of, winding, IsAlongAxis}
+use Rattle.overlay.specs.Fill.Rules.{is_result}
+use Rattle.noding.specs.Chains.{IsChain}
+use Rattle.noding.specs.Near.{IsNear}
+use Rattle.noding.specs.Offsets.{offsets}
+use Rattle.noding.specs.Windings.{edge_between, end_of, pieces, start_of, winding, IsAlongAxis, count}
 
 -- 1 around a point of the result, else 0, by the winding numbers of the subject and of the clip there.
 abbrev pub result_at : FillRule → Operation → List Edge → List Edge → RationalPoint → ℤ

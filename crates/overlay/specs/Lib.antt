@@ -1,5 +1,8 @@
+pub mod Areas
 pub mod Boundary
 pub mod Contours
 pub mod Fill
-pub mod Snap
-pub mod Stretches
+pub mod Grouping
+pub mod Overlay
+pub mod Polygons
+pub mod Rings

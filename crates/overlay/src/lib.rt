@@ -1,12 +1,20 @@
-//! Overlay of polygons on the grid of whole points: edges are broken where they meet, and their pieces have whole ends again;
-//! which of them bound what is inside; and closed edges become rings.
+//! Overlay of polygons: the union, intersection, difference or xor of two sets of rings, as polygons with holes.
 //!
-//! All is told in whole numbers, and what is rounded is rounded exactly.
+//! Rings are points on a grid of whole numbers, and may cross, touch and overlap as they like. The result is told for every
+//! point of the plane. All is told in whole numbers, and what is rounded is rounded exactly.
 #![tactic(auto)]
 
+pub mod areas;
 pub mod boundary;
+pub mod call;
 pub mod contours;
-mod edges;
+pub mod fault;
 pub mod fill;
-pub mod snap;
-pub mod stretches;
+mod grouping;
+pub mod rings;
+
+pub use call::{overlay, overlay_by, overlay_over, simplify};
+pub use fault::OverlayFault;
+pub use fill::{FillRule, Operation};
+pub use plane::point::Point;
+pub use rings::{Polygons, Rings};

@@ -5,7 +5,7 @@ use Rattle.plane.specs.declared.edge.Edge.{Edge}
 use Rattle.plane.specs.declared.point.Point.{Point}
 use Rattle.plane.specs.Ends.{start_of, end_of}
 use Rattle.plane.specs.Meet.Edges.{RationalPoint, IsOf}
-use Rattle.overlay.specs.Snap.Meeting.{MeetAtEnds}
+use Rattle.noding.specs.Meeting.{MeetAtEnds}
 
 -- Each point of both edges is an end of both, or the two have the same ends.
 abbrev pub MeetAtEndsAlone : Edge → Edge → Type 0

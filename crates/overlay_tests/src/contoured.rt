@@ -3,7 +3,7 @@
 //! Which ring comes first, and at which of its points it begins, may change with the code.
 
 ghost use Rattle.std.specs.Prelude.{IfOk};
-ghost use Rattle.overlay.specs.Snap.Windings.{IsClosed};
+ghost use Rattle.noding.specs.Windings.{IsClosed};
 
 use crate::walks::{edges_of, push_walk};
 use i_tree::Refusal;

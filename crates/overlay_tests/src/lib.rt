@@ -1,4 +1,4 @@
-//! For tests alone: worked examples of the public calls of `overlay` and of `polygons`.
+//! For tests alone: worked examples of the public calls of `noding`, `overlay` and `monotone_chains`.
 #![tactic(auto)]
 
 #[cfg(test)]

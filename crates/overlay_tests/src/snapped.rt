@@ -1,7 +1,7 @@
 //! Edges and their chains, as worked by hand, and each request for memory refused in turn.
 
 use i_tree::Refusal;
-use overlay::snap::snap;
+use noding::snap;
 use plane::edge::Edge;
 use plane::point::Point;
 use std::alloc::Global;

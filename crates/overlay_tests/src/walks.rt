@@ -3,7 +3,7 @@
 ghost use Rattle.std.specs.Prelude.{◌≡◌, ◌≤◌, ◌++◌, ◌∷◌, [], true, All, IfOk, OnOk, drop, length, take};
 ghost use Rattle.plane.specs.declared.point.Point.{Point};
 ghost use Rattle.overlay.specs.Fill.Filled.{AreNoded};
-ghost use Rattle.overlay.specs.Snap.Windings.{IsClosed, edge_between, reversed};
+ghost use Rattle.noding.specs.Windings.{IsClosed, edge_between, reversed};
 ghost use Rattle.overlay_tests.specs.Walks.{IsEndAt, MeetAtEndsAlone};
 
 use i_tree::Refusal;

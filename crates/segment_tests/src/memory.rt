@@ -2,7 +2,7 @@
 
 use crate::calls::{Tree, collect, insert, tree_over};
 use i_tree::seg::exp::{SegExpCollection, SegRange};
-use itree_lib::run::{SegCommand, SegReply, run_segments};
+use runs::{SegCommand, SegReply, run_segments};
 use std::alloc::Global;
 use test_kit::Refusing;
 use test_kit::growth::{COMMANDS, COUNT, MOST_REQUESTS, asks_once, most_held};

@@ -3,7 +3,7 @@
 use crate::calls::{Tree, collect, finds, found, insert, numbers_of, places, tree_over};
 use crate::rows::{Step, Told, command, is_told};
 use i_tree::Refusal;
-use itree_lib::run::{SegReply, run_segments};
+use runs::{SegReply, run_segments};
 use std::alloc::{Allocator, Global};
 use test_kit::Refusing;
 use test_kit::in_turn::{Fault, Trial, refuse_in_turn};

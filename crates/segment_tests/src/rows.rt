@@ -2,7 +2,7 @@
 
 use crate::calls::tree_over;
 use i_tree::seg::exp::SegRange;
-use itree_lib::run::{SegCommand, SegReply, run_segments};
+use runs::{SegCommand, SegReply, run_segments};
 use std::alloc::{Allocator, Global};
 use test_kit::until::Until;
 

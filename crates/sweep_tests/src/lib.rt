@@ -1,4 +1,4 @@
-//! For tests alone: worked examples of the public calls of `itree_lib::sweep`.
+//! For tests alone: worked examples of the public calls of `horizontal`.
 #![tactic(auto)]
 
 #[cfg(test)]

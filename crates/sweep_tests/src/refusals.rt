@@ -5,7 +5,7 @@ use i_tree::Refusal;
 use i_tree::key::exp::KeyExpCollection;
 use i_tree::key::list::KeyExpList;
 use i_tree::key::tree::KeyExpTree;
-use itree_lib::sweep::{Level, Point, Segment, SweepFault, below};
+use horizontal::{Level, Point, Segment, SweepFault, below};
 use std::alloc::{Allocator, Global};
 use std::test::Fail;
 use test_kit::Refusing;

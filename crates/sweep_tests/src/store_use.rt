@@ -2,7 +2,7 @@
 
 use crate::worked::{Row, hold_others, sweeps_to};
 use i_tree::Refusal;
-use itree_lib::sweep::SweepFault;
+use horizontal::SweepFault;
 use std::alloc::Global;
 use std::test::Fail;
 use test_kit::watched::{Call, Calls, Watched};

@@ -4,7 +4,7 @@ use i_tree::Refusal;
 use i_tree::key::exp::KeyExpCollection;
 use i_tree::key::list::KeyExpList;
 use i_tree::key::tree::KeyExpTree;
-use itree_lib::sweep::{Level, Point, Segment, SweepFault, below};
+use horizontal::{Level, Point, Segment, SweepFault, below};
 use std::alloc::Global;
 use std::cmp::Ordering;
 use std::test::Fail;

@@ -14,16 +14,16 @@ use Rattle.overlay.specs.declared.fill.rules.FillRule.TheVariants.{NonZero}
 use Rattle.overlay.specs.declared.fill.rules.Operation.TheVariants.{Difference}
 use Rattle.overlay.specs.Boundary.{result_at}
 use Rattle.overlay.specs.Contours.Rings.{ring_edges}
-use Rattle.overlay.specs.Fill.Rules.{count, is_inside}
-use Rattle.overlay.specs.Snap.Offsets.{AreJoined, offsets}
-use Rattle.overlay.specs.Snap.Windings.{IsAlongAxis, winding}
-use Rattle.overlay.proofs.SnapLemmas.Counted.{counted, covers, is_low}
-use Rattle.overlay.proofs.SnapLemmas.Exact.{low_level}
-use Rattle.overlay.proofs.SnapLemmas.Windings.{back, under-left, under-right, winding-added, winding-append}
+use Rattle.overlay.specs.Fill.Rules.{is_inside}
+use Rattle.noding.specs.Offsets.{AreJoined, offsets}
+use Rattle.noding.specs.Windings.{IsAlongAxis, winding, count}
+use Rattle.noding.proofs.SnapLemmas.Counted.{counted, covers, is_low}
+use Rattle.noding.proofs.SnapLemmas.Exact.{low_level}
+use Rattle.noding.proofs.SnapLemmas.Windings.{back, under-left, under-right, winding-added, winding-append}
 use Rattle.uses.specs.declared.free_of_masks.Rectangle.{Rectangle}
-use Rattle.polygons.specs.Overlay.{IsOverlay}
-use Rattle.polygons.specs.Rings.{AreEnds, rings_of}
-use Rattle.polygons.proofs.Callers.{AreEnds-joined, rings-joined}
+use Rattle.overlay.specs.Overlay.{IsOverlay}
+use Rattle.overlay.specs.Rings.{AreEnds, rings_of}
+use Rattle.overlay.proofs.Callers.{AreEnds-joined, rings-joined}
 use Rattle.uses.specs.Masks.{AreFree, box, corners, is_free, is_of}
 
 -- what a level edge counts: whether it covers the point, and isn't above it

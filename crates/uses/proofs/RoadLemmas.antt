@@ -8,10 +8,10 @@ use Rattle.plane.specs.Meet.Kinds.{IsEnd}
 use Rattle.plane.specs.SweepLine.Crossings.{Cross, IsCrossing}
 use Rattle.plane.proofs.MeetLemmas.Identities.{identity, minus, number, plus, times}
 use Rattle.overlay.specs.Fill.Filled.{AreNoded}
-use Rattle.overlay.specs.Snap.Meeting.{MeetAtEnds}
+use Rattle.noding.specs.Meeting.{MeetAtEnds}
 use Rattle.overlay.proofs.FillLemmas.Level.{MeetOnly}
 use Rattle.overlay.proofs.FillLemmas.Uncrossed.{uncrossed}
-use Rattle.overlay.proofs.SnapLemmas.Numbers.{n_of}
+use Rattle.noding.proofs.SnapLemmas.Numbers.{n_of}
 use Rattle.uses.specs.Roads.{double}
 
 -- the point at half its place

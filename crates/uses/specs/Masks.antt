@@ -4,9 +4,8 @@ use Rattle.std.specs.Int.{int_max}
 use Rattle.std.specs.List.{list_any}
 use Rattle.plane.specs.declared.point.Point.{Point}
 use Rattle.plane.specs.Meet.Edges.{RationalPoint}
-use Rattle.overlay.specs.Fill.Rules.{count}
-use Rattle.overlay.specs.Snap.Windings.{winding}
-use Rattle.polygons.specs.Overlay.{polygon_edges}
+use Rattle.noding.specs.Windings.{winding, count}
+use Rattle.overlay.specs.Overlay.{polygon_edges}
 use Rattle.uses.specs.declared.free_of_masks.Rectangle.{Rectangle}
 
 -- The corners of a box, counterclockwise.

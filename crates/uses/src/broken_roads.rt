@@ -3,11 +3,11 @@
 ghost use Rattle.std.specs.Prelude.{Contains, IfOk};
 ghost use Rattle.plane.specs.Meet.Edges.{RationalPoint, IsOf};
 ghost use Rattle.plane.specs.declared.edge.Edge.{Edge};
-ghost use Rattle.overlay.specs.Snap.Meeting.{MeetAtEnds};
+ghost use Rattle.noding.specs.Meeting.{MeetAtEnds};
 
 use i_tree::Refusal;
-use overlay::snap::pieces::pieces_of;
-use overlay::snap::snap;
+use noding::pieces::pieces_of;
+use noding::snap;
 use plane::edge::Edge;
 use std::alloc::Global;
 

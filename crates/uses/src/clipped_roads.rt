@@ -1,7 +1,7 @@
 //! Roads that are clipped to polygons: the pieces of them that lie inside.
 
 ghost use Rattle.std.specs.Prelude.{◌≡◌, ◌+ℤ◌, IfOk, map};
-ghost use Rattle.polygons.specs.Rings.{edges_of};
+ghost use Rattle.overlay.specs.Rings.{edges_of};
 ghost use Rattle.uses.specs.Roads.{AreClipped, double, goes_rightwards, kept, twice_middle};
 
 use i_tree::Refusal;
@@ -10,8 +10,8 @@ use overlay::boundary::broken::broken;
 use overlay::fill::fill;
 use plane::edge::Edge;
 use plane::locate::{LocateFault, Point, locate};
-use polygons::rings::{are_ends, edges_of};
-use polygons::{FillRule, Operation, Rings};
+use overlay::rings::{are_ends, edges_of};
+use overlay::{FillRule, Operation, Rings};
 use std::alloc::{AllocError, Global};
 use thiserror::Error;
 

@@ -1,6 +1,6 @@
 //! How parts cover a whole: where there are gaps, and where parts overlap.
 
-use polygons::{FillRule, Operation, OverlayFault, Polygons, Rings, overlay, simplify};
+use overlay::{FillRule, Operation, OverlayFault, Polygons, Rings, overlay, simplify};
 use std::alloc::Global;
 
 /// Where parts don't cover their whole just once.

@@ -1,6 +1,6 @@
 //! Land that no water covers.
 
-use polygons::{FillRule, Operation, OverlayFault, Polygons, Rings, overlay};
+use overlay::{FillRule, Operation, OverlayFault, Polygons, Rings, overlay};
 use std::alloc::Global;
 
 /// The land that no water covers, as polygons with holes.

@@ -3,11 +3,11 @@
 ghost use Rattle.std.specs.Prelude.{◌≡◌, ◌≢◌, [], Err, IfOk, List, map};
 ghost use Rattle.std.specs.List.{flat_map};
 ghost use Rattle.plane.specs.declared.point.Point.{Point};
-ghost use Rattle.overlay.specs.Snap.Offsets.{offsets};
-ghost use Rattle.polygons.specs.Polygons.{AreAppended};
+ghost use Rattle.noding.specs.Offsets.{offsets};
+ghost use Rattle.overlay.specs.Polygons.{AreAppended};
 ghost use Rattle.uses.specs.Masks.{AreFree, corners};
 
-use polygons::{FillRule, Operation, OverlayFault, Point, Polygons, Rings, overlay};
+use overlay::{FillRule, Operation, OverlayFault, Point, Polygons, Rings, overlay};
 use std::alloc::{AllocError, Global};
 
 /// A rectangle along the axes, by its sides: from the left one on and before the right one, and from the low one on and before

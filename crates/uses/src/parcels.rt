@@ -1,10 +1,10 @@
 //! How much of the parcels lies in each district.
 
 ghost use Rattle.std.specs.Prelude.{length};
-ghost use Rattle.polygons.specs.Rings.{AreEnds};
+ghost use Rattle.overlay.specs.Rings.{AreEnds};
 
-use polygons::areas::twice_area;
-use polygons::{FillRule, Operation, OverlayFault, Polygons, Rings, overlay};
+use overlay::areas::twice_area;
+use overlay::{FillRule, Operation, OverlayFault, Polygons, Rings, overlay};
 use std::alloc::Global;
 
 /// Twice the area that the parcels have in each of the districts, in their order. Outer rings run counterclockwise, and holes

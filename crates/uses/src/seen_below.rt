@@ -1,7 +1,7 @@
-//! What is seen straight below each of some points: the sweep of `itree_lib` over a tree of its caller's.
+//! What is seen straight below each of some points: the sweep of `horizontal` over a tree of its caller's.
 
 use i_tree::key::tree::KeyExpTree;
-use itree_lib::sweep::{Point, Segment, SweepFault, below};
+use horizontal::{Point, Segment, SweepFault, below};
 use std::alloc::Global;
 
 /// The height of the first of the segments that is met from each point straight downwards, if one is met.

@@ -2,7 +2,7 @@
 
 use plane::edge::Edge;
 use plane::point::Point;
-use polygons::Rings;
+use overlay::Rings;
 use std::test::Fail;
 use uses::clipped_roads::clipped_roads;
 

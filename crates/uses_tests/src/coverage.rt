@@ -1,6 +1,6 @@
 //! Gaps and overlaps of parts.
 
-use polygons::{Point, Polygons, Rings};
+use overlay::{Point, Polygons, Rings};
 use std::alloc::Global;
 use std::test::Fail;
 use uses::coverage::coverage_of;

@@ -1,6 +1,6 @@
 //! What is of rectangles and of no mask.
 
-use polygons::Point;
+use overlay::Point;
 use std::test::Fail;
 use uses::free_of_masks::{Rectangle, free_of_masks};
 

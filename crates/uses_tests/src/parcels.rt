@@ -1,6 +1,6 @@
 //! Areas of parcels in districts.
 
-use polygons::{Point, Rings};
+use overlay::{Point, Rings};
 use std::test::Fail;
 use uses::parcels::twice_areas;
 

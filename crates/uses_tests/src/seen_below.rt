@@ -1,6 +1,6 @@
 //! What is seen below points.
 
-use itree_lib::sweep::{Point, Segment, SweepFault};
+use horizontal::{Point, Segment, SweepFault};
 use std::test::Fail;
 use uses::seen_below::seen_below;
 

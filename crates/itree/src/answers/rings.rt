@@ -6,8 +6,9 @@ ghost use Rattle.itree.specs.RingLines.{RingLine, HoldsSaid};
 
 use crate::fault::Fault;
 use crate::lines::{SaidRings, polygon_text};
+use monotone_chains::overlay;
 use overlay::fill::{FillRule, Operation};
-use polygons::{OverlayFault, Polygons, overlay};
+use overlay::{OverlayFault, Polygons};
 use std::alloc::Allocator;
 
 /// The text of the polygons that the operation makes of what is inside of the rings by the rule.

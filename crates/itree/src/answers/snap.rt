@@ -5,7 +5,7 @@ ghost use Rattle.itree.specs.Answers.{AnswersSnap};
 
 use crate::fault::Fault;
 use crate::lines::chain_text;
-use overlay::snap::snap;
+use noding::snap;
 use plane::edge::Edge;
 use std::alloc::Allocator;
 

@@ -8,7 +8,7 @@ ghost use Rattle.itree.specs.Answers.{AnswersSweep};
 use crate::fault::Fault;
 use crate::lines::{SweepLine, reply_text, segment_line};
 use i_tree::key::exp::KeyExpCollection;
-use itree_lib::sweep::{Level, Point, Segment, SweepFault, below};
+use horizontal::{Level, Point, Segment, SweepFault, below};
 use std::alloc::{AllocError, Allocator};
 
 /// The text of the replies to the points that the lines of the text say, over the segments that they say.

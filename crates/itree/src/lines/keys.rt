@@ -6,7 +6,7 @@ ghost use Rattle.itree.specs.Replies.{key_reply_words};
 
 use super::{LineCommand, LineReply, number, three_numbers};
 use crate::timed_key::TimedKey;
-use itree_lib::run::{KeyCommand, KeyReply};
+use runs::{KeyCommand, KeyReply};
 use std::alloc::{AllocError, Allocator};
 
 /// A command of a line: keys, expirations, values and times are whole numbers, and a probe is the key that is sought.

@@ -6,15 +6,15 @@ ghost use Rattle.std.specs.Option.{option_to_list};
 ghost use Rattle.itree.specs.Grammar.{ReadsAll, LineSays, IsFaulty, lines_of, LinesSay, IsFirstFaulty};
 ghost use Rattle.itree.specs.Replies.{polygon_lines, ring_line};
 ghost use Rattle.itree.specs.RingLines.{RingLine, SaysRing, coordinates, Holds, HoldsSaid};
-ghost use Rattle.overlay.specs.Snap.Offsets.{AreJoined, offsets};
+ghost use Rattle.noding.specs.Offsets.{AreJoined, offsets};
 ghost use Rattle.plane.specs.declared.point.Point.{Point};
-ghost use Rattle.polygons.specs.Polygons.{rings_of};
+ghost use Rattle.overlay.specs.Polygons.{rings_of};
 
 use super::points::{points_between, push_points};
 use super::{ascii_text, cut_line, line_words, two_numbers};
 use crate::fault::Fault;
 use plane::point::Point;
-use polygons::{Polygons, Rings};
+use overlay::{Polygons, Rings};
 use std::alloc::{AllocError, Allocator};
 
 /// Rings: the points of all of them, one ring after another, and where each stops among these.

@@ -3,12 +3,12 @@
 ghost use Rattle.std.specs.Prelude.{◌≡◌, ◌++◌, ◌∷◌, codes, map, IfSome, IsNone, OnOk, string_bytes};
 ghost use Rattle.itree.specs.Replies.{seg_reply_words, value_words};
 ghost use Rattle.itree.specs.SegLines.{SaysSegCommand, SaysNoSegCommand};
-ghost use Rattle.itree_lib.specs.Run.SegMachine.{reply_of};
+ghost use Rattle.runs.specs.SegMachine.{reply_of};
 
 use super::{LineCommand, LineReply, number, three_numbers};
 use crate::timed_val::TimedVal;
 use i_tree::seg::exp::SegRange;
-use itree_lib::run::{SegCommand, SegReply};
+use runs::{SegCommand, SegReply};
 use std::alloc::{AllocError, Allocator};
 
 /// A command of a line: the ends of ranges, expirations, values and times are whole numbers.

@@ -7,7 +7,7 @@ ghost use Rattle.itree.specs.SetLines.{SaysSetCommand};
 
 use super::{LineCommand, LineReply, number};
 use crate::set_key::SetKey;
-use itree_lib::run::{SetCommand, SetReply};
+use runs::{SetCommand, SetReply};
 use std::alloc::{AllocError, Allocator};
 
 /// A command of a line: a key is a whole number, and a value is its key.

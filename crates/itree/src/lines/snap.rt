@@ -2,7 +2,7 @@
 
 ghost use Rattle.std.specs.Prelude.{◌≡◌, List, IfOk, string_bytes};
 ghost use Rattle.itree.specs.Replies.{chain_words, reply_lines};
-ghost use Rattle.overlay.specs.Snap.Offsets.{AreJoined};
+ghost use Rattle.noding.specs.Offsets.{AreJoined};
 ghost use Rattle.plane.specs.declared.point.Point.{Point};
 
 use super::points::{points_between, push_points};

@@ -6,7 +6,7 @@ ghost use Rattle.itree.specs.Replies.{height_words};
 ghost use Rattle.itree.specs.SweepLines.{SaysSweepLine, SaysNoSweepLine, segment_in, point_in, segments_of, says_segment, IsSegmentLine};
 
 use super::{LineCommand, LineReply, ascii_text, cut_line, three_numbers, two_numbers};
-use itree_lib::sweep::{Point, Segment};
+use horizontal::{Point, Segment};
 use std::alloc::{AllocError, Allocator};
 
 /// What a line of a sweep says.

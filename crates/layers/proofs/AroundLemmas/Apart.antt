@@ -6,8 +6,8 @@ use Rattle.std.proofs.lemmas.Int.{clamps, ints}
 use Rattle.plane.specs.declared.edge.Edge.{Edge}
 use Rattle.plane.specs.declared.pairs.items.Bounds.{Bounds}
 use Rattle.plane.specs.declared.point.Point.{Point}
-use Rattle.overlay.specs.Snap.Windings.{end_of, start_of}
-use Rattle.overlay.proofs.SnapLemmas.Counted.{under}
+use Rattle.noding.specs.Windings.{end_of, start_of}
+use Rattle.noding.proofs.SnapLemmas.Counted.{under}
 use Rattle.layers.specs.Around.{IsOn, halved}
 use Rattle.layers.specs.Boxes.{IsInBounds}
 use Rattle.layers.specs.Chains.{IsInExtent, extent_at, is_above, is_apart}

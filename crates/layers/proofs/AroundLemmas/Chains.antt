@@ -6,8 +6,8 @@ use Rattle.std.proofs.lemmas.List.Elements.{All-head, All-tail, All-weaker}
 use Rattle.plane.specs.declared.edge.Edge.{Edge}
 use Rattle.plane.specs.declared.point.Point.{Point}
 use Rattle.plane.specs.Meet.Edges.{RationalPoint}
-use Rattle.overlay.specs.Snap.Windings.{edge_between, pieces}
-use Rattle.overlay.proofs.SnapLemmas.Counted.{added, under}
+use Rattle.noding.specs.Windings.{edge_between, pieces}
+use Rattle.noding.proofs.SnapLemmas.Counted.{added, under}
 use Rattle.layers.specs.Around.{IsOn, IsOnAny, halved}
 use Rattle.layers.specs.Boxes.{IsInBounds}
 use Rattle.layers.specs.Chains.{IsBounded, IsInExtent, IsLow, chain_edges, chain_start, is_above, is_apart}

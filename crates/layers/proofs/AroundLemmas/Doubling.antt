@@ -14,9 +14,9 @@ use Rattle.plane.specs.Pairs.Pairs.{PairBetween}
 use Rattle.plane.proofs.MeetLemmas.Identities.{Term, identity, minus, number, times}
 use Rattle.overlay.specs.declared.fill.rules.FillRule.{FillRule}
 use Rattle.overlay.specs.Fill.Rules.{is_inside}
-use Rattle.overlay.specs.Snap.Windings.{is_under, reversed, winding}
-use Rattle.overlay.proofs.ChainLemmas.Zips.{AllZip-at, AllZip-length}
-use Rattle.overlay.proofs.SnapLemmas.Numbers.{n_of}
+use Rattle.noding.specs.Windings.{is_under, reversed, winding}
+use Rattle.noding.proofs.ChainLemmas.Zips.{AllZip-at, AllZip-length}
+use Rattle.noding.proofs.SnapLemmas.Numbers.{n_of}
 use Rattle.layers.specs.declared.around.half_point.HalfPoint.{HalfPoint}
 use Rattle.layers.specs.declared.points.Border.{Border}
 use Rattle.layers.specs.declared.points.Border.TheVariants.{Closed, Open, HalfOpen}

@@ -13,7 +13,7 @@ use Rattle.plane.proofs.PairsLemmas.Points.{Gains-none, Gains-same, Gains-then}
 use Rattle.overlay.specs.declared.fill.rules.FillRule.{FillRule}
 use Rattle.overlay.specs.declared.fill.rules.FillRule.TheVariants.{EvenOdd, Negative, NonZero, Positive}
 use Rattle.overlay.specs.Fill.Rules.{is_inside}
-use Rattle.overlay.specs.Snap.Windings.{winding}
+use Rattle.noding.specs.Windings.{winding}
 use Rattle.layers.specs.Around.{IsOn, IsOnAny, LiesIn, halved}
 use Rattle.layers.specs.Chains.{AreApart, AreSameAround, IsAround, IsBounded, LiesAmong, LiesInChains, chain_edges, edges_in, edges_of_chains, is_in}
 use Rattle.layers.specs.declared.around.chains.Chain.{Chain}

@@ -9,7 +9,7 @@ use Rattle.plane.specs.Pairs.Points.{Gains}
 use Rattle.plane.proofs.PairsLemmas.Points.{Gains-same, Gains-then}
 use Rattle.overlay.specs.declared.fill.rules.FillRule.{FillRule}
 use Rattle.overlay.specs.Fill.Rules.{is_inside}
-use Rattle.overlay.specs.Snap.Windings.{winding}
+use Rattle.noding.specs.Windings.{winding}
 use Rattle.layers.specs.declared.around.chains.Chain.{Chain}
 use Rattle.layers.specs.declared.around.extents.Extent.{Extent}
 use Rattle.layers.specs.declared.around.placed.Placed.{Placed}

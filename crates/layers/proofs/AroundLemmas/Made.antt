@@ -10,7 +10,7 @@ use Rattle.i_tree.proofs.RootLemmas.Joined.{AllPairs-append}
 use Rattle.plane.specs.declared.edge.Edge.{Edge}
 use Rattle.plane.specs.declared.point.Point.{Point}
 use Rattle.overlay.specs.Contours.Rings.{ring_edges}
-use Rattle.overlay.specs.Snap.Windings.{pieces}
+use Rattle.noding.specs.Windings.{pieces}
 use Rattle.overlay.proofs.ContourLemmas.Rings.{pieces-append}
 use Rattle.layers.specs.Chains.{AppendsChains, AreChainsOf, AreInOrder, AreOfShape, IsBounded, chain_edges, edges_in, edges_of_chains}
 use Rattle.layers.specs.declared.around.chains.Chain.{Chain}

@@ -12,9 +12,9 @@ use Rattle.i_tree.proofs.RootLemmas.Joined.{AllPairs-append}
 use Rattle.plane.specs.declared.edge.Edge.{Edge}
 use Rattle.plane.specs.declared.point.Point.{Point}
 use Rattle.plane.specs.Meet.Edges.{RationalPoint}
-use Rattle.overlay.specs.Fill.Rules.{count}
-use Rattle.overlay.proofs.SnapLemmas.Counted.{added}
-use Rattle.overlay.proofs.SnapLemmas.Windings.{winding-added, winding-append}
+use Rattle.noding.specs.Windings.{count}
+use Rattle.noding.proofs.SnapLemmas.Counted.{added}
+use Rattle.noding.proofs.SnapLemmas.Windings.{winding-added, winding-append}
 use Rattle.layers.specs.Around.{IsOn, IsOnAny, halved}
 use Rattle.layers.specs.Chains.{AreInOrder, AreSameAround, AreSameIn, AreUpto, IsBounded, IsInExtent, IsLow, Leads, chain_edges, chain_start, edges_in, edges_of_chains, is_above, is_apart, is_beside}
 use Rattle.layers.specs.declared.around.chains.Chain.{Chain}

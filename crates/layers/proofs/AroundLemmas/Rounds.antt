@@ -6,9 +6,9 @@ use Rattle.std.proofs.lemmas.List.Sums.{count_by-le-length}
 use Rattle.plane.specs.declared.edge.Edge.{Edge}
 use Rattle.plane.specs.Meet.Crosses.{IsWithin}
 use Rattle.plane.specs.Meet.Edges.{RationalPoint}
-use Rattle.overlay.specs.Snap.Windings.{is_under, reversed, winding}
-use Rattle.overlay.proofs.SnapLemmas.Counted.{added, under}
-use Rattle.overlay.proofs.SnapLemmas.Windings.{winding-added, winding-append}
+use Rattle.noding.specs.Windings.{is_under, reversed, winding}
+use Rattle.noding.proofs.SnapLemmas.Counted.{added, under}
+use Rattle.noding.proofs.SnapLemmas.Windings.{winding-added, winding-append}
 use Rattle.layers.specs.Around.{IsOn, IsOnAny}
 use Rattle.layers.specs.Chains.{AreSameAround, IsAround}
 use Rattle.layers.specs.declared.around.turns.Around.{Around}

@@ -8,12 +8,11 @@ use Rattle.plane.specs.Meet.Edges.{RationalPoint}
 use Rattle.plane.specs.SweepLine.Heights.{run}
 use Rattle.plane.proofs.MeetLemmas.Boxes.{way_above, way_below}
 use Rattle.plane.proofs.MeetLemmas.Identities.{identity, minus, number, plus, scaled, times, unscaled}
-use Rattle.overlay.specs.Fill.Rules.{count}
-use Rattle.overlay.specs.Snap.Windings.{reversed}
-use Rattle.overlay.proofs.SnapLemmas.Counted.{counted, covers, height_at, is_low, under}
-use Rattle.overlay.proofs.SnapLemmas.Heights.{Covering, height_of}
-use Rattle.overlay.proofs.SnapLemmas.Numbers.{n_of, side, zero_by}
-use Rattle.overlay.proofs.SnapLemmas.Windings.{after, before}
+use Rattle.noding.specs.Windings.{reversed, count}
+use Rattle.noding.proofs.SnapLemmas.Counted.{counted, covers, height_at, is_low, under}
+use Rattle.noding.proofs.SnapLemmas.Heights.{Covering, height_of}
+use Rattle.noding.proofs.SnapLemmas.Numbers.{n_of, side, zero_by}
+use Rattle.noding.proofs.SnapLemmas.Windings.{after, before}
 use Rattle.layers.specs.Around.{IsOn}
 
 -- ---- tests of numbers

@@ -12,11 +12,10 @@ use Rattle.plane.specs.Meet.Kinds.{HasPoint}
 use Rattle.plane.proofs.MeetLemmas.Along.{meet-of_along}
 use Rattle.plane.proofs.MeetLemmas.Identities.{Term, identity, minus, number, plus, same_of, scaled, times}
 use Rattle.plane.proofs.MeetLemmas.Kinds.{dot, has_point-of_meet}
-use Rattle.overlay.specs.Fill.Rules.{count}
-use Rattle.overlay.specs.Snap.Windings.{edge_between, reversed}
-use Rattle.overlay.proofs.SnapLemmas.Counted.{counted, covers, is_low, is_low-left, under}
-use Rattle.overlay.proofs.SnapLemmas.Numbers.{n_of}
-use Rattle.overlay.proofs.SnapLemmas.Windings.{back, winding-added}
+use Rattle.noding.specs.Windings.{edge_between, reversed, count}
+use Rattle.noding.proofs.SnapLemmas.Counted.{counted, covers, is_low, is_low-left, under}
+use Rattle.noding.proofs.SnapLemmas.Numbers.{n_of}
+use Rattle.noding.proofs.SnapLemmas.Windings.{back, winding-added}
 use Rattle.layers.specs.Around.{IsOn, halved}
 use Rattle.layers.specs.Boxed.{box_at, grown}
 use Rattle.layers.specs.Boxes.{IsInBounds}

@@ -10,11 +10,11 @@ use Rattle.plane.specs.declared.edge.Edge.{Edge}
 use Rattle.plane.specs.declared.point.Point.{Point}
 use Rattle.overlay.specs.Boundary.{StopSome}
 use Rattle.overlay.specs.Contours.Rings.{has_two_ends, real_edges, ring_edges}
-use Rattle.overlay.specs.Snap.Chains.{AreChains, IsChain}
-use Rattle.overlay.specs.Snap.Offsets.{offsets}
-use Rattle.overlay.specs.Snap.Windings.{pieces}
+use Rattle.noding.specs.Chains.{AreChains, IsChain}
+use Rattle.noding.specs.Offsets.{offsets}
+use Rattle.noding.specs.Windings.{pieces}
 use Rattle.overlay.proofs.BoundaryLemmas.Broken.{chains-count, chains-some}
-use Rattle.overlay.proofs.ChainLemmas.Zips.{AllZip-length}
+use Rattle.noding.proofs.ChainLemmas.Zips.{AllZip-length}
 use Rattle.layers.specs.LineParts.{AreBrokenEdges, AreGathered, IsLoop, real_ring}
 use Rattle.layers.specs.Lines.{AreBrokenTogether, all_edges, line_edges}
 use Rattle.layers.proofs.LineLemmas.Lists.{offsets-back, offsets-from, offsets-made, offsets-same, zipped}

@@ -5,14 +5,14 @@ use Rattle.std.proofs.lemmas.List.Elements.{All-head, All-tail}
 use Rattle.plane.specs.declared.edge.Edge.{Edge}
 use Rattle.plane.specs.declared.point.Point.{Point}
 use Rattle.overlay.specs.Contours.Rings.{real_edges}
-use Rattle.overlay.specs.Snap.Chains.{AreChains, IsChain}
-use Rattle.overlay.specs.Snap.Windings.{pieces}
+use Rattle.noding.specs.Chains.{AreChains, IsChain}
+use Rattle.noding.specs.Windings.{pieces}
 use Rattle.overlay.proofs.BoundaryLemmas.Broken.{zip-append}
 use Rattle.layers.specs.Lines.{AreBrokenTogether, AreRuns, all_edges, line_edges}
 
 -- ---- all edges are broken together
 
--- The chains of the lines' edges and of the rings' are those of all edges: so what `overlay::snap` tells of chains holds of them.
+-- The chains of the lines' edges and of the rings' are those of all edges: so what `noding::snap` tells of chains holds of them.
 pub all-chains : (lines : List (List Point)) (rings : List Edge) (broken : List (List Edge)) (broken_rings : List Edge) (are : AreBrokenTogether lines rings broken broken_rings)
     → AreChains (all_edges lines rings) (flat_map (λ of_line. of_line) are.chains ++ are.ring_chains)
 all-chains lines rings broken broken_rings are =

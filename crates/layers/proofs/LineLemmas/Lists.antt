@@ -5,10 +5,10 @@ use Rattle.std.proofs.lemmas.Grind.{flat_map-append}
 use Rattle.std.proofs.lemmas.List.{length-append, take-append-drop}
 use Rattle.std.proofs.lemmas.List.Elements.{All-cons, All-nil}
 use Rattle.std.proofs.Math.Seq.{drop-append_seam, take-append_seam}
-use Rattle.overlay.specs.Snap.Offsets.{offsets}
+use Rattle.noding.specs.Offsets.{offsets}
 use Rattle.overlay.proofs.BoundaryLemmas.Broken.{zip-back, zip-front}
-use Rattle.overlay.proofs.ChainLemmas.Zips.{AllZip-length}
-use Rattle.polygons.specs.Rings.{AreEnds}
+use Rattle.noding.proofs.ChainLemmas.Zips.{AllZip-length}
+use Rattle.overlay.specs.Rings.{AreEnds}
 use Rattle.layers.specs.Shapes.{lists_of}
 
 module _ {X Y : Type 0} (R : X → Y → Type 0) where

@@ -13,9 +13,9 @@ use Rattle.plane.specs.declared.point.Point.{Point}
 use Rattle.plane.specs.Pairs.Pairs.{PairBetween}
 use Rattle.overlay.specs.declared.fill.rules.FillRule.{FillRule}
 use Rattle.overlay.specs.Contours.Rings.{ring_edges}
-use Rattle.overlay.specs.Snap.Offsets.{AreJoined, offsets}
-use Rattle.overlay.specs.Snap.Windings.{start_of}
-use Rattle.polygons.specs.Rings.{AreEnds}
+use Rattle.noding.specs.Offsets.{AreJoined, offsets}
+use Rattle.noding.specs.Windings.{start_of}
+use Rattle.overlay.specs.Rings.{AreEnds}
 use Rattle.layers.specs.declared.lines.Keep.{Keep}
 use Rattle.layers.specs.declared.lines.Keep.TheVariants.{Inside, Outside}
 use Rattle.layers.specs.declared.points.Border.TheVariants.{Closed}

@@ -8,10 +8,10 @@ use Rattle.i_tree.proofs.RootLemmas.Joined.{All-behind, All-front}
 use Rattle.plane.specs.declared.edge.Edge.{Edge}
 use Rattle.plane.specs.declared.point.Point.{Point}
 use Rattle.overlay.specs.Contours.Rings.{has_two_ends, real_edges, ring_edges}
-use Rattle.overlay.specs.Snap.Chains.{IsChain}
-use Rattle.overlay.specs.Snap.Windings.{edge_between, end_of, pieces, start_of}
+use Rattle.noding.specs.Chains.{IsChain}
+use Rattle.noding.specs.Windings.{edge_between, end_of, pieces, start_of}
 use Rattle.overlay.proofs.ContourLemmas.RealEdges.{points-same}
-use Rattle.overlay.proofs.SnapLemmas.Callers.{ends, starts}
+use Rattle.noding.proofs.Callers.{ends, starts}
 use Rattle.layers.specs.LineParts.{IsLoop, IsPath, LeadTo, points_along, real_ring}
 use Rattle.layers.specs.Lines.{AreBrokenTogether, all_edges, line_edges}
 

@@ -9,11 +9,11 @@ use Rattle.std.proofs.lemmas.List.Folds.{drop_split}
 use Rattle.plane.specs.declared.edge.Edge.{Edge}
 use Rattle.plane.specs.declared.point.Point.{Point}
 use Rattle.overlay.specs.declared.fill.rules.FillRule.{FillRule}
-use Rattle.overlay.specs.Snap.Offsets.{offsets}
-use Rattle.overlay.specs.Snap.Windings.{pieces}
-use Rattle.overlay.proofs.ChainLemmas.Zips.{AllZip-at}
+use Rattle.noding.specs.Offsets.{offsets}
+use Rattle.noding.specs.Windings.{pieces}
+use Rattle.noding.proofs.ChainLemmas.Zips.{AllZip-at}
 use Rattle.layers.specs.declared.lines.Keep.{Keep}
-use Rattle.polygons.specs.Polygons.{AreAppended}
+use Rattle.overlay.specs.Polygons.{AreAppended}
 use Rattle.layers.specs.LineParts.{AreRunsBy, AreRunsOfEach, AreTold, IsPath, points_along}
 use Rattle.layers.specs.Lines.{AreRuns, IsKept}
 use Rattle.layers.specs.Shapes.{lists_of}

@@ -11,7 +11,7 @@ use Rattle.std.proofs.lemmas.Option.{get_or_from_slice_get, slice_get-get_or, sl
 use Rattle.i_tree.proofs.RootLemmas.Lists.{AllPairs-head, AllPairs-tail}
 use Rattle.overlay.specs.Contours.Rings.{ring_edges}
 use Rattle.overlay.specs.Fill.Rules.{is_inside}
-use Rattle.overlay.specs.Snap.Windings.{winding}
+use Rattle.noding.specs.Windings.{winding}
 use Rattle.overlay.specs.declared.fill.rules.FillRule.TheVariants.{NonZero}
 use Rattle.plane.specs.Meet.Edges.{RationalPoint}
 use Rattle.plane.specs.Pairs.Pairs.{ArePairsBetween}

@@ -4,11 +4,11 @@ use Rattle.std.specs.List.{between, flat_map}
 use Rattle.std.proofs.lemmas.List.{drop_more, drop_at, length-append, map_push}
 use Rattle.std.proofs.Math.Seq.{take-append_seam}
 use Rattle.overlay.specs.Contours.Rings.{ring_edges}
-use Rattle.overlay.specs.Snap.Offsets.{AreJoined, offsets}
+use Rattle.noding.specs.Offsets.{AreJoined, offsets}
 use Rattle.plane.specs.Meet.Edges.{RationalPoint}
 use Rattle.plane.specs.declared.edge.Edge.{Edge}
 use Rattle.plane.specs.declared.point.Point.{Point}
-use Rattle.polygons.specs.Rings.{AreEnds}
+use Rattle.overlay.specs.Rings.{AreEnds}
 use Rattle.layers.specs.Around.{halved}
 use Rattle.layers.specs.Parents.{AreOuters, middle_of, outer_of}
 use Rattle.layers.specs.Shapes.{lists_of, shape_edges, start_of}

@@ -2,8 +2,7 @@
 
 ghost use Rattle.std.specs.Prelude.{◌≡◌, ◌≤ℤ◌, ◌+ℤ◌, ◌^◌, ◌||◌, ◌∷◌, [], pos};
 ghost use Rattle.plane.specs.Meet.Crosses.{IsWithin};
-ghost use Rattle.overlay.specs.Fill.Rules.{count};
-ghost use Rattle.overlay.specs.Snap.Windings.{edge_between};
+ghost use Rattle.noding.specs.Windings.{edge_between, count};
 ghost use Rattle.layers.specs.Around.{halved};
 ghost use Rattle.layers.specs.Chains.{IsAround, IsBounded, chain_edges, is_under_side, side_of, steps_over};
 

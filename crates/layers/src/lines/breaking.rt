@@ -6,19 +6,19 @@ ghost use Rattle.i_tree.specs.declared.Refusal.TheVariants.{OutOfMemory};
 ghost use Rattle.plane.specs.declared.point.Point.{Point};
 ghost use Rattle.overlay.specs.Boundary.{AllSome, StopSome};
 ghost use Rattle.overlay.specs.Contours.Rings.{real_edges};
-ghost use Rattle.overlay.specs.Snap.Offsets.{offsets};
-ghost use Rattle.overlay.specs.Snap.Windings.{edge_between, pieces};
-ghost use Rattle.polygons.specs.Rings.{HasEnds, rings_of};
+ghost use Rattle.noding.specs.Offsets.{offsets};
+ghost use Rattle.noding.specs.Windings.{edge_between, pieces};
+ghost use Rattle.overlay.specs.Rings.{HasEnds, rings_of};
 ghost use Rattle.layers.specs.LineParts.{AreBrokenEdges, AreGathered, real_ring};
 ghost use Rattle.layers.specs.Lines.{HasLines, line_edges, lines_of};
 
 use super::Lines;
 use i_tree::Refusal;
-use overlay::snap::pieces::pieces_of;
-use overlay::snap::snap;
+use noding::pieces::pieces_of;
+use noding::snap;
+use overlay::Rings;
 use plane::edge::Edge;
 use plane::point::Point;
-use polygons::Rings;
 use std::alloc::{AllocError, Allocator};
 
 /// What the edges of lines and of rings are broken into: those of each line, one line after another, and then those of each ring; how

@@ -3,14 +3,15 @@
 ghost use Rattle.std.specs.Prelude.{◌≡◌, ◌≢◌, ◌<◌, ◌≤◌, ◌++◌, Bool, List, All, OnErr, OnOk, get_or, length, map};
 ghost use Rattle.std.specs.List.{AllWithin, flat_map};
 ghost use Rattle.plane.specs.declared.point.Point.{Point};
-ghost use Rattle.overlay.specs.Snap.Offsets.{Extends, offsets};
-ghost use Rattle.overlay.specs.Snap.Windings.{end_of, start_of};
-ghost use Rattle.polygons.specs.Rings.{AreEnds};
+ghost use Rattle.noding.specs.Offsets.{Extends, offsets};
+ghost use Rattle.noding.specs.Windings.{end_of};
+ghost use Rattle.overlay.specs.Rings.{AreEnds};
 ghost use Rattle.layers.specs.LineParts.{AreRunsBy, AreRunsOfEach, IsPath, points_along};
 ghost use Rattle.layers.specs.Lines.{Appends, AreExtended};
 ghost use Rattle.layers.specs.Shapes.{lists_of};
 
 use super::Pieces;
+use noding::edges::{end_of, start_of};
 use plane::edge::Edge;
 use plane::point::Point;
 use std::alloc::{AllocError, Allocator};
@@ -103,24 +104,4 @@ fn append_ends<A: Allocator>(edges: &[Edge], points: &mut Vec<Point, A>) -> Resu
         points.push(end_of(*edge))?;
     }
     Ok(())
-}
-
-/// The point at which the edge starts.
-pub fn start_of(edge: Edge) -> Point
-    ensures { result ≡ start_of edge }
-{
-    Point {
-        x: edge.x0,
-        y: edge.y0,
-    }
-}
-
-// The point at which the edge ends.
-fn end_of(edge: Edge) -> Point
-    ensures { result ≡ end_of edge }
-{
-    Point {
-        x: edge.x1,
-        y: edge.y1,
-    }
 }

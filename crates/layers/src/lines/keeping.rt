@@ -3,17 +3,17 @@
 ghost use Rattle.std.specs.Prelude.{◌≡◌, ◌<◌, ◌^◌, ◌+ℤ◌, All, IfOk, List, length, map};
 ghost use Rattle.plane.specs.declared.edge.Edge.{Edge};
 ghost use Rattle.plane.specs.Meet.Crosses.{IsWithin};
-ghost use Rattle.overlay.specs.Snap.Offsets.{AreJoined};
-ghost use Rattle.overlay.specs.Snap.Windings.{start_of};
+ghost use Rattle.noding.specs.Offsets.{AreJoined};
+ghost use Rattle.noding.specs.Windings.{start_of};
 ghost use Rattle.layers.specs.Around.{halved};
 ghost use Rattle.layers.specs.LineParts.{AreMarked, AreTold, IsLoop, mark_of};
 ghost use Rattle.layers.specs.Lines.{middle};
 
 use super::Keep;
-use super::joining::start_of;
 use crate::around::{HalfPoint, append_pairs_in};
 use crate::points::Border;
 use crate::shapes::Shapes;
+use noding::edges::start_of;
 use overlay::fill::FillRule;
 use plane::edge::Edge;
 use plane::point::Point;

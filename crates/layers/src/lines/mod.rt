@@ -3,7 +3,7 @@
 ghost use Rattle.std.specs.Prelude.{◌≡◌, ◌↔◌, ◌⊎◌, List, IfErr, OnErr, OnOk};
 ghost use Rattle.i_tree.specs.declared.Refusal.TheVariants.{OutOfMemory};
 ghost use Rattle.plane.specs.declared.point.Point.{Point};
-ghost use Rattle.polygons.specs.Rings.{HasEnds, edges_of};
+ghost use Rattle.overlay.specs.Rings.{HasEnds, edges_of};
 ghost use Rattle.layers.specs.declared.fault.LayerFault.TheVariants.{Lengths, Refused};
 ghost use Rattle.layers.specs.Lines.{Appends, AreAsBefore, AreClipped, AreExtended, HasLines, lines_of};
 
@@ -17,9 +17,9 @@ use breaking::broken_edges;
 use i_tree::Refusal;
 use joining::append_pieces;
 use keeping::kept_edges;
+use overlay::Rings;
 use overlay::fill::FillRule;
 use plane::point::Point;
-use polygons::Rings;
 use std::alloc::Allocator;
 
 /// Lines: the points of all of them, one line after another, and where each stops among these. Points behind the last end are of no
@@ -71,7 +71,7 @@ impl<A: Allocator + Copy> Pieces<A> {
 /// Appends the pieces of each line that lie inside of the rings, or those that lie outside, and where the pieces of each line stop.
 ///
 /// Lines and rings are broken together where they meet, and what they are broken into has whole ends again, within half a unit of
-/// them on both axes (`overlay::snap`). Such a part of a line lies inside where its middle does: where the parts of the rings wind
+/// them on both axes (`noding::snap`). Such a part of a line lies inside where its middle does: where the parts of the rings wind
 /// around it as the rule wants it, or where it lies on one of them. So what goes along a ring counts as inside. Parts that follow each
 /// other are one piece, as long as they are kept, also across the line's own points. So each part of a line is in just one piece of
 /// those inside and those outside, and a piece ends where the line does or goes over to the other side.

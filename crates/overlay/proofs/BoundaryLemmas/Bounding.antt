@@ -16,13 +16,13 @@ use Rattle.overlay.specs.declared.fill.rules.Operation.{Operation}
 use Rattle.overlay.specs.Boundary.{AreBroken, BoundsResult, IsBoundary}
 use Rattle.overlay.specs.Contours.Rings.{AreContours, ring_edges}
 use Rattle.overlay.specs.Fill.Filled.{AreNoded, HaveSameEnds, IsFilled}
-use Rattle.overlay.specs.Fill.Rules.{count, is_result}
+use Rattle.overlay.specs.Fill.Rules.{is_result}
 use Rattle.overlay.specs.Fill.Turned.{AreUnjoined, turned}
-use Rattle.overlay.specs.Snap.Near.{IsNear}
-use Rattle.overlay.specs.Snap.Windings.{pieces, winding, IsAlongAxis, IsClosed}
+use Rattle.noding.specs.Near.{IsNear}
+use Rattle.noding.specs.Windings.{pieces, winding, IsAlongAxis, IsClosed, count}
 use Rattle.overlay.proofs.BoundaryLemmas.Broken.{all-chains}
-use Rattle.overlay.proofs.SnapLemmas.Callers.{noded}
-use Rattle.overlay.proofs.SnapLemmas.Sums.{some-clear, some-closed, some-exact}
+use Rattle.noding.proofs.Callers.{noded}
+use Rattle.noding.proofs.SnapLemmas.Sums.{some-clear, some-closed, some-exact}
 use Rattle.overlay.proofs.ContourLemmas.Callers.{winding-contours}
 use Rattle.overlay.proofs.FillLemmas.Kept.{same-exchanged}
 

@@ -9,12 +9,12 @@ use Rattle.std.proofs.Math.Seq.{drop-append_seam, take-append_seam}
 use Rattle.plane.specs.declared.edge.Edge.{Edge}
 use Rattle.plane.specs.declared.point.Point.{Point}
 use Rattle.overlay.specs.Boundary.{AllSome, AreBroken}
-use Rattle.overlay.specs.Snap.Chains.{AreChains, IsChain}
-use Rattle.overlay.specs.Snap.Offsets.{offsets}
-use Rattle.overlay.specs.Snap.Windings.{pieces}
-use Rattle.overlay.proofs.ChainLemmas.Offsets.{joined, offset-at}
-use Rattle.overlay.proofs.ChainLemmas.Zips.{AllZip-at, AllZip-length}
-use Rattle.overlay.proofs.SnapLemmas.Callers.{starts}
+use Rattle.noding.specs.Chains.{AreChains, IsChain}
+use Rattle.noding.specs.Offsets.{offsets}
+use Rattle.noding.specs.Windings.{pieces}
+use Rattle.noding.proofs.ChainLemmas.Offsets.{joined, offset-at}
+use Rattle.noding.proofs.ChainLemmas.Zips.{AllZip-at, AllZip-length}
+use Rattle.noding.proofs.Callers.{starts}
 
 pub zip-append : {A B : Type 0} (R : A → B → Type 0) (xs xs' : List A) (ys ys' : List B) → AllZip R xs ys → AllZip R xs' ys' → AllZip R (xs ++ xs') (ys ++ ys')
 zip-append R [] xs' [] ys' first second = second

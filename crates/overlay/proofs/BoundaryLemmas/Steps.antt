@@ -7,14 +7,14 @@ use Rattle.plane.specs.declared.point.Point.{Point}
 use Rattle.overlay.specs.declared.fill.pieces.Piece.{Piece}
 use Rattle.overlay.specs.declared.fill.pieces.Role.{Role}
 use Rattle.overlay.specs.declared.fill.pieces.Role.TheVariants.{Subject, Clip}
-use Rattle.overlay.specs.declared.snap.stops.Stop.{Stop}
+use Rattle.noding.specs.declared.stops.Stop.{Stop}
 use Rattle.overlay.specs.Boundary.{GoesOnToEnd, chain_pieces}
 use Rattle.overlay.specs.Fill.Turned.{turned}
-use Rattle.overlay.specs.Snap.Offsets.{between}
-use Rattle.overlay.specs.Snap.Stops.{GoesToEnd, point_of}
-use Rattle.overlay.specs.Snap.Windings.{edge_between, end_of, pieces, start_of}
+use Rattle.noding.specs.Offsets.{between}
+use Rattle.noding.specs.Stops.{GoesToEnd, point_of}
+use Rattle.noding.specs.Windings.{edge_between, end_of, pieces, start_of}
 use Rattle.overlay.proofs.BoundaryLemmas.Broken.{chain-length}
-use Rattle.overlay.proofs.ChainLemmas.Runs.{length-between}
+use Rattle.noding.proofs.ChainLemmas.Runs.{length-between}
 use Rattle.overlay.proofs.PieceLemmas.Edges.{turned-append}
 
 -- ---- one step more

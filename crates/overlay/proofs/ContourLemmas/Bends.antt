@@ -10,11 +10,11 @@ use Rattle.plane.specs.Meet.Edges.{RationalPoint}
 use Rattle.plane.specs.declared.point.Point.{Point}
 use Rattle.overlay.specs.Contours.Outlines.{IsStraight, bends, goes_straight, next_or, outline, ring_point}
 use Rattle.overlay.specs.Contours.Rings.{IsRing, ring_edges}
-use Rattle.overlay.specs.Snap.Windings.{edge_between, pieces, winding}
+use Rattle.noding.specs.Windings.{edge_between, pieces, winding}
 use Rattle.overlay.proofs.ContourLemmas.Outlines.{straight-is}
 use Rattle.overlay.proofs.ContourLemmas.Straight.{straight-further, straight-longer, straight-nowhere, under-nowhere, under-straight}
-use Rattle.overlay.proofs.SnapLemmas.Counted.{added, under}
-use Rattle.overlay.proofs.SnapLemmas.Windings.{winding-added, winding-append}
+use Rattle.noding.proofs.SnapLemmas.Counted.{added, under}
+use Rattle.noding.proofs.SnapLemmas.Windings.{winding-added, winding-append}
 
 -- what holds of the bends, whether it goes straight on at their first point or not
 bends-by : (P : List Point → Type 0) (before at : Point) (points : List Point) (behind : Point) → (IsStraight before at (next_or points behind) → P (bends at points behind)) → P (at ∷ bends at points behind)

@@ -6,10 +6,10 @@ use Rattle.plane.specs.declared.point.Point.{Point}
 use Rattle.plane.specs.Meet.Edges.{RationalPoint}
 use Rattle.overlay.specs.Contours.Outlines.{AreOutlines, outline}
 use Rattle.overlay.specs.Contours.Rings.{AreContours, ring_edges}
-use Rattle.overlay.specs.Snap.Windings.{IsClosed, winding}
+use Rattle.noding.specs.Windings.{IsClosed, winding}
 use Rattle.overlay.proofs.ContourLemmas.Bends.{AreRings-outlines, winding-outlines}
 use Rattle.overlay.proofs.ContourLemmas.Counts.{ring-closed}
-use Rattle.overlay.proofs.SnapLemmas.Windings.{winding-permutation}
+use Rattle.noding.proofs.SnapLemmas.Windings.{winding-permutation}
 -- the outline of one ring is a ring, and winds as that does
 pub use Rattle.overlay.proofs.ContourLemmas.Bends.{IsRing-outline, winding-outline}
 

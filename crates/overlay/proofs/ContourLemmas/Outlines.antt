@@ -10,9 +10,9 @@ use Rattle.plane.specs.Meet.Crosses.{cross}
 use Rattle.plane.specs.declared.point.Point.{Point}
 use Rattle.overlay.specs.Contours.Outlines.{IsStraight, bends, goes_straight, next_or, outline, ring_point}
 use Rattle.overlay.specs.Contours.Turns.{dot}
-use Rattle.overlay.specs.Snap.Offsets.{between, offsets}
-use Rattle.overlay.proofs.ChainLemmas.Offsets.{joined, list-between, offset-at}
-use Rattle.overlay.proofs.ChainLemmas.Runs.{offsets-more}
+use Rattle.noding.specs.Offsets.{between, offsets}
+use Rattle.noding.proofs.ChainLemmas.Offsets.{joined, list-between, offset-at}
+use Rattle.noding.proofs.ChainLemmas.Runs.{offsets-more}
 
 -- the test
 straight-test : (c d : ℤ) (r s t : Bool) → int_le c (pos 0) ≡ r → int_le (pos 0) c ≡ s → int_lt (pos 0) d ≡ t → ((r && s) && t) ≡ true → (c ≡ pos 0) × (pos 0 <ℤ d)

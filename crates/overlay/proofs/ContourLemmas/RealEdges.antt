@@ -5,7 +5,7 @@ use Rattle.std.proofs.lemmas.Bool.Decides.{Decides-int_eq}
 use Rattle.plane.specs.declared.edge.Edge.{Edge}
 use Rattle.plane.specs.declared.point.Point.{Point}
 use Rattle.overlay.specs.Contours.Rings.{has_two_ends, ring_edges}
-use Rattle.overlay.specs.Snap.Windings.{edge_between, pieces}
+use Rattle.noding.specs.Windings.{edge_between, pieces}
 
 -- one point and none have no pieces
 pub few_pieces : (points : List Point) → length points < 2 → pieces points ≡ []

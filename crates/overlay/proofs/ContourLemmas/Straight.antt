@@ -8,12 +8,11 @@ use Rattle.plane.specs.declared.point.Point.{Point}
 use Rattle.plane.proofs.MeetLemmas.Identities.{Term, identity, minus, number, plus, same_of, scaled, times}
 use Rattle.overlay.specs.Contours.Outlines.{IsStraight}
 use Rattle.overlay.specs.Contours.Turns.{dot}
-use Rattle.overlay.specs.Fill.Rules.{count}
-use Rattle.overlay.specs.Snap.Windings.{edge_between}
+use Rattle.noding.specs.Windings.{edge_between, count}
 use Rattle.overlay.proofs.ContourLemmas.Ways.{GoesAlong, GoesAlong-both, GoesAlong-sym, GoesAlong-trans, crosses-test, rises-alike}
-use Rattle.overlay.proofs.SnapLemmas.Counted.{counted, is_low, is_low-left, under}
-use Rattle.overlay.proofs.SnapLemmas.Numbers.{n_of}
-use Rattle.overlay.proofs.SnapLemmas.Windings.{after, back, before, within}
+use Rattle.noding.proofs.SnapLemmas.Counted.{counted, is_low, is_low-left, under}
+use Rattle.noding.proofs.SnapLemmas.Numbers.{n_of}
+use Rattle.noding.proofs.SnapLemmas.Windings.{after, back, before, within}
 
 -- ---- the ways between points
 

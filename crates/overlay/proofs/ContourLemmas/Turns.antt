@@ -11,10 +11,10 @@ use Rattle.plane.specs.declared.edge.Edge.{Edge}
 use Rattle.plane.specs.declared.point.Point.{Point}
 use Rattle.plane.proofs.MeetLemmas.Identities.{Term, identity, minus, number, plus, same_of, times}
 use Rattle.overlay.specs.Contours.Order.{edge_at}
-use Rattle.overlay.specs.Snap.Windings.{end_of}
+use Rattle.noding.specs.Windings.{end_of}
 use Rattle.overlay.specs.Contours.Turns.{AreAlike, ComesBefore, IsBetter, IsLeft, IsLeftmost, Leaves, NoneLeaves, TurnsBefore, dot, way_between}
 use Rattle.overlay.specs.declared.contours.turns.Way.{Way}
-use Rattle.overlay.proofs.SnapLemmas.Numbers.{n_of, natural}
+use Rattle.noding.proofs.SnapLemmas.Numbers.{n_of, natural}
 
 -- ---- the order of turns is transitive
 

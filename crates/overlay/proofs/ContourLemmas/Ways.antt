@@ -6,7 +6,7 @@ use Rattle.plane.specs.Meet.Crosses.{cross}
 use Rattle.plane.proofs.MeetLemmas.Identities.{identity, minus, number, plus, times}
 use Rattle.overlay.specs.Contours.Turns.{dot}
 use Rattle.overlay.proofs.ContourLemmas.Turns.{across, along, some_square}
-use Rattle.overlay.proofs.SnapLemmas.Numbers.{cross-exchanged, n_of, natural, negate, negative, positive_by, same_test, zero_by}
+use Rattle.noding.proofs.SnapLemmas.Numbers.{cross-exchanged, n_of, natural, negate, negative, positive_by, same_test, zero_by}
 
 -- ---- numbers of one sign
 

@@ -9,7 +9,7 @@ use Rattle.plane.specs.SweepLine.Heights.{rightwards}
 use Rattle.plane.proofs.SweepLineLemmas.Rightwards.{rightwards-left, rightwards-right}
 use Rattle.overlay.specs.Fill.Counts.{is_over, is_lower_on, below_on}
 use Rattle.overlay.specs.Fill.Pieces.{total, weight}
-use Rattle.overlay.specs.Snap.Windings.{start_of, end_of}
+use Rattle.noding.specs.Windings.{start_of, end_of}
 use Rattle.overlay.proofs.FillLemmas.Aside.{is_beneath, IsOff, IsAside}
 use Rattle.overlay.proofs.FillLemmas.Balance.{AreBalanced}
 use Rattle.overlay.proofs.FillLemmas.Columns.{moves, moves-weighed}
@@ -17,7 +17,7 @@ use Rattle.overlay.proofs.FillLemmas.Tests.{lt_true, lt_false}
 use Rattle.overlay.proofs.FillLemmas.Totals.{total-difference, total-moved}
 use Rattle.overlay.proofs.FillLemmas.Uncrossed.{uncrossed_from}
 use Rattle.overlay.proofs.FillLemmas.Weights.{ending, starting, in_column, weight-none, column-weights}
-use Rattle.overlay.proofs.SnapLemmas.Numbers.{up_is}
+use Rattle.noding.proofs.SnapLemmas.Numbers.{up_is}
 
 -- an edge turned rightwards, whose ends aren't inside g
 record Right (g r : Edge) : Type 0 where

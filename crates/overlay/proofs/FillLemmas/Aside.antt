@@ -8,12 +8,12 @@ use Rattle.plane.specs.Meet.Edges.{RationalPoint, IsOf}
 use Rattle.plane.specs.SweepLine.Crossings.{Cross}
 use Rattle.plane.specs.SweepLine.Heights.{run, height_by_run}
 use Rattle.plane.proofs.MeetLemmas.Identities.{number, plus, minus, times, at_most, at_most_of, same_of, identity}
-use Rattle.overlay.specs.Snap.Windings.{reversed}
+use Rattle.noding.specs.Windings.{reversed}
 use Rattle.overlay.proofs.FillLemmas.Level.{MeetOnly, of_at, end_at, whole_x, height_whole}
 use Rattle.overlay.proofs.FillLemmas.Tests.{lt_true, lt_false}
 use Rattle.overlay.proofs.FillLemmas.Uncrossed.{MeetOnly-reversed, uncrossed}
-use Rattle.overlay.proofs.SnapLemmas.Numbers.{n_of, natural}
-use Rattle.overlay.proofs.SnapLemmas.Counted.{height_at}
+use Rattle.noding.proofs.SnapLemmas.Numbers.{n_of, natural}
+use Rattle.noding.proofs.SnapLemmas.Counted.{height_at}
 
 -- The height y is below g's at x.
 abbrev pub is_beneath : Edge → ℤ → ℤ → Bool

@@ -9,12 +9,12 @@ use Rattle.plane.specs.SweepLine.Heights.{run, height_by_run, height_by_runs}
 use Rattle.plane.proofs.MeetLemmas.Identities.{number, plus, minus, times, identity}
 use Rattle.plane.proofs.SweepLineLemmas.Gaps.{gap, slope, start, gap-linear, product_above}
 use Rattle.overlay.specs.Fill.Counts.{is_over, is_lower_on}
-use Rattle.overlay.specs.Snap.Windings.{start_of, end_of}
+use Rattle.noding.specs.Windings.{start_of, end_of}
 use Rattle.overlay.proofs.FillLemmas.Aside.{is_beneath, IsOff}
 use Rattle.overlay.proofs.FillLemmas.Tests.{lt_same, int_eq-true, int_eq-false, over_true, over_early, over_late}
 use Rattle.overlay.proofs.FillLemmas.Uncrossed.{Uncrossed}
 use Rattle.overlay.proofs.FillLemmas.Weights.{in_column}
-use Rattle.overlay.proofs.SnapLemmas.Numbers.{product_positive}
+use Rattle.noding.proofs.SnapLemmas.Numbers.{product_positive}
 
 -- ---- gaps: how far g is above r
 

@@ -12,15 +12,15 @@ use Rattle.overlay.specs.declared.fill.rules.Operation.TheVariants.{Union, Inter
 use Rattle.overlay.specs.Fill.Counts.{Counts, is_over, is_lower_on, kept_edges}
 use Rattle.overlay.specs.Fill.Filled.{AreNoded}
 use Rattle.overlay.specs.Fill.Pieces.{total, AreJoined, ArePieces}
-use Rattle.overlay.specs.Fill.Rules.{is_inside, operate, is_result, count}
-use Rattle.overlay.specs.Snap.Windings.{winding, IsClosed}
+use Rattle.overlay.specs.Fill.Rules.{is_inside, operate, is_result}
+use Rattle.noding.specs.Windings.{winding, IsClosed, count}
 use Rattle.overlay.proofs.FillLemmas.Premises.{onwards, meet-pieces}
 use Rattle.overlay.proofs.FillLemmas.Stacked.{stacked}
 use Rattle.overlay.proofs.FillLemmas.Uncrossed.{uncrossed}
 use Rattle.overlay.proofs.FillLemmas.Under.{under_over, lower_under}
 use Rattle.overlay.proofs.FillLemmas.Wound.{winding-total, winding-kept}
-use Rattle.overlay.proofs.SnapLemmas.Rounding.{Floor, floor_is}
-use Rattle.overlay.proofs.SnapLemmas.Counted.{is_counted}
+use Rattle.noding.proofs.SnapLemmas.Rounding.{Floor, floor_is}
+use Rattle.noding.proofs.SnapLemmas.Counted.{is_counted}
 
 -- ---- no operation is inside where both are not
 

@@ -12,12 +12,11 @@ use Rattle.plane.specs.SweepLine.Heights.{run}
 use Rattle.plane.proofs.MeetLemmas.Identities.{number, plus, minus, times, identity}
 use Rattle.plane.proofs.SweepLineLemmas.Gaps.{product_above}
 use Rattle.overlay.specs.Fill.Pieces.{total}
-use Rattle.overlay.specs.Snap.Windings.{reversed, winding, IsClosed}
-use Rattle.overlay.specs.Fill.Rules.{count}
+use Rattle.noding.specs.Windings.{reversed, winding, IsClosed, count}
 use Rattle.overlay.proofs.FillLemmas.Balance.{carried, balanced}
 use Rattle.overlay.proofs.FillLemmas.Under.{le_true, le_is, less_is}
-use Rattle.overlay.proofs.SnapLemmas.Counted.{added, height_at, is_counted, is_low, under}
-use Rattle.overlay.proofs.SnapLemmas.Windings.{winding-added}
+use Rattle.noding.proofs.SnapLemmas.Counted.{added, height_at, is_counted, is_low, under}
+use Rattle.noding.proofs.SnapLemmas.Windings.{winding-added}
 
 -- Neither end is above the height.
 pub record IsUptoHeight (height : ℤ) (edge : Edge) : Type 0 where

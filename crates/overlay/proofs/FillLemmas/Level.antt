@@ -7,11 +7,11 @@ use Rattle.plane.specs.SweepLine.Heights.{run, height_by_runs}
 use Rattle.plane.specs.Meet.Edges.{RationalPoint, IsOf}
 use Rattle.plane.specs.Meet.Kinds.{IsEnd}
 use Rattle.plane.proofs.MeetLemmas.Identities.{number, plus, minus, times, at_most_of, same_of, identity, unscaled}
-use Rattle.overlay.specs.Snap.Meeting.{MeetAtEnds}
+use Rattle.noding.specs.Meeting.{MeetAtEnds}
 use Rattle.overlay.specs.Fill.Filled.{HaveSameEnds}
-use Rattle.overlay.proofs.SnapLemmas.Counted.{height_at}
-use Rattle.overlay.proofs.SnapLemmas.Heights.{share_x, share_y}
-use Rattle.overlay.proofs.SnapLemmas.Numbers.{n_of, natural}
+use Rattle.noding.proofs.SnapLemmas.Counted.{height_at}
+use Rattle.noding.proofs.SnapLemmas.Heights.{share_x, share_y}
+use Rattle.noding.proofs.SnapLemmas.Numbers.{n_of, natural}
 
 -- Each point of both edges is an end of both, or they have the same ends.
 abbrev pub MeetOnly : Edge → Edge → Type 0

@@ -10,7 +10,7 @@ use Rattle.overlay.specs.declared.fill.counts.Counts.{Counts}
 use Rattle.overlay.specs.Fill.Counts.{is_over, is_lower_on, below_on, counts_below, counts_above}
 use Rattle.overlay.specs.Fill.Filled.{AreNoded}
 use Rattle.overlay.specs.Fill.Pieces.{total, AreJoined, ArePieces}
-use Rattle.overlay.specs.Snap.Windings.{IsClosed}
+use Rattle.noding.specs.Windings.{IsClosed}
 use Rattle.overlay.proofs.FillLemmas.Along.{count-along}
 use Rattle.overlay.proofs.FillLemmas.Aside.{IsAside}
 use Rattle.overlay.proofs.FillLemmas.Balance.{AreBalanced, balanced}

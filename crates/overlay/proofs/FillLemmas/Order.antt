@@ -13,7 +13,7 @@ use Rattle.overlay.specs.Fill.Counts.{is_over, is_lower_on}
 use Rattle.overlay.proofs.FillLemmas.Level.{MeetOnly, level-same_middle}
 use Rattle.overlay.proofs.FillLemmas.Tests.{lt_true, lt_false, lt_is, over_is, over_true}
 use Rattle.overlay.proofs.FillLemmas.Uncrossed.{Uncrossed, uncrossed, uncrossed_onwards}
-use Rattle.overlay.proofs.SnapLemmas.Numbers.{product_positive}
+use Rattle.noding.proofs.SnapLemmas.Numbers.{product_positive}
 
 -- the heights at both ends of the stretch, added, by which the test compares
 abbrev low : ℤ → Edge → Edge → ℤ

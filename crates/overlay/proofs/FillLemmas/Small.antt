@@ -16,7 +16,7 @@ use Rattle.overlay.proofs.FillLemmas.Order.{lower-irrefl}
 use Rattle.overlay.proofs.FillLemmas.Premises.{All-among}
 use Rattle.overlay.proofs.FillLemmas.Tests.{int_eq-true}
 use Rattle.overlay.proofs.FillLemmas.Totals.{total-sum, total-none}
-use Rattle.overlay.proofs.SnapLemmas.Hobby.Ends.{edges-same}
+use Rattle.noding.proofs.SnapLemmas.Hobby.Ends.{edges-same}
 use Rattle.plane.specs.Meet.Crosses.{IsWithin}
 
 -- ---- sums of terms between -1 and 1

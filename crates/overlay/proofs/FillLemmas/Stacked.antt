@@ -5,13 +5,12 @@ use Rattle.std.proofs.lemmas.Int.{ints}
 use Rattle.std.proofs.lemmas.List.Elements.{All-weaker}
 use Rattle.std.proofs.lemmas.List.Kept.{AllPairs-filter}
 use Rattle.plane.specs.declared.edge.Edge.{Edge}
-use Rattle.plane.proofs.PairsLemmas.Bags.{Contains-from_filter}
+use Rattle.i_tree.proofs.RootLemmas.Members.{Contains-from_filter}
 use Rattle.overlay.specs.declared.fill.pieces.Piece.{Piece}
 use Rattle.overlay.specs.Fill.Counts.{Counts, is_over, is_lower_on, below_on}
 use Rattle.overlay.specs.Fill.Filled.{AreNoded}
 use Rattle.overlay.specs.Fill.Pieces.{total, AreJoined, ArePieces}
-use Rattle.overlay.specs.Snap.Windings.{IsClosed}
-use Rattle.overlay.specs.Fill.Rules.{count}
+use Rattle.noding.specs.Windings.{IsClosed, count}
 use Rattle.overlay.proofs.FillLemmas.Along.{count-along}
 use Rattle.overlay.proofs.FillLemmas.Aside.{IsAside}
 use Rattle.overlay.proofs.FillLemmas.Balance.{AreBalanced, balanced}

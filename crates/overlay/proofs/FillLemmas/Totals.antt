@@ -8,7 +8,7 @@ use Rattle.std.proofs.lemmas.List.Sorted.{sum_by-IsPermutation}
 use Rattle.std.proofs.lemmas.List.Sums.{sum_by-cons}
 use borrow.Author.Differences.{up, down}
 use Rattle.overlay.specs.Fill.Pieces.{total}
-use Rattle.overlay.proofs.SnapLemmas.Numbers.{both}
+use Rattle.noding.proofs.SnapLemmas.Numbers.{both}
 
 -- sums whose terms are the same
 pub total-same : {X : Type 0} (f g : X → ℤ) (xs : List X) → All (λ x. f x ≡ g x) xs → total f xs ≡ total g xs

@@ -10,12 +10,12 @@ use Rattle.plane.specs.SweepLine.Heights.{rightwards, run, height_by_run, height
 use Rattle.plane.proofs.MeetLemmas.Identities.{Term, number, plus, minus, times, same_of, at_most_of, identity}
 use Rattle.plane.proofs.SweepLineLemmas.Gaps.{gap}
 use Rattle.plane.proofs.SweepLineLemmas.Rightwards.{rightwards-left, rightwards-right, rightwards-same}
-use Rattle.overlay.specs.Snap.Windings.{reversed}
+use Rattle.noding.specs.Windings.{reversed}
 use Rattle.overlay.proofs.FillLemmas.Level.{MeetOnly, level-same}
-use Rattle.overlay.proofs.SnapLemmas.Hobby.Ends.{reverse_meet_one, exchange_meet}
-use Rattle.overlay.proofs.SnapLemmas.Numbers.{n_of, below, below_of, natural}
-use Rattle.overlay.proofs.SnapLemmas.Reversed.{IsOf-reversed}
-use Rattle.overlay.proofs.SnapLemmas.Counted.{height_at}
+use Rattle.noding.proofs.SnapLemmas.Hobby.Ends.{reverse_meet_one, exchange_meet}
+use Rattle.noding.proofs.SnapLemmas.Numbers.{n_of, below, below_of, natural}
+use Rattle.noding.proofs.SnapLemmas.Reversed.{IsOf-reversed}
+use Rattle.noding.proofs.SnapLemmas.Counted.{height_at}
 
 -- ---- from either end
 

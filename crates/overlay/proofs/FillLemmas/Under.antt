@@ -13,8 +13,8 @@ use Rattle.plane.proofs.SweepLineLemmas.Order.{in_order}
 use Rattle.overlay.specs.Fill.Counts.{is_over, is_lower_on}
 use Rattle.overlay.proofs.FillLemmas.Tests.{lt_is, over_is, over_true}
 use Rattle.overlay.proofs.FillLemmas.Uncrossed.{uncrossed_onwards}
-use Rattle.overlay.proofs.SnapLemmas.Rounding.{Floor}
-use Rattle.overlay.proofs.SnapLemmas.Counted.{covers, height_at, is_counted, is_low}
+use Rattle.noding.proofs.SnapLemmas.Rounding.{Floor}
+use Rattle.noding.proofs.SnapLemmas.Counted.{covers, height_at, is_counted, is_low}
 
 -- ---- heights at the point's x
 

@@ -10,13 +10,12 @@ use Rattle.plane.proofs.SweepLineLemmas.Rightwards.{rightwards-left, rightwards-
 use Rattle.overlay.specs.declared.fill.pieces.Piece.{Piece}
 use Rattle.overlay.specs.Fill.Counts.{Counts, counts_below, counts_above, kept_edge, kept_edges}
 use Rattle.overlay.specs.Fill.Pieces.{total, weight}
-use Rattle.overlay.specs.Snap.Windings.{reversed, winding}
-use Rattle.overlay.specs.Fill.Rules.{count}
+use Rattle.noding.specs.Windings.{reversed, winding, count}
 use Rattle.overlay.proofs.FillLemmas.Tests.{lt_true, lt_false}
 use Rattle.overlay.proofs.FillLemmas.Weights.{weight-right, weight-left, weight-none}
-use Rattle.overlay.proofs.SnapLemmas.Numbers.{both}
-use Rattle.overlay.proofs.SnapLemmas.Counted.{added, is_counted, under}
-use Rattle.overlay.proofs.SnapLemmas.Windings.{back, under-right, under-left, winding-added}
+use Rattle.noding.proofs.SnapLemmas.Numbers.{both}
+use Rattle.noding.proofs.SnapLemmas.Counted.{added, is_counted, under}
+use Rattle.noding.proofs.SnapLemmas.Windings.{back, under-right, under-left, winding-added}
 
 -- what an edge counts that goes rightwards, and what the reversed one does
 less_count : (z : ℤ) (t : Bool) → z ≡ (pos 0 -ℤ count t) → z ≡ cond t (negsuc 0) (pos 0)

@@ -14,7 +14,7 @@ use Rattle.plane.proofs.SweepLineLemmas.Rightwards.{rightwards-right}
 use Rattle.overlay.specs.Fill.Begins.{BeginsUpto}
 use Rattle.overlay.specs.Fill.Filled.{AreDistinct, AreNoded, HaveSameEnds}
 use Rattle.overlay.specs.Fill.Pieces.{total, weight}
-use Rattle.overlay.specs.Snap.Windings.{winding}
+use Rattle.noding.specs.Windings.{winding}
 use Rattle.overlay.proofs.FillLemmas.Kept.{same-exchanged, same-rightwards, same-trans}
 use Rattle.overlay.proofs.FillLemmas.Level.{MeetOnly}
 use Rattle.overlay.proofs.FillLemmas.Order.{twofold}
@@ -26,9 +26,9 @@ use Rattle.overlay.proofs.FillLemmas.Under.{is_counted-from, under_is, under_ove
 use Rattle.overlay.proofs.FillLemmas.Weights.{weight-left}
 use Rattle.overlay.proofs.FillLemmas.Wound.{winding-total}
 use Rattle.overlay.proofs.PieceLemmas.Made.{alike, begins-lower, rightwards-onwards}
-use Rattle.overlay.proofs.SnapLemmas.Counted.{height_at, is_counted}
-use Rattle.overlay.proofs.SnapLemmas.Numbers.{Natural, below, n_of, natural}
-use Rattle.overlay.proofs.SnapLemmas.Rounding.{Floor}
+use Rattle.noding.proofs.SnapLemmas.Counted.{height_at, is_counted}
+use Rattle.noding.proofs.SnapLemmas.Numbers.{Natural, below, n_of, natural}
+use Rattle.noding.proofs.SnapLemmas.Rounding.{Floor}
 
 -- ---- edges of which no two have the same ends
 

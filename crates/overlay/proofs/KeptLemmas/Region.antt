@@ -9,10 +9,10 @@ use Rattle.overlay.specs.declared.fill.rules.FillRule.{FillRule}
 use Rattle.overlay.specs.declared.fill.rules.Operation.{Operation}
 use Rattle.overlay.specs.Fill.Counts.{Counts, kept_edge, kept_edges}
 use Rattle.overlay.specs.Fill.Filled.{IsFilled, IsNextInColumn}
-use Rattle.overlay.specs.Fill.Rules.{is_result, count}
+use Rattle.overlay.specs.Fill.Rules.{is_result}
 use Rattle.overlay.specs.Fill.Sweep.{AreFillPieces, kept_of}
 use Rattle.overlay.specs.Fill.Verticals.{AreVerticalsOf, BoundRegion}
-use Rattle.overlay.specs.Snap.Windings.{reversed, winding}
+use Rattle.noding.specs.Windings.{reversed, winding, count}
 use Rattle.overlay.proofs.FillLemmas.Callers.{kept-distinct, kept-high, kept-noded, kept-of, kept-onwards, kept-winds}
 use Rattle.overlay.proofs.FillLemmas.Premises.{All-among}
 use Rattle.overlay.proofs.KeptLemmas.Below.{above-edges, below-edges}

@@ -14,14 +14,14 @@ use Rattle.plane.specs.SweepLine.Heights.{run, height_by_run}
 use Rattle.plane.proofs.MeetLemmas.Identities.{identity, minus, number, plus, scaled, times, unscaled}
 use Rattle.overlay.specs.Fill.Filled.{AreDistinct, AreNoded, IsEndOfSloped, IsNextInColumn, HaveSameEnds}
 use Rattle.overlay.specs.Fill.Verticals.{AreVerticalsOf, BoundRegion, before_all, both_ends, ending, point_of_end, starting, verticals_between}
-use Rattle.overlay.specs.Snap.Meeting.{MeetAtEnds}
-use Rattle.overlay.specs.Snap.Windings.{IsClosed, edge_between, end_of, reversed, start_of, winding}
+use Rattle.noding.specs.Meeting.{MeetAtEnds}
+use Rattle.noding.specs.Windings.{IsClosed, edge_between, end_of, reversed, start_of, winding}
 use Rattle.overlay.specs.contracts.fill.verticals.EndOrd.TheImpl.{ghosts as end_order}
 use Rattle.overlay.specs.declared.fill.verticals.End.{End}
-use Rattle.overlay.proofs.SnapLemmas.Numbers.{n_of, natural}
-use Rattle.overlay.proofs.SnapLemmas.Reversed.{IsOf-reversed}
-use Rattle.overlay.proofs.SnapLemmas.Counted.{added}
-use Rattle.overlay.proofs.SnapLemmas.Windings.{back, winding-append, winding-added}
+use Rattle.noding.proofs.SnapLemmas.Numbers.{n_of, natural}
+use Rattle.noding.proofs.SnapLemmas.Reversed.{IsOf-reversed}
+use Rattle.noding.proofs.SnapLemmas.Counted.{added}
+use Rattle.noding.proofs.SnapLemmas.Windings.{back, winding-append, winding-added}
 use Rattle.overlay.proofs.VerticalLemmas.Flows.{flow, is_upto}
 use Rattle.overlay.proofs.FillLemmas.Totals.{total-append}
 use Rattle.overlay.proofs.FillLemmas.Balance.{carried, carried-counts}
@@ -30,7 +30,7 @@ use Rattle.overlay.proofs.VerticalLemmas.Crossed.{IsEnd-x, IsOf-column, IsOf-tur
 use Rattle.overlay.proofs.VerticalLemmas.Linked.{AreLinks, IsLink, all-links}
 use Rattle.overlay.proofs.VerticalLemmas.Order.{Before, Contains-both, Has, Has-from, Rises-sorted, Upto, changed, changed-edges, changed-permutation, every-all, upto_point}
 use Rattle.overlay.proofs.VerticalLemmas.Upright.{Upright, Along, mean_from, mean_upto, along, low-end, high-end, upright-same}
-use Rattle.overlay.proofs.SnapLemmas.Along.{point_at}
+use Rattle.noding.proofs.SnapLemmas.Along.{point_at}
 use Rattle.overlay.proofs.VerticalLemmas.Region.{IsEndAt, flow-from, flow-top, flow-upto}
 
 -- ---- lists

@@ -8,13 +8,12 @@ use Rattle.plane.specs.declared.edge.Edge.{Edge}
 use Rattle.plane.specs.Meet.Edges.{RationalPoint}
 use Rattle.plane.specs.SweepLine.Heights.{run, rise, height_by_run}
 use Rattle.plane.proofs.MeetLemmas.Identities.{identity, minus, number, plus, scaled, times, unscaled}
-use Rattle.overlay.specs.Snap.Windings.{end_of, reversed, start_of, winding}
-use Rattle.overlay.specs.Fill.Rules.{count}
-use Rattle.overlay.proofs.SnapLemmas.Numbers.{n_of, natural, same_test}
+use Rattle.noding.specs.Windings.{end_of, reversed, start_of, winding, count}
+use Rattle.noding.proofs.SnapLemmas.Numbers.{n_of, natural, same_test}
 use Rattle.overlay.proofs.VerticalLemmas.Flows.{Every, flow, is_upto, upto-at, upto-before, upto-behind}
 use Rattle.overlay.proofs.FillLemmas.Balance.{carried}
-use Rattle.overlay.proofs.SnapLemmas.Counted.{added, counted, height_at, is_low, under}
-use Rattle.overlay.proofs.SnapLemmas.Windings.{after, before, under-left, under-right, within, winding-added}
+use Rattle.noding.proofs.SnapLemmas.Counted.{added, counted, height_at, is_low, under}
+use Rattle.noding.proofs.SnapLemmas.Windings.{after, before, under-left, under-right, within, winding-added}
 
 -- ---- how large edges are
 

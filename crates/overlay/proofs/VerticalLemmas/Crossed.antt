@@ -12,13 +12,12 @@ use Rattle.plane.specs.Meet.Kinds.{IsEnd}
 use Rattle.plane.specs.SweepLine.Heights.{run, height_by_run}
 use Rattle.plane.proofs.MeetLemmas.Identities.{identity, minus, number, plus, scaled, times, unscaled}
 use Rattle.overlay.specs.Fill.Verticals.{BoundRegion}
-use Rattle.overlay.specs.Snap.Windings.{reversed, winding}
+use Rattle.noding.specs.Windings.{reversed, winding, count}
 use Rattle.overlay.specs.Fill.Filled.{HaveSameEnds}
-use Rattle.overlay.specs.Fill.Rules.{count}
-use Rattle.overlay.proofs.SnapLemmas.Numbers.{n_of, natural, same_test}
-use Rattle.overlay.proofs.SnapLemmas.Reversed.{IsOf-reversed}
-use Rattle.overlay.proofs.SnapLemmas.Counted.{added, counted, under}
-use Rattle.overlay.proofs.SnapLemmas.Windings.{under-left, under-right, winding-added}
+use Rattle.noding.proofs.SnapLemmas.Numbers.{n_of, natural, same_test}
+use Rattle.noding.proofs.SnapLemmas.Reversed.{IsOf-reversed}
+use Rattle.noding.proofs.SnapLemmas.Counted.{added, counted, under}
+use Rattle.noding.proofs.SnapLemmas.Windings.{under-left, under-right, winding-added}
 use Rattle.overlay.proofs.FillLemmas.Kept.{same-exchanged}
 use Rattle.overlay.proofs.VerticalLemmas.Columns.{is_lower, left_of, next_times, right-none, right-over, right-within, right_of, size, size-reversed, sizes, upto_size}
 use Rattle.overlay.proofs.VerticalLemmas.Flows.{flow, is_upto}

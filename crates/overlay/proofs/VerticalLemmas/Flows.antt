@@ -7,9 +7,8 @@ use Rattle.std.specs.Prelude.{int_le}
 use Rattle.plane.specs.declared.edge.Edge.{Edge}
 use Rattle.plane.specs.declared.point.Point.{Point}
 use Rattle.overlay.specs.Fill.Pieces.{total}
-use Rattle.overlay.specs.Fill.Rules.{count}
 use Rattle.overlay.proofs.FillLemmas.Balance.{carried}
-use Rattle.overlay.specs.Snap.Windings.{end_of, start_of}
+use Rattle.noding.specs.Windings.{end_of, start_of, count}
 
 -- ---- ends upto a height y / n of a column x: those of columns before it, and those of it that aren't higher
 

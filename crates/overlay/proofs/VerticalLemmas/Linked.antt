@@ -13,9 +13,8 @@ use Rattle.plane.specs.declared.point.Point.{Point}
 use Rattle.overlay.specs.Fill.Verticals.{before_all, point_of_end, vertical_between, verticals_between}
 use Rattle.overlay.specs.declared.fill.verticals.End.{End}
 use Rattle.overlay.specs.Fill.Filled.{HaveSameEnds}
-use Rattle.overlay.specs.Fill.Rules.{count}
-use Rattle.overlay.specs.Snap.Windings.{edge_between}
-use Rattle.overlay.proofs.SnapLemmas.Along.{point_at}
+use Rattle.noding.specs.Windings.{edge_between, count}
+use Rattle.noding.proofs.SnapLemmas.Along.{point_at}
 use Rattle.overlay.proofs.VerticalLemmas.Flows.{flow}
 use Rattle.overlay.proofs.FillLemmas.Balance.{carried}
 use Rattle.overlay.proofs.VerticalLemmas.Order.{Before, Before-of, Before-upto, EveryEnd, Has, Rises, Upto, Upto-itself, Upto-trans, changed, changed-none, upto_point, upto_point-yes}

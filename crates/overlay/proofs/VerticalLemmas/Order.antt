@@ -19,10 +19,9 @@ use Rattle.overlay.specs.Fill.Verticals.{both_ends, ending, point_of_end, starti
 use Rattle.overlay.specs.contracts.fill.verticals.EndOrd.TheImpl.{ghosts as end_order}
 use Rattle.overlay.specs.contracts.fill.verticals.EndOrd.TheImpl.Laws.{total-law as end_total}
 use Rattle.overlay.specs.declared.fill.verticals.End.{End}
-use Rattle.overlay.specs.Fill.Rules.{count}
-use Rattle.overlay.specs.Snap.Windings.{end_of, start_of}
-use Rattle.overlay.proofs.SnapLemmas.Along.{point_at}
-use Rattle.overlay.proofs.SnapLemmas.Numbers.{n_of}
+use Rattle.noding.specs.Windings.{end_of, start_of, count}
+use Rattle.noding.proofs.SnapLemmas.Along.{point_at}
+use Rattle.noding.proofs.SnapLemmas.Numbers.{n_of}
 use Rattle.overlay.proofs.VerticalLemmas.Flows.{flow, is_upto, upto-at, upto-before, upto-behind}
 
 -- ---- points by x, and then by y

@@ -6,10 +6,10 @@ use Rattle.plane.specs.Meet.Edges.{IsOf, RationalPoint}
 use Rattle.plane.specs.Meet.Kinds.{IsEnd}
 use Rattle.plane.proofs.MeetLemmas.Identities.{identity, minus, number, plus, scaled, times}
 use Rattle.overlay.specs.Fill.Filled.{HaveSameEnds}
-use Rattle.overlay.specs.Snap.Windings.{edge_between, reversed}
-use Rattle.overlay.proofs.SnapLemmas.Along.{point_at}
-use Rattle.overlay.proofs.SnapLemmas.Numbers.{n_of}
-use Rattle.overlay.proofs.SnapLemmas.Reversed.{IsOf-reversed}
+use Rattle.noding.specs.Windings.{edge_between, reversed}
+use Rattle.noding.proofs.SnapLemmas.Along.{point_at}
+use Rattle.noding.proofs.SnapLemmas.Numbers.{n_of}
+use Rattle.noding.proofs.SnapLemmas.Reversed.{IsOf-reversed}
 
 -- It goes up or down between two heights of the column x.
 pub record Upright (x low high : ℤ) (edge : Edge) : Type 0 where

@@ -2,7 +2,7 @@
 use Rattle.std.specs.Prelude.{◌≡◌, ◌≢◌, ◌⊎◌, ℕ, ◌<◌, ◌≤◌, pos, ◌≤ℤ◌, ◌<ℤ◌, List, get_or, length}
 use Rattle.plane.specs.declared.edge.Edge.{Edge}
 use Rattle.plane.specs.declared.point.Point.{Point}
-use Rattle.overlay.specs.Snap.Windings.{start_of}
+use Rattle.noding.specs.Windings.{start_of}
 use Rattle.overlay.specs.declared.contours.order.Corner.{Corner}
 
 abbrev pub corner_at : Point → Corner

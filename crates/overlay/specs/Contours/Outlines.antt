@@ -7,7 +7,7 @@ use Rattle.plane.specs.declared.edge.Edge.{Edge}
 use Rattle.plane.specs.declared.point.Point.{Point}
 use Rattle.overlay.specs.Contours.Rings.{IsRing, ring_edges}
 use Rattle.overlay.specs.Contours.Turns.{dot}
-use Rattle.overlay.specs.Snap.Windings.{winding}
+use Rattle.noding.specs.Windings.{winding}
 
 -- From the first point over the second to the third it goes straight on: along one line, and in one direction.
 pub record IsStraight (before at after : Point) : Type 0 where

@@ -5,7 +5,7 @@ use Rattle.std.specs.Ordering.{int_eq}
 use Rattle.std.specs.Prelude.{◌≢◌, Bool, not, ◌||◌, List, [], ◌∷◌, ◌++◌, All, AllPairs, filter}
 use Rattle.plane.specs.declared.edge.Edge.{Edge}
 use Rattle.plane.specs.declared.point.Point.{Point}
-use Rattle.overlay.specs.Snap.Windings.{pieces}
+use Rattle.noding.specs.Windings.{pieces}
 
 -- The edges from each point of a ring to the next, and from the last one to the first. That of a ring of one point goes from
 -- it to itself.

@@ -4,7 +4,7 @@ use Rattle.plane.specs.Meet.Crosses.{cross}
 use Rattle.plane.specs.declared.edge.Edge.{Edge}
 use Rattle.plane.specs.declared.point.Point.{Point}
 use Rattle.overlay.specs.Contours.Order.{edge_at, point_at}
-use Rattle.overlay.specs.Snap.Windings.{end_of}
+use Rattle.noding.specs.Windings.{end_of}
 use Rattle.overlay.specs.declared.contours.turns.Way.{Way}
 
 -- The scalar product of two ways.

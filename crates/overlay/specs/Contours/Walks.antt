@@ -5,8 +5,8 @@ use Rattle.plane.specs.declared.edge.Edge.{Edge}
 use Rattle.plane.specs.declared.point.Point.{Point}
 use Rattle.overlay.specs.Contours.Order.{IsCorner, point_at}
 use Rattle.overlay.specs.Contours.Rings.{IsRing}
-use Rattle.overlay.specs.Snap.Offsets.{offsets}
-use Rattle.overlay.specs.Snap.Windings.{pieces}
+use Rattle.noding.specs.Offsets.{offsets}
+use Rattle.noding.specs.Windings.{pieces}
 
 -- The edges that aren't walked yet, by a mark at the place of each that is.
 abbrev pub unwalked : List Edge → List Bool → List Edge

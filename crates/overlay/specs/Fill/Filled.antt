@@ -5,10 +5,10 @@ use Rattle.plane.specs.declared.edge.Edge.{Edge}
 use Rattle.plane.specs.Meet.Edges.{RationalPoint, IsOf}
 use Rattle.overlay.specs.declared.fill.rules.FillRule.{FillRule}
 use Rattle.overlay.specs.declared.fill.rules.Operation.{Operation}
-use Rattle.overlay.specs.Fill.Rules.{count, is_result}
-use Rattle.overlay.specs.Snap.Chains.{IsEnd}
-use Rattle.overlay.specs.Snap.Meeting.{MeetAtEnds}
-use Rattle.overlay.specs.Snap.Windings.{reversed, winding, IsClosed}
+use Rattle.overlay.specs.Fill.Rules.{is_result}
+use Rattle.noding.specs.Chains.{IsEnd}
+use Rattle.noding.specs.Meeting.{MeetAtEnds}
+use Rattle.noding.specs.Windings.{reversed, winding, IsClosed, count}
 
 -- Each point of two of the edges is an end of both, or the two have the same ends.
 abbrev pub AreNoded : List Edge → Type 0

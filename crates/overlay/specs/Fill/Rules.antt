@@ -14,10 +14,6 @@ is_inside NonZero winding = int_lt (pos 0) winding || int_lt winding (pos 0)
 is_inside Positive winding = int_lt (pos 0) winding
 is_inside Negative winding = int_lt winding (pos 0)
 
--- 1 where the test is true, else 0.
-abbrev pub count : Bool → ℤ
-count test = cond test (pos 1) (pos 0)
-
 -- A point is of the result that is of the subject or not, and of the clip or not.
 abbrev pub operate : Operation → Bool → Bool → Bool
 operate Union subject clip = subject || clip

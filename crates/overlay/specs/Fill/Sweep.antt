@@ -9,7 +9,7 @@ use Rattle.overlay.specs.Fill.Counts.{is_over, is_lower_on, kept_edge}
 use Rattle.overlay.specs.Fill.Filled.{AreNoded}
 use Rattle.overlay.specs.Fill.Pieces.{ArePieces, total}
 use Rattle.overlay.specs.Fill.Turned.{asked}
-use Rattle.overlay.specs.Snap.Windings.{IsClosed}
+use Rattle.noding.specs.Windings.{IsClosed}
 
 -- The edge covers the stretch from x on and is below g there.
 abbrev pub is_below_on : ℤ → Edge → Edge → Bool

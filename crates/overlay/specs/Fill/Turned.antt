@@ -10,7 +10,7 @@ use Rattle.overlay.specs.declared.fill.pieces.Role.TheVariants.{Subject, Clip}
 use Rattle.overlay.specs.Fill.Begins.{BeginsUpto}
 use Rattle.overlay.specs.Fill.Filled.{AreNoded}
 use Rattle.overlay.specs.Fill.Pieces.{total, weight}
-use Rattle.overlay.specs.Snap.Windings.{IsClosed}
+use Rattle.noding.specs.Windings.{IsClosed}
 
 -- The edge alone as a piece.
 abbrev pub piece_of : Role → Edge → Piece

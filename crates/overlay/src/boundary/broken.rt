@@ -4,12 +4,12 @@ ghost use Rattle.std.specs.Prelude.{◌≡◌, ◌≤◌, ◌++◌, List, IfOk, 
 ghost use Rattle.std.specs.List.{flat_map};
 ghost use Rattle.plane.specs.declared.point.Point.{Point};
 ghost use Rattle.overlay.specs.Boundary.{AllSome, AreBroken, StopSome};
-ghost use Rattle.overlay.specs.Snap.Offsets.{offsets};
-ghost use Rattle.overlay.specs.Snap.Windings.{pieces};
+ghost use Rattle.noding.specs.Offsets.{offsets};
+ghost use Rattle.noding.specs.Windings.{pieces};
 
-use crate::snap::pieces::pieces_of;
-use crate::snap::snap;
 use i_tree::Refusal;
+use noding::pieces::pieces_of;
+use noding::snap;
 use plane::edge::Edge;
 use std::alloc::{AllocError, Allocator};
 

@@ -4,16 +4,11 @@ ghost use Rattle.std.specs.Prelude.{◌≡◌, ◌≤◌, [], List, IfOk, OnOk, 
 ghost use Rattle.plane.specs.declared.edge.Edge.{Edge};
 ghost use Rattle.overlay.specs.Boundary.{AppendsBoundary, AreBroken};
 ghost use Rattle.overlay.specs.Fill.Filled.{IsFilled};
-ghost use Rattle.overlay.specs.Snap.Offsets.{Extends};
-ghost use Rattle.overlay.specs.Snap.Windings.{IsClosed};
-ghost use Rattle.overlay.specs.Stretches.Cut.{AreCut};
+ghost use Rattle.noding.specs.Windings.{IsClosed};
 
-use super::contours::contours_in_place;
-use super::fill::fill_pieces;
-use super::fill::rules::{FillRule, Operation};
-use super::stretches::Stretches;
-use super::stretches::chords::chords_of;
-use super::stretches::widening::append_widened;
+use crate::contours::contours_in_place;
+use crate::fill::fill_pieces;
+use crate::fill::rules::{FillRule, Operation};
 use i_tree::Refusal;
 use i_tree::status::exp::StatusCollection;
 use plane::edge::Edge;
@@ -66,73 +61,8 @@ where
     Ok(())
 }
 
-/// As `boundary`, of edges that are cut into stretches, by the chords of these: one edge stands for all of a stretch, from its first
-/// point to its last. In the rings the points of the stretches stand in place of them.
-pub fn boundary_along<C, A>(
-    stretches: &Stretches<A>,
-    rule: FillRule,
-    operation: Operation,
-    status: &mut C,
-    points: &mut Vec<Point, A>,
-    ring_ends: &mut Vec<usize, A>,
-) -> Result<(), Refusal>
-where
-    C: StatusCollection<ActiveEdge, i64, ()>,
-    A: Allocator + Copy,
-    requires cut { (subject clip : List Edge) × IsClosed subject × IsClosed clip
-        × AreCut subject clip stretches.now.parts.items stretches.now.count }
-    ensures ok { (subject clip : List Edge) → AreCut subject clip stretches.now.parts.items stretches.now.count
-        → OnOk result (AppendsBoundary rule operation subject clip
-        points.old.items points.new.items ring_ends.old.items ring_ends.new.items) }
-    ensures err { OnErr result ((points.new.items ≡ points.old.items) × (ring_ends.new.items ≡ ring_ends.old.items)) }
-    ensures empty { C.stored status.new ≡ [] }
-{
-    status.clear();
-    let points_before = points.len();
-    let ends_before = ring_ends.len();
-    let outcome = append_along(stretches, rule, operation, status, points, ring_ends);
-    if outcome.is_err() {
-        points.truncate(points_before);
-        ring_ends.truncate(ends_before);
-    }
-    outcome
-}
-
-// As `boundary_along`, over an empty status. Where it is refused, it may have appended something.
-fn append_along<C, A>(
-    stretches: &Stretches<A>,
-    rule: FillRule,
-    operation: Operation,
-    status: &mut C,
-    points: &mut Vec<Point, A>,
-    ring_ends: &mut Vec<usize, A>,
-) -> Result<(), Refusal>
-where
-    C: StatusCollection<ActiveEdge, i64, ()>,
-    A: Allocator + Copy,
-    requires empty { C.stored status.old ≡ [] }
-    requires cut { (subject clip : List Edge) × IsClosed subject × IsClosed clip
-        × AreCut subject clip stretches.now.parts.items stretches.now.count }
-    ensures ok { (subject clip : List Edge) → AreCut subject clip stretches.now.parts.items stretches.now.count
-        → OnOk result (AppendsBoundary rule operation subject clip
-        points.old.items points.new.items ring_ends.old.items ring_ends.new.items) }
-    ensures err { OnErr result (Extends points.old.items points.new.items
-        × Extends ring_ends.old.items ring_ends.new.items) }
-    ensures empty { C.stored status.new ≡ [] }
-{
-    let alloc = *points.allocator();
-    let parts = &stretches.parts;
-    let chords = chords_of(alloc, parts)?;
-    let bounding = bounding_edges(alloc, &chords, stretches.count, rule, operation, status)?;
-    let mut rings = Vec::with_capacity(alloc, bounding.len())?;
-    let mut ends = Vec::new(alloc);
-    contours_in_place(bounding, &mut rings, &mut ends)?;
-    append_widened(parts, &rings, &ends, points, ring_ends)?;
-    Ok(())
-}
-
-// The edges of the boundary: those that the operation keeps of the pieces of subject and clip.
-fn bounding_edges<C, A>(
+/// The edges of the boundary: those that the operation keeps of the pieces of subject and clip. The status is empty before and after.
+pub fn bounding_edges<C, A>(
     alloc: A,
     edges: &[Edge],
     count: usize,

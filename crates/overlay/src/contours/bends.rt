@@ -1,10 +1,10 @@
 //! Rings without the points at which they go straight on.
 
-ghost use Rattle.std.specs.Prelude.{◌≡◌, ◌++◌, ◌<◌, ◌≤◌, ◌+◌, List, MatchBool, OnErr, OnOk, drop, length, map, take};
-ghost use Rattle.std.specs.List.{between, flat_map};
+ghost use Rattle.std.specs.Prelude.{◌≡◌, ◌++◌, ◌<◌, ◌+◌, List, MatchBool, OnErr, OnOk, drop, length, map};
+ghost use Rattle.std.specs.List.{flat_map};
 ghost use Rattle.plane.specs.declared.point.Point.{Point};
 ghost use Rattle.overlay.specs.Contours.Outlines.{IsStraight, next_or, outline, ring_point};
-ghost use Rattle.overlay.specs.Snap.Offsets.{Extends, offsets};
+ghost use Rattle.noding.specs.Offsets.{Extends, offsets};
 
 use super::turns::{across, is_ahead, way_between};
 use plane::point::Point;
@@ -54,47 +54,6 @@ pub fn append_outline<A: Allocator>(
         before = *at;
     }
     Ok(())
-}
-
-/// Moves the outline of the ring that stands from the one place on, and before the end, to a place further in front, and tells
-/// where it stops. What stands in front of that place stays as it is, and so does what stands behind the ring.
-pub fn settle_outline(points: &mut [Point], start: usize, end: usize, to: usize) -> usize
-    requires front { to ≤ start }
-    requires order { start ≤ end }
-    requires within { end ≤ length points.old }
-    ensures settled { take result points.new ≡ take to points.old ++ outline (between start end points.old) }
-    ensures rest { drop end points.new ≡ drop end points.old }
-    ensures size { length points.new ≡ length points.old }
-    ensures within { result ≤ end }
-{
-    if start == end {
-        return to;
-    }
-    let first = points[start];
-    let mut before = points[end - 1];
-    let mut next = to;
-    for place in start..end {
-        let at = points[place];
-        let after = next_before(points, place, end, first);
-        if !goes_straight(before, at, after) {
-            points[next] = at;
-            next += 1;
-        }
-        before = at;
-    }
-    next
-}
-
-// The point behind this place and before the end, or if there is none the first one.
-fn next_before(points: &[Point], place: usize, end: usize, first: Point) -> Point
-    requires order { place < end }
-    requires within { end ≤ length points.now }
-    ensures { result ≡ next_or (between (place + 1) end points.now) first }
-{
-    if place + 1 < end {
-        return points[place + 1];
-    }
-    first
 }
 
 /// The point behind this place in the ring.

@@ -7,7 +7,7 @@ ghost use Rattle.overlay.specs.Contours.Order.{AreInOrder, IsFirstFrom};
 
 use super::order::{first_from, is_behind};
 use super::turns::starts_at;
-use crate::edges::{end_of, number_at, start_of};
+use noding::edges::{end_of, number_at, start_of};
 use plane::edge::Edge;
 use plane::point::Point;
 use std::alloc::{AllocError, Allocator};

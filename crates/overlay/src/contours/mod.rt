@@ -6,11 +6,11 @@ ghost use Rattle.i_tree.specs.declared.Refusal.TheVariants.{OutOfMemory};
 ghost use Rattle.plane.specs.declared.point.Point.{Point};
 ghost use Rattle.overlay.specs.Contours.Outlines.{AreOutlines, outline};
 ghost use Rattle.overlay.specs.Contours.Rings.{AreContours};
-ghost use Rattle.overlay.specs.Snap.Offsets.{offsets, Extends};
-ghost use Rattle.overlay.specs.Snap.Windings.{IsClosed};
+ghost use Rattle.noding.specs.Offsets.{offsets, Extends};
+ghost use Rattle.noding.specs.Windings.{IsClosed};
 
 use bends::append_outlines;
-pub use bends::{append_outline, next_in, settle_outline};
+pub use bends::{append_outline, next_in};
 use i_tree::Refusal;
 use order::put_in_order;
 use plane::edge::Edge;
@@ -53,7 +53,7 @@ pub fn contours<A: Allocator + Copy>(
 }
 
 /// As `contours`, of edges in a list that is no longer needed: they are sorted in it, so that no copy of them is made.
-pub(crate) fn contours_in_place<A: Allocator + Copy>(
+pub fn contours_in_place<A: Allocator + Copy>(
     edges: Vec<Edge, A>,
     points: &mut Vec<Point, A>,
     ring_ends: &mut Vec<usize, A>,

@@ -2,10 +2,10 @@
 
 ghost use Rattle.std.specs.Prelude.{◌≡◌, IsPermutation, MatchBool, OnOk};
 ghost use Rattle.overlay.specs.Contours.Order.{AreInOrder, IsBehind, IsFirstFrom, corner_at};
-ghost use Rattle.overlay.specs.Snap.Windings.{start_of};
+ghost use Rattle.noding.specs.Windings.{start_of};
 
-use crate::edges::{number_at, start_of};
 use event_queue::buckets::sort_in_buckets;
+use noding::edges::{number_at, start_of};
 use plane::edge::Edge;
 use plane::point::Point;
 use std::alloc::{AllocError, Allocator};

@@ -4,9 +4,9 @@ ghost use Rattle.std.specs.Prelude.{◌≡◌, ◌<◌, pos, ◌-ℤ◌, ◌<ℤ
 ghost use Rattle.plane.specs.Meet.Crosses.{cross};
 ghost use Rattle.overlay.specs.Contours.Order.{AreInOrder, IsFirstFrom};
 ghost use Rattle.overlay.specs.Contours.Turns.{ComesBefore, IsBetter, IsLeft, IsLeftmost, NoneLeaves, dot};
-ghost use Rattle.overlay.specs.Snap.Windings.{start_of, end_of};
+ghost use Rattle.noding.specs.Windings.{start_of, end_of};
 
-use crate::edges::{end_of, start_of};
+use noding::edges::{end_of, start_of};
 use plane::edge::Edge;
 use plane::point::Point;
 use plane::ways::product;

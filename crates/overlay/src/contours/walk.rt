@@ -7,13 +7,13 @@ ghost use Rattle.overlay.specs.Contours.Ends.{AreCornersOfEnds};
 ghost use Rattle.overlay.specs.Contours.Order.{AreInOrder, IsFirstFrom, point_at};
 ghost use Rattle.overlay.specs.Contours.Rings.{ring_edges};
 ghost use Rattle.overlay.specs.Contours.Walks.{AreAppended, Keeps, unwalked};
-ghost use Rattle.overlay.specs.Snap.Offsets.{Extends};
-ghost use Rattle.overlay.specs.Snap.Windings.{IsClosed};
+ghost use Rattle.noding.specs.Offsets.{Extends};
+ghost use Rattle.noding.specs.Windings.{IsClosed};
 
 use super::cutting::cut_loop;
 use super::ends::{corners_of_ends, next_from};
 use super::turns::leftmost;
-use crate::edges::{end_of, start_of};
+use noding::edges::{end_of, start_of};
 use plane::edge::Edge;
 use plane::point::Point;
 use std::alloc::{AllocError, Allocator};

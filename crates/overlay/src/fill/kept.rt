@@ -9,14 +9,14 @@ ghost use Rattle.plane.specs.SweepLine.Line.{BeganBefore, IsSortedAt, JoinsAt, N
 ghost use Rattle.overlay.specs.Fill.Counts.{kept_edge};
 ghost use Rattle.overlay.specs.Fill.Rules.{is_result};
 ghost use Rattle.overlay.specs.Fill.Sweep.{AreFillPieces, Fits, above_of, above_or, kept_of, plus, with_above};
-ghost use Rattle.overlay.specs.Snap.Offsets.{Extends};
+ghost use Rattle.noding.specs.Offsets.{Extends};
 
 use super::counts::{Counts, is_result};
 use super::pieces::{Piece, sum};
 use super::rules::{FillRule, Operation};
-use crate::edges::reverse;
 use i_tree::Refusal;
 use i_tree::status::exp::StatusCollection;
+use noding::edges::reverse;
 use plane::edge::Edge;
 use plane::sweep_line::{ActiveEdge, insert_beginning};
 use std::alloc::{AllocError, Allocator};

@@ -5,8 +5,8 @@ ghost use Rattle.i_tree.specs.declared.Refusal.TheVariants.{OutOfMemory};
 ghost use Rattle.plane.specs.declared.edge.Edge.{Edge};
 ghost use Rattle.overlay.specs.Fill.Filled.{AreNoded, IsFilled};
 ghost use Rattle.overlay.specs.Fill.Turned.{AreUnjoined};
-ghost use Rattle.overlay.specs.Snap.Offsets.{Extends};
-ghost use Rattle.overlay.specs.Snap.Windings.{IsClosed};
+ghost use Rattle.noding.specs.Offsets.{Extends};
+ghost use Rattle.noding.specs.Windings.{IsClosed};
 
 use i_tree::Refusal;
 use i_tree::status::exp::StatusCollection;

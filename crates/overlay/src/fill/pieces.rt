@@ -8,8 +8,8 @@ ghost use Rattle.overlay.specs.declared.fill.pieces.Role.TheVariants.{Subject, C
 ghost use Rattle.overlay.specs.Fill.Pieces.{ArePieces, weight};
 ghost use Rattle.overlay.specs.Fill.Turned.{Adds, AreJoinOf, AreUnjoined, BeginApart, EndIn, Fit, IsSmall, piece_of, sum_of, turned};
 
-use crate::edges::number_at;
 use event_queue::buckets::sort_in_buckets;
+use noding::edges::number_at;
 use plane::edge::Edge;
 use plane::sweep_line::heights::turn_rightwards;
 use plane::ways::product;

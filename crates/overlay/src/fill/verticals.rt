@@ -3,11 +3,11 @@
 ghost use Rattle.std.specs.Prelude.{◌≡◌, ◌≤◌, ◌≤ℤ◌, ◌+ℤ◌, ◌-ℤ◌, ◌^◌, ◌++◌, ℤ, pos, negsuc, List, All, IfOk, OnOk, OnErr, drop, length, map};
 ghost use Rattle.plane.specs.declared.edge.Edge.{Edge};
 ghost use Rattle.overlay.specs.Fill.Verticals.{AreVerticalsOf, BoundRegion, before_all, ending, left_end, point_of_end, right_end, starting, vertical_between, verticals_between};
-ghost use Rattle.overlay.specs.Snap.Offsets.{Extends};
-ghost use Rattle.overlay.specs.Snap.Windings.{edge_between};
+ghost use Rattle.noding.specs.Offsets.{Extends};
+ghost use Rattle.noding.specs.Windings.{edge_between};
 
-use crate::edges::number_at;
 use event_queue::buckets::sort_in_buckets;
+use noding::edges::number_at;
 use plane::edge::Edge;
 use std::alloc::{AllocError, Allocator};
 use std::cmp::Ordering;

@@ -75,21 +75,6 @@ module _ {X : Type 0} where
   here_or_there y xs x (zero, inside, is) = inl is
   here_or_there y xs x (suc k, inside, is) = inr (k, omega arith, is)
 
-  -- what a filter keeps is an element that passes
-  pub Contains-from_filter : (p : X → Bool) (xs : List X) (x : X) → Contains (filter p xs) x → Contains xs x × (p x ≡ true)
-  Contains-from_filter p [] x (k, inside, is) = absurd (omega arith)
-  Contains-from_filter p (y ∷ ys) x held =
-      let rest = Contains-from_filter p ys x in
-      cond_both (p y) (y ∷ filter p ys) (filter p ys) (λ (zs : List X). Contains zs x → Contains (y ∷ ys) x × (p x ≡ true))
-      (λ passes held. at_kept passes rest held) (λ _ held. there (rest held)) held
-    where
-      there : Contains ys x × (p x ≡ true) → Contains (y ∷ ys) x × (p x ≡ true)
-      there (inside, passes) = (Contains-there y ys x inside, passes)
-
-      at_kept : p y ≡ true → (Contains (filter p ys) x → Contains ys x × (p x ≡ true)) → Contains (y ∷ filter p ys) x → Contains (y ∷ ys) x × (p x ≡ true)
-      at_kept passes rest (zero, inside, is) = ((0, omega arith, is), ap p (sym is) ∙ passes)
-      at_kept passes rest (suc k, inside, is) = there (rest (k, omega arith, is))
-
   -- an element of a list whose elements differ is none of the earlier ones
   pub not_before : (xs : List X) (k : ℕ) (x : X) → k < length xs → AllPairs (λ y z. y ≢ z) xs → get_or xs k x ≡ x → Contains (take k xs) x → ⊥
   not_before xs k x inside once is (i, within, held) =

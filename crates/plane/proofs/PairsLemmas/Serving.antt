@@ -19,7 +19,7 @@ use Rattle.plane.specs.declared.pairs.sweep.Placed.{Placed}
 use Rattle.plane.specs.declared.pairs.items.Bounds.{Bounds}
 use Rattle.plane.specs.Pairs.Bounds.{IsBox}
 use Rattle.plane.specs.declared.pairs.roles.Roles.{Roles}
-use Rattle.plane.proofs.PairsLemmas.Bags.{Contains-from_filter}
+use Rattle.i_tree.proofs.RootLemmas.Members.{Contains-from_filter}
 use Rattle.plane.proofs.PairsLemmas.Pairs.{GainsPairs-none}
 
 -- an item is live at each x up to its greater one

@@ -21,7 +21,8 @@ use Rattle.plane.specs.declared.pairs.parts.Part.{Part}
 use Rattle.plane.specs.declared.pairs.roles.Roles.{Roles}
 use Rattle.plane.specs.declared.pairs.strips.Strips.{Strips}
 use Rattle.plane.specs.declared.pairs.sweep.Placed.{Placed}
-use Rattle.plane.proofs.PairsLemmas.Bags.{AllPairs-permutation, Contains-from_filter, Contains-map, Contains-from_map, here_or_there}
+use Rattle.i_tree.proofs.RootLemmas.Members.{Contains-from_filter}
+use Rattle.plane.proofs.PairsLemmas.Bags.{AllPairs-permutation, Contains-map, Contains-from_map, here_or_there}
 use Rattle.plane.proofs.PairsLemmas.Serving.{is_live-upto, kept-within}
 use Rattle.plane.specs.declared.pairs.items.Bounds.{Bounds}
 use Rattle.plane.specs.Pairs.Bounds.{MeetInBoxes}

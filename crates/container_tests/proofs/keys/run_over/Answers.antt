@@ -1,7 +1,7 @@
 use Rattle.std.specs.Prelude.{⊤}
 use Rattle.std.specs.Ordering.{int_cmp}
 use Rattle.i_tree.specs.Expiring.Tree.{items}
-use Rattle.itree_lib.proofs.RunLemmas.KnownPairs.{CanProbeAll-always}
+use Rattle.runs.proofs.RunLemmas.KnownPairs.{CanProbeAll-always}
 use Rattle.container_tests.specs.declared.key_types.TimedKey.{TimedKey}
 use Rattle.container_tests.proofs.keys.run_over.Goals as goal
 

@@ -1,6 +1,6 @@
 use Rattle.std.specs.Prelude.{⊤}
 use Rattle.std.specs.Ordering.{int_cmp}
-use Rattle.itree_lib.proofs.RunLemmas.StatusSteps.{CanProbeAll-always}
+use Rattle.runs.proofs.RunLemmas.StatusSteps.{CanProbeAll-always}
 use Rattle.container_tests.specs.declared.sloped.Sloped.{Sloped}
 use Rattle.container_tests.proofs.statuses.run_commands.Goals as goal
 

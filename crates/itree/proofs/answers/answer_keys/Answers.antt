@@ -5,9 +5,9 @@ use Rattle.std.specs.Ordering.{int_cmp}
 use Rattle.i_tree.proofs.RootLemmas.Monotone.{IsMonotone-compare}
 use Rattle.itree.specs.Replies.{key_reply_words, reply_lines}
 use Rattle.itree.specs.Answers.{cmp_keys, cmp_sought}
-use Rattle.itree_lib.specs.declared.run.keys.KeyReply.{KeyReply}
+use Rattle.runs.specs.declared.keys.KeyReply.{KeyReply}
 use Rattle.itree.specs.declared.timed_key.TimedKey.{TimedKey}
-use Rattle.itree_lib.proofs.RunLemmas.KnownPairs.{CanProbeAll-always, ProbesAllBy-always}
+use Rattle.runs.proofs.RunLemmas.KnownPairs.{CanProbeAll-always, ProbesAllBy-always}
 use Rattle.itree.proofs.answers.answer_keys.Goals as goal
 
 pub run_keys-requires : goal.run_keys-requires

@@ -3,8 +3,8 @@ use Rattle.std.proofs.lemmas.List.Sorted.{IsPermutation-refl}
 use Rattle.std.specs.List.Sorted.{IsPermutation}
 use Rattle.i_tree.specs.Seg.Members.{Member}
 use Rattle.i_tree.proofs.RbLemmas.Slots.FreeSlots.{written_back}
-use Rattle.itree_lib.specs.Run.SegMachine.{State, reply_of}
-use Rattle.itree_lib.specs.declared.run.segments.SegReply.{SegReply}
+use Rattle.runs.specs.SegMachine.{State, reply_of}
+use Rattle.runs.specs.declared.segments.SegReply.{SegReply}
 use Rattle.itree.specs.Replies.{seg_reply_words, reply_lines}
 use Rattle.itree.specs.Sorting.{SortsAll}
 use Rattle.itree.specs.declared.timed_val.TimedVal.{TimedVal}

@@ -1,7 +1,7 @@
 use Rattle.std.proofs.Common.{List, ◌++◌, ℤ, ap, ◌∙◌}
 use Rattle.i_tree.specs.Set.Pairs.{values}
 use Rattle.itree.specs.Replies.{set_reply_words, reply_lines}
-use Rattle.itree_lib.specs.declared.run.sets.SetReply.{SetReply}
+use Rattle.runs.specs.declared.sets.SetReply.{SetReply}
 use Rattle.itree.specs.declared.set_key.SetKey.{SetKey}
 use Rattle.itree.proofs.answers.answer_set.Goals as goal
 

@@ -1,6 +1,6 @@
 use Rattle.std.proofs.Common.{◌≡◌, length, map, take, arith, refl, subst}
 use Rattle.std.proofs.lemmas.List.{take_all}
-use Rattle.itree_lib.specs.Run.SegMachine.{reply_of}
+use Rattle.runs.specs.SegMachine.{reply_of}
 use Rattle.itree.specs.Sorting.{SortsAll}
 use Rattle.itree.proofs.Sorting.{sort_next, rest_next}
 use Rattle.itree.proofs.answers.sort_all.Goals as goal

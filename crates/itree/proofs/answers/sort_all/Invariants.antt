@@ -1,5 +1,5 @@
 use Rattle.std.proofs.Common.{◌≡◌, map, take, drop}
-use Rattle.itree_lib.specs.Run.SegMachine.{reply_of}
+use Rattle.runs.specs.SegMachine.{reply_of}
 use Rattle.itree.specs.Sorting.{SortsAll}
 use Rattle.itree.proofs.answers.sort_all.Given as goal
 

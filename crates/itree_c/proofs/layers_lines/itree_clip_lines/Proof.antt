@@ -3,7 +3,7 @@ use Rattle.itree_c.proofs.Steps.{ℤ, List, [], ◌∷◌, ◌++◌, length, ref
 use Rattle.itree_c.proofs.HandleLemmas.{Z, al, R, Two, status_word, parts_out, made_in}
 use Rattle.itree_c.specs.Layers.{AnswersPieces}
 use Rattle.layers.specs.declared.lines.Lines.{Lines}
-use Rattle.polygons.specs.declared.rings.Rings.{Rings}
+use Rattle.overlay.specs.declared.rings.Rings.{Rings}
 use Rattle.plane.specs.contracts.point.Point.{the_row as point_row}
 use Rattle.itree_c.specs.contracts.polygon_lists.PolygonLists.{the_row as held_row}
 use Rattle.itree_c.specs.contracts.layers_lines.all_pieces as callee

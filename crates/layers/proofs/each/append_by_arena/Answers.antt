@@ -1,4 +1,4 @@
-use Rattle.polygons.proofs.Callers.{AreAppended-first}
+use Rattle.overlay.proofs.Callers.{AreAppended-first}
 use Rattle.layers.proofs.EachLemmas.{AreAppended-ends, AreAppended-moved}
 use Rattle.layers.proofs.each.append_by_arena.Goals as goal
 

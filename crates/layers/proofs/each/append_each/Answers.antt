@@ -1,8 +1,8 @@
 use Rattle.std.proofs.Common.{◌++◌, ◌∷◌, [], ◌∙◌, List, subst₂, sym, append-nil, arith}
 use Rattle.plane.specs.declared.edge.Edge.{Edge}
 use Rattle.plane.proofs.PairsLemmas.Extends.{OnErr-always}
-use Rattle.overlay.proofs.ChainLemmas.Runs.{Extends-trans}
-use Rattle.polygons.specs.Overlay.{IsOverlay}
+use Rattle.noding.proofs.ChainLemmas.Runs.{Extends-trans}
+use Rattle.overlay.specs.Overlay.{IsOverlay}
 use Rattle.layers.specs.Shapes.{edges_of_groups}
 use Rattle.layers.proofs.EachLemmas.{AreAppended-group, AreAppended-none, AreOverlaysUpto-all, AreOverlaysUpto-more, AreOverlaysUpto-none, edges_of_groups-at, ends-group, length-edges_of_groups}
 use Rattle.layers.proofs.each.append_each.Goals as goal

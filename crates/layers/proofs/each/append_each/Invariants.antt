@@ -1,8 +1,8 @@
 use Rattle.std.proofs.Common.{◌≡◌, ◌++◌, List, length}
 use Rattle.std.specs.List.{flat_map}
 use Rattle.plane.specs.declared.point.Point.{Point}
-use Rattle.overlay.specs.Snap.Offsets.{offsets}
-use Rattle.polygons.specs.Polygons.{Appends}
+use Rattle.noding.specs.Offsets.{offsets}
+use Rattle.overlay.specs.Polygons.{Appends}
 use Rattle.layers.specs.Shapes.{edges_of_groups}
 use Rattle.layers.proofs.EachLemmas.{AreOverlaysUpto}
 use Rattle.layers.proofs.each.append_each.Given as goal

@@ -1,8 +1,8 @@
 use Rattle.std.proofs.Common.{List, ap, subst₂, ◌∙◌}
 use Rattle.std.specs.Prelude.{Err}
 use Rattle.plane.specs.declared.edge.Edge.{Edge}
-use Rattle.polygons.specs.Overlay.{IsOverlay}
-use Rattle.polygons.specs.declared.fault.OverlayFault.{OverlayFault}
+use Rattle.overlay.specs.Overlay.{IsOverlay}
+use Rattle.overlay.specs.declared.fault.OverlayFault.{OverlayFault}
 use Rattle.layers.specs.Gathered.{group_rings}
 use Rattle.layers.proofs.EachLemmas.{HasEnds-joined}
 use Rattle.layers.proofs.each.append_overlay.Goals as goal

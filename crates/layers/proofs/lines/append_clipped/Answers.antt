@@ -4,8 +4,8 @@ use Rattle.std.specs.Bool.{MatchBool}
 use Rattle.std.proofs.Math.Seq.{drop-append_seam, take-append_seam}
 use Rattle.plane.specs.declared.edge.Edge.{Edge}
 use Rattle.plane.specs.declared.point.Point.{Point}
-use Rattle.overlay.proofs.ChainLemmas.Zips.{AllZip-length}
-use Rattle.polygons.specs.Rings.{AreEnds}
+use Rattle.noding.proofs.ChainLemmas.Zips.{AllZip-length}
+use Rattle.overlay.specs.Rings.{AreEnds}
 use Rattle.layers.specs.LineParts.{AreBrokenEdges, AreTold, IsPath}
 use Rattle.layers.specs.Lines.{AreRuns, IsKept}
 use Rattle.layers.specs.Shapes.{lists_of}

@@ -1,7 +1,7 @@
 use Rattle.std.proofs.Common.{pos, get_or, take, sym, subst₂, rules}
 use Rattle.std.specs.List.{AllZip}
 use Rattle.std.proofs.lemmas.List.{take_more}
-use Rattle.overlay.proofs.ChainLemmas.Zips.{AllZip-more}
+use Rattle.noding.proofs.ChainLemmas.Zips.{AllZip-more}
 use Rattle.plane.specs.declared.point.Point.{Point}
 use Rattle.layers.proofs.AroundLemmas.Doubling.{IsTwice}
 use Rattle.layers.proofs.points.half_points_of.Goals as goal

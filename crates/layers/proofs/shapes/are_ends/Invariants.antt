@@ -1,6 +1,6 @@
 use Rattle.std.proofs.Common.{drop}
 use Rattle.std.specs.Prelude.{◌↔◌}
-use Rattle.polygons.specs.Rings.{AreEnds}
+use Rattle.overlay.specs.Rings.{AreEnds}
 use Rattle.layers.proofs.shapes.are_ends.Given as goal
 
 -- the ends told so far are right: the others tell

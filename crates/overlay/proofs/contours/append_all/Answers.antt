@@ -6,7 +6,7 @@ use Rattle.plane.specs.declared.edge.Edge.{Edge}
 use Rattle.plane.specs.declared.point.Point.{Point}
 use Rattle.overlay.specs.Contours.Rings.{ring_edges}
 use Rattle.overlay.specs.Contours.Walks.{AreAppended}
-use Rattle.overlay.specs.Snap.Windings.{IsClosed}
+use Rattle.noding.specs.Windings.{IsClosed}
 use Rattle.overlay.proofs.ContourLemmas.Counts.{IsClosed-permuted}
 use Rattle.overlay.proofs.contours.append_all.Goals as goal
 

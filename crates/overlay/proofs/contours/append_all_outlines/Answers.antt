@@ -5,8 +5,8 @@ use Rattle.plane.specs.declared.edge.Edge.{Edge}
 use Rattle.plane.specs.declared.point.Point.{Point}
 use Rattle.overlay.specs.Contours.Outlines.{outline}
 use Rattle.overlay.specs.Contours.Rings.{AreContours}
-use Rattle.overlay.specs.Snap.Offsets.{offsets}
-use Rattle.overlay.specs.Snap.Windings.{IsClosed}
+use Rattle.noding.specs.Offsets.{offsets}
+use Rattle.noding.specs.Windings.{IsClosed}
 use Rattle.overlay.proofs.ContourLemmas.Callers.{outlines-wind}
 use Rattle.overlay.proofs.contours.append_all_outlines.Goals as goal
 

@@ -1,4 +1,4 @@
-use Rattle.overlay.specs.Snap.Windings.{IsClosed}
+use Rattle.noding.specs.Windings.{IsClosed}
 use Rattle.overlay_tests.proofs.contoured.squares.Given as goal
 
 abbrev pub invariant-loop-k : goal.invariant-loop-k

@@ -1,6 +1,6 @@
 use Rattle.std.proofs.Common.{List, drop, subst, sym, take}
 use Rattle.plane.specs.declared.edge.Edge.{Edge}
-use Rattle.overlay.specs.Snap.Windings.{IsClosed}
+use Rattle.noding.specs.Windings.{IsClosed}
 use Rattle.overlay_tests.proofs.walks.bound_walks.Goals as goal
 
 pub boundary-requires-clause-closed : goal.boundary-requires-clause-closed

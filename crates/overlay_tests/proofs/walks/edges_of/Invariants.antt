@@ -1,4 +1,4 @@
-use Rattle.overlay.specs.Snap.Windings.{IsClosed}
+use Rattle.noding.specs.Windings.{IsClosed}
 use Rattle.overlay_tests.proofs.walks.edges_of.Given as goal
 
 abbrev pub invariant-loop-walk : goal.invariant-loop-walk

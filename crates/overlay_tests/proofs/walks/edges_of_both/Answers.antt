@@ -1,7 +1,7 @@
 use Rattle.std.proofs.Common.{◌≡◌, ◌++◌, ◌≤◌, ℕ, List, length, take, drop, ap, ap₂, subst, sym, ◌∙◌, arith}
 use Rattle.std.proofs.lemmas.List.{drop_at, length-append, take_at}
 use Rattle.plane.specs.declared.edge.Edge.{Edge}
-use Rattle.overlay.specs.Snap.Windings.{IsClosed}
+use Rattle.noding.specs.Windings.{IsClosed}
 use Rattle.overlay_tests.proofs.walks.edges_of_both.Goals as goal
 
 -- where a list is two closed ones

@@ -2,8 +2,8 @@ use Rattle.std.proofs.Common.{List, ◌++◌, length, ap, ◌∙◌, subst}
 use Rattle.std.specs.List.{Contains, flat_map}
 use Rattle.plane.specs.declared.edge.Edge.{Edge}
 use Rattle.plane.specs.declared.point.Point.{Point}
-use Rattle.overlay.specs.Snap.Offsets.{offsets}
-use Rattle.overlay.proofs.SnapLemmas.Callers.{noded}
+use Rattle.noding.specs.Offsets.{offsets}
+use Rattle.noding.proofs.Callers.{noded}
 use Rattle.uses.proofs.broken_roads.broken_roads.Goals as goal
 
 pub returns : goal.returns

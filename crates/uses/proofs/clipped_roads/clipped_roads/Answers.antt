@@ -10,10 +10,10 @@ use Rattle.overlay.specs.declared.fill.rules.FillRule.TheVariants.{NonZero}
 use Rattle.overlay.specs.declared.fill.rules.Operation.TheVariants.{Union}
 use Rattle.overlay.specs.Boundary.{AreBroken}
 use Rattle.overlay.specs.Fill.Filled.{AreNoded, IsFilled}
-use Rattle.overlay.specs.Snap.Windings.{IsClosed}
+use Rattle.noding.specs.Windings.{IsClosed}
 use Rattle.overlay.proofs.BoundaryLemmas.Bounding.{broken-noded, clip-closed}
 use Rattle.overlay.proofs.ContourLemmas.Counts.{rings-closed}
-use Rattle.polygons.specs.Rings.{rings_of}
+use Rattle.overlay.specs.Rings.{rings_of}
 use Rattle.uses.specs.Roads.{double, kept, twice_middle}
 use Rattle.uses.proofs.RoadLemmas.{none-crosses}
 use Rattle.uses.proofs.clipped_roads.clipped_roads.Goals as goal

@@ -1,6 +1,6 @@
 use Rattle.std.proofs.Common.{◌≡◌, Result, Ok, Err, ap, sym, ◌∙◌}
 use Rattle.std.specs.Result.{IsErrAnd}
-use Rattle.polygons.proofs.Callers.{AreAppended-first}
+use Rattle.overlay.proofs.Callers.{AreAppended-first}
 use Rattle.uses.proofs.MaskLemmas.{AreFree-overlay, AreEnds-rings, rings-edges}
 use Rattle.uses.proofs.free_of_masks.free_of_masks.Goals as goal
 

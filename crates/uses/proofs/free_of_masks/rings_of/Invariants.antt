@@ -1,6 +1,6 @@
 use Rattle.std.proofs.Common.{◌≡◌, ◌++◌, length, drop, map}
 use Rattle.std.specs.List.{flat_map}
-use Rattle.overlay.specs.Snap.Offsets.{offsets}
+use Rattle.noding.specs.Offsets.{offsets}
 use Rattle.uses.specs.Masks.{corners}
 use Rattle.uses.proofs.free_of_masks.rings_of.Given as goal
 

@@ -1,6 +1,6 @@
 use Rattle.std.proofs.Common.{◌*◌, ◌^◌, ◌≤◌, length, drop}
 use Rattle.plane.specs.Meet.Crosses.{IsWithin}
-use Rattle.polygons.specs.Rings.{AreEnds}
+use Rattle.overlay.specs.Rings.{AreEnds}
 use Rattle.uses.proofs.parcels.twice_area_of.Given as goal
 
 -- the ends left are right, and the sum so far is at most that of so many points

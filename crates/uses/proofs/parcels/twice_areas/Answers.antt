@@ -1,5 +1,5 @@
-use Rattle.polygons.specs.Polygons.{rings_of}
-use Rattle.polygons.proofs.Callers.{AreAppended-first, AreEnds-joined, AreJoined-appended}
+use Rattle.overlay.specs.Polygons.{rings_of}
+use Rattle.overlay.proofs.Callers.{AreAppended-first, AreEnds-joined, AreJoined-appended}
 use Rattle.uses.proofs.parcels.twice_areas.Goals as goal
 
 -- the rings of what is common stop where they begin or later

@@ -1,6 +1,6 @@
 use Rattle.std.specs.Prelude.{⊤}
 use Rattle.std.specs.Ordering.{int_cmp}
-use Rattle.itree_lib.proofs.RunLemmas.KnownPairs.{CanProbeAll-always}
+use Rattle.runs.proofs.RunLemmas.KnownPairs.{CanProbeAll-always}
 use Rattle.container_tests.specs.declared.key_types.TimedKey.{TimedKey}
 use Rattle.container_tests.proofs.keys.PlainKeyRunnerTimedKeyI32.run.Goals as goal
 

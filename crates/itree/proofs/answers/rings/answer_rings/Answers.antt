@@ -3,13 +3,13 @@ use Rattle.std.specs.List.{flat_map}
 use Rattle.itree.specs.RingLines.{subject_of, clip_of}
 use Rattle.itree.proofs.Ringed.{AreEnds-joined, rings_of-joined}
 use Rattle.overlay.specs.Contours.Rings.{ring_edges}
-use Rattle.overlay.specs.Snap.Offsets.{AreJoined, offsets}
+use Rattle.noding.specs.Offsets.{AreJoined, offsets}
 use Rattle.plane.specs.declared.edge.Edge.{Edge}
 use Rattle.plane.specs.declared.point.Point.{Point}
-use Rattle.polygons.specs.Overlay.{IsOverlay}
-use Rattle.polygons.specs.Polygons.{rings_of}
-use Rattle.polygons.specs.Rings.{HasEnds, edges_of}
-use Rattle.polygons.specs.declared.rings.Rings.{Rings}
+use Rattle.overlay.specs.Overlay.{IsOverlay}
+use Rattle.overlay.specs.Polygons.{rings_of}
+use Rattle.overlay.specs.Rings.{HasEnds, edges_of}
+use Rattle.overlay.specs.declared.rings.Rings.{Rings}
 use Rattle.itree.proofs.answers.rings.answer_rings.Goals as goal
 
 -- what a call takes of rings that are held

@@ -1,7 +1,7 @@
 use Rattle.std.proofs.Common.{◌++◌, ◌∙◌, ℕ, List, length, ap}
-use Rattle.overlay.specs.Snap.Offsets.{AreJoined}
-use Rattle.overlay.proofs.SnapLemmas.Callers.{joined}
-use Rattle.overlay.specs.Snap.Offsets.{offsets}
+use Rattle.noding.specs.Offsets.{AreJoined}
+use Rattle.noding.proofs.Callers.{joined}
+use Rattle.noding.specs.Offsets.{offsets}
 use Rattle.plane.specs.declared.point.Point.{Point}
 use Rattle.itree.proofs.answers.snap.answer_snap.Goals as goal
 

@@ -2,8 +2,8 @@ use Rattle.std.proofs.Common.{◌≡◌, ◌<◌, ◌∙◌, ℕ, List, Err, ap,
 use Rattle.itree.specs.Grammar.{lines_of, LinesSay}
 use Rattle.itree.specs.SweepLines.{SaysSweepLine, segments_of, IsSegmentLine, IsOverlapLine}
 use Rattle.itree.specs.declared.lines.sweep.SweepLine.{SweepLine}
-use Rattle.itree_lib.specs.Sweep.Heights.{IsFirstOverlap}
-use Rattle.itree_lib.specs.declared.sweep.Segment.{Segment}
+use Rattle.horizontal.specs.Heights.{IsFirstOverlap}
+use Rattle.horizontal.specs.declared.Segment.{Segment}
 use Rattle.itree.proofs.answers.sweep.answer_sweep.Goals as goal
 
 -- a segment that overlaps is one of those that are said

@@ -2,10 +2,10 @@ use Rattle.std.proofs.Common.{◌≡◌, ◌≤◌, ◌<◌, ◌++◌, ◌∙◌
 use Rattle.std.proofs.lemmas.List.{flat_map_more, take_all, take_more}
 use Rattle.std.specs.List.{flat_map}
 use Rattle.itree.specs.Replies.{polygon_lines}
-use Rattle.overlay.specs.Snap.Offsets.{AreJoined}
-use Rattle.overlay.proofs.SnapLemmas.Callers.{length-offsets, IsNext, IsNext-at}
+use Rattle.noding.specs.Offsets.{AreJoined}
+use Rattle.noding.proofs.Callers.{length-offsets, IsNext, IsNext-at}
 use Rattle.plane.specs.declared.point.Point.{Point}
-use Rattle.polygons.specs.Polygons.{rings_of}
+use Rattle.overlay.specs.Polygons.{rings_of}
 use Rattle.itree.proofs.lines.rings.polygon_text.Goals as goal
 
 -- the next polygon's rings are among all

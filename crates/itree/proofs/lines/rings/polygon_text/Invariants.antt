@@ -1,9 +1,9 @@
 use Rattle.std.proofs.Common.{◌≡◌, List, length, string_bytes, take}
 use Rattle.std.specs.List.{flat_map}
 use Rattle.itree.specs.Replies.{polygon_lines}
-use Rattle.overlay.specs.Snap.Offsets.{AreJoined}
+use Rattle.noding.specs.Offsets.{AreJoined}
 use Rattle.plane.specs.declared.point.Point.{Point}
-use Rattle.polygons.specs.Polygons.{rings_of}
+use Rattle.overlay.specs.Polygons.{rings_of}
 use Rattle.itree.proofs.lines.rings.polygon_text.Given as goal
 
 -- the lines of the polygons so far, and the next one begins behind their rings

@@ -1,7 +1,7 @@
 use Rattle.std.proofs.Common.{◌<◌, ◌++◌, ◌==◌, ◌∙◌, [], ℕ, List, length, string_bytes, get_or, sym, ap, append_assoc, arith}
 use Rattle.itree.specs.Replies.{polygon_lines, ring_line}
 use Rattle.std.specs.List.{between}
-use Rattle.overlay.proofs.SnapLemmas.Callers.{length-offsets}
+use Rattle.noding.proofs.Callers.{length-offsets}
 use Rattle.plane.specs.declared.point.Point.{Point}
 use Rattle.itree.proofs.Ringed.{ring_lines-more}
 use Rattle.itree.proofs.lines.rings.push_polygon.Goals as goal

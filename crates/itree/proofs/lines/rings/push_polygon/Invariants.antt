@@ -1,7 +1,7 @@
 use Rattle.std.proofs.Common.{◌≡◌, ◌++◌, List, string_bytes}
 use Rattle.std.specs.List.{between}
 use Rattle.itree.specs.Replies.{polygon_lines}
-use Rattle.overlay.specs.Snap.Offsets.{AreJoined}
+use Rattle.noding.specs.Offsets.{AreJoined}
 use Rattle.plane.specs.declared.point.Point.{Point}
 use Rattle.itree.proofs.lines.rings.push_polygon.Given as goal
 

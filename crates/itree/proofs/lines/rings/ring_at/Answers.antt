@@ -1,5 +1,5 @@
 use Rattle.std.proofs.Common.{◌∙◌}
-use Rattle.overlay.proofs.SnapLemmas.Callers.{IsNext-at}
+use Rattle.noding.proofs.Callers.{IsNext-at}
 use Rattle.itree.proofs.lines.rings.ring_at.Goals as goal
 
 pub points_between-requires : goal.points_between-requires

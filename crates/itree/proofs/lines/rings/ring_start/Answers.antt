@@ -1,5 +1,5 @@
 use Rattle.std.proofs.Common.{◌≡◌, ◌<◌, ◌-◌, ℕ, suc, List, length, get_or, take, ap, ◌∙◌, arith}
-use Rattle.overlay.proofs.SnapLemmas.Callers.{joined, length-offsets, offset-at}
+use Rattle.noding.proofs.Callers.{joined, length-offsets, offset-at}
 use Rattle.itree.proofs.lines.rings.ring_start.Goals as goal
 
 pub returns : goal.returns

@@ -1,6 +1,6 @@
 use Rattle.std.proofs.Common.{string_bytes, ◌∙◌}
 use Rattle.itree.proofs.Chained.{chain_lines-more, chain_lines-all}
-use Rattle.overlay.proofs.SnapLemmas.Callers.{IsNext-at}
+use Rattle.noding.proofs.Callers.{IsNext-at}
 use Rattle.itree.proofs.lines.snap.chain_text.Goals as goal
 
 pub points_between-requires : goal.points_between-requires

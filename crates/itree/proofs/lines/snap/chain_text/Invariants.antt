@@ -1,7 +1,7 @@
 use Rattle.std.proofs.Common.{◌≡◌, List, length, string_bytes, take}
 use Rattle.itree.specs.Replies.{chain_words, reply_lines}
-use Rattle.overlay.specs.Snap.Offsets.{AreJoined}
-use Rattle.overlay.proofs.SnapLemmas.Callers.{joined}
+use Rattle.noding.specs.Offsets.{AreJoined}
+use Rattle.noding.proofs.Callers.{joined}
 use Rattle.plane.specs.declared.point.Point.{Point}
 use Rattle.itree.proofs.lines.snap.chain_text.Given as goal
 

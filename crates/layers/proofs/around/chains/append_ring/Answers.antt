@@ -2,7 +2,7 @@ use Rattle.std.proofs.Common.{◌≡◌, ◌+◌, ◌-◌, ◌<◌, ◌++◌, �
 use Rattle.std.proofs.lemmas.List.{take_rest}
 use Rattle.plane.specs.declared.edge.Edge.{Edge}
 use Rattle.plane.specs.declared.point.Point.{Point}
-use Rattle.overlay.specs.Snap.Windings.{pieces}
+use Rattle.noding.specs.Windings.{pieces}
 use Rattle.layers.specs.Chains.{AppendsChains}
 use Rattle.layers.proofs.AroundLemmas.Made.{AppendsChains-one, AppendsChains-then, pieces-part, pieces-rest, ring_edges-is}
 use Rattle.layers.proofs.around.chains.append_ring.Goals as goal

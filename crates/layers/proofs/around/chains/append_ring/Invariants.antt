@@ -1,6 +1,6 @@
 use Rattle.std.proofs.Common.{◌<◌, ◌-◌, ◌++◌, ◌∷◌, [], pos, length, get_or, take}
 use Rattle.plane.specs.declared.point.Point.{Point}
-use Rattle.overlay.specs.Snap.Windings.{pieces}
+use Rattle.noding.specs.Windings.{pieces}
 use Rattle.layers.specs.Chains.{AppendsChains}
 use Rattle.layers.proofs.around.chains.append_ring.Given as goal
 

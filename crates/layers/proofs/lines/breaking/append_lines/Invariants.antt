@@ -1,7 +1,7 @@
 use Rattle.std.proofs.Common.{◌≡◌, ◌++◌, ◌≤◌, length, drop, map}
 use Rattle.std.specs.List.{flat_map}
-use Rattle.overlay.specs.Snap.Offsets.{offsets}
-use Rattle.polygons.specs.Rings.{AreEnds}
+use Rattle.noding.specs.Offsets.{offsets}
+use Rattle.overlay.specs.Rings.{AreEnds}
 use Rattle.layers.specs.Lines.{line_edges, lines_of}
 use Rattle.layers.specs.Shapes.{lists_of}
 use Rattle.layers.proofs.lines.breaking.append_lines.Given as goal

@@ -5,7 +5,7 @@ use Rattle.std.proofs.lemmas.Result.{on_ok_weaker}
 use Rattle.plane.specs.declared.edge.Edge.{Edge}
 use Rattle.plane.specs.declared.point.Point.{Point}
 use Rattle.overlay.specs.Contours.Rings.{has_two_ends, real_edges}
-use Rattle.overlay.specs.Snap.Windings.{edge_between, pieces}
+use Rattle.noding.specs.Windings.{edge_between, pieces}
 use Rattle.overlay.proofs.ContourLemmas.RealEdges.{closing}
 use Rattle.layers.proofs.lines.breaking.append_ring.Goals as goal
 

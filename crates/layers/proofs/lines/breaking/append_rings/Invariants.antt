@@ -1,7 +1,7 @@
 use Rattle.std.proofs.Common.{◌≡◌, ◌++◌, ◌≤◌, length, drop, map}
 use Rattle.std.specs.List.{flat_map}
-use Rattle.overlay.specs.Snap.Offsets.{offsets}
-use Rattle.polygons.specs.Rings.{AreEnds, rings_of}
+use Rattle.noding.specs.Offsets.{offsets}
+use Rattle.overlay.specs.Rings.{AreEnds, rings_of}
 use Rattle.layers.specs.LineParts.{real_ring}
 use Rattle.layers.proofs.lines.breaking.append_rings.Given as goal
 

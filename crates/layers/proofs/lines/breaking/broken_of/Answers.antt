@@ -3,8 +3,8 @@ use Rattle.std.specs.List.{flat_map}
 use Rattle.std.proofs.lemmas.List.{length-append}
 use Rattle.plane.specs.declared.edge.Edge.{Edge}
 use Rattle.plane.specs.declared.point.Point.{Point}
-use Rattle.overlay.specs.Snap.Offsets.{offsets}
-use Rattle.overlay.specs.Snap.Windings.{pieces}
+use Rattle.noding.specs.Offsets.{offsets}
+use Rattle.noding.specs.Windings.{pieces}
 use Rattle.overlay.proofs.BoundaryLemmas.Broken.{chains-count, chains-some}
 use Rattle.layers.specs.LineParts.{AreGathered, real_ring}
 use Rattle.layers.specs.Lines.{line_edges}

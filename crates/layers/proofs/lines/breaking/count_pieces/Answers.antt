@@ -1,6 +1,6 @@
 use Rattle.std.proofs.Common.{◌<◌, ◌≤◌, ◌-◌, ℕ, List, length, get_or, ap, rules, arith}
 use Rattle.overlay.proofs.BoundaryLemmas.Broken.{first-pieces}
-use Rattle.overlay.proofs.SnapLemmas.Standing.{length-offsets}
+use Rattle.noding.proofs.ChainLemmas.Standing.{length-offsets}
 use Rattle.layers.proofs.lines.breaking.count_pieces.Goals as goal
 
 pub bounds-chain_ends-number : goal.bounds-chain_ends-number

@@ -2,8 +2,8 @@ use Rattle.std.proofs.Common.{◌≡◌, List, length, map, take}
 use Rattle.std.specs.List.{flat_map}
 use Rattle.plane.specs.declared.point.Point.{Point}
 use Rattle.overlay.specs.Boundary.{AllSome}
-use Rattle.overlay.specs.Snap.Offsets.{offsets}
-use Rattle.overlay.specs.Snap.Windings.{pieces}
+use Rattle.noding.specs.Offsets.{offsets}
+use Rattle.noding.specs.Windings.{pieces}
 use Rattle.layers.proofs.lines.breaking.counts_of.Given as goal
 
 abbrev pub invariant-loop-number : goal.invariant-loop-number

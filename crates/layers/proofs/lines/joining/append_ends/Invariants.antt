@@ -1,5 +1,5 @@
 use Rattle.std.proofs.Common.{◌≡◌, ◌++◌, map, take}
-use Rattle.overlay.specs.Snap.Windings.{end_of}
+use Rattle.noding.specs.Windings.{end_of}
 use Rattle.layers.proofs.lines.joining.append_ends.Given as goal
 
 abbrev pub invariant-loop-edge : goal.invariant-loop-edge

@@ -3,10 +3,10 @@ use Rattle.std.specs.List.{All, between, flat_map}
 use Rattle.std.proofs.lemmas.List.{drop_all, drop_more}
 use Rattle.std.proofs.lemmas.List.Elements.{All-head, All-tail}
 use Rattle.plane.proofs.PairsLemmas.Extends.{OnErr-always}
-use Rattle.overlay.specs.Snap.Offsets.{offsets}
-use Rattle.overlay.proofs.ChainLemmas.Runs.{Extends-trans}
-use Rattle.polygons.specs.Polygons.{rings_of as all_pieces}
-use Rattle.polygons.specs.Rings.{AreEnds}
+use Rattle.noding.specs.Offsets.{offsets}
+use Rattle.noding.proofs.ChainLemmas.Runs.{Extends-trans}
+use Rattle.overlay.specs.Polygons.{rings_of as all_pieces}
+use Rattle.overlay.specs.Rings.{AreEnds}
 use Rattle.layers.specs.LineParts.{IsPath}
 use Rattle.layers.specs.Shapes.{lists_of}
 use Rattle.layers.proofs.EachLemmas.{AreAppended-more}

@@ -1,7 +1,7 @@
 use Rattle.std.proofs.Common.{◌≤◌, List, drop, length}
 use Rattle.std.specs.List.{All}
 use Rattle.plane.specs.declared.point.Point.{Point}
-use Rattle.polygons.specs.Rings.{AreEnds}
+use Rattle.overlay.specs.Rings.{AreEnds}
 use Rattle.layers.specs.LineParts.{IsPath}
 use Rattle.layers.specs.Lines.{Appends}
 use Rattle.layers.specs.Shapes.{lists_of}

@@ -2,8 +2,8 @@ use Rattle.std.proofs.Common.{◌≡◌, ◌<◌, ◌+◌, ◌++◌, ◌∷◌, 
 use Rattle.std.specs.List.{between, flat_map}
 use Rattle.std.proofs.lemmas.List.{flat_map_more, length-append}
 use Rattle.plane.specs.declared.point.Point.{Point}
-use Rattle.overlay.specs.Snap.Offsets.{offsets}
-use Rattle.overlay.proofs.ChainLemmas.Runs.{offsets-more}
+use Rattle.noding.specs.Offsets.{offsets}
+use Rattle.noding.proofs.ChainLemmas.Runs.{offsets-more}
 use Rattle.layers.specs.LineParts.{points_along}
 use Rattle.layers.proofs.LineLemmas.Runs.{runs-begin, runs-end, runs-more}
 use Rattle.layers.proofs.lines.joining.append_runs.Goals as goal

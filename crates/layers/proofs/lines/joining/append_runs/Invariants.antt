@@ -1,7 +1,7 @@
 use Rattle.std.proofs.Common.{◌≡◌, ◌<◌, ◌≤◌, ◌-◌, ◌++◌, Bool, List, true, get_or, length}
 use Rattle.std.specs.List.{flat_map}
 use Rattle.plane.specs.declared.point.Point.{Point}
-use Rattle.overlay.specs.Snap.Offsets.{offsets}
+use Rattle.noding.specs.Offsets.{offsets}
 use Rattle.layers.proofs.LineLemmas.Runs.{GoOn}
 use Rattle.layers.proofs.lines.joining.append_runs.Given as goal
 

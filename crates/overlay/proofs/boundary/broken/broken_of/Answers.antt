@@ -1,7 +1,7 @@
 use Rattle.std.proofs.Common.{◌++◌, List, length, ap, ◌∙◌}
 use Rattle.plane.specs.declared.point.Point.{Point}
 use Rattle.std.specs.List.{flat_map}
-use Rattle.overlay.specs.Snap.Offsets.{offsets}
+use Rattle.noding.specs.Offsets.{offsets}
 use Rattle.overlay.proofs.BoundaryLemmas.Broken.{chains-count, chains-some, cut-broken}
 use Rattle.overlay.proofs.boundary.broken.broken_of.Goals as goal
 

@@ -8,11 +8,11 @@ use Rattle.overlay.specs.declared.fill.pieces.Piece.{Piece}
 use Rattle.overlay.specs.declared.fill.pieces.Role.{Role}
 use Rattle.overlay.specs.Boundary.{chain_pieces}
 use Rattle.overlay.specs.Fill.Turned.{turned}
-use Rattle.overlay.specs.Snap.Chains.{IsChain}
-use Rattle.overlay.specs.Snap.Windings.{pieces}
+use Rattle.noding.specs.Chains.{IsChain}
+use Rattle.noding.specs.Windings.{pieces}
 use Rattle.overlay.proofs.BoundaryLemmas.Steps.{chain_pieces-clip, chain_pieces-subject, steps-few}
-use Rattle.overlay.proofs.ChainLemmas.Runs.{IsChain-run, Split-next}
-use Rattle.overlay.proofs.ChainLemmas.Zips.{AllZip-length, AllZip-more}
+use Rattle.noding.proofs.ChainLemmas.Runs.{IsChain-run, Split-next}
+use Rattle.noding.proofs.ChainLemmas.Zips.{AllZip-length, AllZip-more}
 use Rattle.overlay.proofs.boundary.steps.append_steps.Goals as goal
 
 pub loop-place-preserved : goal.loop-place-preserved

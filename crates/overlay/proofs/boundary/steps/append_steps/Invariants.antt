@@ -2,9 +2,9 @@ use Rattle.std.proofs.Common.{◌≡◌, ◌++◌, ◌+◌, ◌≤◌, List, len
 use Rattle.std.specs.List.{AllZip, flat_map}
 use Rattle.plane.specs.declared.point.Point.{Point}
 use Rattle.overlay.specs.Boundary.{chain_pieces}
-use Rattle.overlay.specs.Snap.Chains.{IsChain}
-use Rattle.overlay.specs.Snap.Windings.{pieces}
-use Rattle.overlay.proofs.ChainLemmas.Runs.{Split}
+use Rattle.noding.specs.Chains.{IsChain}
+use Rattle.noding.specs.Windings.{pieces}
+use Rattle.noding.proofs.ChainLemmas.Runs.{Split}
 use Rattle.overlay.proofs.boundary.steps.append_steps.Given as goal
 
 -- the edges so far have their chains, whose pieces are appended, and their stops are behind

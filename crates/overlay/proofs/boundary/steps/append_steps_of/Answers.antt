@@ -2,12 +2,12 @@ use Rattle.std.proofs.Common.{◌≡◌, ◌≢◌, ◌<◌, ◌++◌, ◌∷◌
 use Rattle.std.proofs.lemmas.Bool.{cases_lt}
 use Rattle.std.proofs.lemmas.List.{get_or_default}
 use Rattle.plane.specs.declared.point.Point.{Point}
-use Rattle.overlay.specs.Snap.Offsets.{between}
-use Rattle.overlay.specs.Snap.Stops.{point_of}
-use Rattle.overlay.specs.Snap.Windings.{start_of}
-use Rattle.overlay.specs.declared.snap.stops.Stop.{Stop}
+use Rattle.noding.specs.Offsets.{between}
+use Rattle.noding.specs.Stops.{point_of}
+use Rattle.noding.specs.Windings.{start_of}
+use Rattle.noding.specs.declared.stops.Stop.{Stop}
 use Rattle.overlay.proofs.BoundaryLemmas.Steps.{turned-end, turned-step}
-use Rattle.overlay.proofs.ChainLemmas.Runs.{made-more}
+use Rattle.noding.proofs.ChainLemmas.Runs.{made-more}
 use Rattle.overlay.proofs.boundary.steps.append_steps_of.Goals.{then-loop-next-test+else-stops-next, else-loop-next-test}
 use Rattle.overlay.proofs.boundary.steps.append_steps_of.Goals as goal
 

@@ -1,10 +1,10 @@
 use Rattle.std.proofs.Common.{◌≡◌, ◌++◌, ◌∷◌, [], ◌≤◌, ◌<◌, ◌-◌, ℕ, List, length, map, get_or}
 use Rattle.plane.specs.declared.point.Point.{Point}
 use Rattle.overlay.specs.Fill.Turned.{turned}
-use Rattle.overlay.specs.Snap.Offsets.{between}
-use Rattle.overlay.specs.Snap.Stops.{point_of}
-use Rattle.overlay.specs.Snap.Windings.{pieces, start_of}
-use Rattle.overlay.specs.declared.snap.stops.Stop.{Stop}
+use Rattle.noding.specs.Offsets.{between}
+use Rattle.noding.specs.Stops.{point_of}
+use Rattle.noding.specs.Windings.{pieces, start_of}
+use Rattle.noding.specs.declared.stops.Stop.{Stop}
 use Rattle.overlay.proofs.boundary.steps.append_steps_of.Given as goal
 
 -- the stops so far are the edge's, the last one's point is the one to go on from, and the pieces of the steps upto it are appended

@@ -5,9 +5,9 @@ use Rattle.std.proofs.lemmas.List.{length-append, take-append-drop}
 use Rattle.plane.specs.declared.edge.Edge.{Edge}
 use Rattle.plane.specs.declared.point.Point.{Point}
 use Rattle.overlay.specs.declared.fill.pieces.Piece.{Piece}
-use Rattle.overlay.specs.declared.snap.stops.Stop.{Stop}
+use Rattle.noding.specs.declared.stops.Stop.{Stop}
 use Rattle.overlay.specs.Boundary.{chain_pieces}
-use Rattle.overlay.specs.Snap.Windings.{pieces}
+use Rattle.noding.specs.Windings.{pieces}
 use Rattle.overlay.proofs.BoundaryLemmas.Broken.{broken-chains}
 use Rattle.overlay.proofs.boundary.steps.pieces_of_steps.Goals as goal
 

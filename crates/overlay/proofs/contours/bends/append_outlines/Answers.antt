@@ -4,9 +4,9 @@ use Rattle.std.proofs.lemmas.List.{take_all}
 use Rattle.plane.specs.declared.point.Point.{Point}
 use Rattle.plane.proofs.PairsLemmas.Extends.{OnErr-always}
 use Rattle.overlay.specs.Contours.Outlines.{outline}
-use Rattle.overlay.specs.Snap.Offsets.{offsets}
-use Rattle.overlay.proofs.ChainLemmas.Offsets.{joined}
-use Rattle.overlay.proofs.ChainLemmas.Runs.{Extends-trans}
+use Rattle.noding.specs.Offsets.{offsets}
+use Rattle.noding.proofs.ChainLemmas.Offsets.{joined}
+use Rattle.noding.proofs.ChainLemmas.Runs.{Extends-trans}
 use Rattle.overlay.proofs.ContourLemmas.Outlines.{end-inside, end-is, length-offsets, outlines-more, ring-is, start-upto}
 use Rattle.overlay.proofs.contours.bends.append_outlines.Goals as goal
 

@@ -2,7 +2,7 @@ use Rattle.std.proofs.Common.{◌≡◌, ◌++◌, List, length, map, take}
 use Rattle.std.specs.List.{flat_map}
 use Rattle.plane.specs.declared.point.Point.{Point}
 use Rattle.overlay.specs.Contours.Outlines.{outline}
-use Rattle.overlay.specs.Snap.Offsets.{Extends, offsets}
+use Rattle.noding.specs.Offsets.{Extends, offsets}
 use Rattle.overlay.proofs.contours.bends.append_outlines.Given as goal
 
 -- the outlines of the rings so far are appended, and the next ring starts where they stop

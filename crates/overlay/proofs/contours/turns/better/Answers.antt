@@ -2,7 +2,7 @@ use Rattle.std.proofs.Common.{◌≡◌, ℕ, Option, inr, refl, sym, subst}
 use Rattle.std.specs.Option.{MatchOption}
 use Rattle.overlay.specs.Contours.Order.{edge_at}
 use Rattle.overlay.specs.Contours.Turns.{ComesBefore, IsBetter, way_between}
-use Rattle.overlay.specs.Snap.Windings.{end_of}
+use Rattle.noding.specs.Windings.{end_of}
 use Rattle.overlay.specs.declared.contours.turns.Way.{Way}
 use Rattle.overlay.proofs.ContourLemmas.Turns.{way-is}
 use Rattle.overlay.proofs.contours.turns.better.Goals as goal

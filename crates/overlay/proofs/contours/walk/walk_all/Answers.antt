@@ -10,8 +10,8 @@ use Rattle.overlay.specs.Contours.Ends.{StartBefore}
 use Rattle.overlay.specs.Contours.Order.{IsFirstFrom, point_at}
 use Rattle.overlay.specs.Contours.Rings.{ring_edges}
 use Rattle.overlay.specs.Contours.Walks.{unwalked}
-use Rattle.overlay.specs.Snap.Offsets.{offsets}
-use Rattle.overlay.proofs.ChainLemmas.Runs.{Extends-trans}
+use Rattle.noding.specs.Offsets.{offsets}
+use Rattle.noding.proofs.ChainLemmas.Runs.{Extends-trans}
 use Rattle.overlay.proofs.ContourLemmas.Counts.{IsClosed-rest}
 use Rattle.overlay.proofs.ContourLemmas.Order.{IsBehind-trans}
 use Rattle.overlay.proofs.ContourLemmas.Rings.{AreAppended-more, AreAppended-none, rings-more}

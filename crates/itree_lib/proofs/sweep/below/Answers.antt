@@ -1,4 +1,0 @@
-use Rattle.itree_lib.proofs.sweep.below.Goals as goal
-
-pub returns-clause-within : goal.returns-clause-within
-returns-clause-within g c place is = (c.append_answers-outcome.ensures.overlap place is).stands.0

@@ -1,6 +1,0 @@
-use Rattle.std.proofs.Common.{rules}
-use Rattle.itree_lib.specs.Sweep.Events.{answer_x, begin_x, end_x}
-use Rattle.itree_lib.proofs.sweep.events.events_of.Goals as goal
-
-pub returns : goal.returns
-returns g c = c.events_in_order.ensures end_x begin_x answer_x (λ k d inside answer says. search rules) (λ k d inside answer says. search rules) (λ k d inside answer says. search rules)

@@ -1,0 +1,16 @@
+use Rattle.std.proofs.Common.{◌+◌, ◌<ℤ◌, arith}
+use Rattle.std.proofs.lemmas.Int.{ints}
+use Rattle.overlay.specs.Contours.Outlines.{ring_point}
+use Rattle.monotone_chains.proofs.StretchLemmas.CutWays.{falls-more}
+use Rattle.monotone_chains.proofs.stretches.cutting.fall_end.Goals as goal
+
+pub loop-end-preserved : goal.loop-end-preserved
+loop-end-preserved c =
+    let some = c.loop-end.invariant.some in
+    let test = c.loop-end-test.true in
+    let less = c.if-points-end.true in
+    let step : (ring_point c.args.points.now (c.loop-end.end + 1)).x <ℤ (ring_point c.args.points.now c.loop-end.end).x = omega (arith, ints, less) in record {
+      some = omega (arith, some);
+      within = test;
+      falls = falls-more c.args.points.now c.args.from c.loop-end.end (omega (arith, some)) test c.loop-end.invariant.falls step;
+    }

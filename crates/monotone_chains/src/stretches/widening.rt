@@ -1,0 +1,225 @@
+//! Rings with the points of stretches in place of their chords.
+
+ghost use Rattle.std.specs.Prelude.{◌≡◌, ◌≢◌, ◌++◌, ◌∷◌, [], ◌<◌, ◌≤◌, List, All, Contains, IfOk, MatchOption, OnErr, OnOk, get_or, length, map, reverse};
+ghost use Rattle.std.specs.List.{AllZip, between, flat_map};
+ghost use Rattle.plane.specs.declared.point.Point.{Point};
+ghost use Rattle.noding.specs.Offsets.{AreJoined, Extends, offsets};
+ghost use Rattle.noding.specs.Windings.{edge_between};
+ghost use Rattle.monotone_chains.specs.Stretches.{GoesAlong, IsLong, IsWidened, but_last};
+ghost use Rattle.monotone_chains.specs.Stretches.Cut.{IsPart, way};
+ghost use Rattle.monotone_chains.specs.Stretches.Widening.{AreInOrder, HasLong, IsTable, chord_of, entry_of};
+
+use super::chords::chord_of_part;
+use super::parts::Part;
+use noding::edges::edge_between;
+use overlay::contours::next_in;
+use plane::edge::Edge;
+use plane::point::Point;
+use plane::sweep_line::heights::turn_rightwards;
+use std::alloc::{AllocError, Allocator};
+
+/// The ends of a chord, the left one first. Chords are in order by these.
+#[derive(Clone, Copy, Debug, PartialEq, Eq, PartialOrd, Ord)]
+pub struct Chord {
+    pub x0: i32,
+    pub y0: i32,
+    pub x1: i32,
+    pub y1: i32,
+}
+
+/// A stretch of several edges: its chord, and its place among all stretches.
+#[derive(Clone, Copy, Debug)]
+pub struct LongStretch {
+    pub chord: Chord,
+    pub place: usize,
+}
+
+/// Appends each ring with the points of stretches in place of their chords, and where it stops. The points of the rings stand one
+/// after another, and each ring stops at its end. A stretch of a single edge is its chord.
+///
+/// Memory that is refused is the only error, and then something may have been appended.
+pub fn append_widened<A: Allocator + Copy>(
+    parts: &[Part],
+    ring_points: &[Point],
+    ring_ends: &[usize],
+    points: &mut Vec<Point, A>,
+    ends: &mut Vec<usize, A>,
+) -> Result<(), AllocError>
+    requires parts { All IsPart parts.now }
+    requires rings { (rings : List (List Point)) × AreJoined rings ring_points.now ring_ends.now }
+    ensures ok { (rings : List (List Point)) → AreJoined rings ring_points.now ring_ends.now → OnOk result (
+        (widened : List (List Point)) × AllZip (IsWidened (map way parts.entry.now)) rings widened
+        × (points.new.items ≡ points.old.items ++ flat_map (λ ring. ring) widened)
+        × (ends.new.items ≡ ends.old.items ++ offsets (length points.old.items) widened)) }
+    ensures err { OnErr result (Extends points.old.items points.new.items × Extends ends.old.items ends.new.items) }
+{
+    let table = table_of(*points.allocator(), parts)?;
+    let mut start = 0;
+    for end in ring_ends {
+        let ring = points_between(ring_points, start, *end);
+        append_ring(parts, &table, ring, points)?;
+        ends.push(points.len())?;
+        start = *end;
+    }
+    Ok(())
+}
+
+// Appends the ring with the points of stretches in place of their chords.
+fn append_ring<A: Allocator>(
+    parts: &[Part],
+    table: &[LongStretch],
+    ring: &[Point],
+    points: &mut Vec<Point, A>,
+) -> Result<(), AllocError>
+    requires { IsTable parts.now table.now }
+    ensures ok { OnOk result ((widened : List Point) × IsWidened (map way parts.entry.now) ring.now widened
+        × (points.new.items ≡ points.old.items ++ widened)) }
+    ensures err { OnErr result (Extends points.old.items points.new.items) }
+{
+    for (place, at) in ring.iter().enumerate() {
+        append_way(parts, table, *at, next_in(ring, place), points)?;
+    }
+    Ok(())
+}
+
+// Appends the points along which the edge from the one point to the other goes, but the last.
+fn append_way<A: Allocator>(
+    parts: &[Part],
+    table: &[LongStretch],
+    from: Point,
+    to: Point,
+    points: &mut Vec<Point, A>,
+) -> Result<(), AllocError>
+    requires { IsTable parts.now table.now }
+    ensures ok { OnOk result ((along : List Point) × GoesAlong (map way parts.entry.now) (edge_between from to) along
+        × (points.new.items ≡ points.old.items ++ but_last along)) }
+    ensures err { OnErr result (Extends points.old.items points.new.items) }
+{
+    match stretch_between(table, from, to) {
+        Some(stretch) => append_stretch(parts[stretch.place], from, points),
+        None => {
+            points.push(from)?;
+            Ok(())
+        }
+    }
+}
+
+// The points from the one place on, and before the other.
+fn points_between(points: &[Point], start: usize, end: usize) -> &[Point]
+    requires { (start ≤ end) × (end ≤ length points.now) }
+    ensures { result.now ≡ between start end points.now }
+{
+    &points[start..end]
+}
+
+// The stretch whose chord goes from the one point to the other, or back.
+fn stretch_between(table: &[LongStretch], from: Point, to: Point) -> Option<LongStretch>
+    requires { AreInOrder table.now }
+    ensures { MatchOption result
+        (from.x ≢ to.x → (entry : LongStretch) → Contains table.now entry → entry.chord ≢ chord_of (edge_between from to))
+        (λ entry. (from.x ≢ to.x) × Contains table.now entry × (entry.chord ≡ chord_of (edge_between from to))) }
+{
+    if from.x == to.x {
+        return None;
+    }
+    with_chord(table, chord_of(edge_between(from, to)))
+}
+
+// The stretch with this chord.
+fn with_chord(table: &[LongStretch], chord: Chord) -> Option<LongStretch>
+    requires { AreInOrder table.now }
+    ensures { MatchOption result ((entry : LongStretch) → Contains table.now entry → entry.chord ≢ chord)
+        (λ entry. Contains table.now entry × (entry.chord ≡ chord)) }
+{
+    match table.binary_search_by_key(&chord, |stretch| stretch.chord) {
+        Ok(place) => Some(table[place]),
+        Err(_) => None,
+    }
+}
+
+// The ends of the edge, the left one first.
+fn chord_of(edge: Edge) -> Chord
+    ensures { result ≡ chord_of edge }
+{
+    let right = turn_rightwards(edge);
+    Chord {
+        x0: right.x0,
+        y0: right.y0,
+        x1: right.x1,
+        y1: right.y1,
+    }
+}
+
+// Appends the points along which the part goes but the last, or back along it where it doesn't begin at this x.
+fn append_stretch<A: Allocator>(
+    part: Part,
+    from: Point,
+    points: &mut Vec<Point, A>,
+) -> Result<(), AllocError>
+    ensures along { part.entry.from.x ≡ from.x → OnOk result (
+        points.new.items ≡ points.old.items ++ but_last (way part.entry)) }
+    ensures back { part.entry.from.x ≢ from.x → OnOk result (
+        points.new.items ≡ points.old.items ++ but_last (reverse (way part.entry))) }
+    ensures err { OnErr result (Extends points.old.items points.new.items) }
+{
+    if part.from.x == from.x {
+        points.push(part.from)?;
+        points.extend_from_slice(part.inner)?;
+        return Ok(());
+    }
+    points.push(part.to)?;
+    append_back(part.inner, points)
+}
+
+// Appends the points from the last one back to the first.
+fn append_back<A: Allocator>(inner: &[Point], points: &mut Vec<Point, A>) -> Result<(), AllocError>
+    ensures ok { OnOk result (points.new.items ≡ points.old.items ++ reverse inner.now) }
+    ensures err { OnErr result (Extends points.old.items points.new.items) }
+{
+    for point in inner.iter().rev() {
+        points.push(*point)?;
+    }
+    Ok(())
+}
+
+// The stretches of several edges, in the order of their chords.
+fn table_of<A: Allocator>(alloc: A, parts: &[Part]) -> Result<Vec<LongStretch, A>, AllocError>
+    requires { All IsPart parts.now }
+    ensures { IfOk result (λ table. IsTable parts.entry.now table.items) }
+{
+    let mut table = Vec::new(alloc);
+    push_long(parts, &mut table)?;
+    table.sort_unstable_by_key(|stretch| stretch.chord);
+    Ok(table)
+}
+
+// Appends the stretches of several edges.
+fn push_long<A: Allocator>(
+    parts: &[Part],
+    table: &mut Vec<LongStretch, A>,
+) -> Result<(), AllocError>
+    requires none { table.old.items ≡ [] }
+    ensures { OnOk result (HasLong parts.entry.now (length parts.entry.now) table.new.items) }
+{
+    for (place, part) in parts.iter().enumerate() {
+        push_if_long(*part, place, table)?;
+    }
+    Ok(())
+}
+
+// Appends the stretch at this place, if it has several edges.
+fn push_if_long<A: Allocator>(
+    part: Part,
+    place: usize,
+    table: &mut Vec<LongStretch, A>,
+) -> Result<(), AllocError>
+    ensures long { IsLong (way part.entry) → OnOk result (
+        table.new.items ≡ table.old.items ++ entry_of place part.entry ∷ []) }
+    ensures short { ¬ (IsLong (way part.entry)) → OnOk result (table.new.items ≡ table.old.items) }
+{
+    if !part.inner.is_empty() {
+        let chord = chord_of(chord_of_part(part));
+        table.push(LongStretch { chord, place })?;
+    }
+    Ok(())
+}

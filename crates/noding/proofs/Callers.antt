@@ -1,0 +1,112 @@
+-- What a caller of snap rounding wants of its chains, in a caller's words.
+use Rattle.std.proofs.Common.{◌≡◌, ◌≢◌, List, [], ◌∷◌, ◌++◌, map, arith, sym, subst, inl, inr}
+use Rattle.std.specs.Prelude.{ℤ}
+use Rattle.std.specs.List.{All, Contains, flat_map}
+use Rattle.plane.specs.declared.edge.Edge.{Edge}
+use Rattle.plane.specs.declared.point.Point.{Point}
+use Rattle.plane.specs.Meet.Boxes.{bounds_of}
+use Rattle.plane.specs.Meet.Edges.{RationalPoint, IsOf}
+use Rattle.plane.specs.Pairs.Bounds.{BoundsMeet}
+use Rattle.noding.specs.Chains.{Passes, IsEnd, CrossAt, IsHot, Upto, IsChain, AreChains}
+use Rattle.noding.specs.Meeting.{MeetAtEnds}
+use Rattle.noding.specs.Near.{IsNear}
+use Rattle.noding.specs.Windings.{start_of, end_of, winding, pieces, IsAlongAxis, IsClosed}
+use Rattle.noding.proofs.SnapLemmas.Along.{Passes-in_box, Passes-start, Passes-end}
+use Rattle.noding.proofs.SnapLemmas.Clear.{chain-clear}
+use Rattle.noding.proofs.SnapLemmas.Exact.{chain-exact}
+use Rattle.noding.proofs.SnapLemmas.Near.{IsNear-piece}
+use Rattle.noding.proofs.SnapLemmas.Noded.{IsPiece-chain, chains-meet, piece-proper, piece-upto}
+use Rattle.noding.proofs.SnapLemmas.Paths.{IsPath-chain, path-begins, path-ends}
+use Rattle.noding.proofs.SnapLemmas.Sums.{balance, chains-clear, chains-exact}
+-- A point rounds to one whole point.
+pub use Rattle.noding.proofs.SnapLemmas.Rounding.{RoundsTo-unique}
+-- What an edge passes lies in its box; of two points that it passes one isn't behind the other, and where neither is they are
+-- one.
+pub use Rattle.noding.proofs.SnapLemmas.Along.{Passes-in_box, Passes-ordered, Upto-same}
+-- Windings add up, and stay in whatever order the edges stand.
+pub use Rattle.noding.proofs.SnapLemmas.Windings.{winding-append, winding-permutation}
+-- Edges are closed where their ends are their starts in some order, as those of rings are.
+pub use Rattle.noding.proofs.SnapLemmas.Sums.{IsClosed-permutation}
+-- Two edges that aren't parallel have one crossing, whichever is named first, and no edge crosses itself.
+pub use Rattle.noding.proofs.SnapLemmas.Crossing.{CrossAt-unique, CrossAt-exchanged, CrossAt-itself}
+-- Where each chain stops among the points of all, and that it stands there from where the one before it stops on; and both for
+-- a loop over the ends.
+pub use Rattle.noding.proofs.ChainLemmas.Offsets.{joined, offset-at, list-between}
+pub use Rattle.noding.proofs.ChainLemmas.Standing.{length-offsets, IsNext, IsNext-at}
+
+-- ---- hot points
+
+-- An end of an edge is hot, and the edge passes it.
+pub end-hot : (edges : List Edge) (edge : Edge) (x y : ℤ) → Contains edges edge → IsEnd edge x y → IsHot edges x y × Passes edge x y
+end-hot edges edge x y among (inl (is_x, is_y)) = (
+  inl (edge, among, inl (is_x, is_y)),
+  subst (λ (z : ℤ). Passes edge z y) (sym is_x) (subst (λ (z : ℤ). Passes edge edge.x0 z) (sym is_y) (Passes-start edge)),
+)
+end-hot edges edge x y among (inr (is_x, is_y)) = (
+  inl (edge, among, inr (is_x, is_y)),
+  subst (λ (z : ℤ). Passes edge z y) (sym is_x) (subst (λ (z : ℤ). Passes edge edge.x1 z) (sym is_y) (Passes-end edge)),
+)
+
+-- What `crossing` answers of two of the edges is hot, and both pass it.
+pub crossing-hot : (edges : List Edge) (one other : Edge) (x y : ℤ) → Contains edges one → Contains edges other → CrossAt one other x y
+    → IsHot edges x y × Passes one x y × Passes other x y
+crossing-hot edges one other x y first second (slanted, (point, of_one, of_other, rounds)) = (
+  inr (one, other, first, second, (slanted, (point, of_one, of_other, rounds))),
+  (point, of_one, rounds),
+  (point, of_other, rounds),
+)
+
+-- ---- the chains of all edges
+
+module _ (edges : List Edge) (chains : List (List Point)) (are : AreChains edges chains) where
+  -- Hobby's theorem: a point that two pieces have is an end of both, or they have the same ends. Vertical pieces are pieces too.
+  pub noded : (piece other : Edge) (point : RationalPoint) → Contains (flat_map pieces chains) piece → Contains (flat_map pieces chains) other
+      → IsOf piece point → IsOf other point → MeetAtEnds piece other point
+  noded piece other point first second of_one of_other = chains-meet edges chains are piece other point first second of_one of_other
+
+  -- The pieces wind around a point that is near no edge as the edges do.
+  pub clear : (point : RationalPoint) → All (λ edge. ¬ (IsNear edge point)) edges → winding (flat_map pieces chains) point ≡ winding edges point
+  clear point far = chains-clear edges chains point are far
+
+  -- Around each point they do where all edges run along the axes.
+  pub exact : (point : RationalPoint) → All IsAlongAxis edges → winding (flat_map pieces chains) point ≡ winding edges point
+  exact point axial = chains-exact edges chains point are axial
+
+  -- The pieces of closed edges are closed.
+  pub closed : IsClosed edges → IsClosed (flat_map pieces chains)
+  closed are_closed test =
+      let sum = balance test edges edges chains (λ edge among. among) are in
+      let same = are_closed test in
+      omega (arith, sum, same)
+
+-- ---- the chain of one edge
+
+module _ (edges : List Edge) (edge : Edge) (chain : List Point) (among : Contains edges edge) (is : IsChain edges edge chain) where
+  -- It begins where its edge does, and goes on by the ends of its pieces.
+  pub starts : chain ≡ start_of edge ∷ map end_of (pieces chain)
+  starts = sym (path-ends edge chain (IsPath-chain edges edge chain among is))
+
+  -- It goes over the starts of its pieces, and ends where its edge does.
+  pub ends : map start_of (pieces chain) ++ (end_of edge ∷ []) ≡ chain
+  ends = path-begins edge chain (IsPath-chain edges edge chain among is)
+
+  -- Its pieces go the way of their edge, on both axes, and none is a point.
+  pub piece-onwards : (piece : Edge) → Contains (pieces chain) piece → Upto edge piece.x0 piece.y0 piece.x1 piece.y1 × (start_of piece ≢ end_of piece)
+  piece-onwards piece inside = (piece-upto edges edge chain is piece inside, piece-proper edges edge chain is piece inside)
+
+  -- Its points lie in their edge's box.
+  pub in_box : (c : Point) → Contains chain c → BoundsMeet (bounds_of edge) (record { left = c.x; right = c.x; low = c.y; high = c.y })
+  in_box c inside = Passes-in_box edge c.x c.y ((is.exact c).0 inside).1
+
+  -- Each point of its pieces is near the edge.
+  pub near : (piece : Edge) (point : RationalPoint) → Contains (pieces chain) piece → IsOf piece point → IsNear edge point
+  near piece point inside of =
+      let found = IsPiece-chain edges edge chain is piece inside in
+      IsNear-piece edge piece point found.from_passes found.to_passes of
+
+  -- Its pieces count what the edge counts, at a point that isn't near the edge; and at each point where it runs along an axis.
+  pub clear-edge : (point : RationalPoint) → ¬ (IsNear edge point) → winding (pieces chain) point ≡ winding (edge ∷ []) point
+  clear-edge point far = chain-clear edge chain point (IsPath-chain edges edge chain among is) far
+
+  pub exact-edge : (point : RationalPoint) → IsAlongAxis edge → winding (pieces chain) point ≡ winding (edge ∷ []) point
+  exact-edge point axial = chain-exact edge chain point (IsPath-chain edges edge chain among is) axial

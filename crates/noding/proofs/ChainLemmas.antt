@@ -1,0 +1,13 @@
+-- Lemmas on how chains are made: which edges come close, what crossings round to, the stops of edges, and the runs of stops that are chains.
+pub mod Beside
+pub mod Close
+pub mod Crossed
+pub mod Crossings
+pub mod Ends
+pub mod Gains
+pub mod Offsets
+pub mod Order
+pub mod Runs
+pub mod Standing
+pub mod Stops
+pub mod Zips

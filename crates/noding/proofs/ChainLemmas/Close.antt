@@ -1,0 +1,151 @@
+-- Edges that come close: they do whichever is named first, and their boxes meet then.
+use Rattle.std.proofs.Common.{◌≡◌, ◌⊎◌, inl, inr, ℕ, zero, suc, ◌<◌, ℤ, ◌≤ℤ◌, Bool, true, false, ◌||◌, List, [], ◌∷◌, Some, get_or, length, map, refl, ap, ◌∙◌, subst, ⊎_elim, arith}
+use Rattle.std.specs.Bool.{MatchBool}
+use Rattle.std.specs.Int.{int_min, int_max}
+use Rattle.std.specs.List.{All, slice_get}
+use Rattle.std.specs.Option.{option_map}
+use Rattle.std.proofs.lemmas.Int.{clamps, ints}
+use Rattle.std.proofs.lemmas.List.Elements.{Contains-get_or}
+use Rattle.std.proofs.lemmas.Option.{same_Some, slice_get-map, slice_get_within}
+use Rattle.plane.specs.declared.edge.Edge.{Edge}
+use Rattle.plane.specs.Meet.Boxes.{bounds_of}
+use Rattle.plane.specs.Pairs.Bounds.{BoundsMeet, MeetInBoxes}
+use Rattle.plane.specs.Pairs.Pairs.{ArePairs, PairAt}
+use Rattle.plane.proofs.MeetLemmas.Boxes.{meet-in_boxes, meet_comm}
+use Rattle.noding.specs.Chains.{IsEnd}
+use Rattle.noding.specs.Close.{ComeClose, HoldsEnd, MeetApart, PassesEnd, PassesInside, ShareEnd, item_of}
+use Rattle.noding.specs.declared.close.CloseEdge.{CloseEdge}
+use Rattle.noding.proofs.SnapLemmas.Along.{Passes-in_box}
+
+-- ---- whichever is named first
+
+ShareEnd-exchanged : (one other : Edge) → ShareEnd one other → ShareEnd other one
+ShareEnd-exchanged one other (x, y, of_one, of_other) = (x, y, of_other, of_one)
+
+pub MeetApart-exchanged : (one other : Edge) → MeetApart one other → MeetApart other one
+MeetApart-exchanged one other (apart, meet) = (λ shared. apart (ShareEnd-exchanged other one shared), meet_comm one other meet)
+
+pub ComeClose-exchanged : (one other : Edge) → ComeClose one other → ComeClose other one
+ComeClose-exchanged one other (inl meet) = inl (MeetApart-exchanged one other meet)
+ComeClose-exchanged one other (inr (inl passes)) = inr (inr passes)
+ComeClose-exchanged one other (inr (inr passes)) = inr (inl passes)
+
+-- ---- boxes
+
+module _ (edge other : Edge) where
+  near_end : (x y : ℤ) → int_min other.x0 other.x1 ≤ℤ x → x ≤ℤ int_max other.x0 other.x1 → int_min other.y0 other.y1 ≤ℤ y → y ≤ℤ int_max other.y0 other.y1
+      → PassesInside edge x y → BoundsMeet (bounds_of edge) (bounds_of other)
+  near_end x y left right low high passes = let box = Passes-in_box edge x y passes.0 in record {
+    left = (let from = box.left in omega (arith, ints, from, right));
+    right = (let upto = box.right in omega (arith, ints, upto, left));
+    low = (let from = box.low in omega (arith, ints, from, high));
+    high = (let upto = box.high in omega (arith, ints, upto, low));
+  }
+
+  near_passed : PassesEnd edge other → BoundsMeet (bounds_of edge) (bounds_of other)
+  near_passed (inl passes) = near_end other.x0 other.y0 (omega (arith, ints, clamps)) (omega (arith, ints, clamps)) (omega (arith, ints, clamps)) (omega (arith, ints, clamps)) passes
+  near_passed (inr passes) = near_end other.x1 other.y1 (omega (arith, ints, clamps)) (omega (arith, ints, clamps)) (omega (arith, ints, clamps)) (omega (arith, ints, clamps)) passes
+
+near : (one other : Edge) → ComeClose one other → BoundsMeet (bounds_of one) (bounds_of other)
+near one other (inl meet) = meet-in_boxes.near one other meet.1
+near one other (inr (inl passes)) = near_passed one other passes
+near one other (inr (inr passes)) = let box = near_passed other one passes in record {
+  left = box.right;
+  right = box.left;
+  low = box.high;
+  high = box.low;
+}
+
+-- as the sweep asks it of items with boxes
+pub close-in_boxes : MeetInBoxes (λ (it : CloseEdge). bounds_of it.edge) (λ (it other : CloseEdge). ComeClose it.edge other.edge)
+close-in_boxes = record {
+  proper = λ it. meet-in_boxes.proper it.edge;
+  exchanged = λ it other. ComeClose-exchanged it.edge other.edge;
+  near = λ it other. near it.edge other.edge;
+}
+
+-- ---- items
+
+edge_at : (edges : List Edge) (i : ℕ) (it : CloseEdge) → slice_get (map item_of edges) i ≡ Some it → slice_get edges i ≡ Some it.edge
+edge_at [] i it is = cc
+edge_at (edge ∷ edges) zero it is = ap Some (ap (λ (it : CloseEdge). it.edge) (same_Some _ _ is))
+edge_at (edge ∷ edges) (suc i) it is = edge_at edges i it is
+
+item_at : (edges : List Edge) (i : ℕ) (edge : Edge) → slice_get edges i ≡ Some edge → slice_get (map item_of edges) i ≡ Some (item_of edge)
+item_at edges i edge is = slice_get-map item_of edges i ∙ ap (option_map item_of) is
+
+-- pairs of items are pairs of edges
+pub ArePairs-of_items : (edges : List Edge) (pairs : List (ℕ × ℕ)) → ArePairs (λ (it other : CloseEdge). ComeClose it.edge other.edge) (map item_of edges) pairs → ArePairs ComeClose edges pairs
+ArePairs-of_items edges pairs are = record {
+  once = are.once;
+  exact = λ i j. (λ held. to i j ((are.exact i j).0 held), λ pair. (are.exact i j).1 (from i j pair));
+}
+  where
+    to : (i j : ℕ) → PairAt (λ (it other : CloseEdge). ComeClose it.edge other.edge) (map item_of edges) i j → PairAt ComeClose edges i j
+    to i j pair = record {
+      one = pair.one.edge;
+      other = pair.other.edge;
+      rising = pair.rising;
+      first = edge_at edges i pair.one pair.first;
+      second = edge_at edges j pair.other pair.second;
+      meet = pair.meet;
+    }
+
+    from : (i j : ℕ) → PairAt ComeClose edges i j → PairAt (λ (it other : CloseEdge). ComeClose it.edge other.edge) (map item_of edges) i j
+    from i j pair = record {
+      one = item_of pair.one;
+      other = item_of pair.other;
+      rising = pair.rising;
+      first = item_at edges i pair.one pair.first;
+      second = item_at edges j pair.other pair.second;
+      meet = pair.meet;
+    }
+
+-- and their places are places of edges
+pub ArePairs-within : (edges : List Edge) (pairs : List (ℕ × ℕ)) → ArePairs ComeClose edges pairs → All (λ pair. (pair.0 < length edges) × (pair.1 < length edges)) pairs
+ArePairs-within edges pairs are k d within =
+    let pair = get_or pairs k d in
+    let is = (are.exact pair.0 pair.1).0 (Contains-get_or pairs k d within) in
+    (slice_get_within edges pair.0 is.one is.first, slice_get_within edges pair.1 is.other is.second)
+
+-- ---- tests
+
+-- one of two facts, by the tests of both: the first one holds
+pub first_tested : (first : Bool) (P Q : Type 0) → MatchBool first P (¬ P) → first ≡ true → MatchBool first (P ⊎ Q) (¬ (P ⊎ Q))
+first_tested true P Q is same = inl is
+first_tested false P Q none same = absurd (cc)
+
+-- or it doesn't, and the second one tells
+pub either_tested : (first second : Bool) (P Q : Type 0) → MatchBool first P (¬ P) → MatchBool second Q (¬ Q) → first ≡ false → MatchBool second (P ⊎ Q) (¬ (P ⊎ Q))
+either_tested false true P Q none is same = inr is
+either_tested false false P Q none neither same = λ either. ⊎_elim none neither either
+either_tested true second P Q is said same = absurd (cc)
+
+-- both are told at once
+pub both_tested : (first second : Bool) (P Q : Type 0) → MatchBool first P (¬ P) → MatchBool second Q (¬ Q) → MatchBool (first || second) (P ⊎ Q) (¬ (P ⊎ Q))
+both_tested true second P Q is said = inl is
+both_tested false true P Q none is = inr is
+both_tested false false P Q none neither = λ either. ⊎_elim none neither either
+
+-- an edge that passes an end of the other one has it in its box
+pub held : (edge other : Edge) → ¬ (HoldsEnd edge other) → ¬ (PassesEnd edge other)
+held edge other none (inl inside) = none (inl (Passes-in_box edge other.x0 other.y0 inside.0))
+held edge other none (inr inside) = none (inr (Passes-in_box edge other.x1 other.y1 inside.0))
+
+-- some point is an end of both edges where an end of the other one is an end of the one
+shared : (one other : Edge) → IsEnd one other.x0 other.y0 ⊎ IsEnd one other.x1 other.y1 → ShareEnd one other
+shared one other (inl is) = (other.x0, other.y0, is, inl (refl, refl))
+shared one other (inr is) = (other.x1, other.y1, is, inr (refl, refl))
+
+shared-from : (one other : Edge) → ShareEnd one other → IsEnd one other.x0 other.y0 ⊎ IsEnd one other.x1 other.y1
+shared-from one other (x, y, of_one, inl (same_x, same_y)) = inl (subst (λ (a : ℤ). IsEnd one a other.y0) same_x (subst (λ (b : ℤ). IsEnd one x b) same_y of_one))
+shared-from one other (x, y, of_one, inr (same_x, same_y)) = inr (subst (λ (a : ℤ). IsEnd one a other.y1) same_x (subst (λ (b : ℤ). IsEnd one x b) same_y of_one))
+
+pub ShareEnd-tested : (one other : Edge) (first second : Bool) → MatchBool first (IsEnd one other.x0 other.y0) (¬ (IsEnd one other.x0 other.y0)) → MatchBool second (IsEnd one other.x1 other.y1) (¬ (IsEnd one other.x1 other.y1)) → first ≡ false
+    → MatchBool second (ShareEnd one other) (¬ (ShareEnd one other))
+ShareEnd-tested one other first second start end same =
+    go second (either_tested first second (IsEnd one other.x0 other.y0) (IsEnd one other.x1 other.y1) start end same)
+  where
+    go : (b : Bool) → MatchBool b (IsEnd one other.x0 other.y0 ⊎ IsEnd one other.x1 other.y1) (¬ (IsEnd one other.x0 other.y0 ⊎ IsEnd one other.x1 other.y1)) → MatchBool b (ShareEnd one other) (¬ (ShareEnd one other))
+    go true is = shared one other is
+    go false none = λ is. none (shared-from one other is)

@@ -1,0 +1,114 @@
+-- The stops where edges at a pair cross: at the points to which the crossings round, and where all edges run along the axes at each pair by itself.
+use Rattle.std.proofs.Common.{◌≡◌, ◌⊎◌, ◌++◌, ◌∷◌, [], inl, inr, ℕ, List, Some, refl, sym, ap, ◌∙◌, subst, ⊎_elim, arith}
+use Rattle.std.specs.List.{All, slice_get}
+use Rattle.std.proofs.lemmas.Bool.{cases_eq, cases_lt}
+use Rattle.std.proofs.lemmas.List.Elements.{All-contains}
+use Rattle.std.proofs.lemmas.Option.{same_Some}
+use Rattle.plane.specs.declared.edge.Edge.{Edge}
+use Rattle.plane.specs.Pairs.Pairs.{ArePairs}
+use Rattle.noding.specs.Chains.{CrossAt}
+use Rattle.noding.specs.Close.{ComeClose, PassesInside}
+use Rattle.noding.specs.Crossings.{AreCrossings, CrossInside, IsCrossingOf}
+use Rattle.noding.specs.Gains.{GainsThese, IsOfSome}
+use Rattle.noding.specs.Stops.{IsStopAmong, IsStopCrossed, IsStopOfBoth, IsStopOfCrossing, stop_of}
+use Rattle.noding.specs.Windings.{IsAlongAxis}
+use Rattle.noding.specs.declared.crossings.HotPoint.{HotPoint}
+use Rattle.noding.specs.declared.stops.Stop.{Stop}
+use Rattle.noding.proofs.ChainLemmas.Crossings.{CrossInside-exchanged, CrossInside-unique, crossing-pair}
+use Rattle.noding.proofs.ChainLemmas.Gains.{gains-join, gains-none, gains-one, gains-same, held-at}
+use Rattle.noding.proofs.SnapLemmas.Crossing.{CrossAt-itself}
+use Rattle.noding.proofs.SnapLemmas.Axes.{CrossAt-axes}
+
+-- stops at all crossings
+pub gains-at_crossings : (edges : List Edge) (pairs : List (ℕ × ℕ)) (points : List HotPoint) (before after : List Stop) → AreCrossings edges pairs points → GainsThese (IsStopAmong edges points) before after → GainsThese (IsStopCrossed edges pairs) before after
+gains-at_crossings edges pairs points before after crossings =
+    gains-same (IsStopAmong edges points) (IsStopCrossed edges pairs) before after
+    (λ stop at. record { place = at.place; edge = at.edge; point = at.point; stands = at.stands; crossed = (crossings at.point).0 at.held; along = at.along })
+    (λ stop at. record { place = at.place; edge = at.edge; point = at.point; stands = at.stands; held = (crossings at.point).1 at.crossed; along = at.along })
+
+-- two edges that cross pass the crossing
+passes-first : (one other : Edge) (point : HotPoint) → CrossInside one other point → PassesInside one point.x point.y
+passes-first one other point ((slanted, (at, of_one, of_other, rounds)), none) = ((at, of_one, rounds), λ end. none (inl end))
+
+passes-second : (one other : Edge) (point : HotPoint) → CrossInside one other point → PassesInside other point.x point.y
+passes-second one other point ((slanted, (at, of_one, of_other, rounds)), none) = ((at, of_other, rounds), λ end. none (inr end))
+
+-- the stops of both
+pub gains-both : (place : ℕ) (one : Edge) (other_place : ℕ) (other : Edge) (point : HotPoint) (before now after : List Stop) → CrossInside one other point
+    → now ≡ before ++ stop_of place one point.x point.y ∷ [] → after ≡ now ++ stop_of other_place other point.x point.y ∷ [] → GainsThese (IsStopOfBoth place one other_place other) before after
+gains-both place one other_place other point before now after cross first second =
+    gains-same (λ stop. (stop ≡ stop_of place one point.x point.y) ⊎ (stop ≡ stop_of other_place other point.x point.y)) (IsStopOfBoth place one other_place other) before after
+    (λ stop is. (point, cross, is))
+    (λ stop (found, there, is). subst (λ (p : HotPoint). (stop ≡ stop_of place one p.x p.y) ⊎ (stop ≡ stop_of other_place other p.x p.y)) (CrossInside-unique one other found point there cross) is)
+    (gains-join (λ stop. stop ≡ stop_of place one point.x point.y) (λ stop. stop ≡ stop_of other_place other point.x point.y) before now after
+    (subst (λ (items : List Stop). GainsThese (λ stop. stop ≡ stop_of place one point.x point.y) before items) (sym first) (gains-one before (stop_of place one point.x point.y)))
+    (subst (λ (items : List Stop). GainsThese (λ stop. stop ≡ stop_of other_place other point.x point.y) now items) (sym second) (gains-one now (stop_of other_place other point.x point.y))))
+
+-- edges that don't cross have none
+pub gains-neither : (place : ℕ) (one : Edge) (other_place : ℕ) (other : Edge) (before : List Stop) → ((point : HotPoint) → ¬ (CrossInside one other point)) → GainsThese (IsStopOfBoth place one other_place other) before before
+gains-neither place one other_place other before none = gains-none (IsStopOfBoth place one other_place other) before (λ stop (point, cross, is). none point cross)
+
+-- the same of the edges at a pair
+pub gains-of_both : (edges : List Edge) (pair : ℕ × ℕ) (one other : Edge) (before after : List Stop) → slice_get edges pair.0 ≡ Some one → slice_get edges pair.1 ≡ Some other
+    → GainsThese (IsStopOfBoth pair.0 one pair.1 other) before after → GainsThese (IsStopOfCrossing edges pair) before after
+gains-of_both edges pair one other before after first second =
+    gains-same (IsStopOfBoth pair.0 one pair.1 other) (IsStopOfCrossing edges pair) before after
+    (λ stop (point, cross, is). record { one = one; other = other; point = point; first = first; second = second; cross = cross; is = is })
+    (λ stop at.
+    let one_is : at.one ≡ one = same_Some _ _ (sym at.first ∙ first) in
+    let other_is : at.other ≡ other = same_Some _ _ (sym at.second ∙ second) in
+    subst (λ (e : Edge). IsStopOfBoth pair.0 e pair.1 other stop) one_is (subst (λ (e : Edge). IsStopOfBoth pair.0 at.one pair.1 e stop) other_is (at.point, at.cross, at.is)))
+
+module _ (edges : List Edge) (pairs : List (ℕ × ℕ)) (close : ArePairs ComeClose edges pairs) where
+  -- a stop at a pair is one of an edge where edges cross
+  crossed-at : (stop : Stop) → IsOfSome (IsStopOfCrossing edges) pairs stop → IsStopCrossed edges pairs stop
+  crossed-at stop (pair, held, at) =
+      let crossing : IsOfSome (IsCrossingOf edges) pairs at.point = (pair, held, record { one = at.one; other = at.other; first = at.first; second = at.second; cross = at.cross }) in
+      elim at.is [
+        | inl is ↦ record { place = pair.0; edge = at.one; point = at.point; stands = at.first; crossed = crossing; along = (passes-first at.one at.other at.point at.cross, is) }
+        | inr is ↦ record { place = pair.1; edge = at.other; point = at.point; stands = at.second; crossed = crossing; along = (passes-second at.one at.other at.point at.cross, is) }
+      ]
+
+  -- the stop of an edge that crosses another one
+  told-of : (place i : ℕ) (edge other : Edge) (point : HotPoint) → slice_get edges place ≡ Some edge → slice_get edges i ≡ Some other → CrossInside edge other point → IsOfSome (IsStopOfCrossing edges) pairs (stop_of place edge point.x point.y)
+  told-of place i edge other point stands second cross =
+      elim (cases_lt place i) [
+        | inl below ↦ (
+          (place, i),
+          crossing-pair edges pairs close place i edge other point below stands second cross,
+          record { one = edge; other = other; point = point; first = stands; second = second; cross = cross; is = inl refl },
+        )
+        | inr upto ↦ elim (cases_eq place i) [
+          | inl same ↦
+              let edge_is : edge ≡ other = same_Some _ _ (sym stands ∙ ap (slice_get edges) same ∙ second) in
+              absurd (CrossAt-itself other point.x point.y (subst (λ (e : Edge). CrossAt e other point.x point.y) edge_is cross.0))
+          | inr differs ↦
+              let back : CrossInside other edge point = CrossInside-exchanged edge other point cross in (
+                (i, place),
+                crossing-pair edges pairs close i place other edge point (omega (arith, upto, differs)) second stands back,
+                record { one = other; other = edge; point = point; first = second; second = stands; cross = back; is = inr refl },
+              )
+        ]
+      ]
+
+  module _ (axes : All IsAlongAxis edges) where
+    at-crossed : (stop : Stop) → IsStopCrossed edges pairs stop → IsOfSome (IsStopOfCrossing edges) pairs stop
+    at-crossed stop at =
+        let (pair, held, crossing) = at.crossed in
+        let one = crossing.one in
+        let other = crossing.other in
+        let (along, is) = at.along in
+        let first = passes-first one other at.point crossing.cross in
+        let second = passes-second one other at.point crossing.cross in
+        subst (IsOfSome (IsStopOfCrossing edges) pairs) (sym is)
+        (⊎_elim
+        (λ cross. told-of at.place pair.0 at.edge one at.point at.stands crossing.first (cross, ⊎_elim along.1 first.1))
+        (λ cross. told-of at.place pair.1 at.edge other at.point at.stands crossing.second (cross, ⊎_elim along.1 second.1))
+        (CrossAt-axes at.edge one other at.point.x at.point.y (at_axis at.place at.edge at.stands) (at_axis pair.0 one crossing.first) (at_axis pair.1 other crossing.second) crossing.cross.0.0 along first second))
+      where
+        at_axis : (i : ℕ) (edge : Edge) → slice_get edges i ≡ Some edge → IsAlongAxis edge
+        at_axis i edge stands = All-contains IsAlongAxis edges edge axes (held-at edges i edge stands)
+
+    -- so they are the same stops
+    pub gains-along_axes : (before after : List Stop) → GainsThese (IsOfSome (IsStopOfCrossing edges) pairs) before after → GainsThese (IsStopCrossed edges pairs) before after
+    gains-along_axes before after = gains-same (IsOfSome (IsStopOfCrossing edges) pairs) (IsStopCrossed edges pairs) before after crossed-at at-crossed

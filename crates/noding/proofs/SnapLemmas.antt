@@ -1,0 +1,24 @@
+-- Lemmas of snap rounding.
+pub mod Along
+pub mod Axes
+pub mod Beside
+pub mod Clear
+pub mod Common
+pub mod Counted
+pub mod Crossing
+pub mod Exact
+pub mod Heights
+pub mod Hobby
+pub mod Hulls
+pub mod Means
+pub mod Near
+pub mod Noded
+pub mod Numbers
+pub mod Passing
+pub mod Paths
+pub mod Pieces
+pub mod Reversed
+pub mod Rounding
+pub mod Slanted
+pub mod Sums
+pub mod Windings

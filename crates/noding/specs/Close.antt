@@ -1,0 +1,51 @@
+-- Edges that come close to each other. For private contracts.
+use Rattle.std.specs.Prelude.{◌≡◌, ◌⊎◌, ℤ}
+use Rattle.plane.specs.declared.edge.Edge.{Edge}
+use Rattle.plane.specs.declared.pairs.items.Bounds.{Bounds}
+use Rattle.plane.specs.Meet.Boxes.{bounds_of}
+use Rattle.plane.specs.Meet.Edges.{Meet}
+use Rattle.plane.specs.Pairs.Bounds.{BoundsMeet}
+use Rattle.noding.specs.Chains.{IsEnd, Passes}
+use Rattle.noding.specs.declared.close.CloseEdge.{CloseEdge}
+
+-- The box of a whole point.
+abbrev pub at_point : ℤ → ℤ → Bounds
+at_point x y = record { left = x; right = x; low = y; high = y }
+
+-- The whole point (x, y) lies in the edge's box.
+abbrev pub InBox : Edge → ℤ → ℤ → Type 0
+InBox edge x y = BoundsMeet (bounds_of edge) (at_point x y)
+
+-- The edge passes the whole point (x, y) between its ends.
+abbrev pub PassesInside : Edge → ℤ → ℤ → Type 0
+PassesInside edge x y = Passes edge x y × (¬ (IsEnd edge x y))
+
+-- It passes an end of the other edge so.
+abbrev pub PassesEnd : Edge → Edge → Type 0
+PassesEnd edge other = PassesInside edge other.x0 other.y0 ⊎ PassesInside edge other.x1 other.y1
+
+-- An end of the other edge lies in the edge's box.
+abbrev pub HoldsEnd : Edge → Edge → Type 0
+HoldsEnd edge other = InBox edge other.x0 other.y0 ⊎ InBox edge other.x1 other.y1
+
+-- Some point is an end of both edges.
+abbrev pub ShareEnd : Edge → Edge → Type 0
+ShareEnd one other = (x : ℤ) × (y : ℤ) × IsEnd one x y × IsEnd other x y
+
+-- The edges meet, and no point is an end of both.
+abbrev pub MeetApart : Edge → Edge → Type 0
+MeetApart one other = (¬ (ShareEnd one other)) × Meet one other
+
+-- They do, or one of them passes an end of the other between its own ends.
+abbrev pub ComeClose : Edge → Edge → Type 0
+ComeClose one other = MeetApart one other ⊎ (PassesEnd one other ⊎ PassesEnd other one)
+
+-- The boxes have one point in common at most.
+abbrev pub HaveOnePoint : Bounds → Bounds → Type 0
+HaveOnePoint first second =
+    (x y other_x other_y : ℤ) → BoundsMeet first (at_point x y) → BoundsMeet second (at_point x y) → BoundsMeet first (at_point other_x other_y) → BoundsMeet second (at_point other_x other_y)
+    → (x ≡ other_x) × (y ≡ other_y)
+
+-- The edge as an item.
+abbrev pub item_of : Edge → CloseEdge
+item_of edge = record { edge = edge }

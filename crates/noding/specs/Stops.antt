@@ -1,0 +1,120 @@
+-- The stops of edges at hot points. For private contracts.
+use Rattle.std.specs.Prelude.{◌≡◌, ◌≢◌, ◌⊎◌, ℕ, ◌<◌, ◌≤◌, ℤ, pos, ◌-ℤ◌, ◌<ℤ◌, cond, List, [], ◌∷◌, ◌++◌, All, AllPairs, Contains, Some, get_or, length, slice_get}
+use Rattle.std.specs.Int.Signed.{lt_z}
+use Rattle.plane.specs.declared.edge.Edge.{Edge}
+use Rattle.plane.specs.declared.point.Point.{Point}
+use Rattle.noding.specs.Chains.{IsHot}
+use Rattle.noding.specs.Close.{PassesInside}
+use Rattle.noding.specs.Crossings.{CrossInside, IsCrossingOf}
+use Rattle.noding.specs.Gains.{IsOfSome}
+use Rattle.noding.specs.Windings.{start_of, end_of}
+use Rattle.noding.specs.declared.crossings.HotPoint.{HotPoint}
+use Rattle.noding.specs.declared.stops.Stop.{Stop}
+
+-- The number, or where the way from the one number to the other goes down its reflection: so they rise along the way.
+abbrev pub turned : ℤ → ℤ → ℤ → ℤ
+turned from to number = cond (lt_z to from) ((pos 0 -ℤ pos 1) -ℤ number) number
+
+-- The stop of the edge, which is at this place among others, at the whole point (x, y).
+abbrev pub stop_of : ℕ → Edge → ℤ → ℤ → Stop
+stop_of place edge x y = record {
+  place = place;
+  along_x = turned edge.x0 edge.x1 x;
+  along_y = turned edge.y0 edge.y1 y;
+}
+
+-- The point of a stop of the edge.
+abbrev pub point_of : Edge → Stop → Point
+point_of edge stop = record {
+  x = turned edge.x0 edge.x1 stop.along_x;
+  y = turned edge.y0 edge.y1 stop.along_y;
+}
+
+-- The stop is that of the edge, which is at this place, at the whole point (x, y), which it passes between its ends.
+abbrev pub IsStopAlong : ℕ → Edge → ℤ → ℤ → Stop → Type 0
+IsStopAlong place edge x y stop = PassesInside edge x y × (stop ≡ stop_of place edge x y)
+
+-- It is one of the edge, which is at this place, at an end of the other one.
+abbrev pub IsStopAtEnd : Edge → ℕ → Edge → Stop → Type 0
+IsStopAtEnd other place edge stop = IsStopAlong place edge other.x0 other.y0 stop ⊎ IsStopAlong place edge other.x1 other.y1 stop
+
+-- It is one of the edges at the pair of places, at an end of the other one.
+pub record IsStopOfPair (edges : List Edge) (pair : ℕ × ℕ) (stop : Stop) : Type 0 where
+  pub one : Edge
+  pub other : Edge
+  pub first : slice_get edges pair.0 ≡ Some one
+  pub second : slice_get edges pair.1 ≡ Some other
+  pub at : IsStopAtEnd other pair.0 one stop ⊎ IsStopAtEnd one pair.1 other stop
+
+-- It is that of the edge at the first place of the pair, at the point at its second place.
+pub record IsStopAt (edges : List Edge) (points : List HotPoint) (pair : ℕ × ℕ) (stop : Stop) : Type 0 where
+  pub edge : Edge
+  pub point : HotPoint
+  pub first : slice_get edges pair.0 ≡ Some edge
+  pub second : slice_get points pair.1 ≡ Some point
+  pub is : stop ≡ stop_of pair.0 edge point.x point.y
+
+-- It is one of some edge, where the edges at one of the pairs of places cross.
+pub record IsStopCrossed (edges : List Edge) (pairs : List (ℕ × ℕ)) (stop : Stop) : Type 0 where
+  pub place : ℕ
+  pub edge : Edge
+  pub point : HotPoint
+  pub stands : slice_get edges place ≡ Some edge
+  pub crossed : IsOfSome (IsCrossingOf edges) pairs point
+  pub along : IsStopAlong place edge point.x point.y stop
+
+-- It is one of the edges at the pair of places, where the two cross.
+pub record IsStopOfCrossing (edges : List Edge) (pair : ℕ × ℕ) (stop : Stop) : Type 0 where
+  pub one : Edge
+  pub other : Edge
+  pub point : HotPoint
+  pub first : slice_get edges pair.0 ≡ Some one
+  pub second : slice_get edges pair.1 ≡ Some other
+  pub cross : CrossInside one other point
+  pub is : (stop ≡ stop_of pair.0 one point.x point.y) ⊎ (stop ≡ stop_of pair.1 other point.x point.y)
+
+-- It is one of two edges at these places, where they cross.
+abbrev pub IsStopOfBoth : ℕ → Edge → ℕ → Edge → Stop → Type 0
+IsStopOfBoth place one other_place other stop =
+    (point : HotPoint) × CrossInside one other point × ((stop ≡ stop_of place one point.x point.y) ⊎ (stop ≡ stop_of other_place other point.x point.y))
+
+-- It is one of some edge, at one of the points.
+pub record IsStopAmong (edges : List Edge) (points : List HotPoint) (stop : Stop) : Type 0 where
+  pub place : ℕ
+  pub edge : Edge
+  pub point : HotPoint
+  pub stands : slice_get edges place ≡ Some edge
+  pub held : Contains points point
+  pub along : IsStopAlong place edge point.x point.y stop
+
+-- The one stop comes before the other: at an edge before, or before it along the same edge.
+abbrev pub IsBefore : Stop → Stop → Type 0
+IsBefore one other =
+    (one.place < other.place)
+    ⊎ ((one.place ≡ other.place) × ((one.along_x <ℤ other.along_x) ⊎ ((one.along_x ≡ other.along_x) × (one.along_y <ℤ other.along_y))))
+
+-- A stop of one of the edges, at a hot point that the edge passes between its ends.
+pub record IsStop (edges : List Edge) (stop : Stop) : Type 0 where
+  pub edge : Edge
+  pub stands : slice_get edges stop.place ≡ Some edge
+  pub hot : IsHot edges (point_of edge stop).x (point_of edge stop).y
+  pub passes : PassesInside edge (point_of edge stop).x (point_of edge stop).y
+
+-- All stops of the edges, in order.
+pub record AreStops (edges : List Edge) (stops : List Stop) : Type 0 where
+  pub each : (place : ℕ) (edge : Edge) (x y : ℤ) → slice_get edges place ≡ Some edge → IsHot edges x y → PassesInside edge x y → Contains stops (stop_of place edge x y)
+  pub of : All (IsStop edges) stops
+  pub in_order : AllPairs IsBefore stops
+
+-- From the one place to the other in the list the stops are those at the edge at this place: they end where the list does, or
+-- before a stop at another edge.
+pub record AreAt (place : ℕ) (start end : ℕ) (stops : List Stop) : Type 0 where
+  pub rising : start ≤ end
+  pub inside : end ≤ length stops
+  pub at : (k : ℕ) (default : Stop) → start ≤ k → k < end → (get_or stops k default).place ≡ place
+  pub last : (default : Stop) → end < length stops → (get_or stops end default).place ≢ place
+
+-- The list goes on to the edge's end, unless that is its start.
+abbrev pub GoesToEnd : Edge → List Point → List Point → Type 0
+GoesToEnd edge before after =
+    (start_of edge ≡ end_of edge) × (after ≡ before) ⊎ (start_of edge ≢ end_of edge) × (after ≡ before ++ end_of edge ∷ [])

@@ -1,0 +1,162 @@
+//! Which edges come close to each other: pairs that may have stops on one another.
+
+ghost use Rattle.std.specs.Bool.{OnTrue};
+ghost use Rattle.std.specs.Prelude.{◌≡◌, ◌⊎◌, ◌<◌, true, All, IfErr, IfOk, IsTrue, MatchBool, length, map};
+ghost use Rattle.i_tree.specs.declared.Refusal.TheVariants.{OutOfMemory};
+ghost use Rattle.plane.specs.Meet.Boxes.{bounds_of};
+ghost use Rattle.plane.specs.Pairs.Pairs.{ArePairs};
+ghost use Rattle.noding.specs.Close.{ComeClose, HaveOnePoint, HoldsEnd, PassesEnd, ShareEnd, item_of};
+
+use crate::edges::margin_of;
+use crate::passing::{is_end, is_in_box, may_pass_inside, passes_inside};
+use i_tree::Refusal;
+use plane::edge::Edge;
+use plane::meet::meet;
+use plane::pairs::items::{Bounds, Boxed, Meets};
+use plane::pairs::pairs_among;
+use plane::ways::{cross_product, way_along};
+use std::alloc::{AllocError, Allocator};
+
+/// An edge as an item that meets those that come close to it. Of edges by themselves the sweep asks which share a point.
+#[derive(Clone, Copy)]
+pub struct CloseEdge {
+    pub edge: Edge,
+}
+
+impl Boxed for CloseEdge {
+    ghost bounds = { λ it. bounds_of it.edge };
+
+    fn bounds(self) -> Bounds {
+        self.edge.bounds()
+    }
+}
+
+impl Meets<CloseEdge> for CloseEdge {
+    ghost Meeting = { λ it other. ComeClose it.edge other.edge };
+
+    fn meets(self, other: CloseEdge) -> bool {
+        come_close(self.edge, other.edge)
+    }
+}
+
+/// The pairs of places `(i, j)` of edges that come close, i below j, each once.
+pub fn close_pairs<A: Allocator + Copy>(
+    alloc: A,
+    edges: &[Edge],
+) -> Result<Vec<(usize, usize), A>, Refusal>
+    ensures ok { IfOk result (λ pairs. ArePairs ComeClose edges.now pairs.items) }
+    ensures within { IfOk result (λ pairs. All (λ pair. (pair.0 < length edges.now) × (pair.1 < length edges.now)) pairs.items) }
+    ensures refused { IfErr result (λ cause. cause ≡ OutOfMemory) }
+{
+    let items = items_of(alloc, edges)?;
+    let mut pairs = Vec::new(alloc);
+    pairs_among(&items, &mut pairs)?;
+    Ok(pairs)
+}
+
+fn items_of<A: Allocator>(alloc: A, edges: &[Edge]) -> Result<Vec<CloseEdge, A>, AllocError>
+    ensures { IfOk result (λ items. items.items ≡ map item_of edges.now) }
+{
+    edges
+        .iter()
+        .map(|edge| CloseEdge { edge: *edge })
+        .collect(alloc)
+}
+
+// Whether the edges come close. Edges that follow each other share an end, which is no stop of either.
+fn come_close(one: Edge, other: Edge) -> bool
+    ensures { MatchBool result (ComeClose one other) (¬ (ComeClose one other)) }
+{
+    if share_end(one, other) {
+        return pass_beside(one, other);
+    }
+    meet(one, other) || one_passes_end(one, other)
+}
+
+// Of edges that share an end, whether one of them passes an end of the other between its own ends. Most often their boxes have
+// nothing in common but that end, which is told sooner.
+fn pass_beside(one: Edge, other: Edge) -> bool
+    requires { ShareEnd one other }
+    ensures { let passes = PassesEnd one other ⊎ PassesEnd other one in MatchBool result passes (¬ passes) }
+{
+    if have_one_point(one.bounds(), other.bounds()) {
+        return false;
+    }
+    if part_widely(one, other) {
+        return false;
+    }
+    one_passes_end(one, other)
+}
+
+// Whether edges that share an end go so far apart that neither passes an end of the other one. Either's far end lies as far from the
+// other's line, by one cross product.
+#[inline(always)]
+fn part_widely(one: Edge, other: Edge) -> bool
+    requires { ShareEnd one other }
+    ensures { result ≡ true → ¬ (PassesEnd one other ⊎ PassesEnd other one) }
+{
+    let apart = cross_product(way_along(one), way_along(other));
+    let most = margin_of(one) + margin_of(other);
+    (most < apart + apart) | (apart + apart + most < 0)
+}
+
+// Whether the boxes have one point in common at most. All comparisons are made, since a branch between them would be guessed
+// wrongly often.
+fn have_one_point(first: Bounds, second: Bounds) -> bool
+    ensures { OnTrue result (HaveOnePoint first second) }
+{
+    let across = first.left.max(second.left) >= first.right.min(second.right);
+    let up = first.low.max(second.low) >= first.high.min(second.high);
+    across & up
+}
+
+// Whether some point is an end of both edges.
+fn share_end(one: Edge, other: Edge) -> bool
+    ensures { MatchBool result (ShareEnd one other) (¬ (ShareEnd one other)) }
+{
+    is_end(one, other.x0, other.y0) || is_end(one, other.x1, other.y1)
+}
+
+// Whether one of the edges passes an end of the other between its own ends.
+#[inline(always)]
+fn one_passes_end(one: Edge, other: Edge) -> bool
+    ensures { let passes = PassesEnd one other ⊎ PassesEnd other one in MatchBool result passes (¬ passes) }
+{
+    passes_end(one, other) || passes_end(other, one)
+}
+
+// Whether the edge passes an end of the other one between its own ends. Most often it can't, which is told where it is asked.
+#[inline(always)]
+fn passes_end(edge: Edge, other: Edge) -> bool
+    ensures { MatchBool result (PassesEnd edge other) (¬ (PassesEnd edge other)) }
+{
+    may_pass_end(edge, other) && passes_end_held(edge, other)
+}
+
+// Whether the edge may do so: an end of the other one lies in its box, and one beside its line.
+#[inline(always)]
+fn may_pass_end(edge: Edge, other: Edge) -> bool
+    ensures { PassesEnd edge other → IsTrue result }
+{
+    if !holds_end(edge, other) {
+        return false;
+    }
+    may_pass_inside(edge, other.x0, other.y0) | may_pass_inside(edge, other.x1, other.y1)
+}
+
+// Whether an end of the other edge lies in the edge's box. Both are looked for, since a branch between them would be guessed wrongly
+// often.
+#[inline(always)]
+fn holds_end(edge: Edge, other: Edge) -> bool
+    ensures { MatchBool result (HoldsEnd edge other) (¬ (HoldsEnd edge other)) }
+{
+    is_in_box(edge, other.x0, other.y0) | is_in_box(edge, other.x1, other.y1)
+}
+
+// As `passes_end`, which asks it where it may be so.
+#[inline(never)]
+fn passes_end_held(edge: Edge, other: Edge) -> bool
+    ensures { MatchBool result (PassesEnd edge other) (¬ (PassesEnd edge other)) }
+{
+    passes_inside(edge, other.x0, other.y0) || passes_inside(edge, other.x1, other.y1)
+}

@@ -1,0 +1,224 @@
+//! The stops of edges: which hot points each passes between its ends, in the order along it.
+
+ghost use Rattle.std.specs.Prelude.{◌≡◌, ◌<◌, All, length, IfErr, IfOk, OnOk};
+ghost use Rattle.i_tree.specs.declared.Refusal.TheVariants.{OutOfMemory};
+ghost use Rattle.plane.specs.Pairs.Pairs.{ArePairs};
+ghost use Rattle.noding.specs.Close.{ComeClose};
+ghost use Rattle.noding.specs.Gains.{GainsThese, IsOfSome};
+ghost use Rattle.noding.specs.Stops.{AreStops, IsStopAlong, IsStopAmong, IsStopAt, IsStopAtEnd, IsStopCrossed, IsStopOfBoth, IsStopOfCrossing, IsStopOfPair, point_of, stop_of, turned};
+
+use crate::close::close_pairs;
+use crate::crossings::{HotPoint, crossing_inside, crossings};
+use crate::edges::run_along_axes;
+use crate::passing::passes_inside;
+use event_queue::buckets::sort_in_buckets;
+use i_tree::Refusal;
+use plane::edge::Edge;
+use plane::pairs::pairs_with_points;
+use plane::point::Point;
+use std::alloc::{AllocError, Allocator};
+use std::cmp::Ordering;
+
+/// A hot point that an edge passes, and none of its ends: the edge's place among all, and how far the point is along it on each axis.
+#[derive(Clone, Copy, Debug, PartialEq, Eq, PartialOrd, Ord)]
+pub struct Stop {
+    pub place: usize,
+    pub along_x: i32,
+    pub along_y: i32,
+}
+
+/// The stops of all edges between their ends, in order: edge by edge, and those of each in the order along it.
+///
+/// What an edge passes lies in its box. So the pairs of edges that come close tell the stops at ends of edges, and which
+/// edges cross. An edge may pass a crossing of two others that it comes close to neither of: where some edges cross, and not
+/// all run along the axes, the crossings are sought among all edges.
+pub fn stops_in_order<A: Allocator + Copy>(
+    alloc: A,
+    edges: &[Edge],
+) -> Result<Vec<Stop, A>, Refusal>
+    ensures ok { IfOk result (λ stops. AreStops edges.now stops.items) }
+    ensures refused { IfErr result (λ cause. cause ≡ OutOfMemory) }
+{
+    let pairs = close_pairs(alloc, edges)?;
+    let mut stops = Vec::new(alloc);
+    push_stops_at_ends(edges, &pairs, &mut stops)?;
+    push_stops_at_crossings(edges, &pairs, &mut stops)?;
+    sort_in_buckets(
+        &mut stops,
+        number_of,
+        |one: &Stop, other: &Stop| -> Ordering { one.cmp(other) },
+    )?;
+    stops.dedup();
+    Ok(stops)
+}
+
+// A number by which stops are nearly in order: the edge's place, and behind it how far the stop is along it.
+fn number_of(stop: Stop) -> u64 {
+    ((stop.place as u64) << 32) | u64::from(stop.along_x.abs_diff(i32::MIN))
+}
+
+// Appends the stops of the edges at each of these pairs at ends of one another.
+fn push_stops_at_ends<A: Allocator>(
+    edges: &[Edge],
+    pairs: &[(usize, usize)],
+    stops: &mut Vec<Stop, A>,
+) -> Result<(), AllocError>
+    requires { All (λ pair. (pair.0 < length edges.now) × (pair.1 < length edges.now)) pairs.now }
+    ensures { OnOk result (GainsThese (IsOfSome (IsStopOfPair edges.now) pairs.now) stops.old.items stops.new.items) }
+{
+    for pair in pairs {
+        let one = edges[pair.0];
+        let other = edges[pair.1];
+        push_ends_of(other, pair.0, one, stops)?;
+        push_ends_of(one, pair.1, other, stops)?;
+    }
+    Ok(())
+}
+
+// Appends the stops of the edge, which is at this place, at ends of the other one.
+fn push_ends_of<A: Allocator>(
+    other: Edge,
+    place: usize,
+    edge: Edge,
+    stops: &mut Vec<Stop, A>,
+) -> Result<(), AllocError>
+    ensures { OnOk result (GainsThese (IsStopAtEnd other place edge) stops.old.items stops.new.items) }
+{
+    push_if_inside(place, edge, other.x0, other.y0, stops)?;
+    push_if_inside(place, edge, other.x1, other.y1, stops)?;
+    Ok(())
+}
+
+// Appends the stop of the edge, which is at this place, at the whole point (x, y), if it passes that between its ends. Most often it
+// doesn't, which is told where it is asked.
+#[inline(always)]
+fn push_if_inside<A: Allocator>(
+    place: usize,
+    edge: Edge,
+    x: i32,
+    y: i32,
+    stops: &mut Vec<Stop, A>,
+) -> Result<(), AllocError>
+    ensures { OnOk result (GainsThese (IsStopAlong place edge x y) stops.old.items stops.new.items) }
+{
+    if passes_inside(edge, x, y) {
+        stops.push(stop_of(place, edge, x, y))?;
+    }
+    Ok(())
+}
+
+// Appends the stops of all edges where edges at one of these pairs cross, which are those that come close. Of edges along the
+// axes one that passes such a crossing crosses one of the two there, so that the two of each pair have all stops.
+fn push_stops_at_crossings<A: Allocator + Copy>(
+    edges: &[Edge],
+    pairs: &[(usize, usize)],
+    stops: &mut Vec<Stop, A>,
+) -> Result<(), Refusal>
+    requires close { ArePairs ComeClose edges.now pairs.now }
+    requires within { All (λ pair. (pair.0 < length edges.now) × (pair.1 < length edges.now)) pairs.now }
+    ensures ok { OnOk result (GainsThese (IsStopCrossed edges.now pairs.now) stops.old.items stops.new.items) }
+    ensures refused { IfErr result (λ cause. cause ≡ OutOfMemory) }
+{
+    if run_along_axes(edges) {
+        push_stops_of_crossings(edges, pairs, stops)?;
+        return Ok(());
+    }
+    let points = crossings(*stops.allocator(), edges, pairs)?;
+    push_stops_at_points(edges, &points, stops)?;
+    Ok(())
+}
+
+// Appends the stops of the two edges at each of these pairs where they cross.
+fn push_stops_of_crossings<A: Allocator>(
+    edges: &[Edge],
+    pairs: &[(usize, usize)],
+    stops: &mut Vec<Stop, A>,
+) -> Result<(), AllocError>
+    requires { All (λ pair. (pair.0 < length edges.now) × (pair.1 < length edges.now)) pairs.now }
+    ensures { OnOk result (GainsThese (IsOfSome (IsStopOfCrossing edges.now) pairs.now) stops.old.items stops.new.items) }
+{
+    for pair in pairs {
+        push_stops_of_both(pair.0, edges[pair.0], pair.1, edges[pair.1], stops)?;
+    }
+    Ok(())
+}
+
+// Appends the stops of two edges, which are at these places, where they cross, if that is no end of the two.
+fn push_stops_of_both<A: Allocator>(
+    place: usize,
+    one: Edge,
+    other_place: usize,
+    other: Edge,
+    stops: &mut Vec<Stop, A>,
+) -> Result<(), AllocError>
+    ensures { OnOk result (GainsThese (IsStopOfBoth place one other_place other) stops.old.items stops.new.items) }
+{
+    if let Some(point) = crossing_inside(one, other) {
+        stops.push(stop_of(place, one, point.x, point.y))?;
+        stops.push(stop_of(other_place, other, point.x, point.y))?;
+    }
+    Ok(())
+}
+
+// Appends the stops of all edges at these points.
+fn push_stops_at_points<A: Allocator + Copy>(
+    edges: &[Edge],
+    points: &[HotPoint],
+    stops: &mut Vec<Stop, A>,
+) -> Result<(), Refusal>
+    ensures ok { OnOk result (GainsThese (IsStopAmong edges.now points.now) stops.old.items stops.new.items) }
+    ensures refused { IfErr result (λ cause. cause ≡ OutOfMemory) }
+{
+    if points.is_empty() {
+        return Ok(());
+    }
+    let mut passes = Vec::new(*stops.allocator());
+    pairs_with_points(edges, points, &mut passes)?;
+    push_stops(edges, points, &passes, stops)?;
+    Ok(())
+}
+
+// Appends the stop of each pair of an edge and a point.
+fn push_stops<A: Allocator>(
+    edges: &[Edge],
+    points: &[HotPoint],
+    passes: &[(usize, usize)],
+    stops: &mut Vec<Stop, A>,
+) -> Result<(), AllocError>
+    requires { All (λ pair. (pair.0 < length edges.now) × (pair.1 < length points.now)) passes.now }
+    ensures { OnOk result (GainsThese (IsOfSome (IsStopAt edges.now points.now) passes.now) stops.old.items stops.new.items) }
+{
+    for pair in passes {
+        let point = points[pair.1];
+        stops.push(stop_of(pair.0, edges[pair.0], point.x, point.y))?;
+    }
+    Ok(())
+}
+
+// The stop of the edge, which is at this place, at the whole point (x, y).
+fn stop_of(place: usize, edge: Edge, x: i32, y: i32) -> Stop
+    ensures { result ≡ stop_of place edge x y }
+{
+    Stop {
+        place,
+        along_x: turned(edge.x0, edge.x1, x),
+        along_y: turned(edge.y0, edge.y1, y),
+    }
+}
+
+/// The point of a stop of the edge.
+pub fn point_of(edge: Edge, stop: Stop) -> Point
+    ensures { result ≡ point_of edge stop }
+{
+    Point {
+        x: turned(edge.x0, edge.x1, stop.along_x),
+        y: turned(edge.y0, edge.y1, stop.along_y),
+    }
+}
+
+// The number, or where the way goes down its reflection: so that numbers rise along the way.
+fn turned(from: i32, to: i32, number: i32) -> i32
+    ensures { result ≡ turned from to number }
+{
+    if to < from { -1 - number } else { number }
+}

@@ -1,0 +1,46 @@
+-- What a caller of overlays wants of the rings that it gives, and of the polygons that it gets.
+use Rattle.std.proofs.Common.{◌≡◌, ◌++◌, [], ℕ, List, length, ap, ap₂, refl, subst, sym, ◌∙◌, arith}
+use Rattle.plane.specs.declared.point.Point.{Point}
+use Rattle.noding.specs.Offsets.{AreJoined, offsets}
+use Rattle.noding.specs.Windings.{IsClosed}
+use Rattle.noding.proofs.ChainLemmas.Offsets.{joined}
+use Rattle.overlay.specs.Polygons.{AreAppended, rings_of as rings_in}
+use Rattle.overlay.specs.Rings.{AreEnds, edges_of, real_edges, rings_of}
+use Rattle.overlay.specs.declared.rings.Rings.{Rings}
+use Rattle.overlay.proofs.ContourLemmas.Counts.{rings-closed}
+use Rattle.overlay.proofs.RingLemmas.{closed-real}
+use Rattle.overlay.proofs.GroupingLemmas.Placed.{ends-right, rings-back}
+
+-- Rings that are appended to nothing are joined, and so is what is read of them.
+pub AreJoined-first : (rings : List (List Point)) (old new points : List Point) (old_ends new_ends ends : List ℕ) → old ≡ [] → old_ends ≡ [] → new ≡ old ++ joined rings → new_ends ≡ old_ends ++ offsets (length old) rings → points ≡ new → ends ≡ new_ends
+    → AreJoined rings points ends
+AreJoined-first rings old new points old_ends new_ends ends none no_ends points_are ends_are is ends_is = (
+  is ∙ points_are ∙ ap (λ (before : List Point). before ++ joined rings) none,
+  ends_is ∙ ends_are ∙ ap₂ (λ (before : List ℕ) (all : List Point). before ++ offsets (length all) rings) no_ends none,
+)
+
+-- Rings that are joined stop where they begin or later, and none behind the points.
+pub AreEnds-joined : (rings : List (List Point)) (points : List Point) (ends : List ℕ) → AreJoined rings points ends → AreEnds 0 ends (length points)
+AreEnds-joined rings points ends (points_are, ends_are) =
+    subst (λ (stops : List ℕ). AreEnds 0 stops (length points)) (sym ends_are) (ends-right 0 rings (length points) (omega (arith, ap (λ (all : List Point). length all) points_are)))
+
+-- And they are the rings of what they are joined to.
+pub rings-joined : (rings : List (List Point)) (points : List Point) (ends : List ℕ) → AreJoined rings points ends → rings_of points 0 ends ≡ rings
+rings-joined rings points ends (points_are, ends_are) = ap₂ (λ (all : List Point) (stops : List ℕ). rings_of all 0 stops) points_are ends_are ∙ rings-back [] rings 0 refl
+
+-- Polygons that are appended to nothing stand there alone.
+pub AreAppended-first : (polygons : List (List (List Point))) (points points' : List Point) (ring_ends ring_ends' polygon_ends polygon_ends' : List ℕ) → AreAppended polygons points points' ring_ends ring_ends' polygon_ends polygon_ends'
+    → points ≡ [] → ring_ends ≡ [] → polygon_ends ≡ [] → AreAppended polygons [] points' [] ring_ends' [] polygon_ends'
+AreAppended-first polygons points points' ring_ends ring_ends' polygon_ends polygon_ends' are none no_rings no_polygons = record {
+  points_are = are.points_are ∙ ap (λ (before : List Point). before ++ joined (rings_in polygons)) none;
+  rings_are = are.rings_are ∙ ap₂ (λ (before : List ℕ) (all : List Point). before ++ offsets (length all) (rings_in polygons)) no_rings none;
+  polygons_are = are.polygons_are ∙ ap₂ (λ (before rings : List ℕ). before ++ offsets (length rings) polygons) no_polygons no_rings;
+}
+
+-- Their rings are those of the points.
+pub AreJoined-appended : (polygons : List (List (List Point))) (points : List Point) (ring_ends polygon_ends : List ℕ) → AreAppended polygons [] points [] ring_ends [] polygon_ends → AreJoined (rings_in polygons) points ring_ends
+AreJoined-appended polygons points ring_ends polygon_ends are = (are.points_are, are.rings_are)
+
+-- The real edges of rings are closed
+pub edges-closed : (rings : Rings) → IsClosed (real_edges (edges_of rings))
+edges-closed rings = closed-real (edges_of rings) (λ test. rings-closed test (rings_of rings.points.now 0 rings.ends.now))

@@ -1,0 +1,9 @@
+pub mod Bags
+pub mod Begins
+pub mod Below
+pub mod Callers
+pub mod Edges
+pub mod Filling
+pub mod Grouped
+pub mod Placed
+pub mod Sweep

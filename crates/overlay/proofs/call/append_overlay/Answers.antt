@@ -1,0 +1,55 @@
+use Rattle.std.proofs.Common.{List, All, map, subst, sym}
+use Rattle.std.specs.List.{flat_map}
+use Rattle.std.proofs.lemmas.Result.{on_ok_weaker}
+use Rattle.plane.specs.declared.point.Point.{Point}
+use Rattle.overlay.specs.Boundary.{BoundsResult}
+use Rattle.overlay.specs.Contours.Outlines.{outline}
+use Rattle.overlay.specs.Contours.Rings.{AreContours, IsRing, ring_edges}
+use Rattle.overlay.specs.Polygons.{AreAppended, BoundsSome, IsPolygon}
+use Rattle.overlay.specs.Polygons.{rings_of as all_rings}
+use Rattle.overlay.specs.Rings.{edges_in, edges_of}
+use Rattle.overlay.proofs.Callers.{AreEnds-joined, AreJoined-first, rings-joined}
+use Rattle.overlay.proofs.OverlayLemmas.{bounds-real, bounds-some, polygons-overlay}
+use Rattle.overlay.proofs.call.append_overlay.Goals as goal
+
+pub append_polygons-requires-clause-ends : goal.append_polygons-requires-clause-ends
+append_polygons-requires-clause-ends g c =
+    let (rings, _, _, points_are, ends_are) = c.in_ok-append_boundary.ensures.ok in
+    AreEnds-joined rings c.deref.result.now c.deref-2.result.now
+    (AreJoined-first rings _ _ _ _ _ _ c.new-points.ensures.items c.new-ends.ensures.items points_are ends_are c.deref.ensures.value c.deref-2.ensures.value)
+
+pub append_polygons-requires-clause-each : goal.append_polygons-requires-clause-each
+append_polygons-requires-clause-each g c =
+    let (rings, is, _, points_are, ends_are) = c.in_ok-append_boundary.ensures.ok in
+    let same = rings-joined rings c.deref.result.now c.deref-2.result.now
+    (AreJoined-first rings _ _ _ _ _ _ c.new-points.ensures.items c.new-ends.ensures.items points_are ends_are c.deref.ensures.value c.deref-2.ensures.value) in
+    subst (λ (all : List (List Point)). All IsRing all) (sym same) is.each
+
+pub append_polygons-requires-clause-bounding : goal.append_polygons-requires-clause-bounding
+append_polygons-requires-clause-bounding g c =
+    let (rings, is, sloped, points_are, ends_are) = c.in_ok-append_boundary.ensures.ok in
+    let same = rings-joined rings c.deref.result.now c.deref-2.result.now
+    (AreJoined-first rings _ _ _ _ _ _ c.new-points.ensures.items c.new-ends.ensures.items points_are ends_are c.deref.ensures.value c.deref-2.ensures.value) in
+    subst (λ (all : List (List Point)). BoundsSome (flat_map ring_edges all)) (sym same)
+    (bounds-some c.args.rule c.args.operation _ _ (flat_map ring_edges rings) is.bounds sloped)
+
+pub returns-clause-ok : goal.returns-clause-ok
+returns-clause-ok g c =
+    let rule = c.args.rule in
+    let operation = c.args.operation in
+    let subject = edges_of c.args.subject in
+    let clip = edges_of c.args.clip in
+    let points = c.deref.result.now in
+    let ends = c.deref-2.result.now in
+    let out = c.args.out.now in
+    let new = c.append_polygons.new.out in
+    let (rings, is, _, points_are, ends_are) = c.in_ok-append_boundary.ensures.ok in
+    let same = rings-joined rings points ends (AreJoined-first rings _ _ _ _ _ _ c.new-points.ensures.items c.new-ends.ensures.items points_are ends_are c.deref.ensures.value c.deref-2.ensures.value) in
+    let bounds : BoundsResult rule operation subject clip (edges_in points ends) =
+    subst (λ (all : List (List Point)). BoundsResult rule operation subject clip (flat_map ring_edges all)) (sym same) (bounds-real rule operation subject clip (flat_map ring_edges rings) is.bounds) in
+    on_ok_weaker c.append_polygons.result (λ (found : (whole : List (List (List Point))) × All IsPolygon whole × AreContours (edges_in points ends) (all_rings whole)
+    × AreAppended (map (λ polygon. map outline polygon) whole) out.points.items new.points.items out.ring_ends.items new.ring_ends.items out.polygon_ends.items new.polygon_ends.items). (
+      map (λ polygon. map outline polygon) found.0,
+      polygons-overlay rule operation subject clip (edges_in points ends) found.0 bounds found.1 found.2,
+      found.3,
+    )) c.append_polygons.ensures.ok

@@ -1,8 +1,0 @@
-use Rattle.std.proofs.Common.{take}
-use Rattle.overlay.specs.Snap.Gains.{GainsThese, IsOfSome}
-use Rattle.overlay.specs.Snap.Stops.{IsStopOfPair}
-use Rattle.overlay.proofs.snap.stops.push_stops_at_ends.Given as goal
-
--- the stops of the pairs so far
-abbrev pub invariant-loop-pair : goal.invariant-loop-pair
-invariant-loop-pair g l = GainsThese (IsOfSome (IsStopOfPair l.fn.edges) (take l.pair-index l.pairs)) l.fn.stops.items l.stops.items

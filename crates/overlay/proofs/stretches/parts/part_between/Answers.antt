@@ -1,6 +1,0 @@
-use Rattle.std.proofs.Common.{sym}
-use Rattle.overlay.proofs.StretchLemmas.CutWays.{between-ends}
-use Rattle.overlay.proofs.stretches.parts.part_between.Goals as goal
-
-pub returns : goal.returns
-returns c = sym (between-ends c.args.from c.args.upto c.args.points.now _ c.requires.0 c.requires.1)

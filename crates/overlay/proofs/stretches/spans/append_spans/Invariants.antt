@@ -1,7 +1,0 @@
-use Rattle.std.proofs.Common.{take}
-use Rattle.overlay.specs.Stretches.Spans.{AppendsSpans}
-use Rattle.overlay.proofs.stretches.spans.append_spans.Given as goal
-
--- where the parts so far lie
-abbrev pub invariant-loop-part : goal.invariant-loop-part
-invariant-loop-part g l = AppendsSpans (take l.part-index l.parts) l.fn.spans.items l.spans.items

@@ -1,6 +1,0 @@
-use Rattle.overlay.specs.Stretches.Widening.{HasLong}
-use Rattle.overlay.proofs.stretches.widening.push_long.Given as goal
-
--- those along the long ones of the parts so far are appended
-abbrev pub invariant-loop-place : goal.invariant-loop-place
-invariant-loop-place g l = HasLong l.parts l.place l.table.items

@@ -1,0 +1,227 @@
+//! Overlay of polygons, in one call.
+
+ghost use Rattle.std.specs.Prelude.{◌≡◌, ◌↔◌, [], List, OnOk, OnErr, Err};
+ghost use Rattle.plane.specs.declared.point.Point.{Point};
+ghost use Rattle.overlay.specs.declared.fill.rules.Operation.TheVariants.{Union};
+ghost use Rattle.overlay.specs.Overlay.{IsOverlay};
+ghost use Rattle.overlay.specs.Polygons.{Appends, AreAsBefore, AreExtended};
+ghost use Rattle.overlay.specs.Boundary.{AppendsBoundary};
+ghost use Rattle.overlay.specs.Rings.{HasEnds, edges_of, real_edges};
+
+use crate::boundary::boundary;
+use crate::fault::OverlayFault;
+use crate::fill::{FillRule, Operation};
+use crate::grouping::append_polygons;
+use crate::rings::{Polygons, Rings, are_ends, real_edges_of};
+use i_tree::Refusal;
+use i_tree::status::exp::StatusCollection;
+use plane::point::Point;
+use plane::sweep_line::{ActiveEdge, GrowingStatus};
+use std::alloc::Allocator;
+
+/// Appends the polygons of what the operation makes of the inside of the subject and that of the clip.
+///
+/// The winding number of rings around a point, and the rule, say whether the point is inside of them. Any rings are taken:
+/// such as cross, touch or lie along one another or themselves, run either way, and stand there more than once.
+///
+/// The polygons wind once around each point of the result, and not at all around any other, where the point isn't within half
+/// a unit, on both axes, of an edge of the rings given; and around every point where all of these edges run along the axes.
+/// Around no point do they wind more often. Their rings visit no point twice. Points at which a ring goes straight on are left
+/// out; with these, edges of rings meet only at common ends, so that a corner may touch the side of a ring.
+///
+/// While few edges are active at once along the sweep they stand in a list, and once more are in a tree (`GrowingStatus`).
+///
+/// `Lengths` comes where the ends of subject or clip don't rise or go behind the points, and nothing else is done then.
+/// `Refused` comes where memory was refused, or where more edges are live at once than a tree has handles. After any fault
+/// `out` is as it was. The memory is that of `out`.
+pub fn overlay<A: Allocator + Copy>(
+    subject: Rings,
+    clip: Rings,
+    rule: FillRule,
+    operation: Operation,
+    out: &mut Polygons<A>,
+) -> Result<(), OverlayFault>
+    ensures ok { OnOk result ((polygons : List (List (List Point)))
+        × IsOverlay rule operation (edges_of subject.entry) (edges_of clip.entry) polygons
+        × Appends polygons out.old out.new) }
+    ensures err { OnErr result (AreAsBefore out.old out.new) }
+    ensures lengths { (result ≡ Err OverlayFault.Lengths)
+        ↔ ¬ (HasEnds subject.entry × HasEnds clip.entry) }
+{
+    if !are_ends(subject) || !are_ends(clip) {
+        return Err(OverlayFault::Lengths);
+    }
+    let mut status = GrowingStatus::new(*out.points.allocator())?;
+    overlay_over(subject, clip, rule, operation, &mut status, out)
+}
+
+/// As `overlay`, over a status of the caller's. `Refused` comes where memory or the status has no room. What the status holds is
+/// removed before and after, in every case.
+pub fn overlay_over<C, A>(
+    subject: Rings,
+    clip: Rings,
+    rule: FillRule,
+    operation: Operation,
+    status: &mut C,
+    out: &mut Polygons<A>,
+) -> Result<(), OverlayFault>
+where
+    C: StatusCollection<ActiveEdge, i64, ()>,
+    A: Allocator + Copy,
+    ensures ok { OnOk result ((polygons : List (List (List Point)))
+        × IsOverlay rule operation (edges_of subject.entry) (edges_of clip.entry) polygons
+        × Appends polygons out.old out.new) }
+    ensures err { OnErr result (AreAsBefore out.old out.new) }
+    ensures lengths { (result ≡ Err OverlayFault.Lengths)
+        ↔ ¬ (HasEnds subject.entry × HasEnds clip.entry) }
+    ensures empty { C.stored status.new ≡ [] }
+{
+    overlay_by(&ByEdges, subject, clip, rule, operation, status, out)
+}
+
+/// As `overlay_over`, by another way to find the rings that bound the result.
+pub fn overlay_by<B, C, A>(
+    bounding: &B,
+    subject: Rings,
+    clip: Rings,
+    rule: FillRule,
+    operation: Operation,
+    status: &mut C,
+    out: &mut Polygons<A>,
+) -> Result<(), OverlayFault>
+where
+    B: Bounding,
+    C: StatusCollection<ActiveEdge, i64, ()>,
+    A: Allocator + Copy,
+    ensures ok { OnOk result ((polygons : List (List (List Point)))
+        × IsOverlay rule operation (edges_of subject.entry) (edges_of clip.entry) polygons
+        × Appends polygons out.old out.new) }
+    ensures err { OnErr result (AreAsBefore out.old out.new) }
+    ensures lengths { (result ≡ Err OverlayFault.Lengths)
+        ↔ ¬ (HasEnds subject.entry × HasEnds clip.entry) }
+    ensures empty { C.stored status.new ≡ [] }
+{
+    status.clear();
+    if !are_ends(subject) || !are_ends(clip) {
+        return Err(OverlayFault::Lengths);
+    }
+    let points = out.points.len();
+    let rings = out.ring_ends.len();
+    let polygons = out.polygon_ends.len();
+    let outcome = append_overlay(bounding, subject, clip, rule, operation, status, out);
+    status.clear();
+    if let Err(cause) = outcome {
+        out.points.truncate(points);
+        out.ring_ends.truncate(rings);
+        out.polygon_ends.truncate(polygons);
+        return Err(OverlayFault::Refused(cause));
+    }
+    Ok(())
+}
+
+// As `overlay_by`, from right ends on. Where it is refused, it may have appended something.
+fn append_overlay<B, C, A>(
+    bounding: &B,
+    subject: Rings,
+    clip: Rings,
+    rule: FillRule,
+    operation: Operation,
+    status: &mut C,
+    out: &mut Polygons<A>,
+) -> Result<(), Refusal>
+where
+    B: Bounding,
+    C: StatusCollection<ActiveEdge, i64, ()>,
+    A: Allocator + Copy,
+    requires ends { HasEnds subject }
+    requires clip_ends { HasEnds clip }
+    ensures ok { OnOk result ((polygons : List (List (List Point)))
+        × IsOverlay rule operation (edges_of subject.entry) (edges_of clip.entry) polygons
+        × Appends polygons out.old out.new) }
+    ensures err { OnErr result (AreExtended out.old out.new) }
+{
+    let alloc = *out.points.allocator();
+    let mut points = Vec::new(alloc);
+    let mut ends = Vec::new(alloc);
+    bounding.append_boundary(
+        subject,
+        clip,
+        rule,
+        operation,
+        status,
+        &mut points,
+        &mut ends,
+    )?;
+    append_polygons(status, &points, &ends, out)
+}
+
+/// How rings are found that bound a result. `ByEdges` is one way; `ByChains` of the crate `monotone_chains` is another, which is
+/// faster where rings are long.
+pub trait Bounding {
+    /// Appends rings that bound what the operation makes of subject and clip to `points`, and to `ends` where each stops. It is
+    /// refused where memory or the status has no room.
+    fn append_boundary<C, A>(
+        &self,
+        subject: Rings,
+        clip: Rings,
+        rule: FillRule,
+        operation: Operation,
+        status: &mut C,
+        points: &mut Vec<Point, A>,
+        ends: &mut Vec<usize, A>,
+    ) -> Result<(), Refusal>
+    where
+        C: StatusCollection<ActiveEdge, i64, ()>,
+        A: Allocator + Copy,
+        requires ends { HasEnds subject }
+        requires clip_ends { HasEnds clip }
+        ensures ok { OnOk result (AppendsBoundary rule operation (real_edges (edges_of subject.entry)) (real_edges (edges_of clip.entry))
+            points.old.items points.new.items ends.old.items ends.new.items) }
+        ensures empty { OnOk result (C.stored status.new ≡ []) };
+}
+
+/// By all edges of the rings.
+#[derive(Clone, Copy, Drop)]
+pub struct ByEdges;
+
+impl Bounding for ByEdges {
+    fn append_boundary<C, A>(
+        &self,
+        subject: Rings,
+        clip: Rings,
+        rule: FillRule,
+        operation: Operation,
+        status: &mut C,
+        points: &mut Vec<Point, A>,
+        ends: &mut Vec<usize, A>,
+    ) -> Result<(), Refusal>
+    where
+        C: StatusCollection<ActiveEdge, i64, ()>,
+        A: Allocator + Copy,
+    {
+        let (edges, count) = real_edges_of(*points.allocator(), subject, clip)?;
+        boundary(&edges, count, rule, operation, status, points, ends)
+    }
+}
+
+/// The polygons of what is inside of the rings by the rule: the union of them with nothing. So rings that cross themselves
+/// become valid polygons.
+///
+/// It is refused as `overlay` is.
+pub fn simplify<A: Allocator + Copy>(
+    rings: Rings,
+    rule: FillRule,
+    out: &mut Polygons<A>,
+) -> Result<(), OverlayFault>
+    ensures ok { OnOk result ((polygons : List (List (List Point)))
+        × IsOverlay rule Union (edges_of rings.entry) [] polygons
+        × Appends polygons out.old out.new) }
+    ensures err { OnErr result (AreAsBefore out.old out.new) }
+    ensures lengths { (result ≡ Err OverlayFault.Lengths) ↔ ¬ (HasEnds rings.entry) }
+{
+    let nothing = Rings {
+        points: &[],
+        ends: &[],
+    };
+    overlay(rings, nothing, rule, Operation::Union, out)
+}

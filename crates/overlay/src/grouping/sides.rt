@@ -1,0 +1,163 @@
+//! The sides of rings: their edges that aren't vertical, in the order in which they begin.
+
+ghost use Rattle.std.specs.Prelude.{◌≡◌, ◌≢◌, ◌<◌, ◌++◌, ◌∷◌, [], ℕ, All, IfOk, IsPermutation, OnOk, length};
+ghost use Rattle.overlay.specs.declared.fill.pieces.Role.TheVariants.{Subject};
+ghost use Rattle.overlay.specs.Contours.Rings.{ring_edges};
+ghost use Rattle.overlay.specs.Fill.Begins.{BeginInOrder};
+ghost use Rattle.overlay.specs.Fill.Turned.{piece_of, turned};
+ghost use Rattle.overlay.specs.Grouping.{AreNumbered, AreSides, IsRightward, IsSideAmong, pieces_of};
+ghost use Rattle.overlay.specs.Rings.{AreEnds, edges_in};
+
+use super::directions::first_edge;
+use super::edges::edge_at;
+use crate::fill::pieces::{Piece, Role, compare_begins, is_sloped, piece_of};
+use plane::edge::Edge;
+use plane::point::Point;
+use std::alloc::{AllocError, Allocator};
+use std::cmp::Ordering;
+
+/// An edge that isn't vertical, turned rightwards, and the number of its ring.
+#[derive(Clone, Copy, Debug)]
+pub struct Side {
+    pub piece: Piece,
+    pub ring: usize,
+}
+
+/// The sides of all rings, in the order in which they begin.
+pub fn sides_in_order<A: Allocator>(
+    alloc: A,
+    points: &[Point],
+    ends: &[usize],
+) -> Result<Vec<Side, A>, AllocError>
+    requires { AreEnds 0 ends.now (length points.now) }
+    ensures { IfOk result (λ sides. AreSides (edges_in points.now ends.now) (length ends.now) sides.items) }
+{
+    let mut sides = all_sides(alloc, points, ends)?;
+    sort_sides(&mut sides);
+    Ok(sides)
+}
+
+// Puts the sides in the order in which they begin.
+fn sort_sides(sides: &mut [Side])
+    ensures same { IsPermutation sides.old sides.new }
+    ensures order { BeginInOrder (pieces_of sides.new) }
+{
+    sides.sort_unstable_by(|one: &Side, other: &Side| -> Ordering {
+        compare_begins(one.piece.edge, other.piece.edge)
+    });
+}
+
+// The sides of each ring, ring by ring.
+fn all_sides<A: Allocator>(
+    alloc: A,
+    points: &[Point],
+    ends: &[usize],
+) -> Result<Vec<Side, A>, AllocError>
+    requires { AreEnds 0 ends.now (length points.now) }
+    ensures pieces { IfOk result (λ sides. pieces_of sides.items ≡ turned Subject (edges_in points.now ends.now)) }
+    ensures numbered { IfOk result (λ sides. AreNumbered (length ends.now) sides.items) }
+{
+    let mut sides = Vec::with_capacity(alloc, points.len())?;
+    let mut start = 0;
+    for (ring, end) in ends.iter().enumerate() {
+        append_sides(&mut sides, &points[start..*end], ring)?;
+        start = *end;
+    }
+    Ok(sides)
+}
+
+// Appends the sides of the ring of this number.
+fn append_sides<A: Allocator>(
+    sides: &mut Vec<Side, A>,
+    points: &[Point],
+    ring: usize,
+) -> Result<(), AllocError>
+    ensures pieces { OnOk result (pieces_of sides.new.items
+        ≡ pieces_of sides.old.items ++ turned Subject (ring_edges points.now)) }
+    ensures numbered { OnOk result ((count : ℕ) → ring < count → AreNumbered count sides.old.items → AreNumbered count sides.new.items) }
+{
+    for place in 0..points.len() {
+        append_side(sides, edge_at(points, place), ring)?;
+    }
+    Ok(())
+}
+
+// Appends the edge as a side, if it isn't vertical.
+fn append_side<A: Allocator>(
+    sides: &mut Vec<Side, A>,
+    edge: Edge,
+    ring: usize,
+) -> Result<(), AllocError>
+    ensures pieces { OnOk result (pieces_of sides.new.items
+        ≡ pieces_of sides.old.items ++ turned Subject (edge ∷ [])) }
+    ensures numbered { OnOk result ((count : ℕ) → ring < count → AreNumbered count sides.old.items → AreNumbered count sides.new.items) }
+{
+    if !is_sloped(edge) {
+        return Ok(());
+    }
+    sides.push(side_of(edge, ring))?;
+    Ok(())
+}
+
+/// The edge as a side of the ring of this number.
+pub fn side_of(edge: Edge, ring: usize) -> Side
+    requires { edge.x0 ≢ edge.x1 }
+    ensures piece { result.piece ≡ piece_of Subject edge }
+    ensures ring { result.ring ≡ ring }
+    ensures right { IsRightward result }
+{
+    let piece = piece_of(edge, Role::Subject);
+    Side { piece, ring }
+}
+
+/// The first side of each hole, in the order in which they begin.
+pub fn first_sides_in_order<A: Allocator>(
+    alloc: A,
+    points: &[Point],
+    ends: &[usize],
+    are_outer: &[bool],
+) -> Result<Vec<Side, A>, AllocError>
+    requires ends { AreEnds 0 ends.now (length points.now) }
+    requires each { length are_outer.now ≡ length ends.now }
+    ensures { IfOk result (λ sides. All (IsSideAmong (length ends.now)) sides.items) }
+{
+    let mut sides = first_sides(alloc, points, ends, are_outer)?;
+    sort_sides(&mut sides);
+    Ok(sides)
+}
+
+// The first side of each hole, ring by ring.
+fn first_sides<A: Allocator>(
+    alloc: A,
+    points: &[Point],
+    ends: &[usize],
+    are_outer: &[bool],
+) -> Result<Vec<Side, A>, AllocError>
+    requires ends { AreEnds 0 ends.now (length points.now) }
+    requires each { length are_outer.now ≡ length ends.now }
+    ensures { IfOk result (λ sides. All (IsSideAmong (length ends.now)) sides.items) }
+{
+    let mut sides = Vec::new(alloc);
+    let mut start = 0;
+    for (ring, end) in ends.iter().enumerate() {
+        if !are_outer[ring] {
+            append_first(&mut sides, &points[start..*end], ring)?;
+        }
+        start = *end;
+    }
+    Ok(sides)
+}
+
+// Appends the side of the ring of this number that begins first.
+fn append_first<A: Allocator>(
+    sides: &mut Vec<Side, A>,
+    points: &[Point],
+    ring: usize,
+) -> Result<(), AllocError>
+    ensures { OnOk result ((count : ℕ) → ring < count → All (IsSideAmong count) sides.old.items → All (IsSideAmong count) sides.new.items) }
+{
+    if let Some(edge) = first_edge(points) {
+        sides.push(side_of(edge, ring))?;
+    }
+    Ok(())
+}

@@ -1,5 +1,0 @@
-pub mod Callers
-pub mod GroupingLemmas
-pub mod OverlayLemmas
-pub mod PartLemmas
-pub mod RingLemmas
