@@ -3,8 +3,8 @@
 
 usage: docs/check.py
 
-- A block of Rust or of antt in README.md or docs/CALLING.md is a part of a file of crates/uses, line for line, or has
-  signatures, each of which stands in the sources of its section.
+- A block of Rust, of antt or of C in README.md is a part of a file of crates/uses or of examples, line for line; and so is one in
+  docs/CALLING.md, or it has signatures, each of which stands in the sources of its section. docs/PROVING.md has one function's.
 - In a table of calls of docs/CALLING.md, each word in brackets that is code is the name of a clause at one of the row's calls, of
   a ghost member there, or of a field of a record that the row names.
 - In the tables of docs/DEFINITIONS.md, each name of a definition is one of specs/, in its module where it names one; and each
@@ -13,6 +13,8 @@ usage: docs/check.py
   how they are told), and so are the files that its links lead to.
 - No blank line breaks a table. The pictures are what docs/pictures/draw.py draws, and the run that one shows stands in a document
   beside it. Each file that docs/map.py lists begins with what it holds.
+- No folder of lemmas of a crate imports one that imports it in turn: they stand in layers. Each constant of a source that isn't
+  public stands in the table of docs/DECISIONS.md.
 
 The last line is 'N passed, M failed'.
 """
@@ -94,7 +96,7 @@ def squeezed(text):
 def blocks(text):
     """The sections of a text, each with its heading and its blocks of code."""
     for section in re.split(r"^## ", text, flags=re.M):
-        yield section.partition("\n")[0], re.findall(r"^```(?:rust|antt)\n(.*?)^```$", section, re.M | re.S)
+        yield section.partition("\n")[0], re.findall(r"^```(?:rust|antt|c|cpp)\n(.*?)^```$", section, re.M | re.S)
 
 
 def signatures(block):
@@ -106,7 +108,8 @@ def signatures(block):
 
 
 def quoted_failures():
-    programs = [text_of(path) for path in files("crates/uses/**/*.rt") + files("crates/uses/**/*.antt")]
+    whole = "crates/uses/**/*.rt", "crates/uses/**/*.antt", "examples/**/*.rs", "examples/**/*.c", "examples/**/*.cpp"
+    programs = [text_of(path) for pattern in whole for path in files(pattern)]
     for document in "README.md", "docs/CALLING.md":
         for heading, found in blocks(text_of(document)):
             sources = squeezed(sources_of(heading))
@@ -114,8 +117,19 @@ def quoted_failures():
                 if any(block in program for program in programs):
                     yield None
                     continue
+                if document == "README.md":
+                    yield f"README.md: no program of crates/uses or of examples has the block that begins with {block.splitlines()[0]!r}"
                 for item in signatures(block):
                     yield None if item in sources else f"{document}, {heading}: no source has {item!r}"
+
+
+def proving_failures():
+    """Each line of Rust or of antt in docs/PROVING.md stands in the function that it tells of, or in its proof."""
+    of_function = ["crates/noding/src/stops.rt", *files("crates/noding/proofs/stops/push_stops/*.antt")]
+    there = "\n".join(text_of(path) for path in of_function)
+    for _, found in blocks(text_of("docs/PROVING.md")):
+        for block in found:
+            yield None if block in there else f"docs/PROVING.md: no line of push_stops begins with {block.splitlines()[0]!r}"
 
 
 def clauses_by_function(text):
@@ -217,6 +231,42 @@ def picture_failures():
         yield None if any(run in text_of(document) for document in shown) else f"no document has {name}.svg and its run"
 
 
+def folders_of_lemmas(crate):
+    """The folders of lemmas of a crate, each with those that its files import. A file beside them is one of its own."""
+    found = {}
+    for path in files(f"crates/{crate}/proofs/**/*.antt"):
+        folder = path.split("/")[3].removesuffix(".antt")
+        if folder.endswith("Lemmas"):
+            imported = re.findall(rf"^(?:pub )?use Rattle\.{crate}\.proofs\.(\w+Lemmas)\b", text_of(path), re.M)
+            found.setdefault(folder, set()).update(set(imported) - {folder})
+    return found
+
+
+def layer_failures():
+    for crate in sorted(CRATES):
+        left = folders_of_lemmas(crate)
+        while left:
+            lowest = [folder for folder, imported in left.items() if not imported & left.keys()]
+            if not lowest:
+                yield f"crates/{crate}/proofs: these folders of lemmas import each other in a circle: {', '.join(sorted(left))}"
+                break
+            for folder in lowest:
+                del left[folder]
+                yield None
+
+
+def constant_failures():
+    """Each constant of a crate that is no test's stands in the table of docs/DECISIONS.md, with its file."""
+    told = {}
+    for names_told, path in re.findall(r"((?:`[A-Z_]+`(?:, )?)+) of `([\w/]+\.rt)`", text_of("docs/DECISIONS.md")):
+        told.setdefault(path, set()).update(re.findall(r"[A-Z_]+", names_told))
+    for path in files("crates/*/src/**/*.rt"):
+        _, crate, rest = path.split("/", 2)
+        for name in re.findall(r"^const ([A-Z_]+): \w+ = ", text_of(path), re.M) if "test" not in crate else ():
+            ok = name in told.get(f"{crate}/{rest}", ())
+            yield None if ok else f"docs/DECISIONS.md: its table lacks {name} of {crate}/{rest}"
+
+
 def written_failures():
     for script in "docs/pictures/draw.py", "docs/map.py":
         ran = subprocess.run([sys.executable, os.path.join(TOP, script), "--check"], capture_output=True, text=True)
@@ -224,9 +274,9 @@ def written_failures():
 
 
 def main():
-    of_calls = quoted_failures(), clause_failures(), cited_failures()
+    of_calls = quoted_failures(), proving_failures(), clause_failures(), cited_failures()
     of_words = definition_failures(), promise_failures(), names.failures(DOCUMENTS)
-    of_forms = table_failures(), picture_failures(), written_failures()
+    of_forms = table_failures(), picture_failures(), written_failures(), layer_failures(), constant_failures()
     found = [failure for check in (*of_calls, *of_words, *of_forms) for failure in check]
     failed = [failure for failure in found if failure]
     for failure in failed:

@@ -24,7 +24,9 @@ OTHERS = {
     *"AllocError AllocFailed BTreeMap BTreeSet Box Cell Clone Copy Default Display Drop Equal Error ExactSizeIterator".split(),
     *"Iterator Option Ord Result Stdout Vec bool clone cmp copy_within derive_where drop dyn ensures flush for i16 i32 i64".split(),
     *"i8 if impl inline int_cmp isize nat_cmp no_std partition_point pos push repr requires retain rotate_left rotate_right".split(),
-    *"skip std u16 u32 u64 u8 unsafe usize".split(),
+    *"skip std take_all take_more u16 u32 u64 u8 unsafe usize while".split(),
+    # goals of a function, which the check names
+    *"decreases-loop-pair loop-pair loop-pair-smaller push-requires".split(),
     # other tools, libraries and languages
     *"CMAKE_PREFIX_PATH MemoryError PKG_CONFIG_PATH TypeError ValueError __geo_interface__ anyhow ar cc dist free".split(),
     *"malloc memmove memset objcopy pkg-config proves realloc tactic thiserror".split(),

@@ -24,7 +24,7 @@ use std::alloc::Global;
 /// The status is `ANSWERED` (0), and then the caller owns the handle and gives it to `itree_polygons_free` once; or
 /// `REFUSED` (1) where memory was refused, `LENGTHS` (3) where a ring of the subject or of the clip stops before it begins
 /// or behind the points, `CHOICE` (5) where no rule or no operation has the number: then null is written, and all memory has
-/// been given back. At `CHOICE` the ends aren't looked at. What the polygons are is said at `overlay` of `polygons`.
+/// been given back. At `CHOICE` the ends aren't looked at. What the polygons are is said at `overlay` of `monotone_chains`.
 #[unsafe(no_mangle)]
 pub unsafe extern "C" fn itree_overlay(
     alloc: Global,
