@@ -11,7 +11,6 @@ pub mod Ordered
 pub mod Pairs
 pub mod Parts
 pub mod Points
-pub mod Roles
 pub mod Served
 pub mod Serving
 pub mod Status

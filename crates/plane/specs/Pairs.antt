@@ -5,6 +5,5 @@ pub mod OfTwo
 pub mod Pairs
 pub mod Parts
 pub mod Points
-pub mod Roles
 pub mod Strips
 pub mod Sweep

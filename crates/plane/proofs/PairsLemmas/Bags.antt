@@ -1,8 +1,8 @@
 -- Lists as bags: what a permutation keeps, and what a filter and a map hold.
-use Rattle.std.proofs.Common.{◌≡◌, ◌≢◌, ℕ, zero, suc, ◌<◌, Bool, true, List, [], ◌∷◌, length, get_or, map, take, refl, sym, ap, ◌∙◌, subst₂, get_or-take, length-take-le, arith, ◌⊎◌, inl, inr}
-use Rattle.std.specs.List.{AllPairs, Contains, filter, swap}
+use Rattle.std.proofs.Common.{◌≡◌, ◌≢◌, ℕ, zero, suc, ◌<◌, List, [], ◌∷◌, length, get_or, map, take, refl, sym, ap, ◌∙◌, subst₂, get_or-take, length-take-le, arith, ◌⊎◌, inl, inr}
+use Rattle.std.specs.List.{AllPairs, Contains, swap}
 use Rattle.std.specs.List.Sorted.{IsPermutation}
-use Rattle.std.proofs.lemmas.Bool.{cond_both, cases_eq, cases_lt}
+use Rattle.std.proofs.lemmas.Bool.{cases_eq, cases_lt}
 use Rattle.std.proofs.lemmas.List.Edits.{Swapped, swapped_from_swap, length-swap}
 use Rattle.std.proofs.lemmas.List.Sorted.{IsPermutation-keeps}
 use Rattle.i_tree.proofs.RootLemmas.Lists.{Contains-here, Contains-there}

@@ -53,7 +53,7 @@ module _ {X Y : Type 0} where
   none_of_one (y ∷ others) zero x is = cc
   none_of_one (y ∷ others) (suc i) x is = none_of_one others i x is
 
-  pub one_at : (items : List X) (others : List Y) (i : ℕ) (x : X) → slice_get (both items others) i ≡ Some (of_one x) → slice_get items i ≡ Some x
+  one_at : (items : List X) (others : List Y) (i : ℕ) (x : X) → slice_get (both items others) i ≡ Some (of_one x) → slice_get items i ≡ Some x
   one_at [] others i x is = absurd (none_of_one others i x is)
   one_at (y ∷ items) others zero x is = cc
   one_at (y ∷ items) others (suc i) x is = one_at items others i x is
@@ -79,7 +79,7 @@ module _ {X Y : Type 0} where
     pub is : j ≡ length items + place
     pub stands : slice_get others place ≡ Some y
 
-  pub other_at : (items : List X) (others : List Y) (j : ℕ) (y : Y) → slice_get (both items others) j ≡ Some (of_other y) → Behind items others j y
+  other_at : (items : List X) (others : List Y) (j : ℕ) (y : Y) → slice_get (both items others) j ≡ Some (of_other y) → Behind items others j y
   other_at [] others j y is = record { place = j; is = omega arith; stands = other_of others j y is }
   other_at (x ∷ items) others zero y is = cc
   other_at (x ∷ items) others (suc j) y is =

@@ -11,11 +11,9 @@ use Rattle.i_tree.specs.Seg.Members.{Member}
 use Rattle.i_tree.proofs.RootLemmas.Joined.{AllPairs-append}
 use Rattle.plane.specs.Pairs.Pairs.{ArePairs, AreMoreThan}
 use Rattle.plane.specs.Pairs.Parts.{AreParts, part_of}
-use Rattle.plane.specs.Pairs.Roles.{FindAll, IsBefore}
 use Rattle.plane.specs.Pairs.Strips.{strip_at, Reaches, IsOverStrip}
 use Rattle.plane.specs.Pairs.Sweep.{Serves, ArePairsWith, IsTold, pair_of}
 use Rattle.plane.specs.declared.pairs.parts.Part.{Part}
-use Rattle.plane.specs.declared.pairs.roles.Roles.{Roles}
 use Rattle.plane.specs.declared.pairs.strips.Strips.{Strips}
 use Rattle.plane.specs.declared.pairs.sweep.Placed.{Placed}
 use Rattle.plane.proofs.PairsLemmas.Parts.{same_part}
@@ -79,10 +77,10 @@ pair_falling i j below = ap₂ (λ (a b : ℕ). (a, b)) (least i j below) (great
 
 -- An item is served, as in `Status`. It and what is served in its strip reach the strip, and the base isn't above their
 -- lower ends.
-module _ {X : Type 0} {bounds : X → Bounds} {Meeting : X → X → Type 0} (boxed : MeetInBoxes bounds Meeting) (roles : Roles) (strips : Strips) (items : List X) (find : FindAll bounds Meeting roles items) (buckets : Buckets) (served : List Part) (strip : ℕ) (latest : Option ℤ) (old new : List (Member (Placed X))) (holds : Holds bounds roles strips items buckets served strip latest old)
+module _ {X : Type 0} {bounds : X → Bounds} {Meeting : X → X → Type 0} (boxed : MeetInBoxes bounds Meeting) (strips : Strips) (items : List X) (buckets : Buckets) (served : List Part) (strip : ℕ) (latest : Option ℤ) (old new : List (Member (Placed X))) (holds : Holds bounds strips items buckets served strip latest old)
     (placed : Placed X) (stands : slice_get items placed.place ≡ Some placed.item) (unserved : Contains served (part_of placed.place (bounds placed.item) strip) → ⊥)
-    (earlier : (other : Placed X) → IsServed bounds items served strip other → IsBefore bounds other placed)
-    (before after : List (ℕ × ℕ)) (serves : Serves bounds Meeting roles strips strip placed buckets old new before after)
+    (behind : (other : Placed X) → IsServed bounds items served strip other → (bounds other.item).left ≤ℤ (bounds placed.item).left)
+    (before after : List (ℕ × ℕ)) (serves : Serves bounds Meeting strips strip placed buckets old new before after)
     (over : IsOverStrip strips buckets) (above : strips.base ≤ℤ (bounds placed.item).low) (reaches : Reaches strips (bounds placed.item) strip)
     (all_above : (other : Placed X) → IsServed bounds items served strip other → strips.base ≤ℤ (bounds other.item).low) (all_reach : (other : Placed X) → IsServed bounds items served strip other → Reaches strips (bounds other.item) strip)
     (found : List (ℕ × ℕ)) (told : AreTold bounds Meeting strips items served found) where
@@ -98,9 +96,8 @@ module _ {X : Type 0} {bounds : X → Bounds} {Meeting : X → X → Type 0} (bo
   -- what it meets in the strip that tells it is told
   is_told : (other : Placed X) → IsServed bounds items served strip other → Meeting placed.item other.item → strip_of_both bounds strips placed.item other.item ≡ strip → Contains pairs (pair_of placed.place other.place)
   is_told other is_served meet here =
-      let (asks, joined) = find placed other stands is_served.stands (earlier other is_served) meet in
       are.each other
-      (is_other boxed roles strips items buckets served strip latest old new holds placed stands unserved earlier before after serves other is_served asks joined (boxed.near placed.item other.item meet).left
+      (is_other boxed strips items buckets served strip latest old new holds placed stands unserved behind before after serves other is_served (boxed.near placed.item other.item meet).left
       (λ filters. overlaps strips strip buckets over (bounds other.item) (bounds placed.item) (boxed.proper other.item) (boxed.proper placed.item) (all_above other is_served) above (all_reach other is_served) reaches
       (boxed.near other.item placed.item (boxed.exchanged placed.item other.item meet)) filters))
       (record { meet = meet; here = here })
@@ -147,8 +144,8 @@ module _ {X : Type 0} {bounds : X → Bounds} {Meeting : X → X → Type 0} (bo
   comes : (i j : ℕ) → Contains pairs (i, j) → Comes i j
   comes i j within =
       let (other, among, is_told, is) = are.of (i, j) within in
-      let is_served = of_others boxed roles strips items buckets served strip latest old new holds placed stands unserved earlier before after serves other among in
-      let differ = elsewhere boxed roles strips items buckets served strip latest old new holds placed stands unserved earlier before after serves other is_served in
+      let is_served = of_others boxed strips items buckets served strip latest old new holds placed stands unserved behind before after serves other among in
+      let differ = elsewhere boxed strips items buckets served strip latest old new holds placed stands unserved behind before after serves other is_served in
       elim (cases_lt placed.place other.place) [
         | inl below ↦
             let same = is ∙ pair_rising placed.place other.place below in
@@ -223,7 +220,7 @@ module _ {X : Type 0} {bounds : X → Bounds} {Meeting : X → X → Type 0} (bo
     each = each_told;
     of = of_told;
     once = AllPairs-append (λ one later. one ≢ later) found pairs told.once
-        (are.once (others_apart boxed roles strips items buckets served strip latest old new holds placed stands unserved earlier before after serves))
+        (are.once (others_apart boxed strips items buckets served strip latest old new holds placed stands unserved behind before after serves))
         (λ k d inside l e within same.
         let pair = get_or found k d in
         let both = told.of pair.0 pair.1 (Contains-get_or found k d inside) in

@@ -13,38 +13,36 @@ use Rattle.i_tree.specs.Seg.Members.{Member, NotBefore}
 use Rattle.plane.specs.Pairs.Live.{SweepStatus, IsIn}
 use Rattle.plane.specs.Pairs.Pairs.{GainsAll}
 use Rattle.plane.specs.Pairs.Parts.{AreParts, IsPartOf, NotBehind, part_of}
-use Rattle.plane.specs.Pairs.Roles.{FindAll, IsBefore}
 use Rattle.plane.specs.Pairs.Strips.{Reaches, IsOverStrip}
 use Rattle.plane.specs.Pairs.Sweep.{Serves}
 use Rattle.plane.specs.declared.pairs.parts.Part.{Part}
-use Rattle.plane.specs.declared.pairs.roles.Roles.{Roles}
 use Rattle.plane.specs.declared.pairs.strips.Strips.{Strips}
 use Rattle.plane.specs.declared.pairs.sweep.Placed.{Placed}
 use Rattle.plane.proofs.PairsLemmas.Bags.{not_before}
 use Rattle.plane.proofs.PairsLemmas.Complete.{AreTold, AreTold-none, AreTold-served, ArePairs-told, AreMoreThan-told}
-use Rattle.plane.proofs.PairsLemmas.Status.{Holds, Holds-nothing, Holds-served, IsServed, placed_at, begins_upto}
+use Rattle.plane.proofs.PairsLemmas.Status.{Holds, Holds-nothing, Holds-served, IsServed, placed_at}
 use Rattle.plane.specs.declared.pairs.items.Bounds.{Bounds}
 use Rattle.plane.specs.Pairs.Bounds.{MeetInBoxes}
 
 -- Some parts are served, up to those of this strip, and what comes isn't of an earlier one. What the strip needs is
 -- stored, and the pairs that are to be told are.
-pub record Served {X : Type 0} (bounds : X → Bounds) (Meeting : X → X → Type 0) (roles : Roles) (strips : Strips) (items : List X) (parts : List Part) (k strip : ℕ) (tree : SweepStatus X) (before now : List (ℕ × ℕ)) : Type 0 where
+pub record Served {X : Type 0} (bounds : X → Bounds) (Meeting : X → X → Type 0) (strips : Strips) (items : List X) (parts : List Part) (k strip : ℕ) (tree : SweepStatus X) (before now : List (ℕ × ℕ)) : Type 0 where
   pub over : IsOverStrip strips tree.buckets
   pub upto : All (λ part. part.strip ≤ strip) (take k parts)
   pub ahead : (j : ℕ) (d : Part) → k ≤ j → j < length parts → strip ≤ (get_or parts j d).strip
-  pub holds : Holds bounds roles strips items tree.buckets (take k parts) strip tree.latest tree.members
+  pub holds : Holds bounds strips items tree.buckets (take k parts) strip tree.latest tree.members
   pub pairs : List (ℕ × ℕ)
   pub gained : now ≡ before ++ pairs
   pub told : AreTold bounds Meeting strips items (take k parts) pairs
 
-module _ {X : Type 0} {bounds : X → Bounds} {Meeting : X → X → Type 0} (boxed : MeetInBoxes bounds Meeting) (roles : Roles) (strips : Strips) (items : List X) (parts : List Part) where
+module _ {X : Type 0} {bounds : X → Bounds} {Meeting : X → X → Type 0} (boxed : MeetInBoxes bounds Meeting) (strips : Strips) (items : List X) (parts : List Part) where
   -- nothing is served
-  pub Served-none : (tree : SweepStatus X) (before : List (ℕ × ℕ)) → IsOverStrip strips tree.buckets → tree.members ≡ [] → tree.latest ≡ None → Served bounds Meeting roles strips items parts 0 0 tree before before
+  pub Served-none : (tree : SweepStatus X) (before : List (ℕ × ℕ)) → IsOverStrip strips tree.buckets → tree.members ≡ [] → tree.latest ≡ None → Served bounds Meeting strips items parts 0 0 tree before before
   Served-none tree before over empty unasked = record {
     over = over;
     upto = All-nil (λ part. part.strip ≤ 0);
     ahead = λ j d from within. omega arith;
-    holds = Holds-nothing bounds roles strips items tree.buckets [] 0 tree.latest tree.members (λ placed is. let at = is.part in omega (arith, at.1)) empty unasked;
+    holds = Holds-nothing bounds strips items tree.buckets [] 0 tree.latest tree.members (λ placed is. let at = is.part in omega (arith, at.1)) empty unasked;
     pairs = [];
     gained = sym (append-nil before);
     told = AreTold-none bounds Meeting strips items;
@@ -52,13 +50,13 @@ module _ {X : Type 0} {bounds : X → Bounds} {Meeting : X → X → Type 0} (bo
 
   -- all parts are served
   pub Served-all : (k strip : ℕ) (tree : SweepStatus X) (most : ℕ) (before now : List (ℕ × ℕ)) → length parts ≤ k → All (λ item. strips.base ≤ℤ (bounds item).low) items → AreParts bounds strips items parts
-      → Served bounds Meeting roles strips items parts k strip tree before now → GainsAll Meeting items most before now
+      → Served bounds Meeting strips items parts k strip tree before now → GainsAll Meeting items most before now
   Served-all k strip tree most before now past base are served =
       (served.pairs, served.gained, inl (ArePairs-told boxed strips items parts served.pairs base are (subst (λ (all : List Part). AreTold bounds Meeting strips items all served.pairs) (take_all k parts past) served.told)))
 
   -- some are, and more than so many pairs are told
   pub Served-enough : (k strip : ℕ) (tree : SweepStatus X) (most : ℕ) (before now : List (ℕ × ℕ)) → length before + most < length now
-      → Served bounds Meeting roles strips items parts k strip tree before now → GainsAll Meeting items most before now
+      → Served bounds Meeting strips items parts k strip tree before now → GainsAll Meeting items most before now
   Served-enough k strip tree most before now longer served =
       let size = ap length served.gained ∙ length-append before served.pairs in
       (served.pairs, served.gained, inr (AreMoreThan-told boxed strips items (take k parts) most served.pairs (omega (arith, size, longer)) served.told))
@@ -97,36 +95,18 @@ module _ {X : Type 0} {bounds : X → Bounds} {Meeting : X → X → Type 0} (bo
     unserved : Contains (take k parts) (part_of next.place (bounds of_next.item) next.strip) → ⊥
     unserved within = not_before parts k next inside are.once (get_or_default parts k next d inside) (subst (Contains (take k parts)) (sym of_next.is) within)
 
-    -- what is served in its strip stands before it in their order, and reaches the strip
-    earlier : (other : Placed X) → IsServed bounds items (take k parts) next.strip other → IsBefore bounds other (placed_at next.place of_next.item)
-    earlier other is_served =
+    -- what is served in its strip begins at most where it does, and reaches the strip
+    behind : (other : Placed X) → IsServed bounds items (take k parts) next.strip other → (bounds other.item).left ≤ℤ (bounds of_next.item).left
+    behind other is_served =
         let part = part_of other.place (bounds other.item) next.strip in
         let (i, below, is) = served_at part is_served.part in
         let order : NotBehind part next = subst (λ (one : Part). NotBehind one next) is (subst (NotBehind (get_or parts i part)) (get_or_default parts k part d inside) (are.in_order i k part below inside)) in
-        let left : next.left ≡ (bounds of_next.item).left = ap (λ (one : Part). one.left) of_next.is in
-        by_strip order left
+        subst (λ (x : ℤ). (bounds other.item).left ≤ℤ x) (ap (λ (one : Part). one.left) of_next.is) (by_strip order)
       where
-        same_part : other.place ≡ next.place → slice_get items other.place ≡ Some other.item → part_of other.place (bounds other.item) next.strip ≡ part_of next.place (bounds of_next.item) next.strip
-        same_part at stands =
-            let one : other.item ≡ of_next.item = same_Some other.item of_next.item (sym stands ∙ ap (slice_get items) at ∙ of_next.stands) in
-            cc
-
-        by_left : ((bounds other.item).left <ℤ next.left) ⊎ (((bounds other.item).left ≡ next.left) × (other.place ≤ next.place)) → next.left ≡ (bounds of_next.item).left → IsBefore bounds other (placed_at next.place of_next.item)
-        by_left (inl below) left = inl (subst (λ (x : ℤ). (bounds other.item).left <ℤ x) left below)
-        by_left (inr (same, upto)) left = inr (
-          same ∙ left,
-          elim (cases_eq other.place next.place) [
-            | inl at ↦ absurd (unserved (subst (Contains (take k parts)) (same_part at is_served.stands) is_served.part))
-            | inr differ ↦ omega (arith, upto, differ)
-          ],
-        )
-
-        by_strip : NotBehind (part_of other.place (bounds other.item) next.strip) next → next.left ≡ (bounds of_next.item).left → IsBefore bounds other (placed_at next.place of_next.item)
-        by_strip (inl sooner) left = absurd (omega (arith, sooner))
-        by_strip (inr (_, order)) left = by_left order left
-
-    behind : (other : Placed X) → IsServed bounds items (take k parts) next.strip other → (bounds other.item).left ≤ℤ (bounds of_next.item).left
-    behind other is_served = begins_upto (bounds other.item).left (bounds of_next.item).left (other.place < next.place) (earlier other is_served)
+        by_strip : NotBehind (part_of other.place (bounds other.item) next.strip) next → (bounds other.item).left ≤ℤ next.left
+        by_strip (inl sooner) = absurd (omega (arith, sooner))
+        by_strip (inr (_, inl below)) = omega (arith, ints, below)
+        by_strip (inr (_, inr (same, _))) = omega (arith, ints, same)
 
     reach_of : (other : Placed X) → IsServed bounds items (take k parts) next.strip other → Reaches strips (bounds other.item) next.strip
     reach_of other is_served =
@@ -137,18 +117,18 @@ module _ {X : Type 0} {bounds : X → Bounds} {Meeting : X → X → Type 0} (bo
         subst (λ (one : X). Reaches strips (bounds one) next.strip) same of_part.reaches
 
     -- What is held then, where it stayed as it was in the same strip and was cleared for another one.
-    module _ (strip : ℕ) (tree entered : SweepStatus X) (before now : List (ℕ × ℕ)) (served : Served bounds Meeting roles strips items parts k strip tree before now)
+    module _ (strip : ℕ) (tree entered : SweepStatus X) (before now : List (ℕ × ℕ)) (served : Served bounds Meeting strips items parts k strip tree before now)
         (stays : (get_or parts k d).strip ≡ strip → entered ≡ tree) (empty : (get_or parts k d).strip ≢ strip → entered.members ≡ []) (unasked : (get_or parts k d).strip ≢ strip → entered.latest ≡ None) (buckets : entered.buckets ≡ tree.buckets) where
       pub over_entered : IsOverStrip strips entered.buckets
       over_entered = subst (IsOverStrip strips) (sym buckets) served.over
 
-      holds_entered : Holds bounds roles strips items entered.buckets (take k parts) next.strip entered.latest entered.members
+      holds_entered : Holds bounds strips items entered.buckets (take k parts) next.strip entered.latest entered.members
       holds_entered = elim (cases_eq next.strip strip) [
         | inl same ↦
-            subst (λ (s : ℕ). Holds bounds roles strips items entered.buckets (take k parts) s entered.latest entered.members) (sym same)
-            (subst (λ (one : SweepStatus X). Holds bounds roles strips items one.buckets (take k parts) strip one.latest one.members) (sym (stays same)) served.holds)
+            subst (λ (s : ℕ). Holds bounds strips items entered.buckets (take k parts) s entered.latest entered.members) (sym same)
+            (subst (λ (one : SweepStatus X). Holds bounds strips items one.buckets (take k parts) strip one.latest one.members) (sym (stays same)) served.holds)
         | inr differs ↦
-            Holds-nothing bounds roles strips items entered.buckets (take k parts) next.strip entered.latest entered.members
+            Holds-nothing bounds strips items entered.buckets (take k parts) next.strip entered.latest entered.members
             (λ placed is_served.
             let low : next.strip ≤ strip = All-contains (λ (part : Part). part.strip ≤ strip) (take k parts) (part_of placed.place (bounds placed.item) next.strip) served.upto is_served.part in
             let high : strip ≤ next.strip = served.ahead k d (omega arith) inside in
@@ -182,24 +162,24 @@ module _ {X : Type 0} {bounds : X → Bounds} {Meeting : X → X → Type 0} (bo
           told (Some time) order = no_less (bounds of_next.item).left time (int_cmp (bounds of_next.item).left time) (int_ranked (bounds of_next.item).left time (int_cmp (bounds of_next.item).left time) refl) (order time refl)
 
       -- it is served
-      pub Served-more : FindAll bounds Meeting roles items → (after : SweepStatus X) (item : X) (later : List (ℕ × ℕ)) → item ≡ get_or items (get_or parts k d).place item → after.buckets ≡ entered.buckets → (after.latest ≡ entered.latest) ⊎ (after.latest ≡ Some (bounds item).left)
-          → Serves bounds Meeting roles strips (get_or parts k d).strip (placed_at (get_or parts k d).place item) entered.buckets entered.members after.members now later
-          → Served bounds Meeting roles strips items parts (k + 1) (get_or parts k d).strip after before later
-      Served-more find after item later read same_buckets asked serves = record {
+      pub Served-more : (after : SweepStatus X) (item : X) (later : List (ℕ × ℕ)) → item ≡ get_or items (get_or parts k d).place item → after.buckets ≡ entered.buckets → (after.latest ≡ entered.latest) ⊎ (after.latest ≡ Some (bounds item).left)
+          → Serves bounds Meeting strips (get_or parts k d).strip (placed_at (get_or parts k d).place item) entered.buckets entered.members after.members now later
+          → Served bounds Meeting strips items parts (k + 1) (get_or parts k d).strip after before later
+      Served-more after item later read same_buckets asked serves = record {
         over = subst (IsOverStrip strips) (sym same_buckets) over_entered;
         upto = subst (All (λ part. part.strip ≤ next.strip)) (sym (take_more parts k d inside))
             (All-push (λ part. part.strip ≤ next.strip) (take k parts) next
             (All-weaker (λ part. part.strip ≤ strip) (λ part. part.strip ≤ next.strip) (λ part low. let high = served.ahead k d (omega arith) inside in omega (arith, low, high)) (take k parts) served.upto)
             (omega arith));
         ahead = λ j f from within. later_strip j f (omega (arith, from)) within;
-        holds = subst (λ (all : List Part). Holds bounds roles strips items after.buckets all next.strip after.latest after.members) (sym more)
-            (subst (λ (b : Buckets). Holds bounds roles strips items b (take k parts ++ part ∷ []) next.strip after.latest after.members) (sym same_buckets)
-            (Holds-served boxed roles strips items entered.buckets (take k parts) next.strip entered.latest entered.members after.members holds_entered placed of_next.stands unserved earlier now later serves'
+        holds = subst (λ (all : List Part). Holds bounds strips items after.buckets all next.strip after.latest after.members) (sym more)
+            (subst (λ (b : Buckets). Holds bounds strips items b (take k parts ++ part ∷ []) next.strip after.latest after.members) (sym same_buckets)
+            (Holds-served boxed strips items entered.buckets (take k parts) next.strip entered.latest entered.members after.members holds_entered placed of_next.stands unserved behind now later serves'
             after.latest (⊎_elim (λ same. inl same) (λ now. inr (now ∙ ap (λ (one : X). Some (bounds one).left) (sym (its_item item read)))) asked)));
         pairs = served.pairs ++ serves'.asks.gains.0;
         gained = serves'.asks.gains.1 ∙ ap (λ (front : List (ℕ × ℕ)). front ++ serves'.asks.gains.0) served.gained ∙ append_assoc before served.pairs serves'.asks.gains.0;
         told = subst (λ (all : List Part). AreTold bounds Meeting strips items all (served.pairs ++ serves'.asks.gains.0)) (sym more)
-            (AreTold-served boxed roles strips items find entered.buckets (take k parts) next.strip entered.latest entered.members after.members holds_entered placed of_next.stands unserved earlier now later serves'
+            (AreTold-served boxed strips items entered.buckets (take k parts) next.strip entered.latest entered.members after.members holds_entered placed of_next.stands unserved behind now later serves'
             over_entered (above_at next.place of_next.item of_next.stands) of_next.reaches (λ other is_served. above_at other.place other.item is_served.stands) reach_of served.pairs served.told);
       }
         where
@@ -209,8 +189,8 @@ module _ {X : Type 0} {bounds : X → Bounds} {Meeting : X → X → Type 0} (bo
           part : Part
           part = part_of next.place (bounds of_next.item) next.strip
 
-          serves' : Serves bounds Meeting roles strips next.strip placed entered.buckets entered.members after.members now later
-          serves' = subst (λ (one : X). Serves bounds Meeting roles strips next.strip (placed_at next.place one) entered.buckets entered.members after.members now later) (sym (its_item item read)) serves
+          serves' : Serves bounds Meeting strips next.strip placed entered.buckets entered.members after.members now later
+          serves' = subst (λ (one : X). Serves bounds Meeting strips next.strip (placed_at next.place one) entered.buckets entered.members after.members now later) (sym (its_item item read)) serves
 
           more : take (k + 1) parts ≡ take k parts ++ part ∷ []
           more = take_more parts k d inside ∙ ap (λ (last : Part). take k parts ++ last ∷ []) of_next.is

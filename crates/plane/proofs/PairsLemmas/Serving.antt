@@ -1,5 +1,5 @@
 -- An item is served: what comes of the calls that it takes.
-use Rattle.std.proofs.Common.{◌≡◌, ◌⊎◌, inl, inr, ℕ, ◌<◌, pos, ℤ, ◌≤ℤ◌, true, Option, Some, None, List, [], ◌∷◌, ◌++◌, refl, sym, ap, ◌∙◌, subst, subst₂, arith}
+use Rattle.std.proofs.Common.{◌≡◌, inl, inr, ℕ, pos, ℤ, ◌≤ℤ◌, true, Option, Some, None, List, [], ◌∷◌, ◌++◌, refl, sym, ap, ◌∙◌, subst, subst₂, arith}
 use Rattle.std.specs.List.{Contains}
 use Rattle.std.specs.List.Sorted.{IsPermutation}
 use Rattle.std.specs.Ordering.{int_cmp}
@@ -18,28 +18,25 @@ use Rattle.plane.specs.declared.pairs.strips.Strips.{Strips}
 use Rattle.plane.specs.declared.pairs.sweep.Placed.{Placed}
 use Rattle.plane.specs.declared.pairs.items.Bounds.{Bounds}
 use Rattle.plane.specs.Pairs.Bounds.{IsBox}
-use Rattle.plane.specs.declared.pairs.roles.Roles.{Roles}
 use Rattle.i_tree.proofs.RootLemmas.Members.{Contains-from_filter}
-use Rattle.plane.proofs.PairsLemmas.Pairs.{GainsPairs-none}
 
 -- an item is live at each x up to its greater one
 pub is_live-upto : {X : Type 0} (bounds : X → Bounds) (time : ℤ) (placed : Placed X) → time ≤ℤ (bounds placed.item).right → is_live (last_of bounds) int_cmp time placed ≡ true
 is_live-upto bounds time placed within = int_ge-upto (bounds placed.item).right time within
 
--- what stays when expired members may go was there
-pub kept-within : {X : Type 0} (bounds : X → Bounds) (time : ℤ) (old new : List (Member (Placed X))) → IsPermutation (live_members (last_of bounds) int_cmp time old) new ⊎ (new ≡ old) → (member : Member (Placed X)) → Contains new member → Contains old member
-kept-within {X = X} bounds time old new (inl same) member within =
+-- what stays when expired members go was there
+pub kept-within : {X : Type 0} (bounds : X → Bounds) (time : ℤ) (old new : List (Member (Placed X))) → IsPermutation (live_members (last_of bounds) int_cmp time old) new → (member : Member (Placed X)) → Contains new member → Contains old member
+kept-within {X = X} bounds time old new same member within =
     (Contains-from_filter (λ (one : Member (Placed X)). is_live (last_of bounds) int_cmp time one.value) old member
     (Contains-permutation new (live_members (last_of bounds) int_cmp time old) member (IsPermutation-sym (live_members (last_of bounds) int_cmp time old) new same) within)).0
-kept-within {X = X} bounds time old new (inr is) member within = subst (λ (all : List (Member (Placed X))). Contains all member) is within
 
 -- What the calls ensure that a query takes: at the time over the range, from which `near` is appended to an empty list, and
 -- which leaves `mid`; and pairs with what it found.
-module _ {X : Type 0} {bounds : X → Bounds} {Meeting : X → X → Type 0} (roles : Roles) (strips : Strips) (strip : ℕ) (placed : Placed X) (buckets : Buckets) (old mid : List (Member (Placed X))) (before after : List (ℕ × ℕ)) where
+module _ {X : Type 0} {bounds : X → Bounds} {Meeting : X → X → Type 0} (strips : Strips) (strip : ℕ) (placed : Placed X) (buckets : Buckets) (old mid : List (Member (Placed X))) (before after : List (ℕ × ℕ)) where
   pub Asks-called : (cleared near : List (Placed X)) (time : ℤ) (range : SegRange ℕ) → time ≡ (bounds placed.item).left → range ≡ range_in strips strip (bounds placed.item)
       → cleared ≡ [] → Appends (answer (last_of bounds) int_cmp time (interval_over pos buckets range) old) cleared near
       → GainsPairs bounds Meeting strips strip placed near before after → IsPermutation (live_members (last_of bounds) int_cmp time old) mid → Filters buckets
-      → Asks bounds Meeting roles strips strip placed buckets old mid before after
+      → Asks bounds Meeting strips strip placed buckets old mid before after
   Asks-called cleared near time range begins heights empty (found, same, appended) gains kept filters =
       let alone : near ≡ found = appended ∙ ap (λ (front : List (Placed X)). front ++ found) empty in
       let begin = (bounds placed.item).left in
@@ -52,29 +49,20 @@ module _ {X : Type 0} {bounds : X → Bounds} {Meeting : X → X → Type 0} (ro
           filters,
         );
         gains = gains;
-        keeps = inl (subst (λ (t : ℤ). IsPermutation (live_members (last_of bounds) int_cmp t old) mid) begins kept);
+        keeps = subst (λ (t : ℤ). IsPermutation (live_members (last_of bounds) int_cmp t old) mid) begins kept;
       }
 
   -- where all that are live are gone over, and the others went
   pub Asks-all : (others : List (Placed X)) → values_of (live_members (last_of bounds) int_cmp (bounds placed.item).left old) ≡ others → mid ≡ live_members (last_of bounds) int_cmp (bounds placed.item).left old
-      → GainsPairs bounds Meeting strips strip placed others before after → Asks bounds Meeting roles strips strip placed buckets old mid before after
+      → GainsPairs bounds Meeting strips strip placed others before after → Asks bounds Meeting strips strip placed buckets old mid before after
   Asks-all others all kept gains =
       let live = live_members (last_of bounds) int_cmp (bounds placed.item).left old in
       record {
         others = others;
-        answers = inr (inl (subst (IsPermutation (values_of live)) all (IsPermutation-refl (values_of live))));
+        answers = inr (subst (IsPermutation (values_of live)) all (IsPermutation-refl (values_of live)));
         gains = gains;
-        keeps = inl (subst (IsPermutation live) (sym kept) (IsPermutation-refl live));
+        keeps = subst (IsPermutation live) (sym kept) (IsPermutation-refl live);
       }
-
-  -- and where it isn't its role
-  pub Asks-silent : placed.place < roles.asking → IsPermutation (live_members (last_of bounds) int_cmp (bounds placed.item).left old) mid ⊎ (mid ≡ old) → after ≡ before → Asks bounds Meeting roles strips strip placed buckets old mid before after
-  Asks-silent silent keeps none = record {
-    others = [];
-    answers = inr (inr (silent, refl));
-    gains = subst (GainsPairs bounds Meeting strips strip placed [] before) (sym none) (GainsPairs-none bounds Meeting strips strip placed [] before);
-    keeps = keeps;
-  }
 
 -- And what an insertion does, where no time came that is behind where the item begins.
 pub member-joins : {X : Type 0} (bounds : X → Bounds) (strips : Strips) (strip : ℕ) (buckets : Buckets) (placed : Placed X) (own : Buckets) (latest : Option ℤ) (range : SegRange ℕ) (old new : List (Member (Placed X))) → own ≡ buckets → IsBox (bounds placed.item)

@@ -7,10 +7,6 @@ pub record IsBox (bounds : Bounds) : Type 0 where
   pub wide : bounds.left ≤ℤ bounds.right
   pub tall : bounds.low ≤ℤ bounds.high
 
--- The box stands at a single x, as that of a point does.
-abbrev pub IsUpright : Bounds → Type 0
-IsUpright bounds = bounds.left ≡ bounds.right
-
 -- The box is a single point.
 pub record IsPoint (bounds : Bounds) : Type 0 where
   pub upright : bounds.left ≡ bounds.right

@@ -1,5 +1,5 @@
 -- What is told in a strip, from left to right. For private contracts.
-use Rattle.std.specs.Prelude.{◌≡◌, ◌≢◌, ◌⊎◌, ℕ, ◌<◌, ◌≤◌, ℤ, pos, min, max, List, [], ◌∷◌, ◌++◌, AllPairs, Contains, IsPermutation}
+use Rattle.std.specs.Prelude.{◌≡◌, ◌≢◌, ◌⊎◌, ℕ, ℤ, pos, min, max, List, [], ◌∷◌, ◌++◌, AllPairs, Contains, IsPermutation}
 use Rattle.std.specs.Int.{int_max}
 use Rattle.std.specs.Ordering.{int_cmp}
 use Rattle.i_tree.specs.Seg.Buckets.{Buckets, Filters}
@@ -7,7 +7,6 @@ use Rattle.i_tree.specs.Seg.Members.{Member, answer, live_members, values_of}
 use Rattle.i_tree.specs.Seg.Ranges.{interval_over, segment_over}
 use Rattle.plane.specs.Pairs.Strips.{strip_at, range_in}
 use Rattle.plane.specs.declared.pairs.items.Bounds.{Bounds}
-use Rattle.plane.specs.declared.pairs.roles.Roles.{Roles}
 use Rattle.plane.specs.declared.pairs.strips.Strips.{Strips}
 use Rattle.plane.specs.declared.pairs.sweep.Placed.{Placed}
 
@@ -48,20 +47,15 @@ abbrev pub last_of : {X : Type 0} → (X → Bounds) → Placed X → ℤ
 last_of bounds placed = (bounds placed.item).right
 
 -- An item asks in a strip: its pairs with those are told that are live where it begins, all of them or those near its
--- heights, and what isn't live there may go. Where that isn't its role, nothing is told.
-pub record Asks {X : Type 0} (bounds : X → Bounds) (Meeting : X → X → Type 0) (roles : Roles) (strips : Strips) (strip : ℕ) (placed : Placed X) (buckets : Buckets) (old new : List (Member (Placed X))) (before after : List (ℕ × ℕ)) : Type 0 where
+-- heights, and what isn't live there goes.
+pub record Asks {X : Type 0} (bounds : X → Bounds) (Meeting : X → X → Type 0) (strips : Strips) (strip : ℕ) (placed : Placed X) (buckets : Buckets) (old new : List (Member (Placed X))) (before after : List (ℕ × ℕ)) : Type 0 where
   pub others : List (Placed X)
-  pub answers : (IsPermutation (answer (last_of bounds) int_cmp (bounds placed.item).left (interval_over pos buckets (range_in strips strip (bounds placed.item))) old) others × Filters buckets) ⊎ IsPermutation (values_of (live_members (last_of bounds) int_cmp (bounds placed.item).left old)) others ⊎ ((placed.place < roles.asking) × (others ≡ []))
+  pub answers : (IsPermutation (answer (last_of bounds) int_cmp (bounds placed.item).left (interval_over pos buckets (range_in strips strip (bounds placed.item))) old) others × Filters buckets) ⊎ IsPermutation (values_of (live_members (last_of bounds) int_cmp (bounds placed.item).left old)) others
   pub gains : GainsPairs bounds Meeting strips strip placed others before after
-  pub keeps : IsPermutation (live_members (last_of bounds) int_cmp (bounds placed.item).left old) new ⊎ (new ≡ old)
+  pub keeps : IsPermutation (live_members (last_of bounds) int_cmp (bounds placed.item).left old) new
 
--- An item joins what is stored in a strip. Where that isn't its role, what is stored stays.
-abbrev pub JoinsIn : {X : Type 0} → (X → Bounds) → Roles → Strips → ℕ → Placed X → Buckets → List (Member (Placed X)) → List (Member (Placed X)) → Type 0
-JoinsIn bounds roles strips strip placed buckets old new =
-    IsPermutation (member_in bounds strips strip buckets placed ∷ old) new ⊎ ((roles.joining ≤ placed.place) × (new ≡ old))
-
--- An item is served in a strip: it asks, and then it joins, by its roles.
-pub record Serves {X : Type 0} (bounds : X → Bounds) (Meeting : X → X → Type 0) (roles : Roles) (strips : Strips) (strip : ℕ) (placed : Placed X) (buckets : Buckets) (old new : List (Member (Placed X))) (before after : List (ℕ × ℕ)) : Type 0 where
+-- An item is served in a strip: it asks, and then it joins what is stored.
+pub record Serves {X : Type 0} (bounds : X → Bounds) (Meeting : X → X → Type 0) (strips : Strips) (strip : ℕ) (placed : Placed X) (buckets : Buckets) (old new : List (Member (Placed X))) (before after : List (ℕ × ℕ)) : Type 0 where
   pub mid : List (Member (Placed X))
-  pub asks : Asks bounds Meeting roles strips strip placed buckets old mid before after
-  pub joins : JoinsIn bounds roles strips strip placed buckets mid new
+  pub asks : Asks bounds Meeting strips strip placed buckets old mid before after
+  pub joins : IsPermutation (member_in bounds strips strip buckets placed ∷ mid) new

@@ -5,9 +5,8 @@ ghost use Rattle.i_tree.specs.declared.Refusal.TheVariants.{OutOfMemory};
 ghost use Rattle.plane.specs.Pairs.Bounds.{MeetInBoxesAcross};
 ghost use Rattle.plane.specs.Pairs.Pairs.{ArePairsBetween};
 
-use super::all_pairs;
 use super::items::{Boxed, Meets};
-use super::roles::roles_of_two;
+use super::pairs_among;
 use super::two::both;
 use i_tree::Refusal;
 use std::alloc::Allocator;
@@ -16,8 +15,7 @@ use std::alloc::Allocator;
 /// The order of the pairs is open.
 ///
 /// It is refused for want of memory alone, and leaves `out` as it was then. The memory is that of `out`'s allocator.
-/// It is one sweep over both lists together, as `pairs_among` does it. Where each item of the second list stands at a
-/// single x, as points do, the tree holds items of the first list alone.
+/// It is one sweep over both lists together, as `pairs_among` does it.
 pub fn pairs_between<X: Meets<Y>, Y: Boxed, A: Allocator + Copy>(
     items: &[X],
     others: &[Y],
@@ -33,8 +31,7 @@ pub fn pairs_between<X: Meets<Y>, Y: Boxed, A: Allocator + Copy>(
 {
     let start = out.len();
     let both = both(*out.allocator(), items, others)?;
-    let roles = roles_of_two(items.len(), both.len(), others);
-    all_pairs(&both, roles, out)?;
+    pairs_among(&both, out)?;
     number_others(out, start, items.len());
     Ok(())
 }

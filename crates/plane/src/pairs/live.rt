@@ -26,6 +26,8 @@ pub struct Live<T: Boxed, A: Allocator + Copy> {
     pub is_few: bool,
     pub few: Vec<Placed<T>, A>,
     pub tree: SegExpTree<u32, i32, Placed<T>, A>,
+    // Room for what the tree answers.
+    pub near: Vec<Placed<T>, A>,
 }
 
 impl<T: Boxed, A: Allocator + Copy> Live<T, A> {
@@ -42,6 +44,7 @@ impl<T: Boxed, A: Allocator + Copy> Live<T, A> {
             is_few: true,
             few: Vec::new(alloc),
             tree,
+            near: Vec::new(alloc),
         })
     }
 

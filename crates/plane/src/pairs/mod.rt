@@ -4,17 +4,14 @@ ghost use Rattle.std.specs.Prelude.{◌≡◌, ◌++◌, ◌<◌, ◌≤◌, ℕ
 ghost use Rattle.i_tree.specs.declared.Refusal.TheVariants.{OutOfMemory};
 ghost use Rattle.plane.specs.Pairs.Bounds.{MeetInBoxes};
 ghost use Rattle.plane.specs.Pairs.Pairs.{PairAt, ArePairs, AreMoreThan, GainsAll};
-ghost use Rattle.plane.specs.Pairs.Roles.{FindAll};
 ghost use Rattle.plane.specs.Pairs.Sweep.{Extends};
 
 pub use between::pairs_between;
 use cut::{strips_for, wanted_for};
 use i_tree::Refusal;
 use items::Meets;
-use live::Live;
 use parts::parts;
 pub use points::pairs_with_points;
-use roles::{Roles, all_do};
 use std::alloc::Allocator;
 use sweep::append_pairs;
 
@@ -26,7 +23,6 @@ mod live;
 mod parts;
 mod points;
 mod read_ahead;
-mod roles;
 mod rows;
 mod strips;
 mod sweep;
@@ -51,7 +47,7 @@ pub fn pairs_among<T: Meets<T>, A: Allocator + Copy>(
     ensures err { OnErr result (out.new.items ≡ out.old.items) }
     ensures refused { IfErr result (λ cause. cause ≡ OutOfMemory) }
 {
-    all_pairs(items, all_do(items.len()), out)
+    gain_pairs(items, usize::MAX, out)
 }
 
 /// As `pairs_among`, but it gives up once it has more than `most` pairs, and answers whether all are there.
@@ -73,7 +69,7 @@ pub fn pairs_upto<T: Meets<T>, A: Allocator + Copy>(
     ensures refused { IfErr result (λ cause. cause ≡ OutOfMemory) }
 {
     let start = out.len();
-    gain_pairs(items, all_do(items.len()), most, out)?;
+    gain_pairs(items, most, out)?;
     Ok(out.len() - start <= most)
 }
 
@@ -92,37 +88,17 @@ pub fn first_pair<T: Meets<T>, A: Allocator + Copy>(
     ensures refused { IfErr result (λ cause. cause ≡ OutOfMemory) }
 {
     let mut found = Vec::new(alloc);
-    sweep_over(items, all_do(items.len()), 0, &mut found)?;
+    sweep_over(items, 0, &mut found)?;
     Ok(found.first().copied())
 }
 
-// As `pairs_among`, where the roles of the items find all pairs.
-fn all_pairs<T: Meets<T>, A: Allocator + Copy>(
-    items: &[T],
-    roles: Roles,
-    out: &mut Vec<(usize, usize), A>,
-) -> Result<(), Refusal>
-    requires boxed { MeetInBoxes T.bounds T.Meeting }
-    requires roles { FindAll T.bounds T.Meeting roles items.now }
-    ensures ok { OnOk result ((pairs : List (ℕ × ℕ))
-        × (out.new.items ≡ out.old.items ++ pairs) × ArePairs T.Meeting items.now pairs) }
-    ensures within { OnOk result (All (λ pair. (pair.0 < pair.1) × (pair.1 < length items.now))
-        (drop (length out.old.items) out.new.items)) }
-    ensures err { OnErr result (out.new.items ≡ out.old.items) }
-    ensures refused { IfErr result (λ cause. cause ≡ OutOfMemory) }
-{
-    gain_pairs(items, roles, usize::MAX, out)
-}
-
-// As `all_pairs`, but it stops once it has more than `most` pairs.
+// As `pairs_among`, but it stops once it has more than `most` pairs.
 fn gain_pairs<T: Meets<T>, A: Allocator + Copy>(
     items: &[T],
-    roles: Roles,
     most: usize,
     out: &mut Vec<(usize, usize), A>,
 ) -> Result<(), Refusal>
-    requires boxed { MeetInBoxes T.bounds T.Meeting }
-    requires roles { FindAll T.bounds T.Meeting roles items.now }
+    requires { MeetInBoxes T.bounds T.Meeting }
     ensures ok { OnOk result (GainsAll T.Meeting items.now most out.old.items out.new.items) }
     ensures within { OnOk result (All (λ pair. (pair.0 < pair.1) × (pair.1 < length items.now))
         (drop (length out.old.items) out.new.items)) }
@@ -130,7 +106,7 @@ fn gain_pairs<T: Meets<T>, A: Allocator + Copy>(
     ensures refused { IfErr result (λ cause. cause ≡ OutOfMemory) }
 {
     let start = out.len();
-    let outcome = sweep_over(items, roles, most, out);
+    let outcome = sweep_over(items, most, out);
     if outcome.is_err() {
         out.truncate(start);
     }
@@ -140,12 +116,10 @@ fn gain_pairs<T: Meets<T>, A: Allocator + Copy>(
 // As `gain_pairs`, but where it is refused, it may have appended some pairs.
 fn sweep_over<T: Meets<T>, A: Allocator + Copy>(
     items: &[T],
-    roles: Roles,
     most: usize,
     out: &mut Vec<(usize, usize), A>,
 ) -> Result<(), Refusal>
-    requires boxed { MeetInBoxes T.bounds T.Meeting }
-    requires roles { FindAll T.bounds T.Meeting roles items.now }
+    requires { MeetInBoxes T.bounds T.Meeting }
     ensures ok { OnOk result (GainsAll T.Meeting items.now most out.old.items out.new.items) }
     ensures err { OnErr result (Extends out.old.items out.new.items) }
     ensures refused { IfErr result (λ cause. cause ≡ OutOfMemory) }
@@ -153,9 +127,5 @@ fn sweep_over<T: Meets<T>, A: Allocator + Copy>(
     let alloc = *out.allocator();
     let strips = strips_for(items, wanted_for(items));
     let parts = parts(alloc, items, strips)?;
-    let mut live = Live::new(alloc, strips)?;
-    let mut near = Vec::new(alloc);
-    append_pairs(
-        items, roles, most, strips, &parts, &mut live, &mut near, out,
-    )
+    append_pairs(items, most, strips, &parts, out)
 }

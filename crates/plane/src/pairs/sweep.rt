@@ -1,23 +1,21 @@
 //! The sweep from left to right in each strip, over the items that are live at an x.
 
-ghost use Rattle.std.specs.Prelude.{◌≡◌, ◌≢◌, ◌⊎◌, ℤ, ◌≤ℤ◌, true, [], All, MatchBool, OnOk, OnErr, IfErr};
+ghost use Rattle.std.specs.Prelude.{◌≡◌, ◌≢◌, ◌⊎◌, ◌≤ℤ◌, true, [], All, MatchBool, OnOk, OnErr, IfErr};
 ghost use Rattle.std.specs.Ordering.{int_cmp};
-ghost use Rattle.std.specs.declared.option.Option.TheVariants.{None, Some};
+ghost use Rattle.std.specs.declared.option.Option.TheVariants.{Some};
 ghost use Rattle.i_tree.specs.declared.Refusal.TheVariants.{OutOfMemory};
 ghost use Rattle.i_tree.specs.Seg.Members.{NotBefore};
-ghost use Rattle.plane.specs.Pairs.Bounds.{IsBox, MeetInBoxes};
+ghost use Rattle.plane.specs.Pairs.Bounds.{MeetInBoxes};
 ghost use Rattle.plane.specs.Pairs.Live.{IsIn, held};
 ghost use Rattle.plane.specs.Pairs.Pairs.{GainsAll};
 ghost use Rattle.plane.specs.Pairs.Parts.{AreParts};
-ghost use Rattle.plane.specs.Pairs.Roles.{FindAll};
 ghost use Rattle.plane.specs.Pairs.Strips.{Reaches, IsOverStrip, range_in};
-ghost use Rattle.plane.specs.Pairs.Sweep.{Extends, IsTold, GainsPair, GainsPairs, Asks, JoinsIn, Serves};
+ghost use Rattle.plane.specs.Pairs.Sweep.{Extends, IsTold, GainsPair, GainsPairs, Asks, Serves};
 
 use super::items::{Boxed, Meets};
 use super::live::Live;
 use super::parts::Part;
 use super::read_ahead::ReadAhead;
-use super::roles::Roles;
 use super::strips::Strips;
 use i_tree::seg::exp::{SegExpCollection, SegRange};
 use i_tree::{ExpiredVal, Refusal};
@@ -38,46 +36,32 @@ impl<T: Boxed> ExpiredVal<i32> for Placed<T> {
     }
 }
 
-/// Appends the pairs of places whose items meet, where their roles find them all. It stops behind an item where it has
-/// more than `most`. The tree is new, over the heights of a strip.
+/// Appends the pairs of places whose items meet. It stops behind an item where it has more than `most`.
 pub fn append_pairs<T: Meets<T>, A: Allocator + Copy>(
     items: &[T],
-    roles: Roles,
     most: usize,
     strips: Strips,
     parts: &[Part],
-    live: &mut Live<T, A>,
-    near: &mut Vec<Placed<T>, A>,
     out: &mut Vec<(usize, usize), A>,
 ) -> Result<(), Refusal>
     requires boxed { MeetInBoxes T.bounds T.Meeting }
-    requires roles { FindAll T.bounds T.Meeting roles items.now }
     requires base { All (λ item. strips.base ≤ℤ (T.bounds item).low) items.now }
     requires parts { AreParts T.bounds strips items.now parts.now }
-    requires over { IsOverStrip strips live.old.tree.buckets }
-    requires few { live.old.is_few ≡ true }
-    requires empty { live.old.few.items ≡ [] }
     ensures ok { OnOk result (GainsAll T.Meeting items.now most out.old.items out.new.items) }
     ensures err { OnErr result (Extends out.old.items out.new.items) }
     ensures refused { IfErr result (λ cause. cause ≡ OutOfMemory) }
 {
     let limit = out.len().saturating_add(most);
+    let alloc = *out.allocator();
+    let mut live = Live::new(alloc, strips)?;
     let mut strip = 0;
-    let mut ahead = ReadAhead::new(*out.allocator());
+    let mut ahead = ReadAhead::new(alloc);
     for (next, part) in parts.iter().enumerate() {
-        enter(live, strip, part.strip);
+        enter(&mut live, strip, part.strip);
         strip = part.strip;
         let place = part.place;
         let item = ahead.at(items, parts, next)?;
-        serve(
-            roles,
-            strips,
-            strip,
-            Placed { item, place },
-            live,
-            near,
-            out,
-        )?;
+        serve(strips, strip, Placed { item, place }, &mut live, out)?;
         if out.len() > limit {
             return Ok(());
         }
@@ -97,14 +81,12 @@ fn enter<T: Boxed, A: Allocator + Copy>(live: &mut Live<T, A>, strip: u32, next:
     }
 }
 
-// Appends the pairs of the item with those before it in the strip, and puts it among them, by its roles.
+// Appends the pairs of the item with those before it in the strip, and puts it among them.
 fn serve<T: Meets<T>, A: Allocator + Copy>(
-    roles: Roles,
     strips: Strips,
     strip: u32,
     placed: Placed<T>,
     live: &mut Live<T, A>,
-    near: &mut Vec<Placed<T>, A>,
     out: &mut Vec<(usize, usize), A>,
 ) -> Result<(), Refusal>
     requires boxed { MeetInBoxes T.bounds T.Meeting }
@@ -113,7 +95,7 @@ fn serve<T: Meets<T>, A: Allocator + Copy>(
     requires within { All (λ member. IsIn T.bounds strips strip member.value) (held T.bounds strips strip live.old).members }
     requires over { IsOverStrip strips live.old.tree.buckets }
     requires in_time { NotBefore int_cmp (held T.bounds strips strip live.old).latest (T.bounds placed.item).left }
-    ensures ok { OnOk result (Serves T.bounds T.Meeting roles strips strip placed live.old.tree.buckets
+    ensures ok { OnOk result (Serves T.bounds T.Meeting strips strip placed live.old.tree.buckets
         (held T.bounds strips strip live.old).members (held T.bounds strips strip live.new).members
         out.old.items out.new.items) }
     ensures err { OnErr result (Extends out.old.items out.new.items) }
@@ -123,19 +105,17 @@ fn serve<T: Meets<T>, A: Allocator + Copy>(
     ensures buckets { live.new.tree.buckets ≡ live.old.tree.buckets }
 {
     let range = strips.range_in(strip, placed.item.bounds());
-    ask(roles, strips, strip, placed, range, live, near, out)?;
-    join(roles, strips, strip, placed, range, live)
+    ask(strips, strip, placed, range, live, out)?;
+    live.join(strips, strip, placed, range)
 }
 
-// Appends the pairs of the item with those before it in the strip, over its range there, if that is its role.
+// Appends the pairs of the item with those before it in the strip, over its range there.
 fn ask<T: Meets<T>, A: Allocator + Copy>(
-    roles: Roles,
     strips: Strips,
     strip: u32,
     placed: Placed<T>,
     range: SegRange<u32>,
     live: &mut Live<T, A>,
-    near: &mut Vec<Placed<T>, A>,
     out: &mut Vec<(usize, usize), A>,
 ) -> Result<(), Refusal>
     requires boxed { MeetInBoxes T.bounds T.Meeting }
@@ -144,7 +124,7 @@ fn ask<T: Meets<T>, A: Allocator + Copy>(
     requires range { range ≡ range_in strips strip (T.bounds placed.item) }
     requires over { IsOverStrip strips live.old.tree.buckets }
     requires in_time { NotBefore int_cmp (held T.bounds strips strip live.old).latest (T.bounds placed.item).left }
-    ensures ok { OnOk result (Asks T.bounds T.Meeting roles strips strip placed live.old.tree.buckets
+    ensures ok { OnOk result (Asks T.bounds T.Meeting strips strip placed live.old.tree.buckets
         (held T.bounds strips strip live.old).members (held T.bounds strips strip live.new).members
         out.old.items out.new.items) }
     ensures err { OnErr result (Extends out.old.items out.new.items) }
@@ -154,21 +134,17 @@ fn ask<T: Meets<T>, A: Allocator + Copy>(
     ensures buckets { live.new.tree.buckets ≡ live.old.tree.buckets }
 {
     if live.is_few {
-        return ask_few(roles, strips, strip, placed, live, out);
+        return ask_few(strips, strip, placed, live, out);
     }
-    if placed.place < roles.asking {
-        return Ok(());
-    }
-    near.clear();
+    live.near.clear();
     live.tree
-        .collect_by_range(range, placed.item.bounds().left, near)?;
-    append_told(strips, strip, placed, near, out)?;
+        .collect_by_range(range, placed.item.bounds().left, &mut live.near)?;
+    append_told(strips, strip, placed, &live.near, out)?;
     Ok(())
 }
 
 // The same where few are live: all of them are gone over, but for those that have expired, which leave.
 fn ask_few<T: Meets<T>, A: Allocator + Copy>(
-    roles: Roles,
     strips: Strips,
     strip: u32,
     placed: Placed<T>,
@@ -178,7 +154,7 @@ fn ask_few<T: Meets<T>, A: Allocator + Copy>(
     requires boxed { MeetInBoxes T.bounds T.Meeting }
     requires base { strips.base ≤ℤ (T.bounds placed.item).low }
     requires few { live.old.is_few ≡ true }
-    ensures ok { OnOk result (Asks T.bounds T.Meeting roles strips strip placed live.old.tree.buckets
+    ensures ok { OnOk result (Asks T.bounds T.Meeting strips strip placed live.old.tree.buckets
         (held T.bounds strips strip live.old).members (held T.bounds strips strip live.new).members
         out.old.items out.new.items) }
     ensures err { OnErr result (Extends out.old.items out.new.items) }
@@ -187,39 +163,8 @@ fn ask_few<T: Meets<T>, A: Allocator + Copy>(
     ensures tree { live.new.tree ≡ live.old.tree }
 {
     live.drop_expired(placed.item.bounds().left);
-    if placed.place < roles.asking {
-        return Ok(());
-    }
     append_told(strips, strip, placed, &live.few, out)?;
     Ok(())
-}
-
-// Puts the item among those before it in the strip, over its range there, if that is its role.
-fn join<T: Boxed, A: Allocator + Copy>(
-    roles: Roles,
-    strips: Strips,
-    strip: u32,
-    placed: Placed<T>,
-    range: SegRange<u32>,
-    live: &mut Live<T, A>,
-) -> Result<(), Refusal>
-    requires proper { (item : T) → IsBox (T.bounds item) }
-    requires reaches { IsIn T.bounds strips strip placed }
-    requires within { All (λ member. IsIn T.bounds strips strip member.value) (held T.bounds strips strip live.old).members }
-    requires range { range ≡ range_in strips strip (T.bounds placed.item) }
-    requires over { IsOverStrip strips live.old.tree.buckets }
-    requires in_time { (time : ℤ) → (held T.bounds strips strip live.old).latest ≡ Some time
-        → time ≤ℤ (T.bounds placed.item).left }
-    ensures ok { OnOk result (JoinsIn T.bounds roles strips strip placed live.old.tree.buckets
-        (held T.bounds strips strip live.old).members (held T.bounds strips strip live.new).members) }
-    ensures refused { IfErr result (λ cause. cause ≡ OutOfMemory) }
-    ensures latest { (held T.bounds strips strip live.new).latest ≡ (held T.bounds strips strip live.old).latest }
-    ensures buckets { live.new.tree.buckets ≡ live.old.tree.buckets }
-{
-    if roles.joining <= placed.place {
-        return Ok(());
-    }
-    live.join(strips, strip, placed, range)
 }
 
 // Appends the pairs of the item with those of the others that it meets, where this strip is the one to tell them.

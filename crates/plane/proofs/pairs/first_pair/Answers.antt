@@ -3,16 +3,8 @@ use Rattle.std.specs.List.{slice_get}
 use Rattle.std.specs.Option.{MatchOption}
 use Rattle.plane.specs.Pairs.Pairs.{PairAt}
 use Rattle.plane.proofs.PairsLemmas.First.{first_told}
-use Rattle.plane.specs.Pairs.Roles.{FindAll}
-use Rattle.plane.specs.declared.pairs.roles.Roles.{Roles}
-use Rattle.plane.proofs.PairsLemmas.Roles.{FindAll-all}
 use Rattle.plane.proofs.PairsLemmas.Within.{found-within}
 use Rattle.plane.proofs.pairs.first_pair.Goals as goal
-
-pub sweep_over-requires-clause-roles : goal.sweep_over-requires-clause-roles
-sweep_over-requires-clause-roles g c =
-    subst (λ (roles : Roles). FindAll g.T.Boxed.bounds g.T.Meets.Meeting roles c.args.items.now) (sym c.all_do.ensures)
-    (FindAll-all g.T.Boxed.bounds g.T.Meets.Meeting c.args.items.now)
 
 pub returns-clause-ok : goal.returns-clause-ok
 returns-clause-ok g c =

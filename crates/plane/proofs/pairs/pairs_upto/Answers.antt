@@ -1,14 +1,6 @@
-use Rattle.std.proofs.Common.{◌≡◌, ◌-◌, length, length-append, ap, sym, subst, arith}
-use Rattle.plane.specs.Pairs.Roles.{FindAll}
-use Rattle.plane.specs.declared.pairs.roles.Roles.{Roles}
-use Rattle.plane.proofs.PairsLemmas.Roles.{FindAll-all}
+use Rattle.std.proofs.Common.{◌≡◌, ◌-◌, length, length-append, ap, arith}
 use Rattle.plane.proofs.PairsLemmas.Upto.{told_upto}
 use Rattle.plane.proofs.pairs.pairs_upto.Goals as goal
-
-pub gain_pairs-requires-clause-roles : goal.gain_pairs-requires-clause-roles
-gain_pairs-requires-clause-roles g c =
-    subst (λ (roles : Roles). FindAll g.T.Boxed.bounds g.T.Meets.Meeting roles c.args.items.now) (sym c.all_do.ensures)
-    (FindAll-all g.T.Boxed.bounds g.T.Meets.Meeting c.args.items.now)
 
 pub returns-clause-ok : goal.returns-clause-ok
 returns-clause-ok g c =

@@ -1,23 +1,16 @@
-use Rattle.std.proofs.Common.{◌≡◌, inr, false, ℕ, pos, List, SFits, w32, to_z, of_z, refl, sym, ap, subst, subst₂, ◌∙◌, rules}
+use Rattle.std.proofs.Common.{◌≡◌, false, ℕ, pos, List, SFits, w32, to_z, of_z, sym, ap, subst, subst₂, ◌∙◌, rules}
 use Rattle.std.proofs.lemmas.Bool.{cond-false}
 use Rattle.std.proofs.lemmas.Int.{to_z-of_z}
 use Rattle.i_tree.specs.Seg.Buckets.{Accepts}
 use Rattle.i_tree.specs.Seg.Members.{Member}
 use Rattle.i_tree.specs.declared.seg.exp.SegRange.{SegRange}
-use Rattle.plane.specs.Pairs.Live.{held}
 use Rattle.plane.specs.Pairs.Sweep.{Asks, GainsPairs}
 use Rattle.plane.specs.declared.pairs.items.Bounds.{Bounds}
 use Rattle.plane.specs.declared.pairs.sweep.Placed.{Placed}
 use Rattle.plane.proofs.PairsLemmas.Extends.{OnErr-always, Extends-same}
-use Rattle.plane.proofs.PairsLemmas.Serving.{Asks-called, Asks-silent}
+use Rattle.plane.proofs.PairsLemmas.Serving.{Asks-called}
 use Rattle.plane.proofs.PairsLemmas.Told.{Accepts-in}
 use Rattle.plane.proofs.pairs.sweep.ask.Goals as goal
-
-pub returns-then-placed-roles-clause-ok : goal.returns-then-placed-roles-clause-ok
-returns-then-placed-roles-clause-ok g c =
-    let members = (held g.T.Boxed.bounds c.args.strips c.args.strip c.args.live.now).members in
-    Asks-silent c.args.roles c.args.strips c.args.strip c.args.placed c.args.live.now.tree.buckets members members c.args.out.now.items c.args.out.now.items
-    c.if-placed-roles.true (inr refl) refl
 
 pub collect_by_range-requires-clause-accepted : goal.collect_by_range-requires-clause-accepted
 collect_by_range-requires-clause-accepted g c =
@@ -33,9 +26,9 @@ returns-clause-ok g c =
     let fits : SFits w32 c.bounds.result.left = search rules in
     let time = to_z-of_z w32 c.bounds.result.left fits ∙ ap (λ (box : Bounds). box.left) c.bounds.ensures in
     let many : c.args.live.now.is_few ≡ false = c.if-live.false in
-    let Asked : List (Member (Placed g.row.T.Denot)) → List (Member (Placed g.row.T.Denot)) → Type 0 = λ old new. Asks bounds g.T.Meets.Meeting c.args.roles c.args.strips c.args.strip c.args.placed c.args.live.now.tree.buckets old new c.args.out.now.items c.append_told.new.out.items in
+    let Asked : List (Member (Placed g.row.T.Denot)) → List (Member (Placed g.row.T.Denot)) → Type 0 = λ old new. Asks bounds g.T.Meets.Meeting c.args.strips c.args.strip c.args.placed c.args.live.now.tree.buckets old new c.args.out.now.items c.append_told.new.out.items in
     subst₂ Asked (sym (cond-false c.args.live.now.is_few _ c.args.live.now.tree.members many)) (sym (cond-false c.args.live.now.is_few _ c.collect_by_range.new.self.members many))
-    (Asks-called c.args.roles c.args.strips c.args.strip c.args.placed c.args.live.now.tree.buckets c.args.live.now.tree.members c.collect_by_range.new.self.members
+    (Asks-called c.args.strips c.args.strip c.args.placed c.args.live.now.tree.buckets c.args.live.now.tree.members c.collect_by_range.new.self.members
     c.args.out.now.items c.append_told.new.out.items c.clear.new.self.items c.collect_by_range.new.out.items (to_z w32 (of_z w32 c.bounds.result.left)) c.args.range time c.requires.range
     c.clear.ensures.items (c.in_ok-collect_by_range.ensures).ok
     (subst (λ (found : List (Placed g.row.T.Denot)). GainsPairs bounds g.T.Meets.Meeting c.args.strips c.args.strip c.args.placed found c.args.out.now.items c.append_told.new.out.items) c.deref.ensures.value (c.in_ok-append_told.ensures).ok)
