@@ -34,7 +34,8 @@ struct Pieces {
 
     void add(std::int64_t x0, std::int64_t y0, std::int64_t x1, std::int64_t y1) {
         std::uint64_t all = 0;
-        for (const auto number : {x0, y0, x1, y1}) all = (all ^ std::uint64_t(number)) * 0x9e3779b97f4a7c15u + (all >> 29);
+        for (const auto number : {x0, y0, x1, y1})
+            all = (all ^ std::uint64_t(number)) * 0x9e3779b97f4a7c15u + (all >> 29);
         sum += all ^ (all >> 32);
         count++;
     }
@@ -116,7 +117,9 @@ std::vector<Side> all_sides() {
     for (const auto &other : others) {
         sides.push_back({other.name, [&](const Edges &edges) {
                              Pieces pieces;
-                             const auto add = [](Pieces &pieces, itree::Edge it) { pieces.add(it.x0, it.y0, it.x1, it.y1); };
+                             const auto add = [](Pieces &pieces, itree::Edge it) {
+                                 pieces.add(it.x0, it.y0, it.x1, it.y1);
+                             };
                              other.pieces(edges, add, pieces);
                              return pieces;
                          }});
@@ -151,8 +154,8 @@ void measure(const std::string &workload, const Edges &edges) {
             std::cerr << workload << ", " << edges.size() << ": " << sides[place].first << " gives other pieces than "
                       << sides[0].first << ", " << pieces.count << " and " << least[0].answer.count << "\n";
         }
-        std::printf("%s\t%zu\t%s\t%.6f\t%.1f\t%llu\n", workload.c_str(), edges.size(), sides[place].first.c_str(), seconds,
-                    megabytes, static_cast<unsigned long long>(pieces.count));
+        std::printf("%s\t%zu\t%s\t%.6f\t%.1f\t%llu\n", workload.c_str(), edges.size(), sides[place].first.c_str(),
+                    seconds, megabytes, static_cast<unsigned long long>(pieces.count));
     }
     std::fflush(stdout);
 }

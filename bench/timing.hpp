@@ -73,7 +73,9 @@ public:
         return static_cast<std::int32_t>(numbers_() % static_cast<std::uint64_t>(std::max<std::int64_t>(limit, 1)));
     }
     template <typename Items>
-    void shuffle(Items &items) { std::shuffle(items.begin(), items.end(), numbers_); }
+    void shuffle(Items &items) {
+        std::shuffle(items.begin(), items.end(), numbers_);
+    }
 
 private:
     std::mt19937_64 numbers_;

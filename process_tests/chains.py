@@ -1,9 +1,9 @@
 """Chains of edges by clipping with fractions, which are what the mode `snap` is to answer, and chains by two wrong rules.
 
 A number rounds to the whole one at most a half below it or less than a half above it. So the points that round to a whole point
-are a square around it, with its left and its lower border and without the others. Hot points are the ends of edges and what the
-points round to in which two edges meet that aren't parallel. The chain of an edge is the hot points that a point of it rounds to.
-The pieces of a chain go from each of its points to the next.
+are a square around it, with its left and its lower border and without the others. Hot points are the ends of edges and what
+the points round to in which two edges meet that aren't parallel. The chain of an edge is the hot points that a point of it
+rounds to. The pieces of a chain go from each of its points to the next.
 """
 
 from fractions import Fraction

@@ -136,13 +136,16 @@ def help_and_document():
 
 
 def pictures():
-    """The cases that docs/pictures/sweep.svg, locate.svg, snap.svg and overlay.svg show."""
+    """The cases that docs/pictures/sweep.svg, locate.svg, snap.svg, overlay.svg and stages.svg show."""
     for mode in "sweep", "locate", "snap":
         given, wanted = (text_of(f"docs/pictures/{mode}.{kind}").encode() for kind in ("lines", "replies"))
         yield Case(f"the run of {mode}'s picture", [mode], given, Outcome(0, wanted))
     for operation in "union", "intersection", "difference", "xor":
         given, wanted = (text_of(f"docs/pictures/overlay.{kind}").encode() for kind in ("lines", operation))
         yield Case(f"the {operation} of overlay's picture", ["overlay", operation, "nonzero"], given, Outcome(0, wanted))
+    for words, kinds in (["snap"], ("edges", "chains")), (["overlay", "union", "nonzero"], ("rings", "union")):
+        given, wanted = (text_of(f"docs/pictures/stages.{kind}").encode() for kind in kinds)
+        yield Case(f"the {kinds[1]} of stages' picture", words, given, Outcome(0, wanted))
 
 
 PARTS = examples, help_and_document, pictures

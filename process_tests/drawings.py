@@ -44,7 +44,7 @@ def diamond(random, bound):
     def ring():
         middle, size = bound // 2, random.randint(1, bound // 2)
         found = [(middle, middle - size), (middle + size, middle), (middle, middle + size), (middle - size, middle)]
-        return found[random.randrange(2) * random.randrange(2):][::random.choice((1, -1))]
+        return found[random.randrange(2) * random.randrange(2) :][:: random.choice((1, -1))]
 
     return ring
 
@@ -62,7 +62,7 @@ def drawn(random, ring):
         again = random.choice(rings) if rings and not random.randrange(8) else ring()
         rings.append(random.choice((again, again, again, again[::-1], again + again[:1])))
     some = random.randrange(len(rings) + 1)
-    return Drawing(rings[:max(some, len(rings) - 3)], rings[max(some, len(rings) - 3):])
+    return Drawing(rings[: max(some, len(rings) - 3)], rings[max(some, len(rings) - 3) :])
 
 
 def said_by(random, drawing, step=0):

@@ -21,13 +21,18 @@ PLAIN = "locate", b"point 0 4", b"none\n"
 FORMS = {b"edge": 4, b"point": 2}
 
 ANSWERED = (
-    ("points before, between and behind edges", """
+    (
+        "points before, between and behind edges",
+        """
         point 6 7 -> edge 2
         edge 0 0 10 10
         point 6 5 -> none
         point 10 10 -> none
-    """),
-    ("two edges apart", """
+    """,
+    ),
+    (
+        "two edges apart",
+        """
         edge 0 0 10 10
         point 5 5 -> edge 1
         edge 0 -5 10 -5
@@ -35,15 +40,21 @@ ANSWERED = (
         point 9 -6 -> none
         point 0 0 -> edge 1
         point 10 20 -> none
-    """),
-    ("where one edge of a chain ends the next one goes on", """
+    """,
+    ),
+    (
+        "where one edge of a chain ends the next one goes on",
+        """
         edge 0 0 5 5
         edge 9 1 5 5
         point 4 4 -> edge 1
         point 5 5 -> edge 2
         point 9 1 -> none
-    """),
-    ("a touch, and an upright one and a point that cover nothing", """
+    """,
+    ),
+    (
+        "a touch, and an upright one and a point that cover nothing",
+        """
         edge 0 0 10 0
         edge 5 0 7 -3
         edge 6 -9 6 9
@@ -51,15 +62,21 @@ ANSWERED = (
         point 6 1 -> edge 1
         point 6 -1 -> edge 2
         point 6 -2 -> none
-    """),
-    ("points beside an edge from end to end", f"""
+    """,
+    ),
+    (
+        "points beside an edge from end to end",
+        f"""
         edge {LEAST} {LEAST} {GREATEST} {GREATEST}
         point 0 0 -> edge 1
         point 1 0 -> none
         point {LEAST} {LEAST} -> edge 1
         point {GREATEST} {GREATEST} -> none
-    """),
-    ("a chain, and a point at each of its corners", """
+    """,
+    ),
+    (
+        "a chain, and a point at each of its corners",
+        """
         edge 0 0 4 2
         edge 4 2 6 -2
         edge 9 0 6 -2
@@ -67,21 +84,30 @@ ANSWERED = (
         point 4 2 -> edge 2
         point 6 -2 -> edge 3
         point 9 0 -> none
-    """),
-    ("between two heights that are no whole numbers", """
+    """,
+    ),
+    (
+        "between two heights that are no whole numbers",
+        """
         edge 0 0 3 1
         edge 0 1 3 2
         point 1 0 -> none
         point 1 1 -> edge 1
         point 2 1 -> edge 1
         point 2 2 -> edge 2
-    """),
-    ("upright ones and points cover nothing", """
+    """,
+    ),
+    (
+        "upright ones and points cover nothing",
+        """
         edge 3 0 3 4
         edge 3 2 3 2
         point 3 9 -> none
-    """),
-    ("edges that touch, end on each other, or go through an upright one", """
+    """,
+    ),
+    (
+        "edges that touch, end on each other, or go through an upright one",
+        """
         edge 0 0 10 0
         edge 5 0 7 -3
         edge 2 -5 2 5
@@ -91,8 +117,11 @@ ANSWERED = (
         point 6 -1 -> edge 2
         point 6 -2 -> none
         point 2 1 -> edge 4
-    """),
-    ("corners from which two edges go to the right", """
+    """,
+    ),
+    (
+        "corners from which two edges go to the right",
+        """
         edge 9 9 0 0
         edge 0 0 9 5
         edge 4 -3 0 -3
@@ -101,34 +130,47 @@ ANSWERED = (
         point 0 7 -> edge 1
         point 0 -1 -> edge 3
         point 2 -4 -> edge 4
-    """),
-    ("blank lines count", """
+    """,
+    ),
+    (
+        "blank lines count",
+        """
         point 2 1 -> edge 5
 
         edge 0 0 4 0
 
         edge 4 1 0 1
         point 2 0 -> edge 3
-    """),
-    ("one point twice", """
+    """,
+    ),
+    (
+        "one point twice",
+        """
         point 1 7 -> edge 2
         edge 2 7 0 7
 
         point 1 7 -> edge 2
-    """),
+    """,
+    ),
     ("edges alone", "edge 0 0 1 1"),
-    ("from end to end", f"""
+    (
+        "from end to end",
+        f"""
         edge {LEAST} {LEAST} {GREATEST} {GREATEST}
         edge {GREATEST} {GREATEST} {LEAST} {LEAST + 1}
         point {LEAST} {LEAST} -> edge 1
         point {LEAST} {GREATEST} -> edge 2
         point {GREATEST - 1} {GREATEST - 1} -> edge 1
         point {GREATEST} {GREATEST} -> none
-    """),
-    ("signs and zeros", """
+    """,
+    ),
+    (
+        "signs and zeros",
+        """
         edge +0 -0 010 -5
         point -0 -0 -> edge 1
-    """),
+    """,
+    ),
 )
 
 # Each with the lines of the edges that cross.
@@ -141,10 +183,14 @@ CROSSING = (
     ("behind the last point", (3, 4), ("edge 0 0 1 0", "point 0 0", "edge 50 0 60 10", "edge 50 10 60 0")),
     ("behind the end of the one between", (1, 2), ("edge 0 0 10 10", "edge 0 9 10 0", "edge 0 5 2 5")),
     ("within one", (1, 2), ("edge 0 0 1 1", "edge 0 1 1 0")),
-    ("by very little", (1, 2), (
-        f"edge {LEAST} {LEAST} {GREATEST} {GREATEST}",
-        f"edge {LEAST} {LEAST + 1} {GREATEST} {GREATEST - 1}",
-    )),
+    (
+        "by very little",
+        (1, 2),
+        (
+            f"edge {LEAST} {LEAST} {GREATEST} {GREATEST}",
+            f"edge {LEAST} {LEAST + 1} {GREATEST} {GREATEST - 1}",
+        ),
+    ),
 )
 
 # Lines that are faulty.

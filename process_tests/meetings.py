@@ -18,71 +18,107 @@ PLAIN = "meetings", b"edge 0 0 1 1", b"meets\n"
 FORMS = {b"edge": 4}
 
 ANSWERED = (
-    ("two that cross, a point on both, and one aside", """
+    (
+        "two that cross, a point on both, and one aside",
+        """
         edge 0 0 10 10 -> meets
         edge 0 10 10 0 -> meets 1
         edge 5 5 5 5 -> meets 1 2
         edge 20 0 20 5 -> meets
-    """),
-    ("along one line", """
+    """,
+    ),
+    (
+        "along one line",
+        """
         edge 0 0 4 4 -> meets
         edge 5 5 6 6 -> meets
         edge 6 6 2 2 -> meets 1 2
-    """),
-    ("a touch, and close by", """
+    """,
+    ),
+    (
+        "a touch, and close by",
+        """
         edge 0 0 4 0 -> meets
         edge 2 0 2 3 -> meets 1
         edge 0 0 2 1 -> meets 1 2
         edge 1 1 1 5 -> meets
-    """),
-    ("upright ones on one line", """
+    """,
+    ),
+    (
+        "upright ones on one line",
+        """
         edge 3 0 3 4 -> meets
         edge 3 7 3 4 -> meets 1
         edge 3 8 3 9 -> meets
         edge 3 9 3 5 -> meets 2 3
-    """),
-    ("one edge twice, and turned round", """
+    """,
+    ),
+    (
+        "one edge twice, and turned round",
+        """
         edge 1 2 3 5 -> meets
         edge 1 2 3 5 -> meets 1
         edge 3 5 1 2 -> meets 1 2
-    """),
-    ("points", """
+    """,
+    ),
+    (
+        "points",
+        """
         edge 7 7 7 7 -> meets
         edge 7 8 7 8 -> meets
         edge 7 7 7 7 -> meets 1
-    """),
-    ("one point twice", """
+    """,
+    ),
+    (
+        "one point twice",
+        """
         edge 1 1 1 1 -> meets
         edge 1 1 1 1 -> meets 1
-    """),
-    ("from end to end, and points", f"""
+    """,
+    ),
+    (
+        "from end to end, and points",
+        f"""
         edge {LEAST} {LEAST} {GREATEST} {GREATEST} -> meets
         edge {LEAST} {GREATEST} -1 0 -> meets
         edge 0 0 0 0 -> meets 1
         edge -1 0 -1 0 -> meets 2
-    """),
-    ("three through one point", """
+    """,
+    ),
+    (
+        "three through one point",
+        """
         edge -2 -2 2 2 -> meets
         edge -2 2 2 -2 -> meets 1
         edge 0 -3 0 3 -> meets 1 2
-    """),
-    ("blank lines count", """
+    """,
+    ),
+    (
+        "blank lines count",
+        """
 
         edge 0 0 4 0 -> meets
 
         edge 2 0 2 3 -> meets 1
         edge 4 0 2 3 -> meets 1 3
-    """),
-    ("from end to end", f"""
+    """,
+    ),
+    (
+        "from end to end",
+        f"""
         edge {LEAST} {LEAST} {GREATEST} {GREATEST} -> meets
         edge {LEAST} {GREATEST} {GREATEST} {LEAST} -> meets 1
         edge {LEAST} {GREATEST} -1 0 -> meets 2
         edge 0 0 0 0 -> meets 1
-    """),
-    ("signs and zeros", """
+    """,
+    ),
+    (
+        "signs and zeros",
+        """
         edge +0 -0 010 -5 -> meets
         edge 0 0 0 0 -> meets 1
-    """),
+    """,
+    ),
 )
 
 # Lines that are faulty.

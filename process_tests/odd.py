@@ -55,7 +55,7 @@ def sound_line(random, forms):
 def spoilt(random, text):
     """The text with an odd byte more, or in place of another, or with a byte less."""
     at, less = random.randrange(len(text) + 1), random.randrange(2)
-    return text[:at] + bytes(random.choices(ODD, k=random.randrange(2))) + text[at + less:]
+    return text[:at] + bytes(random.choices(ODD, k=random.randrange(2))) + text[at + less :]
 
 
 def texts_by_chance(forms):

@@ -46,45 +46,74 @@ ANSWERED = (
     ("over a corner: the one", "difference nonzero", f"subject {SQUARE}\nclip {CORNER}", "polygon 0 0 4 0 4 2 2 2 2 4 0 4"),
     ("over a corner: the other", "difference nonzero", f"clip {SQUARE}\nsubject {CORNER}", "polygon 2 4 4 4 4 2 6 2 6 6 2 6"),
     ("side by side", "union nonzero", "subject 0 0 2 0 2 2 0 2\nclip 2 0 4 0 4 2 2 2", "polygon 0 0 4 0 4 2 0 2"),
-    ("a hole, and a polygon in it", "union evenodd", """
+    (
+        "a hole, and a polygon in it",
+        "union evenodd",
+        """
         subject 0 0 9 0 9 9 0 9
         subject 1 1 8 1 8 8 1 8
         subject 2 2 7 2 7 7 2 7
-    """, """
+    """,
+        """
         polygon 0 0 9 0 9 9 0 9
         hole 1 1 1 8 8 8 8 1
         polygon 2 2 7 2 7 7 2 7
-    """),
-    ("two polygons with holes", "difference nonzero", """
+    """,
+    ),
+    (
+        "two polygons with holes",
+        "difference nonzero",
+        """
         subject 0 0 4 0 4 4 0 4
         clip 11 1 13 1 13 3 11 3
         subject 10 0 14 0 14 4 10 4
         clip 1 1 3 1 3 3 1 3
-    """, """
+    """,
+        """
         polygon 0 0 4 0 4 4 0 4
         hole 1 1 1 3 3 3 3 1
         polygon 10 0 14 0 14 4 10 4
         hole 11 1 11 3 13 3 13 1
-    """),
+    """,
+    ),
     ("a bow tie", "union nonzero", "subject 0 0 4 4 4 0 0 4", "polygon 0 0 2 2 0 4\npolygon 2 2 4 0 4 4"),
     ("a bow tie, by the rule of its one half", "union positive", "subject 0 0 4 4 4 0 0 4", "polygon 0 0 2 2 0 4"),
-    ("all of the plane but a frame", "union nonzero", f"""
+    (
+        "all of the plane but a frame",
+        "union nonzero",
+        f"""
         subject {LEAST} {LEAST} {GREATEST} {LEAST} {GREATEST} {GREATEST} {LEAST} {GREATEST}
         clip 0 0 1 0 1 1 0 1
-    """, f"polygon {LEAST} {LEAST} {GREATEST} {LEAST} {GREATEST} {GREATEST} {LEAST} {GREATEST}"),
-    ("a hole in nearly all of the plane", "xor nonzero", f"""
+    """,
+        f"polygon {LEAST} {LEAST} {GREATEST} {LEAST} {GREATEST} {GREATEST} {LEAST} {GREATEST}",
+    ),
+    (
+        "a hole in nearly all of the plane",
+        "xor nonzero",
+        f"""
         clip {LEAST} {LEAST} {GREATEST} {LEAST} {GREATEST} {GREATEST} {LEAST} {GREATEST}
         subject 0 0 1 0 1 1 0 1
-    """, f"""
+    """,
+        f"""
         polygon {LEAST} {LEAST} {GREATEST} {LEAST} {GREATEST} {GREATEST} {LEAST} {GREATEST}
         hole 0 0 0 1 1 1 1 0
-    """),
+    """,
+    ),
 )
 
 # Lines that are faulty.
 FAULTY = (
     *("subject 0", "clip 0 0 1", "subject 0 0 1 x", "Subject 0 0 1 1", "subjects 0 0", "clips", "ring 0 0 1 1 2 0"),
-    *("polygon 0 0", "subject 0 2147483648", "clip -2147483649 0", "hole 0 0", "edge 0 0 1 1", "point 0 0", "clear", "0 0 1 0 1 1"),
+    *(
+        "polygon 0 0",
+        "subject 0 2147483648",
+        "clip -2147483649 0",
+        "hole 0 0",
+        "edge 0 0 1 1",
+        "point 0 0",
+        "clear",
+        "0 0 1 0 1 1",
+    ),
 )
 
 # A triangle, whose polygon begins at its leftmost point, and a run for memory that is refused.
@@ -206,8 +235,8 @@ def told_problems(mode, drawings, step, told):
         found[place].append([[(x - place * (step or 0), y) for x, y in ring] for ring in polygon])
     for (drawing, points), its in zip(drawings, found):
         made = edges_of([ring for polygon in its for ring in polygon])
-        starts = [(x0 * IN_ONE, y0 * IN_ONE) for x0, y0, _, _ in made[:LOOKS // 4]]
-        middles = [((x0 + x1) * IN_ONE // 2, (y0 + y1) * IN_ONE // 2) for x0, y0, x1, y1 in made[-LOOKS // 4:]]
+        starts = [(x0 * IN_ONE, y0 * IN_ONE) for x0, y0, _, _ in made[: LOOKS // 4]]
+        middles = [((x0 + x1) * IN_ONE // 2, (y0 + y1) * IN_ONE // 2) for x0, y0, x1, y1 in made[-LOOKS // 4 :]]
         for problem in problems(drawing, its, rule, operation, points + starts + middles):
             return f"{problem}: {its}, of {' / '.join(said_by(Random(0), drawing))}".encode()
     return b""
@@ -225,12 +254,12 @@ def by_chance(mode, seed):
         ring, step = kind(random, bound), bound + 3
         drawings = [(drawing, looks(random, drawing)) for drawing in (drawn(random, ring) for _ in range(count))]
         for at in range(0, count, TOGETHER):
-            some = drawings[at:at + TOGETHER]
+            some = drawings[at : at + TOGETHER]
             said = [said_by(random, drawing, place * step) for place, (drawing, _) in enumerate(some)]
             given = lines(*chain.from_iterable(said))
             name = f"{mode}: {len(some)} drawings of rings {kind.__name__} to {bound}"
             yield looked_at(name, mode, given, some, step)
-        for drawing, points in drawings[:count // 10]:
+        for drawing, points in drawings[: count // 10]:
             given = lines(*said_by(random, drawing))
             yield looked_at(f"{mode}: {given!r}", mode, given, [(drawing, points)])
 

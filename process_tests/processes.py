@@ -18,7 +18,7 @@ class Line(bytes):
     """Stands for each line that begins with these bytes and goes on, if it does, behind a colon."""
 
     def __eq__(self, got):
-        rest = got[len(self):]
+        rest = got[len(self) :]
         return got.startswith(bytes(self)) and rest[:1] in (b":", b"\n") and rest.find(b"\n") == len(rest) - 1
 
     __hash__ = bytes.__hash__

@@ -57,7 +57,7 @@ def shown(wanted, got):
     start = len(os.path.commonprefix([wanted, got]))
     line = wanted.count(b"\n", 0, start) + 1
     cut = "{!r} from byte {}, line {}, of {} bytes"
-    return tuple(cut.format(text[start:start + SHOWN], start, line, len(text)) for text in (wanted, got))
+    return tuple(cut.format(text[start : start + SHOWN], start, line, len(text)) for text in (wanted, got))
 
 
 def told(program, case, got):

@@ -139,11 +139,11 @@ def of_mode(mode, some, told_of, count=SETS, in_few=IN_FEW):
     if len(whole) < count // 4:
         raise ValueError(f"{mode}: nearly all sets have faults")
     for at in range(0, len(whole), TOGETHER):
-        yield in_one_text(f"small sets by chance from {at} on", mode, told_of, whole[at:at + TOGETHER])
+        yield in_one_text(f"small sets by chance from {at} on", mode, told_of, whole[at : at + TOGETHER])
     random, at = Random(SEED), 0
     while at < in_few:
         size = random.randint(1, FEW)
-        yield in_one_text(f"a few small sets by chance from {at} on", mode, told_of, sets[at:at + size])
+        yield in_one_text(f"a few small sets by chance from {at} on", mode, told_of, sets[at : at + size])
         at += size
 
 

@@ -23,51 +23,83 @@ FORMS = {b"edge": 4}
 ANSWERED = (
     ("nothing at all", ""),
     ("one alone", "edge 3 1 -4 1 -> chain 3 1 -4 1"),
-    ("two through a whole point", """
+    (
+        "two through a whole point",
+        """
         edge 0 0 10 10 -> chain 0 0 5 5 10 10
         edge 0 10 10 0 -> chain 0 10 5 5 10 0
-    """),
-    ("two through halves, which go up", """
+    """,
+    ),
+    (
+        "two through halves, which go up",
+        """
         edge 0 0 3 1 -> chain 0 0 2 1 3 1
         edge 0 1 3 0 -> chain 0 1 2 1 3 0
-    """),
-    ("two through halves below zero", """
+    """,
+    ),
+    (
+        "two through halves below zero",
+        """
         edge 0 0 -3 -1 -> chain 0 0 -1 0 -3 -1
         edge 0 -1 -3 0 -> chain 0 -1 -1 0 -3 0
-    """),
-    ("two through the middle of a square", """
+    """,
+    ),
+    (
+        "two through the middle of a square",
+        """
         edge 0 0 1 1 -> chain 0 0 1 1
         edge 0 1 1 0 -> chain 0 1 1 1 1 0
-    """),
-    ("two through the middle of a square below zero", """
+    """,
+    ),
+    (
+        "two through the middle of a square below zero",
+        """
         edge 0 0 -1 -1 -> chain 0 0 -1 -1
         edge -1 0 0 -1 -> chain -1 0 0 0 0 -1
-    """),
-    ("an upright one, and one at a half that goes up", """
+    """,
+    ),
+    (
+        "an upright one, and one at a half that goes up",
+        """
         edge 0 0 2 1 -> chain 0 0 1 1 2 1
         edge 1 -2 1 2 -> chain 1 -2 1 1 1 2
-    """),
-    ("an upright one, and one at a half below zero", """
+    """,
+    ),
+    (
+        "an upright one, and one at a half below zero",
+        """
         edge 0 0 2 -1 -> chain 0 0 1 0 2 -1
         edge 1 -2 1 2 -> chain 1 -2 1 0 1 2
-    """),
-    ("a level one, and one at a half that goes right", """
+    """,
+    ),
+    (
+        "a level one, and one at a half that goes right",
+        """
         edge 0 0 1 2 -> chain 0 0 1 1 1 2
         edge -2 1 2 1 -> chain -2 1 1 1 2 1
-    """),
-    ("a level one, and one at a half below zero", """
+    """,
+    ),
+    (
+        "a level one, and one at a half below zero",
+        """
         edge 0 0 -1 2 -> chain 0 0 0 1 -1 2
         edge -2 1 2 1 -> chain -2 1 0 1 2 1
-    """),
-    ("points under and over a flat one", """
+    """,
+    ),
+    (
+        "points under and over a flat one",
+        """
         edge 0 0 100 1 -> chain 0 0 49 0 50 0 50 1 100 1
         edge 49 0 49 0 -> chain 49 0
         edge 50 0 50 0 -> chain 50 0
         edge 50 1 50 1 -> chain 50 1
         edge 49 1 49 1 -> chain 49 1
         edge 51 0 51 0 -> chain 51 0
-    """),
-    ("points left and right of a steep one, up and down", """
+    """,
+    ),
+    (
+        "points left and right of a steep one, up and down",
+        """
         edge 0 0 1 10 -> chain 0 0 0 3 0 5 1 5 1 6 1 10
         edge 1 10 0 0 -> chain 1 10 1 6 1 5 0 5 0 3 0 0
         edge 0 3 0 3 -> chain 0 3
@@ -76,118 +108,185 @@ ANSWERED = (
         edge 1 6 1 6 -> chain 1 6
         edge 0 6 0 6 -> chain 0 6
         edge 1 4 1 4 -> chain 1 4
-    """),
-    ("points left and right of a steep one that falls", """
+    """,
+    ),
+    (
+        "points left and right of a steep one that falls",
+        """
         edge 0 10 1 0 -> chain 0 10 0 5 1 5 1 0
         edge 1 0 0 10 -> chain 1 0 1 5 0 5 0 10
         edge 0 5 0 5 -> chain 0 5
         edge 1 5 1 5 -> chain 1 5
         edge 0 4 0 4 -> chain 0 4
         edge 1 6 1 6 -> chain 1 6
-    """),
-    ("equal ones, and one turned round", """
+    """,
+    ),
+    (
+        "equal ones, and one turned round",
+        """
         edge 0 0 4 2 -> chain 0 0 4 2
         edge 0 0 4 2 -> chain 0 0 4 2
         edge 4 2 0 0 -> chain 4 2 0 0
-    """),
-    ("one within another along one line", """
+    """,
+    ),
+    (
+        "one within another along one line",
+        """
         edge 0 0 4 4 -> chain 0 0 1 1 3 3 4 4
         edge 3 3 1 1 -> chain 3 3 1 1
-    """),
-    ("one over the end of another along one line", """
+    """,
+    ),
+    (
+        "one over the end of another along one line",
+        """
         edge 0 0 6 3 -> chain 0 0 2 1 6 3
         edge 2 1 8 4 -> chain 2 1 6 3 8 4
-    """),
-    ("two side by side, and one across", """
+    """,
+    ),
+    (
+        "two side by side, and one across",
+        """
         edge 0 0 5 1 -> chain 0 0 1 0 2 0 3 1 4 1 5 1
         edge 1 0 6 1 -> chain 1 0 2 0 3 0 4 1 5 1 6 1
         edge 2 0 4 1 -> chain 2 0 3 0 3 1 4 1
-    """),
-    ("three through a whole point", """
+    """,
+    ),
+    (
+        "three through a whole point",
+        """
         edge -2 -2 2 2 -> chain -2 -2 0 0 2 2
         edge -2 2 2 -2 -> chain -2 2 0 0 2 -2
         edge 0 -3 0 3 -> chain 0 -3 0 0 0 3
-    """),
-    ("three through halves", """
+    """,
+    ),
+    (
+        "three through halves",
+        """
         edge 0 0 3 1 -> chain 0 0 1 0 2 1 3 1
         edge 0 1 3 0 -> chain 0 1 2 1 3 0
         edge 1 0 2 1 -> chain 1 0 2 1
-    """),
-    ("one close to where two others meet", """
+    """,
+    ),
+    (
+        "one close to where two others meet",
+        """
         edge 0 0 7 7 -> chain 0 0 3 3 4 4 7 7
         edge 0 7 7 0 -> chain 0 7 4 4 4 3 7 0
         edge 2 3 8 4 -> chain 2 3 3 3 4 3 8 4
-    """),
-    ("an upright one through a sloped one, up and down", """
+    """,
+    ),
+    (
+        "an upright one through a sloped one, up and down",
+        """
         edge 0 0 5 2 -> chain 0 0 2 1 5 2
         edge 2 -3 2 3 -> chain 2 -3 2 1 2 3
         edge 2 3 2 -3 -> chain 2 3 2 1 2 -3
-    """),
-    ("a level one through an upright one", """
+    """,
+    ),
+    (
+        "a level one through an upright one",
+        """
         edge 9 1 -9 1 -> chain 9 1 2 1 -9 1
         edge 2 5 2 -5 -> chain 2 5 2 1 2 -5
-    """),
-    ("upright ones on one line, and points", """
+    """,
+    ),
+    (
+        "upright ones on one line, and points",
+        """
         edge 3 0 3 4 -> chain 3 0 3 2 3 3 3 4
         edge 3 6 3 2 -> chain 3 6 3 4 3 3 3 2
         edge 3 3 3 3 -> chain 3 3
         edge 3 7 3 7 -> chain 3 7
         edge 2 3 2 3 -> chain 2 3
-    """),
-    ("one of one point on another", """
+    """,
+    ),
+    (
+        "one of one point on another",
+        """
         edge 0 0 10 5 -> chain 0 0 4 2 10 5
         edge 4 2 4 2 -> chain 4 2
-    """),
-    ("one of one point twice", """
+    """,
+    ),
+    (
+        "one of one point twice",
+        """
         edge 7 -7 7 -7 -> chain 7 -7
         edge 7 -7 7 -7 -> chain 7 -7
-    """),
-    ("an end on another", """
+    """,
+    ),
+    (
+        "an end on another",
+        """
         edge 0 0 4 0 -> chain 0 0 2 0 4 0
         edge 2 0 2 3 -> chain 2 0 2 3
-    """),
-    ("corner to corner", f"""
+    """,
+    ),
+    (
+        "corner to corner",
+        f"""
         edge {LEAST} {LEAST} {GREATEST} {GREATEST} -> chain {LEAST} {LEAST} 0 0 {GREATEST} {GREATEST}
         edge {LEAST} {GREATEST} {GREATEST} {LEAST} -> chain {LEAST} {GREATEST} 0 0 {GREATEST} {LEAST}
-    """),
-    ("corner to corner, leftwards", f"""
+    """,
+    ),
+    (
+        "corner to corner, leftwards",
+        f"""
         edge {GREATEST} {GREATEST} {LEAST} {LEAST} -> chain {GREATEST} {GREATEST} 0 0 -1 -1 {LEAST} {LEAST}
         edge {GREATEST} {LEAST} {LEAST} {GREATEST} -> chain {GREATEST} {LEAST} 0 0 {LEAST} {GREATEST}
         edge -1 -1 -1 -1 -> chain -1 -1
-    """),
-    ("along the border of all", f"""
+    """,
+    ),
+    (
+        "along the border of all",
+        f"""
         edge {LEAST} {LEAST} {GREATEST} {LEAST} -> chain {LEAST} {LEAST} 0 {LEAST} {GREATEST} {LEAST}
         edge {GREATEST} {LEAST} {GREATEST} {GREATEST} -> chain {GREATEST} {LEAST} {GREATEST} 0 {GREATEST} {GREATEST}
         edge 0 {LEAST} {GREATEST} 0 -> chain 0 {LEAST} {GREATEST} 0
-    """),
-    ("points beside one from end to end", f"""
+    """,
+    ),
+    (
+        "points beside one from end to end",
+        f"""
         edge {LEAST} 0 {GREATEST} 1 -> chain {LEAST} 0 -1 0 0 1 {GREATEST} 1
         edge -1 0 -1 0 -> chain -1 0
         edge -1 1 -1 1 -> chain -1 1
         edge 0 0 0 0 -> chain 0 0
         edge 0 1 0 1 -> chain 0 1
-    """),
-    ("points beside one that is all but a diagonal", f"""
+    """,
+    ),
+    (
+        "points beside one that is all but a diagonal",
+        f"""
         edge {LEAST} {LEAST} {GREATEST} {GREATEST - 1} -> chain {LEAST} {LEAST} 0 -1 0 0 1 1 {GREATEST} {GREATEST - 1}
         edge 0 -1 0 -1 -> chain 0 -1
         edge 0 0 0 0 -> chain 0 0
         edge 1 1 1 1 -> chain 1 1
         edge 0 1 0 1 -> chain 0 1
         edge 1 -1 1 -1 -> chain 1 -1
-    """),
-    ("leftwards and downwards", """
+    """,
+    ),
+    (
+        "leftwards and downwards",
+        """
         edge 10 10 0 0 -> chain 10 10 5 5 0 0
         edge 10 0 0 10 -> chain 10 0 5 5 0 10
-    """),
-    ("blank lines", """
+    """,
+    ),
+    (
+        "blank lines",
+        """
 
         edge 0 0 4 0 -> chain 0 0 2 0 4 0
 
         edge 2 0 2 3 -> chain 2 0 2 3
-    """),
-    ("signs and zeros", """
+    """,
+    ),
+    (
+        "signs and zeros",
+        """
         edge +0 -0 010 -5 -> chain 0 0 10 -5
-    """),
+    """,
+    ),
 )
 
 # Edges that meet the square of 0 0 in a corner alone or pass close by it, and whether the square takes a point of them.
@@ -278,10 +377,12 @@ def worked():
     for name, is_taken, edges in CORNERS:
         for x0, y0, x1, y1 in (*edges, *(edge[2:] + edge[:2] for edge in edges)):
             between = " 0 0" if is_taken else ""
-            given, served = dialogue(f"""
+            given, served = dialogue(
+                f"""
                 edge 0 0 0 0 -> chain 0 0
                 edge {x0} {y0} {x1} {y1} -> chain {x0} {y0}{between} {x1} {y1}
-            """)
+            """
+            )
             yield answered(f"{name}, from {x0} {y0} to {x1} {y1}", "snap", given, served)
     for text in FAULTY:
         yield refused(f"the line '{text}'", "snap", lines("edge 0 0 1 1", "", text, "nonsense"), 3)
@@ -340,7 +441,7 @@ def by_chance(where, point, step, count, seed):
     together = TOGETHER if step else 1
     for at in range(0, count, together):
         name = f"sets of edges {where} by chance, {seed}, from {at} on"
-        yield in_one_text(name, sets[at:at + together], step or (0, 0))
+        yield in_one_text(name, sets[at : at + together], step or (0, 0))
 
 
 def wrong_rules(count=400):

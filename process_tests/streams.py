@@ -33,7 +33,7 @@ def in_pieces(command, given):
     def give():
         with open(write, "wb", buffering=0) as pipe, suppress(BrokenPipeError):
             for at in range(0, len(given), 3):
-                pipe.write(given[at:at + 3])
+                pipe.write(given[at : at + 3])
                 time.sleep(0.005)
 
     giver = threading.Thread(target=give)
@@ -195,14 +195,16 @@ def parts_taken():
         ("a reader that leaves", to_reader_that_leaves),
     ):
         yield Case(name, ["setlist"], b"find 4\n" * MANY, Outcome(1, replies, WRITING), how)
-    given, replies = dialogue("""
+    given, replies = dialogue(
+        """
         insert 1 -> inserted
 
         insert 22 -> inserted
         find 333 -> key 22
         delete 22 -> deleted
         find 22 -> key 1
-    """)
+    """
+    )
     yield answered("some lines in pieces", "settree", given, replies, in_pieces)
 
 

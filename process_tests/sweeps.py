@@ -19,13 +19,18 @@ PLAIN = "sweep", b"point 0 4", b"none\n"
 FORMS = {b"segment": 3, b"point": 2}
 
 ANSWERED = (
-    ("points before, between and behind segments", """
+    (
+        "points before, between and behind segments",
+        """
         point 6 7 -> below 5
         segment 0 10 5
         segment 2 6 8
         point 11 0 -> none
-    """),
-    ("nine points of three segments", """
+    """,
+    ),
+    (
+        "nine points of three segments",
+        """
         segment 0 10 5
         segment 2 6 8
         segment 6 9 3
@@ -38,59 +43,90 @@ ANSWERED = (
         point 10 4 -> none
         point 11 9 -> none
         point -1 9 -> none
-    """),
-    ("one height, one behind the other", """
+    """,
+    ),
+    (
+        "one height, one behind the other",
+        """
         segment 0 5 1
         segment 6 9 1
         point 5 1 -> below 1
         point 6 1 -> below 1
-    """),
-    ("a segment that covers nothing", """
+    """,
+    ),
+    (
+        "a segment that covers nothing",
+        """
         segment 0 9 1
         segment 5 3 1
         point 4 1 -> below 1
-    """),
-    ("two that cover nothing, with a point between", """
+    """,
+    ),
+    (
+        "two that cover nothing, with a point between",
+        """
         segment 5 3 1
         point 4 1 -> none
         segment 5 3 1
-    """),
-    ("segments side by side, and no point", """
+    """,
+    ),
+    (
+        "segments side by side, and no point",
+        """
         segment 0 5 1
         segment 6 9 1
-    """),
-    ("points before all numbers", f"""
+    """,
+    ),
+    (
+        "points before all numbers",
+        f"""
         point {LEAST} {LEAST} -> below {LEAST}
         point {GREATEST} {GREATEST} -> below {GREATEST}
         segment {LEAST} {GREATEST} {LEAST}
         segment {GREATEST} {GREATEST} {GREATEST}
-    """),
-    ("two that cover nothing", """
+    """,
+    ),
+    (
+        "two that cover nothing",
+        """
         segment 5 3 1
         segment 5 3 1
         point 4 1 -> none
-    """),
+    """,
+    ),
     ("a point alone", "point 0 0 -> none"),
-    ("one point twice", """
+    (
+        "one point twice",
+        """
         point 1 7 -> below 7
         segment 0 1 7
 
         point 1 7 -> below 7
-    """),
-    ("segments alone", """
+    """,
+    ),
+    (
+        "segments alone",
+        """
         segment 0 5 1
         segment 0 5 2
-    """),
-    ("all numbers", f"""
+    """,
+    ),
+    (
+        "all numbers",
+        f"""
         segment {LEAST} {GREATEST} {LEAST}
         point {LEAST} {LEAST} -> below {LEAST}
         point {GREATEST} {GREATEST} -> below {GREATEST}
         segment {GREATEST} {GREATEST} {GREATEST}
-    """),
-    ("signs and zeros", """
+    """,
+    ),
+    (
+        "signs and zeros",
+        """
         segment +0 010 -5
         point -0 -0 -> below -5
-    """),
+    """,
+    ),
 )
 
 # Each with the line of the segment that collides.

@@ -57,21 +57,30 @@ SPOILT = (
 
 # Lines that are faulty in these modes.
 FAULTY = (
-    (("keytree", "keylist"), (
-        *("insert", "insert 0 10 0", "insert 0 10 0 0 0", "insert 0 10 0 x", "Insert 0 10 0 0", "inserts 0 10 0 0"),
-        *("less", "less 0 -1", "less 0 -1 4 4", "less 0 - 4", "leq", "leq 0 -1", "leq 0 -1 4 4", "clear 0", "clea"),
-        *("insert 4", "delete 4", "find 4", "before 4", "query 0 1 2", "segment 0 5 1", "point 0 0", "0", "value 3"),
-    )),
-    (("settree", "setlist"), (
-        *("insert", "insert 4 4", "delete", "delete 4 4", "find", "find 4 4", "before", "before 4 4", "find x"),
-        *("FIND 4", "finds 4", "insert 0 10 0 0", "less 0 -1 4", "leq 0 -1 4", "clear", "query 0 1 2"),
-        *("segment 0 5 1", "point 0 0", "4", "key 4"),
-    )),
-    (("seg 0 128",), (
-        *("insert", "insert 0 1 2", "insert 0 1 2 3 4", "query", "query 0 1", "query 0 1 2 3", "query 0 1 two"),
-        *("clear 0", "Query 0 1 2", "find 4", "less 0 -1 4", "leq 0 -1 4", "insert 4", "delete 4", "before 4"),
-        *("segment 0 5 1", "point 0 0", "seg 0 128", "values"),
-    )),
+    (
+        ("keytree", "keylist"),
+        (
+            *("insert", "insert 0 10 0", "insert 0 10 0 0 0", "insert 0 10 0 x", "Insert 0 10 0 0", "inserts 0 10 0 0"),
+            *("less", "less 0 -1", "less 0 -1 4 4", "less 0 - 4", "leq", "leq 0 -1", "leq 0 -1 4 4", "clear 0", "clea"),
+            *("insert 4", "delete 4", "find 4", "before 4", "query 0 1 2", "segment 0 5 1", "point 0 0", "0", "value 3"),
+        ),
+    ),
+    (
+        ("settree", "setlist"),
+        (
+            *("insert", "insert 4 4", "delete", "delete 4 4", "find", "find 4 4", "before", "before 4 4", "find x"),
+            *("FIND 4", "finds 4", "insert 0 10 0 0", "less 0 -1 4", "leq 0 -1 4", "clear", "query 0 1 2"),
+            *("segment 0 5 1", "point 0 0", "4", "key 4"),
+        ),
+    ),
+    (
+        ("seg 0 128",),
+        (
+            *("insert", "insert 0 1 2", "insert 0 1 2 3 4", "query", "query 0 1", "query 0 1 2 3", "query 0 1 two"),
+            *("clear 0", "Query 0 1 2", "find 4", "less 0 -1 4", "leq 0 -1 4", "insert 4", "delete 4", "before 4"),
+            *("segment 0 5 1", "point 0 0", "seg 0 128", "values"),
+        ),
+    ),
 )
 
 # Words that are numbers, with their values.

@@ -83,7 +83,7 @@ def statuses(told):
     found, at = {}, 0
     for ended in ENDED.finditer(told):
         name, run, status = (part and part.decode() for part in ended.groups())
-        found[name] = (int(status) if run == "ended" else run), told[at:ended.start()]
+        found[name] = (int(status) if run == "ended" else run), told[at : ended.start()]
         at = ended.end()
     return found
 

@@ -12,8 +12,8 @@ from windings import HALF, PARTS as IN_ONE, Drawing, edges_of
 
 LEAST, GREATEST = -2147483648, 2147483647
 
-# A part of a run has so many edges at most, and runs of fewer edges are none. A drawing has so many times as many edges as parts,
-# and as runs, of which a ring that begins within one has one more.
+# A part of a run has so many edges at most, and runs of fewer edges are none. A drawing has so many times as many edges as
+# parts, and as runs, of which a ring that begins within one has one more.
 MOST, FEWEST, TIMES, RUN_TIMES = 64, 4, 8, 24
 
 # So many edges a run has: about as many as one part or two have with an edge at each end, or more, beside which others may lie.
@@ -169,7 +169,7 @@ def some_run(random, rings):
     found = random.choice([it for ring in rings for it in runs_of(ring) if len(it) > 2] or [rings[0][:2]])
     count = random.choice((len(found), 3, *[random.randrange(3, 20)] * 4, *[random.randrange(3, 80)] * 2))
     start = random.randrange(max(1, len(found) - count + 1))
-    return found[start:start + count]
+    return found[start : start + count]
 
 
 def closed(random, piece, up):
@@ -207,7 +207,11 @@ def across(random, rings, far):
     x, y = random.choice(some_run(random, rings))
     aside, wide = random.choice((0, 0, 1, -1, 2)), random.choice((0, 1, 1, 2, 1 + far // 8))
     low, high = away(random, far), away(random, far)
-    points = (x + aside, y - low), (x + aside + wide, y - low - random.randrange(3)), (x + aside + random.randrange(2), y + high)
+    points = (
+        (x + aside, y - low),
+        (x + aside + wide, y - low - random.randrange(3)),
+        (x + aside + random.randrange(2), y + high),
+    )
     return [(clipped(x), clipped(y)) for x, y in points]
 
 
@@ -225,14 +229,14 @@ def between(random, rings, far):
     x, y = (number // IN_ONE for number in inside_of(random, part))
     side = random.choice((1, 1, 2, 3))
     found = moved([(x, y), (x + side, y), (x + side, y + side), (x, y + side)], 0, 0)
-    return found[:random.choice((3, 4))]
+    return found[: random.choice((3, 4))]
 
 
 def within(random, rings, far):
     """A ring's points moved up over its lower half and down over its upper half, the other way round."""
     ring, gap = random.choice(rings), random.choice((1, 2, 3, 1 + far // 4))
     half = len(ring) // 2
-    return (moved(ring[1:half - 1], 0, gap) + moved(ring[half + 1:-1], 0, -gap))[::-1]
+    return (moved(ring[1 : half - 1], 0, gap) + moved(ring[half + 1 : -1], 0, -gap))[::-1]
 
 
 def again(random, rings, far):
@@ -263,7 +267,7 @@ def runs_of(ring):
 def parts_of(ring):
     """The parts of several edges of the runs, of which the first and the last edge stand alone."""
     inner = [points[1:-1] for points in runs_of(ring) if len(points) > FEWEST]
-    return [points[at:at + MOST + 1] for points in inner for at in range(0, len(points) - 2, MOST)]
+    return [points[at : at + MOST + 1] for points in inner for at in range(0, len(points) - 2, MOST)]
 
 
 def count_parts(rings):
@@ -282,7 +286,7 @@ def turned(random, ring, is_mirrored, is_upset):
     """The ring from another point on, some the other way round; left and right, and under and over, may be exchanged."""
     start = random.choice((0, random.randrange(len(ring))))
     ring = ring[start:] + ring[:start]
-    return [(-1 - x if is_mirrored else x, -1 - y if is_upset else y) for x, y in ring[::random.choice((1, -1))]]
+    return [(-1 - x if is_mirrored else x, -1 - y if is_upset else y) for x, y in ring[:: random.choice((1, -1))]]
 
 
 def long_drawing(random, scale):

@@ -1,8 +1,8 @@
 """What rings wind around, which says what the mode `overlay` is to answer, and what is to hold of its polygons.
 
-The winding number of edges around a point is how many of them lie under it and go rightwards, less those that lie under it and go
-leftwards. An edge lies under a point that it covers the X of, from its lesser X up to the greater, which it doesn't cover, at a
-height that is at most the point's. Points and edges have whole coordinates here: PARTS of them are one of the program's.
+The winding number of edges around a point is how many of them lie under it and go rightwards, less those that lie under it and
+go leftwards. An edge lies under a point that it covers the X of, from its lesser X up to the greater, which it doesn't cover,
+at a height that is at most the point's. Points and edges have whole coordinates here: PARTS of them are one of the program's.
 """
 
 from collections import defaultdict

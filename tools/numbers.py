@@ -22,12 +22,13 @@ Each crate has a column, and each number a row:
 
 import os
 import pathlib
-import re
 import sys
 
+sys.dont_write_bytecode = True
+
+from contracts import clauses, functions_in, lines_without_clauses, squeezed
+
 CRATES = pathlib.Path(__file__).resolve().parent.parent / "crates"
-CLAUSE = re.compile(r"\b(requires|ensures)\*?(?: \w+)? \{")
-FUNCTION = re.compile(r"^( *)(?:pub(?:\([a-z]+\))? )?(?:const )?(?:unsafe )?(?:extern \S+ )?fn (\w+)")
 ANSWERS = {"Answers.antt", "Invariants.antt", "Proof.antt"}
 
 
@@ -36,67 +37,22 @@ def files(crate, part, ending):
     return {path: path.read_text(encoding="utf-8") for path in sorted((CRATES / crate / part).rglob(f"*{ending}"))}
 
 
-def without_comments(text):
-    """The text with its comments blanked, so that every place stays where it is."""
-    return re.sub(r"//.*", lambda found: " " * len(found.group()), text)
-
-
-def closing(text, start):
-    """The place of the brace that closes the one at `start`."""
-    depth = 0
-    for at in range(start, len(text)):
-        depth += {"{": 1, "}": -1}.get(text[at], 0)
-        if depth == 0:
-            return at
-    raise ValueError("a brace stays open")
-
-
-def clauses(text):
-    """The clauses of a source: the place of each, of its opening brace, and of its closing one."""
-    text = without_comments(text)
-    return [(found.start(), found.end() - 1, closing(text, found.end() - 1)) for found in CLAUSE.finditer(text)]
-
-
-def squeezed(text):
-    return " ".join(text.split())
-
-
 def contract_lines(text):
     """The numbers of the lines that clauses stand on."""
     found = set()
-    for start, _, end in clauses(text):
-        found.update(range(text.count("\n", 0, start) + 1, text.count("\n", 0, end) + 2))
+    for it in clauses(text):
+        found.update(range(text.count("\n", 0, it.start) + 1, text.count("\n", 0, it.end) + 2))
     return sorted(found)
-
-
-def without_clauses(text):
-    """The text with its comments and clauses blanked, and each line break where it was."""
-    blank = without_comments(text)
-    for start, _, end in clauses(text):
-        blank = blank[:start] + re.sub(r".", " ", blank[start : end + 1]) + blank[end + 1 :]
-    return blank
-
-
-def body_of(lines, start, indent):
-    """The lines of a function's first and last brace, or None where it is declared alone."""
-    first = start
-    while not lines[first].endswith(("{", "{}", ";")):
-        first += 1
-    if lines[first].endswith(";"):
-        return None
-    if lines[first].endswith("{}"):
-        return first, first
-    return first, lines.index(f"{indent}}}", first)
 
 
 def functions(text):
     """The functions with a body: the number of lines of each, of its body, its name and the number of its first line."""
-    lines = [line.rstrip() for line in without_clauses(text).splitlines()]
-    for start, line in enumerate(lines):
-        found = FUNCTION.match(line)
-        body = body_of(lines, start, found.group(1)) if found else None
-        if body:
-            yield body[1] - start + 1, body[1] - body[0] + 1, found.group(2), start + 1
+    lines = lines_without_clauses(text)
+    for it in functions_in(lines):
+        first = it.header_end
+        if not lines[first].endswith(";"):
+            last = first if lines[first].endswith("{}") else lines.index(f"{it.indent}}}", first)
+            yield last - it.line + 1, last - first + 1, it.name, it.line + 1
 
 
 def length(text):
@@ -118,9 +74,9 @@ def at(crate, path):
 def of_clauses(crate, sources):
     texts, bodies, lines = [], [], []
     for path, text in sources.items():
-        for start, brace, end in clauses(text):
-            texts.append(squeezed(text[start : end + 1]))
-            bodies.append(squeezed(text[brace : end + 1]))
+        for it in clauses(text):
+            texts.append(squeezed(text[it.start : it.end + 1]))
+            bodies.append(squeezed(text[it.brace : it.end + 1]))
         all_lines = text.splitlines()
         lines += [(len(all_lines[it - 1]), f"{at(crate, path)}:{it}") for it in contract_lines(text)]
     longest = max(lines, default=(0, "none"))

@@ -57,7 +57,9 @@ Many united(const Many &many, std::size_t begin, std::size_t end) {
 class ByBoostGeometry : public Overlay {
 public:
     explicit ByBoostGeometry(const Input &input)
-        : subject_(many_of(input.subject)), clip_(many_of(input.clip)), operation_(input.operation),
+        : subject_(many_of(input.subject)),
+          clip_(many_of(input.clip)),
+          operation_(input.operation),
           are_apart_(input.are_apart) {}
 
     void run() override {
@@ -66,10 +68,10 @@ public:
             clip_ = united(clip_, 0, clip_.size());
         }
         switch (operation_) {
-            case Operation::both: bg::intersection(subject_, clip_, found_); break;
-            case Operation::either: bg::union_(subject_, clip_, found_); break;
-            case Operation::first_alone: bg::difference(subject_, clip_, found_); break;
-            default: bg::sym_difference(subject_, clip_, found_);
+        case Operation::both: bg::intersection(subject_, clip_, found_); break;
+        case Operation::either: bg::union_(subject_, clip_, found_); break;
+        case Operation::first_alone: bg::difference(subject_, clip_, found_); break;
+        default: bg::sym_difference(subject_, clip_, found_);
         }
     }
 

@@ -31,10 +31,10 @@ public:
     void run() override {
         Set found;
         switch (operation_) {
-            case Operation::both: found = subject_ & clip_; break;
-            case Operation::either: found = subject_ | clip_; break;
-            case Operation::first_alone: found = subject_ - clip_; break;
-            default: found = subject_ ^ clip_;
+        case Operation::both: found = subject_ & clip_; break;
+        case Operation::either: found = subject_ | clip_; break;
+        case Operation::first_alone: found = subject_ - clip_; break;
+        default: found = subject_ ^ clip_;
         }
         found.get(polygons_);
     }

@@ -36,10 +36,10 @@ public:
         found.join(subject_.begin(), subject_.end());
         clip.join(clip_.begin(), clip_.end());
         switch (operation_) {
-            case Operation::both: found.intersection(clip); break;
-            case Operation::either: found.join(clip); break;
-            case Operation::first_alone: found.difference(clip); break;
-            default: found.symmetric_difference(clip);
+        case Operation::both: found.intersection(clip); break;
+        case Operation::either: found.join(clip); break;
+        case Operation::first_alone: found.difference(clip); break;
+        default: found.symmetric_difference(clip);
         }
         found.polygons_with_holes(std::back_inserter(found_));
     }

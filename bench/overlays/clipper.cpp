@@ -21,10 +21,10 @@ Paths paths_of(const Shape &shape) {
 
 ClipType type_of(Operation operation) {
     switch (operation) {
-        case Operation::both: return ctIntersection;
-        case Operation::either: return ctUnion;
-        case Operation::first_alone: return ctDifference;
-        default: return ctXor;
+    case Operation::both: return ctIntersection;
+    case Operation::either: return ctUnion;
+    case Operation::first_alone: return ctDifference;
+    default: return ctXor;
     }
 }
 

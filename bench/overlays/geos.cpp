@@ -10,8 +10,11 @@ namespace {
 class ByGeos : public Overlay {
 public:
     ByGeos(const Input &input, bool is_on_grid)
-        : subject_(shape_of(input.subject)), clip_(shape_of(input.clip)), operation_(input.operation),
-          are_apart_(input.are_apart), is_on_grid_(is_on_grid) {}
+        : subject_(shape_of(input.subject)),
+          clip_(shape_of(input.clip)),
+          operation_(input.operation),
+          are_apart_(input.are_apart),
+          is_on_grid_(is_on_grid) {}
 
     ~ByGeos() override { GEOS_finish_r(geos_); }
 
@@ -65,17 +68,16 @@ private:
     GEOSGeometry *overlaid() const {
         const bool grid = is_on_grid_;
         switch (operation_) {
-            case Operation::both:
-                return grid ? GEOSIntersectionPrec_r(geos_, subject_, clip_, 1)
-                            : GEOSIntersection_r(geos_, subject_, clip_);
-            case Operation::either:
-                return grid ? GEOSUnionPrec_r(geos_, subject_, clip_, 1) : GEOSUnion_r(geos_, subject_, clip_);
-            case Operation::first_alone:
-                return grid ? GEOSDifferencePrec_r(geos_, subject_, clip_, 1)
-                            : GEOSDifference_r(geos_, subject_, clip_);
-            default:
-                return grid ? GEOSSymDifferencePrec_r(geos_, subject_, clip_, 1)
-                            : GEOSSymDifference_r(geos_, subject_, clip_);
+        case Operation::both:
+            return grid ? GEOSIntersectionPrec_r(geos_, subject_, clip_, 1)
+                        : GEOSIntersection_r(geos_, subject_, clip_);
+        case Operation::either:
+            return grid ? GEOSUnionPrec_r(geos_, subject_, clip_, 1) : GEOSUnion_r(geos_, subject_, clip_);
+        case Operation::first_alone:
+            return grid ? GEOSDifferencePrec_r(geos_, subject_, clip_, 1) : GEOSDifference_r(geos_, subject_, clip_);
+        default:
+            return grid ? GEOSSymDifferencePrec_r(geos_, subject_, clip_, 1)
+                        : GEOSSymDifference_r(geos_, subject_, clip_);
         }
     }
 

@@ -26,10 +26,10 @@ struct Rings {
 
 std::int32_t code_of(Operation operation) {
     switch (operation) {
-        case Operation::both: return ITREE_INTERSECTION;
-        case Operation::either: return ITREE_UNION;
-        case Operation::first_alone: return ITREE_DIFFERENCE;
-        default: return ITREE_XOR;
+    case Operation::both: return ITREE_INTERSECTION;
+    case Operation::either: return ITREE_UNION;
+    case Operation::first_alone: return ITREE_DIFFERENCE;
+    default: return ITREE_XOR;
     }
 }
 

@@ -217,9 +217,10 @@ int32_t itree_overlay(const struct itree_point *subject, size_t subject_count, c
         return ITREE_POINTER;
     }
     limits_begin();
-    return limits_end(proved_itree_overlay(
-        slice(subject, subject_count), subject_count, slice(subject_ends, subject_rings), subject_rings,
-        slice(clip, clip_count), clip_count, slice(clip_ends, clip_rings), clip_rings, rule, operation, polygons));
+    return limits_end(proved_itree_overlay(slice(subject, subject_count), subject_count,
+                                           slice(subject_ends, subject_rings), subject_rings, slice(clip, clip_count),
+                                           clip_count, slice(clip_ends, clip_rings), clip_rings, rule, operation,
+                                           polygons));
 }
 
 size_t itree_polygons_points(const struct itree_polygons *polygons, const struct itree_point **first) {

@@ -332,9 +332,7 @@ public:
     [[nodiscard]] Iterator begin() const noexcept { return {points_, offsets_}; }
     [[nodiscard]] Iterator end() const noexcept { return {points_, offsets_ + count_}; }
     /// The points of all chains, one chain behind the other.
-    [[nodiscard]] Span<Point> points() const noexcept {
-        return {points_, offsets_ == nullptr ? 0 : offsets_[count_]};
-    }
+    [[nodiscard]] Span<Point> points() const noexcept { return {points_, offsets_ == nullptr ? 0 : offsets_[count_]}; }
     /// Where each chain begins among the points, and at last how many points there are: `size() + 1` numbers, or none
     /// where nothing was taken over.
     [[nodiscard]] Span<std::size_t> offsets() const noexcept {
@@ -1218,10 +1216,9 @@ inline Pairs points_in(Span<Point> points, const Layer &shapes, FillRule rule, B
 inline Pieces clip_lines(const Rings &lines, const Rings &rings, Side side, FillRule rule) {
     const ::itree_lines lines_of_c{lines.points.data(), lines.points.size(), lines.ends.data(), lines.ends.size()};
     ::itree_polygons *handle = nullptr;
-    throw_unless_shapes_answered(::itree_clip_lines(&lines_of_c, rings.points.data(), rings.points.size(),
-                                                    rings.ends.data(), rings.ends.size(),
-                                                    static_cast<std::int32_t>(rule), static_cast<std::int32_t>(side),
-                                                    &handle));
+    throw_unless_shapes_answered(
+        ::itree_clip_lines(&lines_of_c, rings.points.data(), rings.points.size(), rings.ends.data(), rings.ends.size(),
+                           static_cast<std::int32_t>(rule), static_cast<std::int32_t>(side), &handle));
     return Pieces(handle);
 }
 
@@ -1307,8 +1304,7 @@ template <typename Subjects, typename Clips>
 /// The same of positions, which are first rounded to the grid.
 template <typename Subjects, typename Clips>
 [[nodiscard]] Overlays overlay_groups(const Subjects &subjects, const Groups &subject_groups, const Clips &clips,
-                                      const Groups &clip_groups, Operation operation, FillRule rule,
-                                      const Grid &grid) {
+                                      const Groups &clip_groups, Operation operation, FillRule rule, const Grid &grid) {
     const auto subject_shapes = detail::shapes_on(grid, subjects);
     const auto clip_shapes = detail::shapes_on(grid, clips);
     return detail::overlay_groups(subject_shapes, subject_groups, clip_shapes, clip_groups, operation, rule);

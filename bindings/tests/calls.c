@@ -347,7 +347,8 @@ static void checks_first_meeting(void) {
     check("two that meet", itree_first_meeting(edges, 40, &first, &second) == ITREE_MEETING && second == 39);
     check("nobody asks which", itree_first_meeting(edges, 40, NULL, NULL) == ITREE_MEETING);
     check("no edges for two", itree_first_meeting(NULL, 1, &first, &second) == ITREE_POINTER);
-    check("a number at an odd address", itree_first_meeting(edges, 1, (void *)((char *)edges + 1), NULL) == ITREE_POINTER);
+    check("a number at an odd address",
+          itree_first_meeting(edges, 1, (void *)((char *)edges + 1), NULL) == ITREE_POINTER);
     check("null for no edges of which two meet", itree_first_meeting(NULL, 0, NULL, NULL) == ITREE_ANSWERED);
 }
 
@@ -393,7 +394,8 @@ static void checks_how_they_meet(void) {
     check("it takes no memory", itree_how_they_meet(&least, &other, &kind) == ITREE_ANSWERED);
     refuse_after(SIZE_MAX);
     check("edges from end to end cross", kind == ITREE_EDGES_CROSS);
-    check("an edge and itself", itree_how_they_meet(&least, &least, &kind) == ITREE_ANSWERED && kind == ITREE_EDGES_SHARE);
+    check("an edge and itself",
+          itree_how_they_meet(&least, &least, &kind) == ITREE_ANSWERED && kind == ITREE_EDGES_SHARE);
     uint64_t words[8] = {0};
     char *const odd = (char *)words + 1;
     kind = 77;
@@ -619,7 +621,8 @@ static void checks_null(void) {
     check("null for no segments", itree_below(NULL, 0, &point, 1, &height, 1, NULL) == ITREE_ANSWERED && !height.found);
     check("null for no points", itree_below(&segment, 1, NULL, 0, NULL, 0, NULL) == ITREE_ANSWERED);
     check("null for no heights", itree_below(&segment, 1, &point, 1, NULL, 0, NULL) == ITREE_LENGTHS);
-    check("null for no edges", itree_locate(NULL, 0, &point, 1, &place, 1, NULL, NULL) == ITREE_ANSWERED && !place.found);
+    check("null for no edges",
+          itree_locate(NULL, 0, &point, 1, &place, 1, NULL, NULL) == ITREE_ANSWERED && !place.found);
     check("pairs are counted", itree_meetings(edges, 2, NULL, 0, &count) == ITREE_ANSWERED && count == 1);
     const struct itree_segment twice[] = {{0, 9, 1}, {3, 4, 1}};
     check("an overlap isn't told", itree_below(twice, 2, NULL, 0, NULL, 0, NULL) == ITREE_OVERLAP);
@@ -646,7 +649,8 @@ static void checks_faulty_pointers(void) {
     check("no points to locate", itree_locate(&edge, 1, NULL, 1, &place, 1, &first, &second) == ITREE_POINTER);
     check("no places", itree_locate(&edge, 1, &point, 1, NULL, 1, &first, &second) == ITREE_POINTER);
     check("segments at an odd address", itree_below((void *)odd, 1, &point, 1, &height, 1, &first) == ITREE_POINTER);
-    check("an overlap at an odd address", itree_below(&segment, 1, &point, 1, &height, 1, (void *)odd) == ITREE_POINTER);
+    check("an overlap at an odd address",
+          itree_below(&segment, 1, &point, 1, &height, 1, (void *)odd) == ITREE_POINTER);
     check("pairs at an odd address", itree_meetings(&edge, 1, (void *)odd, 1, &first) == ITREE_POINTER);
     check("places at an odd address", itree_locate(&edge, 1, &point, 1, (void *)odd, 1, &first, NULL) == ITREE_POINTER);
     check("more edges than memory", itree_meetings(&edge, SIZE_MAX / 16, NULL, 0, &first) == ITREE_POINTER);
@@ -678,7 +682,8 @@ static void checks_snap(void) {
     check("both are broken where it rounds to", is_chain(chains, 0, up, 3) && is_chain(chains, 1, down, 3));
     memset(itree_chains_points(chains), 0x5a, 6 * sizeof(struct itree_point));
     memset(itree_chains_offsets(chains), 0x5a, 3 * sizeof(size_t));
-    check("points and offsets may be written", itree_chains_count(chains) == 2 && itree_chains_point_count(chains) == 6);
+    check("points and offsets may be written",
+          itree_chains_count(chains) == 2 && itree_chains_point_count(chains) == 6);
     itree_chains_free(chains);
     const struct itree_edge last[] = {{7, 8, 7, 8}, {INT32_MIN, INT32_MIN, INT32_MAX, INT32_MAX}};
     const struct itree_point point = {7, 8}, ends[] = {{INT32_MIN, INT32_MIN}, {INT32_MAX, INT32_MAX}};

@@ -83,7 +83,8 @@ void checks_braces() {
     const std::vector<itree::Pair> wanted{{0, 1}};
     check("edges in braces", itree::meetings({{0, 0, 9, 9}, {0, 9, 9, 0}}) == wanted);
     check("an edge and a point in braces", itree::locate({{0, 0, 9, 9}}, {{0, 7}}).front() == 0u);
-    check("nothing in braces", itree::below({}, {}).empty() && itree::meetings({}).empty() && itree::locate({}, {}).empty());
+    check("nothing in braces",
+          itree::below({}, {}).empty() && itree::meetings({}).empty() && itree::locate({}, {}).empty());
 }
 
 void checks_equality() {
@@ -181,23 +182,24 @@ void checks_pairs() {
         const auto edges = random_edges(random, round % 14);
         auto pairs = itree::meetings_all(edges);
         std::sort(pairs.begin(), pairs.end());
-        ok = ok && sorted({pairs.begin(), pairs.end()}) == plain::meetings(edges) && pairs.empty() == (pairs.size() == 0);
+        ok = ok && sorted({pairs.begin(), pairs.end()}) == plain::meetings(edges) &&
+             pairs.empty() == (pairs.size() == 0);
     }
     check("pairs where the library wrote them, which are sorted there", ok);
     const std::vector<itree::Edge> edges{{0, 0, 9, 9}, {0, 9, 9, 0}};
     auto pairs = itree::meetings_all(edges);
     const itree::Pair *const first = pairs.data();
     auto moved = std::move(pairs);
-    check("pairs that are moved stay where they are", moved.data() == first && moved.size() == 1 && moved[0].second == 1);
+    check("pairs that are moved stay where they are",
+          moved.data() == first && moved.size() == 1 && moved[0].second == 1);
     pairs = itree::meetings_all({});
     check("no pairs", pairs.empty() && pairs.data() == nullptr && pairs.begin() == pairs.end());
     pairs = std::move(moved);
     check("pairs are taken over", pairs.size() == 1 && pairs.data() == first);
     moved = itree::Pairs();
     check("nothing is a pair", moved.empty() && !std::is_copy_constructible_v<itree::Pairs>);
-    check("they are taken to another thread", std::async(std::launch::async, [it = std::move(pairs)] {
-                                                  return it.size();
-                                              }).get() == 1);
+    check("they are taken to another thread",
+          std::async(std::launch::async, [it = std::move(pairs)] { return it.size(); }).get() == 1);
     std::size_t requests = 0;
     for (bool refused = true; refused; requests++) {
         refuse_after(requests);
@@ -281,7 +283,8 @@ void checks_snap() {
     check("and at none", copied(itree::snap(slanted)) == Chains{{{0, 0}, {2, 1}, {3, 1}}, {{0, 1}, {2, 1}, {3, 0}}});
     check("a point in braces", copied(itree::snap({{7, 8, 7, 8}})) == Chains{{{7, 8}}});
     auto chains = itree::snap(whole);
-    check("a chain by its place", chains.size() == 2 && chains[1].size() == 3 && chains[1].front() == itree::Point{0, 10});
+    check("a chain by its place",
+          chains.size() == 2 && chains[1].size() == 3 && chains[1].front() == itree::Point{0, 10});
     check("its last point", chains[1].back() == itree::Point{10, 0} && chains[1][1] == itree::Point{5, 5});
     const auto offsets = chains.offsets();
     const std::vector<std::size_t> stops{0, 3, 6};
@@ -298,9 +301,8 @@ void checks_snap() {
     moved = itree::Chains();
     check("nothing is a chain", moved.empty() && moved.begin() == moved.end() && moved.offsets().empty());
     check("they aren't copied", moved.points().empty() && !std::is_copy_constructible_v<itree::Chains>);
-    check("chains are taken to another thread", std::async(std::launch::async, [it = std::move(chains)] {
-                                                    return it.points().size();
-                                                }).get() == 6);
+    check("chains are taken to another thread",
+          std::async(std::launch::async, [it = std::move(chains)] { return it.points().size(); }).get() == 6);
     std::size_t requests = 0;
     for (bool refused = true; refused; requests++) {
         refuse_after(requests);

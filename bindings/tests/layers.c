@@ -162,8 +162,7 @@ static size_t rings_of(const struct layer *layer, size_t shape, const struct itr
     const size_t start = first == 0 ? 0 : layer->ring_ends[first - 1];
     *points = layer->points + start;
     *count = (last == 0 ? 0 : layer->ring_ends[last - 1]) - start;
-    for (size_t ring = first; ring < last; ring++)
-        ends[ring - first] = layer->ring_ends[ring] - start;
+    for (size_t ring = first; ring < last; ring++) ends[ring - first] = layer->ring_ends[ring] - start;
     return last - first;
 }
 
@@ -183,8 +182,7 @@ static int is_overlay(const struct itree_polygons *each, size_t from, size_t to,
     const size_t count = itree_polygons_points(polygons, &those);
     const size_t ring_count = itree_polygons_ring_offsets(polygons, &alone_rings) - 1;
     int ok = itree_polygons_polygon_offsets(polygons, &alone) == to - from + 1;
-    for (size_t place = 0; ok && place <= to - from; place++)
-        ok = stops[from + place] == stops[from] + alone[place];
+    for (size_t place = 0; ok && place <= to - from; place++) ok = stops[from + place] == stops[from] + alone[place];
     for (size_t ring = 0; ok && ring <= ring_count; ring++) {
         ok = rings[stops[from] + ring] == rings[stops[from]] + alone_rings[ring];
     }
@@ -311,8 +309,7 @@ static int are_pairs(struct itree_pairs *pairs, int is_ordered, const struct itr
     struct itree_pair *const first = itree_pairs_first(pairs);
     int ok = itree_pairs_count(pairs) == count;
     if (ok && count > 0 && !is_ordered) qsort(first, count, sizeof *first, before);
-    for (size_t place = 0; ok && place < count; place++)
-        ok = before(first + place, wanted + place) == 0;
+    for (size_t place = 0; ok && place < count; place++) ok = before(first + place, wanted + place) == 0;
     itree_pairs_free(pairs);
     return ok;
 }
@@ -475,10 +472,8 @@ static int are_pieces(struct itree_polygons *pieces, const struct itree_point *w
     const size_t point_count = itree_polygons_points(pieces, &points);
     int ok = itree_polygons_ring_offsets(pieces, &ends) == count + 1 &&
              itree_polygons_polygon_offsets(pieces, &line_ends) == lines + 1;
-    for (size_t place = 0; ok && place < count; place++)
-        ok = ends[place + 1] == stops[place];
-    for (size_t line = 0; ok && line < lines; line++)
-        ok = line_ends[line + 1] == line_stops[line];
+    for (size_t place = 0; ok && place < count; place++) ok = ends[place + 1] == stops[place];
+    for (size_t line = 0; ok && line < lines; line++) ok = line_ends[line + 1] == line_stops[line];
     ok = ok && point_count == (count == 0 ? 0 : stops[count - 1]) && ends[0] == 0 && line_ends[0] == 0;
     ok = ok && (point_count == 0 || memcmp(points, wanted, point_count * sizeof *wanted) == 0);
     itree_polygons_free(pieces);
@@ -540,8 +535,7 @@ static void checks_parents(void) {
     add_ring(&layer, 110, 110, 120, 120);
     end_shape(&layer);
     check("parents", itree_polygon_parents(&layer.shapes, parents, 7) == ITREE_ANSWERED);
-    for (int place = 0; place < 7; place++)
-        check("of each polygon", parents[place] == wanted[place]);
+    for (int place = 0; place < 7; place++) check("of each polygon", parents[place] == wanted[place]);
     check("no polygons",
           itree_polygon_parents(&(struct itree_shapes){NULL, 0, NULL, 0, NULL, 0}, NULL, 0) == ITREE_ANSWERED);
 }

@@ -82,13 +82,13 @@ void checks_candidates() {
     const std::vector<Pair> wanted{{0, 0}, {0, 1}, {1, 0}, {1, 1}};
     check("pairs whose boxes meet", sorted(itree::candidate_pairs(fields, ponds)) == wanted);
     const itree::OwnLayer own(fields);
-    check("of a layer", own.size() == 3 && sorted(itree::candidate_pairs(own, own.layer())) ==
-                                               std::vector<Pair>{{0, 0}, {1, 1}});
+    check("of a layer",
+          own.size() == 3 && sorted(itree::candidate_pairs(own, own.layer())) == std::vector<Pair>{{0, 0}, {1, 1}});
     const auto all = itree::simplify(std::vector{square(0, 0, 2), square(5, 5, 2)}, FillRule::non_zero);
     check("of polygons", itree::candidate_pairs(all, all).size() == 2);
     const std::vector<PointRing> rings{square(0, 0, 2), square(2, 2, 2), square(9, 9, 1)};
-    check("of rings, each a shape", sorted(itree::candidate_pairs(rings, rings)) ==
-                                        std::vector<Pair>{{0, 0}, {0, 1}, {1, 0}, {1, 1}, {2, 2}});
+    check("of rings, each a shape",
+          sorted(itree::candidate_pairs(rings, rings)) == std::vector<Pair>{{0, 0}, {0, 1}, {1, 0}, {1, 1}, {2, 2}});
     check("of rings where they lie", itree::candidate_pairs(all.rings(), rings).size() == 2);
     check("of nothing", itree::candidate_pairs(PointShapes(), fields).empty() &&
                             itree::candidate_pairs(itree::Layer(), itree::Layer()).empty());
@@ -109,8 +109,8 @@ void checks_overlays() {
     check("all of them in order", points == 8 && count == 4);
     const auto rest = itree::overlay_each(fields, ponds, {{1, 0}}, Operation::difference, FillRule::even_odd);
     check("a shape with its hole", rest[0].size() == 1 && rest[0][0].outer().size() == 10);
-    auto again = itree::overlay_each(both.all(), itree::OwnLayer(ponds), {{1, 1}, {0, 0}}, Operation::xor_,
-                                           FillRule::non_zero);
+    auto again =
+        itree::overlay_each(both.all(), itree::OwnLayer(ponds), {{1, 1}, {0, 0}}, Operation::xor_, FillRule::non_zero);
     check("polygons are shapes of a further call", is_one_ring(again[0], square(20, 20, 1)) && again[1].size() == 1);
     auto moved = std::move(again);
     check("overlays that are moved", moved.size() == 2 && !std::is_copy_constructible_v<itree::Overlays>);
@@ -121,8 +121,8 @@ void checks_overlays() {
 void checks_groups() {
     const PointShapes cells{{square(0, 0, 2)}, {square(2, 0, 2)}, {square(9, 9, 1)}, {square(0, 2, 2)}};
     const std::size_t places[] = {0, 1, 2, 0, 3}, ends[] = {2, 3, 3, 5}, none[] = {0, 0, 0, 0};
-    const auto unions = itree::overlay_groups(cells, {places, ends}, itree::Layer(), {{}, none}, Operation::union_,
-                                              FillRule::non_zero);
+    const auto unions =
+        itree::overlay_groups(cells, {places, ends}, itree::Layer(), {{}, none}, Operation::union_, FillRule::non_zero);
     const PointRing across{{0, 0}, {4, 0}, {4, 2}, {0, 2}}, up{{0, 0}, {2, 0}, {2, 4}, {0, 4}};
     check("unions of groups", unions.size() == 4 && is_one_ring(unions[0], across) && is_one_ring(unions[3], up));
     check("of one, and of none", is_one_ring(unions[1], square(9, 9, 1)) && unions[2].empty());
@@ -158,8 +158,8 @@ void checks_lines() {
     const auto outside = itree::clip_lines(roads, fields[0], Side::outside, FillRule::non_zero);
     check("pieces outside", outside[0].size() == 2 && is_line(outside[0][0], {{-2, 3}, {0, 3}}) &&
                                 is_line(outside[0][1], {{4, 3}, {6, 3}}) && is_line(outside[1][0], roads[1]));
-    const auto along = itree::clip_lines({{{0, 0}, {4, 0}}}, {{{0, 0}, {4, 0}, {4, 4}}}, Side::inside,
-                                         FillRule::even_odd);
+    const auto along =
+        itree::clip_lines({{{0, 0}, {4, 0}}}, {{{0, 0}, {4, 0}, {4, 4}}}, Side::inside, FillRule::even_odd);
     check("in braces, along a border", along.size() == 1 && is_line(along[0][0], {{0, 0}, {4, 0}}));
     check("no lines", itree::clip_lines({}, fields[0], Side::inside, FillRule::non_zero).empty());
 }
@@ -188,30 +188,29 @@ void checks_positions() {
     const std::array<Corners, 1> half{{{{0.5, 0}, {1.5, 0}, {1.5, 1}, {0.5, 1}}}};
     const Corners wells{{0.75, 0.5}, {0.25, 0.25}, {5.75, 5.5}};
     const auto fitted = Grid::fit(plots, half, wells);
-    check("a grid of shapes, of rings and of points", fitted.origin() == itree::Position{3, 3} &&
-                                                          fitted == Grid::fit(plots));
+    check("a grid of shapes, of rings and of points",
+          fitted.origin() == itree::Position{3, 3} && fitted == Grid::fit(plots));
     const Grid grid(::itree_grid{0, 0, -2});
     const auto pairs = itree::candidate_pairs(plots, half, grid);
     check("pairs of positions", sorted(pairs) == std::vector<Pair>{{0, 0}});
     const auto both = itree::overlay_each(plots, half, pairs, Operation::intersection, FillRule::non_zero, grid);
     check("an overlay of each", is_one_ring(both[0], {{2, 0}, {4, 0}, {4, 4}, {2, 4}}));
     const itree::OwnLayer own(plots, grid);
-    check("a layer of them", itree::overlay_each(own, half, pairs, Operation::union_, FillRule::non_zero, grid)[0]
-                                     .size() == 1 &&
-                                 sorted(itree::candidate_pairs(own, half, grid)) == sorted(pairs));
+    check("a layer of them",
+          itree::overlay_each(own, half, pairs, Operation::union_, FillRule::non_zero, grid)[0].size() == 1 &&
+              sorted(itree::candidate_pairs(own, half, grid)) == sorted(pairs));
     const std::size_t two[] = {0, 1}, end[] = {2}, none[] = {0};
-    const auto together = itree::overlay_groups(plots, {two, end}, half, {{}, none}, Operation::union_,
-                                                FillRule::non_zero, grid);
+    const auto together =
+        itree::overlay_groups(plots, {two, end}, half, {{}, none}, Operation::union_, FillRule::non_zero, grid);
     check("a group of them", together.size() == 1 && together[0].size() == 2);
     const auto in = itree::points_in(wells, plots, FillRule::non_zero, Border::open, grid);
     check("positions in shapes", std::vector<Pair>(in.begin(), in.end()) == std::vector<Pair>{{0, 0}, {1, 0}, {2, 1}});
-    const auto pieces = itree::clip_lines(std::vector<Corners>{{{-1, 0.5}, {2, 0.5}}}, half, Side::inside,
-                                          FillRule::non_zero, grid);
-    check("lines of positions", pieces[0].size() == 1 && pieces[0][0].size() == 2 &&
-                                    pieces[0][0].front() == itree::Point{2, 2});
-    check("positions in braces", itree::clip_lines({{{0, 0}, {0.5, 0.5}}}, {}, Side::outside, FillRule::non_zero, grid)
-                                         .points()
-                                         .size() == 2);
+    const auto pieces =
+        itree::clip_lines(std::vector<Corners>{{{-1, 0.5}, {2, 0.5}}}, half, Side::inside, FillRule::non_zero, grid);
+    check("lines of positions",
+          pieces[0].size() == 1 && pieces[0][0].size() == 2 && pieces[0][0].front() == itree::Point{2, 2});
+    check("positions in braces",
+          itree::clip_lines({{{0, 0}, {0.5, 0.5}}}, {}, Side::outside, FillRule::non_zero, grid).points().size() == 2);
     const std::vector<std::vector<Corners>> faulty{{{{0, 0}, {std::numeric_limits<double>::infinity(), 1}}}};
     check("a position that isn't finite is thrown", thrown<itree::OffGrid>([&] {
                                                         (void)itree::OwnLayer(faulty, grid);
@@ -225,13 +224,12 @@ void checks_faults() {
     const itree::Layer good(points, three, one), rings(points, falling, one), shapes(points, three, behind);
     const std::string said = "a ring, a shape or a group stops where it can't, or a place is that of no shape";
     for (const auto &both : {std::pair(good, rings), std::pair(shapes, good)}) {
-        check("faulty shapes are thrown", thrown<std::invalid_argument>([&] {
-                                              (void)itree::overlay_each(both.first, both.second, {{0, 0}},
-                                                                        Operation::union_, FillRule::non_zero);
-                                          }) == said);
-        check("for pairs of them, too", thrown<std::invalid_argument>([&] {
-                                            (void)itree::candidate_pairs(both.first, both.second);
-                                        }) == said);
+        check("faulty shapes are thrown",
+              thrown<std::invalid_argument>([&] {
+                  (void)itree::overlay_each(both.first, both.second, {{0, 0}}, Operation::union_, FillRule::non_zero);
+              }) == said);
+        check("for pairs of them, too",
+              thrown<std::invalid_argument>([&] { (void)itree::candidate_pairs(both.first, both.second); }) == said);
     }
     for (const auto &pair : {Pair{1, 0}, Pair{0, 1}}) {
         check("a pair of no shape is thrown", thrown<std::invalid_argument>([&] {
@@ -239,10 +237,10 @@ void checks_faults() {
                                                                             FillRule::non_zero);
                                               }) == said);
     }
-    check("groups that differ are thrown", thrown<std::invalid_argument>([&] {
-                                               (void)itree::overlay_groups(good, {{}, {}}, good, {one, one},
-                                                                           Operation::union_, FillRule::non_zero);
-                                           }) == said);
+    check("groups that differ are thrown",
+          thrown<std::invalid_argument>([&] {
+              (void)itree::overlay_groups(good, {{}, {}}, good, {one, one}, Operation::union_, FillRule::non_zero);
+          }) == said);
     check("of points in shapes", thrown<std::invalid_argument>([&] {
                                      (void)itree::points_in(points, shapes, FillRule::non_zero, Border::closed);
                                  }) == said);
@@ -252,18 +250,16 @@ void checks_faults() {
                       }) == said);
     check("of parents", thrown<std::invalid_argument>([&] { (void)itree::parents(shapes); }) == said);
     const std::string choice = "there is no such rule, operation, border or side";
-    check("a rule that is none is thrown", thrown<std::invalid_argument>([&] {
-                                               (void)itree::overlay_each(good, good, {{0, 0}}, Operation::union_,
-                                                                         static_cast<FillRule>(4));
-                                           }) == choice);
-    check("a border that is none is thrown", thrown<std::invalid_argument>([&] {
-                                                 (void)itree::points_in(points, good, FillRule::non_zero,
-                                                                        static_cast<Border>(3));
-                                             }) == choice);
-    check("a side that is none is thrown", thrown<std::invalid_argument>([&] {
-                                               (void)itree::clip_lines({}, {}, static_cast<Side>(2),
-                                                                       FillRule::non_zero);
-                                           }) == choice);
+    check("a rule that is none is thrown",
+          thrown<std::invalid_argument>([&] {
+              (void)itree::overlay_each(good, good, {{0, 0}}, Operation::union_, static_cast<FillRule>(4));
+          }) == choice);
+    check("a border that is none is thrown",
+          thrown<std::invalid_argument>(
+              [&] { (void)itree::points_in(points, good, FillRule::non_zero, static_cast<Border>(3)); }) == choice);
+    check("a side that is none is thrown",
+          thrown<std::invalid_argument>(
+              [&] { (void)itree::clip_lines({}, {}, static_cast<Side>(2), FillRule::non_zero); }) == choice);
 }
 
 void checks_refusals() {
@@ -274,12 +270,10 @@ void checks_refusals() {
     check("for overlays", throws_refusals([&] {
               (void)itree::overlay_each(layer, other, {{0, 0}, {1, 0}}, Operation::xor_, FillRule::non_zero);
           }));
-    check("for points", throws_refusals([&] {
-              (void)itree::points_in(points, layer, FillRule::non_zero, Border::closed);
-          }));
-    check("for lines", throws_refusals([&] {
-              (void)itree::clip_lines(roads, fields[0], Side::inside, FillRule::non_zero);
-          }));
+    check("for points",
+          throws_refusals([&] { (void)itree::points_in(points, layer, FillRule::non_zero, Border::closed); }));
+    check("for lines",
+          throws_refusals([&] { (void)itree::clip_lines(roads, fields[0], Side::inside, FillRule::non_zero); }));
     check("for parents", throws_refusals([&] { (void)itree::parents(layer.layer()); }));
 }
 

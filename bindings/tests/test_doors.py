@@ -15,7 +15,6 @@ import ctypes
 import fractions
 import io
 import itertools
-import json
 import logging
 import math
 import multiprocessing
@@ -38,7 +37,7 @@ from xml.etree import ElementTree
 
 import itree
 from itree import __main__ as command
-from itree import _direct, _gathered, _library, _rings, _rows, _shapely, _shapes, _wkb
+from itree import _direct, _gathered, _rings, _rows, _shapely, _shapes, _wkb
 
 try:
     import numpy
@@ -516,7 +515,14 @@ class Binary(unittest.TestCase):
     def test_one_number_that_is_not_whole(self):
         numbers = random.Random(68)
         for order, count in itertools.product("<>", (3, 60, 200)):
-            for place, number in (None, 0), (0, 0.5), (2 * count - 1, 0.5), (count, 1e-300), (count, 2.0**31), (7 % count, -0.0):
+            for place, number in (
+                (None, 0),
+                (0, 0.5),
+                (2 * count - 1, 0.5),
+                (count, 1e-300),
+                (count, 2.0**31),
+                (7 % count, -0.0),
+            ):
                 ring = [numbers.randrange(LEAST, MOST) for _ in range(2 * count)]
                 if place is not None:
                     ring[place] = number
@@ -585,7 +591,9 @@ class Numbers(unittest.TestCase):
             near = float(start + (numbers.randrange(LEAST, MOST + 1) + fractions.Fraction(1, 2)) * unit)
             return near * numbers.choice([1, 1, 1 + 2**-52, 1 - 2**-53])
         if kind == 2:
-            return float(start + numbers.choice([LEAST - 1, LEAST, MOST, MOST + 1]) * unit) * (1 + numbers.choice([0, 2**-52]))
+            return float(start + numbers.choice([LEAST - 1, LEAST, MOST, MOST + 1]) * unit) * (
+                1 + numbers.choice([0, 2**-52])
+            )
         if kind == 3:
             return numbers.choice([0.0, -0.0, 5e-324, -5e-324, 2.0**-1022, 1.7e308, -1.7e308])
         return struct.unpack("<d", numbers.getrandbits(64).to_bytes(8, "little"))[0]
@@ -634,7 +642,7 @@ class Numbers(unittest.TestCase):
             finest = max(math.frexp(greatest)[1] - 53, -1022)
             unit = fractions.Fraction(grid.unit)
             self.assertLessEqual(span(unit), 2**31)
-            self.assertTrue(grid.unit == 2.0**finest or span(unit / 2) > 2**31, (ring, grid))
+            self.assertTrue(grid.unit == 2.0 ** finest or span(unit / 2) > 2**31, (ring, grid))
             for point in ring:
                 self.assertLessEqual(max(map(abs, grid.to_grid(point))), 2**30)
 
@@ -760,16 +768,22 @@ class Shapely(unittest.TestCase):
 
         def shape():
             scale, start = numbers.choice([1, 0.37]), numbers.choice([0, 1e6, 2.0**31])
-            ring = [(start + scale * numbers.randrange(50), scale * numbers.randrange(50)) for _ in range(numbers.randrange(3, 9))]
+            ring = [
+                (start + scale * numbers.randrange(50), scale * numbers.randrange(50)) for _ in range(numbers.randrange(3, 9))
+            ]
             return shapely.geometry.Polygon(ring, [[(start, 0), (start + 1, 0), (start, 1)]] * (numbers.random() < 0.1))
 
         for _ in range(400):
             subject, clip = shape(), shape()
             operation = numbers.choice(["union", "intersection", "difference", "xor"])
-            rule, grid = numbers.choice(["evenodd", "nonzero"]), numbers.choice([None, None, itree.Grid(unit=0.25), itree.Grid()])
+            rule, grid = numbers.choice(["evenodd", "nonzero"]), numbers.choice(
+                [None, None, itree.Grid(unit=0.25), itree.Grid()]
+            )
 
             def answers():
-                for call in lambda: itree.overlay(subject, clip, operation, rule, grid=grid), lambda: itree.simplify(clip, rule, grid=grid):
+                for call in lambda: itree.overlay(subject, clip, operation, rule, grid=grid), lambda: itree.simplify(
+                    clip, rule, grid=grid
+                ):
                     try:
                         yield told(call()), call().grid
                     except ValueError as fault:
@@ -814,11 +828,13 @@ class Shapely(unittest.TestCase):
                     itree.simplify(given, grid=grid)
             with self.assertRaisesRegex(ValueError, f"^shape 0{where[5:]}: {said}$"):
                 itree.Grid.fit(given)
-        with self.assertRaisesRegex(ValueError, "^rings, polygon 1, ring 0, row .: a number that is off the grid, which is Grid"):
+        with self.assertRaisesRegex(
+            ValueError, "^rings, polygon 1, ring 0, row .: a number that is off the grid, which is Grid"
+        ):
             itree.simplify(shapely.geometry.MultiPolygon([frame, shapely.geometry.box(5e9, 0, 6e9, 1)]), grid=itree.Grid())
 
     def test_answers_as_shapely(self):
-        frame, other, both = self.shapes()
+        _, _, both = self.shapes()
         answer = itree.overlay([BIG], [SMALL, square(20, 0, 2)], "xor")
         made = answer.to_shapely()
         self.assertEqual((made.geom_type, len(made.geoms)), ("MultiPolygon", 2))
@@ -859,7 +875,9 @@ class Shapely(unittest.TestCase):
         frame, other, both = self.shapes()
         circle = shapely.geometry.Point(0.5, 0).buffer(1, 500)
         fast = [read(it) for it in (frame, [frame, other], both, circle)], itree.simplify(circle).to_shapely().wkb
-        with mock.patch.object(_shapely, "_fastest", lambda module: _shapely._Plain()), mock.patch.dict(_shapely._known, clear=True):
+        with mock.patch.object(_shapely, "_fastest", lambda module: _shapely._Plain()), mock.patch.dict(
+            _shapely._known, clear=True
+        ):
             plain = [read(it) for it in (frame, [frame, other], both, circle)], itree.simplify(circle).to_shapely().wkb
         self.assertEqual(fast, plain)
 
@@ -937,7 +955,11 @@ class Shapely2(unittest.TestCase):
 
         def from_wkb(given):
             made.append("from_wkb")
-            return ("read", given) if isinstance(given, bytes) else numpy.array([from_wkb(it) for it in given] + [0], dtype=object)[:-1]
+            return (
+                ("read", given)
+                if isinstance(given, bytes)
+                else numpy.array([from_wkb(it) for it in given] + [0], dtype=object)[:-1]
+            )
 
         def get_coordinates(given):
             made.append("get_coordinates")
@@ -1150,7 +1172,9 @@ class Pictures(unittest.TestCase):
         self.assertGreater(len(answer.points), 10000)
         self.assertLess(len(drawn), len(whole) / 2)
         paths = (ElementTree.fromstring(it).find("{http://www.w3.org/2000/svg}path").get("d") for it in (whole, drawn))
-        tops, bottoms = zip(*((min(it[1::2]), max(it[1::2])) for it in (list(map(int, re.findall(r"\d+", path))) for path in paths)))
+        tops, bottoms = zip(
+            *((min(it[1::2]), max(it[1::2])) for it in (list(map(int, re.findall(r"\d+", path))) for path in paths))
+        )
         side = 19999 * 19998 // 2
         self.assertEqual((tops, bottoms[0]), ((0, 0), side))
         self.assertLessEqual(side - bottoms[1], side // 3000)

@@ -263,7 +263,9 @@ class Each(Files):
 
 
 def bounds(shape):
-    flat = [pair for rings in in_order(itree.simplify(shape).__geo_interface__["coordinates"]) for ring in rings for pair in ring]
+    flat = [
+        pair for rings in in_order(itree.simplify(shape).__geo_interface__["coordinates"]) for ring in rings for pair in ring
+    ]
     return [least(axis) for least in (min, max) for axis in zip(*flat)]
 
 
@@ -424,7 +426,10 @@ class Faults(Files):
             (wide, ", feature 0, ring 0, row 1: inf; finite numbers are wanted"),
             (point, f", feature 1: Point; {wanted}"),
             (collection(FLOOD, 7), f", feature 1: no type of GeoJSON; {wanted}"),
-            ({"type": "FeatureCollection", "features": {}}, ": FeatureCollection with features that are dict; a list is wanted"),
+            (
+                {"type": "FeatureCollection", "features": {}},
+                ": FeatureCollection with features that are dict; a list is wanted",
+            ),
             (b"\xef\xbb\xbf{", ", line 1, column 2: Expecting property name enclosed in double quotes"),
         ):
             name = self.file("faulty.geojson", content)
@@ -584,7 +589,12 @@ class Bulk(unittest.TestCase):
             return None
         lists = _wkb.read(read.shapes, grid.of_c(), grid)
         names = [read.shapes.named(place) for place in range(lists.polygon_count)]
-        return [list(it) for it in (lists.numbers(), lists.ring_offsets(), lists.polygon_offsets())], read.members, read.crs, names
+        return (
+            [list(it) for it in (lists.numbers(), lists.ring_offsets(), lists.polygon_offsets())],
+            read.members,
+            read.crs,
+            names,
+        )
 
     def slowly(self, data):
         try:
@@ -672,7 +682,9 @@ class Decimals(unittest.TestCase):
                 self.assertEqual(found, [list(it) for it in zip(flat[0::2], flat[1::2])])
 
     def test_rounds_to_the_nearest(self):
-        lists = _answers.lists_of(*map(memoryview, (array.array("i", [1, 3, -1, 5, 7, -8]), array.array("q", [0, 3]), array.array("q", [0, 1]))))
+        lists = _answers.lists_of(
+            *map(memoryview, (array.array("i", [1, 3, -1, 5, 7, -8]), array.array("q", [0, 3]), array.array("q", [0, 1])))
+        )
         for known in (None, numpy) if numpy else (None,):
             for exponent, digits in (3, 2), (3, 1), (3, 0), (10, 2), (10, 4), (10, 5):
                 grid = Grid((0.0, 0.0), 2.0**-exponent)

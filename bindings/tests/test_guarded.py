@@ -8,7 +8,6 @@ A read behind an array ends the process by a signal. The last line is 'Ran N tes
 
 import ctypes
 import mmap
-import os
 import random
 import struct
 import sys

@@ -590,7 +590,9 @@ class Faults(unittest.TestCase):
         for given in of_shape(ring), [of_shape(ring)], HasShape(of_shape(ring)):
             # Of shapes the finest grid that fits is taken.
             answer = itree.overlay([SMALL], given)
-            self.assertEqual((answer.grid, answer), (itree.Grid.fit([SMALL], given), itree.overlay([SMALL], given, grid=answer.grid)))
+            self.assertEqual(
+                (answer.grid, answer), (itree.Grid.fit([SMALL], given), itree.overlay([SMALL], given, grid=answer.grid))
+            )
 
     def test_numbers_that_do_not_fit(self):
         ring, grid = [*BIG, (3, 2**31)], itree.Grid()

@@ -78,7 +78,7 @@ def feature(corner, polygons, is_on_land):
 def equator_on_land(land, degree):
     """The share of the equator that runs over land."""
     line = [(gshhg.WEST * degree, 90 * degree), ((gshhg.WEST + 360) * degree, 90 * degree)]
-    pieces, = itree.clip([line], [ring for polygon in land for ring in polygon])
+    (pieces,) = itree.clip([line], [ring for polygon in land for ring in polygon])
     return sum(piece[-1][0] - piece[0][0] for piece in pieces) / (360 * degree)
 
 
@@ -103,7 +103,9 @@ def tell(features, equator):
     whole = sum(area(ring) for it in features for rings in it["geometry"]["coordinates"] for ring in rings) / 720
     most = max(lands, key=lambda it: it["parts"])
     full, middles = sum(it["land"] > 0.9999 for it in lands), sum(it["middle"] for it in lands)
-    print(f"land covers {whole:.1%} of the earth, and lies in {len(lands)} of {AROUND * 180 // STEP} cells, {full} of them full")
+    print(
+        f"land covers {whole:.1%} of the earth, and lies in {len(lands)} of {AROUND * 180 // STEP} cells, {full} of them full"
+    )
     print(f"the middles of {middles} cells are on land, and so is {equator:.1%} of the equator")
     print(f"most parts: {most['parts']}, north-east of {most['west']}, {most['south']}")
 

@@ -65,8 +65,8 @@ def chains(resolution):
 
 def south_west_corners(file):
     """For each chain the south-west corner of its bin."""
-    across, = numbers(file, "N_bins_in_360_longitude_range")
-    down, = numbers(file, "N_bins_in_180_degree_latitude_range")
+    (across,) = numbers(file, "N_bins_in_360_longitude_range")
+    (down,) = numbers(file, "N_bins_in_180_degree_latitude_range")
     corners = []
     for place, count in enumerate(numbers(file, "N_segments_in_a_bin")):
         row, column = divmod(place, across)
@@ -134,7 +134,7 @@ def land(resolution):
     a hole of the land around it, an island in a lake is land again. Antarctica ends where its ice does.
     """
     file = file_of(resolution)
-    across, = numbers(file, "N_bins_in_360_longitude_range")
+    (across,) = numbers(file, "N_bins_in_360_longitude_range")
     width = across * SIDE
     coastlines, levels = {}, {}
     for chain in chains(resolution):

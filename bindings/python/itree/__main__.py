@@ -87,7 +87,8 @@ def _parser() -> argparse.ArgumentParser:
 
 def _add_what_is_written(command: argparse.ArgumentParser) -> None:
     one = command.add_mutually_exclusive_group()
-    said = "each feature of the first file by itself, and all of the second; it keeps its properties, and goes where nothing is left"
+    said = "each feature of the first file by itself, and all of the second; it keeps its properties, and "
+    said += "goes where nothing is left"
     one.add_argument("--each", action="store_true", help=said)
     said = "the same of those features together that have one value in a field: one feature for each value"
     one.add_argument("--by", metavar="FIELD", help=said)
@@ -148,9 +149,7 @@ def _run(asked: argparse.Namespace) -> None:
         for name in asked.output:
             _files.check_output(name)
         with Progress(sys.stderr) as progress:
-            sources = [
-                _files.read(name, place == 0 and task.has_members(), progress) for place, name in enumerate(asked.files)
-            ]
+            sources = [_files.read(name, place == 0 and task.has_members(), progress) for place, name in enumerate(asked.files)]
             answer = _tasks.done(task, sources, progress)
             _write(answer, asked.output, progress)
     except (TypeError, ValueError) as fault:

@@ -99,7 +99,10 @@ def candidate_pairs(
     *,
     grid: Optional[Grid] = ...,
     memory_limit: Optional[int] = ...,
-) -> List[Tuple[int, int]]: ...
+) -> List[Tuple[int, int]]:
+    ...
+
+
 @overload
 def candidate_pairs(
     shapes: ShapesOfLayer,
@@ -108,7 +111,10 @@ def candidate_pairs(
     *,
     grid: Optional[Grid] = ...,
     memory_limit: Optional[int] = ...,
-) -> memoryview: ...
+) -> memoryview:
+    ...
+
+
 @overload
 def candidate_pairs(
     shapes: ShapesOfLayer,
@@ -117,7 +123,10 @@ def candidate_pairs(
     *,
     grid: Optional[Grid] = ...,
     memory_limit: Optional[int] = ...,
-) -> Union[List[Tuple[int, int]], memoryview]: ...
+) -> Union[List[Tuple[int, int]], memoryview]:
+    ...
+
+
 def candidate_pairs(
     shapes: ShapesOfLayer,
     others: ShapesOfLayer,

@@ -328,9 +328,7 @@ _WANTED = "rings, or what has a __geo_interface__,"
 def check_floats(rings: Rings, name: str, has_grid: bool) -> None:
     """Raises TypeError of floats where no grid was given."""
     if rings.has_floats and not has_grid:
-        raise TypeError(
-            f"{name}: floats; whole numbers are wanted; {_rows._NUMPY_SCALES}; or give a grid: itree.Grid.fit(...)"
-        )
+        raise TypeError(f"{name}: floats; whole numbers are wanted; {_rows._NUMPY_SCALES}; or give a grid: itree.Grid.fit(...)")
 
 
 def one_of(items: Iterable[Any], called: str) -> Any:

@@ -25,9 +25,7 @@ _PIECE = 1 << 20
 _SPACE = b" \\t\\r\\n"
 _OF_ARRAYS = b"0-9eE+\\-.,\\[\\]" + _SPACE
 # The coordinates of a polygon, or of several, up to what can't be of them.
-_COORDINATES = re.compile(
-    rb'"coordinates"[%b]*:[%b]*(\[[%b]*\[[%b]*\[[%b]*)' % (_SPACE, _SPACE, _SPACE, _SPACE, _OF_ARRAYS)
-)
+_COORDINATES = re.compile(rb'"coordinates"[%b]*:[%b]*(\[[%b]*\[[%b]*\[[%b]*)' % (_SPACE, _SPACE, _SPACE, _SPACE, _OF_ARRAYS))
 _RUN = re.compile(rb"[%b]*" % _OF_ARRAYS)
 _BEHIND = b", \t\r\n"
 # Numbers and commas alone, and brackets and commas alone; a bar stands behind each array.

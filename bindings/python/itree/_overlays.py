@@ -70,9 +70,13 @@ class Overlays(Sequence[Polygons]):
         return len(self.offsets) - 1
 
     @overload
-    def __getitem__(self, place: int) -> Polygons: ...
+    def __getitem__(self, place: int) -> Polygons:
+        ...
+
     @overload
-    def __getitem__(self, place: slice) -> List[Polygons]: ...
+    def __getitem__(self, place: slice) -> List[Polygons]:
+        ...
+
     def __getitem__(self, place: Union[int, slice]) -> Union[Polygons, List[Polygons]]:
         found = range(len(self))[place]
         if isinstance(found, range):

@@ -59,9 +59,13 @@ class Pieces(Sequence[List[Points]]):
         return len(self.offsets) - 1
 
     @overload
-    def __getitem__(self, place: int) -> List[Points]: ...
+    def __getitem__(self, place: int) -> List[Points]:
+        ...
+
     @overload
-    def __getitem__(self, place: slice) -> List[List[Points]]: ...
+    def __getitem__(self, place: slice) -> List[List[Points]]:
+        ...
+
     def __getitem__(self, place: Union[int, slice]) -> Union[List[Points], List[List[Points]]]:
         found = range(len(self))[place]
         if isinstance(found, range):
@@ -114,14 +118,10 @@ class Pieces(Sequence[List[Points]]):
         """The pieces of each line in well-known binary, little-endian, of the types that `to_shapely` has."""
         data, ends = bytes(self._positions()), self.piece_offsets.tolist()
         parts = [
-            struct.pack("<BII", 1, _LINE, stop - start) + data[16 * start : 16 * stop]
-            for start, stop in zip(ends, ends[1:])
+            struct.pack("<BII", 1, _LINE, stop - start) + data[16 * start : 16 * stop] for start, stop in zip(ends, ends[1:])
         ]
         offsets = self.offsets.tolist()
-        return [
-            parts[start] if stop - start == 1 else _several(parts[start:stop])
-            for start, stop in zip(offsets, offsets[1:])
-        ]
+        return [parts[start] if stop - start == 1 else _several(parts[start:stop]) for start, stop in zip(offsets, offsets[1:])]
 
     def _positions(self) -> array.array[float]:
         """The coordinates of all points."""

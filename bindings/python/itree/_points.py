@@ -43,7 +43,10 @@ def points_in(
     grid: Optional[Grid] = ...,
     as_array: Literal[False] = ...,
     memory_limit: Optional[int] = ...,
-) -> List[Tuple[int, int]]: ...
+) -> List[Tuple[int, int]]:
+    ...
+
+
 @overload
 def points_in(
     points: PointRows,
@@ -54,7 +57,10 @@ def points_in(
     grid: Optional[Grid] = ...,
     as_array: Literal[True],
     memory_limit: Optional[int] = ...,
-) -> memoryview: ...
+) -> memoryview:
+    ...
+
+
 @overload
 def points_in(
     points: PointRows,
@@ -65,7 +71,10 @@ def points_in(
     grid: Optional[Grid] = ...,
     as_array: bool,
     memory_limit: Optional[int] = ...,
-) -> Union[List[Tuple[int, int]], memoryview]: ...
+) -> Union[List[Tuple[int, int]], memoryview]:
+    ...
+
+
 def points_in(
     points: PointRows,
     shapes: ShapesOfLayer,

@@ -114,9 +114,13 @@ class Polygons(Sequence[Polygon]):
         return self._lists.polygon_count
 
     @overload
-    def __getitem__(self, place: int) -> Polygon: ...
+    def __getitem__(self, place: int) -> Polygon:
+        ...
+
     @overload
-    def __getitem__(self, place: slice) -> List[Polygon]: ...
+    def __getitem__(self, place: slice) -> List[Polygon]:
+        ...
+
     def __getitem__(self, place: Union[int, slice]) -> Union[Polygon, List[Polygon]]:
         # A range takes places from the end, and slices, and says what is none.
         found = range(len(self))[place]
@@ -153,11 +157,17 @@ class Polygons(Sequence[Polygon]):
         return {"type": "MultiPolygon", "coordinates": [polygon.__geo_interface__["coordinates"] for polygon in self]}
 
     @overload
-    def to_shapely(self, each: Literal[False] = ...) -> Any: ...
+    def to_shapely(self, each: Literal[False] = ...) -> Any:
+        ...
+
     @overload
-    def to_shapely(self, each: Literal[True]) -> List[Any]: ...
+    def to_shapely(self, each: Literal[True]) -> List[Any]:
+        ...
+
     @overload
-    def to_shapely(self, each: bool) -> Any: ...
+    def to_shapely(self, each: bool) -> Any:
+        ...
+
     def to_shapely(self, each: bool = False) -> Any:
         """The polygons as shapely's MultiPolygon; or with each=True as a list of shapely's Polygon.
 
@@ -182,9 +192,13 @@ class Polygons(Sequence[Polygon]):
         return geopandas.GeoSeries(self.to_shapely(each=True), crs=known if crs is None else crs)
 
     @overload
-    def to_wkb(self, srid: Optional[int] = ..., each: Literal[False] = ...) -> bytes: ...
+    def to_wkb(self, srid: Optional[int] = ..., each: Literal[False] = ...) -> bytes:
+        ...
+
     @overload
-    def to_wkb(self, srid: Optional[int] = ..., *, each: Literal[True]) -> List[bytes]: ...
+    def to_wkb(self, srid: Optional[int] = ..., *, each: Literal[True]) -> List[bytes]:
+        ...
+
     def to_wkb(self, srid: Optional[int] = None, each: bool = False) -> Union[bytes, List[bytes]]:
         """The polygons as a MultiPolygon of well-known binary, little-endian; or with each=True each as a Polygon.
 

@@ -13,7 +13,20 @@ import numbers
 import operator
 import re
 import sys
-from typing import TYPE_CHECKING, Any, FrozenSet, Iterable, Iterator, List, NamedTuple, NoReturn, Optional, Sequence, Tuple, Union
+from typing import (
+    TYPE_CHECKING,
+    Any,
+    FrozenSet,
+    Iterable,
+    Iterator,
+    List,
+    NamedTuple,
+    NoReturn,
+    Optional,
+    Sequence,
+    Tuple,
+    Union,
+)
 
 from ._memory import address_of, numpy_where_loaded
 
@@ -22,10 +35,12 @@ if TYPE_CHECKING:
     from typing import Protocol, SupportsIndex
 
     class _HasBuffer(Protocol):
-        def __buffer__(self, __flags: int) -> memoryview: ...
+        def __buffer__(self, __flags: int) -> memoryview:
+            ...
 
     class _HasArray(Protocol):
-        def __array__(self) -> Any: ...
+        def __array__(self) -> Any:
+            ...
 
     Row = Union[Iterable[SupportsIndex], Iterable[Iterable[SupportsIndex]]]
     Rows = Union[Iterable[Row], memoryview, array.array[int], ctypes.Array[Any], _HasBuffer, _HasArray]

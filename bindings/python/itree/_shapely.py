@@ -377,9 +377,7 @@ class _Shapely1:
 
     def _ring(self, numbers: array.array[float]) -> int:
         at, count = numbers.buffer_info()
-        ring: int = self.Geom_createLinearRing(
-            self._handle, self.CoordSeq_copyFromBuffer(self._handle, at, count // 2, 0, 0)
-        )
+        ring: int = self.Geom_createLinearRing(self._handle, self.CoordSeq_copyFromBuffer(self._handle, at, count // 2, 0, 0))
         return ring
 
     def _polygon(self, rings: List[int]) -> int:

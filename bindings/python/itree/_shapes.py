@@ -27,7 +27,8 @@ if TYPE_CHECKING:
 
     class HasGeoInterface(Protocol):
         @property
-        def __geo_interface__(self) -> Any: ...
+        def __geo_interface__(self) -> Any:
+            ...
 
     Numbers = Union[memoryview, array.array[int], array.array[float], _rows._HasBuffer, _rows._HasArray]
     Ring = Union[Iterable[Iterable[SupportsFloat]], Numbers]

@@ -11,7 +11,7 @@ from . import _answers, _each, _files, _near, _wkb
 from ._answers import Lists
 from ._each import Groups
 from ._files import Answer, Part, Source
-from ._grid import Grid, fitted
+from ._grid import fitted
 from ._overlay import OPERATIONS, RULES
 from ._progress import Progress
 from ._shapes import NOTHING, HeldRings
@@ -146,9 +146,7 @@ def _sizes(lists: Lists) -> List[int]:
     return list(map(int.__sub__, ends[1:], ends))
 
 
-def _clips_of(
-    task: Task, subject: Lists, clip: Lists, features: Sequence[_Group]
-) -> Tuple[Lists, Iterator[Sequence[int]]]:
+def _clips_of(task: Task, subject: Lists, clip: Lists, features: Sequence[_Group]) -> Tuple[Lists, Iterator[Sequence[int]]]:
     """The rings of the clip, and those that may concern each feature."""
     if task.operation not in _WITHIN_SUBJECT:
         return clip, itertools.repeat(range(clip.polygon_count), len(features))

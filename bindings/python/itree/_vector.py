@@ -159,9 +159,7 @@ def write(
         raise ValueError(f"{name}: {fault}") from None
 
 
-def _records(
-    features: Iterable[Tuple[Dict[str, Any], Any]], fields: Dict[str, str], kind: str
-) -> Iterator[Dict[str, Any]]:
+def _records(features: Iterable[Tuple[Dict[str, Any], Any]], fields: Dict[str, str], kind: str) -> Iterator[Dict[str, Any]]:
     for properties, coordinates in features:
         told = {name: _fitting(properties.get(name), of) for name, of in fields.items()}
         yield {"type": "Feature", "properties": told, "geometry": {"type": kind, "coordinates": coordinates}}

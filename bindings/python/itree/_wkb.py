@@ -7,7 +7,7 @@ import ctypes
 import itertools
 import struct
 import sys
-from typing import Any, Callable, List, NamedTuple, Optional, Sequence, Tuple
+from typing import Any, Callable, NamedTuple, Optional, Sequence, Tuple
 
 from ._answers import Handle, Lists, lists_in
 from ._calls import ONCE, made
