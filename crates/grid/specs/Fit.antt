@@ -37,6 +37,7 @@ pub record AreCornersBelow (positions : List Position) (count : ℕ) (low high :
   pub high_x : IsFirst AtLeast (λ p. p.x) positions count high.x
   pub high_y : IsFirst AtLeast (λ p. p.y) positions count high.y
 
+-- The same of all positions.
 abbrev pub AreCorners : List Position → Position → Position → Type 0
 AreCorners positions low high = AreCornersBelow positions (length positions) low high
 

@@ -8,8 +8,8 @@ ghost use Rattle.itree_c.specs.Status.{IsStatus};
 ghost use Rattle.itree_c.specs.declared.status.TheConstants.{ANSWERED, REFUSED, OVERLAP, LENGTHS};
 
 use crate::status::{ANSWERED, LENGTHS, OVERLAP, REFUSED};
-use i_tree::key::tree::KeyExpTree;
 use horizontal::{Point, Segment, SweepFault, below};
+use i_tree::key::tree::KeyExpTree;
 use std::alloc::Global;
 
 /// What lies straight below a point: `found` is 1 and `y` a height, or both are 0 where nothing does.

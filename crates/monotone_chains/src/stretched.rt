@@ -9,7 +9,7 @@ use crate::stretches::cutting::append_parts;
 use crate::stretches::parts::Part;
 use crate::stretches::{Stretches, longest_of, stretches_of};
 use i_tree::Refusal;
-use overlay::rings::Rings;
+use overlay::rings::{Rings, ring_at};
 use plane::point::Point;
 use std::alloc::{AllocError, Allocator};
 
@@ -89,6 +89,7 @@ fn goes_on(first: i32, second: i32, third: i32) -> bool {
 }
 
 // Appends parts of the real edges of all rings, each of so many edges at most, and tells whether these are all.
+#[tactic(auto, using(overlay::proofs::EachRing::rings_all))]
 fn append_rings<'a, A: Allocator>(
     rings: Rings<'a>,
     most: usize,
@@ -100,12 +101,11 @@ fn append_rings<'a, A: Allocator>(
     ensures { IfOk result (λ are_all. IsTrue are_all
         → AppendsParts (real_edges (edges_of rings.entry)) parts.old.items parts.new.items) }
 {
-    let mut start = 0;
-    for end in rings.ends {
-        if !append_parts(&rings.points[start..*end], most, limit, parts)? {
+    for ring in 0..rings.ends.len() {
+        let points = ring_at(rings.points, rings.ends, ring);
+        if !append_parts(points, most, limit, parts)? {
             return Ok(false);
         }
-        start = *end;
     }
     Ok(true)
 }

@@ -16,10 +16,11 @@ edge_between from to = record { x0 = from.x; y0 = from.y; x1 = to.x; y1 = to.y }
 abbrev pub reversed : Edge → Edge
 reversed edge = edge_between (end_of edge) (start_of edge)
 
--- How far the point lies to the left of the line, times its length; and a unit on both axes, times that.
+-- How far the point lies to the left of the line, times its length.
 abbrev pub height_over : Edge → Point → ℤ
 height_over line point = cross (line.x1 -ℤ line.x0) (line.y1 -ℤ line.y0) (point.x -ℤ line.x0) (point.y -ℤ line.y0)
 
+-- A unit on both axes, times the line's length.
 abbrev pub margin_of : Edge → ℤ
 margin_of line = pos (unsigned_abs (line.x1 -ℤ line.x0) + unsigned_abs (line.y1 -ℤ line.y0))
 

@@ -1,9 +1,9 @@
 //! Rings and polygons, as points and where each ring and each polygon stops.
 
-ghost use Rattle.std.specs.Prelude.{◌≡◌, ◌++◌, ◌∷◌, [], ◌≤◌, IfOk, MatchBool, OnOk, drop, length, take};
+ghost use Rattle.std.specs.Prelude.{◌≡◌, ◌++◌, ◌∷◌, [], ◌<◌, ◌≤◌, IfOk, MatchBool, OnOk, drop, get_or, length, take};
 ghost use Rattle.overlay.specs.Contours.Rings.{ring_edges};
 ghost use Rattle.noding.specs.Windings.{edge_between};
-ghost use Rattle.overlay.specs.Rings.{HasEnds, edges_of, real_edges};
+ghost use Rattle.overlay.specs.Rings.{AreEnds, HasEnds, edges_of, real_edges, rings_of};
 
 use noding::edges::edge_between;
 use plane::edge::Edge;
@@ -62,18 +62,35 @@ pub fn are_ends(rings: Rings) -> bool
     true
 }
 
+/// The points of the ring of this number.
+#[tactic(auto, using(crate::proofs::EachRing::ends_rise, crate::proofs::EachRing::ends_within, crate::proofs::EachRing::ring_between))]
+pub fn ring_at<'a>(points: &'a [Point], ends: &[usize], ring: usize) -> &'a [Point]
+    requires ends { AreEnds 0 ends.now (length points.now) }
+    requires inside { ring < length ends.now }
+    ensures { result.now ≡ get_or (rings_of points.now 0 ends.now) ring [] }
+{
+    &points[start_of(ends, ring)..ends[ring]]
+}
+
+// Where the ring begins: where the one before it stops.
+fn start_of(ends: &[usize], ring: usize) -> usize
+    requires { ring < length ends.now }
+    ensures { result ≡ get_or (0 ∷ ends.now) ring 0 }
+{
+    if ring == 0 { 0 } else { ends[ring - 1] }
+}
+
 /// The edges of all rings, ring by ring: from each point to the next, and from the last one to the first.
 ///
 /// Memory that is refused is the only error.
+#[tactic(auto, using(crate::proofs::EachRing::rings_all))]
 pub fn edges_of<A: Allocator>(alloc: A, rings: Rings) -> Result<Vec<Edge, A>, AllocError>
     requires { HasEnds rings }
     ensures { IfOk result (λ edges. edges.items ≡ edges_of rings.entry) }
 {
     let mut edges = Vec::with_capacity(alloc, rings.points.len())?;
-    let mut start = 0;
-    for end in rings.ends {
-        append_edges(&rings.points[start..*end], &mut edges)?;
-        start = *end;
+    for ring in 0..rings.ends.len() {
+        append_edges(ring_at(rings.points, rings.ends, ring), &mut edges)?;
     }
     Ok(edges)
 }
@@ -102,14 +119,13 @@ pub fn real_edges_of<A: Allocator>(
 }
 
 // Appends the edges of all rings but those from a point to itself.
+#[tactic(auto, using(crate::proofs::EachRing::real_more, crate::proofs::EachRing::rings_all))]
 fn append_real_edges<A: Allocator>(rings: Rings, edges: &mut Vec<Edge, A>) -> Result<(), AllocError>
     requires { HasEnds rings }
     ensures { OnOk result (edges.new.items ≡ edges.old.items ++ real_edges (edges_of rings.entry)) }
 {
-    let mut start = 0;
-    for end in rings.ends {
-        append_real_ones(&rings.points[start..*end], edges)?;
-        start = *end;
+    for ring in 0..rings.ends.len() {
+        append_real_ones(ring_at(rings.points, rings.ends, ring), edges)?;
     }
     Ok(())
 }

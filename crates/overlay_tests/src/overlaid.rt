@@ -3,9 +3,9 @@
 use crate::filled::{ROWS, Row};
 use crate::walks::Regions;
 use i_tree::Refusal;
-use plane::point::Point;
 use monotone_chains::{overlay, simplify};
 use overlay::{FillRule, Operation, OverlayFault, Polygons, Rings};
+use plane::point::Point;
 use std::alloc::{AllocError, Allocator, Global};
 use std::test::Fail;
 use test_kit::Refusing;

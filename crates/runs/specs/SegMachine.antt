@@ -20,6 +20,7 @@ pub data Reply (V : Type 0) : Type 0 where
   Values : List V → Reply V
   Cleared : Reply V
 
+-- A reply of the program, with its values as a list.
 abbrev pub reply_of : {V B : Type 0} → SegReply V B → Reply V
 reply_of kept.Inserted = Inserted
 reply_of kept.Outside = Outside

@@ -1,11 +1,11 @@
 //! Each request for memory of a sweep, of its store and of `out`, refused in turn.
 
 use crate::worked::{EARLIER, is_empty, is_wanted};
+use horizontal::{Level, Point, Segment, SweepFault, below};
 use i_tree::Refusal;
 use i_tree::key::exp::KeyExpCollection;
 use i_tree::key::list::KeyExpList;
 use i_tree::key::tree::KeyExpTree;
-use horizontal::{Level, Point, Segment, SweepFault, below};
 use std::alloc::{Allocator, Global};
 use std::test::Fail;
 use test_kit::Refusing;

@@ -1,8 +1,8 @@
 //! How a sweep uses its store, which calls it makes, and what a fault says.
 
 use crate::worked::{Row, hold_others, sweeps_to};
-use i_tree::Refusal;
 use horizontal::SweepFault;
+use i_tree::Refusal;
 use std::alloc::Global;
 use std::test::Fail;
 use test_kit::watched::{Call, Calls, Watched};

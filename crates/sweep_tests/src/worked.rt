@@ -1,10 +1,10 @@
 //! Worked sweeps over both kinds of store.
 
+use horizontal::{Level, Point, Segment, SweepFault, below};
 use i_tree::Refusal;
 use i_tree::key::exp::KeyExpCollection;
 use i_tree::key::list::KeyExpList;
 use i_tree::key::tree::KeyExpTree;
-use horizontal::{Level, Point, Segment, SweepFault, below};
 use std::alloc::Global;
 use std::cmp::Ordering;
 use std::test::Fail;

@@ -8,10 +8,10 @@ use i_tree::Refusal;
 use i_tree::status::tree::StatusTree;
 use overlay::boundary::broken::broken;
 use overlay::fill::fill;
-use plane::edge::Edge;
-use plane::locate::{LocateFault, Point, locate};
 use overlay::rings::{are_ends, edges_of};
 use overlay::{FillRule, Operation, Rings};
+use plane::edge::Edge;
+use plane::locate::{LocateFault, Point, locate};
 use std::alloc::{AllocError, Global};
 use thiserror::Error;
 

@@ -1,7 +1,7 @@
 //! What is seen straight below each of some points: the sweep of `horizontal` over a tree of its caller's.
 
-use i_tree::key::tree::KeyExpTree;
 use horizontal::{Point, Segment, SweepFault, below};
+use i_tree::key::tree::KeyExpTree;
 use std::alloc::Global;
 
 /// The height of the first of the segments that is met from each point straight downwards, if one is met.

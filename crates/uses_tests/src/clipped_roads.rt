@@ -1,8 +1,8 @@
 //! Roads clipped to polygons.
 
+use overlay::Rings;
 use plane::edge::Edge;
 use plane::point::Point;
-use overlay::Rings;
 use std::test::Fail;
 use uses::clipped_roads::clipped_roads;
 

@@ -1,8 +1,8 @@
 -- What the points of a ring rest on.
-use Rattle.std.proofs.Common.{◌≡◌, ℕ, ◌+◌, ◌-◌, ◌≤◌, ◌<◌, Bool, true, false, cond, List, [], ◌∷◌, ◌++◌, length, drop, get_or, All, refl, sym, ap, subst, ◌∙◌, arith, add-one, drop-cons, length-drop, suc, inr, ◌^◌}
+use Rattle.std.proofs.Common.{◌≡◌, ℕ, ◌+◌, ◌-◌, ◌≤◌, ◌<◌, Bool, true, false, cond, List, [], ◌∷◌, ◌++◌, length, drop, get_or, All, refl, sym, ap, subst, ◌∙◌, arith, add-one, drop-cons, suc, inr, ◌^◌}
 use Rattle.std.specs.Prelude.{min, slice_index}
 use Rattle.std.proofs.lemmas.List.FromFn.{length-map-range_with_len}
-use Rattle.std.proofs.lemmas.List.{get_or_default, nil_from_length}
+use Rattle.std.proofs.lemmas.List.{get_or_default}
 use Rattle.plane.specs.declared.point.Point.{Point}
 use Rattle.grid.specs.declared.position.Position.{Position}
 use Rattle.grid.specs.declared.units.Grid.{Grid}
@@ -42,11 +42,6 @@ one_more_ring grid bytes rings i points new_points here last_points ends new_end
     let split : drop i rings ≡ get_or rings i no_ring ∷ drop (i + 1) rings = drop-cons rings i no_ring lt ∙ ap (λ (n : ℕ). get_or rings i no_ring ∷ drop n rings) (sym (add-one i)) in
     subst (λ (rs : List RingAt). AppendsRings grid bytes rs points last_points ends last_ends) (sym split) (here, is, two)
 
-pub no_more_rings : (grid : Grid) (bytes : List ℕ) (rings : List RingAt) (i : ℕ) (points : List Point) (ends : List ℕ) → length rings ≤ i → AppendsRings grid bytes (drop i rings) points points ends ends
-no_more_rings grid bytes rings i points ends le =
-    let nothing : drop i rings ≡ [] = nil_from_length (drop i rings) (omega (arith, length-drop i rings)) in
-    subst (λ (rs : List RingAt). AppendsRings grid bytes rs points points ends ends) (sym nothing) (refl, refl)
-
 pub flaw_of_rings : (e : LayoutFault) (grid : Grid) (bytes : List ℕ) (rings : List RingAt) (i : ℕ) → i < length rings
     → IfFlawed e (λ flaw. IsRingFlaw grid (get_or rings i no_ring) (positions_of bytes (get_or rings i no_ring)) flaw) → IfFlawed e (λ flaw. IsRingsFlaw grid bytes rings flaw)
 flaw_of_rings (Refused r) grid bytes rings i lt h = tt
@@ -62,12 +57,6 @@ one_more_shape grid most_nested bytes offsets count shape points new_points last
     let one = subst (λ (es : List ℕ). AppendsShapes grid most_nested bytes offsets (count - (shape + 1)) (shape + 1) new_points last_points new_ends last_ends es last_shape_ends) more rest in
     let k : suc (count - (shape + 1)) ≡ count - shape = omega arith in
     subst (λ (n : ℕ). AppendsShapes grid most_nested bytes offsets n shape points last_points ends last_ends shape_ends last_shape_ends) k (new_points, new_ends, is, one)
-
-pub no_more_shapes : (grid : Grid) (most_nested : ℕ) (bytes offsets : List ℕ) (count shape : ℕ) (points : List Point) (ends shape_ends : List ℕ) → count ≤ shape
-    → AppendsShapes grid most_nested bytes offsets (count - shape) shape points points ends ends shape_ends shape_ends
-no_more_shapes grid most_nested bytes offsets count shape points ends shape_ends le =
-    let k : 0 ≡ count - shape = omega arith in
-    subst (λ (n : ℕ). AppendsShapes grid most_nested bytes offsets n shape points points ends ends shape_ends shape_ends) k (refl, refl, refl)
 
 pub fault_of_shape : (e : LayoutFault) (grid : Grid) (most_nested : ℕ) (bytes offsets : List ℕ) (shape start : ℕ) → shape + 1 < length offsets → start ≡ slice_index offsets shape
     → IfFlawed e (λ flaw. IsShapeFlaw grid most_nested (shape_bytes bytes offsets shape) flaw) → IfFaulty (fault_among e shape start) (λ fault. IsFaulty grid most_nested bytes offsets fault)

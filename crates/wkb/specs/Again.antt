@@ -19,6 +19,7 @@ abbrev pub marks : Bool → List (List Position) → List (Bool × List Position
 marks is_hole [] = []
 marks is_hole (ring ∷ others) = (is_hole, ring) ∷ marks true others
 
+-- The rings of a polygon, of which the first is no hole.
 abbrev pub rings_of : List (List Position) → List (Bool × List Position)
 rings_of rings = marks false rings
 
@@ -29,8 +30,10 @@ IsPosition position = (position.x < 2 ^ 64) × (position.y < 2 ^ 64)
 abbrev pub IsRing : List Position → Type 0
 IsRing positions = (length positions + 1 < 2 ^ 32) × AllByRecursion IsPosition positions
 
+-- A polygon that has room in the format.
 abbrev pub IsPolygon : List (List Position) → Type 0
 IsPolygon rings = (length rings < 2 ^ 32) × AllByRecursion IsRing rings
 
+-- Polygons that have.
 abbrev pub ArePolygons : List (List (List Position)) → Type 0
 ArePolygons polygons = (length polygons < 2 ^ 32) × AllByRecursion IsPolygon polygons

@@ -23,6 +23,7 @@ abbrev pub Fails : {Y : Type 0} → LayoutFault → Result Y Flaw → Type 0
 Fails (Refused refusal) read = Unit {0}
 Fails (Flawed flaw) read = read ≡ Err flaw
 
+-- The result is what was read, as seen by the view, or it fails as reading does.
 abbrev pub Gives : {X Y : Type 0} → (X → Y) → Result X LayoutFault → Result Y Flaw → Type 0
 Gives view (Ok x) read = read ≡ Ok (view x)
 Gives view (Err e) read = Fails e read

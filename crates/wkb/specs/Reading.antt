@@ -47,6 +47,7 @@ pub record IsRingFlaw (grid : Grid) (ring : RingAt) (positions : List Position) 
   pub kind : flaw.kind ≡ kind_of_fault fault
   pub byte : flaw.byte ≡ ring.start + index * ring.stride
 
+-- This holds of the flaw, where it is one and no refusal of memory.
 abbrev pub IfFlawed : LayoutFault → (Flaw → Type 0) → Type 0
 IfFlawed (Refused refusal) P = Unit {0}
 IfFlawed (Flawed flaw) P = P flaw
@@ -117,6 +118,7 @@ pub record IsFaulty (grid : Grid) (most_nested : ℕ) (bytes offsets : List ℕ)
   pub within : fault.shape + 1 < length offsets
   pub is : IsOffsetsFault bytes offsets fault ⊎ IsFlawOf grid most_nested bytes offsets fault
 
+-- This holds of the fault, where it is one and no refusal of memory.
 abbrev pub IfFaulty : ReadFault → (Fault → Type 0) → Type 0
 IfFaulty (read_faults.Refused refusal) P = Unit {0}
 IfFaulty (read_faults.Faulty fault) P = P fault

@@ -33,6 +33,7 @@ ring positions = four (length (closed positions)) ++ flat_map place (closed posi
 unfoldable pub head : ℕ → ℕ → List ℕ
 head kind srid = 1 ∷ (if srid == 0 then four kind else four (536870912 + kind) ++ four srid)
 
+-- The bytes of a polygon.
 unfoldable pub polygon : ℕ → List (List Position) → List ℕ
 polygon srid rings = head 3 srid ++ four (length rings) ++ flat_map ring rings
 
@@ -60,6 +61,7 @@ polygon_of positions ring_ends polygon_ends index =
     let start = start_of polygon_ends index in
     map (ring_of positions ring_ends) (range_with_len start (slice_index polygon_ends index - start))
 
+-- All polygons, from where each stops.
 unfoldable pub polygons_of : List Position → List ℕ → List ℕ → List (List (List Position))
 polygons_of positions ring_ends polygon_ends = map (polygon_of positions ring_ends polygon_ends) (range_with_len 0 (length polygon_ends))
 

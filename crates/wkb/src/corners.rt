@@ -10,7 +10,7 @@ ghost use Rattle.wkb.specs.Reading.{IfFaulty, IfFlawed, shape_bytes};
 
 use crate::coordinates::{append_positions, place_of};
 use crate::fault::{Fault, FaultKind, Flaw, LayoutFault, ReadFault};
-use crate::reading::fault_among;
+use crate::reading::{BinaryArray, fault_among};
 use crate::structure::{RingAt, layout};
 use grid::Position;
 use grid::corners::corners;
@@ -77,29 +77,28 @@ fn append_shape<A: Allocator>(
 
 /// Appends the positions of one of many shapes, all of which have to be finite.
 fn append_next<A: Allocator>(
-    bytes: &[u8],
-    offsets: &[usize],
+    array: BinaryArray<'_>,
     shape: usize,
     most_nested: usize,
     rings: &mut Vec<RingAt, A>,
     positions: &mut Vec<Position, A>,
 ) -> Result<(), ReadFault>
-    requires shape { shape + 1 < length offsets.now }
+    requires shape { shape + 1 < length array.offsets.now }
     requires finite { AreFinite positions.old.items }
-    ensures ok { OnOk result (LaysPositions most_nested (shape_bytes bytes.now offsets.now shape) positions.old.items positions.new.items) }
+    ensures ok { OnOk result (LaysPositions most_nested (shape_bytes array.entry.bytes.now array.entry.offsets.now shape) positions.old.items positions.new.items) }
     ensures finite { OnOk result (AreFinite positions.new.items) }
-    ensures fault { IfErr result (λ e. IfFaulty e (λ fault. IsCornersFault most_nested bytes.now offsets.now fault)) }
+    ensures fault { IfErr result (λ e. IfFaulty e (λ fault. IsCornersFault most_nested array.entry.bytes.now array.entry.offsets.now fault)) }
 {
-    let start = offsets[shape];
-    let end = offsets[shape + 1];
-    if end < start || bytes.len() < end {
+    let start = array.offsets[shape];
+    let end = array.offsets[shape + 1];
+    if end < start || array.bytes.len() < end {
         return Err(ReadFault::Faulty(Fault {
             kind: FaultKind::Offsets,
             shape,
             byte: start,
         }));
     }
-    match append_shape(&bytes[start..end], most_nested, rings, positions) {
+    match append_shape(&array.bytes[start..end], most_nested, rings, positions) {
         Ok(()) => Ok(()),
         Err(fault) => Err(fault_among(fault, shape, start)),
     }
@@ -120,15 +119,9 @@ pub fn corners_of<A: Allocator + Copy>(
 {
     let mut rings = Vec::new(alloc);
     let mut positions = Vec::new(alloc);
+    let array = BinaryArray { bytes, offsets };
     for shape in 0..offsets.len().saturating_sub(1) {
-        append_next(
-            bytes,
-            offsets,
-            shape,
-            most_nested,
-            &mut rings,
-            &mut positions,
-        )?;
+        append_next(array, shape, most_nested, &mut rings, &mut positions)?;
     }
     let Ok(found) = corners(&positions) else {
         unreachable!();

@@ -5,9 +5,7 @@ ghost use Rattle.grid.specs.Grid.{IsGrid};
 ghost use Rattle.wkb.specs.Reading.{AppendsShape, AreShapes, IfFaulty, IsFaulty, fault_among, shape_bytes};
 
 use crate::fault::{Fault, FaultKind, LayoutFault, ReadFault};
-use crate::shape::append_shape;
-use crate::structure::RingAt;
-use grid::Position;
+use crate::shape::{Scratch, append_shape};
 use grid::units::Grid;
 use plane::point::Point;
 use std::alloc::Allocator;
@@ -18,6 +16,13 @@ pub struct Shapes<A: Allocator> {
     pub points: Vec<Point, A>,
     pub ring_ends: Vec<usize, A>,
     pub shape_ends: Vec<usize, A>,
+}
+
+/// Shapes as Arrow has them, in a binary array: a shape's bytes go from its offset to the next one.
+#[derive(Clone, Copy)]
+pub(crate) struct BinaryArray<'a> {
+    pub bytes: &'a [u8],
+    pub offsets: &'a [usize],
 }
 
 /// The fault of one shape, as one of many.
@@ -36,49 +41,35 @@ pub(crate) fn fault_among(fault: LayoutFault, shape: usize, start: usize) -> Rea
 
 /// Appends the rings of a shape, and where it stops among all rings.
 fn append_next<A: Allocator>(
-    bytes: &[u8],
-    offsets: &[usize],
+    array: BinaryArray<'_>,
     shape: usize,
     most_nested: usize,
     grid: &Grid,
-    rings: &mut Vec<RingAt, A>,
-    positions: &mut Vec<Position, A>,
-    told: &mut Vec<Point, A>,
-    points: &mut Vec<Point, A>,
-    ends: &mut Vec<usize, A>,
-    shape_ends: &mut Vec<usize, A>,
+    scratch: &mut Scratch<A>,
+    shapes: &mut Shapes<A>,
 ) -> Result<(), ReadFault>
     requires grid { IsGrid grid.now }
-    requires shape { shape + 1 < length offsets.now }
-    ensures ok { OnOk result (AppendsShape grid.now most_nested (shape_bytes bytes.now offsets.now shape) points.old.items points.new.items ends.old.items ends.new.items) }
-    ensures shape_ends { OnOk result (shape_ends.new.items ≡ shape_ends.old.items ++ length ends.new.items ∷ []) }
-    ensures fault { IfErr result (λ e. IfFaulty e (λ fault. IsFaulty grid.now most_nested bytes.now offsets.now fault)) }
+    requires shape { shape + 1 < length array.offsets.now }
+    ensures ok { OnOk result (AppendsShape grid.now most_nested (shape_bytes array.entry.bytes.now array.entry.offsets.now shape) shapes.old.points.items shapes.new.points.items shapes.old.ring_ends.items shapes.new.ring_ends.items) }
+    ensures shape_ends { OnOk result (shapes.new.shape_ends.items ≡ shapes.old.shape_ends.items ++ length shapes.new.ring_ends.items ∷ []) }
+    ensures fault { IfErr result (λ e. IfFaulty e (λ fault. IsFaulty grid.now most_nested array.entry.bytes.now array.entry.offsets.now fault)) }
 {
-    let start = offsets[shape];
-    let end = offsets[shape + 1];
-    if end < start || bytes.len() < end {
+    let start = array.offsets[shape];
+    let end = array.offsets[shape + 1];
+    if end < start || array.bytes.len() < end {
         return Err(ReadFault::Faulty(Fault {
             kind: FaultKind::Offsets,
             shape,
             byte: start,
         }));
     }
-    let found = append_shape(
-        &bytes[start..end],
-        most_nested,
-        grid,
-        rings,
-        positions,
-        told,
-        points,
-        ends,
-    );
+    let found = append_shape(&array.bytes[start..end], most_nested, grid, scratch, shapes);
     match found {
         Ok(()) => {}
         Err(fault) => return Err(fault_among(fault, shape, start)),
     }
-    let all = ends.as_slice();
-    shape_ends.push(all.len())?;
+    let all = shapes.ring_ends.as_slice();
+    shapes.shape_ends.push(all.len())?;
     Ok(())
 }
 
@@ -98,30 +89,19 @@ pub fn read<A: Allocator + Copy>(
     ensures ok { IfOk result (λ shapes. AreShapes grid.now most_nested bytes.now offsets.now shapes.points.items shapes.ring_ends.items shapes.shape_ends.items) }
     ensures fault { IfErr result (λ e. IfFaulty e (λ fault. IsFaulty grid.now most_nested bytes.now offsets.now fault)) }
 {
-    let mut points = Vec::new(alloc);
-    let mut ring_ends = Vec::new(alloc);
-    let mut shape_ends = Vec::new(alloc);
-    let mut rings = Vec::new(alloc);
-    let mut positions = Vec::new(alloc);
-    let mut told = Vec::new(alloc);
+    let mut shapes = Shapes {
+        points: Vec::new(alloc),
+        ring_ends: Vec::new(alloc),
+        shape_ends: Vec::new(alloc),
+    };
+    let mut scratch = Scratch {
+        rings: Vec::new(alloc),
+        positions: Vec::new(alloc),
+        told: Vec::new(alloc),
+    };
+    let array = BinaryArray { bytes, offsets };
     for shape in 0..offsets.len().saturating_sub(1) {
-        append_next(
-            bytes,
-            offsets,
-            shape,
-            most_nested,
-            grid,
-            &mut rings,
-            &mut positions,
-            &mut told,
-            &mut points,
-            &mut ring_ends,
-            &mut shape_ends,
-        )?;
+        append_next(array, shape, most_nested, grid, &mut scratch, &mut shapes)?;
     }
-    Ok(Shapes {
-        points,
-        ring_ends,
-        shape_ends,
-    })
+    Ok(shapes)
 }

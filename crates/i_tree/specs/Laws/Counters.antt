@@ -3,6 +3,7 @@ use Rattle.std.proofs.Common.{arith}
 use Rattle.std.specs.Prelude.{⊤}
 use Rattle.i_tree.specs.Root.Steps.{Counts, Adds, Accumulates}
 
+-- What is added to counts one after another is added at once.
 pub Adds-accumulate : Accumulates Adds
 Adds-accumulate =
     record {
@@ -15,5 +16,6 @@ Adds-accumulate =
       };
     }
 
+-- And where nothing is counted, nothing is said.
 pub any-accumulate : {S : Type 0} → Accumulates (λ (old new : S) (made : Counts). ⊤)
 any-accumulate = record { none = λ state. tt; both = λ old mid new first second before after. tt }

@@ -79,6 +79,7 @@ module _ {T : Type 0} where
   abbrev pub left_at : ℕ → Shape T → Shape T
   left_at handle tree = left_subtree (subtree_at handle tree)
 
+  -- and that on its right
   abbrev pub right_at : ℕ → Shape T → Shape T
   right_at handle tree = right_subtree (subtree_at handle tree)
 

@@ -11,15 +11,19 @@ pub record Counts : Type 0 where
 abbrev pub nothing : Counts
 nothing = record { comparisons = 0; tests = 0; removals = 0; rotations = 0 }
 
+-- One comparison, and nothing else.
 abbrev pub one_comparison : Counts
 one_comparison = record { comparisons = 1; tests = 0; removals = 0; rotations = 0 }
 
+-- One test of what has expired, and nothing else.
 abbrev pub one_test : Counts
 one_test = record { comparisons = 0; tests = 1; removals = 0; rotations = 0 }
 
+-- One removal, and nothing else.
 abbrev pub one_removal : Counts
 one_removal = record { comparisons = 0; tests = 0; removals = 1; rotations = 0 }
 
+-- One rotation, and nothing else.
 abbrev pub one_rotation : Counts
 one_rotation = record { comparisons = 0; tests = 0; removals = 0; rotations = 1 }
 

@@ -7,8 +7,8 @@ ghost use Rattle.itree.specs.Answers.{AnswersSweep};
 
 use crate::fault::Fault;
 use crate::lines::{SweepLine, reply_text, segment_line};
-use i_tree::key::exp::KeyExpCollection;
 use horizontal::{Level, Point, Segment, SweepFault, below};
+use i_tree::key::exp::KeyExpCollection;
 use std::alloc::{AllocError, Allocator};
 
 /// The text of the replies to the points that the lines of the text say, over the segments that they say.

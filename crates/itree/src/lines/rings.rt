@@ -13,8 +13,8 @@ ghost use Rattle.overlay.specs.Polygons.{rings_of};
 use super::points::{points_between, push_points};
 use super::{ascii_text, cut_line, line_words, two_numbers};
 use crate::fault::Fault;
-use plane::point::Point;
 use overlay::{Polygons, Rings};
+use plane::point::Point;
 use std::alloc::{AllocError, Allocator};
 
 /// Rings: the points of all of them, one ring after another, and where each stops among these.

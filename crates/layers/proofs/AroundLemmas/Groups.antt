@@ -1,6 +1,6 @@
 -- The edges of chains by their shapes, and which points of a group lie in a shape.
-use Rattle.std.proofs.Common.{Bool, true, false, not, cond, ◌||◌, ◌&&◌, ◌==◌, ◌≡◌, ◌≢◌, ◌↔◌, ◌⊎◌, inl, inr, ℕ, zero, suc, ◌+◌, ◌*◌, ◌<◌, ◌≤◌, ℤ, pos, ◌+ℤ◌, List, [], ◌∷◌, ◌++◌, length, get_or, take, refl, sym, subst, ap, ap₂, ◌∙◌, append-nil, eqb, eq-eqb, arith}
-use Rattle.std.specs.List.{All, AllPairs, Contains, filter, flat_map}
+use Rattle.std.proofs.Common.{Bool, true, false, cond, ◌||◌, ◌==◌, ◌≡◌, ◌≢◌, ◌↔◌, ◌⊎◌, inl, inr, ℕ, zero, suc, ◌+◌, ◌*◌, ◌<◌, ◌≤◌, pos, ◌+ℤ◌, List, [], ◌∷◌, ◌++◌, length, get_or, take, refl, sym, subst, ap, ◌∙◌, append-nil, eq-eqb, arith}
+use Rattle.std.specs.List.{All, Contains, filter}
 use Rattle.std.proofs.lemmas.Bool.{eqb-true, false_from_ne_true}
 use Rattle.std.proofs.lemmas.List.{get_or-take, get_or_default, length-append, length-take, take_more}
 use Rattle.std.proofs.lemmas.List.Concat.{flat_map-append}
@@ -9,13 +9,13 @@ use Rattle.i_tree.proofs.RootLemmas.Lists.{filter_all}
 use Rattle.plane.specs.declared.edge.Edge.{Edge}
 use Rattle.plane.specs.Meet.Edges.{RationalPoint}
 use Rattle.plane.specs.Pairs.Points.{Gains}
-use Rattle.plane.proofs.PairsLemmas.Points.{Gains-none, Gains-same, Gains-then}
+use Rattle.plane.proofs.PairsLemmas.Points.{Gains-then}
 use Rattle.overlay.specs.declared.fill.rules.FillRule.{FillRule}
 use Rattle.overlay.specs.declared.fill.rules.FillRule.TheVariants.{EvenOdd, Negative, NonZero, Positive}
 use Rattle.overlay.specs.Fill.Rules.{is_inside}
 use Rattle.noding.specs.Windings.{winding}
 use Rattle.layers.specs.Around.{IsOn, IsOnAny, LiesIn, halved}
-use Rattle.layers.specs.Chains.{AreApart, AreSameAround, IsAround, IsBounded, LiesAmong, LiesInChains, chain_edges, edges_in, edges_of_chains, is_in}
+use Rattle.layers.specs.Chains.{AreApart, AreSameAround, IsAround, IsBounded, LiesAmong, chain_edges, edges_in, edges_of_chains, is_in}
 use Rattle.layers.specs.declared.around.chains.Chain.{Chain}
 use Rattle.layers.specs.declared.around.placed.Placed.{Placed}
 use Rattle.layers.specs.declared.around.turns.Around.{Around}

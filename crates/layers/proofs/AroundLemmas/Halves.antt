@@ -1,8 +1,8 @@
 -- What a group of points gains: by chains that do for all of its points, and by its two halves.
-use Rattle.std.proofs.Common.{◌≡◌, ◌↔◌, ◌⊎◌, ℕ, Bool, List, ◌++◌, inl, inr, IsTrue, ℤ, sym, ◌∙◌, subst}
-use Rattle.std.specs.List.{All, AllPairs, Contains}
+use Rattle.std.proofs.Common.{◌≡◌, ◌↔◌, ◌⊎◌, ℕ, List, ◌++◌, inl, inr, IsTrue, ℤ, sym, ◌∙◌, subst}
+use Rattle.std.specs.List.{All}
 use Rattle.std.proofs.lemmas.List.Elements.{All-contains, Contains-append_cases, Contains-append_left, Contains-append_right}
-use Rattle.i_tree.proofs.RootLemmas.Joined.{AllPairs-across, AllPairs-behind, AllPairs-front}
+use Rattle.i_tree.proofs.RootLemmas.Joined.{AllPairs-across}
 use Rattle.plane.specs.declared.edge.Edge.{Edge}
 use Rattle.plane.specs.Meet.Edges.{RationalPoint}
 use Rattle.plane.specs.Pairs.Points.{Gains}
@@ -16,7 +16,7 @@ use Rattle.layers.specs.declared.around.placed.Placed.{Placed}
 use Rattle.layers.specs.declared.points.Border.{Border}
 use Rattle.layers.specs.declared.points.Border.TheVariants.{Closed, Open, HalfOpen}
 use Rattle.layers.specs.Around.{LiesIn, halved}
-use Rattle.layers.specs.Chains.{AreApart, AreSameAround, AreSameIn, IsInExtent, LiesAmong, LiesInChains, edges_in}
+use Rattle.layers.specs.Chains.{AreApart, AreSameAround, AreSameIn, IsInExtent, LiesInChains, edges_in}
 
 -- the other way round they are the same too
 turned : (point : RationalPoint) (edges others : List Edge) → AreSameAround point edges others → AreSameAround point others edges

@@ -1,5 +1,5 @@
 -- Items of lists of which something holds.
-use Rattle.std.proofs.Common.{◌≡◌, ◌⊎◌, inl, inr, ℕ, zero, suc, ◌<◌, List, [], ◌∷◌, ◌++◌, length, get_or, sym, subst, arith}
+use Rattle.std.proofs.Common.{◌⊎◌, inl, inr, zero, suc, List, [], ◌∷◌, ◌++◌, sym, subst, arith}
 use Rattle.std.specs.List.{Any}
 
 module _ {X : Type 0} (P : X → Type 0) where

@@ -1,10 +1,10 @@
 -- The chains that are made of rings and shapes.
-use Rattle.std.proofs.Common.{◌≡◌, ◌≢◌, ◌⊎◌, inl, inr, ℕ, ◌+◌, ◌-◌, ◌<◌, ◌≤◌, pos, List, [], ◌∷◌, ◌++◌, length, get_or, map, take, drop, refl, sym, subst, ap, ap₂, ◌∙◌, append-nil, append_assoc, arith}
-use Rattle.std.specs.List.{All, AllPairs, flat_map}
+use Rattle.std.proofs.Common.{◌≡◌, inl, inr, ℕ, ◌+◌, ◌<◌, ◌≤◌, List, [], ◌∷◌, ◌++◌, length, get_or, take, drop, refl, sym, subst, ap, ap₂, ◌∙◌, append-nil, append_assoc, arith}
+use Rattle.std.specs.List.{All}
 use Rattle.std.proofs.lemmas.Bool.{cases_lt}
-use Rattle.std.proofs.lemmas.List.{get_or-drop, get_or-take, get_or_past, length-drop, length-take, take-append-drop, take_rest}
+use Rattle.std.proofs.lemmas.List.{get_or-drop, get_or-take, get_or_past, length-drop, length-take, take-append-drop}
 use Rattle.std.proofs.lemmas.List.Concat.{flat_map-append}
-use Rattle.std.proofs.lemmas.List.Elements.{All-append, All-cons, All-nil, All-weaker}
+use Rattle.std.proofs.lemmas.List.Elements.{All-append, All-cons, All-nil}
 use Rattle.std.proofs.Math.Seq.{take-add}
 use Rattle.i_tree.proofs.RootLemmas.Joined.{AllPairs-append}
 use Rattle.plane.specs.declared.edge.Edge.{Edge}
@@ -12,7 +12,7 @@ use Rattle.plane.specs.declared.point.Point.{Point}
 use Rattle.overlay.specs.Contours.Rings.{ring_edges}
 use Rattle.noding.specs.Windings.{pieces}
 use Rattle.overlay.proofs.ContourLemmas.Rings.{pieces-append}
-use Rattle.layers.specs.Chains.{AppendsChains, AreChainsOf, AreInOrder, AreOfShape, IsBounded, chain_edges, edges_in, edges_of_chains}
+use Rattle.layers.specs.Chains.{AppendsChains, AreChainsOf, AreInOrder, IsBounded, chain_edges, edges_in}
 use Rattle.layers.specs.declared.around.chains.Chain.{Chain}
 use Rattle.layers.proofs.AroundLemmas.Groups.{edges_in-append, edges_in-of, edges_in-other}
 

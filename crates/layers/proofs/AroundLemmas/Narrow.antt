@@ -1,6 +1,6 @@
 -- Chains that do for the points of a box in the place of others.
-use Rattle.std.proofs.Common.{Bool, true, false, ◌||◌, ◌≡◌, ◌≢◌, ◌⊎◌, inl, inr, ℕ, ◌+◌, ◌<◌, ◌≤◌, ℤ, pos, ◌+ℤ◌, ◌-ℤ◌, ◌*ℤ◌, ◌<ℤ◌, ◌≤ℤ◌, List, [], ◌∷◌, ◌++◌, length, get_or, take, refl, sym, subst, ap, ap₂, ◌∙◌, append-nil, append_assoc, arith}
-use Rattle.std.specs.List.{All, AllPairs}
+use Rattle.std.proofs.Common.{Bool, true, false, ◌||◌, ◌≡◌, ◌≢◌, inl, inr, ℕ, ◌<◌, ◌≤◌, ℤ, pos, ◌+ℤ◌, ◌-ℤ◌, ◌*ℤ◌, ◌<ℤ◌, List, [], ◌∷◌, ◌++◌, length, get_or, take, refl, sym, subst, ap, ◌∙◌, append-nil, append_assoc, arith}
+use Rattle.std.specs.List.{All}
 use Rattle.std.specs.Prelude.{int_le, int_lt}
 use Rattle.std.specs.Int.{int_max, int_min}
 use Rattle.std.specs.Ordering.{int_eq}
@@ -16,11 +16,11 @@ use Rattle.noding.specs.Windings.{count}
 use Rattle.noding.proofs.SnapLemmas.Counted.{added}
 use Rattle.noding.proofs.SnapLemmas.Windings.{winding-added, winding-append}
 use Rattle.layers.specs.Around.{IsOn, IsOnAny, halved}
-use Rattle.layers.specs.Chains.{AreInOrder, AreSameAround, AreSameIn, AreUpto, IsBounded, IsInExtent, IsLow, Leads, chain_edges, chain_start, edges_in, edges_of_chains, is_above, is_apart, is_beside}
+use Rattle.layers.specs.Chains.{AreSameAround, AreSameIn, AreUpto, IsBounded, IsInExtent, IsLow, Leads, chain_edges, chain_start, edges_in, edges_of_chains, is_apart, is_beside}
 use Rattle.layers.specs.declared.around.chains.Chain.{Chain}
 use Rattle.layers.specs.declared.around.extents.Extent.{Extent}
 use Rattle.layers.specs.declared.around.half_point.HalfPoint.{HalfPoint}
-use Rattle.layers.proofs.AroundLemmas.Chains.{IsLow-above, apart-chain, apart-chain_off, low-chain, low-chain_off}
+use Rattle.layers.proofs.AroundLemmas.Chains.{apart-chain, apart-chain_off, low-chain, low-chain_off}
 use Rattle.layers.proofs.AroundLemmas.Groups.{edges_in-append, edges_in-of, edges_in-other}
 use Rattle.layers.proofs.AroundLemmas.Lists.{Any-append_cases, Any-none}
 use Rattle.layers.proofs.AroundLemmas.Rounds.{AreSame-append, AreSame-off, AreSame-refl, AreSame-trans}

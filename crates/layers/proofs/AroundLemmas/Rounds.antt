@@ -1,5 +1,5 @@
 -- How often edges wind around a point, and whether one goes through it: of some edges and of others, and how far the number goes.
-use Rattle.std.proofs.Common.{Bool, true, false, ◌||◌, ◌≡◌, ◌↔◌, ◌⊎◌, inl, inr, ℕ, ◌+◌, ◌<◌, ◌≤◌, ℤ, pos, ◌+ℤ◌, ◌-ℤ◌, ◌≤ℤ◌, List, [], ◌∷◌, ◌++◌, length, get_or, take, refl, subst, arith}
+use Rattle.std.proofs.Common.{Bool, true, false, ◌||◌, ◌≡◌, inl, inr, ℕ, ◌+◌, ◌<◌, ◌≤◌, ℤ, pos, ◌+ℤ◌, List, [], ◌∷◌, ◌++◌, length, get_or, take, refl, subst, arith}
 use Rattle.std.proofs.lemmas.Int.{ints}
 use Rattle.std.proofs.lemmas.List.{take_more}
 use Rattle.std.proofs.lemmas.List.Sums.{count_by-le-length}
@@ -7,7 +7,7 @@ use Rattle.plane.specs.declared.edge.Edge.{Edge}
 use Rattle.plane.specs.Meet.Crosses.{IsWithin}
 use Rattle.plane.specs.Meet.Edges.{RationalPoint}
 use Rattle.noding.specs.Windings.{is_under, reversed, winding}
-use Rattle.noding.proofs.SnapLemmas.Counted.{added, under}
+use Rattle.noding.proofs.SnapLemmas.Counted.{added}
 use Rattle.noding.proofs.SnapLemmas.Windings.{winding-added, winding-append}
 use Rattle.layers.specs.Around.{IsOn, IsOnAny}
 use Rattle.layers.specs.Chains.{AreSameAround, IsAround}

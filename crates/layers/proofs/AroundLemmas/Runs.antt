@@ -1,5 +1,5 @@
 -- Chains that stand shape by shape: the run of one shape behind those of the shapes before it.
-use Rattle.std.proofs.Common.{◌≡◌, ◌≢◌, ◌⊎◌, inl, inr, ℕ, ◌+◌, ◌-◌, ◌<◌, ◌≤◌, Some, List, ◌++◌, [], length, get_or, take, drop, MatchOption, refl, sym, subst, ap, ap₂, ◌∙◌, append-nil, arith}
+use Rattle.std.proofs.Common.{◌≡◌, ◌≢◌, ◌⊎◌, inl, inr, ℕ, ◌+◌, ◌-◌, ◌<◌, ◌≤◌, Some, List, ◌++◌, length, get_or, take, drop, MatchOption, sym, subst, ap, ap₂, ◌∙◌, append-nil, arith}
 use Rattle.std.specs.List.{All, AllPairs, slice_get}
 use Rattle.std.specs.Prelude.{⊤}
 use Rattle.std.proofs.lemmas.Bool.{cases_lt}

@@ -1,5 +1,5 @@
 -- An edge and a point: how often it winds around the point, and whether it goes through it, by where both lie.
-use Rattle.std.proofs.Common.{Bool, true, false, not, ◌&&◌, ◌≡◌, ◌∙◌, ℕ, ◌*◌, ◌<◌, ◌≤◌, ℤ, pos, ◌+ℤ◌, ◌-ℤ◌, ◌*ℤ◌, ◌<ℤ◌, ◌≤ℤ◌, refl, sym, ap, arith}
+use Rattle.std.proofs.Common.{Bool, true, false, not, ◌&&◌, ◌≡◌, ◌∙◌, ℕ, ◌*◌, ◌<◌, ◌≤◌, ℤ, pos, ◌+ℤ◌, ◌-ℤ◌, ◌*ℤ◌, ◌<ℤ◌, ◌≤ℤ◌, refl, ap, arith}
 use Rattle.std.specs.Prelude.{int_le, int_lt}
 use Rattle.std.proofs.lemmas.Int.{by_lt_z, ints}
 use Rattle.plane.specs.declared.edge.Edge.{Edge}

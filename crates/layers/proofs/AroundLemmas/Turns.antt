@@ -1,5 +1,5 @@
 -- An edge and a half point in its box: how often it winds around, and whether it goes through, by the side on which the point lies.
-use Rattle.std.proofs.Common.{Bool, true, false, cond, ◌&&◌, ◌≡◌, ◌∙◌, ◌↔◌, inl, inr, [], ◌∷◌, ℕ, ◌*◌, ◌<◌, ◌≤◌, ℤ, pos, ◌+ℤ◌, ◌-ℤ◌, ◌*ℤ◌, ◌<ℤ◌, ◌≤ℤ◌, refl, sym, ap, arith}
+use Rattle.std.proofs.Common.{Bool, true, false, cond, ◌&&◌, ◌≡◌, ◌∙◌, inl, inr, [], ◌∷◌, ℕ, ◌*◌, ℤ, pos, ◌+ℤ◌, ◌-ℤ◌, ◌*ℤ◌, ◌<ℤ◌, ◌≤ℤ◌, refl, sym, ap, arith}
 use Rattle.std.specs.Prelude.{int_le, int_lt}
 use Rattle.std.specs.Int.{int_max, int_min}
 use Rattle.std.proofs.lemmas.Int.{by_lt_z, clamps, ints}
@@ -7,10 +7,10 @@ use Rattle.plane.specs.declared.edge.Edge.{Edge}
 use Rattle.plane.specs.declared.pairs.items.Bounds.{Bounds}
 use Rattle.plane.specs.declared.point.Point.{Point}
 use Rattle.plane.specs.Meet.Crosses.{cross}
-use Rattle.plane.specs.Meet.Edges.{IsOf, RationalPoint}
+use Rattle.plane.specs.Meet.Edges.{RationalPoint}
 use Rattle.plane.specs.Meet.Kinds.{HasPoint}
 use Rattle.plane.proofs.MeetLemmas.Along.{meet-of_along}
-use Rattle.plane.proofs.MeetLemmas.Identities.{Term, identity, minus, number, plus, same_of, scaled, times}
+use Rattle.plane.proofs.MeetLemmas.Identities.{Term, identity, minus, number, plus, scaled, times}
 use Rattle.plane.proofs.MeetLemmas.Kinds.{dot, has_point-of_meet}
 use Rattle.noding.specs.Windings.{edge_between, reversed, count}
 use Rattle.noding.proofs.SnapLemmas.Counted.{counted, covers, is_low, is_low-left, under}

@@ -1,10 +1,10 @@
 -- Of the pairs in which each stands: how many, and the best.
-use Rattle.std.proofs.Common.{◌≡◌, ◌≢◌, ℕ, zero, suc, ◌+◌, ◌<◌, ◌≤◌, ◌==◌, ◌⊎◌, inl, inr, Bool, true, false, not, ◌&&◌, List, [], ◌∷◌, ◌++◌, Option, Some, None, IfSome, IsSomeAnd, length, length-set, get_or, set, refl, sym, ap, ◌∙◌, subst, arith, get_or-set_other, get_or-set_same, length-append}
-use Rattle.std.specs.List.{All, Contains}
+use Rattle.std.proofs.Common.{◌≡◌, ◌≢◌, ℕ, zero, suc, ◌<◌, inl, inr, true, false, List, [], ◌∷◌, ◌++◌, Option, Some, None, IfSome, IsSomeAnd, length, length-set, get_or, set, refl, sym, ◌∙◌, subst, arith, get_or-set_other, get_or-set_same}
+use Rattle.std.specs.List.{Contains}
 use Rattle.std.proofs.lemmas.Bool.{cases_eq}
 use Rattle.std.proofs.lemmas.Bool.Decides.{nat_tests}
 use Rattle.std.proofs.lemmas.List.Elements.{All-push, All-weaker, Contains-push}
-use Rattle.layers.specs.Parents.{AreBest, AreDepths, IsBest, IsNoBetter, is_of}
+use Rattle.layers.specs.Parents.{AreBest, IsBest, IsNoBetter, is_of}
 
 -- ---- the best
 

@@ -1,5 +1,5 @@
 -- Parts whose spans don't meet are clear of each other, and so are points of the one and points of the other.
-use Rattle.std.proofs.Common.{◌≡◌, ◌⊎◌, inl, inr, ⊎_elim, suc, pos, negsuc, ◌+ℤ◌, ◌<◌, ◌<ℤ◌, List, [], ◌∷◌, length, sym, ap, subst, arith}
+use Rattle.std.proofs.Common.{◌≡◌, ◌⊎◌, inl, inr, ⊎_elim, suc, pos, negsuc, ◌+ℤ◌, ◌<ℤ◌, List, [], ◌∷◌, sym, ap, subst, arith}
 use Rattle.std.specs.List.{All, Contains}
 use Rattle.std.proofs.lemmas.Int.{by_lt_z, ints}
 use Rattle.std.proofs.lemmas.List.Elements.{All-nil, All-cons, All-contains, All-head, All-tail, All-weaker}

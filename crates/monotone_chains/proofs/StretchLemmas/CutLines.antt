@@ -1,14 +1,13 @@
 -- A line that keeps the points of parts apart.
-use Rattle.std.proofs.Common.{◌≡◌, ℤ, pos, ◌+ℤ◌, ◌-ℤ◌, ◌*ℤ◌, ◌<ℤ◌, ◌≤ℤ◌, List, arith}
+use Rattle.std.proofs.Common.{ℤ, pos, ◌+ℤ◌, ◌-ℤ◌, ◌<ℤ◌, ◌≤ℤ◌, List, arith}
 use Rattle.std.specs.List.{All}
 use Rattle.std.proofs.lemmas.Int.{ints}
 use Rattle.std.proofs.lemmas.List.Elements.{All-contains}
 use Rattle.plane.specs.declared.edge.Edge.{Edge}
 use Rattle.plane.specs.declared.point.Point.{Point}
-use Rattle.plane.proofs.MeetLemmas.Identities.{identity, minus, number, plus, times}
 use Rattle.monotone_chains.specs.Stretches.{AreApart}
 use Rattle.noding.specs.Windings.{height_over, margin_of}
-use Rattle.noding.proofs.SnapLemmas.Numbers.{abs-negative, n_of}
+use Rattle.noding.proofs.SnapLemmas.Numbers.{abs-negative}
 use Rattle.noding.proofs.SnapLemmas.Hulls.{over}
 
 pub AreApart-line : (line : Edge) (top : ℤ) (some others : List Point) → All (λ point. height_over line point ≤ℤ top) some → All (λ point. (top +ℤ margin_of line) <ℤ height_over line point) others → AreApart some others

@@ -11,6 +11,7 @@ use Rattle.monotone_chains.specs.declared.stretches.parts.Part.{Part}
 abbrev pub way : Part → List Point
 way part = part.from ∷ (part.inner.now ++ part.to ∷ [])
 
+-- The points of a part are a stretch.
 abbrev pub IsPart : Part → Type 0
 IsPart part = IsStretch (way part)
 

@@ -1,12 +1,10 @@
 -- Where parts of rings lie, and when two of them come to each other. For private contracts.
-use Rattle.std.specs.Prelude.{◌≡◌, ◌⊎◌, ◌++◌, ◌<◌, ◌+◌, ℤ, pos, ◌+ℤ◌, ◌-ℤ◌, ◌<ℤ◌, ◌≤ℤ◌, cond, IsTrue, List, All, Contains, length, unsigned_abs}
+use Rattle.std.specs.Prelude.{◌≡◌, ◌⊎◌, ◌++◌, ℤ, pos, ◌+ℤ◌, ◌<ℤ◌, ◌≤ℤ◌, cond, IsTrue, List, All, Contains}
 use Rattle.std.specs.Int.Signed.{lt_z}
 use Rattle.std.specs.List.{AllZip}
-use Rattle.plane.specs.declared.edge.Edge.{Edge}
 use Rattle.plane.specs.declared.pairs.items.Bounds.{Bounds}
 use Rattle.plane.specs.declared.point.Point.{Point}
 use Rattle.plane.specs.Meet.Boxes.{bounds_of}
-use Rattle.plane.specs.Meet.Crosses.{cross}
 use Rattle.plane.specs.Pairs.Bounds.{BoundsMeet}
 use Rattle.monotone_chains.specs.Stretches.{IsLong}
 use Rattle.monotone_chains.specs.Stretches.Cut.{way}

@@ -1,7 +1,7 @@
 //! Rings with the points of stretches in place of their chords.
 
-ghost use Rattle.std.specs.Prelude.{◌≡◌, ◌≢◌, ◌++◌, ◌∷◌, [], ◌<◌, ◌≤◌, List, All, Contains, IfOk, MatchOption, OnErr, OnOk, get_or, length, map, reverse};
-ghost use Rattle.std.specs.List.{AllZip, between, flat_map};
+ghost use Rattle.std.specs.Prelude.{◌≡◌, ◌≢◌, ◌++◌, ◌∷◌, [], ◌<◌, List, All, Contains, IfOk, MatchOption, OnErr, OnOk, get_or, length, map, reverse};
+ghost use Rattle.std.specs.List.{AllZip, flat_map};
 ghost use Rattle.plane.specs.declared.point.Point.{Point};
 ghost use Rattle.noding.specs.Offsets.{AreJoined, Extends, offsets};
 ghost use Rattle.noding.specs.Windings.{edge_between};
@@ -13,6 +13,7 @@ use super::chords::chord_of_part;
 use super::parts::Part;
 use noding::edges::edge_between;
 use overlay::contours::next_in;
+use overlay::rings::ring_at;
 use plane::edge::Edge;
 use plane::point::Point;
 use plane::sweep_line::heights::turn_rightwards;
@@ -54,12 +55,9 @@ pub fn append_widened<A: Allocator + Copy>(
     ensures err { OnErr result (Extends points.old.items points.new.items × Extends ends.old.items ends.new.items) }
 {
     let table = table_of(*points.allocator(), parts)?;
-    let mut start = 0;
-    for end in ring_ends {
-        let ring = points_between(ring_points, start, *end);
-        append_ring(parts, &table, ring, points)?;
+    for ring in 0..ring_ends.len() {
+        append_ring(parts, &table, ring_at(ring_points, ring_ends, ring), points)?;
         ends.push(points.len())?;
-        start = *end;
     }
     Ok(())
 }
@@ -102,14 +100,6 @@ fn append_way<A: Allocator>(
             Ok(())
         }
     }
-}
-
-// The points from the one place on, and before the other.
-fn points_between(points: &[Point], start: usize, end: usize) -> &[Point]
-    requires { (start ≤ end) × (end ≤ length points.now) }
-    ensures { result.now ≡ between start end points.now }
-{
-    &points[start..end]
 }
 
 // The stretch whose chord goes from the one point to the other, or back.

@@ -1,18 +1,17 @@
 -- Rings without the points at which they go straight on.
-use Rattle.std.proofs.Common.{◌≡◌, inl, inr, ℕ, suc, ◌+◌, ◌-◌, ◌<◌, ◌≤◌, ℤ, pos, ◌-ℤ◌, ◌<ℤ◌, Bool, true, false, cond, List, [], ◌∷◌, ◌++◌, length, get_or, map, take, drop, refl, sym, ap, ap₂, ◌∙◌, append-nil, append_assoc, arith}
+use Rattle.std.proofs.Common.{◌≡◌, inl, inr, ℕ, ◌+◌, ◌<◌, ℤ, pos, ◌-ℤ◌, ◌<ℤ◌, Bool, true, false, cond, List, [], ◌∷◌, ◌++◌, length, get_or, map, take, drop, refl, sym, ap, ap₂, ◌∙◌, append_assoc, arith}
 use Rattle.std.specs.List.{flat_map}
-use Rattle.std.specs.Prelude.{◌&&◌, int_le, int_lt}
+use Rattle.std.specs.Prelude.{◌&&◌, OnErr, Result, int_le, int_lt}
 use Rattle.std.proofs.lemmas.Bool.{cases_Bool}
 use Rattle.std.proofs.lemmas.Int.{ints}
-use Rattle.std.proofs.lemmas.List.{drop_more, flat_map_more, length-append, map_more, take-append-drop, take_more}
-use Rattle.std.proofs.lemmas.List.Concat.{flat_map-append}
+use Rattle.std.proofs.lemmas.List.{drop_more, flat_map_more, length-append, map_more, take_more}
 use Rattle.plane.specs.Meet.Crosses.{cross}
 use Rattle.plane.specs.declared.point.Point.{Point}
 use Rattle.overlay.specs.Contours.Outlines.{IsStraight, bends, goes_straight, next_or, outline, ring_point}
 use Rattle.overlay.specs.Contours.Turns.{dot}
-use Rattle.noding.specs.Offsets.{between, offsets}
-use Rattle.noding.proofs.ChainLemmas.Offsets.{joined, list-between, offset-at}
-use Rattle.noding.proofs.ChainLemmas.Runs.{offsets-more}
+use Rattle.noding.specs.Offsets.{Extends, offsets}
+use Rattle.noding.proofs.ChainLemmas.Runs.{Extends-trans, offsets-more}
+use Rattle.plane.proofs.PairsLemmas.Extends.{OnErr-always}
 
 -- the test
 straight-test : (c d : ℤ) (r s t : Bool) → int_le c (pos 0) ≡ r → int_le (pos 0) c ≡ s → int_lt (pos 0) d ≡ t → ((r && s) && t) ≡ true → (c ≡ pos 0) × (pos 0 <ℤ d)
@@ -73,41 +72,7 @@ joined-map : {X Y : Type 0} (f : List X → List Y) (lists : List (List X)) → 
 joined-map f [] = refl
 joined-map f (list ∷ lists) = ap (λ rest. f list ++ rest) (joined-map f lists)
 
-pub length-offsets : {X : Type 0} (start : ℕ) (lists : List (List X)) → length (offsets start lists) ≡ length lists
-length-offsets start [] = refl
-length-offsets start (list ∷ lists) = ap (λ (n : ℕ). suc n) (length-offsets (start + length list) lists)
-
 module _ (lists : List (List Point)) (k : ℕ) (within : k < length lists) where
-  suc_is : suc k ≡ k + 1
-  suc_is = omega arith
-
-  pub end-is : (d : ℕ) → get_or (offsets 0 lists) k d ≡ length (joined (take (k + 1) lists))
-  end-is d = offset-at 0 lists k d within ∙ ap (λ (n : ℕ). 0 + length (joined (take n lists))) suc_is ∙ omega arith
-
-  more : joined (take (k + 1) lists) ≡ joined (take k lists) ++ get_or lists k []
-  more =
-      ap (λ (rings : List (List Point)). joined rings) (take_more lists k [] within) ∙ flat_map-append (λ (ring : List Point). ring) (take k lists) (get_or lists k [] ∷ [])
-      ∙ ap (λ (list : List Point). joined (take k lists) ++ list) (append-nil (get_or lists k []))
-
-  pub start-upto : length (joined (take k lists)) ≤ length (joined (take (k + 1) lists))
-  start-upto =
-      let long = ap (λ (list : List Point). length list) more in
-      let sum = length-append (joined (take k lists)) (get_or lists k []) in
-      omega (arith, long, sum)
-
-  pub end-inside : length (joined (take (k + 1) lists)) ≤ length (joined lists)
-  end-inside =
-      let whole = ap (λ (rings : List (List Point)). length (joined rings)) (take-append-drop (k + 1) lists) in
-      let parts = ap (λ (list : List Point). length list) (flat_map-append (λ (ring : List Point). ring) (take (k + 1) lists) (drop (k + 1) lists)) in
-      let sum = length-append (joined (take (k + 1) lists)) (joined (drop (k + 1) lists)) in
-      omega (arith, whole, parts, sum)
-
-  pub ring-is : (start end : ℕ) (rings : List Point) → rings ≡ joined lists → start ≡ length (joined (take k lists)) → end ≡ length (joined (take (k + 1) lists)) → take (end - start) (drop start rings) ≡ get_or lists k []
-  ring-is start end rings is starts ends =
-      ap (λ (points : List Point). take (end - start) (drop start points)) is
-      ∙ ap₂ (λ (from upto : ℕ). between from upto (joined lists)) starts (ends ∙ ap (λ (n : ℕ). length (joined (take n lists))) (sym suc_is))
-      ∙ list-between lists k [] within
-
   -- one more outline
   pub outlines-more : (old points points' ring : List Point) (ends_old ends ends' : List ℕ) → points ≡ old ++ flat_map outline (take k lists) → ends ≡ ends_old ++ offsets (length old) (map outline (take k lists))
       → ring ≡ get_or lists k [] → points' ≡ points ++ outline ring → ends' ≡ ends ++ length points' ∷ []
@@ -128,3 +93,7 @@ module _ (lists : List (List Point)) (k : ℕ) (within : k < length lists) where
             ∙ ap (λ (list : List ℕ). ends_old ++ list) (sym (offsets-more (length old) before (outline last)))
             ∙ ap (λ (rings : List (List Point)). ends_old ++ offsets (length old) rings) (sym (map_more outline lists k [] within)),
       )
+
+-- what was appended when memory was refused
+pub stopped : {T E X Y : Type 0} (r : Result T E) (before now after more : List X) (before' after' more' : List Y) → now ≡ before ++ more → Extends now after → after' ≡ before' ++ more' → OnErr r (Extends before after × Extends before' after')
+stopped r before now after more before' after' more' is later is' = OnErr-always r _ (Extends-trans before now after (more, is) later, (more', is'))

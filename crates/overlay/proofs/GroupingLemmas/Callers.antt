@@ -1,5 +1,5 @@
 -- From rings to polygons.
-use Rattle.std.proofs.Common.{◌≡◌, ◌≤◌, [], ◌∷◌, ℕ, suc, Bool, true, not, List, Option, Some, None, length, map, refl, ap, sym, subst, subst₂, ◌∙◌}
+use Rattle.std.proofs.Common.{◌≡◌, ◌≤◌, [], ℕ, Bool, true, not, List, Option, Some, None, length, map, refl, ap, sym, subst, subst₂, ◌∙◌}
 use Rattle.std.specs.List.{All, flat_map, position}
 use Rattle.std.specs.List.Sorted.{IsNonDecreasingBy, IsPermutation}
 use Rattle.std.proofs.lemmas.List.{length-map}
@@ -12,16 +12,13 @@ use Rattle.overlay.specs.Polygons.{BoundsSome, IsPolygon, is_counterclockwise}
 use Rattle.overlay.specs.Polygons.{rings_of as rings_of_all}
 use Rattle.overlay.specs.Rings.{AreEnds, edges_in, rings_of}
 use Rattle.overlay.specs.declared.grouping.order.PlacedRing.{PlacedRing}
+use Rattle.overlay.proofs.EachRing.{rings-size}
 use Rattle.overlay.proofs.GroupingLemmas.Bags.{IsPermutation-flat_map}
 use Rattle.overlay.proofs.GroupingLemmas.Begins.{no-rings}
 use Rattle.overlay.proofs.GroupingLemmas.Grouped.{are-polygons, rings-are}
 use Rattle.overlay.proofs.GroupingLemmas.Placed.{begin-outside, placed-marks, placed-rings, placed-within}
 
 -- ---- marks
-
-rings-size : (points : List Point) (start : ℕ) (ends : List ℕ) → length (rings_of points start ends) ≡ length ends
-rings-size points start [] = refl
-rings-size points start (end ∷ ends) = ap (λ (n : ℕ). suc n) (rings-size points end ends)
 
 -- each ring has a mark
 pub marks-size : (points : List Point) (ends : List ℕ) (are_outer : List Bool) → are_outer ≡ map is_counterclockwise (rings_of points 0 ends) → length are_outer ≡ length ends

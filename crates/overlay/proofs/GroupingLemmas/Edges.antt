@@ -1,5 +1,5 @@
 -- The edges of a ring, from one of its points on, and the sides among them.
-use Rattle.std.proofs.Common.{◌≡◌, ◌<◌, ◌≤◌, ◌+◌, ◌++◌, [], ◌∷◌, ℕ, suc, Bool, true, false, cond, List, drop, length, refl, ap, ap₂, sym, subst, ◌∙◌, append_assoc, arith}
+use Rattle.std.proofs.Common.{◌≡◌, ◌<◌, ◌≤◌, ◌+◌, ◌++◌, [], ◌∷◌, ℕ, suc, Bool, true, false, cond, List, drop, get_or, length, refl, ap, ap₂, sym, subst, take, ◌∙◌, append_assoc, arith}
 use Rattle.std.specs.Cmp.{IsStrictWeakOrder}
 use Rattle.std.specs.List.{between, flat_map}
 use Rattle.std.specs.List.Sorted.{IsPermutation, IsSortedBy}
@@ -21,6 +21,7 @@ use Rattle.overlay.proofs.PieceLemmas.Made.{sorted-order}
 use Rattle.overlay.specs.Grouping.{AreNumbered, AreSides, edges_from, pieces_of}
 use Rattle.overlay.specs.Rings.{AreEnds, edges_in, rings_of}
 use Rattle.overlay.specs.declared.grouping.sides.Side.{Side}
+use Rattle.overlay.proofs.EachRing.{edges_more}
 use Rattle.overlay.proofs.GroupingLemmas.Sweep.{no_side}
 
 along : (first : Point) (others : List Point) (behind : Point) → pieces (first ∷ (others ++ behind ∷ [])) ≡ edges_from (first ∷ others) behind
@@ -77,12 +78,11 @@ turned-more edge edges now before all is more =
     ap (λ (list : List Piece). list ++ turned Subject edges) more ∙ append_assoc now (turned Subject (edge ∷ [])) (turned Subject edges)
     ∙ ap (λ (list : List Piece). now ++ list) (sym (turned-joined (edge ∷ []) edges)) ∙ is
 
--- one more ring
-pub turned-ring : (ring : List Point) (rings : List (List Point)) (now before all : List Piece) → now ++ turned Subject (flat_map ring_edges (ring ∷ rings)) ≡ all → before ≡ now ++ turned Subject (ring_edges ring)
-    → before ++ turned Subject (flat_map ring_edges rings) ≡ all
-turned-ring ring rings now before all is more =
-    ap (λ (list : List Piece). list ++ turned Subject (flat_map ring_edges rings)) more ∙ append_assoc now (turned Subject (ring_edges ring)) (turned Subject (flat_map ring_edges rings))
-    ∙ ap (λ (list : List Piece). now ++ list) (sym (turned-joined (ring_edges ring) (flat_map ring_edges rings))) ∙ is
+-- those of one ring more
+pub turned_ring : (points : List Point) (ends : List ℕ) (ring : ℕ) → ring < length ends
+    → turned Subject (flat_map ring_edges (take (ring + 1) (rings_of points 0 ends))) ≡ turned Subject (flat_map ring_edges (take ring (rings_of points 0 ends))) ++ turned Subject (ring_edges (get_or (rings_of points 0 ends) ring []))
+turned_ring points ends ring inside =
+    ap (λ (edges : List Edge). turned Subject edges) (edges_more points ends ring inside) ∙ turned-joined (flat_map ring_edges (take ring (rings_of points 0 ends))) _
 
 -- ---- sides in order
 

@@ -34,6 +34,7 @@ abbrev pub bends : Point → List Point → Point → List Point
 bends before [] behind = []
 bends before (at ∷ points) behind = cond (goes_straight before at (next_or points behind)) (bends at points behind) (at ∷ bends at points behind)
 
+-- The point of a ring at a place.
 abbrev pub ring_point : List Point → ℕ → Point
 ring_point ring place = get_or ring place (record { x = pos 0; y = pos 0 })
 

@@ -12,6 +12,7 @@ use Rattle.overlay.specs.declared.fill.pieces.Piece.{Piece}
 abbrev pub steps : Edge → ℤ
 steps edge = int_max (run edge) (pos 1)
 
+-- The order in which edges begin: by the x of their starts, then by y, and then by how steeply they rise.
 abbrev pub cmp_begins : Edge → Edge → Ordering
 cmp_begins one other = then_cmp (int_cmp one.x0 other.x0) (then_cmp (int_cmp one.y0 other.y0) (int_cmp (rise one *ℤ steps other) (rise other *ℤ steps one)))
 

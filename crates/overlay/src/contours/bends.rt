@@ -7,6 +7,7 @@ ghost use Rattle.overlay.specs.Contours.Outlines.{IsStraight, next_or, outline, 
 ghost use Rattle.noding.specs.Offsets.{Extends, offsets};
 
 use super::turns::{across, is_ahead, way_between};
+use crate::rings::ring_at;
 use plane::point::Point;
 use std::alloc::{AllocError, Allocator};
 
@@ -26,11 +27,9 @@ pub fn append_outlines<A: Allocator>(
     ensures err { OnErr result (Extends points.old.items points.new.items
         × Extends ring_ends.old.items ring_ends.new.items) }
 {
-    let mut start = 0;
-    for end in ends {
-        append_outline(&rings[start..*end], points)?;
+    for ring in 0..ends.len() {
+        append_outline(ring_at(rings, ends, ring), points)?;
         ring_ends.push(points.len())?;
-        start = *end;
     }
     Ok(())
 }

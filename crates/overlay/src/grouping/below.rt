@@ -5,6 +5,7 @@ ghost use Rattle.overlay.specs.Grouping.{IsRightward, IsSideOf};
 ghost use Rattle.overlay.specs.Rings.{AreEnds};
 
 use super::sides::{Side, side_of};
+use crate::rings::ring_at;
 use noding::edges::edge_between;
 use plane::point::Point;
 use plane::sweep_line::ActiveEdge;
@@ -18,10 +19,8 @@ pub fn ring_below(side: Side, points: &[Point], ends: &[usize]) -> Option<usize>
     ensures { IfSome result (λ ring. ring < length ends.now) }
 {
     let mut best = None;
-    let mut start = 0;
-    for (ring, end) in ends.iter().enumerate() {
-        best = highest_with_ring(best, side, &points[start..*end], ring);
-        start = *end;
+    for ring in 0..ends.len() {
+        best = highest_with_ring(best, side, ring_at(points, ends, ring), ring);
     }
     match best {
         Some(below) => Some(below.ring),

@@ -9,6 +9,7 @@ ghost use Rattle.overlay.specs.Rings.{AreEnds, rings_of};
 
 use super::edges::edge_at;
 use crate::fill::pieces::compare_begins;
+use crate::rings::ring_at;
 use plane::edge::Edge;
 use plane::point::Point;
 use plane::sweep_line::heights::turn_rightwards;
@@ -16,6 +17,7 @@ use std::alloc::{AllocError, Allocator};
 use std::cmp::Ordering;
 
 /// For each ring whether it runs counterclockwise.
+#[tactic(auto, using(crate::proofs::EachRing::told_more, crate::proofs::EachRing::rings_all))]
 pub fn directions<A: Allocator>(
     alloc: A,
     points: &[Point],
@@ -25,10 +27,8 @@ pub fn directions<A: Allocator>(
     ensures { IfOk result (λ are. are.items ≡ map is_counterclockwise (rings_of points.now 0 ends.now)) }
 {
     let mut are_outer = Vec::with_capacity(alloc, ends.len())?;
-    let mut start = 0;
-    for end in ends {
-        are_outer.push(is_counterclockwise(&points[start..*end]))?;
-        start = *end;
+    for ring in 0..ends.len() {
+        are_outer.push(is_counterclockwise(ring_at(points, ends, ring)))?;
     }
     Ok(are_outer)
 }

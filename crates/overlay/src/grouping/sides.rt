@@ -11,6 +11,7 @@ ghost use Rattle.overlay.specs.Rings.{AreEnds, edges_in};
 use super::directions::first_edge;
 use super::edges::edge_at;
 use crate::fill::pieces::{Piece, Role, compare_begins, is_sloped, piece_of};
+use crate::rings::ring_at;
 use plane::edge::Edge;
 use plane::point::Point;
 use std::alloc::{AllocError, Allocator};
@@ -48,6 +49,7 @@ fn sort_sides(sides: &mut [Side])
 }
 
 // The sides of each ring, ring by ring.
+#[tactic(auto, using(crate::proofs::GroupingLemmas::Edges::turned_ring, crate::proofs::EachRing::rings_all))]
 fn all_sides<A: Allocator>(
     alloc: A,
     points: &[Point],
@@ -58,10 +60,8 @@ fn all_sides<A: Allocator>(
     ensures numbered { IfOk result (λ sides. AreNumbered (length ends.now) sides.items) }
 {
     let mut sides = Vec::with_capacity(alloc, points.len())?;
-    let mut start = 0;
-    for (ring, end) in ends.iter().enumerate() {
-        append_sides(&mut sides, &points[start..*end], ring)?;
-        start = *end;
+    for ring in 0..ends.len() {
+        append_sides(&mut sides, ring_at(points, ends, ring), ring)?;
     }
     Ok(sides)
 }
@@ -138,12 +138,11 @@ fn first_sides<A: Allocator>(
     ensures { IfOk result (λ sides. All (IsSideAmong (length ends.now)) sides.items) }
 {
     let mut sides = Vec::new(alloc);
-    let mut start = 0;
-    for (ring, end) in ends.iter().enumerate() {
-        if !are_outer[ring] {
-            append_first(&mut sides, &points[start..*end], ring)?;
+    for ring in 0..ends.len() {
+        if are_outer[ring] {
+            continue;
         }
-        start = *end;
+        append_first(&mut sides, ring_at(points, ends, ring), ring)?;
     }
     Ok(sides)
 }

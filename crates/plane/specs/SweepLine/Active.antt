@@ -60,6 +60,7 @@ expiration active = active.edge.x1 -ℤ pos 1
 abbrev pub is_live_at : ℤ → Entry → Bool
 is_live_at x entry = is_live expiration int_cmp x entry.0
 
+-- The entries that are live at x.
 abbrev pub live_entries : ℤ → List Entry → List Entry
 live_entries x entries = live_pairs expiration int_cmp x entries
 

@@ -49,6 +49,7 @@ IsUpto one other x = height_by_runs one other x ≤ℤ height_by_runs other one 
 abbrev pub rise : Edge → ℤ
 rise edge = edge.y1 -ℤ edge.y0
 
+-- The rise of the one, times the run of the other: slopes are compared so, without a division.
 abbrev pub rise_by_run : Edge → Edge → ℤ
 rise_by_run edge other = rise edge *ℤ run other
 

@@ -1,4 +1,4 @@
-use Rattle.std.proofs.Common.{rules, List, ◌++◌, ◌≡◌, sym, subst, OnOk, arith}
+use Rattle.std.proofs.Common.{rules, List, ◌++◌, ◌≡◌, sym, subst}
 use Rattle.plane.specs.Pairs.Points.{Gains}
 use Rattle.layers.specs.declared.around.chains.Chain.{Chain}
 use Rattle.layers.specs.declared.around.placed.Placed.{Placed}

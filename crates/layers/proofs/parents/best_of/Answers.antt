@@ -1,4 +1,4 @@
-use Rattle.std.proofs.Common.{◌≡◌, ◌≢◌, ◌<◌, ◌∷◌, ◌++◌, [], ℕ, List, None, Option, Some, IfSome, IsSomeAnd, length, get_or, set, take, ap, subst, sym, ◌∙◌, arith}
+use Rattle.std.proofs.Common.{◌≡◌, ◌<◌, ◌∷◌, ◌++◌, [], ℕ, List, None, Option, Some, IfSome, IsSomeAnd, length, get_or, set, take, ap, subst, sym, arith}
 use Rattle.std.proofs.lemmas.List.{get_or_read, take_more}
 use Rattle.layers.specs.Parents.{AreBest, IsNoBetter}
 use Rattle.layers.proofs.ParentLemmas.Depths.{AreBest-kept, AreBest-same, AreBest-taken}

@@ -1,4 +1,4 @@
-use Rattle.std.proofs.Common.{◌<◌, ◌≤◌, length, length-take-le, get_or, take, arith, rules, Fits, w64}
+use Rattle.std.proofs.Common.{◌≤◌, length, length-take-le, get_or, take, arith, rules, Fits, w64}
 use Rattle.std.proofs.lemmas.Grind.{get_or_default_zero}
 use Rattle.std.proofs.lemmas.List.Sums.{count_by-le-length}
 use Rattle.layers.specs.Parents.{is_of}

@@ -1,5 +1,5 @@
-use Rattle.std.proofs.Common.{◌<◌, ◌≤◌, ℕ, [], length, get_or, ap, sym, ◌∙◌, arith}
-use Rattle.layers.specs.Shapes.{all_rings, start_of}
+use Rattle.std.proofs.Common.{ℕ, [], length, get_or, ap, sym, ◌∙◌, arith}
+use Rattle.layers.specs.Shapes.{all_rings}
 use Rattle.layers.proofs.ListLemmas.{length-lists_of}
 use Rattle.layers.proofs.ParentLemmas.Outers.{outer-none, outer-first}
 use Rattle.layers.proofs.parents.outer_ring.Goals as goal

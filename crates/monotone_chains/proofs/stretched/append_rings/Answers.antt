@@ -1,23 +1,18 @@
-use Rattle.std.proofs.Common.{◌≡◌, ◌+◌, ◌∷◌, ℕ, List, IsTrue, length, drop, get_or, subst, rules}
-use Rattle.std.proofs.lemmas.List.{drop_more}
-use Rattle.overlay.specs.Rings.{AreEnds, edges_of, real_edges}
-use Rattle.monotone_chains.proofs.PartLemmas.{AreSoFar, parts-more}
+use Rattle.std.proofs.Common.{◌++◌, [], List, IsTrue, take, sym, ap, ◌∙◌, rules}
+use Rattle.std.specs.List.{flat_map}
+use Rattle.plane.specs.declared.point.Point.{Point}
+use Rattle.overlay.specs.Contours.Rings.{ring_edges}
+use Rattle.overlay.specs.Rings.{real_edges, rings_of}
+use Rattle.overlay.proofs.EachRing.{real_more}
+use Rattle.monotone_chains.proofs.StretchLemmas.CutParts.{AppendsParts-then}
 use Rattle.monotone_chains.proofs.stretched.append_rings.Goals as goal
 
-pub loop-end-preserved : goal.loop-end-preserved
-loop-end-preserved g c =
-    let is = c.loop-end.invariant in
-    let rings = c.args.rings in
-    let points = rings.points.now in
-    let start = c.loop-end.start in
-    let index = c.loop-end.end-index in
-    let end = get_or rings.ends.now index 0 in
-    let left = drop (index + 1) rings.ends.now in
-    let next : drop index rings.ends.now ≡ end ∷ left = drop_more rings.ends.now index 0 c.loop-end-test.true in
-    let ends = subst (λ (some : List ℕ). AreEnds start some (length points)) next is.ends in
-    let all : IsTrue c.in_ok-append_parts.field-0 = search rules in record {
-      are = parts-more (real_edges (edges_of rings)) points start end left c.args.parts.now.items c.loop-end.parts.items c.append_parts.new.parts.items
-          (subst (λ (some : List ℕ). AreSoFar (real_edges (edges_of rings)) points start some c.args.parts.now.items c.loop-end.parts.items) next is.are) (c.in_ok-append_parts.ensures all);
-      ends = ends.2;
-      within = ends.1;
-    }
+pub loop-ring-preserved : goal.loop-ring-preserved
+loop-ring-preserved g c =
+    let points = c.args.rings.points.now in
+    let ends = c.args.rings.ends.now in
+    let edges = real_edges (flat_map ring_edges (take c.loop-ring.ring (rings_of points 0 ends))) in
+    let all : IsTrue c.in_ok-append_parts.field-0 = search rules in
+    AppendsParts-then _ edges (real_edges (ring_edges c.ring_at-points.result.now)) c.args.parts.now.items c.loop-ring.parts.items c.append_parts.new.parts.items
+    (real_more [] points ends c.loop-ring.ring c.loop-ring-test.true ∙ ap (λ (ring : List Point). edges ++ real_edges (ring_edges ring)) (sym c.ring_at-points.ensures))
+    c.loop-ring.invariant (c.in_ok-append_parts.ensures all)

@@ -1,14 +1,10 @@
-use Rattle.std.proofs.Common.{◌≤◌, length, drop}
-use Rattle.overlay.specs.Rings.{AreEnds, edges_of, real_edges}
-use Rattle.monotone_chains.proofs.PartLemmas.{AreSoFar}
+use Rattle.std.proofs.Common.{take}
+use Rattle.std.specs.List.{flat_map}
+use Rattle.overlay.specs.Contours.Rings.{ring_edges}
+use Rattle.overlay.specs.Rings.{real_edges, rings_of}
+use Rattle.monotone_chains.specs.Stretches.Cut.{AppendsParts}
 use Rattle.monotone_chains.proofs.stretched.append_rings.Given as goal
 
--- the parts so far are of the rings so far, and the ends left are right
-abbrev pub invariant-loop-end : goal.invariant-loop-end
-invariant-loop-end g l =
-    let left = drop l.end-index l.fn.rings.ends.now in
-    let points = l.fn.rings.points.now in record {
-      are : AreSoFar (real_edges (edges_of l.fn.rings)) points l.start left l.fn.parts.items l.parts.items;
-      ends : AreEnds l.start left (length points);
-      within : l.start ≤ length points;
-    }
+-- the parts are of the rings so far
+abbrev pub invariant-loop-ring : goal.invariant-loop-ring
+invariant-loop-ring g l = AppendsParts (real_edges (flat_map ring_edges (take l.ring (rings_of l.fn.rings.points.now 0 l.fn.rings.ends.now)))) l.fn.parts.items l.parts.items

@@ -1,7 +1,6 @@
-use Rattle.std.proofs.Common.{◌≡◌, ◌++◌, ◌∷◌, [], List, length, get_or, append-nil, sym, subst, ap, ◌∙◌, arith}
+use Rattle.std.proofs.Common.{◌≡◌, ◌++◌, ◌∷◌, [], length, get_or, append-nil, sym, subst, ap, ◌∙◌, arith}
 use Rattle.std.specs.List.{between}
 use Rattle.std.proofs.lemmas.List.Concat.{flat_map-append}
-use Rattle.plane.specs.declared.edge.Edge.{Edge}
 use Rattle.overlay.specs.Contours.Rings.{ring_edges}
 use Rattle.layers.specs.Chains.{AppendsChains}
 use Rattle.layers.specs.Shapes.{all_rings, shape_edges}

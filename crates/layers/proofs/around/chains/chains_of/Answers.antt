@@ -1,4 +1,4 @@
-use Rattle.std.proofs.Common.{[], length, get_or, sym, subst, arith}
+use Rattle.std.proofs.Common.{[], sym, subst, arith}
 use Rattle.std.proofs.lemmas.List.{length-map}
 use Rattle.std.proofs.Math.ListN.{get_or-map}
 use Rattle.layers.specs.Chains.{AppendsChains}

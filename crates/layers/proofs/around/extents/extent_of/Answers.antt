@@ -1,4 +1,4 @@
-use Rattle.std.proofs.Common.{length, take, get_or, sym, subst, All}
+use Rattle.std.proofs.Common.{take, sym, subst}
 use Rattle.std.proofs.lemmas.List.{take_all}
 use Rattle.std.proofs.lemmas.List.Elements.{All-more, All-same, All-weaker}
 use Rattle.layers.specs.Chains.{IsInExtent}

@@ -1,4 +1,4 @@
-use Rattle.std.proofs.Common.{◌≡◌, ◌∙◌, refl, sym}
+use Rattle.std.proofs.Common.{◌≡◌, refl}
 use Rattle.plane.proofs.PairsLemmas.Points.{Gains-none, Gains-one}
 use Rattle.layers.specs.Around.{LiesIn, halved}
 use Rattle.layers.specs.Chains.{edges_of_chains}

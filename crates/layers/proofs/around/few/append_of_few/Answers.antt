@@ -7,7 +7,7 @@ use Rattle.plane.proofs.PairsLemmas.Points.{Gains-none}
 use Rattle.layers.specs.Chains.{LiesAmong, LiesInChains, edges_of_chains}
 use Rattle.layers.specs.declared.around.chains.Chain.{Chain}
 use Rattle.layers.proofs.AroundLemmas.Groups.{LiesAmong-none, no_chain}
-use Rattle.layers.proofs.AroundLemmas.Runs.{Gains-run, cut-more, some_of_run}
+use Rattle.layers.proofs.AroundLemmas.Runs.{Gains-run, cut-more}
 use Rattle.layers.proofs.around.few.append_of_few.Goals as goal
 
 -- what is told of the chains from a place on

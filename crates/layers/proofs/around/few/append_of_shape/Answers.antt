@@ -1,4 +1,4 @@
-use Rattle.std.proofs.Common.{◌≡◌, take, subst}
+use Rattle.std.proofs.Common.{◌≡◌, subst}
 use Rattle.std.proofs.lemmas.List.{take_all}
 use Rattle.plane.specs.Pairs.Points.{Gains}
 use Rattle.layers.specs.Chains.{LiesAmong, edges_of_chains}

@@ -1,10 +1,10 @@
-use Rattle.std.proofs.Common.{◌≡◌, ◌∙◌, ◌^◌, ◌*◌, ◌≤◌, true, length, take, get_or, sym, subst, ap, SFits, w64, arith, rules}
+use Rattle.std.proofs.Common.{◌≡◌, ◌∙◌, ◌^◌, take, get_or, sym, subst, ap, SFits, w64, arith, rules}
 use Rattle.std.proofs.lemmas.List.{length-take, take_all}
 use Rattle.std.proofs.lemmas.List.Elements.{All-take}
 use Rattle.std.proofs.lemmas.Int.{to_z-of_z}
 use Rattle.plane.specs.Meet.Crosses.{IsWithin}
 use Rattle.overlay.specs.Fill.Rules.{is_inside}
-use Rattle.layers.specs.Around.{LiesIn, halved}
+use Rattle.layers.specs.Around.{halved}
 use Rattle.layers.specs.Chains.{IsAround, IsBounded, chain_edges, edges_of_chains, is_in}
 use Rattle.layers.proofs.AroundLemmas.Chains.{length-pieces}
 use Rattle.layers.proofs.AroundLemmas.Groups.{IsAround-chains, is_in-lies, length-edges, no_chain}

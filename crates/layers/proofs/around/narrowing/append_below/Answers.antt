@@ -1,4 +1,4 @@
-use Rattle.std.proofs.Common.{OnOk, ◌++◌, ◌∷◌, [], refl, sym, subst, ◌∙◌}
+use Rattle.std.proofs.Common.{◌++◌, ◌∷◌, [], sym, subst, ◌∙◌}
 use Rattle.std.proofs.lemmas.Result.{on_ok_weaker}
 use Rattle.layers.specs.Chains.{AreSameIn, AreUpto}
 use Rattle.layers.proofs.AroundLemmas.Chains.{IsLow-above}

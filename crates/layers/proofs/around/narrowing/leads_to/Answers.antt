@@ -1,5 +1,5 @@
 use Rattle.std.proofs.Common.{◌∙◌, sym, ap}
-use Rattle.layers.specs.Chains.{is_above, is_beside}
+use Rattle.layers.specs.Chains.{is_beside}
 use Rattle.layers.proofs.around.narrowing.leads_to.Goals as goal
 use Rattle.layers.proofs.around.narrowing.leads_to.Goals.{then-last-chain-via-then-last-chain, then-last-chain-via-else-last-chain+then-not-is_above}
 

@@ -1,4 +1,4 @@
-use Rattle.std.proofs.Common.{SFits, w64, of_z, nat_eq, ◌≡◌, ℤ, pos, negsuc, true, refl, rules, sym, ◌∙◌, ap, ap₂, arith}
+use Rattle.std.proofs.Common.{SFits, w64, of_z, nat_eq, ◌≡◌, ℤ, pos, negsuc, true, rules, sym, ◌∙◌, ap, ap₂, arith}
 use Rattle.std.specs.Int.{w128}
 use Rattle.std.proofs.lemmas.Bool.{eqb-true}
 use Rattle.std.proofs.lemmas.Int.{ints, to_z-of_z}

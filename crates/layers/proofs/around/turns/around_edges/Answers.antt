@@ -1,4 +1,4 @@
-use Rattle.std.proofs.Common.{◌+◌, ◌<◌, ◌≤◌, ◌∙◌, ◌^◌, [], ◌∷◌, length, take, get_or, sym, subst, ap, ap₂, add-one, arith}
+use Rattle.std.proofs.Common.{◌∙◌, ◌^◌, [], ◌∷◌, take, get_or, sym, subst, ap, ap₂, add-one, arith}
 use Rattle.std.proofs.lemmas.List.{length-take, take_all}
 use Rattle.plane.specs.Meet.Crosses.{IsWithin}
 use Rattle.noding.specs.Windings.{edge_between}

@@ -1,4 +1,4 @@
-use Rattle.std.proofs.Common.{SFits, w32, w64, ◌≡◌, ◌-ℤ◌, ◌*ℤ◌, pos, int_le, ap₂, arith, rules}
+use Rattle.std.proofs.Common.{SFits, w32, w64, ◌≡◌, ◌-ℤ◌, ◌*ℤ◌, pos, int_le, arith, rules}
 use Rattle.std.proofs.lemmas.Int.{ints, to_z-of_z}
 use Rattle.noding.specs.Windings.{count}
 use Rattle.layers.proofs.around.turns.steps_over.Goals as goal

@@ -1,14 +1,9 @@
-use Rattle.std.proofs.Common.{◌≡◌, List, length, map, take}
-use Rattle.plane.specs.declared.point.Point.{Point}
-use Rattle.noding.specs.Offsets.{AreJoined}
+use Rattle.std.proofs.Common.{map}
+use Rattle.overlay.specs.Rings.{rings_of}
 use Rattle.monotone_chains.specs.Stretches.Cut.{way}
-use Rattle.noding.proofs.ChainLemmas.Offsets.{joined}
 use Rattle.monotone_chains.proofs.StretchLemmas.Widened.{AreWidened}
 use Rattle.monotone_chains.proofs.stretches.widening.append_widened.Given as goal
 
--- the next ring starts where those so far stop, and these are widened and appended
-abbrev pub invariant-loop-end : goal.invariant-loop-end
-invariant-loop-end g l =
-    (rings : List (List Point)) → AreJoined rings l.ring_points l.ring_ends
-    → (l.start ≡ length (joined (take l.end-index rings)))
-    × AreWidened (map way l.parts) rings l.end-index l.fn.points.items l.points.items l.fn.ends.items l.ends.items
+-- the rings so far are widened and appended
+abbrev pub invariant-loop-ring : goal.invariant-loop-ring
+invariant-loop-ring g l = AreWidened (map way l.parts) (rings_of l.ring_points 0 l.ring_ends) l.ring l.fn.points.items l.points.items l.fn.ends.items l.ends.items

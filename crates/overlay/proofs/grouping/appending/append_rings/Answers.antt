@@ -1,9 +1,7 @@
 use Rattle.std.proofs.Common.{false, ◌≡◌, ◌<◌, ◌++◌, ◌∷◌, [], ℕ, List, get_or, length, map, ap, sym, ◌∙◌, arith}
 use Rattle.std.proofs.lemmas.List.{get_or-map, length-map}
 use Rattle.plane.specs.declared.point.Point.{Point}
-use Rattle.plane.proofs.PairsLemmas.Extends.{OnErr-always}
-use Rattle.noding.proofs.ChainLemmas.Runs.{Extends-trans}
-use Rattle.overlay.proofs.ContourLemmas.Outlines.{outlines-more}
+use Rattle.overlay.proofs.ContourLemmas.Outlines.{outlines-more, stopped}
 use Rattle.overlay.specs.Grouping.{ring_in}
 use Rattle.overlay.specs.declared.grouping.order.PlacedRing.{PlacedRing}
 use Rattle.overlay.proofs.grouping.appending.append_rings.Goals as goal
@@ -11,18 +9,12 @@ use Rattle.overlay.proofs.grouping.appending.append_rings.Goals as goal
 pub returns-in_err-append_outline-clause-err : goal.returns-in_err-append_outline-clause-err
 returns-in_err-append_outline-clause-err g c =
     let (points, ends) = c.loop-ring.invariant in
-    OnErr-always c.from_residual.result _ (
-      Extends-trans c.args.out.now.items c.loop-ring.out.items c.append_outline.new.points.items (_, points) c.in_err-append_outline.ensures.err,
-      (_, ends),
-    )
+    stopped c.from_residual.result _ _ _ _ _ _ _ points c.in_err-append_outline.ensures.err ends
 
 pub returns-in_err-push-clause-err : goal.returns-in_err-push-clause-err
 returns-in_err-push-clause-err g c =
     let (points, ends) = c.loop-ring.invariant in
-    OnErr-always c.from_residual-in_err-push.result _ (
-      Extends-trans c.args.out.now.items c.loop-ring.out.items c.append_outline.new.points.items (_, points) (_, c.in_ok-append_outline.ensures.ok),
-      (_, c.in_err-push.ensures.items ∙ ends),
-    )
+    stopped c.from_residual-in_err-push.result _ _ _ _ _ _ _ points (_, c.in_ok-append_outline.ensures.ok) (c.in_err-push.ensures.items ∙ ends)
 
 pub loop-ring-preserved : goal.loop-ring-preserved
 loop-ring-preserved g c =

@@ -1,16 +1,14 @@
-use Rattle.std.proofs.Common.{◌≡◌, ◌≤◌, ◌++◌, drop, length}
+use Rattle.std.proofs.Common.{◌≡◌, length, take}
 use Rattle.std.specs.List.{flat_map}
 use Rattle.overlay.specs.declared.fill.pieces.Role.TheVariants.{Subject}
 use Rattle.overlay.specs.Contours.Rings.{ring_edges}
 use Rattle.overlay.specs.Fill.Turned.{turned}
 use Rattle.overlay.specs.Grouping.{AreNumbered, pieces_of}
-use Rattle.overlay.specs.Rings.{AreEnds, rings_of}
+use Rattle.overlay.specs.Rings.{rings_of}
 use Rattle.overlay.proofs.grouping.sides.all_sides.Given as goal
 
--- the pieces that are there and those of the rings left are those of all rings; and the ends left are right
+-- the pieces are those of the rings so far
 abbrev pub invariant-loop-ring : goal.invariant-loop-ring
 invariant-loop-ring g l =
-    (pieces_of l.sides.items ++ turned Subject (flat_map ring_edges (rings_of l.points l.start (drop l.ring l.ends))) ≡ turned Subject (flat_map ring_edges (rings_of l.points 0 l.ends)))
+    (pieces_of l.sides.items ≡ turned Subject (flat_map ring_edges (take l.ring (rings_of l.points 0 l.ends))))
     × AreNumbered (length l.ends) l.sides.items
-    × AreEnds l.start (drop l.ring l.ends) (length l.points)
-    × (l.start ≤ length l.points)
