@@ -1,26 +1,31 @@
 #!/usr/bin/env python3
 """usage: bench/layers.py [--quick]    times calls over many shapes, whole way: ours, and shapely's and geopandas' own
 
-Both are made in one process, in turns; the time is the least of several runs. `ratio` is ours / theirs, and `most` is what it
-may be. The rows are counted, and the sizes of all shapes added up, areas or lengths: `off` is how far ours differ, of
-theirs. --quick has a tenth as many shapes. It takes shapely, geopandas and rtree, as /usr/bin/python3 has them by
-bindings/install; ITREE_LIBRARY may name the library. It ends with 1 where rows differ, or sizes by more than a
-hundred-thousandth, or a ratio is more than it may be. Where the machine does something else meanwhile, times shift.
+Both are made in one process, in turns; the time is the processor's, of all threads, and the least of several runs. `ratio`
+is ours / theirs, and `most` is what it may be. The rows are counted, and the sizes of all shapes added up, areas or lengths:
+`off` is how far ours differ, of theirs. --quick has a tenth as many shapes. It takes shapely, geopandas and rtree, as
+/usr/bin/python3 has them by bindings/install; ITREE_LIBRARY may name the library. The world's land is GSHHG's in low
+resolution (gmt-gshhg-low, netcdf-bin), and left out where it isn't there. It ends with 1 where rows differ, or sizes by more
+than a hundred-thousandth, or a ratio is more than it may be. Where the machine does something else meanwhile, times shift.
 """
 
 import itertools
 import math
 import pathlib
 import random
+import shutil
 import sys
 import time
 import warnings
 
-sys.path.insert(0, str(pathlib.Path(__file__).resolve().parent.parent / "bindings" / "python"))
+TOP = pathlib.Path(__file__).resolve().parent.parent
+sys.path[:0] = [str(TOP / "bindings" / "python"), str(TOP / "examples" / "python")]
 
 import geopandas
+import gshhg
 import numpy
 import shapely
+import shapely.affinity
 import shapely.geometry
 import shapely.wkb
 
@@ -29,6 +34,9 @@ import itree.geopandas
 
 warnings.simplefilter("ignore")
 PART = 10 if "--quick" in sys.argv else 1
+HOWS = "intersection", "union", "identity", "symmetric_difference", "difference"
+# Of areas: what is less is a sliver.
+LEAST = 1e-9
 numbers = random.Random(1)
 faults = []
 
@@ -74,12 +82,12 @@ def compare(what, most, ours, theirs, told, runs=1):
     """told: what makes a count and a size of an answer."""
     times, answers = [math.inf] * 2, [None] * 2
     for _, (place, call) in itertools.product(range(runs), enumerate((ours, theirs))):
-        start = time.perf_counter()
+        start = time.process_time()
         answers[place] = call()
-        times[place] = min(times[place], time.perf_counter() - start)
+        times[place] = min(times[place], time.process_time() - start)
     (count, size), (wanted, other) = map(told, answers)
     off, ratio = abs(size - other) / max(abs(other), 1), times[0] / times[1]
-    print(f"{what:44} {said(times[0])} {said(times[1])} {ratio:6.2f} {most:5} {count:7,} {size:13.4f} {off:8.1e}", flush=True)
+    print(f"{what:54} {said(times[0])} {said(times[1])} {ratio:6.2f} {most:5} {count:7,} {size:13.4f} {off:8.1e}", flush=True)
     if count != wanted or off > 1e-5:
         faults.append(f"{what}: {count} and {size}, where {wanted} and {other} are wanted")
     if ratio > most:
@@ -127,19 +135,71 @@ def pairs():
     )
 
 
+def overlays(what, one, other, runs=1):
+    """Two frames by each operation; slivers aren't counted."""
+    for how in HOWS:
+        compare(
+            f"{what}, {how}",
+            0.5,
+            lambda: itree.geopandas.overlay(one, other, how),
+            lambda: geopandas.overlay(one, other, how),
+            lambda frame: size_of([it for it in frame.geometry if it.area > LEAST]),
+            runs,
+        )
+
+
 def layers():
     count = 20000 // PART
     side = math.sqrt(2 * count)
     one, other = (geopandas.GeoDataFrame({it: range(count), "geometry": some_stars(count, side)}) for it in "ab")
-    for how in "intersection", "union", "identity", "symmetric_difference", "difference":
-        compare(
-            f"overlay of {count:,} polygons, {how}",
-            0.5,
-            lambda: itree.geopandas.overlay(one, other, how),
-            lambda: geopandas.overlay(one, other, how),
-            lambda frame: size_of(frame.geometry),
-        )
+    overlays(f"overlay of {count:,} polygons", one, other)
     return one, side
+
+
+def wavy_side(start, stop, points):
+    """So many points from a corner, which is the first of them, on the way to another, in waves."""
+    (x, y), (x1, y1), phase = start, stop, numbers.uniform(0, 2 * math.pi)
+    told = [start]
+    for share in (place / points for place in range(1, points)):
+        aside = 0.1 * math.sin(math.pi * share) * math.sin(6 * math.pi * share + phase)
+        told.append((x + share * (x1 - x) - aside * (y1 - y), y + share * (y1 - y) + aside * (x1 - x)))
+    return told
+
+
+def wavy_cells(name, columns, points, aside):
+    """As many rows as columns of cells that share their wavy sides, each of which has so many points; all moved aside."""
+    corners = {it: (it[0] + aside[0], it[1] + aside[1]) for it in itertools.product(range(columns + 1), repeat=2)}
+    flat, tall = {}, {}
+    for (x, y), start in corners.items():
+        for sides, stop in (flat, corners.get((x + 1, y))), (tall, corners.get((x, y + 1))):
+            if stop:
+                sides[x, y] = wavy_side(start, stop, points)
+    shapes = []
+    for x, y in itertools.product(range(columns), repeat=2):
+        back = [[corners[x + 1, y + 1], *flat[x, y + 1][:0:-1]], [corners[x, y + 1], *tall[x, y][:0:-1]]]
+        shapes.append(shapely.geometry.Polygon([*flat[x, y], *tall[x + 1, y], *back[0], *back[1]]))
+    return geopandas.GeoDataFrame({name: range(len(shapes)), "geometry": shapes})
+
+
+def cells():
+    """400 cells by 400 cells, which are 20 by 20 of each layer; those of a layer have 9,600 vertices together, then 96,000."""
+    for points in 6, 60:
+        one, other = (wavy_cells(it, 20, points, aside) for it, aside in (("a", (0, 0)), ("b", (0.37, 0.45))))
+        overlays(f"400 by 400 cells of {len(one) * 4 * points:,} vertices", one, other, 3)
+
+
+def land():
+    """The world's land by cells of 10 degrees; its rings cross here and there, so it is what ours unites them to."""
+    if not gshhg.file_of("l").exists() or not shutil.which("ncdump"):
+        print("the world's land: gmt-gshhg-low and netcdf-bin aren't here")
+        return
+    found, width = gshhg.land("l")
+    united = itree.simplify([ring for polygon in found for ring in polygon]).to_shapely(each=True)
+    degrees = [shapely.affinity.scale(it, 360 / width, 360 / width, origin=(0, 0)) for it in united]
+    east = math.ceil(max(it.bounds[2] for it in degrees))
+    squares = [shapely.geometry.box(x, y, x + 10, y + 10) for y in range(0, 180, 10) for x in range(gshhg.WEST, east, 10)]
+    layer, cells_of_it = (geopandas.GeoDataFrame({"place": range(len(it)), "geometry": it}) for it in (degrees, squares))
+    overlays("the world's land by cells of 10 degrees", layer, cells_of_it)
 
 
 def groups():
@@ -192,9 +252,11 @@ def clips(one, side):
 def main():
     versions = [f"{it.__name__} {it.__version__}" for it in (itree, shapely, geopandas, numpy)]
     print(", ".join(versions))
-    print(f"{'':44} {'itree':>12} {'theirs':>12} {'ratio':>6} {'most':>5} {'rows':>7} {'size':>13} {'off':>8}")
+    print(f"{'':54} {'itree':>12} {'theirs':>12} {'ratio':>6} {'most':>5} {'rows':>7} {'size':>13} {'off':>8}")
     pairs()
     one, side = layers()
+    cells()
+    land()
     groups()
     clips(one, side)
     for fault in faults:

@@ -87,13 +87,13 @@ std::vector<std::optional<std::size_t>> by_rust(const Scene &scene) {
 #endif
 
 void measure(const std::string &workload, std::size_t size, const Scene &scene) {
-    timing::measure(workload, size, timing::runs_at(size),
-                    {
-                        {"itree", [&] { return answer_of(itree::locate(scene.edges, scene.points)); }},
+    const std::vector<timing::Side> sides{
+        {"itree", [&] { return answer_of(itree::locate(scene.edges, scene.points)); }},
 #ifdef HAVE_RUST
-                        {"Rust crate", [&] { return answer_of(by_rust(scene)); }},
+        {"Rust crate", [&] { return answer_of(by_rust(scene)); }},
 #endif
-                    });
+    };
+    timing::measure(workload, size, timing::runs_at(size), sides);
 }
 
 }  // namespace

@@ -151,22 +151,22 @@ std::uint64_t by_rust(const Edges &edges) {
 #endif
 
 void measure(const std::string &workload, const Edges &edges) {
-    timing::measure(workload, edges.size(), timing::runs_at(edges.size()),
-                    {
-                        {"itree", [&] { return by_itree(edges); }},
+    const std::vector<timing::Side> sides{
+        {"itree", [&] { return by_itree(edges); }},
 #ifdef HAVE_CGAL
-                        {"CGAL", [&] { return by_cgal(edges); }},
+        {"CGAL", [&] { return by_cgal(edges); }},
 #endif
 #ifdef HAVE_BOOST
-                        {"Boost", [&] { return by_boost(edges); }},
+        {"Boost", [&] { return by_boost(edges); }},
 #endif
 #ifdef HAVE_GEOS
-                        {"GEOS", [&] { return by_geos(edges); }},
+        {"GEOS", [&] { return by_geos(edges); }},
 #endif
 #ifdef HAVE_RUST
-                        {"Rust crate", [&] { return by_rust(edges); }},
+        {"Rust crate", [&] { return by_rust(edges); }},
 #endif
-                    });
+    };
+    timing::measure(workload, edges.size(), timing::runs_at(edges.size()), sides);
 }
 
 /// Edges that begin anywhere in a box from 0 to a width and a height, and reach so far at most along each axis.

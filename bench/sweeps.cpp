@@ -57,14 +57,14 @@ std::vector<std::optional<std::int32_t>> by_rust(const Scene &scene) {
 #endif
 
 void measure(const std::string &workload, std::size_t size, const Scene &scene) {
-    timing::measure(workload, size, timing::runs_at(size),
-                    {
-                        {"itree", [&] { return answer_of(itree::below(scene.segments, scene.points)); }},
-                        {"std::map", [&] { return answer_of(plain::below(scene.segments, scene.points).first); }},
+    const std::vector<timing::Side> sides{
+        {"itree", [&] { return answer_of(itree::below(scene.segments, scene.points)); }},
+        {"std::map", [&] { return answer_of(plain::below(scene.segments, scene.points).first); }},
 #ifdef HAVE_RUST
-                        {"Rust crate", [&] { return answer_of(by_rust(scene)); }},
+        {"Rust crate", [&] { return answer_of(by_rust(scene)); }},
 #endif
-                    });
+    };
+    timing::measure(workload, size, timing::runs_at(size), sides);
 }
 
 }  // namespace

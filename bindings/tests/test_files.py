@@ -5,6 +5,7 @@ bindings/test runs it. What needs numpy or fiona is skipped where they aren't th
 """
 
 import array
+import collections
 import contextlib
 import fractions
 import io
@@ -35,6 +36,7 @@ try:
 except ImportError:
     fiona = None
 
+TOP = pathlib.Path(__file__).resolve().parent.parent.parent
 needs_numpy = unittest.skipUnless(numpy, "numpy isn't there")
 needs_fiona = unittest.skipUnless(fiona, "fiona isn't there")
 
@@ -411,6 +413,49 @@ def hex_of(number):
     return array.array("d", [number]).tobytes().hex().upper()
 
 
+class Documents(Files):
+    """The command's examples in docs/COMMANDS.md run as they stand."""
+
+    def runs(self):
+        """Each command line of the section's blocks, and the lines that stand behind it."""
+        text = (TOP / "docs" / "COMMANDS.md").read_text(encoding="utf-8")
+        section = text.partition("\n## `python3 -m itree`\n")[2].partition("\n## ")[0]
+        for block in re.findall(r"^```sh\n(.*?)^```$", section, re.M | re.S):
+            yield from re.findall(r"^\$ (.*)\n((?:(?!\$ ).*\n)*)", block, re.M)
+
+    def test_commands(self):
+        """A file that is shown before a command has made it is made as it is shown."""
+        ran = collections.Counter()
+        self.addCleanup(os.chdir, os.getcwd())
+        os.chdir(self.folder)
+        os.remove(self.flood)
+        status = 0
+        for line, shown in self.runs():
+            program, *words = line.split()
+            ran[program] += 1
+            with self.subTest(line=line):
+                if program == "cat" and not os.path.exists(words[0]):
+                    self.file(words[0], shown.encode())
+                elif program == "cat":
+                    self.assertEqual(pathlib.Path(words[0]).read_text(encoding="utf-8"), shown)
+                elif line == "echo $?":
+                    self.assertEqual(f"{status}\n", shown)
+                else:
+                    self.assertEqual(words[:2], ["-m", "itree"])
+                    status, output, faults = self.called(*words[2:])
+                    self.assertEqual(output + faults, shown)
+        self.assertGreater(min(ran[it] for it in ("python3", "cat", "echo")), 1)
+
+    def test_options(self):
+        """Each option that the command takes stands there, and no other."""
+        section = (TOP / "docs" / "COMMANDS.md").read_text(encoding="utf-8").partition("\n## `python3 -m itree`\n")[2]
+        listed = re.findall(r"^\| `(--\w+)", section, re.M)
+        _, said, _ = self.called("overlay", "--help")
+        self.assertEqual(sorted(set(re.findall(r"--\w+", said)) - {"--help"}), sorted(set(listed) - {"--version"}))
+        endings = [it for row in re.findall(r"^\| (`\..*?) \|", section, re.M) for it in re.findall(r"`(.*?)`", row)]
+        self.assertEqual(sorted(endings), sorted(_files.ENDINGS))
+
+
 class Faults(Files):
     """What is faulty, and where."""
 
@@ -424,6 +469,10 @@ class Faults(Files):
             (cut, f", line 1, column {len(cut) + 1}: Expecting ',' delimiter"),
             (nan, ", feature 4, ring 1, row 1: nan; finite numbers are wanted"),
             (wide, ", feature 0, ring 0, row 1: inf; finite numbers are wanted"),
+            (
+                json.dumps(polygon([[0, 0], [1, 7], [1, 1]])).replace("7", "-1e999").encode(),
+                ", ring 0, row 1: -inf; finite numbers are wanted",
+            ),
             (point, f", feature 1: Point; {wanted}"),
             (collection(FLOOD, 7), f", feature 1: no type of GeoJSON; {wanted}"),
             (

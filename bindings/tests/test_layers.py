@@ -1,13 +1,15 @@
 """Calls over many shapes at once: overlays of pairs, pairs of boxes, points in shapes, lines that are clipped, islands'
 parents; and itree.geopandas beside geopandas.
 
-usage: test_layers.py [--many] [words of unittest]
+usage: test_layers.py [--many[=COUNT]] [--seed=SEED] [words of unittest]
 
 bindings/test runs it over a library that refuses memory when it is told to (ITREE_LIBRARY). What needs numpy, shapely or
-geopandas is skipped where they aren't there. --many tries by chance some 25 to 50 times as often.
+geopandas is skipped where they aren't there. --many tries by chance some 25 to 50 times as often, and --many=COUNT so often;
+then Geopandas.test_overlay takes one operation for each pair of frames. --seed=SEED tries other cases.
 """
 
 import array
+import collections
 import contextlib
 import copy
 import ctypes
@@ -65,7 +67,9 @@ def has_index():
 
 needs_index = unittest.skipUnless(has_index(), "rtree isn't there")
 TOP = pathlib.Path(__file__).resolve().parent.parent.parent
-MANY = "--many" in sys.argv
+# How often something is tried by chance: 0 as each test likes, and None few times.
+MANY = next((int(it[7:] or 0) for it in sys.argv if re.fullmatch(r"--many(=\d+)?", it)), None)
+SEED = next((int(it[7:]) for it in sys.argv if re.fullmatch(r"--seed=\d+", it)), 0)
 RULES = "evenodd", "nonzero", "positive", "negative"
 OPERATIONS = "union", "intersection", "difference", "xor"
 # Of coordinates that lie on whole points a few of these apart: so no two shapes have less than that in common.
@@ -79,6 +83,22 @@ def without_numpy():
         for module in _each, _gathered, _overlays, _rings, _rows, _shapes, _wkb:
             stack.enter_context(mock.patch.object(module, "numpy_where_loaded", lambda: None))
         yield
+
+
+def times(few, many):
+    """How often something is tried by chance."""
+    return few if MANY is None else MANY or many
+
+
+def seeded(number):
+    """What comes by chance in a test, each of which has a number of its own."""
+    return random.Random(number + 1000 * SEED)
+
+
+def told_count(said, compared):
+    """Prints how much was compared so far, where it is much."""
+    if MANY:
+        print(f"{said}: {sum(compared.values()):,}, {dict(compared)}", flush=True)
 
 
 WAYS = [without_numpy, contextlib.nullcontext] if numpy else [without_numpy]
@@ -122,8 +142,8 @@ def polygon_of(rings):
 
 class OverlayEach(unittest.TestCase):
     def test_each_pair_is_as_overlay_has_it(self):
-        chance = random.Random(1)
-        for _ in range(500 if MANY else 20):
+        chance = seeded(1)
+        for _ in range(times(20, 500)):
             subjects, clips = random_layer(chance, 6), random_layer(chance, 5)
             pairs = [(chance.randrange(6), chance.randrange(5)) for _ in range(8)]
             for rule, operation in itertools.product(RULES, OPERATIONS):
@@ -406,8 +426,8 @@ class CandidatePairs(unittest.TestCase):
         return tuple(least(point[axis] for point in points) for least in (min, max) for axis in (0, 1)) if points else None
 
     def test_by_chance(self):
-        chance = random.Random(2)
-        for _ in range(1000 if MANY else 40):
+        chance = seeded(2)
+        for _ in range(times(40, 1000)):
             layers = random_layer(chance, 12), random_layer(chance, 9)
             boxes = [[self.box(it) for it in layer] for layer in layers]
             wanted = [
@@ -472,8 +492,8 @@ def four_times(point):
 
 class PointsIn(unittest.TestCase):
     def test_as_fractions_have_it(self):
-        chance = random.Random(3)
-        for _ in range(400 if MANY else 15):
+        chance, compared = seeded(3), collections.Counter()
+        for _ in range(times(15, 400)):
             layer = random_layer(chance, 5)
             points = [(chance.randrange(-1, 10), chance.randrange(-1, 10)) for _ in range(12)]
             for rule, border in itertools.product(RULES, ("closed", "open", "half-open")):
@@ -483,10 +503,12 @@ class PointsIn(unittest.TestCase):
                     if lies_in(point, rings, rule, border)
                 ]
                 self.assertEqual(itree.points_in(points, layer, rule=rule, border=border), wanted)
+                compared[rule, border] += 1
+        told_count("sets of points and shapes", compared)
 
     def test_half_points(self):
-        chance = random.Random(4)
-        for _ in range(200 if MANY else 10):
+        chance = seeded(4)
+        for _ in range(times(10, 200)):
             layer = [[[(x / 2, y / 2) for x, y in ring] for ring in rings] for rings in random_layer(chance, 4)]
             points = [(chance.randrange(20) / 4, chance.randrange(20) / 4) for _ in range(10)]
             wanted = [
@@ -574,14 +596,14 @@ class Near(unittest.TestCase):
 
     @needs_numpy
     def test_winds_as_often_around_each_point_of_a_box(self):
-        chance, fewer = random.Random(14), 0
-        for _ in range(2000 if MANY else 60):
+        chance, fewer = seeded(14), 0
+        for _ in range(times(60, 2000)):
             layer = [[random_ring(chance, 12) for _ in range(chance.randrange(1, 4))] for _ in range(3)]
             others = [[[(x, y), (x + chance.randrange(3), y + chance.randrange(3))]] for x, y in random_ring(chance, 12)]
             places = numpy.array([(i, j) for i in range(len(layer)) for j in range(len(others)) if chance.random() < 0.7])
             if len(places):
                 held = _each.held(_each.two_layers((layer, ""), (others, ""), None), None)
-                with mock.patch.object(_near, "_MANY", chance.randrange(9)):
+                with mock.patch.multiple(_near, _MANY=chance.randrange(9), _WORTH=chance.randrange(30)):
                     found, parts = _near.near(held[0], places[:, 0], held[1], places[:, 1])
                 for (place, other), part in zip(places.tolist(), parts.tolist()):
                     fewer += self.assert_alike(layer[place], self.rings(found, part), others[other][0])
@@ -625,8 +647,8 @@ class Near(unittest.TestCase):
 class Clip(unittest.TestCase):
     def test_by_chance(self):
         """Pieces of both sides are all of the broken lines, and each of them lies on its side of the broken rings."""
-        chance = random.Random(5)
-        for _ in range(400 if MANY else 15):
+        chance = seeded(5)
+        for _ in range(times(15, 400)):
             lines = [[(chance.randrange(9), chance.randrange(9)) for _ in range(chance.randrange(5))] for _ in range(4)]
             rings = [random_ring(chance) for _ in range(chance.randrange(1, 4))]
             broken, borders = self.broken(lines, rings)
@@ -778,8 +800,8 @@ class Parents(unittest.TestCase):
 
     @needs_shapely
     def test_by_chance(self):
-        chance = random.Random(6)
-        for _ in range(100 if MANY else 8):
+        chance = seeded(6)
+        for _ in range(times(8, 100)):
             polygons = itree.simplify([random_ring(chance, 30) for _ in range(20)], "evenodd")
             shapes = polygons.to_shapely(each=True)
             outers = [shapely.geometry.Polygon(it.exterior) for it in shapes]
@@ -791,8 +813,8 @@ class Parents(unittest.TestCase):
 
     def test_first_edges(self):
         """An outer ring begins with the lowest of its leftmost corners, and goes on rightwards: parents are told by that."""
-        chance = random.Random(8)
-        for _ in range(4000 if MANY else 100):
+        chance = seeded(8)
+        for _ in range(times(100, 4000)):
             subject, clip = ([random_ring(chance) for _ in range(chance.randrange(1, 4))] for _ in range(2))
             for polygon in itree.overlay(subject, clip, chance.choice(OPERATIONS), chance.choice(RULES)):
                 first, second = polygon.outer[:2]
@@ -989,7 +1011,8 @@ class Geopandas(unittest.TestCase):
         for one, other in zip(ours.geometry, theirs.geometry):
             self.assertEqual(one is None, other is None)
             if one is not None:
-                self.assertLess(abs(getattr(one, size) - getattr(other, size)), 9 * STEP if size == "area" else 1)
+                apart = one.symmetric_difference(other).area if size == "area" else abs(one.length - other.length)
+                self.assertLess(apart, 9 * STEP if size == "area" else 1)
                 self.assertEqual(one.is_empty, other.is_empty)
                 self.assertTrue(one.is_valid)
 
@@ -1003,28 +1026,47 @@ class Geopandas(unittest.TestCase):
 
     @needs_index
     def test_overlay(self):
-        chance = random.Random(9)
-        for _ in range(150 if MANY else 6):
+        chance, compared = seeded(9), collections.Counter()
+        for place in range(times(6, 150)):
+            one, other, (meets, touch) = self.pair_of_frames(chance)
+            # Else geopandas has two columns of shapes, or the other name.
+            plain = one.geometry.name == "geometry" or meets > touch
+            hows = self.HOWS if plain else ["difference"]
+            # Of very many pairs each takes one operation, in turn.
+            for how in hows[place % len(hows) :][:1] if MANY else hows:
+                with self.subTest(how=how, one=one.to_wkt(), other=other.to_wkt()), self.exact():
+                    self.assert_overlay(one, other, how, touch)
+                compared[how] += 1
+            if (place + 1) % 1000 == 0:
+                told_count("pairs of frames", compared)
+
+    def pair_of_frames(self, chance):
+        """One that geopandas takes, and what `meetings` tells of it."""
+        while True:
             one, other = self.frame(chance, "left"), self.frame(chance, "right")
-            if one.geom_type.iloc[0] not in ("Polygon", "MultiPolygon"):
-                # There geopandas doesn't know what to keep.
-                continue
             meets, touch = self.meetings(one, other)
-            if not meets and max(it.index.nlevels for it in (one, other)) > 1:
-                # There geopandas raises what pandas does.
-                continue
-            for how in self.HOWS:
-                if one.geometry.name != "geometry" and not meets - touch and how != "difference":
-                    # There geopandas has two columns of shapes, or the other name.
-                    continue
-                theirs = self.quietly(geopandas.overlay, one, other, how)
-                ours = self.quietly(itree.geopandas.overlay, one, other, how)
-                if touch:
-                    # Geopandas' order of rows hangs on these, too.
-                    names = ["left", "right"] if "right" in ours else ["left"]
-                    ours, theirs = (it.sort_values(by=names, ignore_index=True) for it in (ours, theirs))
-                with self.subTest(how=how, one=one.to_wkt(), other=other.to_wkt()):
-                    self.assert_alike(ours, theirs)
+            # Else geopandas doesn't know what to keep, or raises what pandas does.
+            knows = one.geom_type.iloc[0] in ("Polygon", "MultiPolygon")
+            if knows and (meets or max(it.index.nlevels for it in (one, other)) == 1):
+                return one, other, (meets, touch)
+
+    def exact(self):
+        """Geopandas buffers what it makes by 0, where GEOS 3.11 loses islands in holes: here not where shapes are valid."""
+        buffer = geopandas.GeoSeries.buffer
+
+        def as_it_is(series, distance):
+            return series if series.is_valid.all() else buffer(series, distance)
+
+        return mock.patch.object(geopandas.GeoSeries, "buffer", as_it_is)
+
+    def assert_overlay(self, one, other, how, touch):
+        theirs = self.quietly(geopandas.overlay, one, other, how)
+        ours = self.quietly(itree.geopandas.overlay, one, other, how)
+        if touch:
+            # Geopandas' order of rows hangs on these, too.
+            names = ["left", "right"] if "right" in ours else ["left"]
+            ours, theirs = (it.sort_values(by=names, ignore_index=True) for it in (ours, theirs))
+        self.assert_alike(ours, theirs)
 
     def meetings(self, one, other):
         """How many pairs of shapes have points in common, and how many of these no area."""
@@ -1043,6 +1085,16 @@ class Geopandas(unittest.TestCase):
                 self.assert_alike(itree.geopandas.overlay(one, other, how, keep_geom_type=kept), theirs)
             with self.assertWarnsRegex(UserWarning, "^`keep_geom_type=True` in overlay leaves out 1 rows "):
                 itree.geopandas.overlay(one, other, how)
+
+    @needs_index
+    def test_an_island_in_a_hole(self):
+        """Geopandas 0.12 over GEOS 3.11 loses it: its area is a quarter."""
+        shape = shapely.geometry.Polygon([(6, 11), (3, 5), (6, 2), (8, 11)])
+        around = shapely.geometry.Polygon([(4, 6), (4, 8), (6, 8), (6, 6)], [[(5, 7), (4.5, 7), (4.5, 6.5), (5, 6.5)]])
+        one, other = (geopandas.GeoDataFrame({"geometry": [it]}) for it in (shape, around))
+        told = itree.geopandas.overlay(one, other, "difference")
+        self.assertEqual(told.area.tolist(), [19.0])
+        self.assertTrue(told.geometry[0].contains(shapely.geometry.box(4.5, 6.5, 5, 7)))
 
     def test_faults_of_overlay(self):
         box, bow = shapely.geometry.box(0, 0, 2, 2), shapely.geometry.Polygon([(0, 0), (4, 4), (4, 0), (0, 4)])
@@ -1067,8 +1119,8 @@ class Geopandas(unittest.TestCase):
         self.assertEqual((caught.filename, told.crs), (__file__, one.crs))
 
     def test_dissolve(self):
-        chance = random.Random(10)
-        for _ in range(150 if MANY else 5):
+        chance = seeded(10)
+        for _ in range(times(5, 150)):
             frame = self.frame(chance, "left")
             frame["group"] = [chance.choice([1, 2, 3.5, None]) for _ in range(len(frame))]
             frame["kind"] = pandas.Categorical([chance.choice("ab") for _ in range(len(frame))], categories=["a", "b", "c"])
@@ -1093,8 +1145,8 @@ class Geopandas(unittest.TestCase):
                 call(frame)
 
     def test_unary_union(self):
-        chance = random.Random(11)
-        for _ in range(200 if MANY else 20):
+        chance = seeded(11)
+        for _ in range(times(20, 200)):
             frame = self.frame(chance, "left")
             ours, theirs = itree.geopandas.unary_union(frame), frame.unary_union
             self.assertLess(abs(ours.area - theirs.area) if theirs else 0, 9 * STEP)
@@ -1111,8 +1163,8 @@ class Geopandas(unittest.TestCase):
 
     @needs_index
     def test_sjoin(self):
-        chance = random.Random(12)
-        for _ in range(150 if MANY else 5):
+        chance = seeded(12)
+        for _ in range(times(5, 150)):
             points, polygons = self.frame(chance, "left", kinds=self.point), self.frame(chance, "right")
             for how, predicate in itertools.product(("inner", "left", "right"), ("intersects", "within")):
                 words = {"how": how, "predicate": predicate, "rsuffix": chance.choice(["right", "of_polygon"])}
@@ -1159,8 +1211,8 @@ class Geopandas(unittest.TestCase):
 
     @needs_index
     def test_clip(self):
-        chance = random.Random(13)
-        for _ in range(150 if MANY else 5):
+        chance = seeded(13)
+        for _ in range(times(5, 150)):
             frame, corners = self.frame(chance, "mask"), (STEP / 2, STEP / 2, 7.5 * STEP, 5.5 * STEP)
             masks = [frame, frame.geometry, shapely.geometry.box(*corners), corners]
             for kinds, size in (self.point, "area"), (self.line, "length"), (self.shape, "area"):
@@ -1245,4 +1297,4 @@ def load_tests(_loader, tests, _pattern):
 
 
 if __name__ == "__main__":
-    unittest.main(argv=[it for it in sys.argv if it != "--many"])
+    unittest.main(argv=[it for it in sys.argv if not it.startswith(("--many", "--seed="))])

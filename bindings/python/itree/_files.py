@@ -9,6 +9,7 @@ import importlib
 import io
 import itertools
 import json
+import math
 import os
 import struct
 import sys
@@ -210,8 +211,9 @@ def _told(shapes: Binary, fault: _wkb.BinaryFault) -> str:
         return str(fault)
     byte = shapes.offsets[fault.shape] + fault.byte
     try:
-        (number,) = struct.unpack_from("=d", shapes.data, byte)
-        return f"{_wkb.row_of(shapes, fault)}: {number}; finite numbers are wanted"
+        # The fault is told of the point, one of whose coordinates it is.
+        x, y = struct.unpack_from("=2d", shapes.data, byte)
+        return f"{_wkb.row_of(shapes, fault)}: {y if math.isfinite(x) else x}; finite numbers are wanted"
     except (struct.error, KeyError):
         return str(fault)
 

@@ -14,8 +14,8 @@ from typing import Any, Iterator, NamedTuple, Sequence, Tuple
 
 from ._answers import Lists, lists_of
 
-# Of points in a shape: it pays for those with more.
-_MANY = 200
+# Of points in a shape: it pays for those with more, where these times the boxes are more than a look at them all costs.
+_MANY, _WORTH = 200, 5000
 
 
 class _Rings(NamedTuple):
@@ -33,18 +33,25 @@ def near(shapes: Lists, places: Any, others: Lists, other_places: Any) -> Tuple[
     places, other_places: of pairs, numpy's signed 64-bit numbers. Each shape has points.
     """
     numpy: Any = importlib.import_module("numpy")
-    large = numpy.flatnonzero(numpy.diff(_point_offsets(numpy, shapes))[places] > _MANY)
-    if not len(large):
-        return shapes, places
-    boxes = _boxes_of(numpy, others, other_places)
+    counts = numpy.diff(_point_offsets(numpy, shapes))[places]
+    large = numpy.flatnonzero(counts > _MANY)
     order = large[numpy.argsort(places[large], kind="stable")]
     starts = numpy.flatnonzero(numpy.diff(places[order], prepend=-1))
+    groups = [it for it in numpy.split(order, starts[1:]) if len(it) and _pays(counts[it[0]], len(it))]
+    if not groups:
+        return shapes, places
+    boxes = _boxes_of(numpy, others, other_places)
     found, parts = places.copy(), _Parts(shapes)
-    for group in numpy.split(order, starts[1:]):
+    for group in groups:
         whole = _rings_of(numpy, shapes, int(places[group[0]]))
         for rings, some in _near_each(numpy, whole, boxes, group):
             found[some] = parts.added(rings)
     return parts.lists(), found
+
+
+def _pays(points: int, boxes: int) -> bool:
+    """Whether it pays to look which of so many points lie near so many boxes."""
+    return points > _MANY and points * boxes > _WORTH
 
 
 def _near_each(numpy: Any, rings: _Rings, boxes: Any, places: Any) -> Iterator[Tuple[_Rings, Any]]:
@@ -52,7 +59,7 @@ def _near_each(numpy: Any, rings: _Rings, boxes: Any, places: Any) -> Iterator[T
     given = boxes[places]
     least, greatest = given[:, :2].min(axis=0), given[:, 2:].max(axis=0)
     rings = _near_box(numpy, rings, (*least, *greatest))
-    if len(places) == 1 or len(rings.xs) <= _MANY:
+    if len(places) == 1 or not _pays(len(rings.xs), len(places)):
         yield rings, places
         return
     # Halves of the boxes, by their middles along the longer side.
