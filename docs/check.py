@@ -1,20 +1,23 @@
 #!/usr/bin/env python3
-"""Checks what the documents quote: programs, proof files, signatures and clauses stand in the sources as they say.
+"""Checks what the documents quote: programs, proof files, clauses, definitions and links stand in the sources as they say.
 
 usage: docs/check.py
 
-- A block of Rust, of antt or of C in README.md is a part of a file of crates/uses or of examples, line for line; and so is one in
-  docs/CALLING.md, or it has signatures, each of which stands in the sources of its section. docs/PROVING.md has one function's.
-- In a table of calls of docs/CALLING.md, each word in brackets that is code is the name of a clause at one of the row's calls, of
-  a ghost member there, or of a field of a record that the row names.
-- In the tables of docs/DEFINITIONS.md, each name of a definition is one of specs/, in its module where it names one; and each
-  clause is some function's. Each definition that the contract of a call of docs/CALLING.md cites stands there.
-- What a document names in code font is there: paths, definitions, clauses, and the other names of the sources (docs/names.py says
-  how they are told), and so are the files that its links lead to.
-- No blank line breaks a table. The pictures are what docs/pictures/draw.py draws, and the run that one shows stands in a document
-  beside it. Each file that docs/map.py lists begins with what it holds.
-- No folder of lemmas of a crate imports one that imports it in turn: they stand in layers. Each constant of a source that isn't
-  public stands in the table of docs/DECISIONS.md.
+- A block of Rust, antt, C or C++ in README.md, docs/RATTLE.md, docs/RUST.md or docs/C.md is a part of a program that is
+  tested, line for line, and one of docs/PROVING.md of a function; what CMake is asked for there stands in the example.
+- In a table of calls of docs/RATTLE.md, each word in brackets that is code is the name of a clause at one of the calls that
+  the row leads to.
+- Each call of a language stands in the page of that language, with a link to docs/reference.
+- In the tables of docs/DEFINITIONS.md, each name of a definition is one of specs/, in its module where it names one; and
+  each clause is some function's.
+- What a document names in code font is there: paths, definitions, clauses, and the other names of the sources (docs/names.py
+  says how they are told). Links lead to files, and to headings of these.
+- docs/reference is what docs/reference.py writes. Each definition that a source cites has its place there, and one that a
+  clause cites has a comment.
+- No folder of lemmas of a crate imports one that imports it in turn: they stand in layers. Each constant of a source that
+  isn't public stands in the table of docs/DECISIONS.md.
+- No blank line breaks a table. The pictures are what docs/pictures/draw.py draws, and the run that one shows stands in a
+  document beside it. Each file that docs/map.py lists begins with what it holds.
 
 The last line is 'N passed, M failed'.
 """
@@ -27,47 +30,26 @@ import sys
 
 sys.dont_write_bytecode = True
 
+import items
 import names
+import reference
 from names import CLAUSE, FIELD, FUNCTION, RECORD, TOP, parts_by, text_of
 
-# The sources of each section of docs/CALLING.md, by the beginning of its heading.
-SOURCES = {
-    "The root": ["i_tree/src/lib.rt"],
-    "`LayoutUInt`": ["i_tree/src/layout_number/*.rt"],
-    "`steps::": ["i_tree/src/steps.rt"],
-    "`key::exp::": ["i_tree/src/key/exp.rt"],
-    "`key::list::": ["i_tree/src/key/list.rt"],
-    "`key::tree::": ["i_tree/src/key/tree.rt"],
-    "`status::exp::": ["i_tree/src/status/exp.rt"],
-    "`status::list::": ["i_tree/src/status/list.rt"],
-    "`status::tree::": ["i_tree/src/status/tree.rt"],
-    "`rb::": ["i_tree/src/rb/tree.rt", "i_tree/src/rb/neighbours.rt", "i_tree/src/rb/removal.rt", "i_tree/src/rb/clear.rt"],
-    "`set::sort::": ["i_tree/src/set/sort.rt"],
-    "`set::tree::": ["i_tree/src/set/tree.rt"],
-    "`set::list::": ["i_tree/src/set/list.rt"],
-    "`seg::exp::": ["i_tree/src/seg/exp.rt"],
-    "`seg::tree::": ["i_tree/src/seg/*.rt"],
-    "`runs`": ["runs/src/*.rt"],
-    "`horizontal`": ["horizontal/src/lib.rt"],
-    "`event_queue`": ["event_queue/src/lib.rt", "event_queue/src/buckets.rt"],
-    "`plane`": [f"plane/src/{room}.rt" for room in ("*", "meet/*", "pairs/*", "locate/*", "sweep_line/*")],
-    "`plane::sweep_line`": ["plane/src/sweep_line/*.rt"],
-    "`noding`": ["noding/src/*.rt"],
-    "`overlay::contours`": ["overlay/src/contours/*.rt"],
-    "`overlay::fill`": ["overlay/src/fill/*.rt"],
-    "`overlay::boundary`": ["overlay/src/boundary/*.rt"],
-    "`monotone_chains`": [f"monotone_chains/src/{room}.rt" for room in ("*", "stretches/*")],
-    "`overlay`": ["overlay/src/*.rt"],
-    "`layers`": ["layers/src/*.rt", "layers/src/lines/mod.rt"],
-    "`grid`": ["grid/src/*.rt", "grid/src/direction/mod.rt"],
-    "`wkb`": ["wkb/src/*.rt"],
-    "`itree_c`": ["itree_c/src/*.rt"],
-    "`itree`": ["itree/src/program.rt"],
+# The programs of which a document quotes parts, by the languages of its blocks.
+QUOTED = {
+    "README.md": {
+        "rust": "crates/uses/**/*.rt examples/rust/**/*.rs",
+        "antt": "crates/uses/**/*.antt",
+        "c": "examples/c/*.c",
+        "cpp": "examples/cpp/*.cpp",
+    },
+    "docs/RATTLE.md": {"rust": "crates/uses/**/*.rt", "antt": "crates/uses/**/*.antt"},
+    "docs/RUST.md": {"rust": "examples/rust/**/*.rs"},
+    "docs/C.md": {"c": "examples/c/*.c", "cpp": "examples/cpp/*.cpp"},
 }
 
 CONSTANT = re.compile(r"^pub const (\w+):", re.M)
 GHOST = re.compile(r"^\s*ghost (\w+) =", re.M)
-DEFINITION = re.compile(r"^\s*(?:abbrev |unfoldable )?pub (?:abbrev |record |data )?([^\s:({]+)", re.M)
 CRATES = {os.path.basename(path) for path in glob.glob(os.path.join(TOP, "crates", "*"))}
 
 
@@ -75,68 +57,40 @@ def files(pattern):
     return [os.path.relpath(path, TOP) for path in sorted(glob.glob(os.path.join(TOP, pattern), recursive=True))]
 
 
-DOCUMENTS = ["README.md", "CONTRIBUTING.md", *files("docs/*.md")]
-
-
-def sources_of(heading):
-    """The text of the sources of a section, or of none."""
-    for beginning, patterns in SOURCES.items():
-        if heading.startswith(beginning):
-            return "\n".join(text_of(path) for pattern in patterns for path in files(f"crates/{pattern}"))
-    return ""
-
-
-def squeezed(text):
-    """The text on one line, its comments and attributes left out, as a signature is compared."""
-    text = re.sub(r"^\s*(//.*|#\[.*\])$", "", text, flags=re.M)
-    text = re.sub(r"\s+", " ", text)
-    return re.sub(r"([({<]) | ([)}>])|,( ?[)}>])", lambda found: "".join(filter(None, found.groups())).strip(), text)
-
-
-def blocks(text):
-    """The sections of a text, each with its heading and its blocks of code."""
-    for section in re.split(r"^## ", text, flags=re.M):
-        yield section.partition("\n")[0], re.findall(r"^```(?:rust|antt|c|cpp)\n(.*?)^```$", section, re.M | re.S)
-
-
-def signatures(block):
-    """The items of a block, each as the sources have it."""
-    for item in re.split(r";\n|\{\n|\}\n", block + "\n"):
-        item = squeezed(item.replace("impl<", "\nimpl<")).strip()
-        if "fn " in item or item.startswith("pub "):
-            yield item
+DOCUMENTS = ["README.md", "CONTRIBUTING.md", "SECURITY.md", *files("docs/*.md")]
+WRITTEN = files("docs/reference/*.md")
+# Documents of folders, whose links alone are looked at.
+BESIDE = ["examples/README.md", *files("bindings/*/README.md")]
 
 
 def quoted_failures():
-    whole = "crates/uses/**/*.rt", "crates/uses/**/*.antt", "examples/**/*.rs", "examples/**/*.c", "examples/**/*.cpp"
-    programs = [text_of(path) for pattern in whole for path in files(pattern)]
-    for document in "README.md", "docs/CALLING.md":
-        for heading, found in blocks(text_of(document)):
-            sources = squeezed(sources_of(heading))
-            for block in found:
-                if any(block in program for program in programs):
-                    yield None
-                    continue
-                if document == "README.md":
-                    yield f"README.md: no program of crates/uses or of examples has the block that begins with {block.splitlines()[0]!r}"
-                for item in signatures(block):
-                    yield None if item in sources else f"{document}, {heading}: no source has {item!r}"
+    for document, languages in QUOTED.items():
+        for language, patterns in languages.items():
+            programs = [text_of(path) for pattern in patterns.split() for path in files(pattern)]
+            for block in re.findall(rf"^```{language}\n(.*?)^```$", text_of(document), re.M | re.S):
+                quoted = any(block in program for program in programs)
+                yield None if quoted else f"{document}: no program of {patterns} has {block.splitlines()[0]!r} and what follows"
+    asked = re.findall(r"^find_package.*$", text_of("docs/C.md"), re.M)
+    yield None if asked and all(line in text_of("examples/cpp/CMakeLists.txt") for line in asked) else f"docs/C.md: {asked}"
 
 
 def proving_failures():
     """Each line of Rust or of antt in docs/PROVING.md stands in the function that it tells of, or in its proof."""
     of_function = ["crates/noding/src/stops.rt", *files("crates/noding/proofs/stops/push_stops/*.antt")]
     there = "\n".join(text_of(path) for path in of_function)
-    for _, found in blocks(text_of("docs/PROVING.md")):
-        for block in found:
-            yield None if block in there else f"docs/PROVING.md: no line of push_stops begins with {block.splitlines()[0]!r}"
+    for block in re.findall(r"^```(?:rust|antt)\n(.*?)^```$", text_of("docs/PROVING.md"), re.M | re.S):
+        yield None if block in there else f"docs/PROVING.md: no line of push_stops begins with {block.splitlines()[0]!r}"
 
 
-def clauses_by_function(text):
-    """The names of the clauses of each function of a text, all functions of one name together."""
+def clauses_by_place():
+    """The names of the clauses that stand below each heading of docs/reference, by the page and the heading's anchor."""
     found = {}
-    for name, part in parts_by(FUNCTION, text):
-        found.setdefault(name, set()).update(CLAUSE.findall(part))
+    for path in WRITTEN:
+        text = text_of(path)
+        parts = re.split(r"^#+ .*$", re.sub(r"^```.*?^```$", "", text, flags=re.M | re.S), flags=re.M)[1:]
+        for anchor, part in zip(names.anchors_of(text), parts):
+            place = f"{path.removeprefix('docs/')}#{anchor}"
+            found[place] = set(re.findall(r"^\| `(\w+)` \| (?:requires|ensures) ", part, re.M))
     return found
 
 
@@ -151,20 +105,26 @@ def fields_of_records():
 
 
 def clause_failures():
-    records = fields_of_records()
-    for section in re.split(r"^## ", text_of("docs/CALLING.md"), flags=re.M):
-        heading = section.partition("\n")[0]
-        sources = sources_of(heading)
-        known, ghosts = clauses_by_function(sources), set(GHOST.findall(sources))
-        for row in re.findall(r"^\| (`.*) \|$", section, re.M):
-            calls, _, said = row.partition(" | ")
-            names = [name.rpartition("::")[2] for name in re.findall(r"`([\w:]+)`", calls)]
-            clauses = ghosts.union(*(known.get(name, set()) for name in names))
-            clauses = clauses.union(*(records.get(name, set()) for name in re.findall(r"`(\w+)`", said)))
-            for brackets in re.findall(r"\(([^()]*)\)", said):
-                for name in re.findall(r"`([a-z_]+)`", brackets):
-                    ok = name in clauses or name in known or "of `" in brackets
-                    yield None if ok else f"docs/CALLING.md, {heading}: {calls} has no clause {name}"
+    places = clauses_by_place()
+    for row in re.findall(r"^\| (\[`.*) \|$", text_of("docs/RATTLE.md"), re.M):
+        calls, _, said = row.partition(" | ")
+        links = re.findall(r"\]\((reference/[^)]*)\)", row)
+        clauses = set().union(*(places.get(link, ()) for link in links))
+        for brackets in re.findall(r"\(([^()]*)\)", said):
+            for name in re.findall(r"`([a-z_]+)`", brackets):
+                yield None if name in clauses else f"docs/RATTLE.md: {calls} has no clause {name}"
+
+
+def call_failures():
+    """Each call of a language has its place in the page of that language."""
+    for document, language in ("PYTHON", "python"), ("C", "c"), ("C", "cpp"), ("RUST", "rust"):
+        text = text_of(f"docs/reference/{language}.md")
+        links = set(re.findall(rf"\]\(reference/{language}\.md#([^)]*)\)", text_of(f"docs/{document}.md")))
+        codes = dict(re.findall(r"^## ([^\n]*)\n\n```\w+\n(.*?)^```$", text, re.M | re.S))
+        for name, anchor in re.findall(r"^\| \[(.*)\]\(#(.*)\) \| ", text, re.M):
+            head, called, _ = codes[name].partition("(")
+            if called and not re.search(r"\b(?:class|struct|enum|trait|define|using) ", head):
+                yield None if anchor in links else f"docs/{document}.md: it lacks {name} of docs/reference/{language}.md"
 
 
 def definitions():
@@ -172,7 +132,8 @@ def definitions():
     found = {}
     for path in files("crates/*/specs/**/*.antt"):
         module = path.partition("/specs/")[2].removesuffix(".antt").replace("/", ".")
-        found.setdefault(module, set()).update(DEFINITION.findall(text_of(path)), FIELD.findall(text_of(path)))
+        defined = (it.name for it in items.definitions_in(path))
+        found.setdefault(module, set()).update(defined, FIELD.findall(text_of(path)))
     return found
 
 
@@ -192,30 +153,44 @@ def definition_failures():
 
 
 def cited_failures():
-    """Each definition that the contract of a call of docs/CALLING.md cites is told in docs/DEFINITIONS.md."""
-    told = {word for code in names.CODE.findall(text_of("docs/DEFINITIONS.md")) for word in re.findall(r"\w+", code)}
-    known = set().union(*definitions().values())
-    for heading, found in blocks(text_of("docs/CALLING.md")):
-        calls = set(FUNCTION.findall("\n".join(found)))
-        for name, part in parts_by(FUNCTION, sources_of(heading)):
-            contract = re.split(r"(?:\n *| )\{\n|;\n", part)[0] if name in calls else ""
-            for word in known.intersection(re.findall(r"\b[A-Z]\w+", contract)):
-                yield None if word in told else f"docs/DEFINITIONS.md: it lacks {word}, which the contract of {name} cites"
+    """Each definition that a source of ours cites has its place in docs/reference."""
+    for path in files("crates/*/src/**/*.rt"):
+        if path.split("/")[1] in reference.PRODUCTS:
+            for cited in items.cited_in(path).values():
+                crate, module, name = reference.origin_of(*cited)
+                if reference.is_ours(crate, module):
+                    there = reference.home_of(crate, module, name)
+                    yield None if there else f"docs/reference: {module} of {crate} has no {name}, which {path} cites"
+
+
+def untold_failures():
+    """Each definition that a clause of docs/reference cites is told by a comment."""
+    cited = {link for path in WRITTEN for link in re.findall(r"\]\(definitions-(\w+)\.md#([^)]*)\)", text_of(path))}
+    for crate in reference.PRODUCTS:
+        anchors = reference.definitions_page(crate)[1]
+        for it in (it for _, defined in reference.definitions_of(crate).values() for it in defined):
+            if (crate, anchors[it.module, it.name]) in cited:
+                yield None if it.comment else f"no comment tells {it.module}.{it.name} of {crate}"
 
 
 def table_failures():
     """Each table has its heading: no blank line breaks one."""
-    for document in DOCUMENTS:
+    for document in DOCUMENTS + WRITTEN:
         for row, following in re.findall(r"(?:\A|\n\n)(\|.*)\n(.*)", text_of(document)):
             yield None if following.startswith("| ---") else f"{document}: no table begins with {row}"
 
 
 def promise_failures():
     sources = "\n".join(text_of(path) for path in files("crates/*/src/**/*.rt"))
-    known = {*CLAUSE.findall(sources), *GHOST.findall(sources), *FUNCTION.findall(sources), *re.findall(r"\bghost (\w+):", sources)}
+    known = {
+        *CLAUSE.findall(sources),
+        *GHOST.findall(sources),
+        *FUNCTION.findall(sources),
+        *re.findall(r"\bghost (\w+):", sources),
+    }
     known.update(*fields_of_records().values())
     promises = text_of("docs/DEFINITIONS.md").partition("## Promises")[2]
-    for row in re.findall(r"^\|[^|]+\| ([^|]*) \|$", promises, re.M):
+    for row in re.findall(r"^\|[^|]+\| ([^|]*) \|[^|]*\|$", promises, re.M):
         for name in re.findall(r"`([a-z]\w*)`", row):
             yield None if name in known or name in CRATES else f"docs/DEFINITIONS.md: no function has a clause {name}"
 
@@ -268,14 +243,19 @@ def constant_failures():
 
 
 def written_failures():
-    for script in "docs/pictures/draw.py", "docs/map.py":
+    for script in "docs/pictures/draw.py", "docs/map.py", "docs/reference.py":
         ran = subprocess.run([sys.executable, os.path.join(TOP, script), "--check"], capture_output=True, text=True)
         yield ran.stdout + ran.stderr if ran.returncode else None
 
 
 def main():
-    of_calls = quoted_failures(), proving_failures(), clause_failures(), cited_failures()
-    of_words = definition_failures(), promise_failures(), names.failures(DOCUMENTS)
+    of_calls = quoted_failures(), proving_failures(), clause_failures(), call_failures(), cited_failures(), untold_failures()
+    of_words = (
+        definition_failures(),
+        promise_failures(),
+        names.failures(DOCUMENTS),
+        names.link_failures(DOCUMENTS + WRITTEN + BESIDE),
+    )
     of_forms = table_failures(), picture_failures(), written_failures(), layer_failures(), constant_failures()
     found = [failure for check in (*of_calls, *of_words, *of_forms) for failure in check]
     failed = [failure for failure in found if failure]

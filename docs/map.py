@@ -29,8 +29,12 @@ def crates():
 
 
 def files_of(folder, ending):
-    listed = subprocess.run(["git", "ls-files", "-c", "-o", "--exclude-standard", folder], cwd=TOP, capture_output=True, text=True, check=True)
-    return sorted({path for path in listed.stdout.splitlines() if path.endswith(ending) and os.path.exists(os.path.join(TOP, path))})
+    listed = subprocess.run(
+        ["git", "ls-files", "-c", "-o", "--exclude-standard", folder], cwd=TOP, capture_output=True, text=True, check=True
+    )
+    return sorted(
+        {path for path in listed.stdout.splitlines() if path.endswith(ending) and os.path.exists(os.path.join(TOP, path))}
+    )
 
 
 def first_sentence(text):

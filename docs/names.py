@@ -1,14 +1,14 @@
 """What the documents name in code font: paths of the repository, definitions by their modules, and names of the sources.
 
-- A word with a slash or an ending of a file is a path that git tracks (or would), whole or from one of its folders on. One that
-  begins in a crate (`src/`, `specs/`, `proofs/`, `must-fail/`) lies in i_tree, or in a crate that its passage or its heading names.
-  NAME, FUNCTION and EDIT stand for any.
-- A word with dots is a definition of specs/, or a lemma of proofs/, by its module or the end of that; or such a module; or what a
-  class of Python has.
+- A word with a slash or an ending of a file is a path that git tracks (or would), whole or from one of its folders on. One
+  that begins in a crate (`src/`, `specs/`, `proofs/`, `must-fail/`) lies in i_tree, or in a crate that its passage or its
+  heading names. NAME, FUNCTION and EDIT stand for any.
+- A word with dots is a definition of specs/, or a lemma of proofs/, by its module or the end of that; or such a module; or
+  what a class of Python has.
 - Any other word, and what a piece of code calls, is a name that a source of the libraries, of the wrappers or of the program
   defines, or one of `OTHERS` below.
 - In 'X of Y', and in 'X in Y' where Y is a file, X is defined in the file Y, at the function Y, or where Y is.
-- A link leads to a file.
+- A link leads to a file, and to a heading of it.
 """
 
 import functools
@@ -22,22 +22,31 @@ TOP = os.path.normpath(os.path.join(os.path.dirname(os.path.abspath(__file__)), 
 OTHERS = {
     # std, and the language
     *"AllocError AllocFailed BTreeMap BTreeSet Box Cell Clone Copy Default Display Drop Equal Error ExactSizeIterator".split(),
-    *"Iterator Option Ord Result Stdout Vec bool clone cmp copy_within derive_where drop dyn ensures flush for i16 i32 i64".split(),
-    *"i8 if impl inline int_cmp isize nat_cmp no_std partition_point pos push repr requires retain rotate_left rotate_right".split(),
-    *"skip std take_all take_more u16 u32 u64 u8 unsafe usize while".split(),
+    *"Iterator Option Ord Result Stdout Vec bool clone cmp copy_within derive_where drop dyn ensures flush for i16".split(),
+    *"i32 i64 i8 if impl inline int_cmp isize nat_cmp no_std partition_point pos push repr requires retain".split(),
+    *"rotate_left rotate_right skip std take_all take_more u16 u32 u64 u8 unsafe usize while".split(),
+    *"AllPairs AllZip IfErr OnErr abbrev result unfoldable".split(),
     # goals of a function, which the check names
     *"decreases-loop-pair loop-pair loop-pair-smaller push-requires".split(),
     # other tools, libraries and languages
-    *"CMAKE_PREFIX_PATH MemoryError PKG_CONFIG_PATH TypeError ValueError __geo_interface__ anyhow ar cc dist free".split(),
-    *"malloc memmove memset objcopy pkg-config proves realloc tactic thiserror".split(),
+    *"CMAKE_PREFIX_PATH MemoryError NotImplementedError PKG_CONFIG_PATH TypeError ValueError __geo_interface__".split(),
+    *"anyhow ar cc dist free malloc memmove memset objcopy pkg-config proves realloc tactic thiserror".split(),
     *"rattle_alloc rattle_dealloc rattle_realloc".split(),
 }
 
 # Paths that a build makes, or that lie in the toolchain.
-BUILT = {"lib/pkgconfig", "bindings/built", "bindings/built/libitree.a", "crates/itree/out/itree", "libitree.so", "liblibc_c.a", "out"}
+BUILT = {
+    "lib/pkgconfig",
+    "bindings/built",
+    "bindings/built/libitree.a",
+    "crates/itree/out/itree",
+    "libitree.so",
+    "liblibc_c.a",
+    "out",
+}
 
 ENDINGS = "antt c cpp edit h hpp lines md py replies rs rt sh svg toml txt".split()
-LINK = re.compile(r"\]\((?!https?:)([^)#]+)")
+LINK = re.compile(r"\]\((?!https?:)([^)#\s]*)(?:#([^)\s]*))?\)")
 CODE = re.compile(r"`([^`\n]+)`")
 PATH = re.compile(rf"[\w.-]*/[\w./-]*|[\w-]+\.(?:{'|'.join(ENDINGS)})")
 PLACEHOLDER = re.compile("NAME|FUNCTION|EDIT")
@@ -49,7 +58,8 @@ BELONGS = re.compile(rf"({LISTED}) (of|in) ({LISTED})(?! of `)")
 CALLED = re.compile(r"\b([a-z_]\w*)\(")
 
 ITEM = re.compile(r"\b(?:fn|struct|enum|trait|mod|const|static|type|class|def|namespace|ghost|law)\s+(\w+)")
-CONSTANT_OF_C = re.compile(r"\bITREE_\w+")
+NAME_OF_C = re.compile(r"\bITREE_\w+|\bitree_\w+(?=\()")
+MEMBER_OF_CPP = re.compile(r"^ *\[\[nodiscard\]\] [^(=]*?(\w+)\(", re.M)
 CLASS_OF_PYTHON = re.compile(r"^class (\w+)", re.M)
 FIELD_OF_PYTHON = re.compile(r"\bself\.([a-z]\w*) = ")
 FIELD_OR_VARIANT = re.compile(r"^\s*(?:pub(?:\(\w+\))? )?(\w+): |^ {4}([A-Z]\w*)(?:[,({ ]|$)", re.M)
@@ -68,8 +78,25 @@ def text_of(path):
         return file.read()
 
 
+def slug(heading):
+    """The anchor of a heading, as GitHub makes it, but for the number that tells equal ones apart."""
+    return re.sub(r"[^\w\- ]", "", heading.strip().lower()).replace(" ", "-")
+
+
+def anchors_of(text):
+    """The anchors of a document's headings, in their order."""
+    seen, found = {}, []
+    for heading in re.findall(r"^#+ (.*)$", re.sub(r"^```.*?^```$", "", text, flags=re.M | re.S), re.M):
+        anchor = slug(re.sub(r"\[([^\]]*)\]\([^)]*\)", r"\1", heading))
+        seen[anchor] = seen.get(anchor, -1) + 1
+        found.append(f"{anchor}-{seen[anchor]}" if seen[anchor] else anchor)
+    return found
+
+
 def tracked():
-    listed = subprocess.run(["git", "ls-files", "-c", "-o", "--exclude-standard"], cwd=TOP, capture_output=True, text=True, check=True)
+    listed = subprocess.run(
+        ["git", "ls-files", "-c", "-o", "--exclude-standard"], cwd=TOP, capture_output=True, text=True, check=True
+    )
     return [path for path in listed.stdout.splitlines() if os.path.exists(os.path.join(TOP, path))]
 
 
@@ -107,9 +134,11 @@ class Sources:
         for path in filter(lambda path: path.endswith(".rt"), self.texts):
             self.add_contracts(path)
         stems = {part.partition(".")[0] for place in self.places for part in place.split("/")}
-        words = {word for path, text in self.texts.items() if path.startswith("crates/itree/src/") for word in LITERAL.findall(text)}
+        words = {
+            word for path, text in self.texts.items() if path.startswith("crates/itree/src/") for word in LITERAL.findall(text)
+        }
         bindings = [text_of(path) for path in self.paths if path.startswith("bindings/")]
-        forms = ITEM, CONSTANT_OF_C, FIELD_OF_PYTHON
+        forms = ITEM, NAME_OF_C, FIELD_OF_PYTHON, MEMBER_OF_CPP
         wrappers = {name for text in bindings for form in forms for name in form.findall(text)}
         self.classes = {name for text in bindings for name in CLASS_OF_PYTHON.findall(text)}
         self.all = set().union(stems, words, wrappers, *self.names.values())
@@ -131,7 +160,9 @@ class Sources:
     def is_definition(self, name):
         module, _, last = name.rpartition(".")
         ends = [known for known in self.modules if f".{known}".endswith(f".{module}")]
-        return any(last in self.modules[known] for known in ends) or any(f".{known}".endswith(f".{name}") for known in self.modules)
+        return any(last in self.modules[known] for known in ends) or any(
+            f".{known}".endswith(f".{name}") for known in self.modules
+        )
 
     def fields_named(self, text):
         """The fields of the records that a text names."""
@@ -178,7 +209,9 @@ def is_known(word, crates, sources):
     if PATH.fullmatch(word):
         return word in BUILT or sources.is_place(word, crates)
     if DOTTED.fullmatch(word):
-        return sources.is_definition(word) or word.partition(".")[0] in sources.classes and word.rpartition(".")[2] in sources.all
+        return (
+            sources.is_definition(word) or word.partition(".")[0] in sources.classes and word.rpartition(".")[2] in sources.all
+        )
     if NAME.fullmatch(word):
         return word.split("::")[0] in OTHERS or all(part in sources.all for part in word.split("::"))
     return True
@@ -204,6 +237,14 @@ def failures(documents):
                 for word in words_of(code):
                     yield None if is_known(word, crates, sources) else f"{document}: there is no {word}"
             yield from (f"{document}: {stranger}" for stranger in strangers(passage, sources))
-            for link in LINK.findall(passage):
-                place = os.path.normpath(os.path.join(os.path.dirname(document), link))
-                yield None if place in sources.places else f"{document}: a link leads to {link}, which isn't there"
+
+
+def link_failures(documents):
+    """Links that lead to no file, or to no heading of one; None for each other."""
+    places = with_folders(tracked())
+    anchors = functools.cache(lambda path: set(anchors_of(text_of(path))))
+    for document in documents:
+        for link, anchor in LINK.findall(re.sub(r"^```.*?^```$", "", text_of(document), flags=re.M | re.S)):
+            place = os.path.normpath(os.path.join(os.path.dirname(document), link)) if link else document
+            there = place in places and (not anchor or anchor in anchors(place))
+            yield None if there else f"{document}: a link leads to {link}#{anchor}, which isn't there"

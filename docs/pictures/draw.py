@@ -4,6 +4,9 @@
 usage: draw.py            writes them all
        draw.py --check    compares each with what it would write, and ends with 'N passed, M failed'
 
+Some stand in files of their own: `stages.py` (the way from rings to polygons, and counts in columns), `chords.py` (rings cut
+into stretches) and `sizes.py` (the crates, which it reads from crates.txt with their lines, and the rooms of i_tree).
+
 `sweep.svg` shows `sweep.lines`, with the answers that `sweep.replies` has: the process tests run the program over the one
 and compare what it prints with the other. So does `locate.svg` with `locate.lines` and `locate.replies`, and `snap.svg` with
 `snap.lines` and `snap.replies`; and `overlay.svg` shows `overlay.lines`, with the answers of the four operations.
@@ -11,104 +14,36 @@ and compare what it prints with the other. So does `locate.svg` with `locate.lin
 
 import os
 import sys
-from html import escape
 
-HERE = os.path.dirname(os.path.abspath(__file__))
+sys.dont_write_bytecode = True
 
-INK, SOFT, PALE, PAPER = "#222222", "#777777", "#f2f4f7", "#ffffff"
-BLUE, RED, BLACK, GREEN = "#1f5fa8", "#c0392b", "#3a3a3a", "#2e7d4f"
-
-
-def text(x, y, words, size=13, anchor="middle", fill=INK, weight="normal"):
-    return (
-        f'<text x="{x}" y="{y}" font-size="{size}" text-anchor="{anchor}" fill="{fill}" font-weight="{weight}">'
-        f"{escape(words)}</text>"
-    )
-
-
-def box(x, y, width, height, fill=PALE, stroke=SOFT, dashed=False):
-    dash = ' stroke-dasharray="4 3"' if dashed else ""
-    return f'<rect x="{x}" y="{y}" width="{width}" height="{height}" rx="4" fill="{fill}" stroke="{stroke}"{dash}/>'
-
-
-def line(x0, y0, x1, y1, stroke=SOFT, width=1.5, dashed=False, arrow=False):
-    dash = ' stroke-dasharray="4 3"' if dashed else ""
-    head = ' marker-end="url(#head)"' if arrow else ""
-    return f'<line x1="{x0}" y1="{y0}" x2="{x1}" y2="{y1}" stroke="{stroke}" stroke-width="{width}"{dash}{head}/>'
-
-
-def dot(x, y, radius, fill, stroke=PAPER):
-    return f'<circle cx="{x}" cy="{y}" r="{radius}" fill="{fill}" stroke="{stroke}"/>'
-
-
-def picture(title, width, height, parts):
-    """The whole drawing, on a ground of its own, so that it reads on a dark page too."""
-    head = (
-        '<marker id="head" viewBox="0 0 8 8" refX="7" refY="4" markerWidth="7" markerHeight="7" orient="auto">'
-        f'<path d="M0 0L8 4L0 8z" fill="{SOFT}"/></marker>'
-    )
-    lines = [
-        f'<svg xmlns="http://www.w3.org/2000/svg" width="{width}" height="{height}" viewBox="0 0 {width} {height}" '
-        'font-family="Helvetica, Arial, sans-serif">',
-        f"<title>{escape(title)}</title>",
-        f"<defs>{head}</defs>",
-        f'<rect width="{width}" height="{height}" fill="{PAPER}"/>',
-        *parts,
-        "</svg>",
-    ]
-    return "\n".join(lines) + "\n"
-
-
-# The crates and layers.
-
-
-def titled(x, y, width, height, name, said, fill=PALE):
-    return [
-        box(x, y, width, height, fill),
-        text(x + width / 2, y + 20, name, 14, weight="bold"),
-        text(x + width / 2, y + 37, said, 12, fill=SOFT),
-    ]
-
-
-def layers():
-    parts = [
-        box(20, 12, 680, 84, PAPER),
-        *titled(35, 22, 206, 46, "itree", "the program: lines and replies"),
-        *titled(257, 22, 206, 46, "uses", "small programs to copy"),
-        *titled(479, 22, 206, 46, "itree_c", "calls from other languages"),
-        text(360, 87, "each of these three uses crates below, and i_tree", 12, fill=SOFT),
-        *titled(20, 108, 70, 298, "runs", "commands"),
-        *titled(94, 108, 90, 298, "horizontal", "a sweep"),
-        *titled(196, 108, 160, 174, "wkb", "well-known binary"),
-        *titled(196, 294, 160, 50, "grid", "doubles as points"),
-        *titled(372, 108, 328, 50, "layers", "many shapes in one call"),
-        *titled(372, 170, 328, 50, "monotone_chains", "the same overlay, sooner where rings are long"),
-        *titled(372, 232, 328, 50, "overlay", "which edges bound the result; rings; polygons"),
-        *titled(372, 294, 328, 50, "noding", "edges broken where they meet, at whole points"),
-        *titled(196, 356, 504, 50, "plane", "edges that meet; the edge below a point"),
-        *titled(20, 418, 680, 50, "event_queue", "what a sweep meets, in order; a sort in buckets; it uses std alone"),
-        box(20, 480, 680, 208, PAPER),
-        text(30, 498, "i_tree", 14, "start", weight="bold"),
-        *titled(35, 506, 152, 60, "key", "keys that expire", "#e8f0fa"),
-        *titled(201, 506, 152, 60, "status", "what is along a line", "#e8f0fa"),
-        *titled(367, 506, 152, 112, "set", "ordered sets", "#e8f0fa"),
-        *titled(533, 506, 152, 112, "seg", "segments that expire", "#e8f0fa"),
-        text(111, 560, "list and tree", 12, fill=SOFT),
-        text(277, 560, "list and tree", 12, fill=SOFT),
-        text(443, 560, "list and tree", 12, fill=SOFT),
-        text(609, 560, "a heap of buckets", 12, fill=SOFT),
-        *titled(35, 573, 318, 45, "expiring", "what keys and statuses share", "#e8f0fa"),
-        *titled(35, 625, 484, 50, "rb", "the red-black core of the key, status and set trees", "#e8f0fa"),
-        *titled(533, 625, 152, 50, "steps", "what a call counts by", "#e8f0fa"),
-        *titled(20, 700, 680, 45, "std", "the crates between it and the first three use nothing else, but layers, whose arena is bumpalo", PAPER),
-    ]
-    return picture("The crates, each on those below that it uses", 720, 760, parts)
-
+import chords
+import sizes
+import stages
+from shapes import (
+    BLACK,
+    BLUE,
+    GREEN,
+    HERE,
+    INK,
+    PALE,
+    PAPER,
+    RED,
+    SOFT,
+    box,
+    dot,
+    line,
+    pairs_of,
+    picture,
+    polygons_of,
+    text,
+    words_of,
+)
 
 # A red-black tree.
 
 
-def node(x, y, name, colour, expired=False, faded=False):
+def node(x, y, name, colour, expired=False):
     fill = RED if colour == "r" else BLACK
     parts = [dot(x, y, 16, fill)]
     if expired:
@@ -153,7 +88,15 @@ def slots():
             f'stroke="{SOFT}" stroke-width="1.5" marker-end="url(#head)"/>'
         )
     parts += [line(540, 262, 496, 243, arrow=True), text(544, 268, "the first free slot", 12, "start", SOFT)]
-    parts.append(text(30, 290, "A handle is a slot's number. A free slot holds the number of the next one; slot 0 is never used.", 13, "start"))
+    parts.append(
+        text(
+            30,
+            290,
+            "A handle is a slot's number. A free slot holds the number of the next one; slot 0 is never used.",
+            13,
+            "start",
+        )
+    )
     return picture("A tree of three keys in eight slots, and the chain of the free ones", 720, 305, parts)
 
 
@@ -180,7 +123,9 @@ def descent():
         *frame(20, ["2 is live and below 9: go right.", "3 is expired."], first, [(2, 1), (3, 4)], [(2, 3)]),
         *frame(251, ["3 goes, and the tree is mended.", "The right child of 2 is read again."], second, [(2, 1), (2, 4)], []),
         *frame(482, ["4 is live and below 9: go right.", "Nothing is there: 4 is the answer."], third, [(2, 1)], [(2, 4)]),
-        text(360, 240, "2 comparisons, 1 removal, 3 tests whether a key is live; over four keys the bound is 4 comparisons.", 13),
+        text(
+            360, 240, "2 comparisons, 1 removal, 3 tests whether a key is live; over four keys the bound is 4 comparisons.", 13
+        ),
         line(92, 260, 122, 260, BLUE, 4),
         text(130, 264, "the link that the step went down", 13, "start"),
         text(380, 264, "A red root is no mistake: its colour is free.", 13, "start"),
@@ -225,16 +170,18 @@ def buckets():
         parts.append(text(x + unit * (last - first + 1) / 2 - 1, y + 15, str(number), 11, fill=PAPER if here else SOFT))
     for bucket in range(0, 32):
         parts.append(text(left + unit * bucket + unit / 2, 230, str(bucket), 10, fill=SOFT))
-    parts.append(text(360, 250, f"32 buckets below 63 nodes. The {len(chosen)} nodes in blue together cover the buckets 1 to 30, and no other.", 13))
+    parts.append(
+        text(
+            360,
+            250,
+            f"32 buckets below 63 nodes. The {len(chosen)} nodes in blue together cover the buckets 1 to 30, and no other.",
+            13,
+        )
+    )
     return picture("The canonical nodes of the buckets 1 to 30", 720, 265, parts)
 
 
 # A sweep, from lines that the program answers.
-
-
-def words_of(name):
-    with open(os.path.join(HERE, name), encoding="utf-8") as lines:
-        return [line.split() for line in lines.read().splitlines() if line.split()]
 
 
 def scene(name, word):
@@ -345,11 +292,6 @@ def chain_of(points):
     return f'<polyline points="{places}" fill="none" stroke="{GREEN}" stroke-width="4" stroke-linejoin="round"/>'
 
 
-def pairs_of(words):
-    numbers = list(map(int, words[1:]))
-    return list(zip(numbers[::2], numbers[1::2]))
-
-
 def snap():
     edges, chains = ([pairs_of(words) for words in words_of(f"snap.{kind}")] for kind in ("lines", "replies"))
     hot = sorted({point for points in chains for point in points})
@@ -407,47 +349,47 @@ def fill():
     parts += [line(60, 474, 90, 474, BLUE, 1.5), text(98, 478, "left out", 12, "start", SOFT)]
     parts += [line(180, 474, 210, 474, GREEN, 4), text(218, 478, "kept", 12, "start", SOFT)]
     parts.append(text(300, 478, "1, 0: the winding numbers of the subject and of the clip", 12, "start", SOFT))
-    return picture("Two rings, the winding numbers on both sides of each edge, and the edges kept for their union", 720, 496, parts)
+    return picture(
+        "Two rings, the winding numbers on both sides of each edge, and the edges kept for their union", 720, 496, parts
+    )
 
 
 # Two shapes, and what the four operations make of them, from lines that the program answers.
 
 
 def in_panel(panel, x, y):
-    """Where a point of a run stands in the panel of this number."""
-    return 32 + 172 * panel + 6.5 * x, 122 - 6.5 * y
+    """Where a point of a run stands in the panel of this number: the two shapes, and behind them what is made of them."""
+    if panel == 0:
+        return 20 + 14 * x, 258 - 14 * y
+    return 326 + 200 * ((panel - 1) % 2) + 9 * x, 140 + 170 * ((panel - 1) // 2) - 9 * y
 
 
-def region(panel, rings, stroke, fill):
-    """What is inside the rings, by the even-odd rule."""
-    ways = "".join("M" + "L".join(f"{x:g} {y:g}" for x, y in (in_panel(panel, *point) for point in ring)) + "Z" for ring in rings)
-    return f'<path d="{ways}" fill="{fill}" fill-opacity="0.3" fill-rule="evenodd" stroke="{stroke}" stroke-width="2"/>'
-
-
-def polygons_of(replies):
-    """The rings of each polygon: the outer one, and its holes."""
-    polygons = []
-    for words in replies:
-        if words[0] == "polygon":
-            polygons.append([])
-        polygons[-1].append(pairs_of(words))
-    return polygons
+def region(panel, rings, stroke):
+    """What is inside the rings, by the even-odd rule, with a dot at each vertex."""
+    ways = "".join(
+        "M" + "L".join(f"{x:g} {y:g}" for x, y in (in_panel(panel, *point) for point in ring)) + "Z" for ring in rings
+    )
+    area = f'<path d="{ways}" fill="{stroke}" fill-opacity="0.3" fill-rule="evenodd" stroke="{stroke}" stroke-width="2"/>'
+    return [area, *(dot(*in_panel(panel, *point), 4 if panel == 0 else 3, stroke) for ring in rings for point in ring)]
 
 
 def overlay():
     lines = words_of("overlay.lines")
     subject, clip = ([pairs_of(words) for words in lines if words[0] == kind] for kind in ("subject", "clip"))
-    parts = [region(0, subject, BLUE, BLUE), region(0, clip, RED, RED)]
-    parts += [text(*in_panel(0, 2, 10), "subject", 12, "start", BLUE), text(*in_panel(0, 14, 5.4), "clip", 12, "start", RED)]
+    parts = [*region(0, subject, BLUE), *region(0, clip, RED)]
+    parts += [text(*in_panel(0, 2.4, 9.6), "subject", 14, fill=BLUE), text(*in_panel(0, 15.8, 5.7), "clip", 14, fill=RED)]
     for panel, operation in enumerate(("union", "intersection", "difference", "xor"), 1):
-        parts += [region(panel, rings, GREEN, GREEN) for rings in polygons_of(words_of(f"overlay.{operation}"))]
-        parts.append(text(in_panel(panel, 10, 0)[0], 170, operation, 13))
-    return picture("A square with a hole and a rhomb, and their union, intersection, difference and xor", 880, 186, parts)
+        for rings in polygons_of(words_of(f"overlay.{operation}")):
+            parts += region(panel, rings, GREEN)
+        x, y = in_panel(panel, 6, 0)
+        parts.append(text(x, y + 20, operation, 14))
+    return picture("A square with a hole and a rhomb, and their union, intersection, difference and xor", 720, 346, parts)
 
 
 PICTURES = {
-    **{"layers": layers, "slots": slots, "descent": descent, "buckets": buckets},
+    **{"layers": sizes.layers, "rooms": sizes.rooms, "slots": slots, "descent": descent, "buckets": buckets},
     **{"sweep": sweep, "locate": locate, "snap": snap, "fill": fill, "overlay": overlay},
+    **{"stages": stages.stages, "columns": stages.columns, "chords": chords.chords},
 }
 
 
