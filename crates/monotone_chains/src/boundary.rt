@@ -19,8 +19,8 @@ use plane::point::Point;
 use plane::sweep_line::ActiveEdge;
 use std::alloc::Allocator;
 
-/// As `boundary` of the crate `overlay`, of edges that are cut into stretches, by the chords of these: one edge stands for all of a stretch, from its first
-/// point to its last. In the rings the points of the stretches stand in place of them.
+/// As `boundary` of the crate `overlay`, of edges that are cut into stretches, by the chords of these: one edge stands for all of
+/// a stretch, from its first point to its last. In the rings the points of the stretches stand in place of them.
 pub fn boundary_along<C, A>(
     stretches: &Stretches<A>,
     rule: FillRule,
