@@ -8,8 +8,8 @@ usage: docs/check.py
 - In a table of calls of docs/RATTLE.md, each word in brackets that is code is the name of a clause at one of the calls that
   the row leads to.
 - Each call of a language stands in the page of that language, with a link to docs/reference.
-- In the tables of docs/DEFINITIONS.md, each name of a definition is one of specs/, in its module where it names one; and
-  each clause is some function's.
+- In docs/DEFINITIONS.md, each name of a definition in the table of words is one of specs/, in its module where it names one;
+  and each clause in that of promises is some function's.
 - What a document names in code font is there: paths, definitions, clauses, and the other names of the sources (docs/names.py
   says how they are told). Links lead to files, and to headings of these.
 - docs/reference is what docs/reference.py writes. Each definition that a source cites has its place there, and one that a
@@ -190,7 +190,7 @@ def promise_failures():
     }
     known.update(*fields_of_records().values())
     promises = text_of("docs/DEFINITIONS.md").partition("## Promises")[2]
-    for row in re.findall(r"^\|[^|]+\| ([^|]*) \|[^|]*\|$", promises, re.M):
+    for row in re.findall(r"^\|[^|]+\| ([^|]*) \|$", promises, re.M):
         for name in re.findall(r"`([a-z]\w*)`", row):
             yield None if name in known or name in CRATES else f"docs/DEFINITIONS.md: no function has a clause {name}"
 

@@ -13,6 +13,7 @@ from processes import Case, Outcome, by_file, lines
 
 TOP = os.path.normpath(os.path.join(os.path.dirname(os.path.abspath(__file__)), ".."))
 COMMANDS = "docs/COMMANDS.md"
+HELP = "crates/itree/src/help.rt"
 DOCUMENTS = COMMANDS, "README.md"
 
 BLOCK = re.compile(r"^```console\n(.*?)^```$", re.M | re.S)
@@ -115,14 +116,17 @@ def listed(command, given):
 
 
 def help_text():
-    """What docs/COMMANDS.md shows of the help."""
-    return next(case.wanted.output for case in examples_in(COMMANDS) if case.words == ["help"])
+    """The help, as its source has it: no document shows it a second time."""
+    told = re.search(r'HELP: &str = "\\\n(.*?)";', text_of(HELP), re.S).group(1)
+    if "\\" in told:
+        raise ValueError(f"{HELP}: the help has an escape")
+    return told.encode()
 
 
 def examples():
     """Cases of the examples of all documents."""
     cases = [case for document in DOCUMENTS for case in examples_in(document)]
-    shown = {case.words[0] for case in cases if case.words}
+    shown = {"help", *(case.words[0] for case in cases if case.words)}
     for codes, _ in table_rows(text_of(COMMANDS), "Command"):
         if not shown & {code.split()[1] for code in codes}:
             raise ValueError(f"{COMMANDS} has no example of {codes}")

@@ -37,7 +37,7 @@ PARTS = (
     *(partial(histories.all_modes, 40, [4]), *(partial(part, 300, 60) for part in small.PARTS)),
 )
 TEXTS = text.empty_texts, text.plain_lines, text.faulty_lines, text.numbers
-# Those of modes that the help in docs/COMMANDS.md may not list yet.
+# Those of modes that the help may not list yet.
 OVERLAYS = overlays.worked, overlays.faulty, overlays.nested, long_overlays.few
 WHERE_LISTED = {"snap": (snaps.worked,), "overlay OPERATION RULE": OVERLAYS}
 READ = "keytree", "setlist", "seg"
