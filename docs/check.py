@@ -16,6 +16,7 @@ usage: docs/check.py
   clause cites has a comment.
 - No folder of lemmas of a crate imports one that imports it in turn: they stand in layers. Each constant of a source that
   isn't public stands in the table of docs/DECISIONS.md.
+- tools/site builds the site of the documents, where mkdocs is there.
 - No blank line breaks a table. The pictures are what docs/pictures/draw.py draws, and the run that one shows stands in a
   document beside it. Each file that docs/map.py lists begins with what it holds.
 
@@ -25,8 +26,10 @@ The last line is 'N passed, M failed'.
 import glob
 import os
 import re
+import shutil
 import subprocess
 import sys
+import tempfile
 
 sys.dont_write_bytecode = True
 
@@ -248,6 +251,16 @@ def written_failures():
         yield ran.stdout + ran.stderr if ran.returncode else None
 
 
+def site_failures():
+    """The site of the documents can be built, where what builds it is there."""
+    if shutil.which("mkdocs"):
+        with tempfile.TemporaryDirectory() as room:
+            ran = subprocess.run(
+                [os.path.join(TOP, "tools/site"), room], stdout=subprocess.PIPE, stderr=subprocess.STDOUT, text=True
+            )
+            yield f"tools/site: {ran.stdout}" if ran.returncode else None
+
+
 def main():
     of_calls = quoted_failures(), proving_failures(), clause_failures(), call_failures(), cited_failures(), untold_failures()
     of_words = (
@@ -256,7 +269,14 @@ def main():
         names.failures(DOCUMENTS),
         names.link_failures(DOCUMENTS + WRITTEN + BESIDE),
     )
-    of_forms = table_failures(), picture_failures(), written_failures(), layer_failures(), constant_failures()
+    of_forms = (
+        table_failures(),
+        picture_failures(),
+        written_failures(),
+        layer_failures(),
+        constant_failures(),
+        site_failures(),
+    )
     found = [failure for check in (*of_calls, *of_words, *of_forms) for failure in check]
     failed = [failure for failure in found if failure]
     for failure in failed:
