@@ -9,15 +9,13 @@ use Rattle.plane.specs.Meet.Edges.{RationalPoint, IsOf}
 use Rattle.plane.specs.Pairs.Bounds.{BoundsMeet}
 use Rattle.noding.specs.Chains.{Passes, IsEnd, CrossAt, IsHot, Upto, IsChain, AreChains}
 use Rattle.noding.specs.Meeting.{MeetAtEnds}
-use Rattle.noding.specs.Near.{IsNear}
-use Rattle.noding.specs.Windings.{start_of, end_of, winding, pieces, IsAlongAxis, IsClosed}
+use Rattle.noding.specs.Near.{CountsExactly, IsNear}
+use Rattle.noding.specs.Windings.{start_of, end_of, winding, pieces, IsClosed}
 use Rattle.noding.proofs.SnapLemmas.Along.{Passes-in_box, Passes-start, Passes-end}
-use Rattle.noding.proofs.SnapLemmas.Clear.{chain-clear}
-use Rattle.noding.proofs.SnapLemmas.Exact.{chain-exact}
 use Rattle.noding.proofs.SnapLemmas.Near.{IsNear-piece}
 use Rattle.noding.proofs.SnapLemmas.Noded.{IsPiece-chain, chains-meet, piece-proper, piece-upto}
 use Rattle.noding.proofs.SnapLemmas.Paths.{IsPath-chain, path-begins, path-ends}
-use Rattle.noding.proofs.SnapLemmas.Sums.{balance, chains-clear, chains-exact}
+use Rattle.noding.proofs.SnapLemmas.Sums.{balance, chain-counts, some-exact}
 -- A point rounds to one whole point.
 pub use Rattle.noding.proofs.SnapLemmas.Rounding.{RoundsTo-unique}
 -- What an edge passes lies in its box; of two points that it passes one isn't behind the other, and where neither is they are
@@ -64,13 +62,9 @@ module _ (edges : List Edge) (chains : List (List Point)) (are : AreChains edges
       → IsOf piece point → IsOf other point → MeetAtEnds piece other point
   noded piece other point first second of_one of_other = chains-meet edges chains are piece other point first second of_one of_other
 
-  -- The pieces wind around a point that is near no edge as the edges do.
-  pub clear : (point : RationalPoint) → All (λ edge. ¬ (IsNear edge point)) edges → winding (flat_map pieces chains) point ≡ winding edges point
-  clear point far = chains-clear edges chains point are far
-
-  -- Around each point they do where all edges run along the axes.
-  pub exact : (point : RationalPoint) → All IsAlongAxis edges → winding (flat_map pieces chains) point ≡ winding edges point
-  exact point axial = chains-exact edges chains point are axial
+  -- The pieces wind around a point as the edges do, if each edge runs along an axis or isn't near the point.
+  pub exact : (point : RationalPoint) → All (λ edge. CountsExactly edge point) edges → winding (flat_map pieces chains) point ≡ winding edges point
+  exact point exactly = some-exact edges edges chains point (λ edge among. among) are exactly
 
   -- The pieces of closed edges are closed.
   pub closed : IsClosed edges → IsClosed (flat_map pieces chains)
@@ -104,9 +98,6 @@ module _ (edges : List Edge) (edge : Edge) (chain : List Point) (among : Contain
       let found = IsPiece-chain edges edge chain is piece inside in
       IsNear-piece edge piece point found.from_passes found.to_passes of
 
-  -- Its pieces count what the edge counts, at a point that isn't near the edge; and at each point where it runs along an axis.
-  pub clear-edge : (point : RationalPoint) → ¬ (IsNear edge point) → winding (pieces chain) point ≡ winding (edge ∷ []) point
-  clear-edge point far = chain-clear edge chain point (IsPath-chain edges edge chain among is) far
-
-  pub exact-edge : (point : RationalPoint) → IsAlongAxis edge → winding (pieces chain) point ≡ winding (edge ∷ []) point
-  exact-edge point axial = chain-exact edge chain point (IsPath-chain edges edge chain among is) axial
+  -- Its pieces count what the edge counts, at each point if it runs along an axis, and else where the point isn't near it.
+  pub exact-edge : (point : RationalPoint) → CountsExactly edge point → winding (pieces chain) point ≡ winding (edge ∷ []) point
+  exact-edge point exactly = chain-counts edge chain point (IsPath-chain edges edge chain among is) exactly

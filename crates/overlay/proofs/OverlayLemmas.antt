@@ -12,8 +12,8 @@ use Rattle.overlay.specs.Boundary.{BoundsResult, HasSloped, result_at}
 use Rattle.overlay.specs.Contours.Outlines.{AreOutlines, outline}
 use Rattle.overlay.specs.Contours.Rings.{AreContours}
 use Rattle.overlay.specs.Fill.Rules.{is_result}
-use Rattle.noding.specs.Near.{IsNear}
-use Rattle.noding.specs.Windings.{IsAlongAxis, count}
+use Rattle.noding.specs.Near.{CountsExactly}
+use Rattle.noding.specs.Windings.{count}
 use Rattle.overlay.proofs.BoundaryLemmas.Bounding.{rings-bound}
 use Rattle.overlay.proofs.ContourLemmas.Callers.{outlines-wind}
 use Rattle.overlay.specs.Overlay.{IsOverlay}
@@ -37,8 +37,7 @@ bounds-real rule operation subject clip edges bounds = record {
   noded = bounds.noded;
   distinct = bounds.distinct;
   once = bounds.once;
-  clear = λ point far. bounds.clear point (both (λ edge. ¬ (IsNear edge point)) far) ∙ same point;
-  exact = λ point axial. bounds.exact point (both IsAlongAxis axial) ∙ same point;
+  exact = λ point exactly. bounds.exact point (both (λ edge. CountsExactly edge point) exactly) ∙ same point;
 }
   where
     -- what holds of all holds of the real ones
@@ -58,8 +57,7 @@ polygons-overlay rule operation subject clip edges whole bounds directed are =
     record {
       each = outlines.each;
       once = λ point. subst (λ (z : ℤ). (z ≡ pos 0) ⊎ (z ≡ pos 1)) (sym (outlines.winds point)) (bounds.once point);
-      clear = λ point far. outlines.winds point ∙ bounds.clear point far;
-      exact = λ point axial. outlines.winds point ∙ bounds.exact point axial;
+      exact = λ point exactly. outlines.winds point ∙ bounds.exact point exactly;
       whole = whole;
       directed = directed;
       bounds = rings-bound rule operation subject clip edges (rings_of whole) bounds are;

@@ -14,22 +14,21 @@ use Rattle.overlay.specs.Fill.Filled.{AreDistinct, AreNoded}
 use Rattle.overlay.specs.Fill.Turned.{turned}
 use Rattle.overlay.specs.Fill.Rules.{is_result}
 use Rattle.noding.specs.Chains.{IsChain}
-use Rattle.noding.specs.Near.{IsNear}
+use Rattle.noding.specs.Near.{CountsExactly}
 use Rattle.noding.specs.Offsets.{offsets}
-use Rattle.noding.specs.Windings.{edge_between, end_of, pieces, start_of, winding, IsAlongAxis, count}
+use Rattle.noding.specs.Windings.{edge_between, end_of, pieces, start_of, winding, count}
 
 -- 1 around a point of the result, else 0, by the winding numbers of the subject and of the clip there.
 abbrev pub result_at : FillRule → Operation → List Edge → List Edge → RationalPoint → ℤ
 result_at rule operation subject clip point = count (is_result rule operation (winding subject point) (winding clip point))
 
--- Edges that bound the result, as far as it isn't near the edges given: they meet only at common ends, no two have the same ends,
--- and they wind once around each point of it, and around no others.
+-- Edges that bound the result: they meet only at common ends, no two have the same ends, and they wind once around each point of
+-- it, and around no others, if each edge given runs along an axis or isn't near the point.
 pub record BoundsResult (rule : FillRule) (operation : Operation) (subject clip edges : List Edge) : Type 0 where
   pub noded : AreNoded edges
   pub distinct : AreDistinct edges
   pub once : (point : RationalPoint) → (winding edges point ≡ pos 0) ⊎ (winding edges point ≡ pos 1)
-  pub clear : (point : RationalPoint) → All (λ edge. ¬ (IsNear edge point)) (subject ++ clip) → winding edges point ≡ result_at rule operation subject clip point
-  pub exact : (point : RationalPoint) → All IsAlongAxis (subject ++ clip) → winding edges point ≡ result_at rule operation subject clip point
+  pub exact : (point : RationalPoint) → All (λ edge. CountsExactly edge point) (subject ++ clip) → winding edges point ≡ result_at rule operation subject clip point
 
 -- Rings whose edges do.
 pub record IsBoundary (rule : FillRule) (operation : Operation) (subject clip : List Edge) (rings : List (List Point)) : Type 0 where

@@ -12,13 +12,12 @@ use Rattle.overlay.specs.declared.fill.rules.Operation.{Operation}
 use Rattle.overlay.specs.Boundary.{AreBroken, BoundsResult, result_at}
 use Rattle.overlay.specs.Fill.Filled.{AreDistinct, AreNoded, IsFilled}
 use Rattle.overlay.specs.Fill.Rules.{is_result}
-use Rattle.noding.specs.Near.{IsNear}
-use Rattle.noding.specs.Windings.{IsAlongAxis, pieces, winding, count}
+use Rattle.noding.specs.Near.{CountsExactly}
+use Rattle.noding.specs.Windings.{pieces, winding, count}
 use Rattle.monotone_chains.specs.Stretches.{AreStretches, GoesAlong, chord}
 use Rattle.overlay.proofs.BoundaryLemmas.Bounding.{filled-bounds}
-use Rattle.noding.proofs.SnapLemmas.Clear.{chain-clear}
-use Rattle.noding.proofs.SnapLemmas.Exact.{chain-exact}
 use Rattle.noding.proofs.SnapLemmas.Paths.{IsPath}
+use Rattle.noding.proofs.SnapLemmas.Sums.{chain-counts}
 use Rattle.monotone_chains.proofs.StretchLemmas.Pieces.{chains-placed, clip-placed, filled-placed}
 use Rattle.monotone_chains.proofs.StretchLemmas.Shifts.{IsShift, shift-of}
 use Rattle.monotone_chains.proofs.StretchLemmas.Wound.{chains-winding, ways-winding}
@@ -78,11 +77,8 @@ module _ (subject clip : List Edge) (stretches clip_stretches : List (List Point
         ∙ filled.winds other
         ∙ ap₂ (λ (a b : ℤ). count (is_result rule operation a b)) (subject-winding point other shift P count_same has) (clip-winding point other shift P count_same has)
 
-    pub widened-clear : (point : RationalPoint) → All (λ edge. ¬ (IsNear edge point)) (subject ++ clip) → winding (flat_map pieces ways) point ≡ result_at rule operation subject clip point
-    widened-clear point far = as_result point (λ edge. ¬ (IsNear edge point)) (λ edge chain path far_off. chain-clear edge chain point path far_off) far
-
-    pub widened-exact : (point : RationalPoint) → All IsAlongAxis (subject ++ clip) → winding (flat_map pieces ways) point ≡ result_at rule operation subject clip point
-    widened-exact point axial = as_result point IsAlongAxis (λ edge chain path axis. chain-exact edge chain point path axis) axial
+    pub widened-exact : (point : RationalPoint) → All (λ edge. CountsExactly edge point) (subject ++ clip) → winding (flat_map pieces ways) point ≡ result_at rule operation subject clip point
+    widened-exact point exactly = as_result point (λ edge. CountsExactly edge point) (λ edge chain path one. chain-counts edge chain point path one) exactly
 
     -- so they bound it, where they meet only at common ends and are distinct
     pub widened-bounds : AreNoded (flat_map pieces ways) → AreDistinct (flat_map pieces ways) → BoundsResult rule operation subject clip (flat_map pieces ways)
@@ -90,6 +86,5 @@ module _ (subject clip : List Edge) (stretches clip_stretches : List (List Point
       noded = noded;
       distinct = distinct;
       once = widened-once;
-      clear = widened-clear;
       exact = widened-exact;
     }

@@ -1,5 +1,5 @@
 -- The chains of many edges, added up: what their pieces count, and how many of them start and end.
-use Rattle.std.proofs.Common.{Bool, IsPermutation, List, [], ap, arith, cond, map, refl, suc, sum_by, sym, ℕ, ◌++◌, ◌+◌, ◌∙◌, ◌∷◌, ◌≡◌}
+use Rattle.std.proofs.Common.{Bool, IsPermutation, List, [], ap, arith, cond, map, refl, suc, sum_by, sym, ℕ, ◌++◌, ◌+◌, ◌∙◌, ◌∷◌, ◌≡◌, ⊎_elim}
 use Rattle.std.proofs.lemmas.List.Elements.{All-head, All-tail}
 use Rattle.std.proofs.lemmas.List.Sorted.{sum_by-IsPermutation}
 use Rattle.std.proofs.lemmas.List.Sums.{sum_by-append, sum_by-cons}
@@ -7,9 +7,9 @@ use Rattle.std.specs.List.{All, AllZip, Contains, count_by, flat_map}
 use Rattle.plane.specs.declared.edge.Edge.{Edge}
 use Rattle.plane.specs.declared.point.Point.{Point}
 use Rattle.plane.specs.Meet.Edges.{RationalPoint}
-use Rattle.noding.specs.Chains.{AreChains, IsChain}
-use Rattle.noding.specs.Near.{IsNear}
-use Rattle.noding.specs.Windings.{IsAlongAxis, IsClosed, edge_between, end_of, pieces, start_of, winding}
+use Rattle.noding.specs.Chains.{IsChain}
+use Rattle.noding.specs.Near.{CountsExactly}
+use Rattle.noding.specs.Windings.{IsClosed, edge_between, end_of, pieces, start_of, winding}
 use Rattle.noding.proofs.SnapLemmas.Clear.{chain-clear}
 use Rattle.noding.proofs.SnapLemmas.Exact.{chain-exact}
 use Rattle.noding.proofs.SnapLemmas.Numbers.{both}
@@ -30,22 +30,14 @@ module _ (all : List Edge) (point : RationalPoint) (P : Edge → Type 0) (each :
       (total edges chains (λ other (k, inside, is_at). among other (suc k, omega (arith, inside), is_at)) are (All-tail P edge edges every))
       ∙ sym (winding-append (edge ∷ []) edges point)
 
--- at a point that is near none of the edges
-pub chains-clear : (edges : List Edge) (chains : List (List Point)) (point : RationalPoint) → AreChains edges chains → All (λ edge. ¬ (IsNear edge point)) edges → winding (flat_map pieces chains) point ≡ winding edges point
-chains-clear edges chains point are far = total edges point (λ edge. ¬ (IsNear edge point)) (λ edge chain is far. chain-clear edge chain point is far) edges chains (λ edge among. among) are far
+-- the chain of one edge, where the edge is far or runs along an axis
+pub chain-counts : (edge : Edge) (chain : List Point) (point : RationalPoint) → IsPath edge chain → CountsExactly edge point → winding (pieces chain) point ≡ winding (edge ∷ []) point
+chain-counts edge chain point is exactly = ⊎_elim (λ axis. chain-exact edge chain point is axis) (λ far. chain-clear edge chain point is far) exactly
 
--- at each point, where all edges run along the axes
-pub chains-exact : (edges : List Edge) (chains : List (List Point)) (point : RationalPoint) → AreChains edges chains → All IsAlongAxis edges → winding (flat_map pieces chains) point ≡ winding edges point
-chains-exact edges chains point are axial = total edges point IsAlongAxis (λ edge chain is axis. chain-exact edge chain point is axis) edges chains (λ edge among. among) are axial
-
--- the same of some of the edges, and of their chains among all
-pub some-clear : (all some : List Edge) (chains : List (List Point)) (point : RationalPoint) → ((edge : Edge) → Contains some edge → Contains all edge) → AllZip (IsChain all) some chains
-    → All (λ edge. ¬ (IsNear edge point)) some → winding (flat_map pieces chains) point ≡ winding some point
-some-clear all some chains point among are far = total all point (λ edge. ¬ (IsNear edge point)) (λ edge chain is far. chain-clear edge chain point is far) some chains among are far
-
+-- the chains of some of the edges, at a point at which each of these is
 pub some-exact : (all some : List Edge) (chains : List (List Point)) (point : RationalPoint) → ((edge : Edge) → Contains some edge → Contains all edge) → AllZip (IsChain all) some chains
-    → All IsAlongAxis some → winding (flat_map pieces chains) point ≡ winding some point
-some-exact all some chains point among are axial = total all point IsAlongAxis (λ edge chain is axis. chain-exact edge chain point is axis) some chains among are axial
+    → All (λ edge. CountsExactly edge point) some → winding (flat_map pieces chains) point ≡ winding some point
+some-exact all some chains point among are exactly = total all point (λ edge. CountsExactly edge point) (λ edge chain is one. chain-counts edge chain point is one) some chains among are exactly
 
 -- ---- starts and ends
 

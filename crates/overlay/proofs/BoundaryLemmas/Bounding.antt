@@ -18,11 +18,11 @@ use Rattle.overlay.specs.Contours.Rings.{AreContours, ring_edges}
 use Rattle.overlay.specs.Fill.Filled.{AreNoded, HaveSameEnds, IsFilled}
 use Rattle.overlay.specs.Fill.Rules.{is_result}
 use Rattle.overlay.specs.Fill.Turned.{AreUnjoined, turned}
-use Rattle.noding.specs.Near.{IsNear}
-use Rattle.noding.specs.Windings.{pieces, winding, IsAlongAxis, IsClosed, count}
+use Rattle.noding.specs.Near.{CountsExactly}
+use Rattle.noding.specs.Windings.{pieces, winding, IsClosed, count}
 use Rattle.overlay.proofs.BoundaryLemmas.Broken.{all-chains}
 use Rattle.noding.proofs.Callers.{noded}
-use Rattle.noding.proofs.SnapLemmas.Sums.{some-clear, some-closed, some-exact}
+use Rattle.noding.proofs.SnapLemmas.Sums.{some-closed, some-exact}
 use Rattle.overlay.proofs.ContourLemmas.Callers.{winding-contours}
 use Rattle.overlay.proofs.FillLemmas.Kept.{same-exchanged}
 
@@ -53,27 +53,16 @@ module _ (subject clip broken broken_clip : List Edge) (are : AreBroken subject 
     countable = few;
   }
 
-  -- they wind as the edges do, where no edge is near
-  clear-subject : (point : RationalPoint) → All (λ edge. ¬ (IsNear edge point)) all → winding broken point ≡ winding subject point
-  clear-subject point far =
+  -- they wind as the edges do, where each edge runs along an axis or isn't near
+  exact-subject : (point : RationalPoint) → All (λ edge. CountsExactly edge point) all → winding broken point ≡ winding subject point
+  exact-subject point exactly =
       ap (λ (edges : List Edge). winding edges point) are.is
-      ∙ some-clear all subject are.chains point (Contains-append_left subject clip) are.are (All-front (λ edge. ¬ (IsNear edge point)) subject clip far)
+      ∙ some-exact all subject are.chains point (Contains-append_left subject clip) are.are (All-front (λ edge. CountsExactly edge point) subject clip exactly)
 
-  clear-clip : (point : RationalPoint) → All (λ edge. ¬ (IsNear edge point)) all → winding broken_clip point ≡ winding clip point
-  clear-clip point far =
+  exact-clip : (point : RationalPoint) → All (λ edge. CountsExactly edge point) all → winding broken_clip point ≡ winding clip point
+  exact-clip point exactly =
       ap (λ (edges : List Edge). winding edges point) are.clip_is
-      ∙ some-clear all clip are.clip_chains point (Contains-append_right subject clip) are.clip_are (All-behind (λ edge. ¬ (IsNear edge point)) subject clip far)
-
-  -- and everywhere, where all edges run along the axes
-  exact-subject : (point : RationalPoint) → All IsAlongAxis all → winding broken point ≡ winding subject point
-  exact-subject point axial =
-      ap (λ (edges : List Edge). winding edges point) are.is
-      ∙ some-exact all subject are.chains point (Contains-append_left subject clip) are.are (All-front IsAlongAxis subject clip axial)
-
-  exact-clip : (point : RationalPoint) → All IsAlongAxis all → winding broken_clip point ≡ winding clip point
-  exact-clip point axial =
-      ap (λ (edges : List Edge). winding edges point) are.clip_is
-      ∙ some-exact all clip are.clip_chains point (Contains-append_right subject clip) are.clip_are (All-behind IsAlongAxis subject clip axial)
+      ∙ some-exact all clip are.clip_chains point (Contains-append_right subject clip) are.clip_are (All-behind (λ edge. CountsExactly edge point) subject clip exactly)
 
   none_or_one : (t : Bool) → (count t ≡ pos 0) ⊎ (count t ≡ pos 1)
   none_or_one true = inr refl
@@ -85,8 +74,7 @@ module _ (subject clip broken broken_clip : List Edge) (are : AreBroken subject 
     noded = filled.noded;
     distinct = filled.distinct;
     once = λ point. subst (λ (z : ℤ). (z ≡ pos 0) ⊎ (z ≡ pos 1)) (sym (filled.winds point)) (none_or_one (is_result rule operation (winding broken point) (winding broken_clip point)));
-    clear = λ point far. filled.winds point ∙ ap₂ (λ (a b : ℤ). count (is_result rule operation a b)) (clear-subject point far) (clear-clip point far);
-    exact = λ point axial. filled.winds point ∙ ap₂ (λ (a b : ℤ). count (is_result rule operation a b)) (exact-subject point axial) (exact-clip point axial);
+    exact = λ point exactly. filled.winds point ∙ ap₂ (λ (a b : ℤ). count (is_result rule operation a b)) (exact-subject point exactly) (exact-clip point exactly);
   }
 
 -- the rings of edges that bound it do
@@ -98,8 +86,7 @@ rings-bound rule operation subject clip edges rings bounds are = record {
     distinct = AllPairs-permutation (λ one other. ¬ (HaveSameEnds one other)) (λ one other apart same. apart (same-exchanged other one same)) edges (flat_map ring_edges rings)
         (IsPermutation-sym (flat_map ring_edges rings) edges are.all) bounds.distinct;
     once = λ point. subst (λ (z : ℤ). (z ≡ pos 0) ⊎ (z ≡ pos 1)) (same point) (bounds.once point);
-    clear = λ point far. sym (same point) ∙ bounds.clear point far;
-    exact = λ point axial. sym (same point) ∙ bounds.exact point axial;
+    exact = λ point exactly. sym (same point) ∙ bounds.exact point exactly;
   };
 }
   where
