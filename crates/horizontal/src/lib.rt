@@ -185,6 +185,7 @@ fn serve_all<C: KeyExpCollection<Level, i32, Option<i32>>>(
     ensures ok { OnOk result (NoneCollide segments.now × AllZip (IsHeightBelow segments.now) points.now answers.new) }
     ensures overlap { (place : ℕ) → result ≡ Err (SweepFault.Overlap place) → IsFirstOverlap segments.now place }
 {
+    // Stored are the levels that are live at the line, none twice, and the points that it has passed have their answers.
     for event in events {
         match event.task {
             Task::End => {}

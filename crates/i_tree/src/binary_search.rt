@@ -34,60 +34,11 @@ pub fn count_passing<X, P: Fn(&X) -> bool>(items: &[X], passes: P) -> usize
         size: items.len(),
     };
     let mut window = halve_often(items, &passes, whole);
+    // All items before the window pass, and all behind it fail.
     while window.size > 1 {
         window = halve(items, &passes, window);
     }
     window.start + usize::from(passes(&items[window.start]))
-}
-
-/// The same, sooner where the guess, if there is one, is right: two tests tell so. Of a wrong guess these two are all that is
-/// lost.
-pub fn count_passing_near<X, P: Fn(&X) -> bool>(
-    items: &[X],
-    guess: Option<usize>,
-    passes: P,
-) -> usize
-    requires { TakesItems (λ item. P.pre passes item) items.now }
-    ensures within { result ≤ length items.now }
-    ensures splits { (test : X → Bool) → ItemsAnswer
-        (λ item answer. FnReturnsAt P.Fn passes item answer) test items.now → IsPartitionedBy test items.now
-        → IsPartitionPoint (λ item. test item ≡ true) (λ item. test item ≡ false) items.now result }
-{
-    match guess {
-        Some(guess)
-            if guess <= items.len()
-                && passes_before(items, guess, &passes)
-                && fails_behind(items, guess, &passes) => { guess }
-        _ => count_passing(items, passes),
-    }
-}
-
-// Whether the item before the place passes, and so all before it do.
-fn passes_before<X, P: Fn(&X) -> bool>(items: &[X], place: usize, passes: &P) -> bool
-    requires callable { TakesItems (λ item. P.pre passes.now item) items.now }
-    requires within { place ≤ length items.now }
-    ensures { result ≡ true → (test : X → Bool) → ItemsAnswer
-        (λ item answer. FnReturnsAt P.Fn passes.now item answer) test items.now → IsPartitionedBy test items.now
-        → AllWithin (λ item. test item ≡ true) items.now 0 place }
-{
-    if place == 0 {
-        return true;
-    }
-    passes(&items[place - 1])
-}
-
-// Whether the item behind the place fails, and so all behind it do.
-fn fails_behind<X, P: Fn(&X) -> bool>(items: &[X], place: usize, passes: &P) -> bool
-    requires callable { TakesItems (λ item. P.pre passes.now item) items.now }
-    requires within { place ≤ length items.now }
-    ensures { result ≡ true → (test : X → Bool) → ItemsAnswer
-        (λ item answer. FnReturnsAt P.Fn passes.now item answer) test items.now → IsPartitionedBy test items.now
-        → AllWithin (λ item. test item ≡ false) items.now place (length items.now) }
-{
-    if place == items.len() {
-        return true;
-    }
-    !passes(&items[place])
 }
 
 // Halves a window twenty times, or until one item is left: enough for a million items.

@@ -19,6 +19,7 @@ pub fn delete_at<T: Drop, A: Allocator>(items: &mut Vec<T, A>, place: usize)
 {
     let block = (BLOCK_BYTES / size_of_val(&items[..1]).max(1)).max(1);
     let mut gone = place;
+    // Without the item at `gone` the list is what is to be left.
     while items.len() - gone > block {
         items[gone..=gone + block].rotate_left(1);
         gone += block;

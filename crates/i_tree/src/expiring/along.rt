@@ -8,7 +8,7 @@ ghost use Rattle.std.specs.declared.cmp.Ordering.TheVariants.{Less, Greater};
 ghost use Rattle.i_tree.specs.Root.Along.{AboveAlongBy, AreNeighboursBy, AtMostAlongBy, ByEachOrder, HasEqual, value_or};
 ghost use Rattle.i_tree.specs.Root.Ends.{FirstFinds, LastFinds};
 
-use crate::binary_search::{count_passing, count_passing_near};
+use crate::binary_search::count_passing;
 use std::cmp::Ordering;
 
 /// How many keys `f` doesn't call Greater: these stand in front.
@@ -24,25 +24,6 @@ pub fn count_at_most<K: Copy, V, F: Fn(K) -> Ordering>(pairs: &[(K, V)], f: &F) 
         ensures { (answer : Ordering) × F.post f.entry.now pair.now.0 answer × (result ≡ not (is_gt answer)) }
     { f(pair.0) != Ordering::Greater };
     count_passing(pairs, is_at_most)
-}
-
-// The same, sooner where the guess, if there is one, is right.
-fn count_at_most_near<K: Copy, V, F: Fn(K) -> Ordering>(
-    pairs: &[(K, V)],
-    guess: Option<usize>,
-    f: &F,
-) -> usize
-    requires { All (λ pair. F.pre f.now pair.0) pairs.now }
-    ensures within { result ≤ length pairs.now }
-    ensures splits { ByEachOrder (F.post f.now) pairs.now (λ order. IsPartitionPoint
-        (λ pair. not (is_gt (order pair.0)) ≡ true) (λ pair. not (is_gt (order pair.0)) ≡ false)
-        pairs.now result) }
-{
-    let is_at_most = |pair: &(K, V)| -> bool
-        requires { F.pre f.now pair.now.0 }
-        ensures { (answer : Ordering) × F.post f.entry.now pair.now.0 answer × (result ≡ not (is_gt answer)) }
-    { f(pair.0) != Ordering::Greater };
-    count_passing_near(pairs, guess, is_at_most)
 }
 
 /// The last of the first `count` pairs, if there is one.
@@ -131,20 +112,15 @@ fn is_called_equal<K: Copy, V: Copy, F: Fn(K) -> Ordering>(pair: Option<(K, V)>,
     }
 }
 
-/// The place behind all keys that `f` calls Less and before all that it calls Greater; none where it calls one Equal. It is
-/// found sooner where the guess, if there is one, is right.
-pub fn place_by<K: Copy, V: Copy, F: Fn(K) -> Ordering>(
-    pairs: &[(K, V)],
-    guess: Option<usize>,
-    f: F,
-) -> Option<usize>
+/// The place behind all keys that `f` calls Less and before all that it calls Greater; none where it calls one Equal.
+pub fn place_by<K: Copy, V: Copy, F: Fn(K) -> Ordering>(pairs: &[(K, V)], f: F) -> Option<usize>
     requires { All (λ pair. F.pre f pair.0) pairs.now }
     ensures within { IfSome result (λ place. place ≤ length pairs.now) }
     ensures place { ByEachOrder (F.post f) pairs.now (λ order. MatchOption result (HasEqual order pairs.now)
         (λ place. All (λ pair. order pair.0 ≡ Less) (take place pairs.now)
         × All (λ pair. order pair.0 ≡ Greater) (drop place pairs.now))) }
 {
-    let place = count_at_most_near(pairs, guess, &f);
+    let place = count_at_most(pairs, &f);
     if is_called_equal(last_pair(pairs, place), &f) {
         return None;
     }

@@ -69,6 +69,8 @@ where
     let mut above = EMPTY_REF;
     let mut on_right = false;
     let mut here = core.root();
+    // `last` is the entry in front of the subtree at `here`, and `next` the one behind it, where there are such. Both are live.
+    // What is gone had expired.
     while here != EMPTY_REF {
         let key = core.item(here).0;
         // Both children are read before one is chosen, so that no read waits for the key's answer.

@@ -94,18 +94,6 @@ impl<X: Expires<K, E>, K: Copy, E: Expiration, V: Copy, A: Allocator + Copy> Exp
         &self.pairs
     }
 
-    /// Where the first pair stands that is expired at `time`, if there is one.
-    pub fn first_expired(&self, time: E) -> Option<usize>
-        ensures { IfSome result (λ place. place < length self.now.pairs) }
-    {
-        if self.earliest >= time {
-            return None;
-        }
-        self.pairs
-            .iter()
-            .position(|pair| !is_live::<X, K, E>(&pair.0, time))
-    }
-
     /// Removes what is expired at `time`, unless the bound says that nothing is.
     pub fn remove_expired(&mut self, time: E)
         ensures kept { Without (IsExpired X.expiration E.cmp time) self.old.pairs self.new.pairs }

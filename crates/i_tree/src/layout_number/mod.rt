@@ -75,7 +75,13 @@ pub trait LayoutNumber: Copy + Ord {
     /// How far `end` lies above `start`, or `None` where it lies below.
     fn range_span(start: Self, end: Self) -> Option<Self::UInt>
         ensures { MatchOption result (whole end <ℤ whole start)
-            (λ span. pos (Self.UInt.number span) ≡ whole end -ℤ whole start) };
+            (λ span. pos (Self.UInt.number span) ≡ whole end -ℤ whole start) }
+    {
+        if end < start {
+            return None;
+        }
+        Some(end.offset_from(start))
+    }
 
     /// How far the value lies above `min`, which is to be at most the value.
     fn offset_from(self, min: Self) -> Self::UInt

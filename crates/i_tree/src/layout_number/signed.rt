@@ -9,13 +9,6 @@ impl LayoutNumber for i8 {
 
     ghost whole = { λ value. value };
 
-    fn range_span(start: i8, end: i8) -> Option<u8> {
-        if end < start {
-            return None;
-        }
-        Some(end.abs_diff(start))
-    }
-
     fn offset_from(self, min: i8) -> u8 {
         self.abs_diff(min)
     }
@@ -27,13 +20,6 @@ impl LayoutNumber for i16 {
     type UInt = u16;
 
     ghost whole = { λ value. value };
-
-    fn range_span(start: i16, end: i16) -> Option<u16> {
-        if end < start {
-            return None;
-        }
-        Some(end.abs_diff(start))
-    }
 
     fn offset_from(self, min: i16) -> u16 {
         self.abs_diff(min)
@@ -47,13 +33,6 @@ impl LayoutNumber for i32 {
 
     ghost whole = { λ value. value };
 
-    fn range_span(start: i32, end: i32) -> Option<u32> {
-        if end < start {
-            return None;
-        }
-        Some(end.abs_diff(start))
-    }
-
     fn offset_from(self, min: i32) -> u32 {
         self.abs_diff(min)
     }
@@ -66,13 +45,6 @@ impl LayoutNumber for i64 {
 
     ghost whole = { λ value. value };
 
-    fn range_span(start: i64, end: i64) -> Option<u64> {
-        if end < start {
-            return None;
-        }
-        Some(end.abs_diff(start))
-    }
-
     fn offset_from(self, min: i64) -> u64 {
         self.abs_diff(min)
     }
@@ -84,13 +56,6 @@ impl LayoutNumber for isize {
     type UInt = usize;
 
     ghost whole = { λ value. value };
-
-    fn range_span(start: isize, end: isize) -> Option<usize> {
-        if end < start {
-            return None;
-        }
-        Some(end.abs_diff(start))
-    }
 
     fn offset_from(self, min: isize) -> usize {
         self.abs_diff(min)

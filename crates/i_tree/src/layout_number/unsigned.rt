@@ -170,13 +170,6 @@ impl LayoutNumber for u8 {
 
     ghost whole = { λ value. pos value };
 
-    fn range_span(start: u8, end: u8) -> Option<u8> {
-        if end < start {
-            return None;
-        }
-        Some(end - start)
-    }
-
     fn offset_from(self, min: u8) -> u8 {
         self - min
     }
@@ -188,13 +181,6 @@ impl LayoutNumber for u16 {
     type UInt = u16;
 
     ghost whole = { λ value. pos value };
-
-    fn range_span(start: u16, end: u16) -> Option<u16> {
-        if end < start {
-            return None;
-        }
-        Some(end - start)
-    }
 
     fn offset_from(self, min: u16) -> u16 {
         self - min
@@ -208,13 +194,6 @@ impl LayoutNumber for u32 {
 
     ghost whole = { λ value. pos value };
 
-    fn range_span(start: u32, end: u32) -> Option<u32> {
-        if end < start {
-            return None;
-        }
-        Some(end - start)
-    }
-
     fn offset_from(self, min: u32) -> u32 {
         self - min
     }
@@ -227,13 +206,6 @@ impl LayoutNumber for u64 {
 
     ghost whole = { λ value. pos value };
 
-    fn range_span(start: u64, end: u64) -> Option<u64> {
-        if end < start {
-            return None;
-        }
-        Some(end - start)
-    }
-
     fn offset_from(self, min: u64) -> u64 {
         self - min
     }
@@ -245,13 +217,6 @@ impl LayoutNumber for usize {
     type UInt = usize;
 
     ghost whole = { λ value. pos value };
-
-    fn range_span(start: usize, end: usize) -> Option<usize> {
-        if end < start {
-            return None;
-        }
-        Some(end - start)
-    }
 
     fn offset_from(self, min: usize) -> usize {
         self - min

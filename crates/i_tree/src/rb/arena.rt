@@ -70,6 +70,7 @@ fn add_slots<T, A: Allocator + Copy>(
     ensures len { vec_len slots.new ≡ count }
 {
     let mut first = first_free;
+    // The slots up to this number are there, and the new ones stand in the chain before the old ones.
     for number in slots.len() as u32..count {
         slots.push_reserved(Slot::Free(first));
         first = number;

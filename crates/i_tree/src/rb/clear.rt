@@ -35,6 +35,7 @@ impl<T: Drop, A: Allocator + Copy> Arena<T, A> {
         ensures slots { slots self.new ≡ slots self.old }
     {
         let mut here = self.root();
+        // `here` is one of the nodes that are left, while there are any.
         while here != EMPTY_REF {
             let last = self.childless_below(here);
             here = self.parent(last);

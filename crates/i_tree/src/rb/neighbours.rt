@@ -4,7 +4,7 @@ ghost use Rattle.std.specs.Prelude.{◌≡◌, ◌≢◌, ◌<◌, ◌++◌, ◌
 ghost use Rattle.i_tree.specs.Rb.Balance.{IsCore};
 ghost use Rattle.i_tree.specs.Rb.Context.{other_side, subtree_on};
 ghost use Rattle.i_tree.specs.Rb.Neighbours.{end_handle, next_handle};
-ghost use Rattle.i_tree.specs.Rb.Shape.{leaf, top, entries, first_handle, last_handle, subtree_at, IsHandle};
+ghost use Rattle.i_tree.specs.Rb.Shape.{leaf, top, entries, first_handle, last_handle, rank, subtree_at, IsHandle};
 
 use super::links::Side;
 use super::tree::RbTree;
@@ -62,19 +62,19 @@ impl<T, A: Allocator + Copy> RbTree<T, A> {
         }
     }
 
-    // The top of the subtree on the side below the handle, or `EMPTY_REF` where that subtree is empty.
+    // The top of the subtree on the side below the handle, or `EMPTY_REF` where that subtree is empty. The rank of the subtree
+    // falls.
     #[inline(always)]
-    fn child(&self, handle: u32, side: Side) -> u32
+    pub(super) fn child(&self, handle: u32, side: Side) -> u32
         requires { IsHandle self.now.shape handle }
         ensures value { result ≡ top (subtree_on side handle self.now.shape) }
         ensures part { subtree_at result self.now.shape ≡ subtree_on side handle self.now.shape }
+        ensures lower { rank (subtree_at result self.now.shape) < rank (subtree_at handle self.now.shape) }
         ensures live { result ≢ EMPTY_REF → IsHandle self.now.shape result }
+        ensures empty { result ≡ EMPTY_REF → subtree_on side handle self.now.shape ≡ leaf }
         ensures core { IsCore self.now.shape }
     {
-        match side {
-            Side::Left => self.left(handle),
-            Side::Right => self.right(handle),
-        }
+        self.arena.child(handle, side)
     }
 
     // The handle of the entry at the end of the subtree at this one, on the side.
@@ -103,6 +103,7 @@ impl<T, A: Allocator + Copy> RbTree<T, A> {
             entries self.now.shape ≡ front ++ (handle, item) ∷ back → result ≡ next_handle side front back }
     {
         let mut child = handle;
+        // The handle ends the subtree at `child` on the side.
         loop {
             let parent = self.arena.parent(child);
             if parent == EMPTY_REF {

@@ -57,6 +57,7 @@ impl<T, A: Allocator + Copy> RbTree<T, A> {
         ensures { IsFirst (subtree_at subtree self.now.shape) result }
     {
         let mut first = subtree;
+        // The first entry is that of the subtree at `first`.
         loop {
             let left = self.left(first);
             if left == EMPTY_REF {

@@ -49,6 +49,7 @@ pub fn search_down<T, A: Allocator + Copy, C: Counter, F: Fn(&T) -> Ordering>(
     let mut above = EMPTY_REF;
     let mut on_right = false;
     let mut here = core.root();
+    // `found` is the last entry in front of the subtree at `here`, and the first behind it was called Greater.
     while here != EMPTY_REF {
         steps.add_comparison();
         let answer = f(core.item(here));

@@ -118,7 +118,7 @@ impl<T, A: Allocator + Copy> RbTree<T, A> {
         ensures empty { result ≡ EMPTY_REF → left_at handle self.now.shape ≡ leaf }
         ensures core { IsCore self.now.shape }
     {
-        self.arena.child(handle, Side::Left)
+        self.child(handle, Side::Left)
     }
 
     /// The root of the subtree on the right below the handle, or `EMPTY_REF` where that subtree is empty. The rank of the subtree falls,
@@ -132,7 +132,7 @@ impl<T, A: Allocator + Copy> RbTree<T, A> {
         ensures empty { result ≡ EMPTY_REF → right_at handle self.now.shape ≡ leaf }
         ensures core { IsCore self.now.shape }
     {
-        self.arena.child(handle, Side::Right)
+        self.child(handle, Side::Right)
     }
 
     /// The item at the handle.

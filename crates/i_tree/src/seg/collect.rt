@@ -42,6 +42,7 @@ impl<R: LayoutNumber, E: Expiration, V: ExpiredVal<E>, A: Allocator + Copy> SegE
         let start = out.len();
         let asked = self.ask(range, time);
         let mut cursor = Cursor::new(asked);
+        // Behind what stood in `out` stand the values that the walk has passed, each once.
         while let Some(value) = self.next_found(&mut cursor, asked, time, steps) {
             if out.push(value).is_err() {
                 out.truncate(start);

@@ -44,6 +44,7 @@ fn next_in_chunk<E: Expiration, V: ExpiredVal<E>, A: Allocator, C: Counter>(
     ensures { StepsInChunk V.expiration E.cmp time C.made asked node
         index.old chunk.old.items steps.old result index.new chunk.new.items steps.new }
 {
+    // The copies before `index` are live, and what was found of them is told.
     while *index < chunk.len() {
         let (mask, value) = chunk[*index];
         steps.add_test();
@@ -73,6 +74,7 @@ pub fn next_value<E: Expiration, V: ExpiredVal<E>, A: Allocator, C: Counter>(
     ensures { StepsOn V.expiration E.cmp time C.made asked
         cursor.old (copies_in chunks.old) steps.old result cursor.new (copies_in chunks.new) steps.new }
 {
+    // At the nodes that have left the cursor all copies are live, and nothing more is found.
     while cursor.left != 0 {
         let node = lowest_node(cursor.left);
         let found = next_in_chunk(

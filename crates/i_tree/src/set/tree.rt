@@ -205,6 +205,7 @@ impl<K: Ord, V: KeyValue<K> + Drop, A: Allocator + Copy> SetTree<K, V, A> {
     {
         let mut last = EMPTY_REF;
         let mut here = self.core.root();
+        // `last` stands directly in front of the subtree at `here`, behind which nothing stands.
         while here != EMPTY_REF {
             last = here;
             here = self.core.right(here);
@@ -287,6 +288,7 @@ impl<K: Ord, V: KeyValue<K> + Drop, A: Allocator + Copy> SetCollection<K, V> for
 
     fn is_ordered(&self) -> bool {
         let mut here = self.last();
+        // The keys rise from `here` on.
         for _ in 1..self.core.len() {
             let before = self.core.before(here);
             match self.key_at(before).cmp(self.key_at(here)) {

@@ -13,9 +13,6 @@ use std::alloc::Allocator;
 use std::cmp::Ordering;
 use std::marker::Model;
 
-// With so many wrong guesses in a row none is tried any more, until all pairs are removed.
-const GIVE_UP: usize = 16;
-
 /// The status of a sweep line, in a vector sorted along it.
 ///
 /// Contracts see the stored pairs in their order along the line, and `spare`, for how many more there is room. An insertion
@@ -24,10 +21,6 @@ const GIVE_UP: usize = 16;
 #[derive(Drop)]
 pub struct StatusList<K: ExpiredVal<E>, E: Expiration, V: Copy, A: Allocator + Copy> {
     held: ExpiringList<ByVal, K, E, V, A>,
-    // The place at which the last pair was put, which `likely_place` goes by.
-    last_place: usize,
-    // How many of its guesses were wrong in a row.
-    wrong_guesses: usize,
 }
 
 impl<K: ExpiredVal<E>, E: Expiration, V: Copy, A: Allocator + Copy> Model
@@ -49,8 +42,6 @@ impl<K: ExpiredVal<E>, E: Expiration, V: Copy, A: Allocator + Copy> StatusList<K
     {
         Ok(StatusList {
             held: ExpiringList::new(alloc, capacity)?,
-            last_place: 0,
-            wrong_guesses: 0,
         })
     }
 
@@ -86,25 +77,6 @@ impl<K: ExpiredVal<E>, E: Expiration, V: Copy, A: Allocator + Copy> StatusList<K
     {
         self.held.pairs()
     }
-
-    // Where a pair that comes at `time` mostly belongs once what is expired has gone: where one has expired, as an edge begins
-    // where another ends, else right behind the one that came last. It is a guess, on which no answer depends. There is none
-    // where guesses are mostly wrong.
-    fn likely_place(&self, time: E) -> Option<usize> {
-        if self.wrong_guesses >= GIVE_UP {
-            return None;
-        }
-        let expired = self.held.first_expired(time);
-        Some(expired.unwrap_or(self.last_place.saturating_add(1)))
-    }
-}
-
-// How many guesses were wrong in a row, with one more for the place at which a pair was put. None counts as a wrong one.
-fn wrong_in_a_row(wrong_guesses: usize, guess: Option<usize>, place: usize) -> usize {
-    if guess == Some(place) {
-        return 0;
-    }
-    wrong_guesses.saturating_add(1)
 }
 
 impl<K: ExpiredVal<E>, E: Expiration, V: Copy, A: Allocator + Copy> StatusCollection<K, E, V>
@@ -148,15 +120,12 @@ impl<K: ExpiredVal<E>, E: Expiration, V: Copy, A: Allocator + Copy> StatusCollec
         key: K,
         val: V,
     ) -> Result<Option<(Option<(K, V)>, Option<(K, V)>)>, Refusal> {
-        let guess = self.likely_place(time);
         self.held.remove_expired(time);
-        let Some(place) = place_by(self.held.pairs(), guess, f) else {
+        let Some(place) = place_by(self.held.pairs(), f) else {
             return Ok(None);
         };
         let neighbours = beside(self.held.pairs(), place);
         self.held.put(place, key, val)?;
-        self.wrong_guesses = wrong_in_a_row(self.wrong_guesses, guess, place);
-        self.last_place = place;
         Ok(Some(neighbours))
     }
 
@@ -185,6 +154,5 @@ impl<K: ExpiredVal<E>, E: Expiration, V: Copy, A: Allocator + Copy> StatusCollec
     /// Removes every pair, and keeps the room.
     fn clear(&mut self) {
         self.held.clear();
-        self.wrong_guesses = 0;
     }
 }

@@ -242,14 +242,3 @@ module _ {K E V : Type 0} (expiration : K → E) {cmp_time : E → E → Orderin
     length-run old end [] (r ∷ rs) run = absurd run
     length-run old end (c ∷ cs) [] run = absurd run
     length-run old end (c ∷ cs) (r ∷ rs) (middle, step, rest) = ap suc (length-run middle end cs rs rest)
-
--- a probe whose Equal keys compare Equal asks for one
-pub OneEqualEach-always : {K E V P : Type 0} (expiration : K → E) (cmp_time : E → E → Ordering) (cmp_key : K → K → Ordering) (order : P → K → Ordering)
-    → ((probe : P) (one other : K) → order probe one ≡ ordering.Equal → order probe other ≡ ordering.Equal → cmp_key one other ≡ ordering.Equal)
-    → (old : State K E V) (commands : List (KeyCommand K E V P)) → OneEqualEach expiration cmp_time cmp_key order old commands
-OneEqualEach-always expiration cmp_time cmp_key order alike old [] = tt
-OneEqualEach-always expiration cmp_time cmp_key order alike old (Insert key val time ∷ commands) = (tt, λ reply new step taken. OneEqualEach-always expiration cmp_time cmp_key order alike new commands)
-OneEqualEach-always expiration cmp_time cmp_key order alike old (Less time default key ∷ commands) = (tt, λ reply new step taken. OneEqualEach-always expiration cmp_time cmp_key order alike new commands)
-OneEqualEach-always expiration cmp_time cmp_key order alike old (LessOrEqualBy time default probe ∷ commands) =
-    ((λ not_late i j d below inside. alike probe _ _), λ reply new step taken. OneEqualEach-always expiration cmp_time cmp_key order alike new commands)
-OneEqualEach-always expiration cmp_time cmp_key order alike old (Clear ∷ commands) = (tt, λ reply new step taken. OneEqualEach-always expiration cmp_time cmp_key order alike new commands)

@@ -30,6 +30,7 @@ pub fn rebalance_insertion<T, A: Allocator + Copy, C: Counter>(
     ensures steps { OnlyRotates C.made steps.old steps.new 2 }
 {
     let mut node = added;
+    // The tree is red-black, but that `node`, which is red, may stand under a red parent. Nothing was rotated yet.
     loop {
         let parent = arena.parent(node);
         if arena.is_black(parent) {

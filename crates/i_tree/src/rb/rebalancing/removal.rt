@@ -32,6 +32,7 @@ pub fn rebalance_removal<T, A: Allocator + Copy, C: Counter>(
 {
     let mut node = parent;
     let mut side = short;
+    // The tree is red-black, but that this side of `node` is a black level short. Nothing was rotated yet.
     loop {
         if rebalance_short_side(arena, steps, node, side) {
             return;
