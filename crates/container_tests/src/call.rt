@@ -16,15 +16,12 @@ pub enum Call {
     InsertSloped(i32, i32, i32, i32, i32),
     /// Inserts all numbers from the first to the last at time 0, each its own value, with this end.
     Fill(i32, i32, i32),
-    /// Inserts numbers from this one on, as many as there is room for, and one more.
+    /// Inserts numbers from this one on, as many as there is room for.
     FillRoom(i32),
-    Overfill(i32),
     /// The value of the greatest number below.
     Below(i32, i32),
     /// The value of the greatest number at most this one.
     AtMost(i32, i32),
-    /// The same, by a closure that calls the last number Greater besides.
-    AtMostBut(i32, i32, i32),
     /// The value of the least number above.
     Above(i32, i32),
     /// The values of both.
@@ -35,26 +32,16 @@ pub enum Call {
     Stored,
     StoredBelow(usize),
     Spare,
-    SpareFrom(usize),
-    /// How often the last closure was asked.
-    Asked,
-    /// Whether it was asked so often at most.
+    /// Whether the last closure was asked so often at most.
     AskedUpTo(usize),
-    /// The value at the root of a tree, and those below the one of a value.
-    Root,
-    LeftOf(i32),
-    RightOf(i32),
-    /// Refuses all memory from now on, and none, and how often it was asked for.
+    /// Refuses all memory from now on, and how often it was asked for.
     RefuseAll,
-    RefuseNone,
     Requests,
     /// The least number of a set.
     First,
     /// The number before the greatest at most this one, by handles.
     Before(i32),
     Delete(i32),
-    /// Deletes by the handle before that of the greatest at most this one.
-    DeleteBefore(i32),
     /// Keeps the handle of this number, and those of the numbers from 1 to 7.
     Hold(i32),
     /// Whether the numbers from 1 to 7 have the handles that were kept.
@@ -125,14 +112,6 @@ pub trait Store: Drop {
 
     /// What the reply says.
     fn told(reply: &Self::Reply) -> Answer;
-}
-
-/// How a number stands to the one that is sought; one of them is Greater besides.
-pub fn stands(number: i32, sought: i32, greater: Option<i32>) -> std::cmp::Ordering {
-    if greater == Some(number) {
-        return std::cmp::Ordering::Greater;
-    }
-    number.cmp(&sought)
 }
 
 /// The answer for whether a thing holds.

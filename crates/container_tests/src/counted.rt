@@ -1,7 +1,6 @@
 //! The counted calls of a tree of keys, by a counter that a running program can read.
 
-use crate::key_types::TimedKey;
-use crate::keys::TestKey;
+use crate::timed_key::{TimedKey, timed};
 use i_tree::Refusal;
 use i_tree::key::tree::KeyExpTree;
 use i_tree::steps::Counter;
@@ -79,15 +78,6 @@ const LEAF_EXPIRED: &[(i32, i32)] = &[(4, 10), (2, 10), (5, 1), (1, 10)];
 
 static ROWS: &[Row] = &[
     Row {
-        name: "nothing is left",
-        keys: ALL_EXPIRED,
-        query: Query::Below(9),
-        answer: -1,
-        made: (0, 7, 7),
-        rotations: None,
-        stored: 0,
-    },
-    Row {
         name: "nothing is left, by a closure",
         keys: ALL_EXPIRED,
         query: Query::AtMost(9),
@@ -104,24 +94,6 @@ static ROWS: &[Row] = &[
         made: (2, 3, 1),
         rotations: Some((1, 0)),
         stored: 3,
-    },
-    Row {
-        name: "on at what takes the place, by a closure",
-        keys: THIRD_EXPIRED,
-        query: Query::AtMost(9),
-        answer: 4,
-        made: (2, 3, 1),
-        rotations: Some((1, 0)),
-        stored: 3,
-    },
-    Row {
-        name: "above one",
-        keys: THIRD_EXPIRED,
-        query: Query::Above(1),
-        answer: 2,
-        made: (2, 2, 0),
-        rotations: Some((1, 0)),
-        stored: 4,
     },
     Row {
         name: "above all",
@@ -141,15 +113,6 @@ static ROWS: &[Row] = &[
         rotations: Some((0, 1)),
         stored: 3,
     },
-    Row {
-        name: "where a removal turns the tree, by a closure",
-        keys: LEAF_EXPIRED,
-        query: Query::AtMost(9),
-        answer: 4,
-        made: (1, 2, 1),
-        rotations: Some((0, 1)),
-        stored: 3,
-    },
 ];
 
 // Inserts the keys, half of them by each call.
@@ -159,7 +122,7 @@ fn insert_all(
     made: &mut Made,
 ) -> Result<bool, Refusal> {
     for (number, end) in keys {
-        let key = TimedKey::of(*number, *end);
+        let key = timed(*number, *end);
         if tree.contains_key_counted(made, 0, key) {
             return Ok(false);
         }
@@ -174,7 +137,7 @@ fn insert_all(
 
 fn ask(tree: &mut KeyExpTree<TimedKey, i32, i32, Global>, query: Query, made: &mut Made) -> i32 {
     match query {
-        Query::Below(number) => tree.first_less_counted(made, 2, -1, TimedKey::of(number, 0)),
+        Query::Below(number) => tree.first_less_counted(made, 2, -1, timed(number, 0)),
         Query::AtMost(number) => {
             tree.first_less_or_equal_by_counted(made, 2, -1, |key| key.key.cmp(&number))
         }

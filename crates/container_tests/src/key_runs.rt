@@ -1,19 +1,65 @@
-//! Runs over keys: the cause of a refused insertion, and whether two runs reply alike.
+//! Runs over keys: counted ones, the cause of a refused insertion, and whether two runs reply alike.
 
-use crate::key_types::TimedKey;
-use crate::keys::{KeyRunner, Plain, TestKey};
+ghost use Rattle.std.specs.Prelude.{◌≡◌};
+
+use crate::keys::{Command, compare, run_commands};
+use crate::timed_key::{TimedKey, timed};
 use i_tree::Refusal;
-use runs::{KeyCommand, KeyReply, same_replies};
+use i_tree::key::tree::KeyExpTree;
+use i_tree::steps::Steps;
+use runs::{KeyCommand, KeyReply, run_key_tree_counted, same_replies};
+use std::alloc::Allocator;
+use std::marker::Brand;
+use std::sync::ledger::{Blank, Ledger};
 use std::test::Fail;
 use test_kit::watched::Watched;
 
 // An insertion at 0.
-fn insertion(number: i32) -> KeyCommand<TimedKey, i32, i32, i32> {
+fn insertion(number: i32) -> Command {
     KeyCommand::Insert {
-        key: TimedKey::of(number, 10),
+        key: timed(number, 10),
         val: number,
         time: 0,
     }
+}
+
+// Nothing is done with what is counted.
+fn run_over<L: Ledger, A: Allocator + Copy>(
+    blank: Blank,
+    tree: &mut KeyExpTree<TimedKey, i32, i32, A>,
+    commands: &[Command],
+    out: &mut Vec<KeyReply<i32>, A>,
+) -> Result<(), Refusal>
+    requires name { blank.name ≡ L.name }
+    requires parts { blank.parts ≡ L.parts }
+    requires four { blank.parts ≡ 4 }
+{
+    let mut steps = Steps::<L>::new(blank);
+    run_key_tree_counted(&mut steps, tree, commands, compare, out)
+}
+
+// Runs the commands by the counted calls, which a tree has.
+fn run_counted<A: Allocator + Copy>(
+    tree: &mut KeyExpTree<TimedKey, i32, i32, A>,
+    commands: &[Command],
+    out: &mut Vec<KeyReply<i32>, A>,
+) -> Result<(), Refusal> {
+    run_over::<Brand, A>(Blank::new(4), tree, commands, out)
+}
+
+#[test]
+fn a_counted_run_replies_as_the_plain_one(rt: HostRuntime) -> Result<(), Fail> {
+    let commands = [insertion(5), insertion(5), KeyCommand::Clear];
+    let wanted = [KeyReply::Inserted, KeyReply::Present, KeyReply::Cleared];
+    let mut tree = KeyExpTree::new(rt.alloc(), 0)?;
+    let mut counted = Vec::new(rt.alloc());
+    run_counted(&mut tree, &commands, &mut counted)?;
+    assert!(rt; same_replies(&commands, &counted, &wanted));
+    let mut replies = Vec::new(rt.alloc());
+    run_commands(&mut tree, &commands, &mut replies)?;
+    assert!(rt; same_replies(&commands, &replies, &counted));
+    assert!(rt; !same_replies(&commands, &replies, &wanted[..1]));
+    Ok(())
 }
 
 #[test]
@@ -22,7 +68,7 @@ fn a_run_tells_why_an_insertion_was_refused(rt: HostRuntime) -> Result<(), Fail>
     let mut keys: Watched<TimedKey, i32, i32> = Watched::new(rt.alloc(), 2)?;
     let commands = [insertion(1), insertion(2), insertion(3), insertion(2)];
     let mut replies = Vec::new(rt.alloc());
-    Plain::run(&mut keys, &commands, &mut replies)?;
+    run_commands(&mut keys, &commands, &mut replies)?;
     let wanted = [
         KeyReply::Inserted,
         KeyReply::Inserted,
@@ -31,20 +77,4 @@ fn a_run_tells_why_an_insertion_was_refused(rt: HostRuntime) -> Result<(), Fail>
     ];
     assert!(rt; replies.as_slice() == wanted.as_slice());
     Ok(())
-}
-
-#[test]
-fn the_same_replies_are_told_from_others(rt: HostRuntime) {
-    let commands = [insertion(5), KeyCommand::Clear];
-    let accepted = [KeyReply::Inserted, KeyReply::Cleared];
-    let refused = [KeyReply::Refused(Refusal::OutOfMemory), KeyReply::Cleared];
-    let other_cause = [KeyReply::Refused(Refusal::NoHandle), KeyReply::Cleared];
-    let are_same = [
-        same_replies(&commands, &accepted, &accepted),
-        same_replies(&commands, &accepted, &refused),
-        same_replies(&commands, &refused, &refused),
-        same_replies(&commands, &refused, &other_cause),
-        same_replies(&commands, &accepted, &accepted[..1]),
-    ];
-    assert!(rt; are_same == [true, false, true, false, false]);
 }

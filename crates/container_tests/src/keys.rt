@@ -1,39 +1,21 @@
 //! Collections of keys that expire, by calls as data.
 
-ghost use Rattle.std.specs.Prelude.{◌≡◌};
-
-use crate::call::{Answer, Call, Step, Store, inserted, joined, reserved, stands, whether};
-use crate::key_types::TimedKey;
-use crate::shape::shape;
+use crate::call::{Answer, Call, Step, Store, inserted, joined, reserved, whether};
+use crate::timed_key::{TimedKey, timed};
 use i_tree::key::exp::KeyExpCollection;
 use i_tree::key::list::KeyExpList;
 use i_tree::key::tree::KeyExpTree;
-use i_tree::steps::Steps;
-use i_tree::{Expiration, ExpiredKey, Refusal};
-use runs::{KeyCommand, KeyReply, run_key_tree_counted, run_keys};
+use i_tree::{ExpiredKey, Refusal};
+use runs::{KeyCommand, KeyReply, run_keys};
 use std::alloc::{AllocError, Allocator, Global};
 use std::cell::Cell;
 use std::cmp::Ordering;
-use std::marker::{Brand, PhantomData};
-use std::sync::ledger::{Blank, Ledger};
 
-/// A type of times, which names them by numbers.
-pub trait TestTime: Expiration {
-    /// The time of this number.
-    fn at(time: i32) -> Self;
-}
-
-/// A type of keys, which names them by numbers.
-pub trait TestKey<E: TestTime>: ExpiredKey<E> {
-    /// The key of this number, with an end.
-    fn of(number: i32, end: i32) -> Self;
-
-    /// The number of the key.
-    fn number(&self) -> i32;
-}
+/// A command over such keys.
+pub type Command = KeyCommand<TimedKey, i32, i32, i32>;
 
 /// A kind of collection, by its own calls.
-pub trait KeyKind<K: TestKey<E>, E: TestTime>: KeyExpCollection<K, E, i32> + Drop {
+pub trait KeyKind: KeyExpCollection<TimedKey, i32, i32> + Drop {
     /// Where it takes its memory.
     type Memory: Allocator + Copy;
 
@@ -50,12 +32,9 @@ pub trait KeyKind<K: TestKey<E>, E: TestTime>: KeyExpCollection<K, E, i32> + Dro
 
     /// How many pairs are stored, and for how many more there is room.
     fn room(&self) -> (usize, usize);
-
-    /// What a tree answers of its nodes.
-    fn shape(&self, call: Call) -> Answer;
 }
 
-impl<K: TestKey<E>, E: TestTime, A: Allocator + Copy> KeyKind<K, E> for KeyExpList<K, E, i32, A> {
+impl<A: Allocator + Copy> KeyKind for KeyExpList<TimedKey, i32, i32, A> {
     type Memory = A;
 
     fn make(memory: A, capacity: usize) -> Result<Self, Refusal> {
@@ -73,13 +52,9 @@ impl<K: TestKey<E>, E: TestTime, A: Allocator + Copy> KeyKind<K, E> for KeyExpLi
     fn room(&self) -> (usize, usize) {
         (self.stored(), self.spare())
     }
-
-    fn shape(&self, _call: Call) -> Answer {
-        Answer::NoCall
-    }
 }
 
-impl<K: TestKey<E>, E: TestTime, A: Allocator + Copy> KeyKind<K, E> for KeyExpTree<K, E, i32, A> {
+impl<A: Allocator + Copy> KeyKind for KeyExpTree<TimedKey, i32, i32, A> {
     type Memory = A;
 
     fn make(memory: A, capacity: usize) -> Result<Self, Refusal> {
@@ -93,87 +68,27 @@ impl<K: TestKey<E>, E: TestTime, A: Allocator + Copy> KeyKind<K, E> for KeyExpTr
     fn room(&self) -> (usize, usize) {
         (self.stored(), self.spare())
     }
-
-    fn shape(&self, call: Call) -> Answer {
-        shape(self.core(), call)
-    }
 }
 
-/// By which calls commands are run.
-pub trait KeyRunner<K, E, C> {
-    /// Runs the commands, and appends their replies to `out`.
-    fn run<B: Allocator>(
-        keys: &mut C,
-        commands: &[KeyCommand<K, E, i32, i32>],
-        out: &mut Vec<KeyReply<i32>, B>,
-    ) -> Result<(), Refusal>;
-}
-
-/// By the plain calls.
-pub struct Plain;
-
-/// By the counted calls, which a tree has.
-pub struct Counted;
-
-/// By none: no command is run.
-pub struct NoRuns;
-
-// How a key stands to the number that is sought.
-fn compare(sought: i32, timed: TimedKey) -> Ordering {
+/// How a key stands to the number that is sought.
+pub fn compare(sought: i32, timed: TimedKey) -> Ordering {
     timed.key.cmp(&sought)
 }
 
-impl<C: KeyExpCollection<TimedKey, i32, i32>> KeyRunner<TimedKey, i32, C> for Plain {
-    fn run<B: Allocator>(
-        keys: &mut C,
-        commands: &[KeyCommand<TimedKey, i32, i32, i32>],
-        out: &mut Vec<KeyReply<i32>, B>,
-    ) -> Result<(), Refusal> {
-        run_keys(keys, commands, compare, out)
-    }
-}
-
-impl<A: Allocator + Copy> KeyRunner<TimedKey, i32, KeyExpTree<TimedKey, i32, i32, A>> for Counted {
-    fn run<B: Allocator>(
-        keys: &mut KeyExpTree<TimedKey, i32, i32, A>,
-        commands: &[KeyCommand<TimedKey, i32, i32, i32>],
-        out: &mut Vec<KeyReply<i32>, B>,
-    ) -> Result<(), Refusal> {
-        run_over::<Brand, A, B>(Blank::new(4), keys, commands, out)
-    }
-}
-
-impl<K, E, C> KeyRunner<K, E, C> for NoRuns {
-    fn run<B: Allocator>(
-        _keys: &mut C,
-        _commands: &[KeyCommand<K, E, i32, i32>],
-        _out: &mut Vec<KeyReply<i32>, B>,
-    ) -> Result<(), Refusal> {
-        Ok(())
-    }
-}
-
-// Nothing is done with what is counted.
-fn run_over<L: Ledger, A: Allocator + Copy, B: Allocator>(
-    blank: Blank,
-    tree: &mut KeyExpTree<TimedKey, i32, i32, A>,
-    commands: &[KeyCommand<TimedKey, i32, i32, i32>],
+/// Runs the commands, and appends their replies to `out`.
+pub fn run_commands<C: KeyExpCollection<TimedKey, i32, i32>, B: Allocator>(
+    keys: &mut C,
+    commands: &[Command],
     out: &mut Vec<KeyReply<i32>, B>,
-) -> Result<(), Refusal>
-    requires name { blank.name ≡ L.name }
-    requires parts { blank.parts ≡ L.parts }
-    requires four { blank.parts ≡ 4 }
-{
-    let mut steps = Steps::<L>::new(blank);
-    run_key_tree_counted(&mut steps, tree, commands, compare, out)
+) -> Result<(), Refusal> {
+    run_keys(keys, commands, compare, out)
 }
 
-/// Keys of this type in a collection, and how often the last closure was asked.
+/// Keys in a collection, and how often the last closure was asked.
 #[derive(Drop)]
-pub struct Keys<K, E, C, R> {
+pub struct Keys<C> {
     keys: C,
     asked: usize,
-    types: PhantomData<(K, E, R)>,
 }
 
 // How often a closure was asked, and how often about an expired key.
@@ -199,8 +114,8 @@ impl Asking {
     }
 }
 
-impl<K: TestKey<E>, E: TestTime, C: KeyKind<K, E>, R> Keys<K, E, C, R> {
-    fn insert(&mut self, key: K, val: i32, time: E) -> Answer {
+impl<C: KeyKind> Keys<C> {
+    fn insert(&mut self, key: TimedKey, val: i32, time: i32) -> Answer {
         if self.keys.contains_key(time, key) {
             return Answer::Present;
         }
@@ -208,11 +123,11 @@ impl<K: TestKey<E>, E: TestTime, C: KeyKind<K, E>, R> Keys<K, E, C, R> {
     }
 
     // The answer to a query by a closure: for the number above, or at most the one that is sought.
-    fn nearest(&mut self, time: E, sought: i32, greater: Option<i32>, is_above: bool) -> Answer {
+    fn nearest(&mut self, time: i32, sought: i32, is_above: bool) -> Answer {
         let asking = Asking::new();
-        let ask = |key: K| {
-            asking.note(key.expiration() < time);
-            stands(key.number(), sought, greater)
+        let ask = |timed: TimedKey| {
+            asking.note(timed.expiration() < time);
+            timed.key.cmp(&sought)
         };
         let found = if is_above {
             self.keys.first_greater_by(time, -1, ask)
@@ -232,8 +147,7 @@ impl<K: TestKey<E>, E: TestTime, C: KeyKind<K, E>, R> Keys<K, E, C, R> {
     }
 }
 
-impl<K: TestKey<E>, E: TestTime, C: KeyKind<K, E>, R: KeyRunner<K, E, C>> Store
-    for Keys<K, E, C, R> {
+impl<C: KeyKind> Store for Keys<C> {
     type Memory = C::Memory;
 
     type Reply = KeyReply<i32>;
@@ -242,17 +156,12 @@ impl<K: TestKey<E>, E: TestTime, C: KeyKind<K, E>, R: KeyRunner<K, E, C>> Store
         Ok(Keys {
             keys: C::make(memory, capacity)?,
             asked: 0,
-            types: PhantomData,
         })
     }
 
     fn cloned(&self) -> Option<Result<Self, AllocError>> {
         match self.keys.cloned()? {
-            Ok(keys) => Some(Ok(Keys {
-                keys,
-                asked: 0,
-                types: PhantomData,
-            })),
+            Ok(keys) => Some(Ok(Keys { keys, asked: 0 })),
             Err(error) => Some(Err(error)),
         }
     }
@@ -263,28 +172,22 @@ impl<K: TestKey<E>, E: TestTime, C: KeyKind<K, E>, R: KeyRunner<K, E, C>> Store
 
     fn call(&mut self, call: Call) -> Answer {
         match call {
-            Call::Insert(number, end, val, time) => {
-                self.insert(K::of(number, end), val, E::at(time))
-            }
+            Call::Insert(number, end, val, time) => self.insert(timed(number, end), val, time),
             Call::InsertNew(number, end, val, time) => {
-                inserted(self.keys.insert_new(K::of(number, end), val, E::at(time)))
+                inserted(self.keys.insert_new(timed(number, end), val, time))
             }
             Call::Below(time, number) => {
-                Answer::Value(self.keys.first_less(E::at(time), -1, K::of(number, 0)))
+                Answer::Value(self.keys.first_less(time, -1, timed(number, 0)))
             }
-            Call::AtMost(time, number) => self.nearest(E::at(time), number, None, false),
-            Call::AtMostBut(time, number, greater) => {
-                self.nearest(E::at(time), number, Some(greater), false)
-            }
-            Call::Above(time, number) => self.nearest(E::at(time), number, None, true),
+            Call::AtMost(time, number) => self.nearest(time, number, false),
+            Call::Above(time, number) => self.nearest(time, number, true),
             Call::Contains(time, number) => {
-                whether(self.keys.contains_key(E::at(time), K::of(number, 0)))
+                whether(self.keys.contains_key(time, timed(number, 0)))
             }
             Call::Clear => self.clear(),
             Call::Reserve(capacity) => reserved(self.keys.reserve(capacity)),
-            Call::Asked => Answer::Number(self.asked),
             Call::AskedUpTo(most) => whether(self.asked <= most),
-            other => self.keys.shape(other),
+            _ => Answer::NoCall,
         }
     }
 
@@ -298,7 +201,7 @@ impl<K: TestKey<E>, E: TestTime, C: KeyKind<K, E>, R: KeyRunner<K, E, C>> Store
         for (call, _) in steps {
             commands.push(command(*call)?).ok()?;
         }
-        Some(R::run(&mut self.keys, &commands, out))
+        Some(run_commands(&mut self.keys, &commands, out))
     }
 
     fn told(reply: &KeyReply<i32>) -> Answer {
@@ -314,20 +217,20 @@ impl<K: TestKey<E>, E: TestTime, C: KeyKind<K, E>, R: KeyRunner<K, E, C>> Store
 }
 
 // The call as a command.
-fn command<K: TestKey<E>, E: TestTime>(call: Call) -> Option<KeyCommand<K, E, i32, i32>> {
+fn command(call: Call) -> Option<Command> {
     match call {
         Call::Insert(number, end, val, time) => Some(KeyCommand::Insert {
-            key: K::of(number, end),
+            key: timed(number, end),
             val,
-            time: E::at(time),
+            time,
         }),
         Call::Below(time, number) => Some(KeyCommand::Less {
-            time: E::at(time),
+            time,
             default: -1,
-            key: K::of(number, 0),
+            key: timed(number, 0),
         }),
         Call::AtMost(time, number) => Some(KeyCommand::LessOrEqualBy {
-            time: E::at(time),
+            time,
             default: -1,
             probe: number,
         }),

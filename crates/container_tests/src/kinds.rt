@@ -6,14 +6,14 @@
 use crate::call::Store;
 use crate::growth::{doubles_its_room, has_no_handle};
 use crate::history::{Subject, agrees};
-use crate::key_rows::{CountedTree, KeyList, KeyTree, ListOf, TreeOf};
-use crate::key_types::{Backward, Moment, Momentary, TimedKey};
+use crate::key_rows::{KeyList, KeyTree};
 use crate::refusals::{Kind, clones_at_once, takes_all_or_nothing};
 use crate::rows::{Row, RunRow, go_over, go_over_runs};
 use crate::run_refusals::{reserves_replies, runs_on};
 use crate::set_rows::{ItemList, ItemTree};
 use crate::sloped::Sloped;
 use crate::status_rows::{SlopedList, SlopedTree};
+use crate::timed_key::TimedKey;
 use crate::{key_rows, set_rows, status_rows};
 use runs::{KeyReply, SetReply, StatusReply};
 use std::alloc::Global;
@@ -34,7 +34,6 @@ struct Profile {
     rows: &'static [Row],
     rows_of_kind: &'static [Row],
     runs: &'static [RunRow],
-    runs_of_kind: &'static [RunRow],
 }
 
 // What goes wrong of growth and of refused memory, if anything does.
@@ -75,7 +74,6 @@ fn try_all<S: Store>(
     go_over::<S>(rt, counted, memory, profile.rows);
     go_over::<S>(rt, counted, memory, profile.rows_of_kind);
     go_over_runs::<S>(rt, counted, memory, profile.runs, alloc);
-    go_over_runs::<S>(rt, counted, memory, profile.runs_of_kind, alloc);
     agrees::<S>(rt, counted, memory, profile.subject, alloc);
     let fault = fault_of::<S>(counted, memory, profile, alloc).unwrap_or("");
     assert!(rt; fault.is_empty(), "{name}: {fault}");
@@ -98,17 +96,8 @@ fn of_keys(name: &'static str, kind: Kind) -> Profile {
         },
         reply: size_of::<KeyReply<i32>>(),
         rows: key_rows::ROWS,
-        rows_of_kind: if is_tree {
-            key_rows::TREE_ROWS
-        } else {
-            key_rows::LIST_ROWS
-        },
+        rows_of_kind: if is_tree { key_rows::TREE_ROWS } else { &[] },
         runs: key_rows::RUN_ROWS,
-        runs_of_kind: if is_tree {
-            key_rows::TREE_RUN_ROWS
-        } else {
-            &[]
-        },
     }
 }
 
@@ -129,7 +118,6 @@ fn of_sets(name: &'static str, kind: Kind) -> Profile {
         rows: set_rows::ROWS,
         rows_of_kind: if is_tree { set_rows::TREE_ROWS } else { &[] },
         runs: set_rows::RUN_ROWS,
-        runs_of_kind: &[],
     }
 }
 
@@ -147,7 +135,6 @@ fn of_statuses(name: &'static str, kind: Kind) -> Profile {
         rows: status_rows::ROWS,
         rows_of_kind: if is_tree { status_rows::TREE_ROWS } else { &[] },
         runs: status_rows::RUN_ROWS,
-        runs_of_kind: &[],
     }
 }
 
@@ -163,37 +150,6 @@ fn a_tree_of_keys(rt: HostRuntime) {
     let memory = Refusing::new(rt.alloc());
     let profile = of_keys("a tree of keys", Kind::Tree);
     try_all::<KeyTree>(&rt, &memory, &memory, &profile, rt.alloc());
-}
-
-#[test]
-fn a_tree_of_keys_whose_runs_are_counted(rt: HostRuntime) {
-    let memory = Refusing::new(rt.alloc());
-    let profile = of_keys("a tree of keys whose runs are counted", Kind::Tree);
-    try_all::<CountedTree>(&rt, &memory, &memory, &profile, rt.alloc());
-}
-
-#[test]
-fn a_list_of_keys_with_times_of_another_type(rt: HostRuntime) {
-    let memory = Refusing::new(rt.alloc());
-    go_over::<ListOf<Momentary, Moment>>(&rt, &memory, &memory, key_rows::ROWS);
-}
-
-#[test]
-fn a_tree_of_keys_with_times_of_another_type(rt: HostRuntime) {
-    let memory = Refusing::new(rt.alloc());
-    go_over::<TreeOf<Momentary, Moment>>(&rt, &memory, &memory, key_rows::ROWS);
-}
-
-#[test]
-fn a_list_of_keys_in_the_opposite_order(rt: HostRuntime) {
-    let memory = Refusing::new(rt.alloc());
-    go_over::<ListOf<Backward, i32>>(&rt, &memory, &memory, key_rows::BACKWARD_ROWS);
-}
-
-#[test]
-fn a_tree_of_keys_in_the_opposite_order(rt: HostRuntime) {
-    let memory = Refusing::new(rt.alloc());
-    go_over::<TreeOf<Backward, i32>>(&rt, &memory, &memory, key_rows::BACKWARD_ROWS);
 }
 
 #[test]

@@ -19,8 +19,6 @@ mod key_rows;
 #[cfg(test)]
 mod key_runs;
 #[cfg(test)]
-mod key_types;
-#[cfg(test)]
 mod keys;
 #[cfg(test)]
 mod kinds;
@@ -31,16 +29,14 @@ mod rows;
 #[cfg(test)]
 mod run_refusals;
 #[cfg(test)]
-mod searches;
-#[cfg(test)]
 mod set_rows;
 #[cfg(test)]
 mod sets;
-#[cfg(test)]
-mod shape;
 #[cfg(test)]
 mod sloped;
 #[cfg(test)]
 mod status_rows;
 #[cfg(test)]
 mod statuses;
+#[cfg(test)]
+mod timed_key;

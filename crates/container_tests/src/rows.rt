@@ -120,17 +120,11 @@ fn perform<S: Store>(counted: &Refusing<Global>, store: &mut S, call: Call) -> A
     match call {
         Call::Fill(first, last, end) => fill(store, first, last, end),
         Call::FillRoom(first) => fill_so_many(store, first, spare),
-        Call::Overfill(first) => fill_so_many(store, first, spare.saturating_add(1)),
         Call::Stored => Answer::Number(stored),
         Call::StoredBelow(most) => crate::call::whether(stored < most),
         Call::Spare => Answer::Number(spare),
-        Call::SpareFrom(least) => crate::call::whether(spare >= least),
         Call::RefuseAll => {
             counted.refuse_all();
-            Answer::Done
-        }
-        Call::RefuseNone => {
-            counted.refuse_none();
             Answer::Done
         }
         Call::Requests => Answer::Number(usize::try_from(counted.requests()).unwrap_or(0)),

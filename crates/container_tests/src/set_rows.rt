@@ -2,8 +2,8 @@
 
 use crate::call::Answer::{Done, Joined, No, NoCall, Number, Present, Refused, Value, Yes};
 use crate::call::Call::{
-    Above, AreHeld, AtMost, Before, Contains, Delete, DeleteBefore, Fill, FillRoom, First, Hold,
-    Insert, InsertNew, IsOrdered, RefuseAll, Requests, Stored, Walk, WriteKey, WriteValue,
+    Above, AreHeld, AtMost, Before, Contains, Delete, Fill, FillRoom, First, Hold, Insert,
+    InsertNew, IsOrdered, RefuseAll, Requests, Stored, Walk, WriteKey, WriteValue,
 };
 use crate::rows::{Row, RunRow};
 use crate::sets::Sets;
@@ -41,16 +41,6 @@ pub static ROWS: &[Row] = &[
         ],
     },
     Row {
-        name: "a key between is deleted",
-        capacity: 0,
-        given: THREE,
-        steps: &[
-            (Delete(4), Done),
-            (AtMost(0, 5), Value(1)),
-            (AtMost(0, 9), Value(8)),
-        ],
-    },
-    Row {
         name: "a value is written, and a key out of order and back",
         capacity: 0,
         given: THREE,
@@ -63,41 +53,6 @@ pub static ROWS: &[Row] = &[
             (WriteKey(4), Done),
             (IsOrdered, Yes),
             (AtMost(0, 4), Value(40)),
-        ],
-    },
-    Row {
-        name: "the least key is deleted until nothing is left",
-        capacity: 0,
-        given: &[],
-        steps: &[
-            (Fill(1, 7, 10), Joined),
-            (First, Value(1)),
-            (Delete(1), Done),
-            (First, Value(2)),
-            (Delete(2), Done),
-            (First, Value(3)),
-            (Delete(3), Done),
-            (First, Value(4)),
-            (Delete(4), Done),
-            (First, Value(5)),
-            (Delete(5), Done),
-            (First, Value(6)),
-            (Delete(6), Done),
-            (First, Value(7)),
-            (Delete(7), Done),
-            (First, Value(-1)),
-            (Stored, Number(0)),
-        ],
-    },
-    Row {
-        name: "the key before is deleted",
-        capacity: 0,
-        given: THREE,
-        steps: &[
-            (Before(9), Value(4)),
-            (DeleteBefore(9), Done),
-            (AtMost(0, 5), Value(1)),
-            (Before(5), Value(-1)),
         ],
     },
     Row {

@@ -1,7 +1,6 @@
 //! Both kinds of status, by calls as data.
 
 use crate::call::{Answer, Call, Step, Store, inserted, reserved, whether};
-use crate::shape::shape;
 use crate::sloped::Sloped;
 use i_tree::Refusal;
 use i_tree::status::exp::StatusCollection;
@@ -34,9 +33,6 @@ pub trait StatusKind: StatusCollection<Sloped, i32, i32> + Drop {
 
     /// How many pairs are stored, and for how many more there is room.
     fn room(&self) -> (usize, usize);
-
-    /// What a tree answers of its nodes.
-    fn shape(&self, call: Call) -> Answer;
 }
 
 impl<A: Allocator + Copy> StatusKind for StatusList<Sloped, i32, i32, A> {
@@ -53,10 +49,6 @@ impl<A: Allocator + Copy> StatusKind for StatusList<Sloped, i32, i32, A> {
     fn room(&self) -> (usize, usize) {
         (self.stored(), self.spare())
     }
-
-    fn shape(&self, _call: Call) -> Answer {
-        Answer::NoCall
-    }
 }
 
 impl<A: Allocator + Copy> StatusKind for StatusTree<Sloped, i32, i32, A> {
@@ -72,10 +64,6 @@ impl<A: Allocator + Copy> StatusKind for StatusTree<Sloped, i32, i32, A> {
 
     fn room(&self) -> (usize, usize) {
         (self.stored(), self.spare())
-    }
-
-    fn shape(&self, call: Call) -> Answer {
-        shape(self.core(), call)
     }
 }
 
@@ -194,9 +182,7 @@ impl<C: StatusKind> Store for Statuses<C> {
         match call {
             Call::Clear => self.clear(),
             Call::Reserve(capacity) => reserved(self.status.reserve(capacity)),
-            Call::Asked => Answer::Number(self.asked.get()),
             Call::AskedUpTo(most) => whether(self.asked.get() <= most),
-            Call::Root | Call::LeftOf(_) | Call::RightOf(_) => self.status.shape(call),
             other => {
                 self.asked.set(0);
                 let answer = self.ask(other);

@@ -26,7 +26,6 @@ enum Call {
     LeftOf(i32),
     RightOf(i32),
     Before(i32),
-    After(i32),
     Item(i32),
     Write(i32, i32),
     Has(i32),
@@ -150,7 +149,6 @@ impl Named<'_> {
             Call::LeftOf(_) => self.tree.left(handle),
             Call::RightOf(_) => self.tree.right(handle),
             Call::Before(_) => self.tree.before(handle),
-            Call::After(_) => self.tree.after(handle),
             _ => handle,
         })
     }
@@ -182,7 +180,6 @@ impl Named<'_> {
             Call::LeftOf(name) => self.next_to(name, call),
             Call::RightOf(name) => self.next_to(name, call),
             Call::Before(name) => self.next_to(name, call),
-            Call::After(name) => self.next_to(name, call),
             Call::Item(name) => self.next_to(name, call),
             Call::Write(name, item) => self.write(name, item),
             Call::Has(name) => whether(self.tree.has(self.handle(name))),
@@ -208,40 +205,6 @@ fn whether(holds: bool) -> Answer {
 }
 
 static ROWS: &[Row] = &[
-    Row {
-        name: "the handle before",
-        steps: &[
-            (Call::InsertRoot(2), Answer::Done),
-            (Call::InsertRight(2, 3), Answer::Done),
-            (Call::InsertLeft(2, 1), Answer::Done),
-            (Call::Before(3), Answer::Item(2)),
-            (Call::Before(1), Answer::Empty),
-            (Call::Spare, Answer::Number(4)),
-        ],
-    },
-    Row {
-        name: "balance is kept where items rise",
-        steps: &[
-            (Call::InsertRoot(1), Answer::Done),
-            (Call::Root, Answer::Item(1)),
-            (Call::LeftOf(1), Answer::Empty),
-            (Call::RightOf(1), Answer::Empty),
-            (Call::InsertRight(1, 2), Answer::Done),
-            (Call::Root, Answer::Item(1)),
-            (Call::LeftOf(1), Answer::Empty),
-            (Call::RightOf(1), Answer::Item(2)),
-            (Call::InsertRight(2, 3), Answer::Done),
-            (Call::Root, Answer::Item(2)),
-            (Call::LeftOf(2), Answer::Item(1)),
-            (Call::RightOf(2), Answer::Item(3)),
-            (Call::InsertRight(3, 4), Answer::Done),
-            (Call::Root, Answer::Item(2)),
-            (Call::LeftOf(2), Answer::Item(1)),
-            (Call::RightOf(2), Answer::Item(3)),
-            (Call::LeftOf(3), Answer::Empty),
-            (Call::RightOf(3), Answer::Item(4)),
-        ],
-    },
     Row {
         name: "nothing is turned where colours mend, and then a black leaf is removed",
         steps: &[
@@ -326,25 +289,6 @@ static ROWS: &[Row] = &[
             (Call::RefuseAll, Answer::Done),
             (Call::New(4294967296), Answer::Refused(Refusal::NoHandle)),
             (Call::Requests, Answer::Number(0)),
-        ],
-    },
-    Row {
-        name: "the handle after",
-        steps: &[
-            (Call::InsertRoot(2), Answer::Done),
-            (Call::InsertRight(2, 3), Answer::Done),
-            (Call::InsertLeft(2, 1), Answer::Done),
-            (Call::After(1), Answer::Item(2)),
-            (Call::After(3), Answer::Empty),
-        ],
-    },
-    Row {
-        name: "a hundred thousand handles",
-        steps: &[
-            (Call::Rising(100000), Answer::Done),
-            (Call::Len, Answer::Number(100000)),
-            (Call::Spare, Answer::Number(31071)),
-            (Call::Walk, Answer::Yes),
         ],
     },
 ];

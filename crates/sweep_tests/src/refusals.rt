@@ -3,43 +3,20 @@
 use crate::worked::{EARLIER, is_empty, is_wanted};
 use horizontal::{Level, Point, Segment, SweepFault, below};
 use i_tree::Refusal;
-use i_tree::key::exp::KeyExpCollection;
-use i_tree::key::list::KeyExpList;
 use i_tree::key::tree::KeyExpTree;
-use std::alloc::{Allocator, Global};
+use std::alloc::Global;
 use std::test::Fail;
 use test_kit::Refusing;
-use test_kit::in_turn::{Fault, Trial, refuse_in_turn};
+use test_kit::in_turn::{Trial, refuse_in_turn};
 
 type Memory<'a> = &'a Refusing<Global>;
 
-// A store that takes memory of one kind.
-trait MadeStore: KeyExpCollection<Level, i32, Option<i32>> + Drop {
-    type Memory: Allocator + Copy + Drop;
-
-    fn make(memory: Self::Memory) -> Result<Self, Refusal>;
-}
-
-impl<A: Allocator + Copy + Drop> MadeStore for KeyExpList<Level, i32, Option<i32>, A> {
-    type Memory = A;
-
-    fn make(memory: A) -> Result<Self, Refusal> {
-        KeyExpList::new(memory, 0)
-    }
-}
-
-impl<A: Allocator + Copy + Drop> MadeStore for KeyExpTree<Level, i32, Option<i32>, A> {
-    type Memory = A;
-
-    fn make(memory: A) -> Result<Self, Refusal> {
-        KeyExpTree::new(memory, 0)
-    }
-}
+type Tree<'a> = KeyExpTree<Level, i32, Option<i32>, Memory<'a>>;
 
 // A sweep over segments above one another, which all cover one x, with a point on each there; and its answers.
 #[derive(Drop)]
-struct Stack<C: MadeStore> {
-    memory: C::Memory,
+struct Stack<'a> {
+    memory: Memory<'a>,
     segments: Vec<Segment>,
     points: Vec<Point>,
     answers: Vec<Option<i32>>,
@@ -47,24 +24,24 @@ struct Stack<C: MadeStore> {
 
 // The store and `out`, and how the last sweep ended.
 #[derive(Drop)]
-struct Swept<C: MadeStore> {
-    store: C,
-    out: Vec<Option<i32>, C::Memory>,
+struct Swept<'a> {
+    store: Tree<'a>,
+    out: Vec<Option<i32>, Memory<'a>>,
     outcome: Result<(), SweepFault>,
 }
 
-impl<C: MadeStore> Swept<C> {
+impl Swept<'_> {
     // Whether the sweep ended so, and left the store empty.
     fn has_ended(&mut self, wanted: Result<&[Option<i32>], SweepFault>) -> bool {
         is_wanted(wanted, self.outcome, &self.out) && is_empty(&mut self.store)
     }
 }
 
-impl<C: MadeStore> Trial for Stack<C> {
-    type State = Swept<C>;
+impl<'a> Trial for Stack<'a> {
+    type State = Swept<'a>;
 
-    fn begin(&self) -> Option<Swept<C>> {
-        let store = C::make(self.memory).ok()?;
+    fn begin(&self) -> Option<Swept<'a>> {
+        let store = KeyExpTree::new(self.memory, 0).ok()?;
         let mut out = Vec::new(self.memory);
         out.push(EARLIER).ok()?;
         Some(Swept {
@@ -74,7 +51,7 @@ impl<C: MadeStore> Trial for Stack<C> {
         })
     }
 
-    fn call(&self, swept: &mut Swept<C>) {
+    fn call(&self, swept: &mut Swept<'a>) {
         let Swept {
             store,
             out,
@@ -83,58 +60,32 @@ impl<C: MadeStore> Trial for Stack<C> {
         *outcome = below(store, &self.segments, &self.points, out);
     }
 
-    fn is_refused(&self, swept: &mut Swept<C>, _nth: u64) -> bool {
+    fn is_refused(&self, swept: &mut Swept<'a>, _nth: u64) -> bool {
         swept.has_ended(Err(SweepFault::Refused(Refusal::OutOfMemory)))
     }
 
-    fn is_done(&self, swept: &mut Swept<C>) -> bool {
+    fn is_done(&self, swept: &mut Swept<'a>) -> bool {
         swept.has_ended(Ok(&self.answers))
     }
 }
 
-// How many requests the call makes over a new one.
-fn requests_of<C: MadeStore>(
-    counted: &Refusing<Global>,
-    memory: C::Memory,
-    alloc: Global,
-) -> Result<Result<u64, Fault>, Fail> {
-    let mut segments = Vec::new(alloc);
-    let mut points = Vec::new(alloc);
-    let mut answers = Vec::new(alloc);
+#[test]
+fn keeps_out_at_each_refusal(rt: HostRuntime) -> Result<(), Fail> {
+    let memory = Refusing::new(rt.alloc());
+    let mut segments = Vec::new(rt.alloc());
+    let mut points = Vec::new(rt.alloc());
+    let mut answers = Vec::new(rt.alloc());
     for y in 1..=20 {
         segments.push(Segment { x0: y, x1: 30, y })?;
         points.push(Point { x: 25, y })?;
         answers.push(Some(y))?;
     }
-    let stack: Stack<C> = Stack {
-        memory,
+    let stack = Stack {
+        memory: &memory,
         segments,
         points,
         answers,
     };
-    Ok(refuse_in_turn(counted, &stack))
-}
-
-#[test]
-fn keeps_out_at_each_refusal_over_a_list(rt: HostRuntime) -> Result<(), Fail> {
-    let memory = Refusing::new(rt.alloc());
-    let requests = requests_of::<KeyExpList<Level, i32, Option<i32>, Memory>>(
-        &memory,
-        &memory,
-        rt.alloc(),
-    )?;
-    assert!(rt; matches!(requests, Ok(4..)));
-    Ok(())
-}
-
-#[test]
-fn keeps_out_at_each_refusal_over_a_tree(rt: HostRuntime) -> Result<(), Fail> {
-    let memory = Refusing::new(rt.alloc());
-    let requests = requests_of::<KeyExpTree<Level, i32, Option<i32>, Memory>>(
-        &memory,
-        &memory,
-        rt.alloc(),
-    )?;
-    assert!(rt; matches!(requests, Ok(4..)));
+    assert!(rt; matches!(refuse_in_turn(&memory, &stack), Ok(4..)));
     Ok(())
 }
