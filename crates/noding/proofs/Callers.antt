@@ -10,7 +10,8 @@ use Rattle.plane.specs.Pairs.Bounds.{BoundsMeet}
 use Rattle.noding.specs.Chains.{Passes, IsEnd, CrossAt, IsHot, Upto, IsChain, AreChains}
 use Rattle.noding.specs.Meeting.{MeetAtEnds}
 use Rattle.noding.specs.Near.{CountsExactly, IsNear}
-use Rattle.noding.specs.Windings.{start_of, end_of, winding, pieces, IsClosed}
+use Rattle.plane.specs.Ends.{start_of, end_of}
+use Rattle.noding.specs.Windings.{winding, pieces, IsClosed}
 use Rattle.noding.proofs.SnapLemmas.Along.{Passes-in_box, Passes-start, Passes-end}
 use Rattle.noding.proofs.SnapLemmas.Near.{IsNear-piece}
 use Rattle.noding.proofs.SnapLemmas.Noded.{IsPiece-chain, chains-meet, piece-proper, piece-upto}

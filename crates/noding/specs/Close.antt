@@ -1,6 +1,7 @@
 -- Edges that come close to each other. For private contracts.
 use Rattle.std.specs.Prelude.{◌≡◌, ◌⊎◌, ℤ}
 use Rattle.plane.specs.declared.edge.Edge.{Edge}
+use Rattle.plane.specs.declared.point.Point.{Point}
 use Rattle.plane.specs.declared.pairs.items.Bounds.{Bounds}
 use Rattle.plane.specs.Meet.Boxes.{bounds_of}
 use Rattle.plane.specs.Meet.Edges.{Meet}
@@ -19,6 +20,10 @@ InBox edge x y = BoundsMeet (bounds_of edge) (at_point x y)
 -- The edge passes the whole point (x, y) between its ends.
 abbrev pub PassesInside : Edge → ℤ → ℤ → Type 0
 PassesInside edge x y = Passes edge x y × (¬ (IsEnd edge x y))
+
+-- It passes the point so.
+abbrev pub PassesPoint : Edge → Point → Type 0
+PassesPoint edge point = PassesInside edge point.x point.y
 
 -- It passes an end of the other edge so.
 abbrev pub PassesEnd : Edge → Edge → Type 0

@@ -12,7 +12,3 @@ offsets start (list ∷ lists) = (start + length list) ∷ offsets (start + leng
 -- The items are those of the lists, one list after the other, and the numbers tell where each stops.
 abbrev pub AreJoined : {X : Type 0} → List (List X) → List X → List ℕ → Type 0
 AreJoined lists items ends = (items ≡ flat_map (λ list. list) lists) × (ends ≡ offsets 0 lists)
-
--- The list begins as it was before.
-abbrev pub Extends : {X : Type 0} → List X → List X → Type 0
-Extends {X} before after = (more : List X) × (after ≡ before ++ more)

@@ -7,27 +7,26 @@ use Rattle.noding.specs.Chains.{IsHot}
 use Rattle.noding.specs.Close.{PassesInside}
 use Rattle.noding.specs.Crossings.{CrossInside, IsCrossingOf}
 use Rattle.noding.specs.Gains.{IsOfSome}
-use Rattle.noding.specs.Windings.{start_of, end_of}
-use Rattle.noding.specs.declared.crossings.HotPoint.{HotPoint}
+use Rattle.plane.specs.Ends.{start_of, end_of}
 use Rattle.noding.specs.declared.stops.Stop.{Stop}
 
 -- The number, or where the way from the one number to the other goes down its reflection: so they rise along the way.
-abbrev pub turned : ℤ → ℤ → ℤ → ℤ
-turned from to number = cond (lt_z to from) ((pos 0 -ℤ pos 1) -ℤ number) number
+abbrev pub reflected : ℤ → ℤ → ℤ → ℤ
+reflected from to number = cond (lt_z to from) ((pos 0 -ℤ pos 1) -ℤ number) number
 
 -- The stop of the edge, which is at this place among others, at the whole point (x, y).
 abbrev pub stop_of : ℕ → Edge → ℤ → ℤ → Stop
 stop_of place edge x y = record {
   place = place;
-  along_x = turned edge.x0 edge.x1 x;
-  along_y = turned edge.y0 edge.y1 y;
+  along_x = reflected edge.x0 edge.x1 x;
+  along_y = reflected edge.y0 edge.y1 y;
 }
 
 -- The point of a stop of the edge.
 abbrev pub point_of : Edge → Stop → Point
 point_of edge stop = record {
-  x = turned edge.x0 edge.x1 stop.along_x;
-  y = turned edge.y0 edge.y1 stop.along_y;
+  x = reflected edge.x0 edge.x1 stop.along_x;
+  y = reflected edge.y0 edge.y1 stop.along_y;
 }
 
 -- The stop is that of the edge, which is at this place, at the whole point (x, y), which it passes between its ends.
@@ -47,9 +46,9 @@ pub record IsStopOfPair (edges : List Edge) (pair : ℕ × ℕ) (stop : Stop) : 
   pub at : IsStopAtEnd other pair.0 one stop ⊎ IsStopAtEnd one pair.1 other stop
 
 -- It is that of the edge at the first place of the pair, at the point at its second place.
-pub record IsStopAt (edges : List Edge) (points : List HotPoint) (pair : ℕ × ℕ) (stop : Stop) : Type 0 where
+pub record IsStopAt (edges : List Edge) (points : List Point) (pair : ℕ × ℕ) (stop : Stop) : Type 0 where
   pub edge : Edge
-  pub point : HotPoint
+  pub point : Point
   pub first : slice_get edges pair.0 ≡ Some edge
   pub second : slice_get points pair.1 ≡ Some point
   pub is : stop ≡ stop_of pair.0 edge point.x point.y
@@ -58,7 +57,7 @@ pub record IsStopAt (edges : List Edge) (points : List HotPoint) (pair : ℕ × 
 pub record IsStopCrossed (edges : List Edge) (pairs : List (ℕ × ℕ)) (stop : Stop) : Type 0 where
   pub place : ℕ
   pub edge : Edge
-  pub point : HotPoint
+  pub point : Point
   pub stands : slice_get edges place ≡ Some edge
   pub crossed : IsOfSome (IsCrossingOf edges) pairs point
   pub along : IsStopAlong place edge point.x point.y stop
@@ -67,7 +66,7 @@ pub record IsStopCrossed (edges : List Edge) (pairs : List (ℕ × ℕ)) (stop :
 pub record IsStopOfCrossing (edges : List Edge) (pair : ℕ × ℕ) (stop : Stop) : Type 0 where
   pub one : Edge
   pub other : Edge
-  pub point : HotPoint
+  pub point : Point
   pub first : slice_get edges pair.0 ≡ Some one
   pub second : slice_get edges pair.1 ≡ Some other
   pub cross : CrossInside one other point
@@ -76,13 +75,13 @@ pub record IsStopOfCrossing (edges : List Edge) (pair : ℕ × ℕ) (stop : Stop
 -- It is one of two edges at these places, where they cross.
 abbrev pub IsStopOfBoth : ℕ → Edge → ℕ → Edge → Stop → Type 0
 IsStopOfBoth place one other_place other stop =
-    (point : HotPoint) × CrossInside one other point × ((stop ≡ stop_of place one point.x point.y) ⊎ (stop ≡ stop_of other_place other point.x point.y))
+    (point : Point) × CrossInside one other point × ((stop ≡ stop_of place one point.x point.y) ⊎ (stop ≡ stop_of other_place other point.x point.y))
 
 -- It is one of some edge, at one of the points.
-pub record IsStopAmong (edges : List Edge) (points : List HotPoint) (stop : Stop) : Type 0 where
+pub record IsStopAmong (edges : List Edge) (points : List Point) (stop : Stop) : Type 0 where
   pub place : ℕ
   pub edge : Edge
-  pub point : HotPoint
+  pub point : Point
   pub stands : slice_get edges place ≡ Some edge
   pub held : Contains points point
   pub along : IsStopAlong place edge point.x point.y stop

@@ -4,13 +4,13 @@ ghost use Rattle.std.specs.Prelude.{◌≡◌, ◌∷◌, ◌++◌, ◌≤◌, L
 ghost use Rattle.std.specs.List.{flat_map};
 ghost use Rattle.plane.specs.declared.point.Point.{Point};
 ghost use Rattle.noding.specs.Chains.{AreChains};
-ghost use Rattle.noding.specs.Offsets.{offsets, between, Extends};
+ghost use Rattle.plane.specs.Lists.{Extends};
+ghost use Rattle.plane.specs.Ends.{start_of};
+ghost use Rattle.noding.specs.Offsets.{offsets, between};
 ghost use Rattle.noding.specs.Stops.{AreAt, AreStops, GoesToEnd, point_of};
-ghost use Rattle.noding.specs.Windings.{start_of};
 
-use crate::edges::{end_of, start_of};
 use crate::stops::{Stop, point_of};
-use plane::edge::Edge;
+use plane::edge::{Edge, end_of, start_of};
 use plane::point::Point;
 use std::alloc::{AllocError, Allocator};
 
@@ -28,6 +28,7 @@ pub fn append_chains<A: Allocator>(
     ensures err { OnErr result (Extends points.old.items points.new.items × Extends ends.old.items ends.new.items) }
 {
     let mut next = 0;
+    // The chains of the edges so far stand there, and the stops from `next` on are those of this edge and of later ones.
     for (place, edge) in edges.iter().enumerate() {
         next = append_chain(*edge, place, stops, next, points)?;
         ends.push(points.len())?;
@@ -70,6 +71,7 @@ fn append_stops<A: Allocator>(
     ensures err { OnErr result (Extends points.old.items points.new.items) }
 {
     let mut next = first;
+    // The points of the stops of this edge before `next` stand there.
     while next < stops.len() && stops[next].place == place {
         points.push(point_of(edge, stops[next]))?;
         next += 1;

@@ -1,23 +1,24 @@
-//! Which edges come close to each other: pairs that may have stops on one another.
+//! Which edges come close to each other, and which points they pass: what the sweep for pairs asks of edges.
 
 ghost use Rattle.std.specs.Bool.{OnTrue};
 ghost use Rattle.std.specs.Prelude.{◌≡◌, ◌⊎◌, ◌<◌, true, All, IfErr, IfOk, IsTrue, MatchBool, length, map};
 ghost use Rattle.i_tree.specs.declared.Refusal.TheVariants.{OutOfMemory};
 ghost use Rattle.plane.specs.Meet.Boxes.{bounds_of};
-ghost use Rattle.plane.specs.Pairs.Pairs.{ArePairs};
-ghost use Rattle.noding.specs.Close.{ComeClose, HaveOnePoint, HoldsEnd, PassesEnd, ShareEnd, item_of};
+ghost use Rattle.plane.specs.Pairs.Pairs.{ArePairs, ArePairsBetween};
+ghost use Rattle.noding.specs.Close.{ComeClose, HaveOnePoint, HoldsEnd, PassesEnd, PassesPoint, ShareEnd, item_of};
 
-use crate::edges::margin_of;
 use crate::passing::{is_end, is_in_box, may_pass_inside, passes_inside};
 use i_tree::Refusal;
-use plane::edge::Edge;
+use plane::edge::{Edge, margin_of};
 use plane::meet::meet;
 use plane::pairs::items::{Bounds, Boxed, Meets};
-use plane::pairs::pairs_among;
-use plane::ways::{cross_product, way_along};
+use plane::pairs::{pairs_among, pairs_with_points};
+use plane::point::Point;
+use plane::vectors::{cross_product, vector_along};
 use std::alloc::{AllocError, Allocator};
 
-/// An edge as an item that meets those that come close to it. Of edges by themselves the sweep asks which share a point.
+/// An edge as an item that meets those that come close to it, and the points that it passes between its ends. Of edges by
+/// themselves the sweep asks which share a point.
 #[derive(Clone, Copy)]
 pub struct CloseEdge {
     pub edge: Edge,
@@ -39,6 +40,14 @@ impl Meets<CloseEdge> for CloseEdge {
     }
 }
 
+impl Meets<Point> for CloseEdge {
+    ghost Meeting = { λ it point. PassesPoint it.edge point };
+
+    fn meets(self, other: Point) -> bool {
+        passes_inside(self.edge, other.x, other.y)
+    }
+}
+
 /// The pairs of places `(i, j)` of edges that come close, i below j, each once.
 pub fn close_pairs<A: Allocator + Copy>(
     alloc: A,
@@ -51,6 +60,22 @@ pub fn close_pairs<A: Allocator + Copy>(
     let items = items_of(alloc, edges)?;
     let mut pairs = Vec::new(alloc);
     pairs_among(&items, &mut pairs)?;
+    Ok(pairs)
+}
+
+/// The pairs of places `(i, j)` where the edge at i passes the point at j between its ends, each once.
+pub fn pairs_passed<A: Allocator + Copy>(
+    alloc: A,
+    edges: &[Edge],
+    points: &[Point],
+) -> Result<Vec<(usize, usize), A>, Refusal>
+    ensures ok { IfOk result (λ pairs. ArePairsBetween PassesPoint edges.now points.now pairs.items) }
+    ensures within { IfOk result (λ pairs. All (λ pair. (pair.0 < length edges.now) × (pair.1 < length points.now)) pairs.items) }
+    ensures refused { IfErr result (λ cause. cause ≡ OutOfMemory) }
+{
+    let items = items_of(alloc, edges)?;
+    let mut pairs = Vec::new(alloc);
+    pairs_with_points(&items, points, &mut pairs)?;
     Ok(pairs)
 }
 
@@ -95,7 +120,7 @@ fn part_widely(one: Edge, other: Edge) -> bool
     requires { ShareEnd one other }
     ensures { result ≡ true → ¬ (PassesEnd one other ⊎ PassesEnd other one) }
 {
-    let apart = cross_product(way_along(one), way_along(other));
+    let apart = cross_product(vector_along(one), vector_along(other));
     let most = margin_of(one) + margin_of(other);
     (most < apart + apart) | (apart + apart + most < 0)
 }

@@ -10,15 +10,15 @@ ghost use Rattle.noding.specs.Rounding.{RoundsOn};
 
 use plane::edge::Edge;
 use plane::point::Point;
-use plane::ways::{cross_product, way_along, way_between};
+use plane::vectors::{cross_product, vector_along, vector_between_starts};
 
 /// What the common point of two edges that aren't parallel rounds to, if they meet.
 pub fn crossing(one: Edge, other: Edge) -> Option<Point>
     ensures { MatchOption result (¬ (AreNotParallel one other × Meet one other)) (λ c. CrossAt one other c.x c.y) }
 {
-    let one_way = way_along(one);
-    let other_way = way_along(other);
-    let between = way_between(one, other);
+    let one_way = vector_along(one);
+    let other_way = vector_along(other);
+    let between = vector_between_starts(one, other);
     let whole = cross_product(one_way, other_way);
     let first = cross_product(between, other_way);
     let second = cross_product(between, one_way);

@@ -9,7 +9,8 @@ ghost use Rattle.std.specs.List.{flat_map};
 ghost use Rattle.i_tree.specs.declared.Refusal.TheVariants.{OutOfMemory};
 ghost use Rattle.plane.specs.declared.point.Point.{Point};
 ghost use Rattle.noding.specs.Chains.{AreChains};
-ghost use Rattle.noding.specs.Offsets.{offsets, Extends};
+ghost use Rattle.plane.specs.Lists.{Extends};
+ghost use Rattle.noding.specs.Offsets.{offsets};
 
 use chains::append_chains;
 use i_tree::Refusal;
@@ -22,7 +23,6 @@ mod chains;
 mod close;
 mod crossing;
 mod crossings;
-pub mod edges;
 mod passing;
 pub mod pieces;
 pub mod stops;

@@ -5,8 +5,7 @@ ghost use Rattle.noding.specs.Chains.{IsEnd, Passes};
 ghost use Rattle.noding.specs.Close.{InBox, PassesInside};
 ghost use Rattle.noding.specs.Tests.{IsPassed};
 
-use crate::edges::{height_over, margin_of, reverse};
-use plane::edge::Edge;
+use plane::edge::{Edge, height_over, margin_of, reverse};
 use plane::pairs::items::Boxed;
 use plane::point::Point;
 
@@ -83,18 +82,30 @@ fn passes_rightwards(edge: Edge, x: i32, y: i32) -> bool
     if !is_between(edge.x0, edge.x1, x) {
         return false;
     }
-    let width = way(edge.x0, edge.x1);
-    let right = way(edge.x0, x);
+    let width = distance(edge.x0, edge.x1);
+    let right = distance(edge.x0, x);
     if edge.y0 <= edge.y1 {
         if !is_between(edge.y0, edge.y1, y) {
             return false;
         }
-        return is_passed(true, width, way(edge.y0, edge.y1), right, way(edge.y0, y));
+        return is_passed(
+            true,
+            width,
+            distance(edge.y0, edge.y1),
+            right,
+            distance(edge.y0, y),
+        );
     }
     if !is_between(edge.y1, edge.y0, y) {
         return false;
     }
-    is_passed(false, width, way(edge.y1, edge.y0), right, way(y, edge.y0))
+    is_passed(
+        false,
+        width,
+        distance(edge.y1, edge.y0),
+        right,
+        distance(y, edge.y0),
+    )
 }
 
 fn is_between(from: i32, to: i32, z: i32) -> bool
@@ -104,7 +115,7 @@ fn is_between(from: i32, to: i32, z: i32) -> bool
 }
 
 /// How far it is from the one to the other.
-fn way(from: i32, to: i32) -> u32
+fn distance(from: i32, to: i32) -> u32
     requires { from ≤ℤ to }
     ensures { pos result ≡ to -ℤ from }
 {

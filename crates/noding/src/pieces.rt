@@ -6,8 +6,7 @@ ghost use Rattle.plane.specs.declared.point.Point.{Point};
 ghost use Rattle.noding.specs.Offsets.{AreJoined};
 ghost use Rattle.noding.specs.Windings.{pieces};
 
-use crate::edges::edge_between;
-use plane::edge::Edge;
+use plane::edge::{Edge, edge_between};
 use plane::point::Point;
 use std::alloc::{AllocError, Allocator};
 
@@ -27,6 +26,7 @@ pub fn pieces_of<A: Allocator>(
     // A chain has one piece less than points.
     let mut edges = Vec::with_capacity(alloc, points.len().saturating_sub(ends.len()))?;
     let mut start = 0;
+    // The pieces of the chains so far stand there, and this chain begins at `start`.
     for end in ends {
         push_pieces(chain_at(points, start, *end), &mut edges)?;
         start = *end;
@@ -46,6 +46,7 @@ fn chain_at(points: &[Point], start: usize, end: usize) -> &[Point]
 fn push_pieces<A: Allocator>(chain: &[Point], edges: &mut Vec<Edge, A>) -> Result<(), AllocError>
     ensures { OnOk result (edges.new.items ≡ edges.old.items ++ pieces chain.now) }
 {
+    // The pieces up to this pair of points stand there.
     for pair in chain.windows(2) {
         edges.push(edge_between(pair[0], pair[1]))?;
     }

@@ -5,16 +5,14 @@ ghost use Rattle.i_tree.specs.declared.Refusal.TheVariants.{OutOfMemory};
 ghost use Rattle.plane.specs.Pairs.Pairs.{ArePairs};
 ghost use Rattle.noding.specs.Close.{ComeClose};
 ghost use Rattle.noding.specs.Gains.{GainsThese, IsOfSome};
-ghost use Rattle.noding.specs.Stops.{AreStops, IsStopAlong, IsStopAmong, IsStopAt, IsStopAtEnd, IsStopCrossed, IsStopOfBoth, IsStopOfCrossing, IsStopOfPair, point_of, stop_of, turned};
+ghost use Rattle.noding.specs.Stops.{AreStops, IsStopAlong, IsStopAmong, IsStopAt, IsStopAtEnd, IsStopCrossed, IsStopOfBoth, IsStopOfCrossing, IsStopOfPair, point_of, stop_of, reflected};
 
-use crate::close::close_pairs;
-use crate::crossings::{HotPoint, crossing_inside, crossings};
-use crate::edges::run_along_axes;
+use crate::close::{close_pairs, pairs_passed};
+use crate::crossings::{crossing_inside, crossings};
 use crate::passing::passes_inside;
 use event_queue::buckets::sort_in_buckets;
 use i_tree::Refusal;
-use plane::edge::Edge;
-use plane::pairs::pairs_with_points;
+use plane::edge::{Edge, run_along_axes};
 use plane::point::Point;
 use std::alloc::{AllocError, Allocator};
 use std::cmp::Ordering;
@@ -163,7 +161,7 @@ fn push_stops_of_both<A: Allocator>(
 // Appends the stops of all edges at these points.
 fn push_stops_at_points<A: Allocator + Copy>(
     edges: &[Edge],
-    points: &[HotPoint],
+    points: &[Point],
     stops: &mut Vec<Stop, A>,
 ) -> Result<(), Refusal>
     ensures ok { OnOk result (GainsThese (IsStopAmong edges.now points.now) stops.old.items stops.new.items) }
@@ -172,8 +170,7 @@ fn push_stops_at_points<A: Allocator + Copy>(
     if points.is_empty() {
         return Ok(());
     }
-    let mut passes = Vec::new(*stops.allocator());
-    pairs_with_points(edges, points, &mut passes)?;
+    let passes = pairs_passed(*stops.allocator(), edges, points)?;
     push_stops(edges, points, &passes, stops)?;
     Ok(())
 }
@@ -181,7 +178,7 @@ fn push_stops_at_points<A: Allocator + Copy>(
 // Appends the stop of each pair of an edge and a point.
 fn push_stops<A: Allocator>(
     edges: &[Edge],
-    points: &[HotPoint],
+    points: &[Point],
     passes: &[(usize, usize)],
     stops: &mut Vec<Stop, A>,
 ) -> Result<(), AllocError>
@@ -201,8 +198,8 @@ fn stop_of(place: usize, edge: Edge, x: i32, y: i32) -> Stop
 {
     Stop {
         place,
-        along_x: turned(edge.x0, edge.x1, x),
-        along_y: turned(edge.y0, edge.y1, y),
+        along_x: reflected(edge.x0, edge.x1, x),
+        along_y: reflected(edge.y0, edge.y1, y),
     }
 }
 
@@ -211,14 +208,14 @@ pub fn point_of(edge: Edge, stop: Stop) -> Point
     ensures { result ≡ point_of edge stop }
 {
     Point {
-        x: turned(edge.x0, edge.x1, stop.along_x),
-        y: turned(edge.y0, edge.y1, stop.along_y),
+        x: reflected(edge.x0, edge.x1, stop.along_x),
+        y: reflected(edge.y0, edge.y1, stop.along_y),
     }
 }
 
 // The number, or where the way goes down its reflection: so that numbers rise along the way.
-fn turned(from: i32, to: i32, number: i32) -> i32
-    ensures { result ≡ turned from to number }
+fn reflected(from: i32, to: i32, number: i32) -> i32
+    ensures { result ≡ reflected from to number }
 {
     if to < from { -1 - number } else { number }
 }

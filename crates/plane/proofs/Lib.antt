@@ -1,4 +1,5 @@
 pub mod LocateLemmas
 pub mod MeetLemmas
 pub mod PairsLemmas
+pub mod PointLemmas
 pub mod SweepLineLemmas

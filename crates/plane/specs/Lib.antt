@@ -1,4 +1,6 @@
 pub mod Ends
+pub mod Lines
+pub mod Lists
 pub mod Locate
 pub mod Meet
 pub mod Pairs

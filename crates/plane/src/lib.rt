@@ -10,4 +10,4 @@ pub mod meet;
 pub mod pairs;
 pub mod point;
 pub mod sweep_line;
-pub mod ways;
+pub mod vectors;

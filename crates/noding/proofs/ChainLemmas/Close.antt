@@ -8,12 +8,13 @@ use Rattle.std.proofs.lemmas.Int.{clamps, ints}
 use Rattle.std.proofs.lemmas.List.Elements.{Contains-get_or}
 use Rattle.std.proofs.lemmas.Option.{same_Some, slice_get-map, slice_get_within}
 use Rattle.plane.specs.declared.edge.Edge.{Edge}
+use Rattle.plane.specs.declared.point.Point.{Point}
 use Rattle.plane.specs.Meet.Boxes.{bounds_of}
 use Rattle.plane.specs.Pairs.Bounds.{BoundsMeet, MeetInBoxes}
-use Rattle.plane.specs.Pairs.Pairs.{ArePairs, PairAt}
+use Rattle.plane.specs.Pairs.Pairs.{ArePairs, ArePairsBetween, PairAt}
 use Rattle.plane.proofs.MeetLemmas.Boxes.{meet-in_boxes, meet_comm}
 use Rattle.noding.specs.Chains.{IsEnd}
-use Rattle.noding.specs.Close.{ComeClose, HoldsEnd, MeetApart, PassesEnd, PassesInside, ShareEnd, item_of}
+use Rattle.noding.specs.Close.{ComeClose, HoldsEnd, MeetApart, PassesEnd, PassesInside, PassesPoint, ShareEnd, item_of}
 use Rattle.noding.specs.declared.close.CloseEdge.{CloseEdge}
 use Rattle.noding.proofs.SnapLemmas.Along.{Passes-in_box}
 
@@ -100,6 +101,23 @@ ArePairs-of_items edges pairs are = record {
       second = item_at edges j pair.other pair.second;
       meet = pair.meet;
     }
+
+-- so are pairs of an item and a point
+pub ArePassed-of_items : (edges : List Edge) (points : List Point) (pairs : List (ℕ × ℕ)) → ArePairsBetween (λ (it : CloseEdge) (point : Point). PassesPoint it.edge point) (map item_of edges) points pairs
+    → ArePairsBetween PassesPoint edges points pairs
+ArePassed-of_items edges points pairs are = record {
+  once = are.once;
+  exact = λ i j. (
+    λ held. (let pair = (are.exact i j).0 held in record { one = pair.one.edge; other = pair.other; first = edge_at edges i pair.one pair.first; second = pair.second; meet = pair.meet }),
+    λ pair. (are.exact i j).1 (record { one = item_of pair.one; other = pair.other; first = item_at edges i pair.one pair.first; second = pair.second; meet = pair.meet }),
+  );
+}
+
+pub ArePassed-within : (edges : List Edge) (points : List Point) (pairs : List (ℕ × ℕ)) → ArePairsBetween PassesPoint edges points pairs → All (λ pair. (pair.0 < length edges) × (pair.1 < length points)) pairs
+ArePassed-within edges points pairs are k d within =
+    let pair = get_or pairs k d in
+    let is = (are.exact pair.0 pair.1).0 (Contains-get_or pairs k d within) in
+    (slice_get_within edges pair.0 is.one is.first, slice_get_within points pair.1 is.other is.second)
 
 -- and their places are places of edges
 pub ArePairs-within : (edges : List Edge) (pairs : List (ℕ × ℕ)) → ArePairs ComeClose edges pairs → All (λ pair. (pair.0 < length edges) × (pair.1 < length edges)) pairs

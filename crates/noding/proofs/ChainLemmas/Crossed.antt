@@ -11,8 +11,8 @@ use Rattle.noding.specs.Close.{ComeClose, PassesInside}
 use Rattle.noding.specs.Crossings.{AreCrossings, CrossInside, IsCrossingOf}
 use Rattle.noding.specs.Gains.{GainsThese, IsOfSome}
 use Rattle.noding.specs.Stops.{IsStopAmong, IsStopCrossed, IsStopOfBoth, IsStopOfCrossing, stop_of}
-use Rattle.noding.specs.Windings.{IsAlongAxis}
-use Rattle.noding.specs.declared.crossings.HotPoint.{HotPoint}
+use Rattle.plane.specs.Lines.{IsAlongAxis}
+use Rattle.plane.specs.declared.point.Point.{Point}
 use Rattle.noding.specs.declared.stops.Stop.{Stop}
 use Rattle.noding.proofs.ChainLemmas.Crossings.{CrossInside-exchanged, CrossInside-unique, crossing-pair}
 use Rattle.noding.proofs.ChainLemmas.Gains.{gains-join, gains-none, gains-one, gains-same, held-at}
@@ -20,32 +20,32 @@ use Rattle.noding.proofs.SnapLemmas.Crossing.{CrossAt-itself}
 use Rattle.noding.proofs.SnapLemmas.Axes.{CrossAt-axes}
 
 -- stops at all crossings
-pub gains-at_crossings : (edges : List Edge) (pairs : List (ℕ × ℕ)) (points : List HotPoint) (before after : List Stop) → AreCrossings edges pairs points → GainsThese (IsStopAmong edges points) before after → GainsThese (IsStopCrossed edges pairs) before after
+pub gains-at_crossings : (edges : List Edge) (pairs : List (ℕ × ℕ)) (points : List Point) (before after : List Stop) → AreCrossings edges pairs points → GainsThese (IsStopAmong edges points) before after → GainsThese (IsStopCrossed edges pairs) before after
 gains-at_crossings edges pairs points before after crossings =
     gains-same (IsStopAmong edges points) (IsStopCrossed edges pairs) before after
     (λ stop at. record { place = at.place; edge = at.edge; point = at.point; stands = at.stands; crossed = (crossings at.point).0 at.held; along = at.along })
     (λ stop at. record { place = at.place; edge = at.edge; point = at.point; stands = at.stands; held = (crossings at.point).1 at.crossed; along = at.along })
 
 -- two edges that cross pass the crossing
-passes-first : (one other : Edge) (point : HotPoint) → CrossInside one other point → PassesInside one point.x point.y
+passes-first : (one other : Edge) (point : Point) → CrossInside one other point → PassesInside one point.x point.y
 passes-first one other point ((slanted, (at, of_one, of_other, rounds)), none) = ((at, of_one, rounds), λ end. none (inl end))
 
-passes-second : (one other : Edge) (point : HotPoint) → CrossInside one other point → PassesInside other point.x point.y
+passes-second : (one other : Edge) (point : Point) → CrossInside one other point → PassesInside other point.x point.y
 passes-second one other point ((slanted, (at, of_one, of_other, rounds)), none) = ((at, of_other, rounds), λ end. none (inr end))
 
 -- the stops of both
-pub gains-both : (place : ℕ) (one : Edge) (other_place : ℕ) (other : Edge) (point : HotPoint) (before now after : List Stop) → CrossInside one other point
+pub gains-both : (place : ℕ) (one : Edge) (other_place : ℕ) (other : Edge) (point : Point) (before now after : List Stop) → CrossInside one other point
     → now ≡ before ++ stop_of place one point.x point.y ∷ [] → after ≡ now ++ stop_of other_place other point.x point.y ∷ [] → GainsThese (IsStopOfBoth place one other_place other) before after
 gains-both place one other_place other point before now after cross first second =
     gains-same (λ stop. (stop ≡ stop_of place one point.x point.y) ⊎ (stop ≡ stop_of other_place other point.x point.y)) (IsStopOfBoth place one other_place other) before after
     (λ stop is. (point, cross, is))
-    (λ stop (found, there, is). subst (λ (p : HotPoint). (stop ≡ stop_of place one p.x p.y) ⊎ (stop ≡ stop_of other_place other p.x p.y)) (CrossInside-unique one other found point there cross) is)
+    (λ stop (found, there, is). subst (λ (p : Point). (stop ≡ stop_of place one p.x p.y) ⊎ (stop ≡ stop_of other_place other p.x p.y)) (CrossInside-unique one other found point there cross) is)
     (gains-join (λ stop. stop ≡ stop_of place one point.x point.y) (λ stop. stop ≡ stop_of other_place other point.x point.y) before now after
     (subst (λ (items : List Stop). GainsThese (λ stop. stop ≡ stop_of place one point.x point.y) before items) (sym first) (gains-one before (stop_of place one point.x point.y)))
     (subst (λ (items : List Stop). GainsThese (λ stop. stop ≡ stop_of other_place other point.x point.y) now items) (sym second) (gains-one now (stop_of other_place other point.x point.y))))
 
 -- edges that don't cross have none
-pub gains-neither : (place : ℕ) (one : Edge) (other_place : ℕ) (other : Edge) (before : List Stop) → ((point : HotPoint) → ¬ (CrossInside one other point)) → GainsThese (IsStopOfBoth place one other_place other) before before
+pub gains-neither : (place : ℕ) (one : Edge) (other_place : ℕ) (other : Edge) (before : List Stop) → ((point : Point) → ¬ (CrossInside one other point)) → GainsThese (IsStopOfBoth place one other_place other) before before
 gains-neither place one other_place other before none = gains-none (IsStopOfBoth place one other_place other) before (λ stop (point, cross, is). none point cross)
 
 -- the same of the edges at a pair
@@ -70,7 +70,7 @@ module _ (edges : List Edge) (pairs : List (ℕ × ℕ)) (close : ArePairs ComeC
       ]
 
   -- the stop of an edge that crosses another one
-  told-of : (place i : ℕ) (edge other : Edge) (point : HotPoint) → slice_get edges place ≡ Some edge → slice_get edges i ≡ Some other → CrossInside edge other point → IsOfSome (IsStopOfCrossing edges) pairs (stop_of place edge point.x point.y)
+  told-of : (place i : ℕ) (edge other : Edge) (point : Point) → slice_get edges place ≡ Some edge → slice_get edges i ≡ Some other → CrossInside edge other point → IsOfSome (IsStopOfCrossing edges) pairs (stop_of place edge point.x point.y)
   told-of place i edge other point stands second cross =
       elim (cases_lt place i) [
         | inl below ↦ (

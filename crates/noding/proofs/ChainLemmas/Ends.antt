@@ -13,7 +13,7 @@ use Rattle.plane.specs.declared.point.Point.{Point}
 use Rattle.noding.specs.Chains.{IsChain, IsEnd, IsHot, Passes, Upto}
 use Rattle.noding.specs.Close.{PassesInside}
 use Rattle.noding.specs.Stops.{GoesToEnd}
-use Rattle.noding.specs.Windings.{end_of, start_of}
+use Rattle.plane.specs.Ends.{end_of, start_of}
 use Rattle.noding.proofs.SnapLemmas.Along.{Passes-end, Passes-start, Upto-from_start, Upto-to_end, point_at}
 
 -- what an edge passes is inside it where it is none of its ends

@@ -1,10 +1,11 @@
 -- Lists that gain items, also one by one for each item of another list, and that are sorted then.
-use Rattle.std.proofs.Common.{◌≡◌, ◌⊎◌, ◌↔◌, inl, inr, ℕ, Bool, true, List, [], ◌∷◌, ◌++◌, Some, Ordering, sym, ap, ◌∙◌, subst, ⊎_elim, arith}
+use Rattle.std.proofs.Common.{◌≡◌, ◌⊎◌, ◌↔◌, inl, inr, ℕ, ◌<◌, ◌≤◌, ◌+◌, Bool, true, List, [], ◌∷◌, ◌++◌, Some, Ordering, get_or, length, take, sym, ap, ◌∙◌, subst, ⊎_elim, arith}
 use Rattle.std.specs.Cmp.{IsEquivalence, IsTotalOrder}
-use Rattle.std.specs.List.{Contains, dedup, slice_get}
+use Rattle.std.specs.List.{All, Contains, dedup, slice_get}
 use Rattle.std.specs.List.Sorted.{IsPermutation}
 use Rattle.std.specs.Ordering.{eq_by_cmp}
 use Rattle.std.proofs.lemmas.Cmp.{eq_by_cmp_equiv}
+use Rattle.std.proofs.lemmas.List.{take_all, take_more}
 use Rattle.std.proofs.lemmas.List.Elements.{Contains-append_left, Contains-push, Contains-push_cases}
 use Rattle.std.proofs.lemmas.List.Kept.{Contains-dedup, Contains-from_dedup}
 use Rattle.std.proofs.lemmas.List.Sorted.{Contains-permutation, IsPermutation-sym}
@@ -77,6 +78,30 @@ module _ {X Y : Type 0} (Is : X → Y → Type 0) where
 
       from : (y : Y) → IsOfSome Is (items ++ last ∷ []) y → IsOfSome Is items y ⊎ Is last y
       from y (x, held, is) = ⊎_elim (λ earlier. inl (x, earlier, is)) (λ same. inr (subst (λ (x : X). Is x y) (sym same) is)) (Contains-push_cases items last x held)
+
+-- ---- a loop over pairs of places, each of one of the items and one of the others
+
+module _ {X Y Z : Type 0} (Is : ℕ × ℕ → Z → Type 0) (items : List X) (others : List Y) (pairs : List (ℕ × ℕ)) (before : List Z) where
+  -- it has gained what the pairs so far have
+  abbrev pub GainsUpto : ℕ → List Z → Type 0
+  GainsUpto k now = GainsThese (IsOfSome Is (take k pairs)) before now
+
+  pub upto-first : GainsUpto 0 before
+  upto-first = gains-none (IsOfSome Is []) before (none_of Is)
+
+  -- one more pair
+  pub upto-next : All (λ pair. (pair.0 < length items) × (pair.1 < length others)) pairs → (k : ℕ) (d : X) (e : Y) (now after : List Z) → k < length pairs → GainsUpto k now
+      → (slice_get items (get_or pairs k (0, 0)).0 ≡ Some (get_or items (get_or pairs k (0, 0)).0 d) → slice_get others (get_or pairs k (0, 0)).1 ≡ Some (get_or others (get_or pairs k (0, 0)).1 e)
+      → GainsThese (Is (get_or pairs k (0, 0))) now after) → GainsUpto (k + 1) after
+  upto-next within k d e now after more gained next =
+      let pair = get_or pairs k (0, 0) in
+      let inside = within k (0, 0) more in
+      subst (λ (done : List (ℕ × ℕ)). GainsThese (IsOfSome Is done) before after) (sym (take_more pairs k (0, 0) more))
+      (gains-more Is (take k pairs) pair before now after gained (next (slice_get-get_or items pair.0 d inside.0) (slice_get-get_or others pair.1 e inside.1)))
+
+  -- all of them
+  pub upto-all : (k : ℕ) (after : List Z) → length pairs ≤ k → GainsUpto k after → GainsThese (IsOfSome Is pairs) before after
+  upto-all k after all = subst (λ (done : List (ℕ × ℕ)). GainsThese (IsOfSome Is done) before after) (take_all k pairs all)
 
 -- ---- a list that is sorted, and has each item once then
 

@@ -1,4 +1,4 @@
--- The order of stops, and of hot points.
+-- The order of stops.
 use Rattle.std.proofs.Common.{◌≡◌, inl, inr, ℕ, ◌<◌, ℤ, ◌<ℤ◌, true, List, [], ◌∷◌, get_or, Ordering, Less, Equal, Greater, refl, subst, arith}
 use Rattle.std.specs.Bool.{⊤}
 use Rattle.std.specs.List.{AllPairs}
@@ -8,11 +8,8 @@ use Rattle.std.proofs.lemmas.Cmp.{ranked, int_ranked}
 use Rattle.std.proofs.lemmas.List.Kept.{AllPairs-cons}
 use Rattle.std.proofs.lemmas.Map.Keys.{sorted_tail}
 use Rattle.std.proofs.lemmas.Map.Views.{All-after_first}
-use Rattle.noding.specs.Crossings.{hot_at}
 use Rattle.noding.specs.Stops.{IsBefore}
-use Rattle.noding.specs.contracts.crossings.HotPointOrd.TheImpl.{ghosts as hot_order}
 use Rattle.noding.specs.contracts.stops.StopOrd.TheImpl.{ghosts as stop_order}
-use Rattle.noding.specs.declared.crossings.HotPoint.{HotPoint}
 use Rattle.noding.specs.declared.stops.Stop.{Stop}
 
 abbrev stop_at : ℕ → ℤ → ℤ → Stop
@@ -66,17 +63,3 @@ less_far cmp (x ∷ items) sorted = AllPairs-cons (λ a b. cmp a b ≡ Less) x i
 -- stops that are strictly sorted come one before the other
 pub stops-in_order : (stops : List Stop) → IsStrictlySortedBy stop_order.cmp stops → AllPairs IsBefore stops
 stops-in_order stops sorted i j d below within = precedes (get_or stops i d) (get_or stops j d) (less_far stop_order.cmp stops sorted i j d below within)
-
--- hot points that compare Equal are one
-same_y : (x x' y y' : ℤ) (o : Ordering) → x ≡ x' → MatchOrdering o (y <ℤ y') (y ≡ y') (y' <ℤ y) → is_eq o ≡ true → hot_at x y ≡ hot_at x' y'
-same_y x x' y y' Less same said is = cc
-same_y x x' y y' Equal same said is = cc
-same_y x x' y y' Greater same said is = cc
-
-same_x : (x x' y y' : ℤ) (o : Ordering) → MatchOrdering o (x <ℤ x') (x ≡ x') (x' <ℤ x) → is_eq (ordering_then o (int_cmp y y')) ≡ true → hot_at x y ≡ hot_at x' y'
-same_x x x' y y' Less said is = cc
-same_x x x' y y' Equal said is = same_y x x' y y' (int_cmp y y') said (int_ranked y y' (int_cmp y y') refl) is
-same_x x x' y y' Greater said is = cc
-
-pub hot-same : (a b : HotPoint) → eq_by_cmp hot_order.cmp a b ≡ true → a ≡ b
-hot-same a b is = same_x a.x b.x a.y b.y (int_cmp a.x b.x) (int_ranked a.x b.x (int_cmp a.x b.x) refl) is

@@ -8,9 +8,10 @@ use Rattle.plane.specs.declared.edge.Edge.{Edge}
 use Rattle.plane.specs.declared.point.Point.{Point}
 use Rattle.noding.specs.Chains.{IsChain, IsHot, Upto}
 use Rattle.noding.specs.Close.{PassesInside}
-use Rattle.noding.specs.Offsets.{between, offsets, Extends}
+use Rattle.plane.specs.Lists.{Extends}
+use Rattle.plane.specs.Ends.{start_of}
+use Rattle.noding.specs.Offsets.{between, offsets}
 use Rattle.noding.specs.Stops.{AreAt, AreStops, GoesToEnd, IsBefore, IsStop, point_of, stop_of}
-use Rattle.noding.specs.Windings.{start_of}
 use Rattle.noding.specs.declared.stops.Stop.{Stop}
 use Rattle.noding.proofs.ChainLemmas.Ends.{IsChain-ends}
 use Rattle.noding.proofs.ChainLemmas.Gains.{held-at}
@@ -45,10 +46,6 @@ pub made-more : {X Y : Type 0} (f : X → Y) (before : List Y) (start end : ℕ)
 made-more f before start end items d rising inside =
     append_assoc before (map f (between start end items)) (f (get_or items end d) ∷ [])
     ∙ ap (λ rest. before ++ rest) (sym (ap (map f) (between-more start end items d rising inside) ∙ map-append f (between start end items) (get_or items end d ∷ [])))
-
--- a list that begins as one that begins as a third does begins as that one
-pub Extends-trans : {X : Type 0} (before now after : List X) → Extends before now → Extends now after → Extends before after
-Extends-trans before now after (more, is) (last, same) = (more ++ last, same ∙ ap (λ list. list ++ last) is ∙ append_assoc before more last)
 
 -- ---- the stops of one edge
 

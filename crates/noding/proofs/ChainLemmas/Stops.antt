@@ -13,13 +13,12 @@ use Rattle.plane.specs.declared.edge.Edge.{Edge}
 use Rattle.plane.specs.declared.point.Point.{Point}
 use Rattle.plane.specs.Pairs.Pairs.{ArePairs, ArePairsBetween}
 use Rattle.noding.specs.Chains.{IsEnd, IsHot, Passes, Upto, UptoOn}
-use Rattle.noding.specs.Close.{ComeClose, PassesEnd, PassesInside}
-use Rattle.noding.specs.Crossings.{hot_at}
+use Rattle.noding.specs.Close.{ComeClose, PassesEnd, PassesInside, PassesPoint}
+use Rattle.plane.proofs.PointLemmas.{whole_point}
 use Rattle.noding.specs.Gains.{GainsThese, IsOfSome}
-use Rattle.noding.specs.Stops.{AreStops, IsBefore, IsStop, IsStopAlong, IsStopAmong, IsStopAt, IsStopAtEnd, IsStopCrossed, IsStopOfPair, point_of, stop_of, turned}
+use Rattle.noding.specs.Stops.{AreStops, IsBefore, IsStop, IsStopAlong, IsStopAmong, IsStopAt, IsStopAtEnd, IsStopCrossed, IsStopOfPair, point_of, stop_of, reflected}
 use Rattle.noding.specs.contracts.stops.StopOrd.TheImpl.{ghosts as stop_order}
 use Rattle.noding.specs.contracts.stops.StopOrd.TheImpl.Laws.{total-law as stop_total}
-use Rattle.noding.specs.declared.crossings.HotPoint.{HotPoint}
 use Rattle.noding.specs.declared.stops.Stop.{Stop}
 use Rattle.noding.proofs.ChainLemmas.Crossings.{crossing-hot, hot_cases}
 use Rattle.noding.proofs.ChainLemmas.Gains.{Contains-sorted, gains-join, gains-only, gains-same, held-at, place-of}
@@ -28,20 +27,20 @@ use Rattle.noding.proofs.SnapLemmas.Along.{Passes-ordered}
 
 -- ---- along an edge
 
--- turned twice a number is itself
-pub turned-twice : (from to number : ℤ) → turned from to (turned from to number) ≡ number
-turned-twice from to number = go (lt_z to from)
+-- reflected twice a number is itself
+pub reflected-twice : (from to number : ℤ) → reflected from to (reflected from to number) ≡ number
+reflected-twice from to number = go (lt_z to from)
   where
     go : (down : Bool) → cond down ((pos 0 -ℤ pos 1) -ℤ cond down ((pos 0 -ℤ pos 1) -ℤ number) number) (cond down ((pos 0 -ℤ pos 1) -ℤ number) number) ≡ number
     go true = omega (arith, ints)
     go false = refl
 
-turned-same : (from to c d : ℤ) → turned from to c ≡ turned from to d → c ≡ d
-turned-same from to c d same = sym (turned-twice from to c) ∙ ap (turned from to) same ∙ turned-twice from to d
+reflected-same : (from to c d : ℤ) → reflected from to c ≡ reflected from to d → c ≡ d
+reflected-same from to c d same = sym (reflected-twice from to c) ∙ ap (reflected from to) same ∙ reflected-twice from to d
 
--- what isn't behind on the way stays so when both are turned
-turned-upto : (from to c d : ℤ) → UptoOn from to c d → turned from to c ≤ℤ turned from to d
-turned-upto from to c d upto = go (lt_z to from) refl
+-- what isn't behind on the way stays so when both are reflected
+reflected-upto : (from to c d : ℤ) → UptoOn from to c d → reflected from to c ≤ℤ reflected from to d
+reflected-upto from to c d upto = go (lt_z to from) refl
   where
     go : (down : Bool) → lt_z to from ≡ down → cond down ((pos 0 -ℤ pos 1) -ℤ c) c ≤ℤ cond down ((pos 0 -ℤ pos 1) -ℤ d) d
     go true is = let back = upto.falling (omega (arith, ints, is)) in omega (arith, ints, back)
@@ -49,7 +48,7 @@ turned-upto from to c d upto = go (lt_z to from) refl
 
 -- the point of a stop
 pub point-of_stop : (place : ℕ) (edge : Edge) (x y : ℤ) → point_of edge (stop_of place edge x y) ≡ record { x = x; y = y }
-point-of_stop place edge x y = let along_x = turned-twice edge.x0 edge.x1 x in let along_y = turned-twice edge.y0 edge.y1 y in cc
+point-of_stop place edge x y = let along_x = reflected-twice edge.x0 edge.x1 x in let along_y = reflected-twice edge.y0 edge.y1 y in cc
 
 -- of two stops at one edge the point of the one that comes before isn't behind, along the edge
 pub upto-before : (edge : Edge) (one other : Stop) → one.place ≡ other.place → IsBefore one other → Passes edge (point_of edge one).x (point_of edge one).y → Passes edge (point_of edge other).x (point_of edge other).y
@@ -62,17 +61,17 @@ upto-before edge one other same before passes other_passes =
 
     back_x : Upto edge (point_of edge other).x (point_of edge other).y (point_of edge one).x (point_of edge one).y → other.along_x ≤ℤ one.along_x
     back_x upto =
-        let twice = turned-twice edge.x0 edge.x1 one.along_x in
-        let other_twice = turned-twice edge.x0 edge.x1 other.along_x in
-        let turned_upto = turned-upto edge.x0 edge.x1 (point_of edge other).x (point_of edge one).x upto.along_x in
-        subst (λ (a : ℤ). a ≤ℤ one.along_x) other_twice (subst (λ (b : ℤ). turned edge.x0 edge.x1 (point_of edge other).x ≤ℤ b) twice turned_upto)
+        let twice = reflected-twice edge.x0 edge.x1 one.along_x in
+        let other_twice = reflected-twice edge.x0 edge.x1 other.along_x in
+        let reflected_upto = reflected-upto edge.x0 edge.x1 (point_of edge other).x (point_of edge one).x upto.along_x in
+        subst (λ (a : ℤ). a ≤ℤ one.along_x) other_twice (subst (λ (b : ℤ). reflected edge.x0 edge.x1 (point_of edge other).x ≤ℤ b) twice reflected_upto)
 
     back_y : Upto edge (point_of edge other).x (point_of edge other).y (point_of edge one).x (point_of edge one).y → other.along_y ≤ℤ one.along_y
     back_y upto =
-        let twice = turned-twice edge.y0 edge.y1 one.along_y in
-        let other_twice = turned-twice edge.y0 edge.y1 other.along_y in
-        let turned_upto = turned-upto edge.y0 edge.y1 (point_of edge other).y (point_of edge one).y upto.along_y in
-        subst (λ (a : ℤ). a ≤ℤ one.along_y) other_twice (subst (λ (b : ℤ). turned edge.y0 edge.y1 (point_of edge other).y ≤ℤ b) twice turned_upto)
+        let twice = reflected-twice edge.y0 edge.y1 one.along_y in
+        let other_twice = reflected-twice edge.y0 edge.y1 other.along_y in
+        let reflected_upto = reflected-upto edge.y0 edge.y1 (point_of edge other).y (point_of edge one).y upto.along_y in
+        subst (λ (a : ℤ). a ≤ℤ one.along_y) other_twice (subst (λ (b : ℤ). reflected edge.y0 edge.y1 (point_of edge other).y ≤ℤ b) twice reflected_upto)
 
     go : Upto edge (point_of edge one).x (point_of edge one).y (point_of edge other).x (point_of edge other).y ⊎ Upto edge (point_of edge other).x (point_of edge other).y (point_of edge one).x (point_of edge one).y → IsBefore one other
         → Upto edge (point_of edge one).x (point_of edge one).y (point_of edge other).x (point_of edge other).y
@@ -86,10 +85,10 @@ pub differ-before : (edge : Edge) (one other : Stop) → one.place ≡ other.pla
 differ-before edge one other same before is = go before
   where
     along_x : one.along_x ≡ other.along_x
-    along_x = turned-same edge.x0 edge.x1 one.along_x other.along_x (ap (λ (point : Point). point.x) is)
+    along_x = reflected-same edge.x0 edge.x1 one.along_x other.along_x (ap (λ (point : Point). point.x) is)
 
     along_y : one.along_y ≡ other.along_y
-    along_y = turned-same edge.y0 edge.y1 one.along_y other.along_y (ap (λ (point : Point). point.y) is)
+    along_y = reflected-same edge.y0 edge.y1 one.along_y other.along_y (ap (λ (point : Point). point.y) is)
 
     go : ¬ (IsBefore one other)
     go (inl lower) = omega (arith, same, lower)
@@ -170,7 +169,7 @@ module _ (edges : List Edge) (pairs : List (ℕ × ℕ)) (close : ArePairs ComeC
         (λ crossing. inr (record {
           place = place;
           edge = edge;
-          point = hot_at x y;
+          point = whole_point x y;
           stands = stands;
           crossed = crossing;
           along = (passes, refl);
@@ -217,7 +216,7 @@ gains-of_pair edges pair one other before now after first second gains more =
     (gains-join (IsStopAtEnd other pair.0 one) (IsStopAtEnd one pair.1 other) before now after gains more)
 
 -- the stop of a pair of an edge and a point
-pub gains-at : (edges : List Edge) (points : List HotPoint) (pair : ℕ × ℕ) (edge : Edge) (point : HotPoint) (before after : List Stop) → slice_get edges pair.0 ≡ Some edge → slice_get points pair.1 ≡ Some point
+pub gains-at : (edges : List Edge) (points : List Point) (pair : ℕ × ℕ) (edge : Edge) (point : Point) (before after : List Stop) → slice_get edges pair.0 ≡ Some edge → slice_get points pair.1 ≡ Some point
     → after ≡ before ++ stop_of pair.0 edge point.x point.y ∷ [] → GainsThese (IsStopAt edges points pair) before after
 gains-at edges points pair edge point before after first second =
     gains-only (IsStopAt edges points pair) before after (stop_of pair.0 edge point.x point.y)
@@ -225,15 +224,12 @@ gains-at edges points pair edge point before after first second =
     (λ stop is.
     let edge_is : is.edge ≡ edge = same_Some _ _ (sym is.first ∙ first) in
     let point_is : is.point ≡ point = same_Some _ _ (sym is.second ∙ second) in
-    is.is ∙ ap (λ (e : Edge). stop_of pair.0 e is.point.x is.point.y) edge_is ∙ ap (λ (p : HotPoint). stop_of pair.0 edge p.x p.y) point_is)
+    is.is ∙ ap (λ (e : Edge). stop_of pair.0 e is.point.x is.point.y) edge_is ∙ ap (λ (p : Point). stop_of pair.0 edge p.x p.y) point_is)
 
 -- ---- stops at points
 
-pub no_stop_among : (edges : List Edge) (stop : Stop) → ¬ (IsStopAmong edges [] stop)
-no_stop_among edges stop is = let (k, within, at) = is.held in absurd (omega (arith, within))
-
 -- the stops of the pairs of an edge and a point that it passes are the stops at these points
-pub gains-among : (edges : List Edge) (points : List HotPoint) (passes : List (ℕ × ℕ)) (before after : List Stop) → ArePairsBetween (λ (edge : Edge) (point : HotPoint). PassesInside edge point.x point.y) edges points passes
+pub gains-among : (edges : List Edge) (points : List Point) (passes : List (ℕ × ℕ)) (before after : List Stop) → ArePairsBetween PassesPoint edges points passes
     → GainsThese (IsOfSome (IsStopAt edges points) passes) before after → GainsThese (IsStopAmong edges points) before after
 gains-among edges points passes before after pairs = gains-same (IsOfSome (IsStopAt edges points) passes) (IsStopAmong edges points) before after to from
   where
@@ -243,7 +239,7 @@ gains-among edges points passes before after pairs = gains-same (IsOfSome (IsSto
         let edge_is : between.one ≡ is.edge = same_Some _ _ (sym between.first ∙ is.first) in
         let point_is : between.other ≡ is.point = same_Some _ _ (sym between.second ∙ is.second) in
         let passed : PassesInside is.edge is.point.x is.point.y =
-        subst (λ (e : Edge). PassesInside e is.point.x is.point.y) edge_is (subst (λ (p : HotPoint). PassesInside between.one p.x p.y) point_is between.meet) in
+        subst (λ (e : Edge). PassesInside e is.point.x is.point.y) edge_is (subst (λ (p : Point). PassesInside between.one p.x p.y) point_is between.meet) in
         record {
           place = i;
           edge = is.edge;

@@ -7,7 +7,7 @@ use Rattle.plane.specs.Meet.Crosses.{cross}
 use Rattle.plane.specs.Meet.Edges.{IsOf}
 use Rattle.noding.specs.Chains.{AreNotParallel, CrossAt, Passes}
 use Rattle.noding.specs.Close.{PassesInside}
-use Rattle.noding.specs.Windings.{IsAlongAxis}
+use Rattle.plane.specs.Lines.{IsAlongAxis}
 use Rattle.noding.proofs.SnapLemmas.Along.{Passes-in_box}
 use Rattle.noding.proofs.SnapLemmas.Crossing.{CrossAt-exchanged}
 use Rattle.noding.proofs.SnapLemmas.Exact.{passes_level}

@@ -9,7 +9,9 @@ use Rattle.plane.specs.Meet.Crosses.{cross}
 use Rattle.noding.specs.Chains.{IsEnd, Passes}
 use Rattle.noding.specs.Close.{PassesEnd, ShareEnd}
 use Rattle.noding.specs.Near.{IsNear}
-use Rattle.noding.specs.Windings.{edge_between, end_of, further, height_over, margin_of, start_of}
+use Rattle.plane.specs.Ends.{edge_between, end_of, start_of}
+use Rattle.plane.specs.Lines.{height_over, margin_of}
+use Rattle.noding.specs.Windings.{further}
 use Rattle.noding.proofs.SnapLemmas.Along.{from_at}
 use Rattle.noding.proofs.SnapLemmas.Near.{IsNear-piece}
 use Rattle.noding.proofs.SnapLemmas.Numbers.{abs-negative, n_of}

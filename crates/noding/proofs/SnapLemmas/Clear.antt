@@ -6,7 +6,8 @@ use Rattle.plane.specs.declared.point.Point.{Point}
 use Rattle.plane.specs.Meet.Edges.{RationalPoint}
 use Rattle.noding.specs.Chains.{Passes}
 use Rattle.noding.specs.Near.{IsNear}
-use Rattle.noding.specs.Windings.{edge_between, pieces, reversed, winding, count}
+use Rattle.plane.specs.Ends.{edge_between, reversed}
+use Rattle.noding.specs.Windings.{pieces, winding, count}
 use Rattle.noding.proofs.SnapLemmas.Counted.{added, is_low, under}
 use Rattle.noding.proofs.SnapLemmas.Heights.{Covering, same_side}
 use Rattle.noding.proofs.SnapLemmas.Numbers.{both_zero}

@@ -7,7 +7,8 @@ use Rattle.plane.specs.Meet.Crosses.{cross}
 use Rattle.plane.specs.Meet.Edges.{RationalPoint}
 use Rattle.plane.specs.SweepLine.Heights.{run}
 use Rattle.plane.proofs.MeetLemmas.Identities.{identity, minus, number, plus, times}
-use Rattle.noding.specs.Windings.{reversed, count}
+use Rattle.plane.specs.Ends.{reversed}
+use Rattle.noding.specs.Windings.{count}
 use Rattle.noding.proofs.SnapLemmas.Numbers.{n_of, same_test}
 
 -- the edge's height at the point's x, times its run and the point's n: its ends' heights, each by how far it is from the other end

@@ -8,7 +8,9 @@ use Rattle.plane.specs.Meet.Edges.{RationalPoint}
 use Rattle.plane.specs.SweepLine.Heights.{run}
 use Rattle.noding.specs.Chains.{Passes}
 use Rattle.noding.specs.Rounding.{RoundsOn}
-use Rattle.noding.specs.Windings.{IsAlongAxis, pieces, reversed, winding}
+use Rattle.plane.specs.Lines.{IsAlongAxis}
+use Rattle.plane.specs.Ends.{reversed}
+use Rattle.noding.specs.Windings.{pieces, winding}
 use Rattle.noding.proofs.SnapLemmas.Clear.{Agrees, chain-agrees}
 use Rattle.noding.proofs.SnapLemmas.Counted.{is_low}
 use Rattle.noding.proofs.SnapLemmas.Heights.{Covering, onwards}

@@ -10,7 +10,8 @@ use Rattle.plane.specs.Meet.Edges.{IsOf, RationalPoint}
 use Rattle.plane.proofs.MeetLemmas.Identities.{Term, at_most, at_most_of, identity, minus, number, plus, same_of, scaled, times, unscaled}
 use Rattle.plane.proofs.SweepLineLemmas.Gaps.{product_above}
 use Rattle.noding.specs.Near.{IsNear, WithinHalf}
-use Rattle.noding.specs.Windings.{end_of, further, start_of}
+use Rattle.plane.specs.Ends.{end_of, start_of}
+use Rattle.noding.specs.Windings.{further}
 use Rattle.noding.proofs.SnapLemmas.Numbers.{n_of}
 use Rattle.noding.proofs.SnapLemmas.Rounding.{whole}
 
@@ -53,16 +54,6 @@ mean_upto b a u v x0 y0 x1 y1 most first second =
     let one = mul-le-mul_left b (at_most_of (twice (number u) (number v) (number x0) (number y0)) (times (n_of 1) (number most)) first) in
     let other = mul-le-mul_left a (at_most_of (twice (number u) (number v) (number x1) (number y1)) (times (n_of 1) (number most)) second) in
     at_most (twice (number u) (number v) (share b a x0 x1) (share b a y0 y1)) (times (n_of (b + a)) (number most)) (omega (arith, one, other))
-
--- in one column, on the side to which v points
-column_upto : (n m : ℕ) (u v x y other_x other_y most : ℤ) → 0 < m → (pos m *ℤ x) ≡ (pos n *ℤ other_x) → pos 0 ≤ℤ (v *ℤ ((pos n *ℤ other_y) -ℤ (pos m *ℤ y))) → (pos 2 *ℤ ((u *ℤ other_x) +ℤ (v *ℤ other_y))) ≤ℤ (pos m *ℤ most)
-    → (pos 2 *ℤ ((u *ℤ x) +ℤ (v *ℤ y))) ≤ℤ (pos n *ℤ most)
-column_upto n m u v x y other_x other_y most some level above upto =
-    let side = at_most_of (n_of 0) (times (number v) (minus (times (n_of n) (number other_y)) (times (n_of m) (number y)))) above in
-    let same = same_of (times (number u) (times (n_of m) (number x))) (times (number u) (times (n_of n) (number other_x))) (ap (λ (z : ℤ). u *ℤ z) level) in
-    let there = mul-le-mul_left n (at_most_of (twice (number u) (number v) (number other_x) (number other_y)) (times (n_of m) (number most)) upto) in
-    unscaled m (pos 2 *ℤ ((u *ℤ x) +ℤ (v *ℤ y))) (pos n *ℤ most) some
-    (at_most (times (n_of m) (twice (number u) (number v) (number x) (number y))) (times (n_of m) (times (n_of n) (number most))) (omega (arith, side, same, there)))
 
 -- twice how far two numbers are apart, over both denominators
 abbrev between : ℕ → ℕ → ℤ → ℤ → Term
@@ -132,24 +123,6 @@ hull-edge points edge point from to of =
 pub record StandsUnder (low high : RationalPoint) : Type 0 where
   pub x : (pos high.n *ℤ low.x) ≡ (pos low.n *ℤ high.x)
   pub y : (pos high.n *ℤ low.y) ≤ℤ (pos low.n *ℤ high.y)
-
--- what stands between two points of it is in it
-pub within-between : (halves : ℕ) (points : List Point) (low at high : RationalPoint) → IsWithinHull halves points low → IsWithinHull halves points high → StandsUnder low at → StandsUnder at high → IsWithinHull halves points at
-within-between halves points low at high below above under over u v k all =
-    let most = (pos 2 *ℤ k) +ℤ pos (halves * (unsigned_abs u + unsigned_abs v)) in
-    by_lt_z v (pos 0)
-    (λ down. column_upto at.n low.n u v at.x at.y low.x low.y most low.positive (sym under.x) (down_above v at.n low.n low.y at.y down under.y) (below u v k all))
-    (λ up. column_upto at.n high.n u v at.x at.y high.x high.y most high.positive over.x (product_above v ((pos at.n *ℤ high.y) -ℤ (pos high.n *ℤ at.y)) up (let upto = over.y in omega (arith, ints, upto))) (above u v k all))
-  where
-    down_above : (v : ℤ) (n m : ℕ) (low_y y : ℤ) → v <ℤ pos 0 → (pos n *ℤ low_y) ≤ℤ (pos m *ℤ y) → pos 0 ≤ℤ (v *ℤ ((pos n *ℤ low_y) -ℤ (pos m *ℤ y)))
-    down_above v n m low_y y down upto =
-        let some = product_above (pos 0 -ℤ v) ((pos m *ℤ y) -ℤ (pos n *ℤ low_y)) (omega (arith, ints, down)) (omega (arith, ints, upto)) in
-        let same = identity (times (minus (n_of 0) (number v)) (minus (times (n_of m) (number y)) (times (n_of n) (number low_y)))) (times (number v) (minus (times (n_of n) (number low_y)) (times (n_of m) (number y)))) (omega arith) in
-        subst (λ (z : ℤ). pos 0 ≤ℤ z) same some
-
-pub hull-between : (points : List Point) (low at high : RationalPoint) → IsInHull points low → IsInHull points high → StandsUnder low at → StandsUnder at high → IsInHull points at
-hull-between points low at high below above under over =
-    hull-of_within points at (within-between 0 points low at high (within-of_hull points low below) (within-of_hull points high above) under over)
 
 -- what is near an edge of which both ends are is near it
 pub near-hull : (points : List Point) (edge : Edge) (point : RationalPoint) → Contains points (start_of edge) → Contains points (end_of edge) → IsNear edge point → IsNearHull points point

@@ -9,7 +9,8 @@ use Rattle.plane.specs.declared.point.Point.{Point}
 use Rattle.plane.specs.Meet.Edges.{IsOf, RationalPoint}
 use Rattle.noding.specs.Chains.{AreChains, IsChain, IsHot, Passes, Upto, UptoOn}
 use Rattle.noding.specs.Meeting.{MeetAtEnds}
-use Rattle.noding.specs.Windings.{edge_between, end_of, pieces, start_of}
+use Rattle.plane.specs.Ends.{edge_between, end_of, start_of}
+use Rattle.noding.specs.Windings.{pieces}
 use Rattle.noding.proofs.SnapLemmas.Along.{Upto-itself}
 use Rattle.noding.proofs.SnapLemmas.Hobby.Ends.{pieces-meet}
 use Rattle.noding.proofs.SnapLemmas.Along.{point_at}

@@ -6,7 +6,7 @@ use Rattle.plane.specs.declared.edge.Edge.{Edge}
 use Rattle.noding.specs.Chains.{Passes}
 use Rattle.noding.specs.Rounding.{RoundsOn}
 use Rattle.noding.specs.Tests.{Crosses, IsPassed}
-use Rattle.noding.specs.Windings.{reversed}
+use Rattle.plane.specs.Ends.{reversed}
 use Rattle.noding.proofs.SnapLemmas.Along.{Upto-to_end, Upto-from_start}
 use Rattle.noding.proofs.SnapLemmas.Reversed.{Passes-reversed}
 use Rattle.noding.proofs.SnapLemmas.Slanted.{RoundsDown, RoundsUp, Share, along_axis, corner, corner_on, down_rounds, middle, passes_share, rounds_down, rounds_up, up_rounds}

@@ -6,7 +6,8 @@ use Rattle.std.specs.Prelude.{List, [], ◌∷◌, ◌≡◌}
 use Rattle.plane.specs.declared.edge.Edge.{Edge}
 use Rattle.plane.specs.declared.point.Point.{Point}
 use Rattle.noding.specs.Chains.{IsChain, IsHot, Passes, Upto}
-use Rattle.noding.specs.Windings.{end_of, pieces, start_of}
+use Rattle.plane.specs.Ends.{end_of, start_of}
+use Rattle.noding.specs.Windings.{pieces}
 use Rattle.noding.proofs.SnapLemmas.Along.{Upto-to_end, point_at, Passes-start, Passes-end, Upto-from_start, Upto-same}
 
 -- From the first point on the others go along the edge, each one passed by it, to the edge's end.

@@ -5,7 +5,7 @@ use Rattle.plane.specs.Meet.Crosses.{cross}
 use Rattle.plane.specs.Meet.Edges.{IsOf, RationalPoint}
 use Rattle.noding.specs.Chains.{AreNotParallel, IsEnd, Passes}
 use Rattle.noding.specs.Rounding.{RoundsTo}
-use Rattle.noding.specs.Windings.{reversed}
+use Rattle.plane.specs.Ends.{reversed}
 
 -- ---- a piece of a chain over the points that `hot` says
 

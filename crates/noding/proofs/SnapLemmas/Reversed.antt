@@ -4,7 +4,7 @@ use Rattle.plane.specs.declared.edge.Edge.{Edge}
 use Rattle.plane.specs.Meet.Edges.{IsOf, RationalPoint}
 use Rattle.noding.specs.Chains.{Passes}
 use Rattle.noding.specs.Near.{IsNear}
-use Rattle.noding.specs.Windings.{reversed}
+use Rattle.plane.specs.Ends.{reversed}
 use Rattle.noding.proofs.SnapLemmas.Numbers.{n_of}
 use Rattle.noding.proofs.SnapLemmas.Pieces.{left_of}
 use Rattle.plane.proofs.MeetLemmas.Identities.{Term, identity, minus, number, plus, times}

@@ -9,7 +9,8 @@ use Rattle.plane.specs.declared.point.Point.{Point}
 use Rattle.plane.specs.Meet.Edges.{RationalPoint}
 use Rattle.noding.specs.Chains.{IsChain}
 use Rattle.noding.specs.Near.{CountsExactly}
-use Rattle.noding.specs.Windings.{IsClosed, edge_between, end_of, pieces, start_of, winding}
+use Rattle.plane.specs.Ends.{edge_between, end_of, start_of}
+use Rattle.noding.specs.Windings.{IsClosed, pieces, winding}
 use Rattle.noding.proofs.SnapLemmas.Clear.{chain-clear}
 use Rattle.noding.proofs.SnapLemmas.Exact.{chain-exact}
 use Rattle.noding.proofs.SnapLemmas.Numbers.{both}

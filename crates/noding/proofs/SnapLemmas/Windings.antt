@@ -7,7 +7,8 @@ use Rattle.std.specs.List.{count_by}
 use Rattle.std.specs.Prelude.{int_le, int_lt}
 use Rattle.plane.specs.declared.edge.Edge.{Edge}
 use Rattle.plane.specs.Meet.Edges.{RationalPoint}
-use Rattle.noding.specs.Windings.{is_under, reversed, winding, count}
+use Rattle.plane.specs.Ends.{reversed}
+use Rattle.noding.specs.Windings.{is_under, winding, count}
 use Rattle.noding.proofs.SnapLemmas.Counted.{added, counted, covers, is_low, is_low-left, under}
 use Rattle.noding.proofs.SnapLemmas.Heights.{Covering}
 use Rattle.plane.proofs.MeetLemmas.Identities.{scaled}

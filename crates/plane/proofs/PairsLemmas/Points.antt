@@ -109,9 +109,6 @@ module _ (parts : List Part) where
       let above = ends.above at part listed upto in
       record { above = omega (arith, above); behind = λ in_row. absurd (omega (arith, above, in_row)) }
 
-  pub AreStarts-none : AreStarts parts 0 []
-  AreStarts-none = record { each = λ row d within. absurd (omega (arith, within)); all = λ at part listed before. absurd (omega (arith, before)) }
-
   module _ (place : ℕ) (starts : List ℕ) (are : AreStarts parts place starts) (inside : place < length parts) where
     -- one more row up to that of the part at the place begins there
     pub AreStarts-push : AllPairs NotBehind parts → length starts < (get_or parts place nothing).strip + 1 → AreStarts parts place (starts ++ place ∷ [])
@@ -152,14 +149,6 @@ module _ (parts : List Part) where
             subst (λ (one : Part). one.strip < length starts) (get_or_from_slice_get parts at part nothing listed) (subst (λ (k : ℕ). (get_or parts k nothing).strip < length starts) is begun)
       ];
     }
-
-  -- behind the last row there is nothing
-  pub past_all : (starts : List ℕ) (row : ℕ) → AreStarts parts (length parts) starts → length starts ≤ row → IsStart parts row (length parts)
-  past_all starts row are past = record {
-    within = omega arith;
-    below = λ at part listed before. let below = are.all at part listed before in omega (arith, below, past);
-    above = λ at part listed behind. let inside = slice_get_within parts at part listed in absurd (omega (arith, inside, behind));
-  }
 
 -- ---- lists of all pairs of which something holds
 

@@ -1,8 +1,8 @@
--- Cross products of ways, from one point of the plane to another, and their parts.
+-- Cross products of vectors, from one point of the plane to another, and their parts.
 use Rattle.std.specs.Prelude.{ℕ, ℤ, pos, ◌-ℤ◌, ◌*ℤ◌, ◌≤ℤ◌, ◌⊎◌}
 
--- The cross product of two ways, each by how far it goes along x and along y. It is 0 where they are parallel, or where
--- one of them goes nowhere.
+-- The cross product of two vectors, each by how far it goes along x and along y. It is 0 where they are parallel, or where
+-- one of them is 0.
 abbrev pub cross : ℤ → ℤ → ℤ → ℤ → ℤ
 cross x y other_x other_y = (x *ℤ other_y) -ℤ (y *ℤ other_x)
 

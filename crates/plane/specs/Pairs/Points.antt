@@ -1,7 +1,10 @@
 -- What is told of items and points, row by row. For private contracts.
-use Rattle.std.specs.Prelude.{◌≡◌, ◌≢◌, ◌↔◌, ◌⊎◌, ℕ, ◌<◌, ◌≤◌, ℤ, ◌<ℤ◌, ◌≤ℤ◌, Some, List, ◌++◌, AllPairs, Contains, get_or, length, slice_get}
+use Rattle.std.specs.Prelude.{◌≡◌, ◌≢◌, ◌↔◌, ◌⊎◌, ℕ, ◌<◌, ◌≤◌, ℤ, ◌<ℤ◌, ◌≤ℤ◌, Some, List, ◌++◌, All, AllPairs, Contains, get_or, length, slice_get}
+use Rattle.plane.specs.Pairs.Bounds.{IsPoint}
+use Rattle.plane.specs.Pairs.Parts.{AreParts}
 use Rattle.plane.specs.declared.pairs.items.Bounds.{Bounds}
 use Rattle.plane.specs.declared.pairs.parts.Part.{Part}
+use Rattle.plane.specs.declared.pairs.strips.Strips.{Strips}
 
 -- these are the pairs of places of which this holds, each once
 pub record AreAll (IsPair : ℕ → ℕ → Type 0) (pairs : List (ℕ × ℕ)) : Type 0 where
@@ -61,3 +64,11 @@ pub record ArePointsOf {Y : Type 0} (points : List Y) (parts : List Part) (count
 pub record BeginAs {Y : Type 0} (bounds : Y → Bounds) (parts : List Part) (ordered : List Y) : Type 0 where
   pub many : length ordered ≡ length parts
   pub each : (at : ℕ) (part : Part) (point : Y) → slice_get parts at ≡ Some part → slice_get ordered at ≡ Some point → (bounds point).left ≡ part.left
+
+-- these are points in rows, by the parts of the points, by where each row begins among these, and by the points in their order
+pub record AreRows {Y : Type 0} (bounds : Y → Bounds) (rows : Strips) (points : List Y) (parts : List Part) (starts : List ℕ) (ordered : List Y) : Type 0 where
+  pub are_points : All (λ point. IsPoint (bounds point)) points
+  pub base : All (λ point. rows.base ≤ℤ (bounds point).low) points
+  pub are_parts : AreParts bounds rows points parts
+  pub are_starts : AreStarts parts (length parts) starts
+  pub are_ordered : ArePointsOf points parts (length parts) ordered

@@ -10,10 +10,6 @@ use Rattle.plane.specs.declared.pairs.items.Bounds.{Bounds}
 use Rattle.plane.specs.declared.pairs.strips.Strips.{Strips}
 use Rattle.plane.specs.declared.pairs.sweep.Placed.{Placed}
 
--- the list has the same pairs in front, and perhaps some more behind them
-abbrev pub Extends : List (ℕ × ℕ) → List (ℕ × ℕ) → Type 0
-Extends before after = (more : List (ℕ × ℕ)) × (after ≡ before ++ more)
-
 -- two places, the lesser one first
 abbrev pub pair_of : ℕ → ℕ → ℕ × ℕ
 pair_of place other = (min place other, max place other)

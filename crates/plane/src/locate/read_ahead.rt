@@ -88,6 +88,7 @@ impl<A: Allocator> ReadAhead<A> {
         self.from = from;
         self.payloads.clear();
         let end = events.len().min(from.saturating_add(RUN));
+        // The payloads of the events up to this one are read.
         for place in from..end {
             self.payloads
                 .push(payload_of(edges, points, events[place]))?;

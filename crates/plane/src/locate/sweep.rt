@@ -49,6 +49,8 @@ where
         result ≡ Err (LocateFault.Refused cause) → cause ≡ OutOfMemory }
 {
     let mut read_ahead = ReadAhead::new(alloc);
+    // The events so far are served: what is live stands in the status, in order along the sweep line, and no two that began cross
+    // before it.
     for next in 0..events.len() {
         let payload = read_ahead.at(edges, points, events, next)?;
         match payload {

@@ -1,4 +1,4 @@
-//! Edges as items with a box, of which two meet where they share a point.
+//! Edges and points as items with a box. Two edges meet where they share a point.
 
 ghost use Rattle.plane.specs.Meet.Boxes.{bounds_of};
 ghost use Rattle.plane.specs.Meet.Edges.{Meet};
@@ -6,6 +6,7 @@ ghost use Rattle.plane.specs.Meet.Edges.{Meet};
 use super::exact::meet;
 use crate::edge::Edge;
 use crate::pairs::items::{Bounds, Boxed, Meets};
+use crate::point::Point;
 
 impl Boxed for Edge {
     ghost bounds = { bounds_of };
@@ -16,6 +17,19 @@ impl Boxed for Edge {
             right: self.x0.max(self.x1),
             low: self.y0.min(self.y1),
             high: self.y0.max(self.y1),
+        }
+    }
+}
+
+impl Boxed for Point {
+    ghost bounds = { λ it. record { left = it.x; right = it.x; low = it.y; high = it.y } };
+
+    fn bounds(self) -> Bounds {
+        Bounds {
+            left: self.x,
+            right: self.x,
+            low: self.y,
+            high: self.y,
         }
     }
 }

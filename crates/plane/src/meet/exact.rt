@@ -6,19 +6,19 @@ ghost use Rattle.plane.specs.Meet.Crosses.{IsPart};
 ghost use Rattle.plane.specs.Meet.Edges.{Meet};
 
 use crate::edge::Edge;
-use crate::ways::{cross_product, way_along, way_between};
+use crate::vectors::{cross_product, vector_along, vector_between_starts};
 
 /// Whether the edges share a point. Both ends of an edge are of it, and an edge may be a point; nothing is rounded.
 ///
-/// By Cramer's rule: with the one's way u, the other's way v and the way w between their starts, the lines meet at
+/// By Cramer's rule: with the one's vector u, the other's vector v and the vector w between their starts, the lines meet at
 /// the share `w x v / u x v` of the one and at the share `w x u / u x v` of the other. Parallel edges meet where
 /// these three cross products are 0, so that both lie along one line, and their boxes meet.
 pub fn meet(one: Edge, other: Edge) -> bool
     ensures { MatchBool result (Meet one other) (¬ (Meet one other)) }
 {
-    let one_way = way_along(one);
-    let other_way = way_along(other);
-    let between = way_between(one, other);
+    let one_way = vector_along(one);
+    let other_way = vector_along(other);
+    let between = vector_between_starts(one, other);
     let whole = cross_product(one_way, other_way);
     if !is_part(cross_product(between, other_way), whole) {
         return false;

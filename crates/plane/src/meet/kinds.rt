@@ -6,7 +6,7 @@ ghost use Rattle.plane.specs.Meet.Kinds.{MeetSo, ShareTwo, ShareAtMostOne, HasPo
 
 use super::exact::meet;
 use crate::edge::Edge;
-use crate::ways::{cross_product, way_along};
+use crate::vectors::{cross_product, vector_along};
 
 /// How two edges meet.
 #[derive(Clone, Copy, Debug, PartialEq, Eq)]
@@ -45,7 +45,7 @@ fn share_two(one: Edge, other: Edge) -> bool
     requires { Meet one other }
     ensures { MatchBool result (ShareTwo one other) (ShareAtMostOne one other) }
 {
-    let whole = cross_product(way_along(one), way_along(other));
+    let whole = cross_product(vector_along(one), vector_along(other));
     if whole != 0 {
         return false;
     }

@@ -17,6 +17,14 @@ pub struct Wanted {
     pub are_crowded: bool,
 }
 
+// How many items there are, from the lowest to the highest of which it is the span, and what their own heights sum up to.
+#[derive(Clone, Copy)]
+struct Heights {
+    count: u64,
+    span: u32,
+    sum: u128,
+}
+
 /// Strips from the lowest of the items on, as many as these call for.
 ///
 /// The narrower strips are, the fewer items are live beside each other, and the more items reach several strips. So
@@ -31,15 +39,21 @@ pub fn strips_for<T: Boxed>(items: &[T], wanted: Wanted) -> Strips
     let mut base = i32::MAX;
     let mut top = i32::MIN;
     let mut heights = 0u128;
+    // The items so far lie between the base and the top, and their heights are summed up.
     for item in items {
         let bounds = item.bounds();
         base = base.min(bounds.low);
         top = top.max(bounds.high);
         heights += bounds.high.abs_diff(bounds.low) as u128;
     }
+    let told = Heights {
+        count: items.len() as u64,
+        span: top.abs_diff(base),
+        sum: heights,
+    };
     Strips {
         base,
-        bits: bits_for(items.len() as u64, wanted, top.abs_diff(base), heights),
+        bits: bits_for(told, wanted),
     }
 }
 
@@ -56,30 +70,29 @@ pub fn wanted_for<T: Boxed>(items: &[T]) -> Wanted {
     }
 }
 
-// How many bits the width of strips takes, for so many items, from the lowest to the highest of which it is the
-// span, and whose own heights sum up to this.
-fn bits_for(count: u64, wanted: Wanted, span: u32, heights: u128) -> u32
+// How many bits the width of strips takes.
+fn bits_for(heights: Heights, wanted: Wanted) -> u32
     ensures wide { 5 ≤ result }
     ensures fits { result < 32 }
-    ensures few { IsWideEnough count span heights result }
+    ensures few { IsWideEnough heights.count heights.span heights.sum result }
 {
     let mut bits = 31;
-    while bits > 5 && calls_for(count, wanted, span, heights, bits - 1) {
+    // The strips of so many bits are called for.
+    while bits > 5 && calls_for(heights, wanted, bits - 1) {
         bits -= 1;
     }
     bits
 }
 
-// Whether the items call for strips as narrow as this: one strip is enough for all, or there are few strips, and few
-// items reach several.
-fn calls_for(count: u64, wanted: Wanted, span: u32, heights: u128, bits: u32) -> bool
+// Whether the items call for strips of so many bits: one strip has room for all, or the strips are no more than wanted, with 16
+// items for each, and what the items reach beyond their first strips is a fraction of them.
+fn calls_for(heights: Heights, wanted: Wanted, bits: u32) -> bool
     requires { bits < 32 }
-    ensures { OnTrue result (IsWideEnough count span heights bits) }
+    ensures { OnTrue result (IsWideEnough heights.count heights.span heights.sum bits) }
 {
-    let strips = (span >> bits) as u64;
-    let further = heights >> bits;
-    let few_reach = further <= (count / 4) as u128;
-    let fewer_reach = further <= (count / 16) as u128;
-    let is_wanted = strips <= wanted.strips.min(count / 16);
-    strips == 0 || (is_wanted && few_reach && (fewer_reach || !wanted.are_crowded))
+    let strips = u64::from(heights.span >> bits);
+    let reached = heights.sum >> bits;
+    let fraction = if wanted.are_crowded { 16 } else { 4 };
+    let is_wanted = strips <= wanted.strips.min(heights.count / 16);
+    strips == 0 || (is_wanted && reached <= u128::from(heights.count / fraction))
 }

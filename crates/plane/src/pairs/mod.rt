@@ -4,7 +4,7 @@ ghost use Rattle.std.specs.Prelude.{◌≡◌, ◌++◌, ◌<◌, ◌≤◌, ℕ
 ghost use Rattle.i_tree.specs.declared.Refusal.TheVariants.{OutOfMemory};
 ghost use Rattle.plane.specs.Pairs.Bounds.{MeetInBoxes};
 ghost use Rattle.plane.specs.Pairs.Pairs.{PairAt, ArePairs, AreMoreThan, GainsAll};
-ghost use Rattle.plane.specs.Pairs.Sweep.{Extends};
+ghost use Rattle.plane.specs.Lists.{Extends};
 
 pub use between::pairs_between;
 use cut::{strips_for, wanted_for};
@@ -16,6 +16,7 @@ use std::alloc::Allocator;
 use sweep::append_pairs;
 
 mod between;
+pub mod boxes;
 mod cut;
 mod extents;
 pub mod items;

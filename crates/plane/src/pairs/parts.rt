@@ -56,6 +56,7 @@ fn push_all<T: Boxed, A: Allocator>(
     ensures lists { OnOk result (Lists T.bounds strips items.now (λ place _. place < length items.now) parts.new.items) }
     ensures count { OnOk result (length parts.new.items ≡ reached T.bounds strips items.now) }
 {
+    // The parts of the items so far stand there.
     for place in 0..items.len() {
         push_parts(parts, items, strips, place)?;
     }
@@ -81,6 +82,7 @@ fn push_parts<T: Boxed, A: Allocator>(
     let left = bounds.left;
     let first = strips.strip_at(bounds.low);
     let last = strips.strip_at(bounds.high);
+    // The parts in the strips before this one stand there.
     for strip in first..last + 1 {
         parts.push(Part { strip, left, place })?;
     }

@@ -4,9 +4,9 @@ ghost use Rattle.std.specs.Prelude.{◌≡◌, ◌⊎◌, ◌++◌, ◌<◌, ◌
 ghost use Rattle.i_tree.specs.declared.Refusal.TheVariants.{OutOfMemory};
 ghost use Rattle.plane.specs.Pairs.Bounds.{IsPoint, MeetInBoxesAcross};
 ghost use Rattle.plane.specs.Pairs.Pairs.{ArePairsBetween, PairBetween};
-ghost use Rattle.plane.specs.Pairs.Parts.{AreParts, NotBehind};
-ghost use Rattle.plane.specs.Pairs.Points.{ArePointsOf, AreStarts, BeginAs, Gains, IsFirstFrom, IsStart, MeetsAt, MeetsPart};
-ghost use Rattle.plane.specs.Pairs.Sweep.{Extends};
+ghost use Rattle.plane.specs.Pairs.Parts.{NotBehind};
+ghost use Rattle.plane.specs.Pairs.Points.{ArePointsOf, AreRows, AreStarts, BeginAs, Gains, IsFirstFrom, IsStart, MeetsAt, MeetsPart};
+ghost use Rattle.plane.specs.Lists.{Extends};
 
 use super::items::{Boxed, Meets};
 use super::parts::{Part, parts};
@@ -46,6 +46,17 @@ pub fn pairs_with_points<X: Meets<Y>, Y: Boxed, A: Allocator + Copy>(
     outcome
 }
 
+// Points in rows: their parts in order by row and x, where each row begins among these, and the points in the order of
+// their parts.
+#[derive(Drop)]
+struct PointRows<'a, Y> {
+    points: &'a [Y],
+    rows: Strips,
+    parts: &'a [Part],
+    starts: &'a [usize],
+    ordered: &'a [Y],
+}
+
 // As `pairs_with_points`, but where it is refused, it may have appended some pairs.
 fn append_all<X: Meets<Y>, Y: Boxed, A: Allocator + Copy>(
     items: &[X],
@@ -63,17 +74,15 @@ fn append_all<X: Meets<Y>, Y: Boxed, A: Allocator + Copy>(
     let parts = parts(alloc, points, rows)?;
     let starts = starts_of(alloc, &parts)?;
     let ordered = points_of(alloc, points, &parts)?;
+    let table = PointRows {
+        points,
+        rows,
+        parts: &parts,
+        starts: &starts,
+        ordered: &ordered,
+    };
     for place in 0..items.len() {
-        append_of_item(
-            items[place],
-            place,
-            points,
-            rows,
-            &parts,
-            &starts,
-            &ordered,
-            out,
-        )?;
+        append_of_item(items[place], place, &table, out)?;
     }
     Ok(())
 }
@@ -100,6 +109,7 @@ fn starts_of<A: Allocator>(alloc: A, parts: &[Part]) -> Result<Vec<usize, A>, Al
     ensures { IfOk result (λ starts. AreStarts parts.now (length parts.now) starts.items) }
 {
     let mut starts = Vec::new(alloc);
+    // The rows up to those of the parts so far have their starts.
     for place in 0..parts.len() {
         begin_rows(&mut starts, parts, place)?;
     }
@@ -118,6 +128,7 @@ fn begin_rows<A: Allocator>(
     ensures { OnOk result (AreStarts parts.now (place + 1) starts.new.items) }
 {
     let end = parts[place].strip as usize + 1;
+    // The rows so far begin at the place or before it, and no part before it stands in a row behind them.
     for row in starts.len()..end {
         starts.push(place)?;
     }
@@ -140,28 +151,23 @@ fn start_of(starts: &[usize], parts: &[Part], row: usize) -> usize
 fn append_of_item<X: Meets<Y>, Y: Boxed, A: Allocator>(
     item: X,
     place: usize,
-    points: &[Y],
-    rows: Strips,
-    parts: &[Part],
-    starts: &[usize],
-    ordered: &[Y],
+    table: &PointRows<'_, Y>,
     out: &mut Vec<(usize, usize), A>,
 ) -> Result<(), AllocError>
     requires boxed { MeetInBoxesAcross X.bounds Y.bounds X.Meeting }
-    requires points { All (λ point. IsPoint (Y.bounds point)) points.now }
-    requires base { All (λ point. rows.base ≤ℤ (Y.bounds point).low) points.now }
-    requires parts { AreParts Y.bounds rows points.now parts.now }
-    requires starts { AreStarts parts.now (length parts.now) starts.now }
-    requires ordered { ArePointsOf points.now parts.now (length parts.now) ordered.now }
-    ensures ok { OnOk result (Gains (λ i j. (i ≡ place) × MeetsAt (X.Meeting item) points.now j)
+    requires rows { AreRows Y.bounds table.now.rows table.now.points.now table.now.parts.now table.now.starts.now
+        table.now.ordered.now }
+    ensures ok { OnOk result (Gains (λ i j. (i ≡ place) × MeetsAt (X.Meeting item) table.now.points.now j)
         out.old.items out.new.items) }
     ensures err { OnErr result (Extends out.old.items out.new.items) }
 {
     let bounds = item.bounds();
+    let rows = table.rows;
     let first = rows.strip_at(bounds.low.max(rows.base)) as usize;
     let last = rows.strip_at(bounds.high.max(rows.base)) as usize;
-    for row in first..starts.len().min(last + 1) {
-        append_in_row(item, place, points, rows, parts, starts, ordered, row, out)?;
+    // The pairs with the points of the rows so far stand there.
+    for row in first..table.starts.len().min(last + 1) {
+        append_in_row(item, place, table, row, out)?;
     }
     Ok(())
 }
@@ -170,33 +176,28 @@ fn append_of_item<X: Meets<Y>, Y: Boxed, A: Allocator>(
 fn append_in_row<X: Meets<Y>, Y: Boxed, A: Allocator>(
     item: X,
     place: usize,
-    points: &[Y],
-    rows: Strips,
-    parts: &[Part],
-    starts: &[usize],
-    ordered: &[Y],
+    table: &PointRows<'_, Y>,
     row: usize,
     out: &mut Vec<(usize, usize), A>,
 ) -> Result<(), AllocError>
     requires boxed { MeetInBoxesAcross X.bounds Y.bounds X.Meeting }
-    requires points { All (λ point. IsPoint (Y.bounds point)) points.now }
-    requires parts { AreParts Y.bounds rows points.now parts.now }
-    requires starts { AreStarts parts.now (length parts.now) starts.now }
-    requires ordered { ArePointsOf points.now parts.now (length parts.now) ordered.now }
-    requires reached { row < length starts.now }
+    requires rows { AreRows Y.bounds table.now.rows table.now.points.now table.now.parts.now table.now.starts.now
+        table.now.ordered.now }
+    requires reached { row < length table.now.starts.now }
     ensures ok { OnOk result (Gains
-        (λ i j. (i ≡ place) × MeetsPart (X.Meeting item) points.now parts.now (λ _ part. part.strip ≡ row) j)
-        out.old.items out.new.items) }
+        (λ i j. (i ≡ place) × MeetsPart (X.Meeting item) table.now.points.now table.now.parts.now
+        (λ _ part. part.strip ≡ row) j) out.old.items out.new.items) }
     ensures err { OnErr result (Extends out.old.items out.new.items) }
 {
     let bounds = item.bounds();
-    let from = first_from(parts, starts, ordered, row, bounds.left);
-    for next in from..start_of(starts, parts, row + 1) {
-        let point = ordered[next];
+    let from = first_from(table.parts, table.starts, table.ordered, row, bounds.left);
+    // The pairs with the points of the row so far stand there. What stands in it before `from` lies left of the item.
+    for next in from..start_of(table.starts, table.parts, row + 1) {
+        let point = table.ordered[next];
         if is_past(point, bounds.right) {
             return Ok(());
         }
-        append_if_met(item, place, point, &parts[next], out)?;
+        append_if_met(item, place, point, &table.parts[next], out)?;
     }
     Ok(())
 }
@@ -238,6 +239,7 @@ fn first_from<Y: Boxed>(
     let end = start_of(starts, parts, row + 1);
     let mut first = start;
     let mut size = end - start;
+    // Parts before `first` stand before the x, and those from `first + size` on do not.
     while size > 1 {
         let half = size / 2;
         let middle = first + half;

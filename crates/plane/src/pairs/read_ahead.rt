@@ -56,6 +56,7 @@ impl<T: Copy, A: Allocator> ReadAhead<T, A> {
         self.from = from;
         self.items.clear();
         let end = parts.len().min(from.saturating_add(RUN));
+        // The items of the parts up to this one are read.
         for place in from..end {
             let part = parts[place];
             self.items.push(items[part.place])?;

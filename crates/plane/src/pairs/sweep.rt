@@ -10,7 +10,8 @@ ghost use Rattle.plane.specs.Pairs.Live.{IsIn, held};
 ghost use Rattle.plane.specs.Pairs.Pairs.{GainsAll};
 ghost use Rattle.plane.specs.Pairs.Parts.{AreParts};
 ghost use Rattle.plane.specs.Pairs.Strips.{Reaches, IsOverStrip, range_in};
-ghost use Rattle.plane.specs.Pairs.Sweep.{Extends, IsTold, GainsPair, GainsPairs, Asks, Serves};
+ghost use Rattle.plane.specs.Lists.{Extends};
+ghost use Rattle.plane.specs.Pairs.Sweep.{IsTold, GainsPair, GainsPairs, Asks, Serves};
 
 use super::items::{Boxed, Meets};
 use super::live::Live;
@@ -56,6 +57,7 @@ pub fn append_pairs<T: Meets<T>, A: Allocator + Copy>(
     let mut live = Live::new(alloc, strips)?;
     let mut strip = 0;
     let mut ahead = ReadAhead::new(alloc);
+    // The pairs that the parts so far tell stand there; the items of those in the strip are live, but for some that have ended.
     for (next, part) in parts.iter().enumerate() {
         enter(&mut live, strip, part.strip);
         strip = part.strip;

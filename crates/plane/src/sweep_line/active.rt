@@ -5,10 +5,8 @@ ghost use Rattle.std.specs.Ordering.{int_cmp};
 ghost use Rattle.plane.specs.SweepLine.Active.{active_edge, cmp_active, cmp_behind, cmp_to_ending};
 ghost use Rattle.plane.specs.SweepLine.Heights.{rightwards};
 
-use super::heights::{
-    Climbs, climbs_to_point, compare_slopes, compare_starts, end_of, start_of, turn_rightwards,
-};
-use crate::edge::Edge;
+use super::heights::{Climbs, climbs_to_point, compare_slopes, compare_starts, turn_rightwards};
+use crate::edge::{Edge, end_of, start_of};
 use i_tree::ExpiredVal;
 use std::cmp::Ordering;
 

@@ -183,6 +183,7 @@ fn append_all<K: ExpiredVal<E>, E: Expiration, V: Copy, A: Allocator + Copy>(
     ensures ok { OnOk result (items tree.new.shape ≡ pairs.now) }
 {
     tree.reserve_capacity(pairs.len())?;
+    // The pairs so far stand in the tree, in their order.
     for pair in pairs {
         append(tree, *pair, time)?;
     }

@@ -3,13 +3,12 @@
 ghost use Rattle.std.specs.Prelude.{◌≡◌, ◌-ℤ◌, ◌*ℤ◌, ◌<ℤ◌, true, false};
 ghost use Rattle.std.specs.Int.{int_max, int_min};
 ghost use Rattle.std.specs.Ordering.{int_cmp};
-ghost use Rattle.plane.specs.Ends.{start_of, end_of};
 ghost use Rattle.plane.specs.SweepLine.Heights.{rightwards, run, height_by_runs, rise_by_run};
 ghost use Rattle.plane.specs.SweepLine.Heights.{height_by_run as height_of};
 
-use crate::edge::Edge;
+use crate::edge::{Edge, end_of, start_of};
 use crate::point::Point;
-use crate::ways::{product, way_on_axis};
+use crate::vectors::{difference, product};
 use std::cmp::Ordering;
 
 /// The edge from its lesser end along x to its greater. A vertical edge, or a point, stays as it is.
@@ -61,8 +60,8 @@ pub(crate) struct Climbs {
 pub(crate) fn climbs_to_point(edge: Edge, point: Point) -> Climbs
     ensures { int_cmp result.edge result.point ≡ int_cmp (height_of edge point.x) (point.y *ℤ run edge) }
 {
-    let climb = product(way_on_axis(edge.y0, edge.y1), way_on_axis(edge.x0, point.x));
-    let point_climb = product(way_on_axis(edge.y0, point.y), way_on_axis(edge.x0, edge.x1));
+    let climb = product(difference(edge.y0, edge.y1), difference(edge.x0, point.x));
+    let point_climb = product(difference(edge.y0, point.y), difference(edge.x0, edge.x1));
     Climbs {
         edge: climb,
         point: point_climb,
@@ -109,31 +108,11 @@ pub fn compare_ends(one: Edge, other: Edge) -> Ordering
     heights.reverse()
 }
 
-/// The point at which the edge begins.
-pub(crate) fn start_of(edge: Edge) -> Point
-    ensures { result ≡ start_of edge }
-{
-    Point {
-        x: edge.x0,
-        y: edge.y0,
-    }
-}
-
-/// The point at which the edge ends.
-pub fn end_of(edge: Edge) -> Point
-    ensures { result ≡ end_of edge }
-{
-    Point {
-        x: edge.x1,
-        y: edge.y1,
-    }
-}
-
 /// How the one's slope stands to the other's, where both go to the right.
 pub fn compare_slopes(one: Edge, other: Edge) -> Ordering
     ensures { result ≡ int_cmp (rise_by_run one other) (rise_by_run other one) }
 {
-    let steepness = product(way_on_axis(one.y0, one.y1), way_on_axis(other.x0, other.x1));
-    let other_steepness = product(way_on_axis(other.y0, other.y1), way_on_axis(one.x0, one.x1));
+    let steepness = product(difference(one.y0, one.y1), difference(other.x0, other.x1));
+    let other_steepness = product(difference(other.y0, other.y1), difference(one.x0, one.x1));
     steepness.cmp(&other_steepness)
 }

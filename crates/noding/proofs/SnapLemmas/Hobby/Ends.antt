@@ -7,7 +7,7 @@ use Rattle.plane.specs.Meet.Edges.{IsAtShare, IsOf, RationalPoint}
 use Rattle.plane.specs.Meet.Kinds.{HasPoint, IsAt, IsEnd as IsEndPoint}
 use Rattle.noding.specs.Chains.{IsEnd}
 use Rattle.noding.specs.Meeting.{MeetAtEnds}
-use Rattle.noding.specs.Windings.{reversed}
+use Rattle.plane.specs.Ends.{reversed}
 use Rattle.noding.proofs.SnapLemmas.Hobby.Lines.{Common, Weights}
 use Rattle.noding.proofs.SnapLemmas.Hobby.Moved.{mean_of}
 use Rattle.noding.proofs.SnapLemmas.Hobby.Touches.{Flat, Lies, Touch, by_p1, by_p2, by_s1, by_s2, flat_back, touch_line}

@@ -9,7 +9,7 @@ use Rattle.plane.specs.Meet.Crosses.{cross}
 use Rattle.plane.specs.Meet.Edges.{IsOf, RationalPoint}
 use Rattle.noding.specs.Chains.{AreNotParallel, Passes}
 use Rattle.noding.specs.Rounding.{RoundsOn, RoundsTo}
-use Rattle.noding.specs.Windings.{reversed}
+use Rattle.plane.specs.Ends.{reversed}
 use Rattle.noding.proofs.SnapLemmas.Hobby.Halves.{Cross, common_of}
 use Rattle.noding.proofs.SnapLemmas.Hobby.Moved.{MeanRounds, RoundsAll, at_p1, at_p2, at_s1, at_s2, crossing-leads}
 use Rattle.noding.proofs.SnapLemmas.Hobby.Turns.{Four, crossing_x, crossing_y, four, term, turn1, turn1_term, turn2, turn2_term, turn3, turn4, turns-same}

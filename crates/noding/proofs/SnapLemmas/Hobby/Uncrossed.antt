@@ -6,7 +6,7 @@ use Rattle.plane.specs.declared.edge.Edge.{Edge}
 use Rattle.plane.specs.Meet.Crosses.{cross}
 use Rattle.plane.specs.Meet.Kinds.{HasPoint}
 use Rattle.noding.specs.Chains.{IsEnd}
-use Rattle.noding.specs.Windings.{reversed}
+use Rattle.plane.specs.Ends.{reversed}
 use Rattle.noding.proofs.SnapLemmas.Hobby.Leads.{pieces-lead}
 use Rattle.noding.proofs.SnapLemmas.Means.{Passes-on_piece}
 use Rattle.noding.proofs.SnapLemmas.Numbers.{n_of}

@@ -4,10 +4,10 @@ use Rattle.std.proofs.lemmas.List.{flat_map_more, length-append, take_all, take_
 use Rattle.std.proofs.lemmas.Option.{slice_get-get_or}
 use Rattle.plane.specs.declared.edge.Edge.{Edge}
 use Rattle.plane.specs.declared.point.Point.{Point}
-use Rattle.plane.proofs.PairsLemmas.Extends.{OnErr-always}
+use Rattle.plane.proofs.PairsLemmas.Extends.{OnErr-always, Extends-trans}
 use Rattle.noding.specs.Chains.{IsChain}
 use Rattle.noding.specs.Offsets.{offsets}
-use Rattle.noding.proofs.ChainLemmas.Runs.{offsets-more, Extends-trans, IsChain-run, Split-next, Split-none}
+use Rattle.noding.proofs.ChainLemmas.Runs.{offsets-more, IsChain-run, Split-next, Split-none}
 use Rattle.noding.proofs.ChainLemmas.Zips.{AllZip-more}
 use Rattle.noding.proofs.chains.append_chains.Goals as goal
 

@@ -5,7 +5,7 @@ use Rattle.std.proofs.lemmas.Int.{ints, to_z-of_z}
 use Rattle.plane.specs.declared.edge.Edge.{Edge}
 use Rattle.plane.specs.Meet.Crosses.{IsWithin}
 use Rattle.noding.specs.Close.{PassesEnd, ShareEnd}
-use Rattle.noding.specs.Windings.{margin_of}
+use Rattle.plane.specs.Lines.{margin_of}
 use Rattle.noding.proofs.SnapLemmas.Beside.{between_ways, passes-narrow, ways-exchanged}
 use Rattle.noding.proofs.close.part_widely.Goals as goal
 
@@ -82,4 +82,4 @@ returns c =
     c.args.one c.args.other c.requires ways c.margin_of.ensures.value c.margin_of-2.ensures.value
   where
     ways : c.cross_product-apart.result ≡ between_ways c.args.one c.args.other
-    ways = rw (← c.way_along.ensures.x, ← c.way_along.ensures.y, ← c.way_along-2.ensures.x, ← c.way_along-2.ensures.y) c.cross_product-apart.ensures.value
+    ways = rw (← c.vector_along.ensures.x, ← c.vector_along.ensures.y, ← c.vector_along-2.ensures.x, ← c.vector_along-2.ensures.y) c.cross_product-apart.ensures.value

@@ -1,5 +1,3 @@
-use Rattle.std.proofs.Common.{sym, subst}
-use Rattle.noding.specs.Crossings.{CrossInside}
 use Rattle.noding.proofs.ChainLemmas.Crossings.{no_crossing, no_crossing-end}
 use Rattle.noding.proofs.crossings.crossing_inside.Goals as goal
 
@@ -10,4 +8,4 @@ pub returns-then-is_end_of_one : goal.returns-then-is_end_of_one
 returns-then-is_end_of_one c = no_crossing-end c.args.one c.args.other c.in-Some.point.x c.in-Some.point.y c.in-Some.ensures c.if-is_end_of_one.ensures
 
 pub returns : goal.returns
-returns c = subst (CrossInside c.args.one c.args.other) (sym c.hot_point.ensures) (c.in-Some.ensures, c.if-is_end_of_one.ensures)
+returns c = (c.in-Some.ensures, c.if-is_end_of_one.ensures)

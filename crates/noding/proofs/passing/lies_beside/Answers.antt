@@ -1,7 +1,7 @@
 use Rattle.std.proofs.Common.{◌≡◌, pos, ◌+ℤ◌, ◌≤ℤ◌, FitsSigned, to_z, of_z, rules, w32, arith}
 use Rattle.std.specs.Int.{w128}
 use Rattle.std.proofs.lemmas.Int.{ints, to_z-of_z}
-use Rattle.noding.specs.Windings.{height_over}
+use Rattle.plane.specs.Lines.{height_over}
 use Rattle.noding.proofs.SnapLemmas.Beside.{passed-from, passed-upto}
 use Rattle.noding.proofs.passing.lies_beside.Goals as goal
 

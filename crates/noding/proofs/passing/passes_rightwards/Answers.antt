@@ -15,16 +15,16 @@ pub returns-then-edge : goal.returns-then-edge
 returns-then-edge c =
     let edge = c.args.edge in
     let rises : edge.y0 ≤ℤ edge.y1 = search rules in
-    let along_x : Onwards edge.x0 edge.x1 c.args.x c.way-width.result c.way-right.result = onwards edge.x0 edge.x1 c.args.x c.way-width.result c.way-right.result (search rules) (search rules) (search rules) in
-    passed_tested edge c.args.x c.args.y c.way-width.result c.way.result c.way-right.result c.way-then-edge.result
-    (rising edge c.args.x c.args.y c.way-width.result c.way.result c.way-right.result c.way-then-edge.result along_x rises (search rules) (search rules) (search rules))
+    let along_x : Onwards edge.x0 edge.x1 c.args.x c.distance-width.result c.distance-right.result = onwards edge.x0 edge.x1 c.args.x c.distance-width.result c.distance-right.result (search rules) (search rules) (search rules) in
+    passed_tested edge c.args.x c.args.y c.distance-width.result c.distance.result c.distance-right.result c.distance-then-edge.result
+    (rising edge c.args.x c.args.y c.distance-width.result c.distance.result c.distance-right.result c.distance-then-edge.result along_x rises (search rules) (search rules) (search rules))
     true c.is_passed.result rises c.is_passed.ensures
 
 pub returns : goal.returns
 returns c =
     let edge = c.args.edge in
     let falls : edge.y1 <ℤ edge.y0 = search rules in
-    let along_x : Onwards edge.x0 edge.x1 c.args.x c.way-width.result c.way-right.result = onwards edge.x0 edge.x1 c.args.x c.way-width.result c.way-right.result (search rules) (search rules) (search rules) in
-    passed_tested edge c.args.x c.args.y c.way-width.result c.way-2.result c.way-right.result c.way-3.result
-    (falling edge c.args.x c.args.y c.way-width.result c.way-2.result c.way-right.result c.way-3.result along_x falls (search rules) (search rules) (search rules))
+    let along_x : Onwards edge.x0 edge.x1 c.args.x c.distance-width.result c.distance-right.result = onwards edge.x0 edge.x1 c.args.x c.distance-width.result c.distance-right.result (search rules) (search rules) (search rules) in
+    passed_tested edge c.args.x c.args.y c.distance-width.result c.distance-2.result c.distance-right.result c.distance-3.result
+    (falling edge c.args.x c.args.y c.distance-width.result c.distance-2.result c.distance-right.result c.distance-3.result along_x falls (search rules) (search rules) (search rules))
     false c.is_passed-2.result falls c.is_passed-2.ensures

@@ -1,7 +1,7 @@
 use Rattle.std.proofs.Common.{List, subst}
 use Rattle.noding.specs.Gains.{GainsThese}
 use Rattle.noding.specs.Stops.{IsStopAmong}
-use Rattle.noding.specs.declared.crossings.HotPoint.{HotPoint}
+use Rattle.plane.specs.declared.point.Point.{Point}
 use Rattle.noding.proofs.ChainLemmas.Crossed.{gains-along_axes, gains-at_crossings}
 use Rattle.noding.proofs.stops.push_stops_at_crossings.Goals as goal
 
@@ -12,4 +12,4 @@ returns-then-run_along_axes-clause-ok g c =
 pub returns-clause-ok : goal.returns-clause-ok
 returns-clause-ok g c =
     gains-at_crossings c.args.edges.now c.args.pairs.now c.in_ok-points.points.items c.args.stops.now.items c.push_stops_at_points.new.stops.items c.in_ok-points.ensures
-    (subst (λ (among : List HotPoint). GainsThese (IsStopAmong c.args.edges.now among) c.args.stops.now.items c.push_stops_at_points.new.stops.items) c.deref.ensures.value c.in_ok-push_stops_at_points.ensures.ok)
+    (subst (λ (among : List Point). GainsThese (IsStopAmong c.args.edges.now among) c.args.stops.now.items c.push_stops_at_points.new.stops.items) c.deref.ensures.value c.in_ok-push_stops_at_points.ensures.ok)

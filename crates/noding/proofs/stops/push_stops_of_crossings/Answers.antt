@@ -1,37 +1,22 @@
-use Rattle.std.proofs.Common.{◌≡◌, [], ℕ, List, Some, pos, get_or, take, sym, subst}
-use Rattle.std.specs.List.{slice_get}
-use Rattle.std.proofs.lemmas.List.{take_all, take_more}
-use Rattle.std.proofs.lemmas.Option.{slice_get-get_or}
+use Rattle.std.proofs.Common.{pos, get_or}
 use Rattle.plane.specs.declared.edge.Edge.{Edge}
-use Rattle.noding.specs.Gains.{GainsThese, IsOfSome}
 use Rattle.noding.specs.Stops.{IsStopOfCrossing}
 use Rattle.noding.proofs.ChainLemmas.Crossed.{gains-of_both}
-use Rattle.noding.proofs.ChainLemmas.Gains.{gains-more, gains-none, none_of}
+use Rattle.noding.proofs.ChainLemmas.Gains.{upto-all, upto-first, upto-next}
 use Rattle.noding.proofs.stops.push_stops_of_crossings.Goals as goal
 
 pub loop-pair-init : goal.loop-pair-init
-loop-pair-init g c = gains-none (IsOfSome (IsStopOfCrossing c.args.edges.now) []) c.args.stops.now.items (none_of (IsStopOfCrossing c.args.edges.now))
+loop-pair-init g c = upto-first (IsStopOfCrossing c.args.edges.now) c.args.edges.now c.args.edges.now c.args.pairs.now c.args.stops.now.items
 
 pub loop-pair-preserved : goal.loop-pair-preserved
 loop-pair-preserved g c =
     let edges = c.args.edges.now in
     let pairs = c.args.pairs.now in
     let k = c.loop-pair.pair-index in
-    let before = c.args.stops.now.items in
-    let now = c.loop-pair.stops.items in
-    let after = c.push_stops_of_both.new.stops.items in
     let none : Edge = record { x0 = pos 0; y0 = pos 0; x1 = pos 0; y1 = pos 0 } in
     let pair = get_or pairs k (0, 0) in
-    let one = get_or edges pair.0 none in
-    let other = get_or edges pair.1 none in
-    let inside = c.requires k (0, 0) c.loop-pair-test.true in
-    let first : slice_get edges pair.0 ≡ Some one = slice_get-get_or edges pair.0 none inside.0 in
-    let second : slice_get edges pair.1 ≡ Some other = slice_get-get_or edges pair.1 none inside.1 in
-    subst (λ (done : List (ℕ × ℕ)). GainsThese (IsOfSome (IsStopOfCrossing edges) done) before after) (sym (take_more pairs k (0, 0) c.loop-pair-test.true))
-    (gains-more (IsStopOfCrossing edges) (take k pairs) pair before now after c.loop-pair.invariant
-    (gains-of_both edges pair one other now after first second c.in_ok-push_stops_of_both.ensures))
+    upto-next (IsStopOfCrossing edges) edges edges pairs c.args.stops.now.items c.requires k none none c.loop-pair.stops.items c.push_stops_of_both.new.stops.items c.loop-pair-test.true c.loop-pair.invariant
+    (λ first second. gains-of_both edges pair (get_or edges pair.0 none) (get_or edges pair.1 none) c.loop-pair.stops.items c.push_stops_of_both.new.stops.items first second c.in_ok-push_stops_of_both.ensures)
 
 pub returns : goal.returns
-returns g c =
-    subst (λ (pairs : List (ℕ × ℕ)). GainsThese (IsOfSome (IsStopOfCrossing c.args.edges.now) pairs) c.args.stops.now.items c.loop-pair.stops.items)
-    (take_all c.loop-pair.pair-index c.args.pairs.now c.loop-pair-test.false) c.loop-pair.invariant
+returns g c = upto-all (IsStopOfCrossing c.args.edges.now) c.args.edges.now c.args.edges.now c.args.pairs.now c.args.stops.now.items c.loop-pair.pair-index c.loop-pair.stops.items c.loop-pair-test.false c.loop-pair.invariant

@@ -10,12 +10,12 @@ pub returns : goal.returns
 returns c =
     let edge = c.args.edge in
     let point = c.args.point in
-    let rises : c.way_on_axis.result ≡ rise edge = search rules in
-    let goes : c.way_on_axis-2.result ≡ (point.x -ℤ edge.x0) = search rules in
-    let point_rises : c.way_on_axis-3.result ≡ (point.y -ℤ edge.y0) = search rules in
-    let runs : c.way_on_axis-4.result ≡ run edge = search rules in
-    let climb : c.product-climb.result ≡ (c.way_on_axis.result *ℤ c.way_on_axis-2.result) = search rules in
-    let point_climb : c.product-point_climb.result ≡ (c.way_on_axis-3.result *ℤ c.way_on_axis-4.result) = search rules in
+    let rises : c.difference.result ≡ rise edge = search rules in
+    let goes : c.difference-2.result ≡ (point.x -ℤ edge.x0) = search rules in
+    let point_rises : c.difference-3.result ≡ (point.y -ℤ edge.y0) = search rules in
+    let runs : c.difference-4.result ≡ run edge = search rules in
+    let climb : c.product-climb.result ≡ (c.difference.result *ℤ c.difference-2.result) = search rules in
+    let point_climb : c.product-point_climb.result ≡ (c.difference-3.result *ℤ c.difference-4.result) = search rules in
     let fits : FitsSigned w128 c.product-climb.result = search rules in
     let point_fits : FitsSigned w128 c.product-point_climb.result = search rules in
     simp to_z-of_z (ap₂ int_cmp (climb ∙ ap₂ (◌*ℤ◌) rises goes) (point_climb ∙ ap₂ (◌*ℤ◌) point_rises runs) ∙ cmp-from_start edge point)
