@@ -1,5 +1,5 @@
 -- Lemmas on the boundary of a result.
 pub mod Broken
-pub mod Steps
+pub mod Pieces
 pub mod Bounding
 pub mod Sloped

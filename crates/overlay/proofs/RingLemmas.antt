@@ -7,7 +7,8 @@ use Rattle.plane.specs.declared.edge.Edge.{Edge}
 use Rattle.plane.specs.declared.point.Point.{Point}
 use Rattle.plane.specs.Meet.Edges.{RationalPoint}
 use Rattle.overlay.specs.Fill.Pieces.{total}
-use Rattle.noding.specs.Windings.{edge_between, end_of, pieces, reversed, start_of, winding, IsClosed}
+use Rattle.plane.specs.Ends.{edge_between, end_of, reversed, start_of}
+use Rattle.noding.specs.Windings.{pieces, winding, IsClosed}
 use Rattle.overlay.proofs.ContourLemmas.RealEdges.{closing, points-same}
 use Rattle.noding.proofs.SnapLemmas.Counted.{added}
 use Rattle.noding.proofs.SnapLemmas.Windings.{back, winding-added}

@@ -5,8 +5,8 @@ use Rattle.plane.specs.declared.edge.Edge.{Edge}
 use Rattle.plane.specs.declared.point.Point.{Point}
 use Rattle.plane.specs.Meet.Edges.{RationalPoint}
 use Rattle.overlay.specs.declared.fill.pieces.Piece.{Piece}
-use Rattle.overlay.specs.declared.fill.pieces.Role.{Role}
-use Rattle.overlay.specs.declared.fill.pieces.Role.TheVariants.{Subject, Clip}
+use Rattle.overlay.specs.declared.fill.pieces.Operand.{Operand}
+use Rattle.overlay.specs.declared.fill.pieces.Operand.TheVariants.{Subject, Clip}
 use Rattle.overlay.specs.declared.fill.rules.FillRule.{FillRule}
 use Rattle.overlay.specs.declared.fill.rules.Operation.{Operation}
 use Rattle.overlay.specs.Contours.Rings.{IsRing, ring_edges}
@@ -15,8 +15,9 @@ use Rattle.overlay.specs.Fill.Turned.{turned}
 use Rattle.overlay.specs.Fill.Rules.{is_result}
 use Rattle.noding.specs.Chains.{IsChain}
 use Rattle.noding.specs.Near.{CountsExactly}
+use Rattle.plane.specs.Ends.{edge_between, end_of, start_of}
 use Rattle.noding.specs.Offsets.{offsets}
-use Rattle.noding.specs.Windings.{edge_between, end_of, pieces, start_of, winding, count}
+use Rattle.noding.specs.Windings.{pieces, winding, count}
 
 -- 1 around a point of the result, else 0, by the winding numbers of the subject and of the clip there.
 abbrev pub result_at : FillRule → Operation → List Edge → List Edge → RationalPoint → ℤ
@@ -68,7 +69,7 @@ StopSome ends count = (lists : List (List Point)) × (ends ≡ offsets 0 lists) 
 abbrev pub chain_pieces : ℕ → List (List Point) → List Piece
 chain_pieces count chains = turned Subject (flat_map pieces (take count chains)) ++ turned Clip (flat_map pieces (drop count chains))
 
--- The piece of the step from this point to the edge's end stands behind the others, unless the edge is a point.
-abbrev pub GoesOnToEnd : Role → Edge → Point → List Piece → List Piece → Type 0
-GoesOnToEnd role edge from before after =
-    (start_of edge ≡ end_of edge) × (after ≡ before) ⊎ (start_of edge ≢ end_of edge) × (after ≡ before ++ turned role (edge_between from (end_of edge) ∷ []))
+-- The piece from this point to the edge's end stands behind the others, unless the edge is a point.
+abbrev pub GoesOnToEnd : Operand → Edge → Point → List Piece → List Piece → Type 0
+GoesOnToEnd operand edge from before after =
+    (start_of edge ≡ end_of edge) × (after ≡ before) ⊎ (start_of edge ≢ end_of edge) × (after ≡ before ++ turned operand (edge_between from (end_of edge) ∷ []))

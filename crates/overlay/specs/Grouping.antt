@@ -6,11 +6,11 @@ use Rattle.std.specs.Ordering.{int_eq}
 use Rattle.plane.specs.declared.edge.Edge.{Edge}
 use Rattle.plane.specs.declared.point.Point.{Point}
 use Rattle.overlay.specs.declared.fill.pieces.Piece.{Piece}
-use Rattle.overlay.specs.declared.fill.pieces.Role.TheVariants.{Subject}
+use Rattle.overlay.specs.declared.fill.pieces.Operand.TheVariants.{Subject}
 use Rattle.overlay.specs.Contours.Outlines.{next_or}
 use Rattle.overlay.specs.Fill.Begins.{BeginInOrder}
 use Rattle.overlay.specs.Fill.Turned.{turned}
-use Rattle.noding.specs.Windings.{edge_between}
+use Rattle.plane.specs.Ends.{edge_between}
 use Rattle.overlay.specs.declared.grouping.order.PlacedRing.{PlacedRing}
 use Rattle.overlay.specs.declared.grouping.sides.Side.{Side}
 use Rattle.overlay.specs.Polygons.{begins_before}

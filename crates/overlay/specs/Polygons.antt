@@ -11,7 +11,8 @@ use Rattle.overlay.specs.Contours.Rings.{ring_edges}
 use Rattle.plane.specs.Meet.Edges.{RationalPoint}
 use Rattle.overlay.specs.Fill.Begins.{cmp_begins}
 use Rattle.overlay.specs.Fill.Filled.{AreDistinct, AreNoded}
-use Rattle.noding.specs.Offsets.{offsets, Extends}
+use Rattle.plane.specs.Lists.{Extends}
+use Rattle.noding.specs.Offsets.{offsets}
 use Rattle.noding.specs.Windings.{winding}
 use Rattle.overlay.specs.declared.rings.Polygons.{Polygons}
 

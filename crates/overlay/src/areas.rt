@@ -2,11 +2,11 @@
 
 ghost use Rattle.std.specs.Prelude.{◌≡◌, ◌*◌, ◌^◌, length};
 ghost use Rattle.plane.specs.Meet.Crosses.{IsWithin};
-ghost use Rattle.noding.specs.Windings.{edge_between};
+ghost use Rattle.plane.specs.Ends.{edge_between};
 ghost use Rattle.overlay.specs.Areas.{swept, twice_area};
 
 use plane::point::Point;
-use plane::ways::product;
+use plane::vectors::product;
 
 /// Twice the area of the ring, which goes from each point to the next one, and from the last to the first: above 0 where it runs
 /// counterclockwise, below 0 where it runs clockwise. Around what a ring winds more often, it counts as often.

@@ -10,9 +10,9 @@ ghost use Rattle.overlay.specs.Rings.{HasEnds, edges_of, real_edges};
 
 use crate::boundary::boundary;
 use crate::fault::OverlayFault;
-use crate::fill::{FillRule, Operation};
+use crate::fill::{Choice, FillRule, Operation};
 use crate::grouping::append_polygons;
-use crate::rings::{Polygons, Rings, are_ends, real_edges_of};
+use crate::rings::{Operands, Polygons, Rings, are_ends, real_edges_of};
 use i_tree::Refusal;
 use i_tree::status::exp::StatusCollection;
 use plane::point::Point;
@@ -24,10 +24,10 @@ use std::alloc::Allocator;
 /// The winding number of rings around a point, and the rule, say whether the point is inside of them. Any rings are taken:
 /// such as cross, touch or lie along one another or themselves, run either way, and stand there more than once.
 ///
-/// The polygons wind once around each point of the result, and not at all around any other, where the point isn't within half
-/// a unit, on both axes, of an edge of the rings given; and around every point where all of these edges run along the axes.
-/// Around no point do they wind more often. Their rings visit no point twice. Points at which a ring goes straight on are left
-/// out; with these, edges of rings meet only at common ends, so that a corner may touch the side of a ring.
+/// The polygons wind once around each point of the result, and not at all around any other, if each edge of the rings given runs
+/// along an axis, or isn't within half a unit, on both axes, of the point. Around no point do they wind more often. Their rings
+/// visit no point twice. Points at which a ring goes straight on are left out; with these, edges of rings meet only at common ends,
+/// so that a corner may touch the side of a ring.
 ///
 /// While few edges are active at once along the sweep they stand in a list, and once more are in a tree (`GrowingStatus`).
 ///
@@ -76,16 +76,62 @@ where
         ↔ ¬ (HasEnds subject.entry × HasEnds clip.entry) }
     ensures empty { C.stored status.new ≡ [] }
 {
-    overlay_by(&ByEdges, subject, clip, rule, operation, status, out)
+    let operands = Operands { subject, clip };
+    let choice = Choice { rule, operation };
+    overlay_by(&ByEdges, operands, choice, status, out)
+}
+
+/// How rings are found that bound a result. `ByEdges` is one way; `ByChains` of the crate `monotone_chains` is another, which is
+/// faster where rings are long.
+pub trait Bounding {
+    /// Appends rings that bound what the operation makes of subject and clip to `points`, and to `ends` where each stops. It is
+    /// refused where memory or the status has no room.
+    fn append_boundary<C, A>(
+        &self,
+        operands: Operands,
+        choice: Choice,
+        status: &mut C,
+        points: &mut Vec<Point, A>,
+        ends: &mut Vec<usize, A>,
+    ) -> Result<(), Refusal>
+    where
+        C: StatusCollection<ActiveEdge, i64, ()>,
+        A: Allocator + Copy,
+        requires ends { HasEnds operands.subject }
+        requires clip_ends { HasEnds operands.clip }
+        ensures ok { OnOk result (AppendsBoundary choice.rule choice.operation
+            (real_edges (edges_of operands.entry.subject)) (real_edges (edges_of operands.entry.clip))
+            points.old.items points.new.items ends.old.items ends.new.items) }
+        ensures empty { OnOk result (C.stored status.new ≡ []) };
+}
+
+/// By all edges of the rings.
+#[derive(Clone, Copy, Drop)]
+pub struct ByEdges;
+
+impl Bounding for ByEdges {
+    fn append_boundary<C, A>(
+        &self,
+        operands: Operands,
+        choice: Choice,
+        status: &mut C,
+        points: &mut Vec<Point, A>,
+        ends: &mut Vec<usize, A>,
+    ) -> Result<(), Refusal>
+    where
+        C: StatusCollection<ActiveEdge, i64, ()>,
+        A: Allocator + Copy,
+    {
+        let (edges, count) = real_edges_of(*points.allocator(), operands.subject, operands.clip)?;
+        boundary(&edges, count, choice, status, points, ends)
+    }
 }
 
 /// As `overlay_over`, by another way to find the rings that bound the result.
 pub fn overlay_by<B, C, A>(
     bounding: &B,
-    subject: Rings,
-    clip: Rings,
-    rule: FillRule,
-    operation: Operation,
+    operands: Operands,
+    choice: Choice,
     status: &mut C,
     out: &mut Polygons<A>,
 ) -> Result<(), OverlayFault>
@@ -94,21 +140,21 @@ where
     C: StatusCollection<ActiveEdge, i64, ()>,
     A: Allocator + Copy,
     ensures ok { OnOk result ((polygons : List (List (List Point)))
-        × IsOverlay rule operation (edges_of subject.entry) (edges_of clip.entry) polygons
+        × IsOverlay choice.rule choice.operation (edges_of operands.entry.subject) (edges_of operands.entry.clip) polygons
         × Appends polygons out.old out.new) }
     ensures err { OnErr result (AreAsBefore out.old out.new) }
     ensures lengths { (result ≡ Err OverlayFault.Lengths)
-        ↔ ¬ (HasEnds subject.entry × HasEnds clip.entry) }
+        ↔ ¬ (HasEnds operands.entry.subject × HasEnds operands.entry.clip) }
     ensures empty { C.stored status.new ≡ [] }
 {
     status.clear();
-    if !are_ends(subject) || !are_ends(clip) {
+    if !are_ends(operands.subject) || !are_ends(operands.clip) {
         return Err(OverlayFault::Lengths);
     }
     let points = out.points.len();
     let rings = out.ring_ends.len();
     let polygons = out.polygon_ends.len();
-    let outcome = append_overlay(bounding, subject, clip, rule, operation, status, out);
+    let outcome = append_overlay(bounding, operands, choice, status, out);
     status.clear();
     if let Err(cause) = outcome {
         out.points.truncate(points);
@@ -122,10 +168,8 @@ where
 // As `overlay_by`, from right ends on. Where it is refused, it may have appended something.
 fn append_overlay<B, C, A>(
     bounding: &B,
-    subject: Rings,
-    clip: Rings,
-    rule: FillRule,
-    operation: Operation,
+    operands: Operands,
+    choice: Choice,
     status: &mut C,
     out: &mut Polygons<A>,
 ) -> Result<(), Refusal>
@@ -133,75 +177,18 @@ where
     B: Bounding,
     C: StatusCollection<ActiveEdge, i64, ()>,
     A: Allocator + Copy,
-    requires ends { HasEnds subject }
-    requires clip_ends { HasEnds clip }
+    requires ends { HasEnds operands.subject }
+    requires clip_ends { HasEnds operands.clip }
     ensures ok { OnOk result ((polygons : List (List (List Point)))
-        × IsOverlay rule operation (edges_of subject.entry) (edges_of clip.entry) polygons
+        × IsOverlay choice.rule choice.operation (edges_of operands.entry.subject) (edges_of operands.entry.clip) polygons
         × Appends polygons out.old out.new) }
     ensures err { OnErr result (AreExtended out.old out.new) }
 {
     let alloc = *out.points.allocator();
     let mut points = Vec::new(alloc);
     let mut ends = Vec::new(alloc);
-    bounding.append_boundary(
-        subject,
-        clip,
-        rule,
-        operation,
-        status,
-        &mut points,
-        &mut ends,
-    )?;
+    bounding.append_boundary(operands, choice, status, &mut points, &mut ends)?;
     append_polygons(status, &points, &ends, out)
-}
-
-/// How rings are found that bound a result. `ByEdges` is one way; `ByChains` of the crate `monotone_chains` is another, which is
-/// faster where rings are long.
-pub trait Bounding {
-    /// Appends rings that bound what the operation makes of subject and clip to `points`, and to `ends` where each stops. It is
-    /// refused where memory or the status has no room.
-    fn append_boundary<C, A>(
-        &self,
-        subject: Rings,
-        clip: Rings,
-        rule: FillRule,
-        operation: Operation,
-        status: &mut C,
-        points: &mut Vec<Point, A>,
-        ends: &mut Vec<usize, A>,
-    ) -> Result<(), Refusal>
-    where
-        C: StatusCollection<ActiveEdge, i64, ()>,
-        A: Allocator + Copy,
-        requires ends { HasEnds subject }
-        requires clip_ends { HasEnds clip }
-        ensures ok { OnOk result (AppendsBoundary rule operation (real_edges (edges_of subject.entry)) (real_edges (edges_of clip.entry))
-            points.old.items points.new.items ends.old.items ends.new.items) }
-        ensures empty { OnOk result (C.stored status.new ≡ []) };
-}
-
-/// By all edges of the rings.
-#[derive(Clone, Copy, Drop)]
-pub struct ByEdges;
-
-impl Bounding for ByEdges {
-    fn append_boundary<C, A>(
-        &self,
-        subject: Rings,
-        clip: Rings,
-        rule: FillRule,
-        operation: Operation,
-        status: &mut C,
-        points: &mut Vec<Point, A>,
-        ends: &mut Vec<usize, A>,
-    ) -> Result<(), Refusal>
-    where
-        C: StatusCollection<ActiveEdge, i64, ()>,
-        A: Allocator + Copy,
-    {
-        let (edges, count) = real_edges_of(*points.allocator(), subject, clip)?;
-        boundary(&edges, count, rule, operation, status, points, ends)
-    }
 }
 
 /// The polygons of what is inside of the rings by the rule: the union of them with nothing. So rings that cross themselves

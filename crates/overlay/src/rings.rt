@@ -2,11 +2,10 @@
 
 ghost use Rattle.std.specs.Prelude.{◌≡◌, ◌++◌, ◌∷◌, [], ◌<◌, ◌≤◌, IfOk, MatchBool, OnOk, drop, get_or, length, take};
 ghost use Rattle.overlay.specs.Contours.Rings.{ring_edges};
-ghost use Rattle.noding.specs.Windings.{edge_between};
+ghost use Rattle.plane.specs.Ends.{edge_between};
 ghost use Rattle.overlay.specs.Rings.{AreEnds, HasEnds, edges_of, real_edges, rings_of};
 
-use noding::edges::edge_between;
-use plane::edge::Edge;
+use plane::edge::{Edge, edge_between};
 use plane::point::Point;
 use std::alloc::{AllocError, Allocator};
 
@@ -19,6 +18,13 @@ use std::alloc::{AllocError, Allocator};
 pub struct Rings<'a> {
     pub points: &'a [Point],
     pub ends: &'a [usize],
+}
+
+/// Two sets of rings that an overlay makes one of.
+#[derive(Clone, Copy, Debug)]
+pub struct Operands<'a> {
+    pub subject: Rings<'a>,
+    pub clip: Rings<'a>,
 }
 
 /// Polygons: the points of all rings, where each ring stops among the points, and where each polygon stops among the rings.
@@ -130,8 +136,10 @@ fn append_real_edges<A: Allocator>(rings: Rings, edges: &mut Vec<Edge, A>) -> Re
     Ok(())
 }
 
-// Appends the edges of the ring but those from a point to itself.
-fn append_real_ones<A: Allocator>(
+/// Appends the edges of the ring but those from a point to itself.
+///
+/// Memory that is refused is the only error, and then some may have been appended.
+pub fn append_real_ones<A: Allocator>(
     ring: &[Point],
     edges: &mut Vec<Edge, A>,
 ) -> Result<(), AllocError>
@@ -147,8 +155,10 @@ fn append_real_ones<A: Allocator>(
     push_real(last, ring[0], edges)
 }
 
-// Appends the edge from the one point to the other, where they are two.
-fn push_real<A: Allocator>(
+/// Appends the edge from the one point to the other, where they are two.
+///
+/// Memory that is refused is the only error, and then none is appended.
+pub fn push_real<A: Allocator>(
     from: Point,
     to: Point,
     edges: &mut Vec<Edge, A>,

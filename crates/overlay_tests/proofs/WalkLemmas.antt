@@ -4,10 +4,10 @@ use Rattle.std.proofs.lemmas.Int.{ints}
 use Rattle.std.proofs.lemmas.List.Sums.{sum_by-append}
 use Rattle.plane.specs.declared.edge.Edge.{Edge}
 use Rattle.plane.specs.declared.point.Point.{Point}
-use Rattle.plane.specs.Ends.{start_of, end_of}
+use Rattle.plane.specs.Ends.{start_of, end_of, edge_between}
 use Rattle.plane.specs.Meet.Edges.{RationalPoint, IsOf}
 use Rattle.plane.specs.Meet.Kinds.{IsEnd, ShareAtMostOne}
-use Rattle.noding.specs.Windings.{edge_between, IsClosed}
+use Rattle.noding.specs.Windings.{IsClosed}
 use Rattle.overlay_tests.specs.Walks.{MeetAtEndsAlone, IsEndAt, one_if, IsOpenWalk}
 
 -- Before the first step the walk is where it began.

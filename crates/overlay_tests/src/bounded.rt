@@ -1,9 +1,10 @@
 //! Rings and the boundary of what an operation makes of them, as worked by hand, and each request for memory refused in turn.
 
+use crate::filled::{DIFFERENCE, EVEN_ODD, INTERSECTION, UNION, XOR};
 use crate::walks::{Regions, bound_walks};
 use i_tree::Refusal;
 use i_tree::status::tree::StatusTree;
-use overlay::fill::{FillRule, Operation};
+use overlay::fill::Choice;
 use plane::point::Point;
 use plane::sweep_line::ActiveEdge;
 use std::alloc::{AllocError, Global};
@@ -15,7 +16,9 @@ use test_kit::in_turn::{Trial, refuse_in_turn};
 // by x and then by y, and they are in the order of these.
 struct Row {
     name: &'static str,
-    regions: Regions,
+    subject: &'static [&'static [[i32; 2]]],
+    clip: &'static [&'static [[i32; 2]]],
+    choice: Choice,
     points: &'static [[i32; 2]],
     ends: &'static [usize],
 }
@@ -24,38 +27,12 @@ const SQUARE: &[[i32; 2]] = &[[0, 0], [2, 0], [2, 2], [0, 2]];
 
 const SQUARE_ASIDE: &[[i32; 2]] = &[[1, 1], [3, 1], [3, 3], [1, 3]];
 
-const UNION: Regions = Regions {
-    subject: &[SQUARE],
-    clip: &[SQUARE_ASIDE],
-    rule: FillRule::NonZero,
-    operation: Operation::Union,
-};
-
-const INTERSECTION: Regions = Regions {
-    subject: &[SQUARE],
-    clip: &[SQUARE_ASIDE],
-    rule: FillRule::NonZero,
-    operation: Operation::Intersection,
-};
-
-const DIFFERENCE: Regions = Regions {
-    subject: &[SQUARE],
-    clip: &[SQUARE_ASIDE],
-    rule: FillRule::NonZero,
-    operation: Operation::Difference,
-};
-
-const XOR: Regions = Regions {
-    subject: &[SQUARE],
-    clip: &[SQUARE_ASIDE],
-    rule: FillRule::NonZero,
-    operation: Operation::Xor,
-};
-
 static ROWS: [Row; 6] = [
     Row {
         name: "two squares that overlap, Union",
-        regions: UNION,
+        subject: &[SQUARE],
+        clip: &[SQUARE_ASIDE],
+        choice: UNION,
         points: &[
             [0, 0],
             [2, 0],
@@ -70,19 +47,25 @@ static ROWS: [Row; 6] = [
     },
     Row {
         name: "two squares that overlap, Intersection",
-        regions: INTERSECTION,
+        subject: &[SQUARE],
+        clip: &[SQUARE_ASIDE],
+        choice: INTERSECTION,
         points: &[[1, 1], [2, 1], [2, 2], [1, 2]],
         ends: &[4],
     },
     Row {
         name: "two squares that overlap, Difference",
-        regions: DIFFERENCE,
+        subject: &[SQUARE],
+        clip: &[SQUARE_ASIDE],
+        choice: DIFFERENCE,
         points: &[[0, 0], [2, 0], [2, 1], [1, 1], [1, 2], [0, 2]],
         ends: &[6],
     },
     Row {
         name: "two squares that overlap, Xor",
-        regions: XOR,
+        subject: &[SQUARE],
+        clip: &[SQUARE_ASIDE],
+        choice: XOR,
         points: &[
             [0, 0],
             [2, 0],
@@ -102,23 +85,17 @@ static ROWS: [Row; 6] = [
     // The two edges cross in (3/2, 1/2), which rounds to (2, 1).
     Row {
         name: "a bow-tie whose crossing isn't whole",
-        regions: Regions {
-            subject: &[&[[0, 0], [3, 1], [3, 0], [0, 1]]],
-            clip: &[],
-            rule: FillRule::EvenOdd,
-            operation: Operation::Union,
-        },
+        subject: &[&[[0, 0], [3, 1], [3, 0], [0, 1]]],
+        clip: &[],
+        choice: EVEN_ODD,
         points: &[[0, 0], [2, 1], [0, 1], [2, 1], [3, 0], [3, 1]],
         ends: &[3, 6],
     },
     Row {
         name: "nothing",
-        regions: Regions {
-            subject: &[],
-            clip: &[],
-            rule: FillRule::NonZero,
-            operation: Operation::Union,
-        },
+        subject: &[],
+        clip: &[],
+        choice: UNION,
         points: &[],
         ends: &[],
     },
@@ -136,7 +113,12 @@ fn is_bounded(alloc: Global, row: &Row) -> Result<bool, Fail> {
     let mut status = StatusTree::new(alloc, 0)?;
     let mut points = Vec::new(alloc);
     let mut ends = Vec::new(alloc);
-    let outcome = bound_walks(alloc, row.regions, &mut status, &mut points, &mut ends)?;
+    let regions = Regions {
+        subject: row.subject,
+        clip: row.clip,
+        choice: row.choice,
+    };
+    let outcome = bound_walks(alloc, regions, &mut status, &mut points, &mut ends)?;
     let same_points = points == points_of(alloc, row.points)?;
     Ok(outcome == Ok(()) && same_points && ends.as_slice() == row.ends)
 }
@@ -164,6 +146,12 @@ struct Bounding<'a> {
     alloc: Global,
 }
 
+const TWO_SQUARES: Regions = Regions {
+    subject: &[SQUARE],
+    clip: &[SQUARE_ASIDE],
+    choice: XOR,
+};
+
 impl<'a> Trial for Bounding<'a> {
     type State = Bounded<'a>;
 
@@ -188,7 +176,7 @@ impl<'a> Trial for Bounding<'a> {
             ends,
             outcome,
         } = bounded;
-        *outcome = bound_walks(self.alloc, XOR, status, points, ends).ok();
+        *outcome = bound_walks(self.alloc, TWO_SQUARES, status, points, ends).ok();
     }
 
     // Where room for all was asked in advance and refused, the call may still have found room for each.

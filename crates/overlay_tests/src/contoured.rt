@@ -19,26 +19,29 @@ const LEAST: i32 = i32::MIN;
 
 const MOST: i32 = i32::MAX;
 
-// Closed edges by the walks that they make, each back to its first point; the points of all their rings one after another, and
-// where each ring stops.
+// Closed edges by the walks that they make, each back to its first point; whether their rings are told without points on straight
+// lines; the points of all rings one after another, and where each ring stops.
 struct Row {
     name: &'static str,
     walks: &'static [&'static [[i32; 2]]],
+    are_outlines: bool,
     points: &'static [[i32; 2]],
     ends: &'static [usize],
 }
 
-static ROWS: [Row; 13] = [
+static ROWS: [Row; 17] = [
     Row {
         name: "no edge",
         walks: &[],
         points: &[],
+        are_outlines: false,
         ends: &[],
     },
     Row {
         name: "a square",
         walks: &[&[[0, 0], [2, 0], [2, 2], [0, 2]]],
         points: &[[0, 0], [2, 0], [2, 2], [0, 2]],
+        are_outlines: false,
         ends: &[4],
     },
     Row {
@@ -57,12 +60,14 @@ static ROWS: [Row; 13] = [
             [2, 2],
             [1, 2],
         ],
+        are_outlines: false,
         ends: &[4, 8],
     },
     Row {
         name: "a bow-tie that is cut where it crosses itself",
         walks: &[&[[0, 0], [1, 1], [2, 2], [2, 0], [1, 1], [0, 2]]],
         points: &[[0, 0], [1, 1], [0, 2], [1, 1], [2, 2], [2, 0]],
+        are_outlines: false,
         ends: &[3, 6],
     },
     // The walk comes to the hole before it is round the square, and leaves it as a ring of its own.
@@ -82,30 +87,35 @@ static ROWS: [Row; 13] = [
             [4, 4],
             [0, 4],
         ],
+        are_outlines: false,
         ends: &[3, 8],
     },
     Row {
         name: "a hole that touches its outer ring where the walk begins",
         walks: &[&[[0, 0], [4, 0], [4, 4], [0, 4]], &[[0, 0], [1, 2], [2, 1]]],
         points: &[[0, 0], [4, 0], [4, 4], [0, 4], [0, 0], [1, 2], [2, 1]],
+        are_outlines: false,
         ends: &[4, 7],
     },
     Row {
         name: "a ring of one point",
         walks: &[&[[5, 5]]],
         points: &[[5, 5]],
+        are_outlines: false,
         ends: &[1],
     },
     Row {
         name: "a ring of two points",
         walks: &[&[[0, 0], [3, 1]]],
         points: &[[0, 0], [3, 1]],
+        are_outlines: false,
         ends: &[2],
     },
     Row {
         name: "one ring twice",
         walks: &[&[[0, 0], [2, 0], [0, 2]], &[[0, 0], [2, 0], [0, 2]]],
         points: &[[0, 0], [2, 0], [0, 2], [0, 0], [2, 0], [0, 2]],
+        are_outlines: false,
         ends: &[3, 6],
     },
     // Nothing turns further left than the way straight back.
@@ -113,6 +123,7 @@ static ROWS: [Row; 13] = [
         name: "there and back along one line",
         walks: &[&[[0, 0], [1, 0], [2, 0], [1, 0]]],
         points: &[[0, 0], [1, 0], [1, 0], [2, 0]],
+        are_outlines: false,
         ends: &[2, 4],
     },
     Row {
@@ -141,6 +152,7 @@ static ROWS: [Row; 13] = [
             [3, 2],
             [2, 2],
         ],
+        are_outlines: false,
         ends: &[4, 8, 12, 16],
     },
     // The edge that is a point turns nowhere, so the walk goes on as if it weren't there.
@@ -162,6 +174,7 @@ static ROWS: [Row; 13] = [
             [2, 2],
             [1, 2],
         ],
+        are_outlines: false,
         ends: &[4, 5, 9],
     },
     Row {
@@ -178,41 +191,14 @@ static ROWS: [Row; 13] = [
             [MOST, MOST],
             [LEAST, MOST],
         ],
+        are_outlines: false,
         ends: &[3, 6],
     },
-];
-
-fn points_of(alloc: Global, row: &Row) -> Result<Vec<Point>, Fail> {
-    let mut points = Vec::new(alloc);
-    for [x, y] in row.points {
-        points.push(Point { x: *x, y: *y })?;
-    }
-    Ok(points)
-}
-
-// Whether the edges have these rings.
-fn has_rings(alloc: Global, row: &Row) -> Result<bool, Fail> {
-    let edges = edges_of(alloc, row.walks)?;
-    let mut points = Vec::new(alloc);
-    let mut ends = Vec::new(alloc);
-    let outcome = contours(&edges, &mut points, &mut ends);
-    let same_points = points == points_of(alloc, row)?;
-    Ok(outcome == Ok(()) && same_points && ends.as_slice() == row.ends)
-}
-
-#[test]
-fn edges_have_the_rings_worked_by_hand(rt: HostRuntime) -> Result<(), Fail> {
-    for row in &ROWS {
-        assert!(rt; has_rings(rt.alloc(), row)?, "{}", row.name);
-    }
-    Ok(())
-}
-
-static STRAIGHT: [Row; 4] = [
     Row {
         name: "no edge",
         walks: &[],
         points: &[],
+        are_outlines: true,
         ends: &[],
     },
     // The ring begins in the middle of a side.
@@ -230,6 +216,7 @@ static STRAIGHT: [Row; 4] = [
             [0, 2],
         ]],
         points: &[[0, 0], [3, 0], [3, 3], [0, 3]],
+        are_outlines: true,
         ends: &[4],
     },
     Row {
@@ -239,6 +226,7 @@ static STRAIGHT: [Row; 4] = [
             &[[1, 1], [2, 1], [3, 1], [2, 2]],
         ],
         points: &[[0, 0], [1, 0], [1, 1], [0, 1], [1, 1], [3, 1], [2, 2]],
+        are_outlines: true,
         ends: &[4, 7],
     },
     // It turns back at both points, and goes straight on at none.
@@ -246,24 +234,48 @@ static STRAIGHT: [Row; 4] = [
         name: "a ring of two points, and one of one",
         walks: &[&[[0, 0], [3, 1]], &[[5, 5]]],
         points: &[[0, 0], [3, 1], [5, 5]],
+        are_outlines: true,
         ends: &[2, 3],
     },
 ];
 
-// Whether the edges have these rings without the points at which they go straight on.
-fn has_outlines(alloc: Global, row: &Row) -> Result<bool, Fail> {
+fn points_of(alloc: Global, row: &Row) -> Result<Vec<Point>, Fail> {
+    let mut points = Vec::new(alloc);
+    for [x, y] in row.points {
+        points.push(Point { x: *x, y: *y })?;
+    }
+    Ok(points)
+}
+
+// Appends the rings of the edges, or their outlines.
+fn trace(
+    edges: &[Edge],
+    are_outlines: bool,
+    points: &mut Vec<Point>,
+    ends: &mut Vec<usize>,
+) -> Result<(), Refusal>
+    requires { IsClosed edges.now }
+{
+    if are_outlines {
+        return outlines(edges, points, ends);
+    }
+    contours(edges, points, ends)
+}
+
+// Whether the edges have these rings.
+fn has_rings(alloc: Global, row: &Row) -> Result<bool, Fail> {
     let edges = edges_of(alloc, row.walks)?;
     let mut points = Vec::new(alloc);
     let mut ends = Vec::new(alloc);
-    let outcome = outlines(&edges, &mut points, &mut ends);
+    let outcome = trace(&edges, row.are_outlines, &mut points, &mut ends);
     let same_points = points == points_of(alloc, row)?;
     Ok(outcome == Ok(()) && same_points && ends.as_slice() == row.ends)
 }
 
 #[test]
-fn edges_have_the_outlines_worked_by_hand(rt: HostRuntime) -> Result<(), Fail> {
-    for row in &STRAIGHT {
-        assert!(rt; has_outlines(rt.alloc(), row)?, "{}", row.name);
+fn edges_have_the_rings_worked_by_hand(rt: HostRuntime) -> Result<(), Fail> {
+    for row in &ROWS {
+        assert!(rt; has_rings(rt.alloc(), row)?, "{}", row.name);
     }
     Ok(())
 }

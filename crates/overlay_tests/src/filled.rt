@@ -3,7 +3,7 @@
 use crate::walks::{Regions, fill_walks};
 use i_tree::Refusal;
 use i_tree::status::tree::StatusTree;
-use overlay::fill::{FillRule, Operation};
+use overlay::fill::{Choice, FillRule, Operation};
 use plane::edge::Edge;
 use plane::sweep_line::ActiveEdge;
 use std::alloc::Global;
@@ -15,14 +15,76 @@ const LEAST: i32 = i32::MIN;
 
 const MOST: i32 = i32::MAX;
 
-/// Rings by their points, cut by hand where they meet; the edges that a fill keeps of them, in any order; and the polygons that
-/// these bound, without points on straight lines, of which each has its outer ring and then its holes.
+/// Rings by their points, cut by hand where they meet, and for each choice the edges that a fill keeps of them, in any order, and
+/// the polygons that these bound, without points on straight lines, of which each has its outer ring and then its holes.
 pub struct Row {
     pub name: &'static str,
-    pub regions: Regions,
-    pub kept: &'static [[i32; 4]],
-    pub polygons: &'static [&'static [&'static [[i32; 2]]]],
+    pub subject: &'static [&'static [[i32; 2]]],
+    pub clip: &'static [&'static [[i32; 2]]],
+    pub answers: &'static [Answer],
 }
+
+pub type Answer = (
+    Choice,
+    &'static [[i32; 4]],
+    &'static [&'static [&'static [[i32; 2]]]],
+);
+
+impl Row {
+    /// The rings, by what they are overlaid.
+    pub fn regions(&self, choice: Choice) -> Regions {
+        Regions {
+            subject: self.subject,
+            clip: self.clip,
+            choice,
+        }
+    }
+}
+
+pub const UNION: Choice = Choice {
+    rule: FillRule::NonZero,
+    operation: Operation::Union,
+};
+
+pub const INTERSECTION: Choice = Choice {
+    rule: FillRule::NonZero,
+    operation: Operation::Intersection,
+};
+
+pub const DIFFERENCE: Choice = Choice {
+    rule: FillRule::NonZero,
+    operation: Operation::Difference,
+};
+
+pub const XOR: Choice = Choice {
+    rule: FillRule::NonZero,
+    operation: Operation::Xor,
+};
+
+pub const EVEN_ODD: Choice = Choice {
+    rule: FillRule::EvenOdd,
+    operation: Operation::Union,
+};
+
+const EVEN_ODD_DIFFERENCE: Choice = Choice {
+    rule: FillRule::EvenOdd,
+    operation: Operation::Difference,
+};
+
+const EVEN_ODD_XOR: Choice = Choice {
+    rule: FillRule::EvenOdd,
+    operation: Operation::Xor,
+};
+
+const POSITIVE: Choice = Choice {
+    rule: FillRule::Positive,
+    operation: Operation::Union,
+};
+
+const NEGATIVE: Choice = Choice {
+    rule: FillRule::Negative,
+    operation: Operation::Union,
+};
 
 const SQUARE: &[[i32; 2]] = &[[0, 0], [2, 0], [2, 2], [0, 2]];
 
@@ -32,611 +94,385 @@ const AROUND: &[[i32; 4]] = &[[0, 0, 2, 0], [2, 0, 2, 2], [2, 2, 0, 2], [0, 2, 0
 
 const ONE_SQUARE: &[&[&[[i32; 2]]]] = &[&[SQUARE]];
 
-pub static ROWS: [Row; 40] = [
+pub static ROWS: [Row; 17] = [
     Row {
-        name: "a square, EvenOdd",
-        regions: Regions {
-            subject: &[SQUARE],
-            clip: &[],
-            rule: FillRule::EvenOdd,
-            operation: Operation::Union,
-        },
-        kept: AROUND,
-        polygons: ONE_SQUARE,
-    },
-    Row {
-        name: "a square, NonZero",
-        regions: Regions {
-            subject: &[SQUARE],
-            clip: &[],
-            rule: FillRule::NonZero,
-            operation: Operation::Union,
-        },
-        kept: AROUND,
-        polygons: ONE_SQUARE,
-    },
-    Row {
-        name: "a square, Positive",
-        regions: Regions {
-            subject: &[SQUARE],
-            clip: &[],
-            rule: FillRule::Positive,
-            operation: Operation::Union,
-        },
-        kept: AROUND,
-        polygons: ONE_SQUARE,
-    },
-    Row {
-        name: "a square, Negative",
-        regions: Regions {
-            subject: &[SQUARE],
-            clip: &[],
-            rule: FillRule::Negative,
-            operation: Operation::Union,
-        },
-        kept: &[],
-        polygons: &[],
-    },
-    Row {
-        name: "a square run the other way, EvenOdd",
-        regions: Regions {
-            subject: &[SQUARE_BACK],
-            clip: &[],
-            rule: FillRule::EvenOdd,
-            operation: Operation::Union,
-        },
-        kept: AROUND,
-        polygons: ONE_SQUARE,
-    },
-    Row {
-        name: "a square run the other way, NonZero",
-        regions: Regions {
-            subject: &[SQUARE_BACK],
-            clip: &[],
-            rule: FillRule::NonZero,
-            operation: Operation::Union,
-        },
-        kept: AROUND,
-        polygons: ONE_SQUARE,
-    },
-    Row {
-        name: "a square run the other way, Positive",
-        regions: Regions {
-            subject: &[SQUARE_BACK],
-            clip: &[],
-            rule: FillRule::Positive,
-            operation: Operation::Union,
-        },
-        kept: &[],
-        polygons: &[],
-    },
-    Row {
-        name: "a square run the other way, Negative",
-        regions: Regions {
-            subject: &[SQUARE_BACK],
-            clip: &[],
-            rule: FillRule::Negative,
-            operation: Operation::Union,
-        },
-        kept: AROUND,
-        polygons: ONE_SQUARE,
-    },
-    Row {
-        name: "a square in a square, EvenOdd",
-        regions: Regions {
-            subject: &[
-                &[[0, 0], [6, 0], [6, 6], [0, 6]],
-                &[[2, 2], [4, 2], [4, 4], [2, 4]],
-            ],
-            clip: &[],
-            rule: FillRule::EvenOdd,
-            operation: Operation::Union,
-        },
-        kept: &[
-            [0, 0, 6, 0],
-            [6, 0, 6, 6],
-            [6, 6, 0, 6],
-            [0, 6, 0, 0],
-            [4, 2, 2, 2],
-            [2, 2, 2, 4],
-            [2, 4, 4, 4],
-            [4, 4, 4, 2],
+        name: "a square",
+        subject: &[SQUARE],
+        clip: &[],
+        answers: &[
+            (EVEN_ODD, AROUND, ONE_SQUARE),
+            (UNION, AROUND, ONE_SQUARE),
+            (POSITIVE, AROUND, ONE_SQUARE),
+            (NEGATIVE, &[], &[]),
         ],
-        polygons: &[&[
+    },
+    Row {
+        name: "a square run the other way",
+        subject: &[SQUARE_BACK],
+        clip: &[],
+        answers: &[
+            (EVEN_ODD, AROUND, ONE_SQUARE),
+            (UNION, AROUND, ONE_SQUARE),
+            (POSITIVE, &[], &[]),
+            (NEGATIVE, AROUND, ONE_SQUARE),
+        ],
+    },
+    Row {
+        name: "a square in a square",
+        subject: &[
+            &[[0, 0], [6, 0], [6, 6], [0, 6]],
+            &[[2, 2], [4, 2], [4, 4], [2, 4]],
+        ],
+        clip: &[],
+        answers: &[
+            (
+                EVEN_ODD,
+                &[
+                    [0, 0, 6, 0],
+                    [6, 0, 6, 6],
+                    [6, 6, 0, 6],
+                    [0, 6, 0, 0],
+                    [4, 2, 2, 2],
+                    [2, 2, 2, 4],
+                    [2, 4, 4, 4],
+                    [4, 4, 4, 2],
+                ],
+                &[&[
+                    &[[0, 0], [6, 0], [6, 6], [0, 6]],
+                    &[[2, 2], [2, 4], [4, 4], [4, 2]],
+                ]],
+            ),
+            (
+                UNION,
+                &[[0, 0, 6, 0], [6, 0, 6, 6], [6, 6, 0, 6], [0, 6, 0, 0]],
+                &[&[&[[0, 0], [6, 0], [6, 6], [0, 6]]]],
+            ),
+            (
+                POSITIVE,
+                &[[0, 0, 6, 0], [6, 0, 6, 6], [6, 6, 0, 6], [0, 6, 0, 0]],
+                &[&[&[[0, 0], [6, 0], [6, 6], [0, 6]]]],
+            ),
+        ],
+    },
+    Row {
+        name: "a square in a square run the other way",
+        subject: &[
             &[[0, 0], [6, 0], [6, 6], [0, 6]],
             &[[2, 2], [2, 4], [4, 4], [4, 2]],
-        ]],
-    },
-    Row {
-        name: "a square in a square, NonZero",
-        regions: Regions {
-            subject: &[
-                &[[0, 0], [6, 0], [6, 6], [0, 6]],
-                &[[2, 2], [4, 2], [4, 4], [2, 4]],
-            ],
-            clip: &[],
-            rule: FillRule::NonZero,
-            operation: Operation::Union,
-        },
-        kept: &[[0, 0, 6, 0], [6, 0, 6, 6], [6, 6, 0, 6], [0, 6, 0, 0]],
-        polygons: &[&[&[[0, 0], [6, 0], [6, 6], [0, 6]]]],
-    },
-    Row {
-        name: "a square in a square, Positive",
-        regions: Regions {
-            subject: &[
-                &[[0, 0], [6, 0], [6, 6], [0, 6]],
-                &[[2, 2], [4, 2], [4, 4], [2, 4]],
-            ],
-            clip: &[],
-            rule: FillRule::Positive,
-            operation: Operation::Union,
-        },
-        kept: &[[0, 0, 6, 0], [6, 0, 6, 6], [6, 6, 0, 6], [0, 6, 0, 0]],
-        polygons: &[&[&[[0, 0], [6, 0], [6, 6], [0, 6]]]],
-    },
-    Row {
-        name: "a square in a square run the other way, NonZero",
-        regions: Regions {
-            subject: &[
-                &[[0, 0], [6, 0], [6, 6], [0, 6]],
-                &[[2, 2], [2, 4], [4, 4], [4, 2]],
-            ],
-            clip: &[],
-            rule: FillRule::NonZero,
-            operation: Operation::Union,
-        },
-        kept: &[
-            [0, 0, 6, 0],
-            [6, 0, 6, 6],
-            [6, 6, 0, 6],
-            [0, 6, 0, 0],
-            [4, 2, 2, 2],
-            [2, 2, 2, 4],
-            [2, 4, 4, 4],
-            [4, 4, 4, 2],
         ],
-        polygons: &[&[
-            &[[0, 0], [6, 0], [6, 6], [0, 6]],
-            &[[2, 2], [2, 4], [4, 4], [4, 2]],
-        ]],
-    },
-    Row {
-        name: "a square in a square run the other way, Positive",
-        regions: Regions {
-            subject: &[
-                &[[0, 0], [6, 0], [6, 6], [0, 6]],
-                &[[2, 2], [2, 4], [4, 4], [4, 2]],
-            ],
-            clip: &[],
-            rule: FillRule::Positive,
-            operation: Operation::Union,
-        },
-        kept: &[
-            [0, 0, 6, 0],
-            [6, 0, 6, 6],
-            [6, 6, 0, 6],
-            [0, 6, 0, 0],
-            [4, 2, 2, 2],
-            [2, 2, 2, 4],
-            [2, 4, 4, 4],
-            [4, 4, 4, 2],
+        clip: &[],
+        answers: &[
+            (
+                UNION,
+                &[
+                    [0, 0, 6, 0],
+                    [6, 0, 6, 6],
+                    [6, 6, 0, 6],
+                    [0, 6, 0, 0],
+                    [4, 2, 2, 2],
+                    [2, 2, 2, 4],
+                    [2, 4, 4, 4],
+                    [4, 4, 4, 2],
+                ],
+                &[&[
+                    &[[0, 0], [6, 0], [6, 6], [0, 6]],
+                    &[[2, 2], [2, 4], [4, 4], [4, 2]],
+                ]],
+            ),
+            (
+                POSITIVE,
+                &[
+                    [0, 0, 6, 0],
+                    [6, 0, 6, 6],
+                    [6, 6, 0, 6],
+                    [0, 6, 0, 0],
+                    [4, 2, 2, 2],
+                    [2, 2, 2, 4],
+                    [2, 4, 4, 4],
+                    [4, 4, 4, 2],
+                ],
+                &[&[
+                    &[[0, 0], [6, 0], [6, 6], [0, 6]],
+                    &[[2, 2], [2, 4], [4, 4], [4, 2]],
+                ]],
+            ),
         ],
-        polygons: &[&[
-            &[[0, 0], [6, 0], [6, 6], [0, 6]],
-            &[[2, 2], [2, 4], [4, 4], [4, 2]],
-        ]],
     },
     Row {
-        name: "squares that share an edge, all of both",
-        regions: Regions {
-            subject: &[SQUARE],
-            clip: &[&[[2, 0], [4, 0], [4, 2], [2, 2]]],
-            rule: FillRule::NonZero,
-            operation: Operation::Union,
-        },
-        kept: &[
-            [0, 0, 2, 0],
-            [2, 0, 4, 0],
-            [4, 0, 4, 2],
-            [4, 2, 2, 2],
-            [2, 2, 0, 2],
-            [0, 2, 0, 0],
+        name: "squares that share an edge",
+        subject: &[SQUARE],
+        clip: &[&[[2, 0], [4, 0], [4, 2], [2, 2]]],
+        answers: &[
+            (
+                UNION,
+                &[
+                    [0, 0, 2, 0],
+                    [2, 0, 4, 0],
+                    [4, 0, 4, 2],
+                    [4, 2, 2, 2],
+                    [2, 2, 0, 2],
+                    [0, 2, 0, 0],
+                ],
+                &[&[&[[0, 0], [4, 0], [4, 2], [0, 2]]]],
+            ),
+            (INTERSECTION, &[], &[]),
         ],
-        polygons: &[&[&[[0, 0], [4, 0], [4, 2], [0, 2]]]],
-    },
-    Row {
-        name: "squares that share an edge, what both have",
-        regions: Regions {
-            subject: &[SQUARE],
-            clip: &[&[[2, 0], [4, 0], [4, 2], [2, 2]]],
-            rule: FillRule::NonZero,
-            operation: Operation::Intersection,
-        },
-        kept: &[],
-        polygons: &[],
     },
     Row {
         name: "squares that share a part of an edge",
-        regions: Regions {
-            subject: &[&[[0, 0], [2, 0], [2, 1], [2, 2], [0, 2]]],
-            clip: &[&[[2, 1], [4, 1], [4, 3], [2, 3], [2, 2]]],
-            rule: FillRule::NonZero,
-            operation: Operation::Union,
-        },
-        kept: &[
-            [0, 0, 2, 0],
-            [2, 0, 2, 1],
-            [2, 1, 4, 1],
-            [4, 1, 4, 3],
-            [4, 3, 2, 3],
-            [2, 3, 2, 2],
-            [2, 2, 0, 2],
-            [0, 2, 0, 0],
-        ],
-        polygons: &[&[&[
-            [0, 0],
-            [2, 0],
-            [2, 1],
-            [4, 1],
-            [4, 3],
-            [2, 3],
-            [2, 2],
-            [0, 2],
-        ]]],
+        subject: &[&[[0, 0], [2, 0], [2, 1], [2, 2], [0, 2]]],
+        clip: &[&[[2, 1], [4, 1], [4, 3], [2, 3], [2, 2]]],
+        answers: &[(
+            UNION,
+            &[
+                [0, 0, 2, 0],
+                [2, 0, 2, 1],
+                [2, 1, 4, 1],
+                [4, 1, 4, 3],
+                [4, 3, 2, 3],
+                [2, 3, 2, 2],
+                [2, 2, 0, 2],
+                [0, 2, 0, 0],
+            ],
+            &[&[&[
+                [0, 0],
+                [2, 0],
+                [2, 1],
+                [4, 1],
+                [4, 3],
+                [2, 3],
+                [2, 2],
+                [0, 2],
+            ]]],
+        )],
     },
     Row {
         name: "squares that touch at a corner",
-        regions: Regions {
-            subject: &[&[[0, 0], [1, 0], [1, 1], [0, 1]]],
-            clip: &[&[[1, 1], [2, 1], [2, 2], [1, 2]]],
-            rule: FillRule::NonZero,
-            operation: Operation::Union,
-        },
-        kept: &[
-            [0, 0, 1, 0],
-            [1, 0, 1, 1],
-            [1, 1, 0, 1],
-            [0, 1, 0, 0],
-            [1, 1, 2, 1],
-            [2, 1, 2, 2],
-            [2, 2, 1, 2],
-            [1, 2, 1, 1],
-        ],
-        polygons: &[
-            &[&[[0, 0], [1, 0], [1, 1], [0, 1]]],
-            &[&[[1, 1], [2, 1], [2, 2], [1, 2]]],
-        ],
+        subject: &[&[[0, 0], [1, 0], [1, 1], [0, 1]]],
+        clip: &[&[[1, 1], [2, 1], [2, 2], [1, 2]]],
+        answers: &[(
+            UNION,
+            &[
+                [0, 0, 1, 0],
+                [1, 0, 1, 1],
+                [1, 1, 0, 1],
+                [0, 1, 0, 0],
+                [1, 1, 2, 1],
+                [2, 1, 2, 2],
+                [2, 2, 1, 2],
+                [1, 2, 1, 1],
+            ],
+            &[
+                &[&[[0, 0], [1, 0], [1, 1], [0, 1]]],
+                &[&[[1, 1], [2, 1], [2, 2], [1, 2]]],
+            ],
+        )],
     },
     Row {
-        name: "squares that overlap, Union",
-        regions: Regions {
-            subject: &[&[[0, 0], [2, 0], [2, 1], [2, 2], [1, 2], [0, 2]]],
-            clip: &[&[[1, 1], [2, 1], [3, 1], [3, 3], [1, 3], [1, 2]]],
-            rule: FillRule::NonZero,
-            operation: Operation::Union,
-        },
-        kept: &[
-            [0, 0, 2, 0],
-            [2, 0, 2, 1],
-            [2, 1, 3, 1],
-            [3, 1, 3, 3],
-            [3, 3, 1, 3],
-            [1, 3, 1, 2],
-            [1, 2, 0, 2],
-            [0, 2, 0, 0],
-        ],
-        polygons: &[&[&[
-            [0, 0],
-            [2, 0],
-            [2, 1],
-            [3, 1],
-            [3, 3],
-            [1, 3],
-            [1, 2],
-            [0, 2],
-        ]]],
-    },
-    Row {
-        name: "squares that overlap, Intersection",
-        regions: Regions {
-            subject: &[&[[0, 0], [2, 0], [2, 1], [2, 2], [1, 2], [0, 2]]],
-            clip: &[&[[1, 1], [2, 1], [3, 1], [3, 3], [1, 3], [1, 2]]],
-            rule: FillRule::NonZero,
-            operation: Operation::Intersection,
-        },
-        kept: &[[1, 1, 2, 1], [2, 1, 2, 2], [2, 2, 1, 2], [1, 2, 1, 1]],
-        polygons: &[&[&[[1, 1], [2, 1], [2, 2], [1, 2]]]],
-    },
-    Row {
-        name: "squares that overlap, Difference",
-        regions: Regions {
-            subject: &[&[[0, 0], [2, 0], [2, 1], [2, 2], [1, 2], [0, 2]]],
-            clip: &[&[[1, 1], [2, 1], [3, 1], [3, 3], [1, 3], [1, 2]]],
-            rule: FillRule::NonZero,
-            operation: Operation::Difference,
-        },
-        kept: &[
-            [0, 0, 2, 0],
-            [2, 0, 2, 1],
-            [2, 1, 1, 1],
-            [1, 1, 1, 2],
-            [1, 2, 0, 2],
-            [0, 2, 0, 0],
-        ],
-        polygons: &[&[&[[0, 0], [2, 0], [2, 1], [1, 1], [1, 2], [0, 2]]]],
-    },
-    Row {
-        name: "squares that overlap, Xor",
-        regions: Regions {
-            subject: &[&[[0, 0], [2, 0], [2, 1], [2, 2], [1, 2], [0, 2]]],
-            clip: &[&[[1, 1], [2, 1], [3, 1], [3, 3], [1, 3], [1, 2]]],
-            rule: FillRule::NonZero,
-            operation: Operation::Xor,
-        },
-        kept: &[
-            [0, 0, 2, 0],
-            [2, 0, 2, 1],
-            [2, 1, 1, 1],
-            [1, 1, 1, 2],
-            [1, 2, 0, 2],
-            [0, 2, 0, 0],
-            [2, 1, 3, 1],
-            [3, 1, 3, 3],
-            [3, 3, 1, 3],
-            [1, 3, 1, 2],
-            [1, 2, 2, 2],
-            [2, 2, 2, 1],
-        ],
-        polygons: &[
-            &[&[[0, 0], [2, 0], [2, 1], [1, 1], [1, 2], [0, 2]]],
-            &[&[[1, 2], [2, 2], [2, 1], [3, 1], [3, 3], [1, 3]]],
+        name: "squares that overlap",
+        subject: &[&[[0, 0], [2, 0], [2, 1], [2, 2], [1, 2], [0, 2]]],
+        clip: &[&[[1, 1], [2, 1], [3, 1], [3, 3], [1, 3], [1, 2]]],
+        answers: &[
+            (
+                UNION,
+                &[
+                    [0, 0, 2, 0],
+                    [2, 0, 2, 1],
+                    [2, 1, 3, 1],
+                    [3, 1, 3, 3],
+                    [3, 3, 1, 3],
+                    [1, 3, 1, 2],
+                    [1, 2, 0, 2],
+                    [0, 2, 0, 0],
+                ],
+                &[&[&[
+                    [0, 0],
+                    [2, 0],
+                    [2, 1],
+                    [3, 1],
+                    [3, 3],
+                    [1, 3],
+                    [1, 2],
+                    [0, 2],
+                ]]],
+            ),
+            (
+                INTERSECTION,
+                &[[1, 1, 2, 1], [2, 1, 2, 2], [2, 2, 1, 2], [1, 2, 1, 1]],
+                &[&[&[[1, 1], [2, 1], [2, 2], [1, 2]]]],
+            ),
+            (
+                DIFFERENCE,
+                &[
+                    [0, 0, 2, 0],
+                    [2, 0, 2, 1],
+                    [2, 1, 1, 1],
+                    [1, 1, 1, 2],
+                    [1, 2, 0, 2],
+                    [0, 2, 0, 0],
+                ],
+                &[&[&[[0, 0], [2, 0], [2, 1], [1, 1], [1, 2], [0, 2]]]],
+            ),
+            (
+                XOR,
+                &[
+                    [0, 0, 2, 0],
+                    [2, 0, 2, 1],
+                    [2, 1, 1, 1],
+                    [1, 1, 1, 2],
+                    [1, 2, 0, 2],
+                    [0, 2, 0, 0],
+                    [2, 1, 3, 1],
+                    [3, 1, 3, 3],
+                    [3, 3, 1, 3],
+                    [1, 3, 1, 2],
+                    [1, 2, 2, 2],
+                    [2, 2, 2, 1],
+                ],
+                &[
+                    &[&[[0, 0], [2, 0], [2, 1], [1, 1], [1, 2], [0, 2]]],
+                    &[&[[1, 2], [2, 2], [2, 1], [3, 1], [3, 3], [1, 3]]],
+                ],
+            ),
         ],
     },
     Row {
-        name: "one square as both, Union",
-        regions: Regions {
-            subject: &[SQUARE],
-            clip: &[SQUARE_BACK],
-            rule: FillRule::NonZero,
-            operation: Operation::Union,
-        },
-        kept: AROUND,
-        polygons: ONE_SQUARE,
-    },
-    Row {
-        name: "one square as both, Intersection",
-        regions: Regions {
-            subject: &[SQUARE],
-            clip: &[SQUARE_BACK],
-            rule: FillRule::NonZero,
-            operation: Operation::Intersection,
-        },
-        kept: AROUND,
-        polygons: ONE_SQUARE,
-    },
-    Row {
-        name: "one square as both, Difference",
-        regions: Regions {
-            subject: &[SQUARE],
-            clip: &[SQUARE_BACK],
-            rule: FillRule::NonZero,
-            operation: Operation::Difference,
-        },
-        kept: &[],
-        polygons: &[],
-    },
-    Row {
-        name: "one square as both, Xor",
-        regions: Regions {
-            subject: &[SQUARE],
-            clip: &[SQUARE_BACK],
-            rule: FillRule::NonZero,
-            operation: Operation::Xor,
-        },
-        kept: &[],
-        polygons: &[],
+        name: "one square as both",
+        subject: &[SQUARE],
+        clip: &[SQUARE_BACK],
+        answers: &[
+            (UNION, AROUND, ONE_SQUARE),
+            (INTERSECTION, AROUND, ONE_SQUARE),
+            (DIFFERENCE, &[], &[]),
+            (XOR, &[], &[]),
+        ],
     },
     // Its left half is run counterclockwise, its right half isn't.
     Row {
-        name: "a bow-tie, EvenOdd",
-        regions: Regions {
-            subject: &[&[[0, 0], [1, 1], [2, 2], [2, 0], [1, 1], [0, 2]]],
-            clip: &[],
-            rule: FillRule::EvenOdd,
-            operation: Operation::Union,
-        },
-        kept: &[
-            [0, 0, 1, 1],
-            [1, 1, 0, 2],
-            [0, 2, 0, 0],
-            [1, 1, 2, 0],
-            [2, 0, 2, 2],
-            [2, 2, 1, 1],
+        name: "a bow-tie",
+        subject: &[&[[0, 0], [1, 1], [2, 2], [2, 0], [1, 1], [0, 2]]],
+        clip: &[],
+        answers: &[
+            (
+                EVEN_ODD,
+                &[
+                    [0, 0, 1, 1],
+                    [1, 1, 0, 2],
+                    [0, 2, 0, 0],
+                    [1, 1, 2, 0],
+                    [2, 0, 2, 2],
+                    [2, 2, 1, 1],
+                ],
+                &[&[&[[0, 0], [1, 1], [0, 2]]], &[&[[1, 1], [2, 0], [2, 2]]]],
+            ),
+            (
+                UNION,
+                &[
+                    [0, 0, 1, 1],
+                    [1, 1, 0, 2],
+                    [0, 2, 0, 0],
+                    [1, 1, 2, 0],
+                    [2, 0, 2, 2],
+                    [2, 2, 1, 1],
+                ],
+                &[&[&[[0, 0], [1, 1], [0, 2]]], &[&[[1, 1], [2, 0], [2, 2]]]],
+            ),
+            (
+                POSITIVE,
+                &[[0, 0, 1, 1], [1, 1, 0, 2], [0, 2, 0, 0]],
+                &[&[&[[0, 0], [1, 1], [0, 2]]]],
+            ),
+            (
+                NEGATIVE,
+                &[[1, 1, 2, 0], [2, 0, 2, 2], [2, 2, 1, 1]],
+                &[&[&[[1, 1], [2, 0], [2, 2]]]],
+            ),
         ],
-        polygons: &[&[&[[0, 0], [1, 1], [0, 2]]], &[&[[1, 1], [2, 0], [2, 2]]]],
     },
     Row {
-        name: "a bow-tie, NonZero",
-        regions: Regions {
-            subject: &[&[[0, 0], [1, 1], [2, 2], [2, 0], [1, 1], [0, 2]]],
-            clip: &[],
-            rule: FillRule::NonZero,
-            operation: Operation::Union,
-        },
-        kept: &[
-            [0, 0, 1, 1],
-            [1, 1, 0, 2],
-            [0, 2, 0, 0],
-            [1, 1, 2, 0],
-            [2, 0, 2, 2],
-            [2, 2, 1, 1],
+        name: "no subject",
+        subject: &[],
+        clip: &[SQUARE],
+        answers: &[
+            (EVEN_ODD, AROUND, ONE_SQUARE),
+            (EVEN_ODD_DIFFERENCE, &[], &[]),
         ],
-        polygons: &[&[&[[0, 0], [1, 1], [0, 2]]], &[&[[1, 1], [2, 0], [2, 2]]]],
-    },
-    Row {
-        name: "a bow-tie, Positive",
-        regions: Regions {
-            subject: &[&[[0, 0], [1, 1], [2, 2], [2, 0], [1, 1], [0, 2]]],
-            clip: &[],
-            rule: FillRule::Positive,
-            operation: Operation::Union,
-        },
-        kept: &[[0, 0, 1, 1], [1, 1, 0, 2], [0, 2, 0, 0]],
-        polygons: &[&[&[[0, 0], [1, 1], [0, 2]]]],
-    },
-    Row {
-        name: "a bow-tie, Negative",
-        regions: Regions {
-            subject: &[&[[0, 0], [1, 1], [2, 2], [2, 0], [1, 1], [0, 2]]],
-            clip: &[],
-            rule: FillRule::Negative,
-            operation: Operation::Union,
-        },
-        kept: &[[1, 1, 2, 0], [2, 0, 2, 2], [2, 2, 1, 1]],
-        polygons: &[&[&[[1, 1], [2, 0], [2, 2]]]],
-    },
-    Row {
-        name: "no subject, all of both",
-        regions: Regions {
-            subject: &[],
-            clip: &[SQUARE],
-            rule: FillRule::EvenOdd,
-            operation: Operation::Union,
-        },
-        kept: AROUND,
-        polygons: ONE_SQUARE,
-    },
-    Row {
-        name: "no subject, what only it has",
-        regions: Regions {
-            subject: &[],
-            clip: &[SQUARE],
-            rule: FillRule::EvenOdd,
-            operation: Operation::Difference,
-        },
-        kept: &[],
-        polygons: &[],
     },
     Row {
         name: "no clip, what only the subject has",
-        regions: Regions {
-            subject: &[SQUARE],
-            clip: &[],
-            rule: FillRule::EvenOdd,
-            operation: Operation::Difference,
-        },
-        kept: AROUND,
-        polygons: ONE_SQUARE,
+        subject: &[SQUARE],
+        clip: &[],
+        answers: &[(EVEN_ODD_DIFFERENCE, AROUND, ONE_SQUARE)],
     },
     Row {
         name: "neither",
-        regions: Regions {
-            subject: &[],
-            clip: &[],
-            rule: FillRule::EvenOdd,
-            operation: Operation::Xor,
-        },
-        kept: &[],
-        polygons: &[],
+        subject: &[],
+        clip: &[],
+        answers: &[(EVEN_ODD_XOR, &[], &[])],
     },
     Row {
         name: "a point, and an edge there and back",
-        regions: Regions {
-            subject: &[&[[5, 5]], &[[0, 0], [3, 1]]],
-            clip: &[&[[0, 0], [3, 1]]],
-            rule: FillRule::NonZero,
-            operation: Operation::Union,
-        },
-        kept: &[],
-        polygons: &[],
+        subject: &[&[[5, 5]], &[[0, 0], [3, 1]]],
+        clip: &[&[[0, 0], [3, 1]]],
+        answers: &[(UNION, &[], &[])],
     },
     Row {
-        name: "a ring run twice, EvenOdd",
-        regions: Regions {
-            subject: &[SQUARE, SQUARE],
-            clip: &[],
-            rule: FillRule::EvenOdd,
-            operation: Operation::Union,
-        },
-        kept: &[],
-        polygons: &[],
-    },
-    Row {
-        name: "a ring run twice, NonZero",
-        regions: Regions {
-            subject: &[SQUARE, SQUARE],
-            clip: &[],
-            rule: FillRule::NonZero,
-            operation: Operation::Union,
-        },
-        kept: AROUND,
-        polygons: ONE_SQUARE,
-    },
-    Row {
-        name: "a ring run twice, Positive",
-        regions: Regions {
-            subject: &[SQUARE, SQUARE],
-            clip: &[],
-            rule: FillRule::Positive,
-            operation: Operation::Union,
-        },
-        kept: AROUND,
-        polygons: ONE_SQUARE,
+        name: "a ring run twice",
+        subject: &[SQUARE, SQUARE],
+        clip: &[],
+        answers: &[
+            (EVEN_ODD, &[], &[]),
+            (UNION, AROUND, ONE_SQUARE),
+            (POSITIVE, AROUND, ONE_SQUARE),
+        ],
     },
     Row {
         name: "a hole that touches its outer ring",
-        regions: Regions {
-            subject: &[
-                &[[0, 0], [4, 0], [4, 2], [4, 4], [0, 4]],
-                &[[4, 2], [2, 1], [2, 3]],
+        subject: &[
+            &[[0, 0], [4, 0], [4, 2], [4, 4], [0, 4]],
+            &[[4, 2], [2, 1], [2, 3]],
+        ],
+        clip: &[],
+        answers: &[(
+            UNION,
+            &[
+                [0, 0, 4, 0],
+                [4, 0, 4, 2],
+                [4, 2, 4, 4],
+                [4, 4, 0, 4],
+                [0, 4, 0, 0],
+                [4, 2, 2, 1],
+                [2, 1, 2, 3],
+                [2, 3, 4, 2],
             ],
-            clip: &[],
-            rule: FillRule::NonZero,
-            operation: Operation::Union,
-        },
-        kept: &[
-            [0, 0, 4, 0],
-            [4, 0, 4, 2],
-            [4, 2, 4, 4],
-            [4, 4, 0, 4],
-            [0, 4, 0, 0],
-            [4, 2, 2, 1],
-            [2, 1, 2, 3],
-            [2, 3, 4, 2],
-        ],
-        polygons: &[&[&[[0, 0], [4, 0], [4, 4], [0, 4]], &[[4, 2], [2, 1], [2, 3]]]],
+            &[&[&[[0, 0], [4, 0], [4, 4], [0, 4]], &[[4, 2], [2, 1], [2, 3]]]],
+        )],
     },
     Row {
-        name: "from corner to corner, all of both",
-        regions: Regions {
-            subject: &[&[[LEAST, LEAST], [MOST, LEAST], [MOST, MOST]]],
-            clip: &[&[[LEAST, LEAST], [MOST, MOST], [LEAST, MOST]]],
-            rule: FillRule::NonZero,
-            operation: Operation::Union,
-        },
-        kept: &[
-            [LEAST, LEAST, MOST, LEAST],
-            [MOST, LEAST, MOST, MOST],
-            [MOST, MOST, LEAST, MOST],
-            [LEAST, MOST, LEAST, LEAST],
+        name: "from corner to corner",
+        subject: &[&[[LEAST, LEAST], [MOST, LEAST], [MOST, MOST]]],
+        clip: &[&[[LEAST, LEAST], [MOST, MOST], [LEAST, MOST]]],
+        answers: &[
+            (
+                UNION,
+                &[
+                    [LEAST, LEAST, MOST, LEAST],
+                    [MOST, LEAST, MOST, MOST],
+                    [MOST, MOST, LEAST, MOST],
+                    [LEAST, MOST, LEAST, LEAST],
+                ],
+                &[&[&[[LEAST, LEAST], [MOST, LEAST], [MOST, MOST], [LEAST, MOST]]]],
+            ),
+            (
+                DIFFERENCE,
+                &[
+                    [LEAST, LEAST, MOST, LEAST],
+                    [MOST, LEAST, MOST, MOST],
+                    [MOST, MOST, LEAST, LEAST],
+                ],
+                &[&[&[[LEAST, LEAST], [MOST, LEAST], [MOST, MOST]]]],
+            ),
         ],
-        polygons: &[&[&[[LEAST, LEAST], [MOST, LEAST], [MOST, MOST], [LEAST, MOST]]]],
-    },
-    Row {
-        name: "from corner to corner, what only the subject has",
-        regions: Regions {
-            subject: &[&[[LEAST, LEAST], [MOST, LEAST], [MOST, MOST]]],
-            clip: &[&[[LEAST, LEAST], [MOST, MOST], [LEAST, MOST]]],
-            rule: FillRule::NonZero,
-            operation: Operation::Difference,
-        },
-        kept: &[
-            [LEAST, LEAST, MOST, LEAST],
-            [MOST, LEAST, MOST, MOST],
-            [MOST, MOST, LEAST, LEAST],
-        ],
-        polygons: &[&[&[[LEAST, LEAST], [MOST, LEAST], [MOST, MOST]]]],
     },
 ];
 
@@ -656,55 +492,23 @@ fn are_kept(edges: &[Edge], kept: &[[i32; 4]]) -> bool {
     edges.len() == kept.len()
 }
 
+// Whether for each choice of the row these edges are kept.
 fn is_filled(alloc: Global, row: &Row) -> Result<bool, Fail> {
     let mut status = StatusTree::new(alloc, 0)?;
-    let mut out = Vec::new(alloc);
-    let outcome = fill_walks(alloc, row.regions, &mut status, &mut out)?;
-    Ok(outcome == Some(Ok(())) && are_kept(&out, row.kept))
+    for (choice, kept, _) in row.answers {
+        let mut out = Vec::new(alloc);
+        let outcome = fill_walks(alloc, row.regions(*choice), &mut status, &mut out)?;
+        if outcome != Some(Ok(())) || !are_kept(&out, kept) {
+            return Ok(false);
+        }
+    }
+    Ok(true)
 }
 
 #[test]
 fn rings_are_filled_as_worked_by_hand(rt: HostRuntime) -> Result<(), Fail> {
     for row in &ROWS {
         assert!(rt; is_filled(rt.alloc(), row)?, "{}", row.name);
-    }
-    Ok(())
-}
-
-// Whether winding numbers from -2 to 2 are those of points inside.
-static INSIDE: [(FillRule, [bool; 5]); 4] = [
-    (FillRule::EvenOdd, [false, true, false, true, false]),
-    (FillRule::NonZero, [true, true, false, true, true]),
-    (FillRule::Positive, [false, false, false, true, true]),
-    (FillRule::Negative, [true, true, false, false, false]),
-];
-
-#[test]
-fn rules_tell_what_is_inside(rt: HostRuntime) -> Result<(), Fail> {
-    for (rule, wanted) in &INSIDE {
-        assert!(rt; [-2, -1, 0, 1, 2].map(|winding| rule.is_inside(winding)) == *wanted);
-    }
-    Ok(())
-}
-
-// Of points of neither, of the clip alone, of the subject alone and of both.
-static OPERATED: [(Operation, [bool; 4]); 4] = [
-    (Operation::Union, [false, true, true, true]),
-    (Operation::Intersection, [false, false, false, true]),
-    (Operation::Difference, [false, false, true, false]),
-    (Operation::Xor, [false, true, true, false]),
-];
-
-#[test]
-fn operations_tell_what_is_of_the_result(rt: HostRuntime) -> Result<(), Fail> {
-    for (operation, wanted) in &OPERATED {
-        let told = [
-            operation.operate(false, false),
-            operation.operate(false, true),
-            operation.operate(true, false),
-            operation.operate(true, true),
-        ];
-        assert!(rt; told == *wanted);
     }
     Ok(())
 }
@@ -727,8 +531,7 @@ struct Filling<'a> {
 const TWO_SQUARES: Regions = Regions {
     subject: &[&[[0, 0], [2, 0], [2, 1], [2, 2], [0, 2]]],
     clip: &[&[[2, 1], [4, 1], [4, 3], [2, 3], [2, 2]]],
-    rule: FillRule::NonZero,
-    operation: Operation::Union,
+    choice: UNION,
 };
 
 const EARLIER: Edge = Edge {

@@ -4,6 +4,7 @@ use crate::filled::{ROWS, Row};
 use crate::walks::Regions;
 use i_tree::Refusal;
 use monotone_chains::{overlay, simplify};
+use overlay::fill::Choice;
 use overlay::{FillRule, Operation, OverlayFault, Polygons, Rings};
 use plane::point::Point;
 use std::alloc::{AllocError, Allocator, Global};
@@ -34,10 +35,10 @@ fn push_points<A: Allocator>(
     Ok(())
 }
 
-// The polygons of a row.
-fn wanted_of(alloc: Global, row: &Row) -> Result<Polygons<Global>, AllocError> {
+// Polygons by the points of their rings.
+fn polygons_of(alloc: Global, polygons: &[&[&[[i32; 2]]]]) -> Result<Polygons<Global>, AllocError> {
     let mut wanted = Polygons::new(alloc);
-    for rings in row.polygons {
+    for rings in polygons {
         push_rings(rings, &mut wanted.points, &mut wanted.ring_ends)?;
         wanted.polygon_ends.push(wanted.ring_ends.len())?;
     }
@@ -64,15 +65,26 @@ fn overlay_regions<A: Allocator + Copy>(
         points: &clip_points,
         ends: &clip_ends,
     };
-    Ok(overlay(subject, clip, regions.rule, regions.operation, out))
+    let Choice { rule, operation } = regions.choice;
+    Ok(overlay(subject, clip, rule, operation, out))
 }
 
+// Whether for each choice of the row these are the polygons.
 fn is_overlaid(alloc: Global, row: &Row) -> Result<bool, Fail> {
-    let wanted = wanted_of(alloc, row)?;
-    let mut told = Polygons::new(alloc);
-    let outcome = overlay_regions(alloc, row.regions, &mut told)?;
+    for (choice, _, polygons) in row.answers {
+        let wanted = polygons_of(alloc, polygons)?;
+        let mut told = Polygons::new(alloc);
+        let outcome = overlay_regions(alloc, row.regions(*choice), &mut told)?;
+        if outcome != Ok(()) || !are_same(&told, &wanted) {
+            return Ok(false);
+        }
+    }
+    Ok(true)
+}
+
+fn are_same(told: &Polygons<Global>, wanted: &Polygons<Global>) -> bool {
     let same_rings = told.points == wanted.points && told.ring_ends == wanted.ring_ends;
-    Ok(outcome == Ok(()) && same_rings && told.polygon_ends == wanted.polygon_ends)
+    same_rings && told.polygon_ends == wanted.polygon_ends
 }
 
 #[test]
@@ -140,9 +152,7 @@ fn sides_of_many_steps_keep_their_points(rt: HostRuntime) -> Result<(), Fail> {
     let mut told = Polygons::new(rt.alloc());
     let outcome = overlay_steps(rt.alloc(), &mut told)?;
     assert_eq!(rt; outcome, Ok(()));
-    let wanted = stepped_polygon(rt.alloc())?;
-    assert!(rt; told.points == wanted.points);
-    assert!(rt; told.ring_ends == wanted.ring_ends && told.polygon_ends == wanted.polygon_ends);
+    assert!(rt; are_same(&told, &stepped_polygon(rt.alloc())?));
     Ok(())
 }
 

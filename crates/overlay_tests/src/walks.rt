@@ -3,14 +3,15 @@
 ghost use Rattle.std.specs.Prelude.{◌≡◌, ◌≤◌, ◌++◌, ◌∷◌, [], true, All, IfOk, OnOk, drop, length, take};
 ghost use Rattle.plane.specs.declared.point.Point.{Point};
 ghost use Rattle.overlay.specs.Fill.Filled.{AreNoded};
-ghost use Rattle.noding.specs.Windings.{IsClosed, edge_between, reversed};
+ghost use Rattle.plane.specs.Ends.{edge_between};
+ghost use Rattle.noding.specs.Windings.{IsClosed};
 ghost use Rattle.overlay_tests.specs.Walks.{IsEndAt, MeetAtEndsAlone};
 
 use i_tree::Refusal;
 use i_tree::status::exp::StatusCollection;
 use overlay::boundary::boundary;
-use overlay::fill::{FillRule, Operation, fill};
-use plane::edge::Edge;
+use overlay::fill::{Choice, fill};
+use plane::edge::{Edge, reverse};
 use plane::meet::{Meeting, how_they_meet};
 use plane::point::Point;
 use plane::sweep_line::ActiveEdge;
@@ -21,8 +22,7 @@ use std::alloc::{AllocError, Allocator, Global};
 pub struct Regions {
     pub subject: &'static [&'static [[i32; 2]]],
     pub clip: &'static [&'static [[i32; 2]]],
-    pub rule: FillRule,
-    pub operation: Operation,
+    pub choice: Choice,
 }
 
 /// What a fill of the walks' edges answers, or none where these aren't noded.
@@ -45,8 +45,8 @@ where
     let outcome = fill(
         &subject,
         &clip,
-        regions.rule,
-        regions.operation,
+        regions.choice.rule,
+        regions.choice.operation,
         status,
         out,
     );
@@ -66,15 +66,7 @@ where
     A: Allocator + Copy,
 {
     let (edges, count) = edges_of_both(alloc, regions.subject, regions.clip)?;
-    Ok(boundary(
-        &edges,
-        count,
-        regions.rule,
-        regions.operation,
-        status,
-        points,
-        ends,
-    ))
+    Ok(boundary(&edges, count, regions.choice, status, points, ends))
 }
 
 fn joined(alloc: Global, edges: &[Edge], others: &[Edge]) -> Result<Vec<Edge>, AllocError>
@@ -194,17 +186,6 @@ fn is_same(one: Edge, other: Edge) -> bool
     ensures { result ≡ true → one ≡ other }
 {
     one == other
-}
-
-fn reverse(edge: Edge) -> Edge
-    ensures { result ≡ reversed edge }
-{
-    Edge {
-        x0: edge.x1,
-        y0: edge.y1,
-        x1: edge.x0,
-        y1: edge.y0,
-    }
 }
 
 // Whether an end of the one is an end of the other.

@@ -10,7 +10,7 @@ use Rattle.plane.specs.declared.point.Point.{Point}
 use Rattle.plane.specs.Meet.Edges.{RationalPoint}
 use Rattle.plane.proofs.PairsLemmas.Bags.{AllPairs-permutation}
 use Rattle.overlay.specs.declared.fill.pieces.Piece.{Piece}
-use Rattle.overlay.specs.declared.fill.pieces.Role.TheVariants.{Subject, Clip}
+use Rattle.overlay.specs.declared.fill.pieces.Operand.TheVariants.{Subject, Clip}
 use Rattle.overlay.specs.declared.fill.rules.FillRule.{FillRule}
 use Rattle.overlay.specs.declared.fill.rules.Operation.{Operation}
 use Rattle.overlay.specs.Boundary.{AreBroken, BoundsResult, IsBoundary}

@@ -10,7 +10,8 @@ use Rattle.plane.specs.Meet.Edges.{RationalPoint}
 use Rattle.plane.specs.declared.point.Point.{Point}
 use Rattle.overlay.specs.Contours.Outlines.{IsStraight, bends, goes_straight, next_or, outline, ring_point}
 use Rattle.overlay.specs.Contours.Rings.{IsRing, ring_edges}
-use Rattle.noding.specs.Windings.{edge_between, pieces, winding}
+use Rattle.plane.specs.Ends.{edge_between}
+use Rattle.noding.specs.Windings.{pieces, winding}
 use Rattle.overlay.proofs.ContourLemmas.Outlines.{straight-is}
 use Rattle.overlay.proofs.ContourLemmas.Straight.{straight-further, straight-longer, straight-nowhere, under-nowhere, under-straight}
 use Rattle.noding.proofs.SnapLemmas.Counted.{added, under}

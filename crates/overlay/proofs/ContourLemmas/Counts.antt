@@ -11,7 +11,8 @@ use Rattle.std.proofs.Common.{Ordering, Less, Equal, Greater, ap₂}
 use Rattle.std.proofs.lemmas.Cmp.{int_ranked}
 use Rattle.plane.specs.declared.edge.Edge.{Edge}
 use Rattle.plane.specs.declared.point.Point.{Point}
-use Rattle.noding.specs.Windings.{IsClosed, edge_between, end_of, pieces, start_of}
+use Rattle.plane.specs.Ends.{edge_between, end_of, start_of}
+use Rattle.noding.specs.Windings.{IsClosed, pieces}
 use Rattle.overlay.specs.Contours.Rings.{ring_edges}
 
 -- ---- whether points are the same

@@ -7,7 +7,7 @@ use Rattle.plane.specs.declared.edge.Edge.{Edge}
 use Rattle.plane.specs.declared.point.Point.{Point}
 use Rattle.overlay.specs.Contours.Ends.{StartBefore}
 use Rattle.overlay.specs.Contours.Order.{AreInOrder, IsBehind, IsFirstFrom, edge_at, point_at}
-use Rattle.noding.specs.Windings.{end_of}
+use Rattle.plane.specs.Ends.{end_of}
 use Rattle.overlay.proofs.ContourLemmas.Order.{IsBehind-both, IsBehind-same, IsBehind-trans}
 
 get_or-at_end : (list : List ℕ) (x k d : ℕ) → k ≡ length list → get_or (list ++ x ∷ []) k d ≡ x

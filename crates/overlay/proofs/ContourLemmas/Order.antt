@@ -11,9 +11,9 @@ use Rattle.std.proofs.lemmas.Int.{ints}
 use Rattle.std.proofs.lemmas.List.Sorted.{answers_always, ranks_by, sorted_far}
 use Rattle.plane.specs.declared.edge.Edge.{Edge}
 use Rattle.plane.specs.declared.point.Point.{Point}
-use Rattle.overlay.specs.Contours.Order.{AreInOrder, IsBehind, IsCorner, IsFirstFrom, corner_at, point_at}
-use Rattle.overlay.specs.contracts.contours.order.CornerOrd.TheImpl.{ghosts as corner_order}
-use Rattle.overlay.specs.contracts.contours.order.CornerOrd.TheImpl.Laws.{total-law as corner_total}
+use Rattle.overlay.specs.Contours.Order.{AreInOrder, IsBehind, IsCorner, IsFirstFrom, point_at}
+use Rattle.plane.specs.contracts.point.PointOrd.TheImpl.{ghosts as point_order}
+use Rattle.plane.specs.contracts.point.PointOrd.TheImpl.Laws.{total-law as point_total}
 
 -- ---- points
 
@@ -29,28 +29,13 @@ IsBehind-both p q (inl one) (inr (other, y)) = absurd (omega (arith, ints, one, 
 IsBehind-both p q (inr (x, one)) (inl other) = absurd (omega (arith, ints, x, other))
 IsBehind-both p q (inr (x, one)) (inr (other, y)) = let same : p.y ≡ q.y = omega (arith, ints, one, y) in ap₂ point x same
 
--- a point that isn't behind another has that one behind it
-pub IsBehind-other : (p q : Point) → ¬ (IsBehind p q) → IsBehind q p
-IsBehind-other p q none =
-    by_x (int_cmp q.x p.x) (int_ranked q.x p.x (int_cmp q.x p.x) refl)
-  where
-    by_y : (o : Ordering) → q.x ≡ p.x → MatchOrdering o (q.y <ℤ p.y) (q.y ≡ p.y) (p.y <ℤ q.y) → IsBehind q p
-    by_y Less x said = inr (x, omega (arith, ints, said))
-    by_y Equal x said = inr (x, omega (arith, ints, said))
-    by_y Greater x said = absurd (none (inr (sym x, omega (arith, ints, said))))
-
-    by_x : (o : Ordering) → MatchOrdering o (q.x <ℤ p.x) (q.x ≡ p.x) (p.x <ℤ q.x) → IsBehind q p
-    by_x Less said = inl said
-    by_x Equal said = by_y (int_cmp q.y p.y) said (int_ranked q.y p.y (int_cmp q.y p.y) refl)
-    by_x Greater said = absurd (none (inl said))
-
 pub IsBehind-trans : (p q r : Point) → IsBehind p q → IsBehind q r → IsBehind p r
 IsBehind-trans p q r (inl one) (inl other) = inl (omega (arith, ints, one, other))
 IsBehind-trans p q r (inl one) (inr (other, y)) = inl (omega (arith, ints, one, other))
 IsBehind-trans p q r (inr (x, one)) (inl other) = inl (omega (arith, ints, x, other))
 IsBehind-trans p q r (inr (x, one)) (inr (other, y)) = inr (x ∙ other, omega (arith, ints, one, y))
 
--- ---- the sort by corners
+-- ---- the sort by starts
 
 not_less-y : (y y' : ℤ) (o : Ordering) → MatchOrdering o (y' <ℤ y) (y' ≡ y) (y <ℤ y') → is_lt o ≡ false → y ≤ℤ y'
 not_less-y y y' Less said is = absurd cc
@@ -62,24 +47,24 @@ not_less x y x' y' Less said is = absurd cc
 not_less x y x' y' Equal said is = inr (sym said, not_less-y y y' (int_cmp y' y) (int_ranked y' y (int_cmp y' y) refl) is)
 not_less x y x' y' Greater said is = inl said
 
--- of things in the order of their corners, none is at a point before that of one that stands before it
-behind-sorted : {X : Type 0} (point_of : X → Point) (xs : List X) → IsSortedBy (λ one other. is_lt (corner_order.cmp (corner_at (point_of one)) (corner_at (point_of other)))) xs
+-- of things in the order of their points, none is at a point before that of one that stands before it
+behind-sorted : {X : Type 0} (point_of : X → Point) (xs : List X) → IsSortedBy (λ one other. is_lt (point_order.cmp (point_of one) (point_of other))) xs
     → (i j : ℕ) (d : X) → i ≤ j → j < length xs → IsBehind (point_of (get_or xs i d)) (point_of (get_or xs j d))
 behind-sorted {X = X} point_of xs rising i j d upto within =
     let one = point_of (get_or xs i d) in
     let other = point_of (get_or xs j d) in
-    let far = sorted_far (λ a b. is_lt (corner_order.cmp (corner_at (point_of a)) (corner_at (point_of b)))) (ranks_by corner_total (λ (x : X). corner_at (point_of x))) xs rising i j d upto within in
+    let far = sorted_far (λ a b. is_lt (point_order.cmp (point_of a) (point_of b))) (ranks_by point_total point_of) xs rising i j d upto within in
     not_less one.x one.y other.x other.y (int_cmp other.x one.x) (int_ranked other.x one.x (int_cmp other.x one.x) refl) far
 
 -- what the sort ensures
 pub behind-from_sort : {X : Type 0} (point_of : X → Point) {F : Type 0} {g : Mut F (Bor X × (Bor X × Unit {0})) Ordering} {f : F} (xs : List X)
     → IsSortedByClosure g f xs
-    → ((f : F) (a : Bor X × (Bor X × Unit {0})) (r : Ordering) (f' : F) → Called g f a r f' → r ≡ corner_order.cmp (corner_at (point_of a.0.now)) (corner_at (point_of a.1.0.now)))
+    → ((f : F) (a : Bor X × (Bor X × Unit {0})) (r : Ordering) (f' : F) → Called g f a r f' → r ≡ point_order.cmp (point_of a.0.now) (point_of a.1.0.now))
     → (i j : ℕ) (d : X) → i ≤ j → j < length xs → IsBehind (point_of (get_or xs i d)) (point_of (get_or xs j d))
 behind-from_sort {X = X} point_of {g = g} {f = f} xs rising answers =
-    let less = λ (one other : X). is_lt (corner_order.cmp (corner_at (point_of one)) (corner_at (point_of other))) in
+    let less = λ (one other : X). is_lt (point_order.cmp (point_of one) (point_of other)) in
     behind-sorted point_of xs
-    (rising less (ranks_by corner_total (λ (x : X). corner_at (point_of x))) (answers_always g (λ a r. is_lt r ≡ less a.0.now a.1.0.now) f (λ f a r f' called. ap is_lt (answers f a r f' called))))
+    (rising less (ranks_by point_total point_of) (answers_always g (λ a r. is_lt r ≡ less a.0.now a.1.0.now) f (λ f a r f' called. ap is_lt (answers f a r f' called))))
 
 -- ---- where the edges stand that start at a point
 

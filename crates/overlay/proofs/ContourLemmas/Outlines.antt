@@ -9,9 +9,10 @@ use Rattle.plane.specs.Meet.Crosses.{cross}
 use Rattle.plane.specs.declared.point.Point.{Point}
 use Rattle.overlay.specs.Contours.Outlines.{IsStraight, bends, goes_straight, next_or, outline, ring_point}
 use Rattle.overlay.specs.Contours.Turns.{dot}
-use Rattle.noding.specs.Offsets.{Extends, offsets}
-use Rattle.noding.proofs.ChainLemmas.Runs.{Extends-trans, offsets-more}
-use Rattle.plane.proofs.PairsLemmas.Extends.{OnErr-always}
+use Rattle.plane.specs.Lists.{Extends}
+use Rattle.noding.specs.Offsets.{offsets}
+use Rattle.noding.proofs.ChainLemmas.Runs.{offsets-more}
+use Rattle.plane.proofs.PairsLemmas.Extends.{OnErr-always, Extends-trans}
 
 -- the test
 straight-test : (c d : ℤ) (r s t : Bool) → int_le c (pos 0) ≡ r → int_le (pos 0) c ≡ s → int_lt (pos 0) d ≡ t → ((r && s) && t) ≡ true → (c ≡ pos 0) × (pos 0 <ℤ d)

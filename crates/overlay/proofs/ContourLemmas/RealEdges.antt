@@ -5,7 +5,8 @@ use Rattle.std.proofs.lemmas.Bool.Decides.{Decides-int_eq}
 use Rattle.plane.specs.declared.edge.Edge.{Edge}
 use Rattle.plane.specs.declared.point.Point.{Point}
 use Rattle.overlay.specs.Contours.Rings.{has_two_ends, ring_edges}
-use Rattle.noding.specs.Windings.{edge_between, pieces}
+use Rattle.plane.specs.Ends.{edge_between}
+use Rattle.noding.specs.Windings.{pieces}
 
 -- one point and none have no pieces
 pub few_pieces : (points : List Point) → length points < 2 → pieces points ≡ []
@@ -34,9 +35,6 @@ points-same edge isnt = by (int_eq edge.x0 edge.x1) (int_eq edge.y0 edge.y1) ref
     by true true is_x is_y isnt = ((Decides-int_eq edge.x0 edge.x1).0 is_x, (Decides-int_eq edge.y0 edge.y1).0 is_y)
     by true false is_x is_y isnt = cc
     by false t is_x is_y isnt = cc
-
-pub no-two_ends : (point : Point) → has_two_ends (edge_between point point) ≡ false
-no-two_ends point = ap₂ (λ (s t : Bool). not s || not t) ((Decides-int_eq point.x point.x).1 refl) ((Decides-int_eq point.y point.y).1 refl)
 
 -- so one whose ends differ does have two
 pub two_ends-differ : (edge : Edge) → ((edge.x0 ≡ edge.x1) × (edge.y0 ≡ edge.y1) → ⊥) → has_two_ends edge ≡ true

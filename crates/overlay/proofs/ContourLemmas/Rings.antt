@@ -11,8 +11,9 @@ use Rattle.plane.specs.declared.point.Point.{Point}
 use Rattle.overlay.specs.Contours.Rings.{IsRing, ring_edges}
 use Rattle.overlay.specs.Contours.Order.{IsCorner, point_at}
 use Rattle.overlay.specs.Contours.Walks.{AreAppended, IsMarked, IsOff, path}
+use Rattle.plane.specs.Ends.{edge_between}
 use Rattle.noding.specs.Offsets.{offsets}
-use Rattle.noding.specs.Windings.{edge_between, pieces}
+use Rattle.noding.specs.Windings.{pieces}
 
 -- ---- pieces of lists one behind the other
 

@@ -8,7 +8,8 @@ use Rattle.plane.specs.declared.point.Point.{Point}
 use Rattle.plane.proofs.MeetLemmas.Identities.{Term, identity, minus, number, plus, same_of, scaled, times}
 use Rattle.overlay.specs.Contours.Outlines.{IsStraight}
 use Rattle.overlay.specs.Contours.Turns.{dot}
-use Rattle.noding.specs.Windings.{edge_between, count}
+use Rattle.plane.specs.Ends.{edge_between}
+use Rattle.noding.specs.Windings.{count}
 use Rattle.overlay.proofs.ContourLemmas.Ways.{GoesAlong, GoesAlong-both, GoesAlong-sym, GoesAlong-trans, crosses-test, rises-alike}
 use Rattle.noding.proofs.SnapLemmas.Counted.{counted, is_low, is_low-left, under}
 use Rattle.noding.proofs.SnapLemmas.Numbers.{n_of}

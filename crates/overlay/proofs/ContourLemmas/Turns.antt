@@ -11,9 +11,9 @@ use Rattle.plane.specs.declared.edge.Edge.{Edge}
 use Rattle.plane.specs.declared.point.Point.{Point}
 use Rattle.plane.proofs.MeetLemmas.Identities.{Term, identity, minus, number, plus, same_of, times}
 use Rattle.overlay.specs.Contours.Order.{edge_at}
-use Rattle.noding.specs.Windings.{end_of}
-use Rattle.overlay.specs.Contours.Turns.{AreAlike, ComesBefore, IsBetter, IsLeft, IsLeftmost, Leaves, NoneLeaves, TurnsBefore, dot, way_between}
-use Rattle.overlay.specs.declared.contours.turns.Way.{Way}
+use Rattle.plane.specs.Ends.{end_of}
+use Rattle.overlay.specs.Contours.Turns.{AreAlike, ComesBefore, Direction, IsBetter, IsLeft, IsLeftmost, Leaves, NoneLeaves, TurnsBefore, direction, direction_between, dot}
+use Rattle.plane.specs.declared.vectors.Vector.{Vector}
 use Rattle.noding.proofs.SnapLemmas.Numbers.{n_of, natural}
 
 -- ---- the order of turns is transitive
@@ -105,11 +105,11 @@ within_half bx by ux uy vx vy wx wy some first second third onwards one other = 
     absurd (no_turn (cross vx vy wx wy) (dot bx by bx by) (cross bx by wx wy) (dot bx by vx vy) (cross bx by vx vy) (dot bx by wx wy)
     (two bx by vx vy wx wy) other (some_square bx by some) none_w second (onwards none_w))))
 
-left_signs : (back way : Way) → IsLeft back way → (cross back.x back.y way.x way.y ≤ℤ pos 0) × (cross back.x back.y way.x way.y ≡ pos 0 → pos 0 ≤ℤ dot back.x back.y way.x way.y)
+left_signs : (back way : Direction) → IsLeft back way → (cross back.x back.y way.x way.y ≤ℤ pos 0) × (cross back.x back.y way.x way.y ≡ pos 0 → pos 0 ≤ℤ dot back.x back.y way.x way.y)
 left_signs back way (inl below) = (omega (arith, ints, below), λ none. absurd (omega (arith, ints, below, none)))
 left_signs back way (inr (none, above)) = (omega (arith, ints, none), λ same. omega (arith, ints, above))
 
-right_signs : (back way : Way) → ¬ (IsLeft back way) → (pos 0 ≤ℤ cross back.x back.y way.x way.y) × (cross back.x back.y way.x way.y ≡ pos 0 → dot back.x back.y way.x way.y ≤ℤ pos 0)
+right_signs : (back way : Direction) → ¬ (IsLeft back way) → (pos 0 ≤ℤ cross back.x back.y way.x way.y) × (cross back.x back.y way.x way.y ≡ pos 0 → dot back.x back.y way.x way.y ≤ℤ pos 0)
 right_signs back way right = (
   by_lt_z (cross back.x back.y way.x way.y) (pos 0) (λ below. absurd (right (inl below))) (λ from. from),
   λ none. by_lt_z (pos 0) (dot back.x back.y way.x way.y) (λ above. absurd (right (inr (none, above)))) (λ upto. upto),
@@ -125,7 +125,7 @@ against_dot bx by x y =
     identity (plus (times (minus (n_of 0) (number bx)) (number x)) (times (minus (n_of 0) (number by)) (number y))) (minus (n_of 0) (along bx by x y)) (omega arith)
 
 -- what comes before what comes before another comes before that, unless the way back goes nowhere
-pub ComesBefore-trans : (back u v w : Way) → ((back.x ≡ pos 0) × (back.y ≡ pos 0) → ⊥) → ComesBefore back u v → ComesBefore back v w → ComesBefore back u w
+pub ComesBefore-trans : (back u v w : Direction) → ((back.x ≡ pos 0) × (back.y ≡ pos 0) → ⊥) → ComesBefore back u v → ComesBefore back v w → ComesBefore back u w
 ComesBefore-trans back u v w some (inl (u_left, v_right)) (inl (v_left, w_right)) = absurd (v_right v_left)
 ComesBefore-trans back u v w some (inl (u_left, v_right)) (inr (inl (v_left, w_left), other)) = absurd (v_right v_left)
 ComesBefore-trans back u v w some (inl (u_left, v_right)) (inr (inr (v_not, w_right), other)) = inl (u_left, w_right)
@@ -155,7 +155,7 @@ ComesBefore-trans back u v w some (inr (inr (u_right, v_right), one)) (inr (inr 
     )
 
 -- nothing comes before itself
-pub ComesBefore-itself : (back u : Way) → ¬ (ComesBefore back u u)
+pub ComesBefore-itself : (back u : Direction) → ¬ (ComesBefore back u u)
 ComesBefore-itself back u (inl (is, isnt)) = isnt is
 ComesBefore-itself back u (inr (alike, below)) =
     let none : cross u.x u.y u.x u.y ≡ pos 0 = identity (across u.x u.y u.x u.y) (n_of 0) (omega arith) in
@@ -163,12 +163,22 @@ ComesBefore-itself back u (inr (alike, below)) =
 
 -- ---- the test
 
--- a way by its parts
-pub way-is : (way : Way) (from to there : Point) → way.x ≡ to.x -ℤ from.x → way.y ≡ to.y -ℤ from.y → to ≡ there → way ≡ way_between from there
-way-is way from to there x y same = ap₂ (λ (a b : ℤ). record { x = a; y = b }) x y ∙ ap (λ (point : Point). way_between from point) same
+-- a direction by its parts
+direction-is : (vector : Vector) (from to there : Point) → vector.x ≡ to.x -ℤ from.x → vector.y ≡ to.y -ℤ from.y → to ≡ there → direction vector ≡ direction_between from there
+direction-is vector from to there x y same = ap₂ (λ (a b : ℤ). record { x = a; y = b }) x y ∙ ap (λ (point : Point). direction_between from point) same
+
+-- what holds of the order of three vectors holds of the edges whose ends they go to
+pub turns-by_vectors : (P : Type 0 → Type 0) (sorted : List Edge) (back at end other_end : Point) (place other : ℕ) (u v w : Vector) → u.x ≡ back.x -ℤ at.x → u.y ≡ back.y -ℤ at.y → v.x ≡ end.x -ℤ at.x → v.y ≡ end.y -ℤ at.y
+    → w.x ≡ other_end.x -ℤ at.x → w.y ≡ other_end.y -ℤ at.y → end ≡ end_of (edge_at sorted place) → other_end ≡ end_of (edge_at sorted other) → P (ComesBefore (direction u) (direction v) (direction w)) → P (TurnsBefore sorted back at place other)
+turns-by_vectors P sorted back at end other_end place other u v w ux uy vx vy wx wy is other_is holds =
+    let there = direction_between at back in
+    let one = direction_between at (end_of (edge_at sorted place)) in
+    subst (λ (way : Direction). P (ComesBefore there one way)) (direction-is w at other_end (end_of (edge_at sorted other)) wx wy other_is)
+    (subst (λ (way : Direction). P (ComesBefore there way (direction w))) (direction-is v at end (end_of (edge_at sorted place)) vx vy is)
+    (subst (λ (way : Direction). P (ComesBefore way (direction v) (direction w))) (direction-is u at back back ux uy refl) holds))
 
 -- by the parts of a sum that is above 0
-pub ahead : (back way : Way) (minus_x y : ℤ) → minus_x ≡ (pos 0 -ℤ (back.x *ℤ way.x)) → y ≡ (back.y *ℤ way.y)
+pub ahead : (back way : Direction) (minus_x y : ℤ) → minus_x ≡ (pos 0 -ℤ (back.x *ℤ way.x)) → y ≡ (back.y *ℤ way.y)
     → MatchBool (lt_z minus_x y) (pos 0 <ℤ dot back.x back.y way.x way.y) (¬ (pos 0 <ℤ dot back.x back.y way.x way.y))
 ahead back way minus_x y x_is y_is = go (lt_z minus_x y) refl
   where
@@ -177,7 +187,7 @@ ahead back way minus_x y x_is y_is = go (lt_z minus_x y) refl
     go false from = λ above. omega (arith, ints, from, x_is, y_is, above)
 
 -- of two ways of which only one is left the left one comes before
-pub before-apart : (back one other : Way) (one_is other_is : Bool) → MatchBool one_is (IsLeft back one) (¬ (IsLeft back one)) → MatchBool other_is (IsLeft back other) (¬ (IsLeft back other)) → not (beq one_is other_is) ≡ true
+pub before-apart : (back one other : Direction) (one_is other_is : Bool) → MatchBool one_is (IsLeft back one) (¬ (IsLeft back one)) → MatchBool other_is (IsLeft back other) (¬ (IsLeft back other)) → not (beq one_is other_is) ≡ true
     → MatchBool one_is (ComesBefore back one other) (¬ (ComesBefore back one other))
 before-apart back one other true true first second apart = absurd cc
 before-apart back one other true false first second apart = inl (first, second)
@@ -190,7 +200,7 @@ before-apart back one other false true first second apart = go
 before-apart back one other false false first second apart = absurd cc
 
 -- of two that lie alike the first one comes before, if the second is clockwise from it
-pub before-alike : (back one other : Way) (one_is other_is : Bool) → MatchBool one_is (IsLeft back one) (¬ (IsLeft back one)) → MatchBool other_is (IsLeft back other) (¬ (IsLeft back other)) → not (beq one_is other_is) ≡ false
+pub before-alike : (back one other : Direction) (one_is other_is : Bool) → MatchBool one_is (IsLeft back one) (¬ (IsLeft back one)) → MatchBool other_is (IsLeft back other) (¬ (IsLeft back other)) → not (beq one_is other_is) ≡ false
     → (z : ℤ) → z ≡ cross one.x one.y other.x other.y → MatchBool (lt_z z (pos 0)) (ComesBefore back one other) (¬ (ComesBefore back one other))
 before-alike back one other one_is other_is first second same z is = go (lt_z z (pos 0)) refl
   where
@@ -236,7 +246,7 @@ module _ (sorted : List Edge) (used : List Bool) (back at : Point) where
     ],
   )
 
-  nowhere : back ≢ at → (((way_between at back).x ≡ pos 0) × ((way_between at back).y ≡ pos 0) → ⊥)
+  nowhere : back ≢ at → (((direction_between at back).x ≡ pos 0) × ((direction_between at back).y ≡ pos 0) → ⊥)
   nowhere apart none =
       let x_none = none.0 in
       let y_none = none.1 in
@@ -244,23 +254,23 @@ module _ (sorted : List Edge) (used : List Bool) (back at : Point) where
       let y : back.y ≡ at.y = omega (arith, ints, y_none) in
       apart (ap₂ (λ (a b : ℤ). record { x = a; y = b }) x y)
 
-  abbrev way_to : ℕ → Way
-  way_to place = way_between at (end_of (edge_at sorted place))
+  abbrev way_to : ℕ → Direction
+  way_to place = direction_between at (end_of (edge_at sorted place))
 
   -- the next place, if it leaves the point: the better one
   pub best-take : (upto : ℕ) (best : Option ℕ) (better : ℕ) → Leaves sorted used at upto → MatchOption best (better ≡ upto) (λ other. IsBetter sorted back at upto other better) → IsBestBefore upto best → IsBestBefore (upto + 1) (Some better)
   best-take upto None better leaves same is = subst (λ (place : ℕ). IsBestBefore (upto + 1) (Some place)) (sym same) (
     leaves,
     λ apart k within other before. elim (cases_eq k upto) [
-      | inl here ↦ ComesBefore-itself (way_between at back) (way_to upto) (subst (λ (n : ℕ). TurnsBefore sorted back at n upto) here before)
+      | inl here ↦ ComesBefore-itself (direction_between at back) (way_to upto) (subst (λ (n : ℕ). TurnsBefore sorted back at n upto) here before)
       | inr differs ↦ is k (omega (arith, within, differs)) other
     ],
   )
   best-take upto (Some place) better leaves (inl (turns, same)) (is, first) = subst (λ (place : ℕ). IsBestBefore (upto + 1) (Some place)) (sym same) (
     leaves,
     λ apart k within other before. elim (cases_eq k upto) [
-      | inl here ↦ ComesBefore-itself (way_between at back) (way_to upto) (subst (λ (n : ℕ). TurnsBefore sorted back at n upto) here before)
-      | inr differs ↦ first apart k (omega (arith, within, differs)) other (ComesBefore-trans (way_between at back) (way_to k) (way_to upto) (way_to place) (nowhere apart) before turns)
+      | inl here ↦ ComesBefore-itself (direction_between at back) (way_to upto) (subst (λ (n : ℕ). TurnsBefore sorted back at n upto) here before)
+      | inr differs ↦ first apart k (omega (arith, within, differs)) other (ComesBefore-trans (direction_between at back) (way_to k) (way_to upto) (way_to place) (nowhere apart) before turns)
     ],
   )
   best-take upto (Some place) better leaves (inr (stays, same)) (is, first) = subst (λ (place : ℕ). IsBestBefore (upto + 1) (Some place)) (sym same) (

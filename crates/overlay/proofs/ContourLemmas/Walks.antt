@@ -13,7 +13,8 @@ use Rattle.overlay.specs.Contours.Rings.{ring_edges}
 use Rattle.overlay.specs.Contours.Turns.{IsLeftmost, Leaves, NoneLeaves}
 use Rattle.overlay.specs.Contours.Order.{AreInOrder, IsCorner, IsFirstFrom, edge_at, point_at}
 use Rattle.overlay.specs.Contours.Walks.{IsMarked, IsOff, Keeps, path, unwalked}
-use Rattle.noding.specs.Windings.{IsClosed, edge_between, end_of, pieces, start_of}
+use Rattle.plane.specs.Ends.{edge_between, end_of, start_of}
+use Rattle.noding.specs.Windings.{IsClosed, pieces}
 use Rattle.overlay.proofs.ContourLemmas.Counts.{along, closed-starts, ends, ends-append, ends-permutation, is_at, is_at-itself, is_at-other, rings-closed, starts, starts-append, starts-permutation, unit}
 use Rattle.overlay.proofs.ContourLemmas.Order.{corner-from}
 use Rattle.overlay.proofs.ContourLemmas.Rings.{corners-differ, path-more, rings-more}

@@ -9,7 +9,7 @@ use Rattle.plane.specs.SweepLine.Heights.{rightwards}
 use Rattle.plane.proofs.SweepLineLemmas.Rightwards.{rightwards-left, rightwards-right}
 use Rattle.overlay.specs.Fill.Counts.{is_over, is_lower_on, below_on}
 use Rattle.overlay.specs.Fill.Pieces.{total, weight}
-use Rattle.noding.specs.Windings.{start_of, end_of}
+use Rattle.plane.specs.Ends.{start_of, end_of}
 use Rattle.overlay.proofs.FillLemmas.Aside.{is_beneath, IsOff, IsAside}
 use Rattle.overlay.proofs.FillLemmas.Balance.{AreBalanced}
 use Rattle.overlay.proofs.FillLemmas.Columns.{moves, moves-weighed}

@@ -8,7 +8,7 @@ use Rattle.plane.specs.Meet.Edges.{RationalPoint, IsOf}
 use Rattle.plane.specs.SweepLine.Crossings.{Cross}
 use Rattle.plane.specs.SweepLine.Heights.{run, height_by_run}
 use Rattle.plane.proofs.MeetLemmas.Identities.{number, plus, minus, times, at_most, at_most_of, same_of, identity}
-use Rattle.noding.specs.Windings.{reversed}
+use Rattle.plane.specs.Ends.{reversed}
 use Rattle.overlay.proofs.FillLemmas.Level.{MeetOnly, of_at, end_at, whole_x, height_whole}
 use Rattle.overlay.proofs.FillLemmas.Tests.{lt_true, lt_false}
 use Rattle.overlay.proofs.FillLemmas.Uncrossed.{MeetOnly-reversed, uncrossed}

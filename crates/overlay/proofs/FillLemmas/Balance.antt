@@ -6,7 +6,8 @@ use Rattle.std.proofs.lemmas.List.Sums.{sum_by-cons}
 use Rattle.plane.specs.declared.edge.Edge.{Edge}
 use Rattle.plane.specs.declared.point.Point.{Point}
 use Rattle.overlay.specs.Fill.Pieces.{total}
-use Rattle.noding.specs.Windings.{start_of, end_of, IsClosed, count}
+use Rattle.plane.specs.Ends.{start_of, end_of}
+use Rattle.noding.specs.Windings.{IsClosed, count}
 use Rattle.overlay.proofs.FillLemmas.Totals.{total-difference}
 
 -- What an edge carries into a set of points: 1 where it ends there, less 1 where it starts there.

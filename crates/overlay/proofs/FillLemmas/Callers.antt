@@ -17,7 +17,8 @@ use Rattle.overlay.specs.Fill.Counts.{Counts, is_over, is_lower_on, counts_below
 use Rattle.overlay.specs.Fill.Filled.{AreNoded, AreDistinct}
 use Rattle.overlay.specs.Fill.Pieces.{ArePieces}
 use Rattle.overlay.specs.Fill.Rules.{is_result}
-use Rattle.noding.specs.Windings.{reversed, winding, IsClosed, count}
+use Rattle.plane.specs.Ends.{reversed}
+use Rattle.noding.specs.Windings.{winding, IsClosed, count}
 use Rattle.overlay.proofs.FillLemmas.Filled.{filled, is_result-none}
 use Rattle.overlay.proofs.FillLemmas.High.{top, upto-higher, upto-top, high-none}
 use Rattle.overlay.proofs.FillLemmas.Kept as kept

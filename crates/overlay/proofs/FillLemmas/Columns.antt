@@ -9,7 +9,7 @@ use Rattle.plane.specs.SweepLine.Heights.{run, height_by_run, height_by_runs}
 use Rattle.plane.proofs.MeetLemmas.Identities.{number, plus, minus, times, identity}
 use Rattle.plane.proofs.SweepLineLemmas.Gaps.{gap, slope, start, gap-linear, product_above}
 use Rattle.overlay.specs.Fill.Counts.{is_over, is_lower_on}
-use Rattle.noding.specs.Windings.{start_of, end_of}
+use Rattle.plane.specs.Ends.{start_of, end_of}
 use Rattle.overlay.proofs.FillLemmas.Aside.{is_beneath, IsOff}
 use Rattle.overlay.proofs.FillLemmas.Tests.{lt_same, int_eq-true, int_eq-false, over_true, over_early, over_late}
 use Rattle.overlay.proofs.FillLemmas.Uncrossed.{Uncrossed}

@@ -12,7 +12,8 @@ use Rattle.plane.specs.SweepLine.Heights.{run}
 use Rattle.plane.proofs.MeetLemmas.Identities.{number, plus, minus, times, identity}
 use Rattle.plane.proofs.SweepLineLemmas.Gaps.{product_above}
 use Rattle.overlay.specs.Fill.Pieces.{total}
-use Rattle.noding.specs.Windings.{reversed, winding, IsClosed, count}
+use Rattle.plane.specs.Ends.{reversed}
+use Rattle.noding.specs.Windings.{winding, IsClosed, count}
 use Rattle.overlay.proofs.FillLemmas.Balance.{carried, balanced}
 use Rattle.overlay.proofs.FillLemmas.Under.{le_true, le_is, less_is}
 use Rattle.noding.proofs.SnapLemmas.Counted.{added, height_at, is_counted, is_low, under}

@@ -14,7 +14,7 @@ use Rattle.overlay.specs.declared.fill.pieces.Piece.{Piece}
 use Rattle.overlay.specs.Fill.Counts.{Counts, counts_below, counts_above, kept_edge, kept_edges}
 use Rattle.overlay.specs.Fill.Filled.{AreNoded, AreDistinct, HaveSameEnds}
 use Rattle.overlay.specs.Fill.Pieces.{ArePieces}
-use Rattle.noding.specs.Windings.{reversed}
+use Rattle.plane.specs.Ends.{reversed}
 use Rattle.overlay.proofs.FillLemmas.Level.{MeetOnly, same-onwards}
 use Rattle.overlay.proofs.FillLemmas.Premises.{All-among, onwards, meet-pieces}
 use Rattle.overlay.proofs.FillLemmas.Uncrossed.{MeetOnly-reversed, MeetOnly-exchanged}

@@ -10,7 +10,7 @@ use Rattle.plane.specs.SweepLine.Heights.{rightwards, run, height_by_run, height
 use Rattle.plane.proofs.MeetLemmas.Identities.{Term, number, plus, minus, times, same_of, at_most_of, identity}
 use Rattle.plane.proofs.SweepLineLemmas.Gaps.{gap}
 use Rattle.plane.proofs.SweepLineLemmas.Rightwards.{rightwards-left, rightwards-right, rightwards-same}
-use Rattle.noding.specs.Windings.{reversed}
+use Rattle.plane.specs.Ends.{reversed}
 use Rattle.overlay.proofs.FillLemmas.Level.{MeetOnly, level-same}
 use Rattle.noding.proofs.SnapLemmas.Hobby.Ends.{reverse_meet_one, exchange_meet}
 use Rattle.noding.proofs.SnapLemmas.Numbers.{n_of, below, below_of, natural}

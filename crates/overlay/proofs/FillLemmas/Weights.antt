@@ -10,7 +10,8 @@ use Rattle.plane.specs.declared.point.Point.{Point}
 use Rattle.plane.specs.SweepLine.Heights.{rightwards}
 use Rattle.plane.proofs.SweepLineLemmas.Rightwards.{rightwards-left, rightwards-right}
 use Rattle.overlay.specs.Fill.Pieces.{total, weight}
-use Rattle.noding.specs.Windings.{reversed, start_of, end_of, count}
+use Rattle.plane.specs.Ends.{reversed, start_of, end_of}
+use Rattle.noding.specs.Windings.{count}
 use Rattle.overlay.proofs.FillLemmas.Balance.{carried, AreBalanced}
 use Rattle.overlay.proofs.FillLemmas.Tests.{lt_true, lt_false}
 use Rattle.overlay.proofs.FillLemmas.Totals.{total-moved}

@@ -10,7 +10,8 @@ use Rattle.plane.proofs.SweepLineLemmas.Rightwards.{rightwards-left, rightwards-
 use Rattle.overlay.specs.declared.fill.pieces.Piece.{Piece}
 use Rattle.overlay.specs.Fill.Counts.{Counts, counts_below, counts_above, kept_edge, kept_edges}
 use Rattle.overlay.specs.Fill.Pieces.{total, weight}
-use Rattle.noding.specs.Windings.{reversed, winding, count}
+use Rattle.plane.specs.Ends.{reversed}
+use Rattle.noding.specs.Windings.{winding, count}
 use Rattle.overlay.proofs.FillLemmas.Tests.{lt_true, lt_false}
 use Rattle.overlay.proofs.FillLemmas.Weights.{weight-right, weight-left, weight-none}
 use Rattle.noding.proofs.SnapLemmas.Numbers.{both}

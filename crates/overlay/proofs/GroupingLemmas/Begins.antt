@@ -19,7 +19,7 @@ use Rattle.overlay.specs.declared.fill.pieces.Piece.{Piece}
 use Rattle.overlay.specs.Contours.Outlines.{next_or}
 use Rattle.overlay.specs.Contours.Rings.{IsRing, ring_edges}
 use Rattle.overlay.specs.Fill.Begins.{BeginsUpto}
-use Rattle.noding.specs.Windings.{edge_between}
+use Rattle.plane.specs.Ends.{edge_between}
 use Rattle.overlay.proofs.KeptLemmas.First.{first-rightwards}
 use Rattle.overlay.proofs.PieceLemmas.Begins.{BeginsUpto-trans, not_before, weak_order}
 use Rattle.overlay.proofs.PieceLemmas.Edges.{equal, unequal}

@@ -10,12 +10,13 @@ use Rattle.std.proofs.lemmas.List.Sorted.{All-permutation, IsPermutation-map}
 use Rattle.plane.specs.declared.edge.Edge.{Edge}
 use Rattle.plane.specs.declared.point.Point.{Point}
 use Rattle.overlay.specs.declared.fill.pieces.Piece.{Piece}
-use Rattle.overlay.specs.declared.fill.pieces.Role.TheVariants.{Subject}
+use Rattle.overlay.specs.declared.fill.pieces.Operand.TheVariants.{Subject}
 use Rattle.overlay.specs.Contours.Outlines.{next_or, ring_point}
 use Rattle.overlay.specs.Contours.Rings.{ring_edges}
 use Rattle.overlay.specs.Fill.Begins.{BeginInOrder}
 use Rattle.overlay.specs.Fill.Turned.{piece_of, turned}
-use Rattle.noding.specs.Windings.{edge_between, pieces}
+use Rattle.plane.specs.Ends.{edge_between}
+use Rattle.noding.specs.Windings.{pieces}
 use Rattle.overlay.proofs.PieceLemmas.Begins.{begins_before, weak_order}
 use Rattle.overlay.proofs.PieceLemmas.Made.{sorted-order}
 use Rattle.overlay.specs.Grouping.{AreNumbered, AreSides, edges_from, pieces_of}

@@ -11,7 +11,7 @@ use Rattle.i_tree.proofs.RootLemmas.Lists.{AllPairs-head, AllPairs-tail}
 use Rattle.plane.specs.declared.edge.Edge.{Edge}
 use Rattle.plane.proofs.PairsLemmas.Bags.{AllPairs-permutation}
 use Rattle.overlay.specs.declared.fill.pieces.Piece.{Piece}
-use Rattle.overlay.specs.declared.fill.pieces.Role.TheVariants.{Subject}
+use Rattle.overlay.specs.declared.fill.pieces.Operand.TheVariants.{Subject}
 use Rattle.overlay.specs.Fill.Filled.{AreDistinct, AreNoded, HaveSameEnds}
 use Rattle.overlay.specs.Fill.Begins.{BeginInOrder}
 use Rattle.overlay.specs.Fill.Sweep.{AreFillPieces}

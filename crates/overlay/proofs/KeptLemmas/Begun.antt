@@ -104,9 +104,6 @@ module _ (pieces : List Piece) (fill : AreFillPieces pieces) where
     live_of : All (IsEntryOf pieces k) (live_entries start stored)
     live_of = All-filter (is_live_at start) (IsEntryOf pieces k) stored has.of
 
-    pub begin-sorted : IsSortedAt start (live_entries start stored)
-    begin-sorted = has.sorted start upto
-
     began : (entry : Entry) → IsEntryOf pieces k entry → BeganBefore entry.0 beginning
     began entry is =
         let here : entry.0.edge ≡ (piece_at pieces entry.0.place).edge = ap (λ (e : Entry). e.0.edge) is.is in

@@ -22,7 +22,7 @@ use Rattle.plane.proofs.SweepLineLemmas.Live.{is_live_at-before, before-is_live_
 use Rattle.overlay.specs.declared.fill.pieces.Piece.{Piece}
 use Rattle.overlay.specs.Fill.Begins.{BeginsUpto, steps}
 use Rattle.overlay.specs.Fill.Counts.{Counts, is_over, is_lower_on, counts_below, counts_above}
-use Rattle.overlay.specs.Fill.Sweep.{AreFillPieces, above_of, above_or, below_of, is_below_on, no_piece, nothing, plus}
+use Rattle.overlay.specs.Fill.Sweep.{AreFillPieces, above_or, below_of, is_below_on, no_piece, nothing, plus}
 use Rattle.overlay.proofs.FillLemmas.Callers.{apart, counts-first, counts-next, lower-asym, lower-irrefl, start-lower}
 use Rattle.overlay.proofs.FillLemmas.Tests.{lt_false, over_is, over_true}
 use Rattle.overlay.proofs.KeptLemmas.Begun.{HasBegun, IsEntryOf, begins_upto, entry_at, goes_on, held, joined-each, piece_at, x_order}
@@ -306,8 +306,8 @@ module _ (pieces : List Piece) (fill : AreFillPieces pieces) (k : ℕ) (within :
         ∙ sym (above-edges pieces fill p)
 
   -- the counts that were found are those below the piece
-  pub found-below : (swept : List Piece) → ((i : ℕ) → i < k → above_of (piece_at swept i) ≡ plus (below_of pieces (piece_at pieces i)) (piece_at pieces i)) → (found : Option Entry) → IsLast (NotAbove (entry_at pieces k).0) (live stored) found
-      → above_or swept found ≡ below_of pieces g
-  found-below swept told None all = sym (below-none all)
-  found-below swept told (Some found) (front, back, parts, last, others) =
+  pub found-below : (above : List Counts) → ((i : ℕ) → i < k → get_or above i nothing ≡ plus (below_of pieces (piece_at pieces i)) (piece_at pieces i)) → (found : Option Entry) → IsLast (NotAbove (entry_at pieces k).0) (live stored) found
+      → above_or above found ≡ below_of pieces g
+  found-below above told None all = sym (below-none all)
+  found-below above told (Some found) (front, back, parts, last, others) =
       told found.0.place (found_of found front back parts last others).below ∙ sym (below-some found front back parts last others)

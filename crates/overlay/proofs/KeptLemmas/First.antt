@@ -32,20 +32,6 @@ use Rattle.noding.proofs.SnapLemmas.Rounding.{Floor}
 
 -- ---- edges of which no two have the same ends
 
--- two of them that have are one
-distinct-same : (edges : List Edge) → AreDistinct edges → (one other : Edge) → Contains edges one → Contains edges other → HaveSameEnds one other → one ≡ other
-distinct-same edges distinct one other (i, within, is) (j, inside, at) same =
-    elim (cases_lt i j) [
-      | inl less ↦ absurd (distinct i j one less inside (subst (λ (e : Edge). HaveSameEnds e (get_or edges j one)) (sym is) (subst (HaveSameEnds one) (sym there) same)))
-      | inr most ↦ elim (cases_lt j i) [
-        | inl behind ↦ absurd (distinct j i one behind within (subst (HaveSameEnds (get_or edges j one)) (sym is) (subst (λ (e : Edge). HaveSameEnds e one) (sym there) (same-exchanged one other same))))
-        | inr upto ↦ let level : i ≡ j = omega (arith, most, upto) in sym is ∙ ap (λ (n : ℕ). get_or edges n one) level ∙ there
-      ]
-    ]
-  where
-    there : get_or edges j one ≡ other
-    there = get_or_default edges j one other inside ∙ at
-
 -- where one of them alone counts, the sum is what it counts
 total-one : (f : Edge → ℤ) (g : Edge) (edges : List Edge) → Contains edges g → AreDistinct edges → ((edge : Edge) → Contains edges edge → ¬ (HaveSameEnds edge g) → f edge ≡ pos 0) → total f edges ≡ f g
 total-one f g [] (k, within, is) distinct none = absurd (omega (arith, within))
@@ -80,15 +66,6 @@ turned-meet edges noded one other first second =
 pub turned-same : (one other : Edge) → rightwards one ≡ rightwards other → HaveSameEnds one other
 turned-same one other same =
     same-trans one (rightwards one) other (same-exchanged (rightwards one) one (same-rightwards one)) (subst (λ (e : Edge). HaveSameEnds e other) (sym same) (same-rightwards other))
-
--- Two edges that aren't vertical, of which neither begins before the other, are one.
-pub begin-same : (edges : List Edge) → AreNoded edges → AreDistinct edges → (one other : Edge) → Contains edges one → Contains edges other → one.x1 ≢ one.x0 → other.x1 ≢ other.x0
-    → BeginsUpto (rightwards one) (rightwards other) → BeginsUpto (rightwards other) (rightwards one) → one ≡ other
-begin-same edges noded distinct one other first second sloped sloped_too upto back =
-    distinct-same edges distinct one other first second
-    (turned-same one other
-    (alike (rightwards one) (rightwards other) (turned-meet edges noded one other first second)
-    (rightwards-onwards one (λ same. sloped (sym same))) (rightwards-onwards other (λ same. sloped_too (sym same))) upto back))
 
 -- ---- a point of an edge, just behind its start
 

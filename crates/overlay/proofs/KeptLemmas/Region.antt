@@ -12,7 +12,8 @@ use Rattle.overlay.specs.Fill.Filled.{IsFilled, IsNextInColumn}
 use Rattle.overlay.specs.Fill.Rules.{is_result}
 use Rattle.overlay.specs.Fill.Sweep.{AreFillPieces, kept_of}
 use Rattle.overlay.specs.Fill.Verticals.{AreVerticalsOf, BoundRegion}
-use Rattle.noding.specs.Windings.{reversed, winding, count}
+use Rattle.plane.specs.Ends.{reversed}
+use Rattle.noding.specs.Windings.{winding, count}
 use Rattle.overlay.proofs.FillLemmas.Callers.{kept-distinct, kept-high, kept-noded, kept-of, kept-onwards, kept-winds}
 use Rattle.overlay.proofs.FillLemmas.Premises.{All-among}
 use Rattle.overlay.proofs.KeptLemmas.Below.{above-edges, below-edges}

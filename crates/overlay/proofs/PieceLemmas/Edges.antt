@@ -5,7 +5,7 @@ use Rattle.std.specs.Ordering.{int_eq}
 use Rattle.std.proofs.lemmas.Bool.Decides.{Decides-int_eq}
 use Rattle.plane.specs.declared.edge.Edge.{Edge}
 use Rattle.overlay.specs.declared.fill.pieces.Piece.{Piece}
-use Rattle.overlay.specs.declared.fill.pieces.Role.{Role}
+use Rattle.overlay.specs.declared.fill.pieces.Operand.{Operand}
 use Rattle.overlay.specs.Fill.Turned.{piece_of, turned}
 
 abbrev made : ℤ → ℤ → ℤ → ℤ → Edge
@@ -33,29 +33,29 @@ edge-is a b = by (int_eq a.x0 b.x0) (int_eq a.y0 b.y0) (int_eq a.x1 b.x1) (int_e
 
 -- ---- more edges
 
-by_first : (role : Role) (first : Edge) (all front back : List Piece) (t : Bool) → all ≡ front ++ back → cond t all (piece_of role first ∷ all) ≡ cond t front (piece_of role first ∷ front) ++ back
-by_first role first all front back true is = is
-by_first role first all front back false is = ap (λ (pieces : List Piece). piece_of role first ∷ pieces) is
+by_first : (operand : Operand) (first : Edge) (all front back : List Piece) (t : Bool) → all ≡ front ++ back → cond t all (piece_of operand first ∷ all) ≡ cond t front (piece_of operand first ∷ front) ++ back
+by_first operand first all front back true is = is
+by_first operand first all front back false is = ap (λ (pieces : List Piece). piece_of operand first ∷ pieces) is
 
-pub turned-append : (role : Role) (edges others : List Edge) → turned role (edges ++ others) ≡ turned role edges ++ turned role others
-turned-append role [] others = refl
-turned-append role (first ∷ edges) others = by_first role first (turned role (edges ++ others)) (turned role edges) (turned role others) (int_eq first.x0 first.x1) (turned-append role edges others)
+pub turned-append : (operand : Operand) (edges others : List Edge) → turned operand (edges ++ others) ≡ turned operand edges ++ turned operand others
+turned-append operand [] others = refl
+turned-append operand (first ∷ edges) others = by_first operand first (turned operand (edges ++ others)) (turned operand edges) (turned operand others) (int_eq first.x0 first.x1) (turned-append operand edges others)
 
 -- one that isn't vertical, and one that is
-pub turned-sloped : (role : Role) (edges : List Edge) (edge : Edge) (before now after : List Piece) → edge.x0 ≢ edge.x1 → now ≡ before ++ turned role edges → after ≡ now ++ piece_of role edge ∷ []
-    → after ≡ before ++ turned role (edges ++ edge ∷ [])
-turned-sloped role edges edge before now after sloped is more =
-    more ∙ ap (λ (list : List Piece). list ++ piece_of role edge ∷ []) is ∙ append_assoc before (turned role edges) (piece_of role edge ∷ [])
-    ∙ ap (λ (list : List Piece). before ++ (turned role edges ++ list)) (sym (by (int_eq edge.x0 edge.x1) refl)) ∙ ap (λ (list : List Piece). before ++ list) (sym (turned-append role edges (edge ∷ [])))
+pub turned-sloped : (operand : Operand) (edges : List Edge) (edge : Edge) (before now after : List Piece) → edge.x0 ≢ edge.x1 → now ≡ before ++ turned operand edges → after ≡ now ++ piece_of operand edge ∷ []
+    → after ≡ before ++ turned operand (edges ++ edge ∷ [])
+turned-sloped operand edges edge before now after sloped is more =
+    more ∙ ap (λ (list : List Piece). list ++ piece_of operand edge ∷ []) is ∙ append_assoc before (turned operand edges) (piece_of operand edge ∷ [])
+    ∙ ap (λ (list : List Piece). before ++ (turned operand edges ++ list)) (sym (by (int_eq edge.x0 edge.x1) refl)) ∙ ap (λ (list : List Piece). before ++ list) (sym (turned-append operand edges (edge ∷ [])))
   where
-    by : (t : Bool) → int_eq edge.x0 edge.x1 ≡ t → cond t [] (piece_of role edge ∷ []) ≡ piece_of role edge ∷ []
+    by : (t : Bool) → int_eq edge.x0 edge.x1 ≡ t → cond t [] (piece_of operand edge ∷ []) ≡ piece_of operand edge ∷ []
     by false e = refl
     by true e = absurd (sloped (equal edge.x0 edge.x1 e))
 
-pub turned-vertical : (role : Role) (edges : List Edge) (edge : Edge) (before now : List Piece) → edge.x0 ≡ edge.x1 → now ≡ before ++ turned role edges → now ≡ before ++ turned role (edges ++ edge ∷ [])
-turned-vertical role edges edge before now vertical is =
-    is ∙ ap (λ (list : List Piece). before ++ list) (sym (append-nil (turned role edges)) ∙ ap (λ (list : List Piece). turned role edges ++ list) (sym (by (int_eq edge.x0 edge.x1) refl)) ∙ sym (turned-append role edges (edge ∷ [])))
+pub turned-vertical : (operand : Operand) (edges : List Edge) (edge : Edge) (before now : List Piece) → edge.x0 ≡ edge.x1 → now ≡ before ++ turned operand edges → now ≡ before ++ turned operand (edges ++ edge ∷ [])
+turned-vertical operand edges edge before now vertical is =
+    is ∙ ap (λ (list : List Piece). before ++ list) (sym (append-nil (turned operand edges)) ∙ ap (λ (list : List Piece). turned operand edges ++ list) (sym (by (int_eq edge.x0 edge.x1) refl)) ∙ sym (turned-append operand edges (edge ∷ [])))
   where
-    by : (t : Bool) → int_eq edge.x0 edge.x1 ≡ t → cond t [] (piece_of role edge ∷ []) ≡ []
+    by : (t : Bool) → int_eq edge.x0 edge.x1 ≡ t → cond t [] (piece_of operand edge ∷ []) ≡ []
     by true e = refl
     by false e = absurd (unequal edge.x0 edge.x1 e vertical)

@@ -14,8 +14,8 @@ use Rattle.plane.specs.declared.edge.Edge.{Edge}
 use Rattle.plane.specs.SweepLine.Heights.{run, rise, rightwards}
 use Rattle.plane.proofs.SweepLineLemmas.Rightwards.{rightwards-left, rightwards-right}
 use Rattle.overlay.specs.declared.fill.pieces.Piece.{Piece}
-use Rattle.overlay.specs.declared.fill.pieces.Role.{Role}
-use Rattle.overlay.specs.declared.fill.pieces.Role.TheVariants.{Subject, Clip}
+use Rattle.overlay.specs.declared.fill.pieces.Operand.{Operand}
+use Rattle.overlay.specs.declared.fill.pieces.Operand.TheVariants.{Subject, Clip}
 use Rattle.overlay.specs.Fill.Begins.{steps, BeginsUpto, BeginInOrder}
 use Rattle.overlay.specs.Fill.Counts.{is_lower_on}
 use Rattle.overlay.specs.Fill.Filled.{AreNoded}
@@ -53,7 +53,7 @@ rightwards-onwards edge sloped = by (lt_z edge.x1 edge.x0) refl
         level : lt_z edge.x1 edge.x0 ≡ false → edge.x1 ≤ℤ edge.x0 → edge.x0 ≡ edge.x1
         level e h = omega (arith, ints, e, h)
 
-piece-small : (role : Role) (edge : Edge) → IsSmall 1 (piece_of role edge)
+piece-small : (operand : Operand) (edge : Edge) → IsSmall 1 (piece_of operand edge)
 piece-small Subject edge =
     let of = unit_weight edge in
     record { from = of.from; upto = of.upto; clip_from = omega (arith, ints); clip_upto = omega (arith, ints) }
@@ -61,22 +61,22 @@ piece-small Clip edge =
     let of = unit_weight edge in
     record { from = omega (arith, ints); upto = omega (arith, ints); clip_from = of.from; clip_upto = of.upto }
 
-piece-turned : (role : Role) (edges : List Edge) (edge : Edge) → Contains edges edge → edge.x0 ≢ edge.x1 → IsTurned edges (piece_of role edge)
+piece-turned : (operand : Operand) (edges : List Edge) (edge : Edge) → Contains edges edge → edge.x0 ≢ edge.x1 → IsTurned edges (piece_of operand edge)
 piece-turned Subject edges edge among sloped = record { edge = edge; among = among; is = refl; onwards = rightwards-onwards edge sloped; small = piece-small Subject edge }
 piece-turned Clip edges edge among sloped = record { edge = edge; among = among; is = refl; onwards = rightwards-onwards edge sloped; small = piece-small Clip edge }
 
 IsTurned-wider : (edges wider : List Edge) → ((edge : Edge) → Contains edges edge → Contains wider edge) → (piece : Piece) → IsTurned edges piece → IsTurned wider piece
 IsTurned-wider edges wider more piece is = record { edge = is.edge; among = more is.edge is.among; is = is.is; onwards = is.onwards; small = is.small }
 
-by_edge : (role : Role) (edge : Edge) (edges : List Edge) (pieces : List Piece) (t : Bool) → int_eq edge.x0 edge.x1 ≡ t → All (IsTurned (edge ∷ edges)) pieces → All (IsTurned (edge ∷ edges)) (cond t pieces (piece_of role edge ∷ pieces))
-by_edge role edge edges pieces true e others = others
-by_edge role edge edges pieces false e others = All-cons (IsTurned (edge ∷ edges)) (piece_of role edge) pieces (piece-turned role (edge ∷ edges) edge (Contains-here edge edges) (unequal edge.x0 edge.x1 e)) others
+by_edge : (operand : Operand) (edge : Edge) (edges : List Edge) (pieces : List Piece) (t : Bool) → int_eq edge.x0 edge.x1 ≡ t → All (IsTurned (edge ∷ edges)) pieces → All (IsTurned (edge ∷ edges)) (cond t pieces (piece_of operand edge ∷ pieces))
+by_edge operand edge edges pieces true e others = others
+by_edge operand edge edges pieces false e others = All-cons (IsTurned (edge ∷ edges)) (piece_of operand edge) pieces (piece-turned operand (edge ∷ edges) edge (Contains-here edge edges) (unequal edge.x0 edge.x1 e)) others
 
-turned-all : (role : Role) (edges : List Edge) → All (IsTurned edges) (turned role edges)
-turned-all role [] = All-nil (IsTurned [])
-turned-all role (edge ∷ edges) =
-    by_edge role edge edges (turned role edges) (int_eq edge.x0 edge.x1) refl
-    (All-weaker (IsTurned edges) (IsTurned (edge ∷ edges)) (IsTurned-wider edges (edge ∷ edges) (λ one among. Contains-there edge edges one among)) (turned role edges) (turned-all role edges))
+turned-all : (operand : Operand) (edges : List Edge) → All (IsTurned edges) (turned operand edges)
+turned-all operand [] = All-nil (IsTurned [])
+turned-all operand (edge ∷ edges) =
+    by_edge operand edge edges (turned operand edges) (int_eq edge.x0 edge.x1) refl
+    (All-weaker (IsTurned edges) (IsTurned (edge ∷ edges)) (IsTurned-wider edges (edge ∷ edges) (λ one among. Contains-there edge edges one among)) (turned operand edges) (turned-all operand edges))
 
 pub AreTurned-all : (subject clip : List Edge) (pieces : List Piece) → AreTurned subject clip pieces → All (IsTurned (subject ++ clip)) pieces
 AreTurned-all subject clip pieces are =
@@ -204,11 +204,11 @@ sorted-order pieces up i j d less within = not_before (get_or pieces j d) (get_o
 
 -- ---- joined
 
-turned-length : (role : Role) (edges : List Edge) → length (turned role edges) ≤ length edges
-turned-length role [] = omega arith
-turned-length role (edge ∷ edges) = by (int_eq edge.x0 edge.x1) (turned-length role edges)
+turned-length : (operand : Operand) (edges : List Edge) → length (turned operand edges) ≤ length edges
+turned-length operand [] = omega arith
+turned-length operand (edge ∷ edges) = by (int_eq edge.x0 edge.x1) (turned-length operand edges)
   where
-    by : (t : Bool) → length (turned role edges) ≤ length edges → length (cond t (turned role edges) (piece_of role edge ∷ turned role edges)) ≤ length (edge ∷ edges)
+    by : (t : Bool) → length (turned operand edges) ≤ length edges → length (cond t (turned operand edges) (piece_of operand edge ∷ turned operand edges)) ≤ length (edge ∷ edges)
     by true few = omega (arith, few)
     by false few = omega (arith, few)
 

@@ -15,7 +15,8 @@ use Rattle.plane.proofs.MeetLemmas.Identities.{identity, minus, number, plus, sc
 use Rattle.overlay.specs.Fill.Filled.{AreDistinct, AreNoded, IsEndOfSloped, IsNextInColumn, HaveSameEnds}
 use Rattle.overlay.specs.Fill.Verticals.{AreVerticalsOf, BoundRegion, before_all, both_ends, ending, point_of_end, starting, verticals_between}
 use Rattle.noding.specs.Meeting.{MeetAtEnds}
-use Rattle.noding.specs.Windings.{IsClosed, edge_between, end_of, reversed, start_of, winding}
+use Rattle.plane.specs.Ends.{edge_between, end_of, reversed, start_of}
+use Rattle.noding.specs.Windings.{IsClosed, winding}
 use Rattle.overlay.specs.contracts.fill.verticals.EndOrd.TheImpl.{ghosts as end_order}
 use Rattle.overlay.specs.declared.fill.verticals.End.{End}
 use Rattle.noding.proofs.SnapLemmas.Numbers.{n_of, natural}

@@ -8,7 +8,8 @@ use Rattle.plane.specs.declared.edge.Edge.{Edge}
 use Rattle.plane.specs.Meet.Edges.{RationalPoint}
 use Rattle.plane.specs.SweepLine.Heights.{run, rise, height_by_run}
 use Rattle.plane.proofs.MeetLemmas.Identities.{identity, minus, number, plus, scaled, times, unscaled}
-use Rattle.noding.specs.Windings.{end_of, reversed, start_of, winding, count}
+use Rattle.plane.specs.Ends.{end_of, reversed, start_of}
+use Rattle.noding.specs.Windings.{winding, count}
 use Rattle.noding.proofs.SnapLemmas.Numbers.{n_of, natural, same_test}
 use Rattle.overlay.proofs.VerticalLemmas.Flows.{Every, flow, is_upto, upto-at, upto-before, upto-behind}
 use Rattle.overlay.proofs.FillLemmas.Balance.{carried}

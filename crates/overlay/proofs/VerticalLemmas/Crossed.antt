@@ -12,7 +12,8 @@ use Rattle.plane.specs.Meet.Kinds.{IsEnd}
 use Rattle.plane.specs.SweepLine.Heights.{run, height_by_run}
 use Rattle.plane.proofs.MeetLemmas.Identities.{identity, minus, number, plus, scaled, times, unscaled}
 use Rattle.overlay.specs.Fill.Verticals.{BoundRegion}
-use Rattle.noding.specs.Windings.{reversed, winding, count}
+use Rattle.plane.specs.Ends.{reversed}
+use Rattle.noding.specs.Windings.{winding, count}
 use Rattle.overlay.specs.Fill.Filled.{HaveSameEnds}
 use Rattle.noding.proofs.SnapLemmas.Numbers.{n_of, natural, same_test}
 use Rattle.noding.proofs.SnapLemmas.Reversed.{IsOf-reversed}

@@ -8,7 +8,8 @@ use Rattle.plane.specs.declared.edge.Edge.{Edge}
 use Rattle.plane.specs.declared.point.Point.{Point}
 use Rattle.overlay.specs.Fill.Pieces.{total}
 use Rattle.overlay.proofs.FillLemmas.Balance.{carried}
-use Rattle.noding.specs.Windings.{end_of, start_of, count}
+use Rattle.plane.specs.Ends.{end_of, start_of}
+use Rattle.noding.specs.Windings.{count}
 
 -- ---- ends upto a height y / n of a column x: those of columns before it, and those of it that aren't higher
 

@@ -13,7 +13,8 @@ use Rattle.plane.specs.declared.point.Point.{Point}
 use Rattle.overlay.specs.Fill.Verticals.{before_all, point_of_end, vertical_between, verticals_between}
 use Rattle.overlay.specs.declared.fill.verticals.End.{End}
 use Rattle.overlay.specs.Fill.Filled.{HaveSameEnds}
-use Rattle.noding.specs.Windings.{edge_between, count}
+use Rattle.plane.specs.Ends.{edge_between}
+use Rattle.noding.specs.Windings.{count}
 use Rattle.noding.proofs.SnapLemmas.Along.{point_at}
 use Rattle.overlay.proofs.VerticalLemmas.Flows.{flow}
 use Rattle.overlay.proofs.FillLemmas.Balance.{carried}

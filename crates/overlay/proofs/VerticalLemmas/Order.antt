@@ -19,7 +19,8 @@ use Rattle.overlay.specs.Fill.Verticals.{both_ends, ending, point_of_end, starti
 use Rattle.overlay.specs.contracts.fill.verticals.EndOrd.TheImpl.{ghosts as end_order}
 use Rattle.overlay.specs.contracts.fill.verticals.EndOrd.TheImpl.Laws.{total-law as end_total}
 use Rattle.overlay.specs.declared.fill.verticals.End.{End}
-use Rattle.noding.specs.Windings.{end_of, start_of, count}
+use Rattle.plane.specs.Ends.{end_of, start_of}
+use Rattle.noding.specs.Windings.{count}
 use Rattle.noding.proofs.SnapLemmas.Along.{point_at}
 use Rattle.noding.proofs.SnapLemmas.Numbers.{n_of}
 use Rattle.overlay.proofs.VerticalLemmas.Flows.{flow, is_upto, upto-at, upto-before, upto-behind}

@@ -8,7 +8,8 @@ use Rattle.plane.specs.declared.edge.Edge.{Edge}
 use Rattle.plane.specs.declared.point.Point.{Point}
 use Rattle.plane.proofs.MeetLemmas.Identities.{identity, number, scaled, times}
 use Rattle.overlay.specs.Fill.Verticals.{BoundRegion}
-use Rattle.noding.specs.Windings.{end_of, start_of, winding}
+use Rattle.plane.specs.Ends.{end_of, start_of}
+use Rattle.noding.specs.Windings.{winding}
 use Rattle.noding.proofs.SnapLemmas.Numbers.{n_of}
 use Rattle.overlay.proofs.VerticalLemmas.Columns.{flow-windings, left_of, one_some, parts, right_of, size, size_of, sizes, upto_size}
 use Rattle.overlay.proofs.VerticalLemmas.Flows.{Every, flow, flow-agree, is_upto, upto-at, upto-before, upto-behind}

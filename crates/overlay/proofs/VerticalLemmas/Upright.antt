@@ -6,7 +6,7 @@ use Rattle.plane.specs.Meet.Edges.{IsOf, RationalPoint}
 use Rattle.plane.specs.Meet.Kinds.{IsEnd}
 use Rattle.plane.proofs.MeetLemmas.Identities.{identity, minus, number, plus, scaled, times}
 use Rattle.overlay.specs.Fill.Filled.{HaveSameEnds}
-use Rattle.noding.specs.Windings.{edge_between, reversed}
+use Rattle.plane.specs.Ends.{edge_between, reversed}
 use Rattle.noding.proofs.SnapLemmas.Along.{point_at}
 use Rattle.noding.proofs.SnapLemmas.Numbers.{n_of}
 use Rattle.noding.proofs.SnapLemmas.Reversed.{IsOf-reversed}

@@ -3,7 +3,7 @@ use Rattle.std.specs.Prelude.{◌≡◌, ℕ, ◌<◌, List, get_or, length}
 use Rattle.plane.specs.declared.edge.Edge.{Edge}
 use Rattle.plane.specs.declared.point.Point.{Point}
 use Rattle.overlay.specs.Contours.Order.{IsBehind, IsFirstFrom, edge_at, point_at}
-use Rattle.noding.specs.Windings.{end_of}
+use Rattle.plane.specs.Ends.{end_of}
 
 -- So many of the edges, at least, start before the point.
 abbrev pub StartBefore : List Edge → Point → ℕ → Type 0

@@ -2,11 +2,7 @@
 use Rattle.std.specs.Prelude.{◌≡◌, ◌≢◌, ◌⊎◌, ℕ, ◌<◌, ◌≤◌, pos, ◌≤ℤ◌, ◌<ℤ◌, List, get_or, length}
 use Rattle.plane.specs.declared.edge.Edge.{Edge}
 use Rattle.plane.specs.declared.point.Point.{Point}
-use Rattle.noding.specs.Windings.{start_of}
-use Rattle.overlay.specs.declared.contours.order.Corner.{Corner}
-
-abbrev pub corner_at : Point → Corner
-corner_at point = record { x = point.x; y = point.y }
+use Rattle.plane.specs.Ends.{start_of}
 
 -- The edge at a place.
 abbrev pub edge_at : List Edge → ℕ → Edge

@@ -4,28 +4,38 @@ use Rattle.plane.specs.Meet.Crosses.{cross}
 use Rattle.plane.specs.declared.edge.Edge.{Edge}
 use Rattle.plane.specs.declared.point.Point.{Point}
 use Rattle.overlay.specs.Contours.Order.{edge_at, point_at}
-use Rattle.noding.specs.Windings.{end_of}
-use Rattle.overlay.specs.declared.contours.turns.Way.{Way}
+use Rattle.plane.specs.Ends.{end_of}
+use Rattle.plane.specs.declared.vectors.Vector.{Vector}
 
--- The scalar product of two ways.
+-- The scalar product of two vectors.
 abbrev pub dot : ℤ → ℤ → ℤ → ℤ → ℤ
 dot x y other_x other_y = (x *ℤ other_x) +ℤ (y *ℤ other_y)
 
-abbrev pub way_between : Point → Point → Way
-way_between from to = record { x = to.x -ℤ from.x; y = to.y -ℤ from.y }
+-- A direction, by how far it goes along x and along y.
+pub record Direction : Type 0 where
+  pub x : ℤ
+  pub y : ℤ
 
--- Clockwise from the way back the way lies within a half turn: that way itself counts, the way onwards doesn't.
-abbrev pub IsLeft : Way → Way → Type 0
-IsLeft back way =
-    (cross back.x back.y way.x way.y <ℤ pos 0)
-    ⊎ ((cross back.x back.y way.x way.y ≡ pos 0) × (pos 0 <ℤ dot back.x back.y way.x way.y))
+-- That of a vector.
+abbrev pub direction : Vector → Direction
+direction vector = record { x = vector.x; y = vector.y }
+
+-- That from the one point to the other.
+abbrev pub direction_between : Point → Point → Direction
+direction_between from to = record { x = to.x -ℤ from.x; y = to.y -ℤ from.y }
+
+-- Clockwise from the way back the direction lies within a half turn: that way itself counts, the way onwards doesn't.
+abbrev pub IsLeft : Direction → Direction → Type 0
+IsLeft back there =
+    (cross back.x back.y there.x there.y <ℤ pos 0)
+    ⊎ ((cross back.x back.y there.x there.y ≡ pos 0) × (pos 0 <ℤ dot back.x back.y there.x there.y))
 
 -- Both lie within it, or neither does.
-abbrev pub AreAlike : Way → Way → Way → Type 0
+abbrev pub AreAlike : Direction → Direction → Direction → Type 0
 AreAlike back one other = (IsLeft back one × IsLeft back other) ⊎ ((¬ (IsLeft back one)) × (¬ (IsLeft back other)))
 
--- Clockwise from the way back, the one way comes strictly before the other.
-abbrev pub ComesBefore : Way → Way → Way → Type 0
+-- Clockwise from the way back, the one direction comes strictly before the other.
+abbrev pub ComesBefore : Direction → Direction → Direction → Type 0
 ComesBefore back one other =
     (IsLeft back one × (¬ (IsLeft back other)))
     ⊎ (AreAlike back one other × (cross one.x one.y other.x other.y <ℤ pos 0))
@@ -43,7 +53,7 @@ NoneLeaves sorted used at = (place : ℕ) → ¬ (Leaves sorted used at place)
 -- Of two edges that start at the point, the one comes strictly before the other, clockwise from the way to the point `back`.
 abbrev pub TurnsBefore : List Edge → Point → Point → ℕ → ℕ → Type 0
 TurnsBefore sorted back at one other =
-    ComesBefore (way_between at back) (way_between at (end_of (edge_at sorted one))) (way_between at (end_of (edge_at sorted other)))
+    ComesBefore (direction_between at back) (direction_between at (end_of (edge_at sorted one))) (direction_between at (end_of (edge_at sorted other)))
 
 -- The place of the edge that comes before the other, or else the other's.
 abbrev pub IsBetter : List Edge → Point → Point → ℕ → ℕ → ℕ → Type 0

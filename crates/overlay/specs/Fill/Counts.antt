@@ -6,7 +6,7 @@ use Rattle.plane.specs.SweepLine.Heights.{rightwards, height_by_runs}
 pub use Rattle.overlay.specs.declared.fill.counts.Counts.{Counts}
 use Rattle.overlay.specs.declared.fill.pieces.Piece.{Piece}
 use Rattle.overlay.specs.Fill.Pieces.{total, weight}
-use Rattle.noding.specs.Windings.{reversed}
+use Rattle.plane.specs.Ends.{reversed}
 
 -- The edge covers the stretch from x to x + 1.
 abbrev pub is_over : ℤ → Edge → Bool

@@ -3,12 +3,14 @@ use Rattle.std.specs.Prelude.{◌≡◌, ◌≢◌, ◌⊎◌, ◌++◌, List, A
 use Rattle.std.specs.Int.{int_min, int_max}
 use Rattle.plane.specs.declared.edge.Edge.{Edge}
 use Rattle.plane.specs.Meet.Edges.{RationalPoint, IsOf}
+use Rattle.overlay.specs.declared.fill.rules.Choice.{Choice}
 use Rattle.overlay.specs.declared.fill.rules.FillRule.{FillRule}
 use Rattle.overlay.specs.declared.fill.rules.Operation.{Operation}
 use Rattle.overlay.specs.Fill.Rules.{is_result}
 use Rattle.noding.specs.Chains.{IsEnd}
 use Rattle.noding.specs.Meeting.{MeetAtEnds}
-use Rattle.noding.specs.Windings.{reversed, winding, IsClosed, count}
+use Rattle.plane.specs.Ends.{reversed}
+use Rattle.noding.specs.Windings.{winding, IsClosed, count}
 
 -- Each point of two of the edges is an end of both, or the two have the same ends.
 abbrev pub AreNoded : List Edge → Type 0
@@ -42,3 +44,8 @@ pub record IsFilled (rule : FillRule) (operation : Operation) (subject clip edge
   pub distinct : AreDistinct edges
   pub sloped : All (λ edge. edge.x1 ≢ edge.x0 → Contains (subject ++ clip) edge ⊎ Contains (subject ++ clip) (reversed edge)) edges
   pub vertical : All (λ edge. edge.x1 ≡ edge.x0 → IsNextInColumn edges edge) edges
+
+-- Such edges stand behind the others.
+abbrev pub AppendsFilled : Choice → List Edge → List Edge → List Edge → List Edge → Type 0
+AppendsFilled choice subject clip before after =
+    (edges : List Edge) × (after ≡ before ++ edges) × IsFilled choice.rule choice.operation subject clip edges

@@ -51,18 +51,11 @@ pub record AreFillPieces (pieces : List Piece) : Type 0 where
 abbrev pub nothing : Counts
 nothing = record { subject = pos 0; clip = pos 0 }
 
--- A piece that was swept, with what is above it in place of its weights, and what is above it then.
-abbrev pub with_above : Piece → Counts → Piece
-with_above piece above = record { edge = piece.edge; subject = above.subject; clip = above.clip }
-
-abbrev pub above_of : Piece → Counts
-above_of piece = record { subject = piece.subject; clip = piece.clip }
-
 -- a piece in place of none
 abbrev pub no_piece : Piece
 no_piece = record { edge = record { x0 = pos 0; y0 = pos 0; x1 = pos 0; y1 = pos 0 }; subject = pos 0; clip = pos 0 }
 
--- What is above the entry that was found, of pieces that were swept, or nothing.
-abbrev pub above_or : List Piece → Option Entry → Counts
-above_or pieces None = nothing
-above_or pieces (Some entry) = above_of (get_or pieces entry.0.place no_piece)
+-- What is above the entry that was found, by the counts above each piece that has begun, or nothing.
+abbrev pub above_or : List Counts → Option Entry → Counts
+above_or above None = nothing
+above_or above (Some entry) = get_or above entry.0.place nothing

@@ -5,22 +5,22 @@ use Rattle.std.specs.List.Sorted.{IsPermutation}
 use Rattle.plane.specs.declared.edge.Edge.{Edge}
 use Rattle.plane.specs.SweepLine.Heights.{rightwards}
 use Rattle.overlay.specs.declared.fill.pieces.Piece.{Piece}
-use Rattle.overlay.specs.declared.fill.pieces.Role.{Role}
-use Rattle.overlay.specs.declared.fill.pieces.Role.TheVariants.{Subject, Clip}
+use Rattle.overlay.specs.declared.fill.pieces.Operand.{Operand}
+use Rattle.overlay.specs.declared.fill.pieces.Operand.TheVariants.{Subject, Clip}
 use Rattle.overlay.specs.Fill.Begins.{BeginsUpto}
 use Rattle.overlay.specs.Fill.Filled.{AreNoded}
 use Rattle.overlay.specs.Fill.Pieces.{total, weight}
 use Rattle.noding.specs.Windings.{IsClosed}
 
 -- The edge alone as a piece.
-abbrev pub piece_of : Role → Edge → Piece
+abbrev pub piece_of : Operand → Edge → Piece
 piece_of Subject edge = record { edge = rightwards edge; subject = weight edge; clip = pos 0 }
 piece_of Clip edge = record { edge = rightwards edge; subject = pos 0; clip = weight edge }
 
 -- Those of the edges that aren't vertical.
-abbrev pub turned : Role → List Edge → List Piece
-turned role [] = []
-turned role (edge ∷ edges) = cond (int_eq edge.x0 edge.x1) (turned role edges) (piece_of role edge ∷ turned role edges)
+abbrev pub turned : Operand → List Edge → List Piece
+turned operand [] = []
+turned operand (edge ∷ edges) = cond (int_eq edge.x0 edge.x1) (turned operand edges) (piece_of operand edge ∷ turned operand edges)
 
 -- The pieces of both, in some order.
 abbrev pub AreTurned : List Edge → List Edge → List Piece → Type 0

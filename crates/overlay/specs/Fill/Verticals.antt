@@ -7,7 +7,8 @@ use Rattle.plane.specs.declared.point.Point.{Point}
 use Rattle.plane.specs.Meet.Edges.{RationalPoint}
 use Rattle.overlay.specs.declared.fill.verticals.End.{End}
 use Rattle.overlay.specs.Fill.Filled.{AreDistinct, AreNoded, IsNextInColumn}
-use Rattle.noding.specs.Windings.{edge_between, winding, IsClosed}
+use Rattle.plane.specs.Ends.{edge_between}
+use Rattle.noding.specs.Windings.{winding, IsClosed}
 
 -- Edges that aren't vertical and bound a region: they meet only at common ends, no two have the same, and they wind once around
 -- the points of the region, and around no others; from some height on no point is of it.

@@ -26,26 +26,13 @@ pub fn broken<A: Allocator + Copy>(
         × AreBroken subject.now clip.now (take told.1 told.0.items) (drop told.1 told.0.items)) }
 {
     let edges = all_edges(alloc, subject, clip)?;
-    broken_of(alloc, &edges, subject.len())
-}
-
-// The same of edges in one list, of which the first `count` are the subject's and the others the clip's.
-fn broken_of<A: Allocator + Copy>(
-    alloc: A,
-    edges: &[Edge],
-    count: usize,
-) -> Result<(Vec<Edge, A>, usize), Refusal>
-    requires { count ≤ length edges.now }
-    ensures { IfOk result (λ told. (told.1 ≤ length told.0.items)
-        × AreBroken (take count edges.now) (drop count edges.now) (take told.1 told.0.items) (drop told.1 told.0.items)) }
-{
     // A chain has two points at least, but that of a point.
     let mut points = Vec::with_capacity(alloc, edges.len().saturating_add(edges.len()))?;
     let mut ends = Vec::with_capacity(alloc, edges.len())?;
-    snap(edges, &mut points, &mut ends)?;
+    snap(&edges, &mut points, &mut ends)?;
     let pieces = pieces_of(alloc, &points, &ends)?;
-    let pieces_count = count_pieces(&ends, count);
-    Ok((pieces, pieces_count))
+    let count = count_pieces(&ends, subject.len());
+    Ok((pieces, count))
 }
 
 // The subject's edges and then the clip's.
@@ -62,8 +49,8 @@ fn all_edges<A: Allocator>(
     Ok(edges)
 }
 
-// How many pieces the first so many chains have: each has one less than it has points.
-fn count_pieces(ends: &[usize], chains: usize) -> usize
+/// How many pieces the first so many chains have: each has one less than it has points.
+pub fn count_pieces(ends: &[usize], chains: usize) -> usize
     requires { StopSome ends.now chains }
     ensures { (lists : List (List Point)) → ends.now ≡ offsets 0 lists → AllSome lists
         → chains ≤ length lists → result ≡ length (flat_map pieces (take chains lists)) }

@@ -7,38 +7,37 @@ ghost use Rattle.overlay.specs.Fill.Filled.{IsFilled};
 ghost use Rattle.noding.specs.Windings.{IsClosed};
 
 use crate::contours::contours_in_place;
-use crate::fill::fill_pieces;
-use crate::fill::rules::{FillRule, Operation};
+use crate::fill::{Choice, fill_pieces};
 use i_tree::Refusal;
 use i_tree::status::exp::StatusCollection;
+use pieces::broken_pieces;
 use plane::edge::Edge;
 use plane::point::Point;
 use plane::sweep_line::ActiveEdge;
 use std::alloc::Allocator;
-use steps::pieces_of_steps;
 
 pub mod broken;
-mod steps;
+pub mod pieces;
 
 /// Appends rings that bound what the operation makes of the inside of the subject and that of the clip to `points`, one after
 /// another, and to `ring_ends` where each stops among these.
 ///
 /// The first `count` of the edges are the subject's, and the others the clip's. Both are closed, as those of rings are; they may
-/// cross, touch, lie along one another, and stand there more than once. They are broken where they meet and rounded (`snap`),
-/// which of the pieces bound the result is told by their winding numbers (`fill`), and these become rings (`contours`).
+/// cross, touch, lie along one another, and stand there more than once. They are broken where they meet and rounded
+/// (`broken_pieces`), which of the pieces bound the result is told by their winding numbers (`fill_pieces`), and these become
+/// rings (`contours_in_place`).
 ///
 /// The rings have the result on their left. None visits a point twice, and no two of their edges cross, or share more than an
-/// end. Around each point that isn't within half a unit, on both axes, of an edge given, they wind once where it is of the
-/// result, and not at all where it isn't; and so they do around every point where all edges run along the axes. Around no
-/// point do they wind more often. If there are any rings, some edge of theirs isn't vertical.
+/// end. They wind once around each point of the result, and not at all around any other, if each edge given runs along an axis, or
+/// isn't within half a unit, on both axes, of the point. Around no point do they wind more often. If there are any rings, some edge
+/// of theirs isn't vertical.
 ///
 /// It is refused where memory or the status has no room, and leaves `points` and `ring_ends` as they were then. What the status
 /// holds is removed before and after, in every case. The memory is that of `points` and `ring_ends`.
 pub fn boundary<C, A>(
     edges: &[Edge],
     count: usize,
-    rule: FillRule,
-    operation: Operation,
+    choice: Choice,
     status: &mut C,
     points: &mut Vec<Point, A>,
     ring_ends: &mut Vec<usize, A>,
@@ -49,14 +48,14 @@ where
     requires count { count ≤ length edges.now }
     requires closed { IsClosed (take count edges.now) }
     requires clip_closed { IsClosed (drop count edges.now) }
-    ensures ok { OnOk result (AppendsBoundary rule operation (take count edges.now) (drop count edges.now)
+    ensures ok { OnOk result (AppendsBoundary choice.rule choice.operation (take count edges.now) (drop count edges.now)
         points.old.items points.new.items ring_ends.old.items ring_ends.new.items) }
     ensures err { OnErr result ((points.new.items ≡ points.old.items) × (ring_ends.new.items ≡ ring_ends.old.items)) }
     ensures empty { C.stored status.new ≡ [] }
 {
     status.clear();
     let alloc = *points.allocator();
-    let bounding = bounding_edges(alloc, edges, count, rule, operation, status)?;
+    let bounding = bounding_edges(alloc, edges, count, choice, status)?;
     contours_in_place(bounding, points, ring_ends)?;
     Ok(())
 }
@@ -66,8 +65,7 @@ pub fn bounding_edges<C, A>(
     alloc: A,
     edges: &[Edge],
     count: usize,
-    rule: FillRule,
-    operation: Operation,
+    choice: Choice,
     status: &mut C,
 ) -> Result<Vec<Edge, A>, Refusal>
 where
@@ -79,12 +77,12 @@ where
     requires clip_closed { IsClosed (drop count edges.now) }
     ensures filled { IfOk result (λ bounding. (broken broken_clip : List Edge)
         × AreBroken (take count edges.now) (drop count edges.now) broken broken_clip
-        × IsFilled rule operation broken broken_clip bounding.items) }
+        × IsFilled choice.rule choice.operation broken broken_clip bounding.items) }
     ensures empty { C.stored status.new ≡ [] }
 {
-    let mut pieces = pieces_of_steps(alloc, edges, count)?;
+    let pieces = broken_pieces(alloc, edges, count)?;
     // Of vertical edges there are no pieces, but some are among those of the boundary.
     let mut bounding = Vec::with_capacity(alloc, pieces.capacity())?;
-    fill_pieces(&mut pieces, rule, operation, status, &mut bounding)?;
+    fill_pieces(pieces, choice, status, &mut bounding)?;
     Ok(bounding)
 }

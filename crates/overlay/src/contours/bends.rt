@@ -4,11 +4,13 @@ ghost use Rattle.std.specs.Prelude.{◌≡◌, ◌++◌, ◌<◌, ◌+◌, List,
 ghost use Rattle.std.specs.List.{flat_map};
 ghost use Rattle.plane.specs.declared.point.Point.{Point};
 ghost use Rattle.overlay.specs.Contours.Outlines.{IsStraight, next_or, outline, ring_point};
-ghost use Rattle.noding.specs.Offsets.{Extends, offsets};
+ghost use Rattle.plane.specs.Lists.{Extends};
+ghost use Rattle.noding.specs.Offsets.{offsets};
 
-use super::turns::{across, is_ahead, way_between};
+use super::turns::is_ahead;
 use crate::rings::ring_at;
 use plane::point::Point;
+use plane::vectors::{cross_product, vector_between};
 use std::alloc::{AllocError, Allocator};
 
 /// Appends the outline of each ring, and where it stops. The rings stand one after another, and each stops at its end.
@@ -70,9 +72,9 @@ pub fn next_in(ring: &[Point], place: usize) -> Point
 fn goes_straight(before: Point, at: Point, after: Point) -> bool
     ensures { MatchBool result (IsStraight before at after) (¬ (IsStraight before at after)) }
 {
-    let one = way_between(before, at);
-    let other = way_between(at, after);
-    if across(one, other) != 0 {
+    let one = vector_between(before, at);
+    let other = vector_between(at, after);
+    if cross_product(one, other) != 0 {
         return false;
     }
     is_ahead(one, other)

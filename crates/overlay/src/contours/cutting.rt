@@ -6,10 +6,9 @@ ghost use Rattle.plane.specs.declared.point.Point.{Point};
 ghost use Rattle.overlay.specs.Contours.Order.{IsCorner, point_at};
 ghost use Rattle.overlay.specs.Contours.Rings.{ring_edges};
 ghost use Rattle.overlay.specs.Contours.Walks.{AreAppended, IsMarked, IsOff, path};
-ghost use Rattle.noding.specs.Offsets.{Extends};
+ghost use Rattle.plane.specs.Lists.{Extends};
 
-use noding::edges::start_of;
-use plane::edge::Edge;
+use plane::edge::{Edge, start_of};
 use plane::point::Point;
 use std::alloc::{AllocError, Allocator};
 

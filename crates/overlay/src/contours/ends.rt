@@ -7,9 +7,8 @@ ghost use Rattle.overlay.specs.Contours.Order.{AreInOrder, IsFirstFrom};
 
 use super::order::{first_from, is_behind};
 use super::turns::starts_at;
-use noding::edges::{end_of, number_at, start_of};
-use plane::edge::Edge;
-use plane::point::Point;
+use plane::edge::{Edge, end_of, start_of};
+use plane::point::{Point, number_at};
 use std::alloc::{AllocError, Allocator};
 
 // More hints are no use, as each has 32 bits.

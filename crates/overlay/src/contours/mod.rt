@@ -6,7 +6,8 @@ ghost use Rattle.i_tree.specs.declared.Refusal.TheVariants.{OutOfMemory};
 ghost use Rattle.plane.specs.declared.point.Point.{Point};
 ghost use Rattle.overlay.specs.Contours.Outlines.{AreOutlines, outline};
 ghost use Rattle.overlay.specs.Contours.Rings.{AreContours};
-ghost use Rattle.noding.specs.Offsets.{offsets, Extends};
+ghost use Rattle.plane.specs.Lists.{Extends};
+ghost use Rattle.noding.specs.Offsets.{offsets};
 ghost use Rattle.noding.specs.Windings.{IsClosed};
 
 use bends::append_outlines;
@@ -94,37 +95,20 @@ pub fn outlines<A: Allocator + Copy>(
     ensures err { OnErr result ((points.new.items ≡ points.old.items) × (ring_ends.new.items ≡ ring_ends.old.items)) }
     ensures refused { IfErr result (λ cause. cause ≡ OutOfMemory) }
 {
-    let points_start = points.len();
-    let ends_start = ring_ends.len();
-    let outcome = append_all_outlines(edges, points, ring_ends);
-    if outcome.is_err() {
-        points.truncate(points_start);
-        ring_ends.truncate(ends_start);
-        return Err(Refusal::OutOfMemory);
-    }
-    Ok(())
-}
-
-// As `outlines`, but where it is refused, it may have appended something.
-fn append_all_outlines<A: Allocator + Copy>(
-    edges: &[Edge],
-    points: &mut Vec<Point, A>,
-    ring_ends: &mut Vec<usize, A>,
-) -> Result<(), AllocError>
-    requires { IsClosed edges.now }
-    ensures ok { OnOk result ((rings : List (List Point)) × AreContours edges.now rings
-        × (points.new.items ≡ points.old.items ++ flat_map outline rings)
-        × (ring_ends.new.items ≡ ring_ends.old.items ++ offsets (length points.old.items) (map outline rings))
-        × AreOutlines edges.now (map outline rings)) }
-    ensures err { OnErr result (Extends points.old.items points.new.items
-        × Extends ring_ends.old.items ring_ends.new.items) }
-{
     let alloc = *points.allocator();
     let mut rings = Vec::with_capacity(alloc, edges.len())?;
     let mut ends = Vec::new(alloc);
-    let list = Vec::from_slice(alloc, edges)?;
-    append_all(list, &mut rings, &mut ends)?;
-    append_outlines(&rings, &ends, points, ring_ends)
+    contours(edges, &mut rings, &mut ends)?;
+    let points_start = points.len();
+    let ends_start = ring_ends.len();
+    match append_outlines(&rings, &ends, points, ring_ends) {
+        Ok(()) => Ok(()),
+        Err(_) => {
+            points.truncate(points_start);
+            ring_ends.truncate(ends_start);
+            Err(Refusal::OutOfMemory)
+        }
+    }
 }
 
 // As `contours_in_place`, but where it is refused, it may have appended something.

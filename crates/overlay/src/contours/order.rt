@@ -1,22 +1,14 @@
 //! Edges in the order of their starts, and where those that start at a point stand.
 
 ghost use Rattle.std.specs.Prelude.{◌≡◌, IsPermutation, MatchBool, OnOk};
-ghost use Rattle.overlay.specs.Contours.Order.{AreInOrder, IsBehind, IsFirstFrom, corner_at};
-ghost use Rattle.noding.specs.Windings.{start_of};
+ghost use Rattle.overlay.specs.Contours.Order.{AreInOrder, IsBehind, IsFirstFrom};
+ghost use Rattle.plane.specs.Ends.{start_of};
 
 use event_queue::buckets::sort_in_buckets;
-use noding::edges::{number_at, start_of};
-use plane::edge::Edge;
-use plane::point::Point;
+use plane::edge::{Edge, start_of};
+use plane::point::{Point, number_at};
 use std::alloc::{AllocError, Allocator};
 use std::cmp::Ordering;
-
-/// A point at which edges start. They are in order by x, and then by y.
-#[derive(Clone, Copy, Debug, PartialEq, Eq, PartialOrd, Ord)]
-pub struct Corner {
-    pub x: i32,
-    pub y: i32,
-}
 
 /// Puts the edges in the order of their starts.
 pub fn put_in_order<A: Allocator + Copy>(edges: &mut Vec<Edge, A>) -> Result<(), AllocError>
@@ -26,20 +18,8 @@ pub fn put_in_order<A: Allocator + Copy>(edges: &mut Vec<Edge, A>) -> Result<(),
     sort_in_buckets(
         edges,
         |edge| number_at(edge.x0, edge.y0),
-        |one: &Edge, other: &Edge| -> Ordering {
-            corner_at(start_of(*one)).cmp(&corner_at(start_of(*other)))
-        },
+        |one: &Edge, other: &Edge| -> Ordering { start_of(*one).cmp(&start_of(*other)) },
     )
-}
-
-/// The corner at the point.
-pub fn corner_at(point: Point) -> Corner
-    ensures { result ≡ corner_at point }
-{
-    Corner {
-        x: point.x,
-        y: point.y,
-    }
 }
 
 /// How many of the edges in order start before the point.

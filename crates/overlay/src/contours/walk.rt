@@ -1,20 +1,19 @@
 //! Walks along edges, until each edge is walked.
 
-ghost use Rattle.std.specs.Prelude.{◌≡◌, ◌++◌, ◌<◌, [], true, false, IsPermutation, List, OnErr, OnOk, get_or, length};
+ghost use Rattle.std.specs.Prelude.{◌≡◌, ◌++◌, ◌∷◌, ◌<◌, [], true, false, IsPermutation, List, OnErr, OnOk, get_or, length, slice_set};
 ghost use Rattle.std.specs.List.{flat_map};
 ghost use Rattle.plane.specs.declared.point.Point.{Point};
 ghost use Rattle.overlay.specs.Contours.Ends.{AreCornersOfEnds};
 ghost use Rattle.overlay.specs.Contours.Order.{AreInOrder, IsFirstFrom, point_at};
 ghost use Rattle.overlay.specs.Contours.Rings.{ring_edges};
 ghost use Rattle.overlay.specs.Contours.Walks.{AreAppended, Keeps, unwalked};
-ghost use Rattle.noding.specs.Offsets.{Extends};
+ghost use Rattle.plane.specs.Lists.{Extends};
 ghost use Rattle.noding.specs.Windings.{IsClosed};
 
 use super::cutting::cut_loop;
 use super::ends::{corners_of_ends, next_from};
 use super::turns::leftmost;
-use noding::edges::{end_of, start_of};
-use plane::edge::Edge;
+use plane::edge::{Edge, end_of, start_of};
 use plane::point::Point;
 use std::alloc::{AllocError, Allocator};
 
@@ -34,31 +33,42 @@ pub fn append_rings<A: Allocator + Copy>(
         × Extends ring_ends.old.items ring_ends.new.items) }
 {
     let corners = corners_of_ends(alloc, sorted)?;
-    let mut used = vec![in alloc; false; sorted.len()]?;
-    let mut marks = vec![in alloc; 0; sorted.len()]?;
-    let mut stack = Vec::new(alloc);
-    walk_all(
-        sorted, &corners, &mut used, &mut marks, &mut stack, points, ring_ends,
-    )
+    let used = vec![in alloc; false; sorted.len()]?;
+    let marks = vec![in alloc; 0; sorted.len()]?;
+    let mut walk = Walk {
+        used,
+        marks,
+        stack: Vec::new(alloc),
+        corner: 0,
+    };
+    walk_all(sorted, &corners, &mut walk, points, ring_ends)
+}
+
+// How far walks have come along edges in order: which edges are walked, over which corners the last walk is now, and at which
+// corner it stands. For each corner the mark is its place among these, where the walk is over it.
+#[derive(Drop)]
+struct Walk<A: Allocator> {
+    used: Vec<bool, A>,
+    marks: Vec<usize, A>,
+    stack: Vec<usize, A>,
+    corner: usize,
 }
 
 // Walks along all edges, of which none is walked yet.
 fn walk_all<A: Allocator>(
     sorted: &[Edge],
     corners: &[usize],
-    used: &mut [bool],
-    marks: &mut [usize],
-    stack: &mut Vec<usize, A>,
+    walk: &mut Walk<A>,
     points: &mut Vec<Point, A>,
     ring_ends: &mut Vec<usize, A>,
 ) -> Result<(), AllocError>
     requires closed { IsClosed sorted.now }
     requires order { AreInOrder sorted.now }
     requires corners { AreCornersOfEnds sorted.now corners.now }
-    requires used_size { length used.old ≡ length sorted.now }
-    requires marks_size { length marks.old ≡ length sorted.now }
-    requires all { unwalked sorted.now used.old ≡ sorted.now }
-    requires begins { stack.old.items ≡ [] }
+    requires used_size { length walk.old.used.items ≡ length sorted.now }
+    requires marks_size { length walk.old.marks.items ≡ length sorted.now }
+    requires all { unwalked sorted.now walk.old.used.items ≡ sorted.now }
+    requires begins { walk.old.stack.items ≡ [] }
     ensures ok { OnOk result ((rings : List (List Point))
         × AreAppended rings points.old.items points.new.items ring_ends.old.items ring_ends.new.items
         × IsPermutation (flat_map ring_edges rings) sorted.now) }
@@ -66,28 +76,25 @@ fn walk_all<A: Allocator>(
         × Extends ring_ends.old.items ring_ends.new.items) }
 {
     let mut corner = 0;
+    // The edges before `first` are walked, and what is walked is of rings.
     for first in 0..sorted.len() {
-        if used[first] {
+        if walk.used[first] {
             continue;
         }
         corner = next_from(sorted, corner, start_of(sorted[first]));
-        walk(
-            sorted, corners, first, corner, used, marks, stack, points, ring_ends,
-        )?;
+        walk.corner = corner;
+        walk_from(sorted, corners, first, walk, points, ring_ends)?;
     }
     Ok(())
 }
 
-// Walks from the edge at this place on, until no edge is left to go on along: then the walk is back where it began. So many
-// edges as `corner` says start before this one.
-fn walk<A: Allocator>(
+// Walks from the edge at this place on, until no edge is left to go on along: then the walk is back where it began. The walk
+// stands at the corner where that edge starts.
+fn walk_from<A: Allocator>(
     sorted: &[Edge],
     corners: &[usize],
     first: usize,
-    mut corner: usize,
-    used: &mut [bool],
-    marks: &mut [usize],
-    stack: &mut Vec<usize, A>,
+    walk: &mut Walk<A>,
     points: &mut Vec<Point, A>,
     ring_ends: &mut Vec<usize, A>,
 ) -> Result<(), AllocError>
@@ -95,38 +102,61 @@ fn walk<A: Allocator>(
     requires order { AreInOrder sorted.now }
     requires corners { AreCornersOfEnds sorted.now corners.now }
     requires inside { first < length sorted.now }
-    requires from { IsFirstFrom sorted.now (point_at sorted.now first) corner }
-    requires unused { get_or used.old first true ≡ false }
-    requires used_size { length used.old ≡ length sorted.now }
-    requires marks_size { length marks.old ≡ length sorted.now }
-    requires rest { IsClosed (unwalked sorted.now used.old) }
-    requires begins { stack.old.items ≡ [] }
+    requires from { IsFirstFrom sorted.now (point_at sorted.now first) walk.old.corner }
+    requires unused { get_or walk.old.used.items first true ≡ false }
+    requires used_size { length walk.old.used.items ≡ length sorted.now }
+    requires marks_size { length walk.old.marks.items ≡ length sorted.now }
+    requires rest { IsClosed (unwalked sorted.now walk.old.used.items) }
+    requires begins { walk.old.stack.items ≡ [] }
     ensures ok { OnOk result ((rings : List (List Point))
         × AreAppended rings points.old.items points.new.items ring_ends.old.items ring_ends.new.items
-        × IsPermutation (flat_map ring_edges rings ++ unwalked sorted.now used.new) (unwalked sorted.now used.old)
-        × (stack.new.items ≡ [])) }
-    ensures walked { OnOk result (get_or used.new first true ≡ true) }
-    ensures keeps { Keeps used.old used.new }
-    ensures used_size { length used.new ≡ length used.old }
-    ensures marks_size { length marks.new ≡ length marks.old }
+        × IsPermutation (flat_map ring_edges rings ++ unwalked sorted.now walk.new.used.items)
+        (unwalked sorted.now walk.old.used.items)
+        × (walk.new.stack.items ≡ [])) }
+    ensures walked { OnOk result (get_or walk.new.used.items first true ≡ true) }
+    ensures keeps { OnOk result (Keeps walk.old.used.items walk.new.used.items) }
+    ensures used_size { OnOk result (length walk.new.used.items ≡ length walk.old.used.items) }
+    ensures marks_size { OnOk result (length walk.new.marks.items ≡ length walk.old.marks.items) }
     ensures err { OnErr result (Extends points.old.items points.new.items
         × Extends ring_ends.old.items ring_ends.new.items) }
 {
     let mut back = start_of(sorted[first]);
     let mut next = Some(first);
+    // Each edge that wasn't walked before is of a ring, of the walk, or still not walked. The walk is over no corner twice.
     while let Some(place) = next {
         let edge = sorted[place];
         let from = start_of(edge);
         let at = end_of(edge);
-        used[place] = true;
-        marks[corner] = stack.len();
-        stack.push(corner)?;
-        corner = corners[place];
-        cut_loop(sorted, corner, marks, stack, points, ring_ends)?;
+        go_along(walk, place, corners[place])?;
+        cut_loop(
+            sorted,
+            walk.corner,
+            &walk.marks,
+            &mut walk.stack,
+            points,
+            ring_ends,
+        )?;
         if from != at {
             back = from;
         }
-        next = leftmost(sorted, used, back, at, corner);
+        next = leftmost(sorted, &walk.used, back, at, walk.corner);
     }
+    Ok(())
+}
+
+// Goes along the edge at this place, which ends at this corner.
+fn go_along<A: Allocator>(walk: &mut Walk<A>, place: usize, end: usize) -> Result<(), AllocError>
+    requires place { place < length walk.old.used.items }
+    requires corner { walk.old.corner < length walk.old.marks.items }
+    ensures used { OnOk result (walk.new.used.items ≡ slice_set walk.old.used.items place true) }
+    ensures marks { OnOk result (walk.new.marks.items
+        ≡ slice_set walk.old.marks.items walk.old.corner (length walk.old.stack.items)) }
+    ensures stack { OnOk result (walk.new.stack.items ≡ walk.old.stack.items ++ walk.old.corner ∷ []) }
+    ensures corner { OnOk result (walk.new.corner ≡ end) }
+{
+    walk.used[place] = true;
+    walk.marks[walk.corner] = walk.stack.len();
+    walk.stack.push(walk.corner)?;
+    walk.corner = end;
     Ok(())
 }

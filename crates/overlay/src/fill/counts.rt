@@ -3,7 +3,7 @@
 ghost use Rattle.std.specs.Prelude.{◌≡◌};
 ghost use Rattle.overlay.specs.Fill.Rules.{is_result};
 
-use super::rules::{FillRule, Operation};
+use super::rules::Choice;
 
 /// The winding numbers of the subject and of the clip, just below or just above a piece.
 #[derive(Clone, Copy, Debug)]
@@ -13,8 +13,9 @@ pub struct Counts {
 }
 
 /// Whether points with these winding numbers are of the result.
-pub fn is_result(rule: FillRule, operation: Operation, counts: Counts) -> bool
-    ensures { result ≡ is_result rule operation counts.subject counts.clip }
+pub fn is_result(choice: Choice, counts: Counts) -> bool
+    ensures { result ≡ is_result choice.rule choice.operation counts.subject counts.clip }
 {
+    let Choice { rule, operation } = choice;
     operation.operate(rule.is_inside(counts.subject), rule.is_inside(counts.clip))
 }

@@ -8,76 +8,69 @@ ghost use Rattle.plane.specs.SweepLine.Active.{Entry, cmp_active, live_entries};
 ghost use Rattle.plane.specs.SweepLine.Line.{BeganBefore, IsSortedAt, JoinsAt, NoneCrossAmong};
 ghost use Rattle.overlay.specs.Fill.Counts.{kept_edge};
 ghost use Rattle.overlay.specs.Fill.Rules.{is_result};
-ghost use Rattle.overlay.specs.Fill.Sweep.{AreFillPieces, Fits, above_of, above_or, kept_of, plus, with_above};
-ghost use Rattle.noding.specs.Offsets.{Extends};
+ghost use Rattle.overlay.specs.Fill.Sweep.{AreFillPieces, Fits, above_or, kept_of, plus};
+ghost use Rattle.plane.specs.Lists.{Extends};
 
 use super::counts::{Counts, is_result};
 use super::pieces::{Piece, sum};
-use super::rules::{FillRule, Operation};
+use super::rules::Choice;
 use i_tree::Refusal;
 use i_tree::status::exp::StatusCollection;
-use noding::edges::reverse;
-use plane::edge::Edge;
+use plane::edge::{Edge, reverse};
 use plane::sweep_line::{ActiveEdge, insert_beginning};
 use std::alloc::{AllocError, Allocator};
 
 /// Appends the edges kept of these pieces: those that have the result on one of their sides alone, so that it is on the left.
 ///
-/// The pieces begin in turn. What is below one is what is above the one before it in the status. Of a piece that was swept
-/// the weights are asked for no longer: what is above it stands in place of them.
+/// The pieces begin in turn. What is below one is what is above the one before it in the status, and `above` has that by its
+/// place.
 pub fn append_kept<C, A>(
     status: &mut C,
-    pieces: &mut [Piece],
-    rule: FillRule,
-    operation: Operation,
+    pieces: &[Piece],
+    choice: Choice,
     out: &mut Vec<Edge, A>,
 ) -> Result<(), Refusal>
 where
     C: StatusCollection<ActiveEdge, i64, ()>,
     A: Allocator + Copy,
     requires empty { C.stored status.old ≡ [] }
-    requires pieces { AreFillPieces pieces.old }
+    requires pieces { AreFillPieces pieces.now }
     ensures ok { OnOk result (out.new.items ≡ out.old.items
-        ++ kept_of (λ counts. is_result rule operation counts.subject counts.clip) pieces.old pieces.old) }
+        ++ kept_of (λ counts. is_result choice.rule choice.operation counts.subject counts.clip) pieces.now pieces.now) }
     ensures err { OnErr result (Extends out.old.items out.new.items) }
-    ensures refused { length pieces.old ≤ C.room status.old → IfErr result (λ cause. cause ≡ OutOfMemory) }
+    ensures refused { length pieces.now ≤ C.room status.old → IfErr result (λ cause. cause ≡ OutOfMemory) }
 {
+    let mut above = Vec::with_capacity(*out.allocator(), pieces.len())?;
+    // The pieces so far have begun, the status has those that haven't ended, and `above` the counts above each.
     for place in 0..pieces.len() {
         let piece = pieces[place];
-        let below = begin(
-            status,
-            ActiveEdge {
-                edge: piece.edge,
-                place,
-            },
-            pieces,
-        )?;
+        let edge = piece.edge;
+        let below = begin(status, ActiveEdge { edge, place }, &above)?;
         let counts = plus(below, piece);
-        pieces[place] = with_above(piece, counts);
-        let is_below = is_result(rule, operation, below);
-        let is_above = is_result(rule, operation, counts);
-        keep(out, piece.edge, is_below, is_above)?;
+        above.push(counts)?;
+        let is_below = is_result(choice, below);
+        let is_above = is_result(choice, counts);
+        keep(out, edge, is_below, is_above)?;
     }
     Ok(())
 }
 
-// Puts an edge that begins into the status, and tells what is just below it: what is above the last edge below, as it stands in
-// its piece, which was swept, or nothing.
+// Puts an edge that begins into the status, and tells what is just below it: what is above the last edge below, or nothing.
 fn begin<C: StatusCollection<ActiveEdge, i64, ()>>(
     status: &mut C,
     beginning: ActiveEdge,
-    pieces: &[Piece],
+    above: &[Counts],
 ) -> Result<Counts, Refusal>
     requires right { beginning.edge.x0 <ℤ beginning.edge.x1 }
     requires sorted { IsSortedAt beginning.edge.x0 (live_entries beginning.edge.x0 (C.stored status.old)) }
     requires last { All (λ entry. BeganBefore entry.0 beginning)
         (live_entries beginning.edge.x0 (C.stored status.old)) }
-    requires places { All (λ entry. entry.0.place < length pieces.now)
+    requires places { All (λ entry. entry.0.place < length above.now)
         (live_entries beginning.edge.x0 (C.stored status.old)) }
     ensures below { IfOk result (λ counts. (found : Option Entry)
         × IsLast (λ entry. cmp_active entry.0 beginning ≢ Greater)
         (live_entries beginning.edge.x0 (C.stored status.old)) found
-        × (counts ≡ above_or pieces.now found)) }
+        × (counts ≡ above_or above.now found)) }
     ensures joins { OnOk result (JoinsAt beginning.edge.x0 (beginning, tt) (C.stored status.old)
         (C.stored status.new)) }
     ensures sorted { OnOk result ((later : ℤ) → beginning.edge.x0 ≤ℤ later
@@ -88,7 +81,7 @@ fn begin<C: StatusCollection<ActiveEdge, i64, ()>>(
 {
     let (before, _) = insert_beginning(status, beginning)?;
     match before {
-        Some((active, _)) => Ok(above_of(pieces[active.place])),
+        Some((active, _)) => Ok(above[active.place]),
         None => Ok(Counts {
             subject: 0,
             clip: 0,
@@ -104,27 +97,6 @@ fn plus(below: Counts, piece: Piece) -> Counts
     Counts {
         subject: sum(below.subject, piece.subject),
         clip: sum(below.clip, piece.clip),
-    }
-}
-
-// The piece that was swept, with what is above it in place of its weights.
-fn with_above(piece: Piece, above: Counts) -> Piece
-    ensures { result ≡ with_above piece above }
-{
-    Piece {
-        edge: piece.edge,
-        subject: above.subject,
-        clip: above.clip,
-    }
-}
-
-// What is above a piece that was swept.
-fn above_of(piece: Piece) -> Counts
-    ensures { result ≡ above_of piece }
-{
-    Counts {
-        subject: piece.subject,
-        clip: piece.clip,
     }
 }
 

@@ -3,9 +3,9 @@
 ghost use Rattle.std.specs.Prelude.{◌≡◌, ◌++◌, ◌+◌, ◌≤◌, [], List, length, IfErr, OnOk, OnErr};
 ghost use Rattle.i_tree.specs.declared.Refusal.TheVariants.{OutOfMemory};
 ghost use Rattle.plane.specs.declared.edge.Edge.{Edge};
-ghost use Rattle.overlay.specs.Fill.Filled.{AreNoded, IsFilled};
+ghost use Rattle.overlay.specs.Fill.Filled.{AreNoded, AppendsFilled, IsFilled};
 ghost use Rattle.overlay.specs.Fill.Turned.{AreUnjoined};
-ghost use Rattle.noding.specs.Offsets.{Extends};
+ghost use Rattle.plane.specs.Lists.{Extends};
 ghost use Rattle.noding.specs.Windings.{IsClosed};
 
 use i_tree::Refusal;
@@ -14,7 +14,7 @@ use kept::append_kept;
 use pieces::{Piece, join_in_order, turned_pieces};
 use plane::edge::Edge;
 use plane::sweep_line::ActiveEdge;
-pub use rules::{FillRule, Operation};
+pub use rules::{Choice, FillRule, Operation};
 use std::alloc::Allocator;
 use verticals::append_verticals;
 
@@ -62,20 +62,43 @@ where
     ensures empty { C.stored status.new ≡ [] }
 {
     status.clear();
+    let pieces = turned_pieces(*out.allocator(), subject, clip)?;
+    fill_pieces(pieces, Choice { rule, operation }, status, out)
+}
+
+/// As `fill`, of the pieces of subject and clip in a list that is no longer needed: they are sorted and joined in it. So
+/// `boundary` fills what `broken_pieces` made.
+pub fn fill_pieces<C, A>(
+    pieces: Vec<Piece, A>,
+    choice: Choice,
+    status: &mut C,
+    out: &mut Vec<Edge, A>,
+) -> Result<(), Refusal>
+where
+    C: StatusCollection<ActiveEdge, i64, ()>,
+    A: Allocator + Copy,
+    requires { (subject clip : List Edge) × AreUnjoined subject clip pieces.items }
+    ensures ok { (subject clip : List Edge) → AreUnjoined subject clip pieces.items
+        → OnOk result (AppendsFilled choice subject clip out.old.items out.new.items) }
+    ensures err { OnErr result (out.new.items ≡ out.old.items) }
+    ensures refused { length pieces.items ≤ C.room status.old → IfErr result (λ cause. cause ≡ OutOfMemory) }
+    ensures empty { C.stored status.new ≡ [] }
+{
+    status.clear();
     let before = out.len();
-    let outcome = append_filled(subject, clip, rule, operation, status, out);
+    let outcome = append_filled(pieces, choice, status, out);
+    status.clear();
     if outcome.is_err() {
         out.truncate(before);
     }
     outcome
 }
 
-// As `fill`, from an empty status on. Where it is refused, it may have appended something.
+// As `fill_pieces`, from an empty status on, which may hold something at the end. Where it is refused, it may have appended
+// something.
 fn append_filled<C, A>(
-    subject: &[Edge],
-    clip: &[Edge],
-    rule: FillRule,
-    operation: Operation,
+    mut pieces: Vec<Piece, A>,
+    choice: Choice,
     status: &mut C,
     out: &mut Vec<Edge, A>,
 ) -> Result<(), Refusal>
@@ -83,68 +106,15 @@ where
     C: StatusCollection<ActiveEdge, i64, ()>,
     A: Allocator + Copy,
     requires empty { C.stored status.old ≡ [] }
-    requires closed { IsClosed subject.now }
-    requires clip_closed { IsClosed clip.now }
-    requires noded { AreNoded (subject.now ++ clip.now) }
-    ensures ok { OnOk result ((edges : List Edge) × (out.new.items ≡ out.old.items ++ edges)
-        × IsFilled rule operation subject.now clip.now edges) }
+    requires unjoined { (subject clip : List Edge) × AreUnjoined subject clip pieces.items }
+    ensures ok { (subject clip : List Edge) → AreUnjoined subject clip pieces.items
+        → OnOk result (AppendsFilled choice subject clip out.old.items out.new.items) }
     ensures err { OnErr result (Extends out.old.items out.new.items) }
-    ensures refused { length subject.now + length clip.now ≤ C.room status.old
-        → IfErr result (λ cause. cause ≡ OutOfMemory) }
-    ensures empty { C.stored status.new ≡ [] }
-{
-    let mut pieces = turned_pieces(*out.allocator(), subject, clip)?;
-    fill_pieces(&mut pieces, rule, operation, status, out)
-}
-
-/// As `fill`, of pieces that aren't sorted and joined yet, and from an empty status on. Where it is refused, it may have appended
-/// something. What becomes of the pieces isn't told.
-pub(crate) fn fill_pieces<C, A>(
-    pieces: &mut Vec<Piece, A>,
-    rule: FillRule,
-    operation: Operation,
-    status: &mut C,
-    out: &mut Vec<Edge, A>,
-) -> Result<(), Refusal>
-where
-    C: StatusCollection<ActiveEdge, i64, ()>,
-    A: Allocator + Copy,
-    requires empty { C.stored status.old ≡ [] }
-    requires unjoined { (subject clip : List Edge) × AreUnjoined subject clip pieces.old.items }
-    ensures ok { (subject clip : List Edge) → AreUnjoined subject clip pieces.old.items
-        → OnOk result ((edges : List Edge) × (out.new.items ≡ out.old.items ++ edges)
-        × IsFilled rule operation subject clip edges) }
-    ensures err { OnErr result (Extends out.old.items out.new.items) }
-    ensures refused { length pieces.old.items ≤ C.room status.old → IfErr result (λ cause. cause ≡ OutOfMemory) }
-    ensures empty { C.stored status.new ≡ [] }
-{
-    let outcome = append_joined(pieces, rule, operation, status, out);
-    status.clear();
-    outcome
-}
-
-// The same, but the status may hold something at the end.
-fn append_joined<C, A>(
-    pieces: &mut Vec<Piece, A>,
-    rule: FillRule,
-    operation: Operation,
-    status: &mut C,
-    out: &mut Vec<Edge, A>,
-) -> Result<(), Refusal>
-where
-    C: StatusCollection<ActiveEdge, i64, ()>,
-    A: Allocator + Copy,
-    requires empty { C.stored status.old ≡ [] }
-    requires unjoined { (subject clip : List Edge) × AreUnjoined subject clip pieces.old.items }
-    ensures ok { (subject clip : List Edge) → AreUnjoined subject clip pieces.old.items
-        → OnOk result ((edges : List Edge) × (out.new.items ≡ out.old.items ++ edges)
-        × IsFilled rule operation subject clip edges) }
-    ensures err { OnErr result (Extends out.old.items out.new.items) }
-    ensures refused { length pieces.old.items ≤ C.room status.old → IfErr result (λ cause. cause ≡ OutOfMemory) }
+    ensures refused { length pieces.items ≤ C.room status.old → IfErr result (λ cause. cause ≡ OutOfMemory) }
 {
     let first = out.len();
-    join_in_order(pieces)?;
-    append_kept(status, pieces, rule, operation, out)?;
+    join_in_order(&mut pieces)?;
+    append_kept(status, &pieces, choice, out)?;
     append_verticals(out, first)?;
     Ok(())
 }

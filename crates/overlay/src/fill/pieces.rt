@@ -4,15 +4,15 @@ ghost use Rattle.std.specs.Prelude.{◌≡◌, ◌≢◌, ◌++◌, ◌+◌, ◌
 ghost use Rattle.plane.specs.declared.edge.Edge.{Edge};
 ghost use Rattle.plane.specs.SweepLine.Heights.{rise};
 ghost use Rattle.overlay.specs.Fill.Begins.{cmp_begins, steps, BeginInOrder};
-ghost use Rattle.overlay.specs.declared.fill.pieces.Role.TheVariants.{Subject, Clip};
+ghost use Rattle.overlay.specs.declared.fill.pieces.Operand.TheVariants.{Subject, Clip};
 ghost use Rattle.overlay.specs.Fill.Pieces.{ArePieces, weight};
 ghost use Rattle.overlay.specs.Fill.Turned.{Adds, AreJoinOf, AreUnjoined, BeginApart, EndIn, Fit, IsSmall, piece_of, sum_of, turned};
 
 use event_queue::buckets::sort_in_buckets;
-use noding::edges::number_at;
 use plane::edge::Edge;
+use plane::point::number_at;
 use plane::sweep_line::heights::turn_rightwards;
-use plane::ways::product;
+use plane::vectors::product;
 use std::alloc::{AllocError, Allocator};
 use std::cmp::Ordering;
 
@@ -26,7 +26,7 @@ pub struct Piece {
 
 /// Which of the two an edge is of.
 #[derive(Clone, Copy, Debug, PartialEq, Eq)]
-pub enum Role {
+pub enum Operand {
     Subject,
     Clip,
 }
@@ -41,8 +41,8 @@ pub(crate) fn turned_pieces<A: Allocator>(
     ensures countable { IfOk result (λ _. length subject.now + length clip.now < 2 ^ 63) }
 {
     let mut pieces = Vec::with_capacity(alloc, room_for(subject, clip)?)?;
-    append_turned(&mut pieces, subject, Role::Subject)?;
-    append_turned(&mut pieces, clip, Role::Clip)?;
+    append_turned(&mut pieces, subject, Operand::Subject)?;
+    append_turned(&mut pieces, clip, Operand::Clip)?;
     Ok(pieces)
 }
 
@@ -80,13 +80,13 @@ pub fn room_for<X, Y>(some: &[X], others: &[Y]) -> Result<usize, AllocError>
 fn append_turned<A: Allocator>(
     pieces: &mut Vec<Piece, A>,
     edges: &[Edge],
-    role: Role,
+    operand: Operand,
 ) -> Result<(), AllocError>
-    ensures { OnOk result (pieces.new.items ≡ pieces.old.items ++ turned role edges.now) }
+    ensures { OnOk result (pieces.new.items ≡ pieces.old.items ++ turned operand edges.now) }
 {
     for edge in edges {
         if is_sloped(*edge) {
-            pieces.push(piece_of(*edge, role))?;
+            pieces.push(piece_of(*edge, operand))?;
         }
     }
     Ok(())
@@ -100,17 +100,17 @@ pub fn is_sloped(edge: Edge) -> bool
 }
 
 /// The edge alone as a piece.
-pub fn piece_of(edge: Edge, role: Role) -> Piece
-    ensures { result ≡ piece_of role edge }
+pub fn piece_of(edge: Edge, operand: Operand) -> Piece
+    ensures { result ≡ piece_of operand edge }
 {
     let right = turn_rightwards(edge);
-    match role {
-        Role::Subject => Piece {
+    match operand {
+        Operand::Subject => Piece {
             edge: right,
             subject: weight(edge),
             clip: 0,
         },
-        Role::Clip => Piece {
+        Operand::Clip => Piece {
             edge: right,
             subject: 0,
             clip: weight(edge),

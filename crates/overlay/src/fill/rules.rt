@@ -29,6 +29,14 @@ pub enum Operation {
     Xor,
 }
 
+/// Which points are of a result: the rule says which are inside of the subject and of the clip, the operation what becomes of
+/// the two.
+#[derive(Clone, Copy, Debug, PartialEq, Eq)]
+pub struct Choice {
+    pub rule: FillRule,
+    pub operation: Operation,
+}
+
 impl FillRule {
     /// Whether points with this winding number are inside.
     pub fn is_inside(self, winding: i64) -> bool

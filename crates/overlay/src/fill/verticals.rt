@@ -3,12 +3,12 @@
 ghost use Rattle.std.specs.Prelude.{◌≡◌, ◌≤◌, ◌≤ℤ◌, ◌+ℤ◌, ◌-ℤ◌, ◌^◌, ◌++◌, ℤ, pos, negsuc, List, All, IfOk, OnOk, OnErr, drop, length, map};
 ghost use Rattle.plane.specs.declared.edge.Edge.{Edge};
 ghost use Rattle.overlay.specs.Fill.Verticals.{AreVerticalsOf, BoundRegion, before_all, ending, left_end, point_of_end, right_end, starting, vertical_between, verticals_between};
-ghost use Rattle.noding.specs.Offsets.{Extends};
-ghost use Rattle.noding.specs.Windings.{edge_between};
+ghost use Rattle.plane.specs.Lists.{Extends};
+ghost use Rattle.plane.specs.Ends.{edge_between};
 
 use event_queue::buckets::sort_in_buckets;
-use noding::edges::number_at;
 use plane::edge::Edge;
+use plane::point::number_at;
 use std::alloc::{AllocError, Allocator};
 use std::cmp::Ordering;
 

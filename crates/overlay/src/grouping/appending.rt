@@ -3,7 +3,8 @@
 ghost use Rattle.std.specs.Prelude.{◌≡◌, ◌++◌, ◌+◌, ◌^◌, ◌<◌, OnErr, OnOk, length, map};
 ghost use Rattle.std.specs.List.{flat_map};
 ghost use Rattle.overlay.specs.Contours.Outlines.{outline};
-ghost use Rattle.noding.specs.Offsets.{Extends, offsets};
+ghost use Rattle.plane.specs.Lists.{Extends};
+ghost use Rattle.noding.specs.Offsets.{offsets};
 ghost use Rattle.overlay.specs.Grouping.{AreWithin, placed_polygons, polygons_of, ring_in};
 ghost use Rattle.overlay.specs.Polygons.{Appends, AreExtended};
 

@@ -6,7 +6,7 @@ ghost use Rattle.overlay.specs.Rings.{AreEnds};
 
 use super::sides::{Side, side_of};
 use crate::rings::ring_at;
-use noding::edges::edge_between;
+use plane::edge::edge_between;
 use plane::point::Point;
 use plane::sweep_line::ActiveEdge;
 use plane::sweep_line::active::compare_active;

@@ -2,11 +2,10 @@
 
 ghost use Rattle.std.specs.Prelude.{◌≡◌, ◌<◌, ◌+◌, drop, length};
 ghost use Rattle.overlay.specs.Contours.Outlines.{next_or, ring_point};
-ghost use Rattle.noding.specs.Windings.{edge_between};
+ghost use Rattle.plane.specs.Ends.{edge_between};
 
 use crate::contours::next_in;
-use noding::edges::edge_between;
-use plane::edge::Edge;
+use plane::edge::{Edge, edge_between};
 use plane::point::Point;
 
 /// The edge from the point at this place of the ring to the next one, or from the last one to the first.

@@ -1,7 +1,7 @@
 //! The sides of rings: their edges that aren't vertical, in the order in which they begin.
 
 ghost use Rattle.std.specs.Prelude.{◌≡◌, ◌≢◌, ◌<◌, ◌++◌, ◌∷◌, [], ℕ, All, IfOk, IsPermutation, OnOk, length};
-ghost use Rattle.overlay.specs.declared.fill.pieces.Role.TheVariants.{Subject};
+ghost use Rattle.overlay.specs.declared.fill.pieces.Operand.TheVariants.{Subject};
 ghost use Rattle.overlay.specs.Contours.Rings.{ring_edges};
 ghost use Rattle.overlay.specs.Fill.Begins.{BeginInOrder};
 ghost use Rattle.overlay.specs.Fill.Turned.{piece_of, turned};
@@ -10,7 +10,7 @@ ghost use Rattle.overlay.specs.Rings.{AreEnds, edges_in};
 
 use super::directions::first_edge;
 use super::edges::edge_at;
-use crate::fill::pieces::{Piece, Role, compare_begins, is_sloped, piece_of};
+use crate::fill::pieces::{Operand, Piece, compare_begins, is_sloped, piece_of};
 use crate::rings::ring_at;
 use plane::edge::Edge;
 use plane::point::Point;
@@ -106,7 +106,7 @@ pub fn side_of(edge: Edge, ring: usize) -> Side
     ensures ring { result.ring ≡ ring }
     ensures right { IsRightward result }
 {
-    let piece = piece_of(edge, Role::Subject);
+    let piece = piece_of(edge, Operand::Subject);
     Side { piece, ring }
 }
 

@@ -2,7 +2,7 @@ use Rattle.std.proofs.Common.{◌≡◌, ◌^◌, ◌-ℤ◌, ◌*ℤ◌, arith,
 use Rattle.std.specs.Int.{w128}
 use Rattle.std.proofs.lemmas.Int.{ints, to_z-of_z}
 use Rattle.plane.specs.Meet.Crosses.{IsWithin}
-use Rattle.noding.specs.Windings.{edge_between}
+use Rattle.plane.specs.Ends.{edge_between}
 use Rattle.overlay.specs.Areas.{swept}
 use Rattle.plane.proofs.MeetLemmas.Identities.{IsWithin-product}
 use Rattle.overlay.proofs.areas.swept.Goals as goal

@@ -6,7 +6,8 @@ use Rattle.std.proofs.lemmas.List.{drop_more}
 use Rattle.plane.specs.declared.point.Point.{Point}
 use Rattle.plane.specs.Meet.Crosses.{IsWithin}
 use Rattle.overlay.specs.Fill.Pieces.{total}
-use Rattle.noding.specs.Windings.{edge_between, pieces}
+use Rattle.plane.specs.Ends.{edge_between}
+use Rattle.noding.specs.Windings.{pieces}
 use Rattle.overlay.specs.Areas.{swept, twice_area}
 use Rattle.overlay.proofs.RingLemmas.{area-begins}
 use Rattle.overlay.proofs.areas.twice_area.Goals as goal

@@ -13,7 +13,7 @@ returns-clause-ok g c =
     let (pieces, clip_pieces, broken, filled) = c.in_ok-bounding.ensures.filled in
     let (rings, are, points, ends) = c.in_ok-contours_in_place.ensures.ok in (
       rings,
-      rings-bound c.args.rule c.args.operation subject clip edges rings (filled-bounds subject clip pieces clip_pieces broken c.args.rule c.args.operation edges filled) are,
+      rings-bound c.args.choice.rule c.args.choice.operation subject clip edges rings (filled-bounds subject clip pieces clip_pieces broken c.args.choice.rule c.args.choice.operation edges filled) are,
       HasSloped-permuted (flat_map ring_edges rings) edges are.all (HasSloped-next edges filled.vertical),
       points,
       ends,

@@ -31,14 +31,14 @@ append_polygons-requires-clause-bounding g c =
     let same = rings-joined rings c.deref.result.now c.deref-2.result.now
     (AreJoined-first rings _ _ _ _ _ _ c.new-points.ensures.items c.new-ends.ensures.items points_are ends_are c.deref.ensures.value c.deref-2.ensures.value) in
     subst (λ (all : List (List Point)). BoundsSome (flat_map ring_edges all)) (sym same)
-    (bounds-some c.args.rule c.args.operation _ _ (flat_map ring_edges rings) is.bounds sloped)
+    (bounds-some c.args.choice.rule c.args.choice.operation _ _ (flat_map ring_edges rings) is.bounds sloped)
 
 pub returns-clause-ok : goal.returns-clause-ok
 returns-clause-ok g c =
-    let rule = c.args.rule in
-    let operation = c.args.operation in
-    let subject = edges_of c.args.subject in
-    let clip = edges_of c.args.clip in
+    let rule = c.args.choice.rule in
+    let operation = c.args.choice.operation in
+    let subject = edges_of c.args.operands.subject in
+    let clip = edges_of c.args.operands.clip in
     let points = c.deref.result.now in
     let ends = c.deref-2.result.now in
     let out = c.args.out.now in

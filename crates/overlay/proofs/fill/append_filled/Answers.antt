@@ -1,28 +1,65 @@
-use Rattle.std.proofs.Common.{arith}
-use Rattle.overlay.proofs.PieceLemmas.Made.{turned-few}
+use Rattle.std.proofs.Common.{◌≡◌, ◌++◌, ℕ, List, length, drop, ap, ap₂, sym, subst, ◌∙◌, append_assoc, arith}
+use Rattle.std.proofs.Math.Seq.{drop-append_seam}
+use Rattle.plane.specs.declared.edge.Edge.{Edge}
+use Rattle.overlay.specs.declared.fill.pieces.Piece.{Piece}
+use Rattle.overlay.specs.declared.fill.rules.Choice.{Choice}
+use Rattle.overlay.specs.Fill.Rules.{is_result}
+use Rattle.overlay.specs.Fill.Begins.{BeginInOrder}
+use Rattle.overlay.specs.Fill.Pieces.{ArePieces}
+use Rattle.overlay.specs.Fill.Sweep.{AreFillPieces, kept_of}
+use Rattle.overlay.specs.Fill.Turned.{AreUnjoined}
+use Rattle.overlay.specs.Fill.Verticals.{AreVerticalsOf, BoundRegion}
+use Rattle.overlay.proofs.KeptLemmas.Region.{kept-filled, kept-region}
 use Rattle.overlay.proofs.fill.append_filled.Goals as goal
 
-pub fill_pieces-requires-clause-unjoined : goal.fill_pieces-requires-clause-unjoined
-fill_pieces-requires-clause-unjoined g c = (
-  c.args.subject.now,
-  c.args.clip.now,
-  record {
-    closed = c.requires.closed;
-    clip_closed = c.requires.clip_closed;
-    noded = c.requires.noded;
-    are = c.in_ok-pieces.ensures.turned;
-    countable = c.in_ok-pieces.ensures.countable;
-  },
-)
+-- the pieces that were joined are those of a fill
+fill-pieces : (subject clip : List Edge) (pieces joined : List Piece) → AreUnjoined subject clip pieces → ArePieces subject clip joined → BeginInOrder joined → AreFillPieces joined
+fill-pieces subject clip pieces joined unjoined are order = record {
+  subject = subject;
+  clip = clip;
+  closed = unjoined.closed;
+  clip_closed = unjoined.clip_closed;
+  noded = unjoined.noded;
+  are = are;
+  order = order;
+  countable = unjoined.countable;
+}
+
+abbrev kept : Choice → List Piece → List Edge
+kept choice pieces = kept_of (λ counts. is_result choice.rule choice.operation counts.subject counts.clip) pieces pieces
+
+-- what is kept of them stands behind the edges that were there
+module _ (choice : Choice) (items list : List Piece) (same : list ≡ items) (before out : List Edge) (told : out ≡ before ++ kept choice list) (first : ℕ) (size : first ≡ length before) where
+  all : out ≡ before ++ kept choice items
+  all = told ∙ ap (λ (pieces : List Piece). before ++ kept choice pieces) same
+
+  gained : drop first out ≡ kept choice items
+  gained = ap₂ (λ (n : ℕ) (edges : List Edge). drop n edges) size all ∙ drop-append_seam before (kept choice items)
+
+pub append_verticals-requires-clause-bound : goal.append_verticals-requires-clause-bound
+append_verticals-requires-clause-bound g c =
+    let (subject, clip, unjoined) = c.requires.unjoined in
+    let choice = c.args.choice in
+    let items = c.join_in_order.new.pieces.items in
+    let fill = fill-pieces subject clip c.args.pieces.items items unjoined (c.in_ok-join_in_order.ensures.pieces subject clip unjoined) c.in_ok-join_in_order.ensures.order in
+    let size : c.len-first.result ≡ length c.args.out.now.items = (let told = c.len-first.ensures in omega (arith, told)) in
+    subst BoundRegion (sym (gained choice items c.deref.result.now c.deref.ensures.value c.args.out.now.items c.append_kept.new.out.items c.in_ok-append_kept.ensures.ok c.len-first.result size))
+    (kept-region choice.rule choice.operation items fill)
 
 pub returns-clause-ok : goal.returns-clause-ok
-returns-clause-ok g c = c.fill_pieces.ensures.ok c.args.subject.now c.args.clip.now (record {
-  closed = c.requires.closed;
-  clip_closed = c.requires.clip_closed;
-  noded = c.requires.noded;
-  are = c.in_ok-pieces.ensures.turned;
-  countable = c.in_ok-pieces.ensures.countable;
-})
-
-pub returns-clause-refused : goal.returns-clause-refused
-returns-clause-refused g c = λ room. c.fill_pieces.ensures.refused (let few = turned-few c.args.subject.now c.args.clip.now c.in_ok-pieces.pieces.items c.in_ok-pieces.ensures.turned in omega (arith, few, room))
+unfolding fill-pieces
+returns-clause-ok g c = λ subject clip unjoined.
+    let choice = c.args.choice in
+    let items = c.join_in_order.new.pieces.items in
+    let list = c.deref.result.now in
+    let same = c.deref.ensures.value in
+    let before = c.args.out.now.items in
+    let out = c.append_kept.new.out.items in
+    let told = c.in_ok-append_kept.ensures.ok in
+    let fill = fill-pieces subject clip c.args.pieces.items items unjoined (c.in_ok-join_in_order.ensures.pieces subject clip unjoined) c.in_ok-join_in_order.ensures.order in
+    let size : c.len-first.result ≡ length before = (let told = c.len-first.ensures in omega (arith, told)) in
+    let (verticals, more, closes) = c.in_ok-append_verticals.ensures.ok in (
+      kept choice items ++ verticals,
+      more ∙ ap (λ (edges : List Edge). edges ++ verticals) (all choice items list same before out told c.len-first.result size) ∙ append_assoc before (kept choice items) verticals,
+      kept-filled choice.rule choice.operation items fill verticals (subst (λ (sloped : List Edge). AreVerticalsOf sloped verticals) (gained choice items list same before out told c.len-first.result size) closes),
+    )

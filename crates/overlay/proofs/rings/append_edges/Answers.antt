@@ -2,7 +2,8 @@ use Rattle.std.proofs.Common.{◌≡◌, ◌++◌, ◌∷◌, ◌-◌, [], List,
 use Rattle.std.proofs.lemmas.Bool.{eqb-false}
 use Rattle.plane.specs.declared.edge.Edge.{Edge}
 use Rattle.plane.specs.declared.point.Point.{Point}
-use Rattle.noding.specs.Windings.{edge_between, pieces}
+use Rattle.plane.specs.Ends.{edge_between}
+use Rattle.noding.specs.Windings.{pieces}
 use Rattle.overlay.proofs.ContourLemmas.RealEdges.{closing, few_pieces}
 use Rattle.overlay.proofs.rings.append_edges.Goals as goal
 

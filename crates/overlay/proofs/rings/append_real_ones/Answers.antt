@@ -4,7 +4,8 @@ use Rattle.std.proofs.lemmas.List.Elements.{filter-append}
 use Rattle.std.proofs.lemmas.Result.{on_ok_weaker}
 use Rattle.plane.specs.declared.edge.Edge.{Edge}
 use Rattle.plane.specs.declared.point.Point.{Point}
-use Rattle.noding.specs.Windings.{edge_between, pieces}
+use Rattle.plane.specs.Ends.{edge_between}
+use Rattle.noding.specs.Windings.{pieces}
 use Rattle.overlay.proofs.ContourLemmas.RealEdges.{closing, few_pieces}
 use Rattle.overlay.specs.Rings.{has_two_ends, real_edges}
 use Rattle.overlay.proofs.rings.append_real_ones.Goals as goal

@@ -6,8 +6,8 @@ use Rattle.overlay.proofs.call.ByEdgesBounding.append_boundary.Goals as goal
 
 pub boundary-requires-clause-closed : goal.boundary-requires-clause-closed
 boundary-requires-clause-closed g c =
-    subst IsClosed (sym (ap (λ (edges : List Edge). take c.in_ok-edges.count edges) c.deref.ensures.value ∙ c.in_ok-edges.ensures.subject)) (edges-closed c.args.subject)
+    subst IsClosed (sym (ap (λ (edges : List Edge). take c.in_ok-edges.count edges) c.deref.ensures.value ∙ c.in_ok-edges.ensures.subject)) (edges-closed c.args.operands.subject)
 
 pub boundary-requires-clause-clip_closed : goal.boundary-requires-clause-clip_closed
 boundary-requires-clause-clip_closed g c =
-    subst IsClosed (sym (ap (λ (edges : List Edge). drop c.in_ok-edges.count edges) c.deref.ensures.value ∙ c.in_ok-edges.ensures.clip)) (edges-closed c.args.clip)
+    subst IsClosed (sym (ap (λ (edges : List Edge). drop c.in_ok-edges.count edges) c.deref.ensures.value ∙ c.in_ok-edges.ensures.clip)) (edges-closed c.args.operands.clip)

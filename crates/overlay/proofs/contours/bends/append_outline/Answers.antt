@@ -1,8 +1,7 @@
 use Rattle.std.proofs.Common.{◌≡◌, ◌+◌, ◌++◌, ◌∷◌, [], List, drop, sym, ap, ◌∙◌, append_assoc}
 use Rattle.plane.specs.declared.point.Point.{Point}
-use Rattle.plane.proofs.PairsLemmas.Extends.{OnErr-always}
+use Rattle.plane.proofs.PairsLemmas.Extends.{OnErr-always, Extends-trans}
 use Rattle.overlay.specs.Contours.Outlines.{bends, ring_point}
-use Rattle.noding.proofs.ChainLemmas.Runs.{Extends-trans}
 use Rattle.overlay.proofs.ContourLemmas.Outlines.{bends-kept, bends-straight}
 use Rattle.overlay.proofs.contours.bends.append_outline.Goals.{then-not-goes_straight+in_ok-push, else-not-goes_straight}
 use Rattle.overlay.proofs.contours.bends.append_outline.Goals as goal

@@ -1,6 +1,6 @@
 use Rattle.std.proofs.Common.{◌≡◌, ◌++◌, drop}
 use Rattle.overlay.specs.Contours.Outlines.{bends, outline, ring_point}
-use Rattle.noding.specs.Offsets.{Extends}
+use Rattle.plane.specs.Lists.{Extends}
 use Rattle.overlay.proofs.contours.bends.append_outline.Given as goal
 
 -- what is appended so far, and what is to be appended of the points that are left

@@ -1,6 +1,6 @@
 use Rattle.std.proofs.Common.{◌≡◌, ℕ, ◌<◌, get_or, length}
 use Rattle.overlay.specs.Contours.Order.{IsFirstFrom, edge_at}
-use Rattle.noding.specs.Windings.{end_of}
+use Rattle.plane.specs.Ends.{end_of}
 use Rattle.overlay.proofs.contours.ends.corners_of_ends.Given as goal
 
 -- the corners of the edges so far are there

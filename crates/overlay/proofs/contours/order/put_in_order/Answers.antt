@@ -1,6 +1,6 @@
 use Rattle.std.proofs.Common.{rules}
 use Rattle.std.proofs.lemmas.Result.{on_ok_weaker}
-use Rattle.noding.specs.Windings.{start_of}
+use Rattle.plane.specs.Ends.{start_of}
 use Rattle.overlay.proofs.ContourLemmas.Order.{behind-from_sort}
 use Rattle.overlay.proofs.contours.order.put_in_order.Goals as goal
 

@@ -7,9 +7,9 @@ use Rattle.overlay.proofs.contours.walk.append_rings.Goals as goal
 pub walk_all-requires-clause-used_size : goal.walk_all-requires-clause-used_size
 walk_all-requires-clause-used_size g c =
     let all : c.in_ok-used.used.items ≡ replicate (length c.args.sorted.now) false = c.in_ok-used.ensures.items_if_clones_equal (λ y same. same) in
-    ap (λ (list : List Bool). length list) (c.deref_mut.ensures.value ∙ all) ∙ length-replicate (length c.args.sorted.now) false
+    ap (λ (list : List Bool). length list) all ∙ length-replicate (length c.args.sorted.now) false
 
 pub walk_all-requires-clause-all : goal.walk_all-requires-clause-all
 walk_all-requires-clause-all g c =
     let all : c.in_ok-used.used.items ≡ replicate (length c.args.sorted.now) false = c.in_ok-used.ensures.items_if_clones_equal (λ y same. same) in
-    ap (λ (used : List Bool). unwalked c.args.sorted.now used) (c.deref_mut.ensures.value ∙ all) ∙ unwalked-all c.args.sorted.now
+    ap (λ (used : List Bool). unwalked c.args.sorted.now used) all ∙ unwalked-all c.args.sorted.now

@@ -1,17 +1,15 @@
-use Rattle.std.proofs.Common.{◌≡◌, ◌++◌, [], ℕ, true, false, inl, inr, IsPermutation, List, get_or, length, sym, ◌∙◌, subst, append-nil, arith}
+use Rattle.std.proofs.Common.{◌≡◌, ◌++◌, [], ℕ, true, inl, inr, IsPermutation, List, get_or, length, sym, ◌∙◌, subst, append-nil, arith}
 use Rattle.std.specs.List.{flat_map}
 use Rattle.std.proofs.lemmas.Bool.{cases_eq}
-use Rattle.std.proofs.lemmas.List.{get_or_default}
 use Rattle.std.proofs.lemmas.List.Sorted.{IsPermutation-refl}
 use Rattle.plane.specs.declared.edge.Edge.{Edge}
-use Rattle.plane.proofs.PairsLemmas.Extends.{OnErr-always}
+use Rattle.plane.proofs.PairsLemmas.Extends.{OnErr-always, Extends-trans}
 use Rattle.plane.specs.declared.point.Point.{Point}
 use Rattle.overlay.specs.Contours.Ends.{StartBefore}
 use Rattle.overlay.specs.Contours.Order.{IsFirstFrom, point_at}
 use Rattle.overlay.specs.Contours.Rings.{ring_edges}
 use Rattle.overlay.specs.Contours.Walks.{unwalked}
 use Rattle.noding.specs.Offsets.{offsets}
-use Rattle.noding.proofs.ChainLemmas.Runs.{Extends-trans}
 use Rattle.overlay.proofs.ContourLemmas.Counts.{IsClosed-rest}
 use Rattle.overlay.proofs.ContourLemmas.Order.{IsBehind-trans}
 use Rattle.overlay.proofs.ContourLemmas.Rings.{AreAppended-more, AreAppended-none, rings-more}
@@ -39,61 +37,43 @@ next_from-corner-requires-clause-before g c =
     let (so_far, walked, used_size, marks_size, none, upto, before) = c.loop-first.invariant in
     subst (λ (at : Point). StartBefore c.args.sorted.now at c.loop-first.corner) (sym c.start_of.ensures) (before c.loop-first.first (omega arith) c.loop-first-test.true)
 
-pub walk-requires-clause-from : goal.walk-requires-clause-from
-walk-requires-clause-from g c =
+pub walk_from-requires-clause-from : goal.walk_from-requires-clause-from
+walk_from-requires-clause-from g c =
     subst (λ (at : Point). IsFirstFrom c.args.sorted.now at c.next_from-corner.result) c.start_of.ensures c.next_from-corner.ensures
 
-pub walk-requires-clause-rest : goal.walk-requires-clause-rest
-walk-requires-clause-rest g c =
+pub walk_from-requires-clause-rest : goal.walk_from-requires-clause-rest
+walk_from-requires-clause-rest g c =
     let ((rings, appended, moved), walked, used_size, marks_size, none, upto, before) = c.loop-first.invariant in
     let sorted = c.args.sorted.now in
-    IsClosed-rest rings (unwalked sorted c.loop-first.used) sorted moved c.requires.closed
+    IsClosed-rest rings (unwalked sorted c.loop-first.walk.used.items) sorted moved c.requires.closed
 
-pub returns-in_err-walk-clause-err : goal.returns-in_err-walk-clause-err
-returns-in_err-walk-clause-err g c =
+pub returns-in_err-walk_from-clause-err : goal.returns-in_err-walk_from-clause-err
+returns-in_err-walk_from-clause-err g c =
     let ((rings, appended, moved), walked, used_size, marks_size, none, upto, before) = c.loop-first.invariant in
-    let (points, ends) = c.in_err-walk.ensures.err in
+    let (points, ends) = c.in_err-walk_from.ensures.err in
     OnErr-always c.from_residual.result _ (
-      Extends-trans c.args.points.now.items c.loop-first.points.items c.walk.new.points.items (flat_map (λ ring. ring) rings, appended.points_are) points,
-      Extends-trans c.args.ring_ends.now.items c.loop-first.ring_ends.items c.walk.new.ring_ends.items (offsets (length c.args.points.now.items) rings, appended.ends_are) ends,
-    )
-
-pub loop-first-preserved-then-used-first : goal.loop-first-preserved-then-used-first
-loop-first-preserved-then-used-first g c =
-    let (so_far, walked, used_size, marks_size, none, upto, before) = c.loop-first.invariant in
-    let used = c.loop-first.used in
-    let first = c.loop-first.first in
-    let inside = c.loop-first-test.true in (
-      so_far,
-      (λ k below. elim (cases_eq k first) [
-        | inl same ↦ subst (λ (n : ℕ). get_or used n true ≡ true) (sym same) (get_or_default used first true false (omega (arith, inside, used_size)) ∙ c.if-used-first.true)
-        | inr differs ↦ walked k (omega (arith, below, differs))
-      ]),
-      used_size,
-      marks_size,
-      none,
-      upto,
-      (λ k from. before k (omega (arith, from))),
+      Extends-trans c.args.points.now.items c.loop-first.points.items c.walk_from.new.points.items (flat_map (λ ring. ring) rings, appended.points_are) points,
+      Extends-trans c.args.ring_ends.now.items c.loop-first.ring_ends.items c.walk_from.new.ring_ends.items (offsets (length c.args.points.now.items) rings, appended.ends_are) ends,
     )
 
 pub loop-first-preserved : goal.loop-first-preserved
 loop-first-preserved g c =
     let ((rings, appended, moved), walked, used_size, marks_size, none, upto, before) = c.loop-first.invariant in
-    let (others, now_appended, now_moved, now_none) = c.in_ok-walk.ensures.ok in
+    let (others, now_appended, now_moved, now_none) = c.in_ok-walk_from.ensures.ok in
     let sorted = c.args.sorted.now in
-    let used = c.loop-first.used in
+    let used = c.loop-first.walk.used.items in
     let first = c.loop-first.first in
     let from = subst (λ (at : Point). IsFirstFrom sorted at c.next_from-corner.result) c.start_of.ensures c.next_from-corner.ensures in
-    let used_same = c.in_ok-walk.ensures.used_size in
-    let marks_same = c.in_ok-walk.ensures.marks_size in (
+    let used_same = c.in_ok-walk_from.ensures.used_size in
+    let marks_same = c.in_ok-walk_from.ensures.marks_size in (
       (
         rings ++ others,
-        AreAppended-more rings others c.args.points.now.items c.loop-first.points.items c.walk.new.points.items c.args.ring_ends.now.items c.loop-first.ring_ends.items c.walk.new.ring_ends.items appended now_appended,
-        rings-more rings others (unwalked sorted c.walk.new.used) (unwalked sorted used) sorted now_moved moved,
+        AreAppended-more rings others c.args.points.now.items c.loop-first.points.items c.walk_from.new.points.items c.args.ring_ends.now.items c.loop-first.ring_ends.items c.walk_from.new.ring_ends.items appended now_appended,
+        rings-more rings others (unwalked sorted c.walk_from.new.walk.used.items) (unwalked sorted used) sorted now_moved moved,
       ),
       (λ k below. elim (cases_eq k first) [
-        | inl same ↦ subst (λ (n : ℕ). get_or c.walk.new.used n true ≡ true) (sym same) c.in_ok-walk.ensures.walked
-        | inr differs ↦ c.in_ok-walk.ensures.keeps k (walked k (omega (arith, below, differs)))
+        | inl same ↦ subst (λ (n : ℕ). get_or c.walk_from.new.walk.used.items n true ≡ true) (sym same) c.in_ok-walk_from.ensures.walked
+        | inr differs ↦ c.in_ok-walk_from.ensures.keeps k (walked k (omega (arith, below, differs)))
       ]),
       used_same ∙ used_size,
       marks_same ∙ marks_size,
@@ -107,7 +87,7 @@ returns-clause-ok g c =
     let ((rings, appended, moved), walked, used_size, marks_size, none, upto, before) = c.loop-first.invariant in
     let past = c.loop-first-test.false in
     let sorted = c.args.sorted.now in
-    let left : unwalked sorted c.loop-first.used ≡ [] = unwalked-none sorted c.loop-first.used (λ k within. walked k (omega (arith, within, past))) in (
+    let left : unwalked sorted c.loop-first.walk.used.items ≡ [] = unwalked-none sorted c.loop-first.walk.used.items (λ k within. walked k (omega (arith, within, past))) in (
       rings,
       appended,
       subst (λ (edges : List Edge). IsPermutation edges sorted) (append-nil (flat_map ring_edges rings)) (subst (λ (edges : List Edge). IsPermutation (flat_map ring_edges rings ++ edges) sorted) left moved),

@@ -11,7 +11,7 @@ use Rattle.overlay.proofs.contours.walk.walk_all.Given as goal
 abbrev pub invariant-loop-first : goal.invariant-loop-first
 invariant-loop-first g l =
     ((rings : List (List Point)) × AreAppended rings l.fn.points.items l.points.items l.fn.ring_ends.items l.ring_ends.items
-    × IsPermutation (flat_map ring_edges rings ++ unwalked l.fn.sorted l.used) l.fn.sorted)
-    × ((k : ℕ) → k < l.first → get_or l.used k true ≡ true)
-    × (length l.used ≡ length l.fn.sorted) × (length l.marks ≡ length l.fn.sorted) × (l.stack.items ≡ [])
+    × IsPermutation (flat_map ring_edges rings ++ unwalked l.fn.sorted l.walk.used.items) l.fn.sorted)
+    × ((k : ℕ) → k < l.first → get_or l.walk.used.items k true ≡ true)
+    × (length l.walk.used.items ≡ length l.fn.sorted) × (length l.walk.marks.items ≡ length l.fn.sorted) × (l.walk.stack.items ≡ [])
     × (l.corner ≤ length l.fn.sorted) × ((k : ℕ) → l.first ≤ k → k < length l.fn.sorted → StartBefore l.fn.sorted (point_at l.fn.sorted k) l.corner)

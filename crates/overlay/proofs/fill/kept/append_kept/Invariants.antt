@@ -6,5 +6,5 @@ use Rattle.overlay.proofs.fill.kept.append_kept.Given as goal
 -- how far the sweep has come; the status has no less room
 abbrev pub invariant-loop-place : goal.invariant-loop-place
 invariant-loop-place g l =
-    HasSwept (λ counts. is_result l.rule l.operation counts.subject counts.clip) l.fn.pieces l.place (g.C.StatusCollection.stored l.status) l.pieces l.fn.out.items l.out.items
+    HasSwept (λ counts. is_result l.choice.rule l.choice.operation counts.subject counts.clip) l.fn.pieces l.place (g.C.StatusCollection.stored l.status) l.above.items l.fn.out.items l.out.items
     × (g.C.StatusCollection.room l.fn.status ≤ g.C.StatusCollection.room l.status)

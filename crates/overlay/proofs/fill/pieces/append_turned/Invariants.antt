@@ -4,4 +4,4 @@ use Rattle.overlay.proofs.fill.pieces.append_turned.Given as goal
 
 -- the pieces of the edges so far
 abbrev pub invariant-loop-edge : goal.invariant-loop-edge
-invariant-loop-edge g l = l.pieces.items ≡ l.initial.pieces.items ++ turned l.role (take l.edge-index l.edges)
+invariant-loop-edge g l = l.pieces.items ≡ l.initial.pieces.items ++ turned l.operand (take l.edge-index l.edges)

@@ -1,6 +1,6 @@
 use Rattle.std.proofs.Common.{◌≡◌, ◌++◌, ◌≤ℤ◌, ◌-ℤ◌, pos, drop}
 use Rattle.overlay.specs.Fill.Verticals.{before_all, verticals_between}
-use Rattle.noding.specs.Offsets.{Extends}
+use Rattle.plane.specs.Lists.{Extends}
 use Rattle.overlay.proofs.fill.verticals.push_verticals.Given as goal
 
 -- the verticals so far are appended, and the others are those from here on; the sum is at most as many as there were ends

@@ -1,5 +1,5 @@
 use Rattle.std.proofs.Common.{◌≡◌, ◌+◌, ◌++◌, drop}
-use Rattle.noding.specs.Offsets.{Extends}
+use Rattle.plane.specs.Lists.{Extends}
 use Rattle.overlay.specs.Grouping.{ends_from}
 use Rattle.overlay.proofs.grouping.appending.append_polygon_ends.Given as goal
 

@@ -1,9 +1,9 @@
 use Rattle.std.proofs.Common.{◌++◌, ◌+◌, ◌∷◌, [], List, drop, ap, sym, ◌∙◌}
 use Rattle.plane.specs.declared.edge.Edge.{Edge}
-use Rattle.overlay.specs.declared.fill.pieces.Role.TheVariants.{Subject}
+use Rattle.overlay.specs.declared.fill.pieces.Operand.TheVariants.{Subject}
 use Rattle.overlay.specs.Contours.Outlines.{next_or, ring_point}
 use Rattle.overlay.specs.Fill.Turned.{turned}
-use Rattle.noding.specs.Windings.{edge_between}
+use Rattle.plane.specs.Ends.{edge_between}
 use Rattle.overlay.specs.Grouping.{edges_from, pieces_of}
 use Rattle.overlay.proofs.GroupingLemmas.Edges.{edges_from-first, edges_from-more, turned-more}
 use Rattle.overlay.proofs.grouping.sides.append_sides.Goals as goal

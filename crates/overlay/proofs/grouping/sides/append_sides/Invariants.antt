@@ -1,5 +1,5 @@
 use Rattle.std.proofs.Common.{◌≡◌, ◌<◌, ◌++◌, ℕ, drop}
-use Rattle.overlay.specs.declared.fill.pieces.Role.TheVariants.{Subject}
+use Rattle.overlay.specs.declared.fill.pieces.Operand.TheVariants.{Subject}
 use Rattle.overlay.specs.Contours.Outlines.{ring_point}
 use Rattle.overlay.specs.Contours.Rings.{ring_edges}
 use Rattle.overlay.specs.Fill.Turned.{turned}

@@ -1,0 +1,133 @@
+//! From the stops of edges to the pieces of a fill, with no list of chains or of broken edges between.
+
+ghost use Rattle.std.specs.Prelude.{◌≡◌, ◌∷◌, ◌++◌, ◌+◌, ◌≤◌, ◌<◌, ◌^◌, [], List, IfOk, OnOk, drop, length, map, take};
+ghost use Rattle.std.specs.List.{flat_map};
+ghost use Rattle.plane.specs.declared.edge.Edge.{Edge};
+ghost use Rattle.plane.specs.declared.point.Point.{Point};
+ghost use Rattle.overlay.specs.declared.fill.pieces.Operand.TheVariants.{Subject, Clip};
+ghost use Rattle.overlay.specs.Boundary.{AreBroken, GoesOnToEnd, chain_pieces};
+ghost use Rattle.overlay.specs.Fill.Turned.{turned};
+ghost use Rattle.noding.specs.Chains.{AreChains};
+ghost use Rattle.plane.specs.Ends.{edge_between, end_of, start_of};
+ghost use Rattle.noding.specs.Offsets.{between};
+ghost use Rattle.noding.specs.Stops.{AreAt, AreStops, GoesToEnd, point_of};
+ghost use Rattle.noding.specs.Windings.{pieces};
+
+use crate::fill::pieces::{Operand, Piece, is_sloped, piece_of, room_for};
+use i_tree::Refusal;
+use noding::stops::{Stop, point_of, stops_in_order};
+use plane::edge::{Edge, edge_between, end_of, start_of};
+use plane::point::Point;
+use std::alloc::{AllocError, Allocator};
+
+/// The pieces of the subject's edges and then of the clip's, which are broken together where they meet, and rounded, as `broken`
+/// does it: those that aren't vertical, turned rightwards. The first `count` of the edges are the subject's.
+///
+/// No list of chains or of broken edges is made. It is refused where memory has no room.
+pub fn broken_pieces<A: Allocator + Copy>(
+    alloc: A,
+    edges: &[Edge],
+    count: usize,
+) -> Result<Vec<Piece, A>, Refusal>
+    requires { count ≤ length edges.now }
+    ensures { IfOk result (λ out. (broken broken_clip : List Edge)
+        × AreBroken (take count edges.now) (drop count edges.now) broken broken_clip
+        × (out.items ≡ turned Subject broken ++ turned Clip broken_clip)
+        × (length broken + length broken_clip < 2 ^ 63)) }
+{
+    let stops = stops_in_order(alloc, edges)?;
+    let mut out = Vec::with_capacity(alloc, room_for(edges, &stops)?)?;
+    append_pieces(edges, &stops, count, &mut out)?;
+    Ok(out)
+}
+
+// Appends the pieces of the chain of each edge in turn. There is at most one for each stop, and one more for each edge.
+fn append_pieces<A: Allocator>(
+    edges: &[Edge],
+    stops: &[Stop],
+    count: usize,
+    out: &mut Vec<Piece, A>,
+) -> Result<(), AllocError>
+    requires { AreStops edges.now stops.now }
+    ensures { OnOk result ((chains : List (List Point)) × AreChains edges.now chains
+        × (out.new.items ≡ out.old.items ++ chain_pieces count chains)
+        × (length (flat_map pieces chains) ≤ length edges.now + length stops.now)) }
+{
+    let mut next = 0;
+    // The edges so far have their pieces, and the stops before `next` are theirs.
+    for (place, edge) in edges.iter().enumerate() {
+        next = append_pieces_of(*edge, place, operand_at(place, count), stops, next, out)?;
+    }
+    Ok(())
+}
+
+// Of which of the two the edge at this place is.
+fn operand_at(place: usize, count: usize) -> Operand
+    ensures subject { place < count → result ≡ Subject }
+    ensures clip { count ≤ place → result ≡ Clip }
+{
+    if place < count {
+        Operand::Subject
+    } else {
+        Operand::Clip
+    }
+}
+
+// Appends the pieces of the chain of the edge at this place: from its start over the points of its stops, from the first one of
+// them on, to its end. It answers where the stops end.
+fn append_pieces_of<A: Allocator>(
+    edge: Edge,
+    place: usize,
+    operand: Operand,
+    stops: &[Stop],
+    first: usize,
+    out: &mut Vec<Piece, A>,
+) -> Result<usize, AllocError>
+    requires { first ≤ length stops.now }
+    ensures { IfOk result (λ end. AreAt place first end stops.now × ((chain : List Point)
+        × GoesToEnd edge (start_of edge ∷ map (point_of edge) (between first end stops.now)) chain
+        × (out.new.items ≡ out.old.items ++ turned operand (pieces chain)))) }
+{
+    let mut from = start_of(edge);
+    let mut next = first;
+    // The chain has come to `from` by the stops before `next`, and its pieces upto there are appended.
+    while next < stops.len() && stops[next].place == place {
+        let to = point_of(edge, stops[next]);
+        push_piece(from, to, operand, out)?;
+        from = to;
+        next += 1;
+    }
+    push_last_piece(edge, from, operand, out)?;
+    Ok(next)
+}
+
+// Appends the piece from this point to the edge's end, if the edge isn't a point.
+fn push_last_piece<A: Allocator>(
+    edge: Edge,
+    from: Point,
+    operand: Operand,
+    out: &mut Vec<Piece, A>,
+) -> Result<(), AllocError>
+    ensures { OnOk result (GoesOnToEnd operand edge from out.old.items out.new.items) }
+{
+    if edge.x0 == edge.x1 && edge.y0 == edge.y1 {
+        return Ok(());
+    }
+    push_piece(from, end_of(edge), operand, out)
+}
+
+// Appends the piece from the one point to the other, if it isn't vertical.
+fn push_piece<A: Allocator>(
+    from: Point,
+    to: Point,
+    operand: Operand,
+    out: &mut Vec<Piece, A>,
+) -> Result<(), AllocError>
+    ensures { OnOk result (out.new.items ≡ out.old.items ++ turned operand (edge_between from to ∷ [])) }
+{
+    let edge = edge_between(from, to);
+    if is_sloped(edge) {
+        out.push(piece_of(edge, operand))?;
+    }
+    Ok(())
+}
