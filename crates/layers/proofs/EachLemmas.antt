@@ -21,7 +21,9 @@ use Rattle.layers.specs.declared.gathered.Group.{Group}
 use Rattle.layers.specs.declared.shapes.Groups.{Groups}
 use Rattle.layers.specs.declared.shapes.Shapes.{Shapes}
 use Rattle.layers.proofs.GatheredLemmas.{AreGathered-more}
-use Rattle.layers.proofs.ListLemmas.{flat_map-append, length-lists_of, length-offsets, offsets-append, offsets-moved, offsets-upto}
+use Rattle.std.proofs.lemmas.List.Concat.{flat_map-append}
+use Rattle.noding.proofs.ChainLemmas.Standing.{length-offsets}
+use Rattle.layers.proofs.ListLemmas.{length-lists_of, offsets-append, offsets-moved, offsets-upto}
 
 -- ---- polygons behind polygons
 

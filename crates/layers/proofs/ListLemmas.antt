@@ -1,7 +1,8 @@
 -- Lists in one list, by where each stops.
-use Rattle.std.proofs.Common.{◌≡◌, ℕ, zero, suc, ◌+◌, ◌-◌, ◌<◌, ◌≤◌, List, [], ◌∷◌, ◌++◌, length, get_or, map, take, drop, refl, sym, subst, ap, ap₂, ◌∙◌, append-nil, append_assoc, arith}
+use Rattle.std.proofs.Common.{◌≡◌, ℕ, zero, suc, ◌+◌, ◌-◌, ◌<◌, ◌≤◌, List, [], ◌∷◌, ◌++◌, length, get_or, map, take, drop, refl, sym, subst, ap, ap₂, ◌∙◌, append-nil, arith}
 use Rattle.std.specs.List.{All, between, flat_map}
 use Rattle.std.proofs.lemmas.List.{length-append, length-drop, drop-drop, get_or-drop, take_more}
+use Rattle.std.proofs.lemmas.List.Concat.{flat_map-append}
 use Rattle.std.proofs.lemmas.List.Elements.{All-cons, All-nil}
 use Rattle.std.proofs.Math.Seq.{take-add}
 use Rattle.noding.specs.Offsets.{offsets}
@@ -40,10 +41,6 @@ module _ {X : Type 0} where
   pub between-none : (items : List X) (i : ℕ) → between i i items ≡ []
   between-none items i = ap (λ (n : ℕ). take n (drop i items)) (let same : i - i ≡ 0 = omega arith in same)
 
-  pub flat_map-append : {Y : Type 0} (f : Y → List X) (xs ys : List Y) → flat_map f (xs ++ ys) ≡ flat_map f xs ++ flat_map f ys
-  flat_map-append f [] ys = refl
-  flat_map-append f (x ∷ xs) ys = ap (λ (rest : List X). f x ++ rest) (flat_map-append f xs ys) ∙ sym (append_assoc (f x) (flat_map f xs) (flat_map f ys))
-
   -- the ends of lists, and of others behind them
   pub offsets-append : (start : ℕ) (lists others : List (List X)) → offsets start (lists ++ others) ≡ offsets start lists ++ offsets (start + length (flat_map (λ list. list) lists)) others
   offsets-append start [] others = ap (λ (n : ℕ). offsets n others) (let same : start ≡ start + 0 = omega arith in same)
@@ -52,10 +49,6 @@ module _ {X : Type 0} where
       ap (λ (ends : List ℕ). (start + length list) ∷ ends)
       (offsets-append (start + length list) lists others
       ∙ ap (λ (n : ℕ). offsets (start + length list) lists ++ offsets n others) (let sum = length-append list rest in omega (arith, sum)))
-
-  pub length-offsets : (start : ℕ) (lists : List (List X)) → length (offsets start lists) ≡ length lists
-  length-offsets start [] = refl
-  length-offsets start (list ∷ lists) = ap suc (length-offsets (start + length list) lists)
 
   -- none stops behind the last of their items
   pub offsets-upto : (start : ℕ) (lists : List (List X)) (count : ℕ) → start + length (flat_map (λ list. list) lists) ≤ count → All (λ end. end ≤ count) (offsets start lists)

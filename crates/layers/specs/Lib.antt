@@ -6,5 +6,6 @@ pub mod Each
 pub mod Gathered
 pub mod LineParts
 pub mod Lines
+pub mod Overlaid
 pub mod Parents
 pub mod Shapes

@@ -5,8 +5,8 @@ use Rattle.plane.specs.declared.edge.Edge.{Edge}
 use Rattle.plane.specs.declared.point.Point.{Point}
 use Rattle.overlay.specs.declared.fill.rules.FillRule.{FillRule}
 use Rattle.overlay.specs.Contours.Rings.{real_edges, ring_edges}
+use Rattle.plane.specs.Ends.{end_of, start_of}
 use Rattle.noding.specs.Offsets.{offsets}
-use Rattle.noding.specs.Windings.{end_of, start_of}
 use Rattle.layers.specs.declared.lines.Keep.{Keep}
 use Rattle.layers.specs.declared.lines.Keep.TheVariants.{Inside, Outside}
 use Rattle.layers.specs.Lines.{AreBrokenTogether, AreRuns, IsKept, line_edges}

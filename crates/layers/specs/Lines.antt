@@ -8,7 +8,7 @@ use Rattle.plane.specs.Meet.Edges.{RationalPoint}
 use Rattle.overlay.specs.declared.fill.rules.FillRule.{FillRule}
 use Rattle.overlay.specs.Contours.Rings.{real_edges}
 use Rattle.noding.specs.Chains.{IsChain}
-use Rattle.noding.specs.Offsets.{Extends}
+use Rattle.plane.specs.Lists.{Extends}
 use Rattle.noding.specs.Windings.{pieces}
 use Rattle.overlay.specs.Polygons.{AreAppended}
 use Rattle.overlay.specs.Rings.{AreEnds}

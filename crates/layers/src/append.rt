@@ -1,7 +1,7 @@
 //! Polygons appended to others.
 
 ghost use Rattle.std.specs.Prelude.{◌≡◌, ◌++◌, ◌+◌, ◌^◌, ◌<◌, ◌≤◌, All, OnErr, OnOk, length, map};
-ghost use Rattle.noding.specs.Offsets.{Extends};
+ghost use Rattle.plane.specs.Lists.{Extends};
 ghost use Rattle.overlay.specs.Polygons.{AreExtended};
 
 use overlay::Polygons;

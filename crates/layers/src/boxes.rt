@@ -53,6 +53,7 @@ fn boxes_of<A: Allocator>(alloc: A, shapes: Shapes) -> Result<Vec<ShapeBox, A>, 
     ensures { IfOk result (λ boxes. AreBoxes (shapes_of shapes.entry) boxes.items) }
 {
     let mut boxes = Vec::new(alloc);
+    // The shapes before this one that have points have a box, once each and in order.
     for place in 0..shapes.shape_ends.len() {
         if let Some(bounds) = box_of(points_at(shapes, place)) {
             boxes.push(ShapeBox { place, bounds })?;

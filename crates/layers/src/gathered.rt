@@ -7,6 +7,7 @@ ghost use Rattle.layers.specs.Shapes.{HasShapes, shapes_of};
 
 use crate::shapes::{Shapes, list_at, points_at, range_at};
 use overlay::Rings;
+use overlay::fill::{FillRule, Operation};
 use plane::point::Point;
 use std::alloc::{AllocError, Allocator};
 
@@ -15,6 +16,15 @@ use std::alloc::{AllocError, Allocator};
 pub struct Group<'a> {
     pub shapes: Shapes<'a>,
     pub places: &'a [usize],
+}
+
+/// Two groups, and what is made of them.
+#[derive(Clone, Copy)]
+pub struct GroupPair<'a> {
+    pub subject: Group<'a>,
+    pub clip: Group<'a>,
+    pub rule: FillRule,
+    pub operation: Operation,
 }
 
 /// Rings, in lists of their own.
@@ -44,6 +54,7 @@ pub fn gathered<A: Allocator + Copy>(alloc: A, group: Group) -> Result<GatheredR
 {
     let mut points = Vec::with_capacity(alloc, point_count(group))?;
     let mut ends = Vec::new(alloc);
+    // The rings of the shapes so far are gathered.
     for place in group.places {
         append_shape(group.shapes, *place, &mut points, &mut ends)?;
     }
@@ -74,6 +85,7 @@ fn append_shape<A: Allocator>(
         points.old.items points.new.items ends.old.items ends.new.items) }
 {
     let (first, behind) = range_at(shapes.shape_ends, place);
+    // The rings of the shape before this one are gathered.
     for ring in first..behind {
         points.extend_from_slice(list_at(shapes.points, shapes.ring_ends, ring))?;
         ends.push(points.len())?;

@@ -1,5 +1,5 @@
-//! Layers: many shapes in one call. Overlays of pairs and of groups, points in shapes, lines that are clipped, and which polygon lies
-//! in a hole of which.
+//! Layers: many shapes in one call. Overlays of pairs and of groups, points in shapes, lines that are clipped, and which polygon
+//! lies in a hole of which.
 #![tactic(auto)]
 
 mod append;
@@ -22,4 +22,4 @@ pub use overlay::fill::{FillRule, Operation};
 pub use overlay::{Polygons, Rings};
 pub use plane::point::Point;
 pub use points::{Border, points_in};
-pub use shapes::{Groups, Shapes};
+pub use shapes::{GroupedShapes, Groups, Shapes};

@@ -19,13 +19,14 @@ use std::alloc::{AllocError, Allocator};
 /// Twice a number that is greater than all of 32 bits.
 const FAR: i64 = 0x1_0000_0000;
 
-/// Appends for each polygon the place of the one in whose hole it lies, the nearest around it; or none, where no other goes round it.
+/// Appends for each polygon the place of the one in whose hole it lies, the nearest around it; or none, where no other goes round
+/// it.
 ///
-/// The shapes are polygons as an overlay makes them: the first ring of each is its outer one. A polygon goes round another where its
-/// outer ring winds around the middle of the first edge of the other's outer ring. As the outer rings of an overlay don't cross, the
-/// other then lies in one of its holes. Of those that go round a polygon the nearest is the deepest: that around which the most others
-/// go; and of several that are as deep the first. So it is told for all other shapes too. A polygon whose outer ring has no point goes
-/// round none.
+/// The shapes are polygons as an overlay makes them: the first ring of each is its outer one. A polygon goes round another where
+/// its outer ring winds around the middle of the first edge of the other's outer ring. As the outer rings of an overlay don't
+/// cross, the other then lies in one of its holes. Of those that go round a polygon the nearest is the deepest: that around which
+/// the most others go; and of several that are as deep the first. So it is told for all other shapes too. A polygon whose outer
+/// ring has no point goes round none.
 ///
 /// `Lengths` comes where a ring or a shape stops before it begins or behind the points or the rings, and nothing else is done then.
 /// `Refused` comes where memory was refused. After any fault `out` is as it was. The memory is that of `out`.
@@ -92,6 +93,7 @@ fn outers_of<A: Allocator + Copy>(alloc: A, polygons: Shapes) -> Result<Outers<A
         shape_ends: Vec::new(alloc),
         middles: Vec::new(alloc),
     };
+    // The outer rings of the polygons before this one stand there, each as a shape.
     for place in 0..polygons.shape_ends.len() {
         push_outer(outer_ring(polygons, place), &mut outers)?;
     }
@@ -161,6 +163,7 @@ fn depths_of<A: Allocator + Copy>(
     ensures { IfOk result (λ depths. AreDepths count pairs.now depths.items) }
 {
     let mut depths = vec![in alloc; 0; count]?;
+    // Each place has the number of others with which it stands in one of the pairs so far.
     for (place, around) in pairs {
         if *place != *around {
             depths[*place] += 1;
@@ -179,6 +182,7 @@ fn best_of<A: Allocator + Copy>(
     ensures { IfOk result (λ found. AreBest depths.now pairs.now found.items) }
 {
     let mut found = vec![in alloc; None; depths.len()]?;
+    // Each place has the best of the pairs so far, if it stands in one.
     for (place, around) in pairs {
         if *place != *around && is_better(depths, *around, found[*place]) {
             found[*place] = Some(*around);

@@ -27,6 +27,13 @@ pub struct Groups<'a> {
     pub ends: &'a [usize],
 }
 
+/// Shapes, and groups of them: the groups' places are those of the shapes.
+#[derive(Clone, Copy, Debug)]
+pub struct GroupedShapes<'a> {
+    pub shapes: Shapes<'a>,
+    pub groups: Groups<'a>,
+}
+
 /// Whether each ring and each shape stops where it begins or later, and none behind the points or the rings.
 pub fn are_shapes(shapes: Shapes) -> bool
     ensures { IsTrue result ↔ HasShapes shapes.entry }
@@ -54,6 +61,7 @@ pub(crate) fn are_ends(ends: &[usize], count: usize) -> bool
     ensures { IsTrue result ↔ AreEnds 0 ends.now count }
 {
     let mut start = 0;
+    // Those so far stop where they begin or later, and the last of them at `start`.
     for end in ends {
         if *end < start || count < *end {
             return false;

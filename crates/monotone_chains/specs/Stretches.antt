@@ -8,7 +8,8 @@ use Rattle.plane.specs.declared.edge.Edge.{Edge}
 use Rattle.plane.specs.declared.point.Point.{Point}
 use Rattle.overlay.specs.Contours.Outlines.{ring_point}
 use Rattle.overlay.specs.Contours.Rings.{ring_edges}
-use Rattle.noding.specs.Windings.{edge_between, end_of, further, pieces, reversed, start_of}
+use Rattle.plane.specs.Ends.{edge_between, end_of, reversed, start_of}
+use Rattle.noding.specs.Windings.{further, pieces}
 
 -- Along the points x rises, or it falls.
 abbrev pub Rises : List Point → Type 0

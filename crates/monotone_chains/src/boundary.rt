@@ -1,8 +1,7 @@
 //! The boundary of what an operation makes of edges that are cut into stretches.
 
-ghost use Rattle.std.specs.Prelude.{◌≡◌, [], List, OnOk, OnErr};
+ghost use Rattle.std.specs.Prelude.{◌≡◌, [], List, OnOk};
 ghost use Rattle.plane.specs.declared.edge.Edge.{Edge};
-ghost use Rattle.noding.specs.Offsets.{Extends};
 ghost use Rattle.noding.specs.Windings.{IsClosed};
 ghost use Rattle.overlay.specs.Boundary.{AppendsBoundary};
 ghost use Rattle.monotone_chains.specs.Stretches.Cut.{AreCut};
@@ -14,17 +13,20 @@ use i_tree::Refusal;
 use i_tree::status::exp::StatusCollection;
 use overlay::boundary::bounding_edges;
 use overlay::contours::contours_in_place;
-use overlay::fill::{FillRule, Operation};
+use overlay::fill::Choice;
 use plane::point::Point;
 use plane::sweep_line::ActiveEdge;
 use std::alloc::Allocator;
 
-/// As `boundary` of the crate `overlay`, of edges that are cut into stretches, by the chords of these: one edge stands for all of
-/// a stretch, from its first point to its last. In the rings the points of the stretches stand in place of them.
+/// Appends rings that bound what the operation makes of the edges of subject and clip, and where each stops: as `boundary` of the crate
+/// `overlay` does, of edges that are cut into stretches, by the chords of these. One edge stands for all of a stretch, from its first
+/// point to its last. In the rings the points of the stretches stand in place of them.
+///
+/// It is refused where memory or the status has no room, and then something may have been appended. What the status holds is
+/// removed before and after.
 pub fn boundary_along<C, A>(
     stretches: &Stretches<A>,
-    rule: FillRule,
-    operation: Operation,
+    choice: Choice,
     status: &mut C,
     points: &mut Vec<Point, A>,
     ring_ends: &mut Vec<usize, A>,
@@ -35,48 +37,15 @@ where
     requires cut { (subject clip : List Edge) × IsClosed subject × IsClosed clip
         × AreCut subject clip stretches.now.parts.items stretches.now.count }
     ensures ok { (subject clip : List Edge) → AreCut subject clip stretches.now.parts.items stretches.now.count
-        → OnOk result (AppendsBoundary rule operation subject clip
+        → OnOk result (AppendsBoundary choice.rule choice.operation subject clip
         points.old.items points.new.items ring_ends.old.items ring_ends.new.items) }
-    ensures err { OnErr result ((points.new.items ≡ points.old.items) × (ring_ends.new.items ≡ ring_ends.old.items)) }
     ensures empty { C.stored status.new ≡ [] }
 {
     status.clear();
-    let points_before = points.len();
-    let ends_before = ring_ends.len();
-    let outcome = append_along(stretches, rule, operation, status, points, ring_ends);
-    if outcome.is_err() {
-        points.truncate(points_before);
-        ring_ends.truncate(ends_before);
-    }
-    outcome
-}
-
-// As `boundary_along`, over an empty status. Where it is refused, it may have appended something.
-fn append_along<C, A>(
-    stretches: &Stretches<A>,
-    rule: FillRule,
-    operation: Operation,
-    status: &mut C,
-    points: &mut Vec<Point, A>,
-    ring_ends: &mut Vec<usize, A>,
-) -> Result<(), Refusal>
-where
-    C: StatusCollection<ActiveEdge, i64, ()>,
-    A: Allocator + Copy,
-    requires empty { C.stored status.old ≡ [] }
-    requires cut { (subject clip : List Edge) × IsClosed subject × IsClosed clip
-        × AreCut subject clip stretches.now.parts.items stretches.now.count }
-    ensures ok { (subject clip : List Edge) → AreCut subject clip stretches.now.parts.items stretches.now.count
-        → OnOk result (AppendsBoundary rule operation subject clip
-        points.old.items points.new.items ring_ends.old.items ring_ends.new.items) }
-    ensures err { OnErr result (Extends points.old.items points.new.items
-        × Extends ring_ends.old.items ring_ends.new.items) }
-    ensures empty { C.stored status.new ≡ [] }
-{
     let alloc = *points.allocator();
     let parts = &stretches.parts;
     let chords = chords_of(alloc, parts)?;
-    let bounding = bounding_edges(alloc, &chords, stretches.count, rule, operation, status)?;
+    let bounding = bounding_edges(alloc, &chords, stretches.count, choice, status)?;
     let mut rings = Vec::with_capacity(alloc, bounding.len())?;
     let mut ends = Vec::new(alloc);
     contours_in_place(bounding, &mut rings, &mut ends)?;

@@ -1,5 +1,4 @@
-//! Overlay of polygons by the chords of their monotone chains, where that pays: the calls of `overlay`, whose answers are told
-//! by the same clauses.
+//! Overlay of polygons by the chords of their monotone chains, where that pays: the calls of the crate `overlay`.
 
 ghost use Rattle.std.specs.Prelude.{◌≡◌, ◌↔◌, [], List, OnOk, OnErr, Err};
 ghost use Rattle.plane.specs.declared.point.Point.{Point};
@@ -14,7 +13,8 @@ use i_tree::Refusal;
 use i_tree::status::exp::StatusCollection;
 use overlay::boundary::boundary;
 use overlay::call::{Bounding, overlay_by};
-use overlay::rings::{are_ends, real_edges_of};
+use overlay::fill::Choice;
+use overlay::rings::{Operands, are_ends, real_edges_of};
 use overlay::{FillRule, Operation, OverlayFault, Polygons, Rings};
 use plane::point::Point;
 use plane::sweep_line::{ActiveEdge, GrowingStatus};
@@ -27,10 +27,8 @@ pub struct ByChains;
 impl Bounding for ByChains {
     fn append_boundary<C, A>(
         &self,
-        subject: Rings,
-        clip: Rings,
-        rule: FillRule,
-        operation: Operation,
+        operands: Operands,
+        choice: Choice,
         status: &mut C,
         points: &mut Vec<Point, A>,
         ends: &mut Vec<usize, A>,
@@ -40,17 +38,20 @@ impl Bounding for ByChains {
         A: Allocator + Copy,
     {
         let alloc = *points.allocator();
-        if let Some(stretches) = stretches_along(alloc, subject, clip)? {
-            return boundary_along(&stretches, rule, operation, status, points, ends);
+        if let Some(stretches) = stretches_along(alloc, operands.subject, operands.clip)? {
+            return boundary_along(&stretches, choice, status, points, ends);
         }
-        let (edges, count) = real_edges_of(alloc, subject, clip)?;
-        boundary(&edges, count, rule, operation, status, points, ends)
+        let (edges, count) = real_edges_of(alloc, operands.subject, operands.clip)?;
+        boundary(&edges, count, choice, status, points, ends)
     }
 }
 
-/// Appends the polygons of what the operation makes of the inside of the subject and that of the clip, as `overlay` of the crate
-/// of that name does, and by the same clauses. Where rings are long, it is faster: edges along which x rises, or falls, and to
-/// which no others come are one edge to it, and in the result all of their points stand again.
+/// Appends the polygons of what the operation makes of the inside of the subject and that of the clip. What these hold, which rings
+/// are taken and what each error leaves is told once, at `overlay::overlay`; the clauses are the same.
+///
+/// It is faster where rings are long: edges along which x rises, or falls, and to which no others come are one edge to it, and in
+/// the result all of their points stand again. `Lengths` comes where ends don't rise or go behind the points, and `Refused` where
+/// memory was refused or a tree has no handle more. After any fault `out` is as it was.
 pub fn overlay<A: Allocator + Copy>(
     subject: Rings,
     clip: Rings,
@@ -72,8 +73,8 @@ pub fn overlay<A: Allocator + Copy>(
     overlay_over(subject, clip, rule, operation, &mut status, out)
 }
 
-/// As `overlay`, over a status of the caller's. `Refused` comes where memory or the status has no room. What the status holds is
-/// removed before and after, in every case.
+/// As `overlay`, over a status of the caller's, which is emptied before and after in every case. `Refused` comes where memory or
+/// the status has no room.
 pub fn overlay_over<C, A>(
     subject: Rings,
     clip: Rings,
@@ -93,10 +94,13 @@ where
         ↔ ¬ (HasEnds subject.entry × HasEnds clip.entry) }
     ensures empty { C.stored status.new ≡ [] }
 {
-    overlay_by(&ByChains, subject, clip, rule, operation, status, out)
+    let operands = Operands { subject, clip };
+    let choice = Choice { rule, operation };
+    overlay_by(&ByChains, operands, choice, status, out)
 }
 
-/// The polygons of what is inside of the rings by the rule: the union of them with nothing. It is refused as `overlay` is.
+/// Appends the polygons of what is inside of the rings by the rule, which is the union of them with nothing. It is refused as
+/// `overlay` is.
 pub fn simplify<A: Allocator + Copy>(
     rings: Rings,
     rule: FillRule,

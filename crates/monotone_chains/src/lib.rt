@@ -5,9 +5,9 @@
 //! without this one.
 #![tactic(auto)]
 
-pub mod boundary;
+mod boundary;
 pub mod call;
 mod stretched;
-pub mod stretches;
+mod stretches;
 
 pub use call::{overlay, overlay_over, simplify};

@@ -13,8 +13,8 @@ use overlay::rings::{Rings, ring_at};
 use plane::point::Point;
 use std::alloc::{AllocError, Allocator};
 
-/// At how many places, all along subject and clip, a few points are looked at before rings are cut, to tell whether x turns often
-/// along them. It is a prime number, so that places seldom fall in step with rings that have as many points each.
+/// At how many places, all along subject and clip, a few points are looked at before rings are cut, to tell whether x turns back
+/// often along them. It is a prime number, so that places seldom fall in step with rings that have as many points each.
 const PLACES: usize = 31;
 
 /// How many points are looked at in one place.
@@ -54,15 +54,15 @@ pub(crate) fn stretches_along<'a, A: Allocator + Copy>(
     Ok(Some(stretches))
 }
 
-// Whether x turns at more than one in twelve of the points that are looked at in both.
+// Whether x turns back at more than one in twelve of the points that are looked at in both.
 fn turn_often(subject: &[Point], clip: &[Point]) -> bool {
     let most = PLACES * AT_EACH;
     let looked_at = subject.len().min(most) + clip.len().min(most);
     looked_at / 12 < count_turns(subject).saturating_add(count_turns(clip))
 }
 
-// How often x turns at the points that are looked at. Where a long ring is steep, points that follow one another may have one x: so no
-// place tells of the whole ring.
+// How often x turns back at the points that are looked at. Where a long ring is steep, points that follow one another may have
+// one x: so no place tells of the whole ring.
 fn count_turns(points: &[Point]) -> usize {
     let apart = (points.len() / PLACES).max(AT_EACH + 2);
     let mut turns: usize = 0;
@@ -72,7 +72,7 @@ fn count_turns(points: &[Point]) -> usize {
     turns
 }
 
-// How often x turns at the first points.
+// How often x turns back at the first points.
 fn count_first_turns(points: &[Point]) -> usize {
     let mut turns: usize = 0;
     for three in points.windows(3).take(AT_EACH) {
@@ -101,6 +101,7 @@ fn append_rings<'a, A: Allocator>(
     ensures { IfOk result (λ are_all. IsTrue are_all
         → AppendsParts (real_edges (edges_of rings.entry)) parts.old.items parts.new.items) }
 {
+    // The parts are of the real edges of the rings before this one.
     for ring in 0..rings.ends.len() {
         let points = ring_at(rings.points, rings.ends, ring);
         if !append_parts(points, most, limit, parts)? {

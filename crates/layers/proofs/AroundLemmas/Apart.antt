@@ -6,7 +6,7 @@ use Rattle.std.proofs.lemmas.Int.{clamps, ints}
 use Rattle.plane.specs.declared.edge.Edge.{Edge}
 use Rattle.plane.specs.declared.pairs.items.Bounds.{Bounds}
 use Rattle.plane.specs.declared.point.Point.{Point}
-use Rattle.noding.specs.Windings.{end_of, start_of}
+use Rattle.plane.specs.Ends.{end_of, start_of}
 use Rattle.noding.proofs.SnapLemmas.Counted.{under}
 use Rattle.layers.specs.Around.{IsOn, halved}
 use Rattle.layers.specs.Boxes.{IsInBounds}

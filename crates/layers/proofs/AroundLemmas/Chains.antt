@@ -6,7 +6,8 @@ use Rattle.std.proofs.lemmas.List.Elements.{All-head, All-tail, All-weaker}
 use Rattle.plane.specs.declared.edge.Edge.{Edge}
 use Rattle.plane.specs.declared.point.Point.{Point}
 use Rattle.plane.specs.Meet.Edges.{RationalPoint}
-use Rattle.noding.specs.Windings.{edge_between, pieces}
+use Rattle.plane.specs.Ends.{edge_between}
+use Rattle.noding.specs.Windings.{pieces}
 use Rattle.noding.proofs.SnapLemmas.Counted.{added, under}
 use Rattle.layers.specs.Around.{IsOn, IsOnAny, halved}
 use Rattle.layers.specs.Boxes.{IsInBounds}

@@ -14,7 +14,8 @@ use Rattle.plane.specs.Pairs.Pairs.{PairBetween}
 use Rattle.plane.proofs.MeetLemmas.Identities.{Term, identity, minus, number, times}
 use Rattle.overlay.specs.declared.fill.rules.FillRule.{FillRule}
 use Rattle.overlay.specs.Fill.Rules.{is_inside}
-use Rattle.noding.specs.Windings.{is_under, reversed, winding}
+use Rattle.plane.specs.Ends.{reversed}
+use Rattle.noding.specs.Windings.{is_under, winding}
 use Rattle.noding.proofs.ChainLemmas.Zips.{AllZip-at, AllZip-length}
 use Rattle.noding.proofs.SnapLemmas.Numbers.{n_of}
 use Rattle.layers.specs.declared.around.half_point.HalfPoint.{HalfPoint}

@@ -130,14 +130,6 @@ is_in-lies rule border point edges around is = by border (is_inside rule around.
 -- ---- groups
 
 module _ (rule : FillRule) (border : Border) where
-  pub LiesAmong-same : (group : List Placed) (edges others : List Edge) (place : ℕ) → ((placed : Placed) → Contains group placed → AreSameAround (halved placed.point) edges others) → LiesAmong rule border group edges place → LiesAmong rule border group others place
-  LiesAmong-same group edges others place same lies = record {
-    placed = lies.placed;
-    listed = lies.listed;
-    is = lies.is;
-    lies = LiesIn-same rule border (halved lies.placed.point) edges others (same lies.placed lies.listed) lies.lies;
-  }
-
   pub LiesAmong-none : (group : List Placed) (place : ℕ) → ¬ (LiesAmong rule border group [] place)
   LiesAmong-none group place lies = LiesIn-none rule border (halved lies.placed.point) lies.lies
 

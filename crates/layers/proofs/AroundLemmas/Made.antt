@@ -56,9 +56,6 @@ module _ (ring : List Point) (start : ℕ) (d : Point) (inside : start < length 
 
 -- ---- chains that are appended
 
-pub AppendsChains-none : (shape : ℕ) (chains : List Chain) → AppendsChains shape [] chains chains
-AppendsChains-none shape chains = ([], sym (append-nil chains), record { bounded = All-nil IsBounded; of = All-nil (λ c. c.shape ≡ shape); are = refl })
-
 pub AppendsChains-one : (shape : ℕ) (edges : List Edge) (chain : Chain) (before after : List Chain) → chain.shape ≡ shape → IsBounded chain → chain_edges chain ≡ edges → after ≡ before ++ chain ∷ [] → AppendsChains shape edges before after
 AppendsChains-one shape edges chain before after of bounded are is = (
   chain ∷ [],
@@ -88,13 +85,6 @@ pub record AreChainsUpto (shapes : List (List Edge)) (count : ℕ) (chains : Lis
   pub order : AreInOrder chains
   pub below : All (λ chain. chain.shape < count) chains
   pub each : (shape : ℕ) → shape < count → edges_in shape chains ≡ get_or shapes shape []
-
-pub AreChainsUpto-none : (shapes : List (List Edge)) → AreChainsUpto shapes 0 []
-AreChainsUpto-none shapes = record {
-  order = record { bounded = All-nil IsBounded; sorted = λ i j d below within. absurd (omega (arith, within)) };
-  below = All-nil (λ chain. chain.shape < 0);
-  each = λ shape within. absurd (omega (arith, within));
-}
 
 pub AreChainsUpto-more : (shapes : List (List Edge)) (count : ℕ) (before after : List Chain) → AreChainsUpto shapes count before → AppendsChains count (get_or shapes count []) before after → AreChainsUpto shapes (count + 1) after
 AreChainsUpto-more shapes count before after are (more, is, of) = subst (AreChainsUpto shapes (count + 1)) (sym is) (record {

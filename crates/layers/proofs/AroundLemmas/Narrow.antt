@@ -40,9 +40,6 @@ AreUpto-push shape chains chain are is bounded = record {
   upto = All-append (λ one. one.shape ≤ shape) chains (chain ∷ []) are.upto (All-cons (λ one. one.shape ≤ shape) chain [] (omega (arith, is)) (All-nil _));
 }
 
-pub AreUpto-weaker : (shape more : ℕ) (chains : List Chain) → shape ≤ more → AreUpto shape chains → AreUpto more chains
-AreUpto-weaker shape more chains upto are = record { order = are.order; upto = λ k d within. let low = are.upto k d within in omega (arith, low, upto) }
-
 -- what holds of chains holds without the last
 module _ (shape : ℕ) (chains : List Chain) (chain : Chain) (are : AreUpto shape (chains ++ chain ∷ [])) where
   before-last : (k : ℕ) (d : Chain) → k < length chains → get_or (chains ++ chain ∷ []) k d ≡ get_or chains k d
@@ -90,9 +87,6 @@ beside-steps extent x other point inside is = by (int_eq x other) (int_le (pos 2
 -- ---- the same around each point of a box
 
 module _ (extent : Extent) where
-  pub AreSameIn-refl : (chains : List Chain) → AreSameIn extent chains chains
-  AreSameIn-refl chains shape point inside = AreSame-refl (halved point) (edges_in shape chains)
-
   pub AreSameIn-trans : (chains others more : List Chain) → AreSameIn extent chains others → AreSameIn extent others more → AreSameIn extent chains more
   AreSameIn-trans chains others more first second shape point inside =
       AreSame-trans (halved point) (edges_in shape chains) (edges_in shape others) (edges_in shape more) (first shape point inside) (second shape point inside)

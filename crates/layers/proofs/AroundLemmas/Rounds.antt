@@ -1,27 +1,22 @@
 -- How often edges wind around a point, and whether one goes through it: of some edges and of others, and how far the number goes.
-use Rattle.std.proofs.Common.{Bool, true, false, ◌||◌, ◌≡◌, inl, inr, ℕ, ◌+◌, ◌<◌, ◌≤◌, ℤ, pos, ◌+ℤ◌, List, [], ◌∷◌, ◌++◌, length, get_or, take, refl, subst, arith}
+use Rattle.std.proofs.Common.{Bool, true, false, ◌||◌, ◌≡◌, inl, inr, ℕ, ◌+◌, ◌<◌, ◌≤◌, ℤ, ◌+ℤ◌, List, [], ◌∷◌, ◌++◌, length, get_or, take, refl, subst, arith}
 use Rattle.std.proofs.lemmas.Int.{ints}
 use Rattle.std.proofs.lemmas.List.{take_more}
 use Rattle.std.proofs.lemmas.List.Sums.{count_by-le-length}
 use Rattle.plane.specs.declared.edge.Edge.{Edge}
 use Rattle.plane.specs.Meet.Crosses.{IsWithin}
 use Rattle.plane.specs.Meet.Edges.{RationalPoint}
-use Rattle.noding.specs.Windings.{is_under, reversed, winding}
+use Rattle.plane.specs.Ends.{reversed}
+use Rattle.noding.specs.Windings.{is_under, winding}
 use Rattle.noding.proofs.SnapLemmas.Counted.{added}
 use Rattle.noding.proofs.SnapLemmas.Windings.{winding-added, winding-append}
 use Rattle.layers.specs.Around.{IsOn, IsOnAny}
 use Rattle.layers.specs.Chains.{AreSameAround, IsAround}
 use Rattle.layers.specs.declared.around.turns.Around.{Around}
-use Rattle.layers.proofs.AroundLemmas.Lists.{Any-append_cases, Any-append_left, Any-append_right, Any-none}
+use Rattle.layers.proofs.AroundLemmas.Lists.{Any-append_cases, Any-append_left, Any-append_right}
 
 module _ (point : RationalPoint) where
   -- ---- what is told of edges
-
-  pub IsAround-none : IsAround point [] (record { turns = pos 0; touches = false })
-  IsAround-none = record {
-    turns = refl;
-    touches = (λ test. cc, λ some. absurd (Any-none (λ e. IsOn e point) some));
-  }
 
   pub IsAround-append : (edges others : List Edge) (one other both : Around) → IsAround point edges one → IsAround point others other
       → both.turns ≡ one.turns +ℤ other.turns → both.touches ≡ (one.touches || other.touches) → IsAround point (edges ++ others) both
@@ -76,9 +71,6 @@ module _ (point : RationalPoint) where
     turns = (let one = first.turns in let other = second.turns in cc (one, other));
     touches = (λ some. second.touches.0 (first.touches.0 some), λ some. first.touches.1 (second.touches.1 some));
   }
-
-  pub AreSame-sym : (edges others : List Edge) → AreSameAround point edges others → AreSameAround point others edges
-  AreSame-sym edges others same = record { turns = (let one = same.turns in cc one); touches = (same.touches.1, same.touches.0) }
 
   pub AreSame-append : (xs ys xs' ys' : List Edge) → AreSameAround point xs xs' → AreSameAround point ys ys' → AreSameAround point (xs ++ ys) (xs' ++ ys')
   AreSame-append xs ys xs' ys' first second = record {

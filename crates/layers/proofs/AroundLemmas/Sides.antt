@@ -8,7 +8,8 @@ use Rattle.plane.specs.Meet.Edges.{RationalPoint}
 use Rattle.plane.specs.SweepLine.Heights.{run}
 use Rattle.plane.proofs.MeetLemmas.Boxes.{way_above, way_below}
 use Rattle.plane.proofs.MeetLemmas.Identities.{identity, minus, number, plus, scaled, times, unscaled}
-use Rattle.noding.specs.Windings.{reversed, count}
+use Rattle.plane.specs.Ends.{reversed}
+use Rattle.noding.specs.Windings.{count}
 use Rattle.noding.proofs.SnapLemmas.Counted.{counted, covers, height_at, is_low, under}
 use Rattle.noding.proofs.SnapLemmas.Heights.{Covering, height_of}
 use Rattle.noding.proofs.SnapLemmas.Numbers.{n_of, side, zero_by}

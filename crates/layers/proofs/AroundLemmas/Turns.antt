@@ -12,7 +12,8 @@ use Rattle.plane.specs.Meet.Kinds.{HasPoint}
 use Rattle.plane.proofs.MeetLemmas.Along.{meet-of_along}
 use Rattle.plane.proofs.MeetLemmas.Identities.{Term, identity, minus, number, plus, scaled, times}
 use Rattle.plane.proofs.MeetLemmas.Kinds.{dot, has_point-of_meet}
-use Rattle.noding.specs.Windings.{edge_between, reversed, count}
+use Rattle.plane.specs.Ends.{edge_between, reversed}
+use Rattle.noding.specs.Windings.{count}
 use Rattle.noding.proofs.SnapLemmas.Counted.{counted, covers, is_low, is_low-left, under}
 use Rattle.noding.proofs.SnapLemmas.Numbers.{n_of}
 use Rattle.noding.proofs.SnapLemmas.Windings.{back, winding-added}

@@ -19,6 +19,8 @@ use Rattle.layers.specs.LineParts.{AreBrokenEdges, AreGathered, IsLoop, real_rin
 use Rattle.layers.specs.Lines.{AreBrokenTogether, all_edges, line_edges}
 use Rattle.layers.proofs.LineLemmas.Lists.{offsets-back, offsets-from, offsets-made, offsets-same, zipped}
 use Rattle.layers.proofs.LineLemmas.Paths.{broken-loops}
+use Rattle.layers.proofs.GatheredLemmas.{joined-map}
+use Rattle.noding.proofs.ChainLemmas.Standing.{length-offsets}
 use Rattle.layers.proofs.ListLemmas.{offsets-upto}
 
 -- what is made of lists one after another is what is made of each
@@ -174,6 +176,11 @@ pub stops-some : (edges : List Edge) (chain_ends : List ℕ) (chains : List (Lis
 stops-some edges chain_ends chains numbers are stops within =
     All-weaker (λ n. n ≤ length edges) (StopSome chain_ends) (λ n below. (chains, stops, chains-some edges chains are, chains-count edges chains n below are)) numbers within
 
+-- of chains that stop where so many and more do, there are as many
+pub StopSome-upto : (ends : List ℕ) (number : ℕ) (chains : List (List Point)) → StopSome ends number → ends ≡ offsets 0 chains → number ≤ length chains
+StopSome-upto ends number chains (others, are, some, within) stops =
+    omega (arith, within, length-offsets 0 others, length-offsets 0 chains, ap (λ (list : List ℕ). length list) are, ap (λ (list : List ℕ). length list) stops)
+
 pub gathered-within : (lines rings : List (List Point)) (edges : List Edge) (line_ends ring_ends : List ℕ) → AreGathered lines rings edges line_ends ring_ends → All (λ n. n ≤ length edges) line_ends × All (λ n. n ≤ length edges) ring_ends
 gathered-within lines rings edges line_ends ring_ends gathered =
     let all = ap (λ (list : List Edge). length list) gathered.is in
@@ -183,7 +190,3 @@ gathered-within lines rings edges line_ends ring_ends gathered =
       subst (All (λ n. n ≤ length edges)) (sym gathered.lines_end) (offsets-upto 0 (map line_edges lines) (length edges) (omega (arith, all, sum, of_lines))),
       subst (All (λ n. n ≤ length edges)) (sym gathered.rings_end) (offsets-upto (length (flat_map line_edges lines)) (map real_ring rings) (length edges) (omega (arith, all, sum, of_rings))),
     )
-  where
-    joined-map : (items : List Point → List Edge) (some : List (List Point)) → flat_map (λ list. list) (map items some) ≡ flat_map items some
-    joined-map items [] = refl
-    joined-map items (one ∷ others) = ap (λ (rest : List Edge). items one ++ rest) (joined-map items others)

@@ -1,9 +1,9 @@
 -- Flags that are set at some places, and what they tell of edges.
-use Rattle.std.proofs.Common.{◌≡◌, ◌≢◌, ◌⊎◌, inl, inr, ◌<◌, ◌+◌, ◌++◌, [], ◌∷◌, ℕ, zero, suc, Bool, true, false, not, List, MatchBool, Some, map, length, get_or, take, ap, ap₂, refl, sym, subst, subst₂, ◌∙◌, arith}
+use Rattle.std.proofs.Common.{◌≡◌, ◌≢◌, ◌⊎◌, inl, inr, ◌<◌, ◌+◌, ◌++◌, [], ◌∷◌, ℕ, zero, suc, Bool, true, false, List, MatchBool, Some, map, length, get_or, take, ap, ap₂, refl, sym, subst, subst₂, ◌∙◌, arith}
 use Rattle.std.specs.List.{All, AllZip, Contains, between, flat_map, slice_get}
 use Rattle.std.specs.Option.{option_map}
-use Rattle.std.proofs.Math.ListN.{replicate, set, length-set}
-use Rattle.std.proofs.lemmas.List.{get_or-replicate, get_or-set_other, get_or-set_same, length-map, length-replicate, map-append, take_all, take_more}
+use Rattle.std.proofs.Math.ListN.{set, length-set}
+use Rattle.std.proofs.lemmas.List.{get_or-set_other, get_or-set_same, length-map, map-append, take_all, take_more}
 use Rattle.std.proofs.lemmas.Slice.{between_from_start}
 use Rattle.std.proofs.lemmas.List.Elements.{All-head, All-tail, Contains-append_left, Contains-push, Contains-push_cases, Contains-get_or}
 use Rattle.std.proofs.lemmas.Bool.{cases_eq, false≢true}
@@ -13,8 +13,8 @@ use Rattle.plane.specs.declared.point.Point.{Point}
 use Rattle.plane.specs.Pairs.Pairs.{PairBetween}
 use Rattle.overlay.specs.declared.fill.rules.FillRule.{FillRule}
 use Rattle.overlay.specs.Contours.Rings.{ring_edges}
+use Rattle.plane.specs.Ends.{start_of}
 use Rattle.noding.specs.Offsets.{AreJoined, offsets}
-use Rattle.noding.specs.Windings.{start_of}
 use Rattle.overlay.specs.Rings.{AreEnds}
 use Rattle.layers.specs.declared.lines.Keep.{Keep}
 use Rattle.layers.specs.declared.lines.Keep.TheVariants.{Inside, Outside}
@@ -26,15 +26,6 @@ use Rattle.layers.specs.Shapes.{lists_of}
 use Rattle.layers.proofs.LineLemmas.Lists.{ends-right, lists-back}
 use Rattle.layers.proofs.LineLemmas.Paths.{ring_edges-starts}
 use Rattle.layers.proofs.ListLemmas.{length-lists_of}
-
-none-first : (place : ℕ) → ¬ (IsFirst [] place)
-none-first place (other, (k, inside, is)) = absurd (omega (arith, inside))
-
-pub marked-none : (mark : Bool) (count : ℕ) → AreMarked [] mark count (replicate count (not mark))
-marked-none mark count = record {
-  count_is = length-replicate count (not mark);
-  each = λ place d within. inr (none-first place, get_or-replicate count place (not mark) d within);
-}
 
 -- one pair more
 pub marked-more : (pairs : List (ℕ × ℕ)) (i : ℕ) (default : ℕ × ℕ) (mark : Bool) (count : ℕ) (flags : List Bool) → i < length pairs → (get_or pairs i default).0 < count

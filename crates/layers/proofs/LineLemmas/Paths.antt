@@ -9,7 +9,8 @@ use Rattle.plane.specs.declared.edge.Edge.{Edge}
 use Rattle.plane.specs.declared.point.Point.{Point}
 use Rattle.overlay.specs.Contours.Rings.{has_two_ends, real_edges, ring_edges}
 use Rattle.noding.specs.Chains.{IsChain}
-use Rattle.noding.specs.Windings.{edge_between, end_of, pieces, start_of}
+use Rattle.plane.specs.Ends.{edge_between, end_of, start_of}
+use Rattle.noding.specs.Windings.{pieces}
 use Rattle.overlay.proofs.ContourLemmas.RealEdges.{points-same}
 use Rattle.noding.proofs.Callers.{ends, starts}
 use Rattle.layers.specs.LineParts.{IsLoop, IsPath, LeadTo, points_along, real_ring}

@@ -1,8 +1,8 @@
 -- Runs of edges that are kept.
-use Rattle.std.proofs.Common.{◌≡◌, ◌≢◌, ◌⊎◌, inl, inr, ◌<◌, ◌≤◌, ◌+◌, ◌++◌, [], ◌∷◌, ℕ, List, MatchBool, Bool, true, false, length, drop, take, zero, suc, ◌-◌, get_or, ap, refl, sym, subst, ◌∙◌, append_assoc, append-nil, arith}
+use Rattle.std.proofs.Common.{◌≡◌, ◌≢◌, ◌⊎◌, inl, inr, ◌<◌, ◌≤◌, ◌+◌, ◌++◌, [], ◌∷◌, ℕ, List, MatchBool, Bool, true, false, length, drop, take, zero, suc, ◌-◌, get_or, ap, refl, sym, subst, subst₂, ◌∙◌, append_assoc, append-nil, arith}
 use Rattle.std.specs.List.{All, AllWithin, AllZip, between, flat_map}
 use Rattle.std.proofs.lemmas.Bool.{cases_lt, false≢true}
-use Rattle.std.proofs.lemmas.List.{drop_all, get_or-drop, length-append, length-drop}
+use Rattle.std.proofs.lemmas.List.{drop_all, get_or-drop, length-append, length-drop, take_all, take_more}
 use Rattle.std.proofs.lemmas.List.Edits.{get_or-between, length-between}
 use Rattle.std.proofs.lemmas.List.Elements.{All-append, All-cons, All-nil}
 use Rattle.std.proofs.lemmas.List.Folds.{drop_split}
@@ -11,13 +11,14 @@ use Rattle.plane.specs.declared.point.Point.{Point}
 use Rattle.overlay.specs.declared.fill.rules.FillRule.{FillRule}
 use Rattle.noding.specs.Offsets.{offsets}
 use Rattle.noding.specs.Windings.{pieces}
-use Rattle.noding.proofs.ChainLemmas.Zips.{AllZip-at}
+use Rattle.noding.proofs.ChainLemmas.Zips.{AllZip-at, AllZip-more}
 use Rattle.layers.specs.declared.lines.Keep.{Keep}
 use Rattle.overlay.specs.Polygons.{AreAppended}
 use Rattle.layers.specs.LineParts.{AreRunsBy, AreRunsOfEach, AreTold, IsPath, points_along}
 use Rattle.layers.specs.Lines.{AreRuns, IsKept}
 use Rattle.layers.specs.Shapes.{lists_of}
-use Rattle.layers.proofs.ListLemmas.{length-offsets}
+use Rattle.noding.proofs.ChainLemmas.Standing.{length-offsets}
+use Rattle.layers.proofs.ListLemmas.{length-lists_of, lists_of-at}
 use Rattle.layers.proofs.LineLemmas.Paths.{IsPath-between, length-along, pieces-along}
 
 module _ (Kept : Edge → Type 0) where
@@ -171,30 +172,32 @@ zip-drop R (suc n) (x ∷ xs) (y ∷ ys) zip = zip-drop R n xs ys zip.1
 zip-drop R (suc n) [] (y ∷ ys) zip = absurd zip
 zip-drop R (suc n) (x ∷ xs) [] zip = absurd zip
 
--- What runs the lists left have, those told so far go on with them.
-abbrev pub GoOnEach : List Bool → List Edge → List ℕ → ℕ → List ℕ → List (List (List Point)) → Type 0
-GoOnEach flags edges ends start left clipped =
-    (rule : FillRule) (keep : Keep) (rings : List Edge) → AreTold rule keep rings edges flags → (later : List (List (List Point))) → AllZip (AreRuns (IsKept rule keep rings)) (lists_of edges start left) later
-    → AllZip (AreRuns (IsKept rule keep rings)) (lists_of edges 0 ends) (clipped ++ later)
+-- The runs of each of the first so many of these lists.
+abbrev pub AreRunsUpto : ℕ → List Bool → List Edge → List ℕ → List (List (List Point)) → Type 0
+AreRunsUpto upto flags edges ends clipped =
+    (rule : FillRule) (keep : Keep) (rings : List Edge) → AreTold rule keep rings edges flags → AllZip (AreRuns (IsKept rule keep rings)) (take upto (lists_of edges 0 ends)) clipped
 
 module _ (edges : List Edge) (flags : List Bool) (ends : List ℕ) where
-  pub each-begin : GoOnEach flags edges ends 0 ends []
-  each-begin rule keep rings told later are = are
+  pub upto-none : AreRunsUpto 0 flags edges ends []
+  upto-none rule keep rings told = tt
 
-  pub each-more : (start end : ℕ) (left rest : List ℕ) (clipped : List (List (List Point))) (runs : List (List Point)) → left ≡ end ∷ rest → AreRunsBy (between start end flags) (between start end edges) runs
-      → GoOnEach flags edges ends start left clipped → GoOnEach flags edges ends end rest (clipped ++ runs ∷ [])
-  each-more start end left rest clipped runs is are go rule keep rings told later others =
+  pub upto-more : (k : ℕ) (clipped : List (List (List Point))) (runs : List (List Point)) → k < length ends → AreRunsBy (get_or (lists_of flags 0 ends) k []) (get_or (lists_of edges 0 ends) k []) runs
+      → AreRunsUpto k flags edges ends clipped → AreRunsUpto (k + 1) flags edges ends (clipped ++ runs ∷ [])
+  upto-more k clipped runs inside are so_far rule keep rings told =
       let Kept = IsKept rule keep rings in
       let Tells : Edge → Bool → Type 0 = λ edge flag. MatchBool flag (Kept edge) (¬ (Kept edge)) in
-      let here = are rule keep rings (zip-take Tells (end - start) (drop start edges) (drop start flags) (zip-drop Tells start edges flags told)) in
-      subst (λ (list : List (List (List Point))). AllZip (AreRuns Kept) (lists_of edges 0 ends) list) (sym (append_assoc clipped (runs ∷ []) later))
-      (go rule keep rings told (runs ∷ later) (subst (λ (stops : List ℕ). AllZip (AreRuns Kept) (lists_of edges start stops) (runs ∷ later)) (sym is) (here, others)))
+      let start = get_or (0 ∷ ends) k 0 in
+      let end = get_or ends k 0 in
+      let here : AllZip Tells (get_or (lists_of edges 0 ends) k []) (get_or (lists_of flags 0 ends) k []) =
+      subst₂ (λ (some : List Edge) (marks : List Bool). AllZip Tells some marks) (sym (lists_of-at edges 0 ends k inside)) (sym (lists_of-at flags 0 ends k inside))
+      (zip-take Tells (end - start) (drop start edges) (drop start flags) (zip-drop Tells start edges flags told)) in
+      subst (λ (lists : List (List Edge)). AllZip (AreRuns Kept) lists (clipped ++ runs ∷ [])) (sym (take_more (lists_of edges 0 ends) k [] (let size = length-lists_of edges 0 ends in omega (arith, size, inside))))
+      (AllZip-more (AreRuns Kept) (take k (lists_of edges 0 ends)) clipped (get_or (lists_of edges 0 ends) k []) runs (so_far rule keep rings told) (are rule keep rings here))
 
-  pub each-end : (start : ℕ) (left : List ℕ) (clipped : List (List (List Point))) → left ≡ [] → GoOnEach flags edges ends start left clipped → AreRunsOfEach flags edges ends clipped
-  each-end start left clipped none go rule keep rings told =
-      let Kept = IsKept rule keep rings in
-      subst (λ (list : List (List (List Point))). AllZip (AreRuns Kept) (lists_of edges 0 ends) list) (append-nil clipped)
-      (go rule keep rings told [] (subst (λ (stops : List ℕ). AllZip (AreRuns Kept) (lists_of edges start stops) []) (sym none) tt))
+  pub upto-all : (k : ℕ) (clipped : List (List (List Point))) → length ends ≤ k → AreRunsUpto k flags edges ends clipped → AreRunsOfEach flags edges ends clipped
+  upto-all k clipped past so_far rule keep rings told =
+      let lists = lists_of edges 0 ends in
+      subst (λ (some : List (List Edge)). AllZip (AreRuns (IsKept rule keep rings)) some clipped) (take_all k lists (let size = length-lists_of edges 0 ends in omega (arith, size, past))) (so_far rule keep rings told)
 
 -- the pieces of one line more
 pub AreAppended-line : (runs : List (List Point)) (points points' : List Point) (piece_ends piece_ends' line_ends line_ends' : List ℕ) → points' ≡ points ++ flat_map (λ run. run) runs

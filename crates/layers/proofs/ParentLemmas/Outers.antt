@@ -13,7 +13,9 @@ use Rattle.layers.specs.Around.{halved}
 use Rattle.layers.specs.Parents.{AreOuters, middle_of, outer_of}
 use Rattle.layers.specs.Shapes.{lists_of, shape_edges, start_of}
 use Rattle.layers.specs.declared.around.half_point.HalfPoint.{HalfPoint}
-use Rattle.layers.proofs.ListLemmas.{between-none, flat_map-append, length-offsets, lists_of-at, offsets-append}
+use Rattle.std.proofs.lemmas.List.Concat.{flat_map-append}
+use Rattle.noding.proofs.ChainLemmas.Standing.{length-offsets}
+use Rattle.layers.proofs.ListLemmas.{between-none, lists_of-at, offsets-append}
 
 -- ---- the outer ring at a place
 
@@ -66,14 +68,6 @@ module _ {X Y : Type 0} (f : X → Y) where
   pub flat_map-alone : (xs : List X) → flat_map (λ list. list) (map (λ x. f x ∷ []) xs) ≡ map f xs
   flat_map-alone [] = refl
   flat_map-alone (x ∷ xs) = ap (λ (rest : List Y). f x ∷ rest) (flat_map-alone xs)
-
--- none
-pub AreOuters-none : (points : List Point) (ring_ends shape_ends : List ℕ) (middles : List HalfPoint) → points ≡ [] → ring_ends ≡ [] → shape_ends ≡ [] → middles ≡ [] → AreOuters [] points ring_ends shape_ends middles
-AreOuters-none points ring_ends shape_ends middles no_points no_rings no_shapes no_middles = record {
-  joined = (no_points, no_rings);
-  alone = no_shapes;
-  middles_are = ap (λ (all : List HalfPoint). map halved all) no_middles;
-}
 
 -- one more
 pub AreOuters-more : (polygons : List (List (List Point))) (polygon : List (List Point)) (points points' : List Point) (ring_ends ring_ends' shape_ends shape_ends' : List ℕ) (middles middles' : List HalfPoint) (middle : HalfPoint)

@@ -14,7 +14,8 @@ use std::alloc::{AllocError, Allocator};
 // A chain has so many points at most.
 const CHAIN_POINTS: usize = 16;
 
-/// Edges of the shape at a place: from each of these points to the next, and from the last to the end. No point lies beyond the bounds.
+/// Edges of the shape at a place: from each of these points to the next, and from the last to the end. No point lies beyond the
+/// bounds.
 #[derive(Clone, Copy)]
 pub struct Chain<'a> {
     pub shape: usize,
@@ -76,6 +77,7 @@ pub fn chains_of<'a, A: Allocator>(
     ensures { IfOk result (λ chains. AreChainsOf (edges_of_each shapes.entry) chains.items) }
 {
     let mut chains = Vec::new(alloc);
+    // The chains are of the shapes before this one, and have all of their edges.
     for shape in 0..shapes.shape_ends.len() {
         append_shape(shapes, shape, &mut chains)?;
     }
@@ -94,6 +96,7 @@ fn append_shape<'a, A: Allocator>(
         chains.old.items chains.new.items) }
 {
     let (first, behind) = range_at(shapes.shape_ends, shape);
+    // The chains of the rings before this one are appended.
     for ring in first..behind {
         append_ring(
             list_at(shapes.points, shapes.ring_ends, ring),
@@ -116,6 +119,7 @@ fn append_ring<'a, A: Allocator>(
         return Ok(());
     }
     let mut start = 0;
+    // The edges from the points before `start` on are in chains.
     while ring.len() - start > CHAIN_POINTS {
         let end = start + CHAIN_POINTS;
         chains.push(chain_of(shape, &ring[start..end], ring[end]))?;

@@ -84,14 +84,15 @@ pub fn extent_of(group: &[Placed]) -> Extent
         low: i64::MAX,
         high: i64::MIN,
     };
+    // No point so far lies beyond a side.
     for placed in group {
-        extent = widened(extent, placed.point);
+        extent = grown(extent, placed.point);
     }
     extent
 }
 
 // The least box that has this one and the point.
-fn widened(extent: Extent, point: HalfPoint) -> Extent
+fn grown(extent: Extent, point: HalfPoint) -> Extent
     ensures before { (other : HalfPoint) → IsInExtent extent other → IsInExtent result other }
     ensures point { IsInExtent result point }
 {

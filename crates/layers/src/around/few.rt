@@ -26,6 +26,7 @@ pub fn append_of_few<A: Allocator>(
     ensures { OnOk result (Gains (LiesInChains rule border group.now chains.now) pairs.old.items pairs.new.items) }
 {
     let mut start = 0;
+    // The pairs of the shapes whose chains stand before `start` are told, and there the next shape begins.
     while start < chains.len() {
         let shape = chains[start].shape;
         let end = start + count_of_shape(&chains[start..], shape);
@@ -64,6 +65,7 @@ fn append_of_shape<A: Allocator>(
         (λ i j. (j ≡ shape) × LiesAmong rule border group.now (edges_of_chains chains.now) i)
         pairs.old.items pairs.new.items) }
 {
+    // The pairs of the points so far are told.
     for placed in group {
         append_if_in(*placed, chains, shape, rule, border, pairs)?;
     }
@@ -99,6 +101,7 @@ fn lies_in(point: HalfPoint, chains: &[Chain], rule: FillRule, border: Border) -
         turns: 0,
         touches: false,
     };
+    // What the edges of the chains so far do.
     for chain in chains {
         around = both(around, around_chain(*chain, point));
     }

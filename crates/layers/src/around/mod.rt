@@ -29,7 +29,8 @@ use std::alloc::{AllocError, Allocator};
 
 /// Appends the pairs of places of a point and of a shape in which it lies: each once, by point, and then by shape.
 ///
-/// The shapes' ends have to be right, as `are_shapes` tells. It is refused for want of memory alone, and leaves `out` as it was then.
+/// The shapes' ends have to be right, as `are_shapes` tells. It is refused for want of memory alone, and leaves `out` as it was
+/// then.
 pub fn append_pairs_in<A: Allocator + Copy>(
     points: &[HalfPoint],
     shapes: Shapes,

@@ -9,8 +9,8 @@ use std::alloc::{AllocError, Allocator};
 
 /// Chains that wind around each point of the box, shape by shape, as often as these, and go through it where these do.
 ///
-/// A chain that lies apart goes, and chains below that lead from one to the next become one edge. So what is left lies near the box,
-/// or leads to what does.
+/// A chain that lies apart goes, and chains below that lead from one to the next become one edge. So what is left lies near the
+/// box, or leads to what does.
 pub fn narrowed<'a, A: Allocator>(
     alloc: A,
     chains: &[Chain<'a>],
@@ -21,6 +21,7 @@ pub fn narrowed<'a, A: Allocator>(
     ensures order { IfOk result (λ kept. AreInOrder kept.items) }
 {
     let mut kept = Vec::new(alloc);
+    // Shape by shape those that are kept wind around each point of the box as often as the chains so far.
     for chain in chains {
         append_near(*chain, extent, &mut kept)?;
     }
@@ -48,7 +49,8 @@ fn append_near<'a, A: Allocator>(
     Ok(())
 }
 
-// Appends the edge from the start of a chain below the box to its end, or puts both in the place of the last chain, where that leads to it.
+// Appends the edge from the start of a chain below the box to its end, or puts both in the place of the last chain, where that
+// leads to it.
 fn append_below<'a, A: Allocator>(
     chain: Chain<'a>,
     extent: Extent,

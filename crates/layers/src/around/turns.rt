@@ -2,7 +2,8 @@
 
 ghost use Rattle.std.specs.Prelude.{◌≡◌, ◌≤ℤ◌, ◌+ℤ◌, ◌^◌, ◌||◌, ◌∷◌, [], pos};
 ghost use Rattle.plane.specs.Meet.Crosses.{IsWithin};
-ghost use Rattle.noding.specs.Windings.{edge_between, count};
+ghost use Rattle.plane.specs.Ends.{edge_between};
+ghost use Rattle.noding.specs.Windings.{count};
 ghost use Rattle.layers.specs.Around.{halved};
 ghost use Rattle.layers.specs.Chains.{IsAround, IsBounded, chain_edges, is_under_side, side_of, steps_over};
 
@@ -11,7 +12,7 @@ use super::extents::{extent_at, twice};
 use super::half_point::HalfPoint;
 use crate::boxes::{box_at, grown};
 use plane::point::Point;
-use plane::ways::product;
+use plane::vectors::product;
 
 /// How often edges wind around a point, and whether one goes through it.
 #[derive(Clone, Copy)]
@@ -50,6 +51,7 @@ fn around_edges(chain: Chain, point: HalfPoint) -> Around
         turns: 0,
         touches: false,
     };
+    // What the edges from the points before this place on do.
     for place in 0..chain.points.len() {
         let edge = around_edge(chain.point_at(place), chain.point_at(place + 1), point);
         around = both(around, edge);

@@ -5,24 +5,26 @@ ghost use Rattle.std.specs.List.{flat_map};
 ghost use Rattle.i_tree.specs.declared.Refusal.TheVariants.{OutOfMemory};
 ghost use Rattle.plane.specs.declared.point.Point.{Point};
 ghost use Rattle.overlay.specs.Boundary.{AllSome, StopSome};
-ghost use Rattle.overlay.specs.Contours.Rings.{real_edges};
 ghost use Rattle.noding.specs.Offsets.{offsets};
-ghost use Rattle.noding.specs.Windings.{edge_between, pieces};
+ghost use Rattle.noding.specs.Windings.{pieces};
 ghost use Rattle.overlay.specs.Rings.{HasEnds, rings_of};
 ghost use Rattle.layers.specs.LineParts.{AreBrokenEdges, AreGathered, real_ring};
 ghost use Rattle.layers.specs.Lines.{HasLines, line_edges, lines_of};
 
 use super::Lines;
+use crate::shapes::list_at;
 use i_tree::Refusal;
 use noding::pieces::pieces_of;
 use noding::snap;
 use overlay::Rings;
+use overlay::boundary::broken::count_pieces;
+use overlay::rings::{append_real_ones, push_real, ring_at};
 use plane::edge::Edge;
 use plane::point::Point;
 use std::alloc::{AllocError, Allocator};
 
-/// What the edges of lines and of rings are broken into: those of each line, one line after another, and then those of each ring; how
-/// many are the lines'; where those of each line stop; and where those of each ring stop among the rings'.
+/// What the edges of lines and of rings are broken into: those of each line, one line after another, and then those of each ring;
+/// how many are the lines'; where those of each line stop; and where those of each ring stop among the rings'.
 #[derive(Drop)]
 pub struct BrokenEdges<A: Allocator> {
     pub edges: Vec<Edge, A>,
@@ -94,11 +96,10 @@ fn append_lines<A: Allocator>(
     ensures edges { OnOk result (edges.new.items ≡ edges.old.items ++ flat_map line_edges (lines_of lines.entry)) }
     ensures ends { OnOk result (ends.new.items ≡ ends.old.items ++ offsets (length edges.old.items) (map line_edges (lines_of lines.entry))) }
 {
-    let mut start = 0;
-    for end in lines.ends {
-        append_line(&lines.points[start..*end], edges)?;
+    // The edges of the lines before this one are appended, and where those of each stop.
+    for line in 0..lines.ends.len() {
+        append_line(list_at(lines.points, lines.ends, line), edges)?;
         ends.push(edges.len())?;
-        start = *end;
     }
     Ok(())
 }
@@ -114,11 +115,10 @@ fn append_rings<A: Allocator>(
     ensures ends { OnOk result (ends.new.items ≡ ends.old.items
         ++ offsets (length edges.old.items) (map real_ring (rings_of rings.entry.points.now 0 rings.entry.ends.now))) }
 {
-    let mut start = 0;
-    for end in rings.ends {
-        append_ring(&rings.points[start..*end], edges)?;
+    // The edges of the rings before this one are appended, and where those of each stop.
+    for ring in 0..rings.ends.len() {
+        append_real_ones(ring_at(rings.points, rings.ends, ring), edges)?;
         ends.push(edges.len())?;
-        start = *end;
     }
     Ok(())
 }
@@ -127,38 +127,9 @@ fn append_rings<A: Allocator>(
 fn append_line<A: Allocator>(line: &[Point], edges: &mut Vec<Edge, A>) -> Result<(), AllocError>
     ensures { OnOk result (edges.new.items ≡ edges.old.items ++ line_edges line.now) }
 {
+    // The edges so far that go from one point to another are appended.
     for pair in line.windows(2) {
         push_real(pair[0], pair[1], edges)?;
-    }
-    Ok(())
-}
-
-// Appends the edges of the ring that go from one point to another.
-fn append_ring<A: Allocator>(ring: &[Point], edges: &mut Vec<Edge, A>) -> Result<(), AllocError>
-    ensures { OnOk result (edges.new.items ≡ edges.old.items ++ real_ring ring.now) }
-{
-    if ring.is_empty() {
-        return Ok(());
-    }
-    append_line(ring, edges)?;
-    push_real(ring[ring.len() - 1], ring[0], edges)
-}
-
-// Appends the edge from the one point to the other, where they are two.
-fn push_real<A: Allocator>(
-    from: Point,
-    to: Point,
-    edges: &mut Vec<Edge, A>,
-) -> Result<(), AllocError>
-    ensures { OnOk result (edges.new.items ≡ edges.old.items ++ real_edges (edge_between from to ∷ [])) }
-{
-    if from.x != to.x || from.y != to.y {
-        edges.push(Edge {
-            x0: from.x,
-            y0: from.y,
-            x1: to.x,
-            y1: to.y,
-        })?;
     }
     Ok(())
 }
@@ -178,18 +149,6 @@ fn counts_of<A: Allocator>(
         counts.push(count_pieces(chain_ends, *number))?;
     }
     Ok(counts)
-}
-
-// How many pieces the first so many chains have: each has one less than it has points.
-fn count_pieces(chain_ends: &[usize], number: usize) -> usize
-    requires { StopSome chain_ends.now number }
-    ensures { (chains : List (List Point)) → chain_ends.now ≡ offsets 0 chains → AllSome chains
-        → result ≡ length (flat_map pieces (take number chains)) }
-{
-    if number == 0 {
-        return 0;
-    }
-    chain_ends[number - 1] - number
 }
 
 // The ends of lists, without so many items before the first.

@@ -3,16 +3,17 @@
 ghost use Rattle.std.specs.Prelude.{◌≡◌, ◌≢◌, ◌<◌, ◌≤◌, ◌++◌, Bool, List, All, OnErr, OnOk, get_or, length, map};
 ghost use Rattle.std.specs.List.{AllWithin, flat_map};
 ghost use Rattle.plane.specs.declared.point.Point.{Point};
-ghost use Rattle.noding.specs.Offsets.{Extends, offsets};
-ghost use Rattle.noding.specs.Windings.{end_of};
+ghost use Rattle.plane.specs.Lists.{Extends};
+ghost use Rattle.plane.specs.Ends.{end_of};
+ghost use Rattle.noding.specs.Offsets.{offsets};
 ghost use Rattle.overlay.specs.Rings.{AreEnds};
 ghost use Rattle.layers.specs.LineParts.{AreRunsBy, AreRunsOfEach, IsPath, points_along};
 ghost use Rattle.layers.specs.Lines.{Appends, AreExtended};
 ghost use Rattle.layers.specs.Shapes.{lists_of};
 
 use super::Pieces;
-use noding::edges::{end_of, start_of};
-use plane::edge::Edge;
+use crate::shapes::list_at;
+use plane::edge::{Edge, end_of, start_of};
 use plane::point::Point;
 use std::alloc::{AllocError, Allocator};
 
@@ -30,16 +31,15 @@ pub fn append_pieces<A: Allocator>(
         × AreRunsOfEach kept.now edges.now ends.now clipped) }
     ensures err { OnErr result (AreExtended out.old out.new) }
 {
-    let mut start = 0;
-    for end in ends {
+    // The runs of the lines before this one are appended, and where those of each stop.
+    for line in 0..ends.len() {
         append_runs(
-            &edges[start..*end],
-            &kept[start..*end],
+            list_at(edges, ends, line),
+            list_at(kept, ends, line),
             &mut out.points,
             &mut out.piece_ends,
         )?;
         out.line_ends.push(out.piece_ends.len())?;
-        start = *end;
     }
     Ok(())
 }
@@ -59,6 +59,7 @@ fn append_runs<A: Allocator>(
     ensures err { OnErr result (Extends points.old.items points.new.items × Extends ends.old.items ends.new.items) }
 {
     let mut next = place_of(kept, true, 0);
+    // The runs before `next` are appended, and there one begins, if there are more.
     while next < edges.len() {
         let end = place_of(kept, false, next);
         append_points(&edges[next..end], points)?;
@@ -77,6 +78,7 @@ fn place_of(flags: &[bool], flag: bool, start: usize) -> usize
     ensures found { (default : Bool) → result < length flags.now → get_or flags.now result default ≡ flag }
 {
     let mut place = start;
+    // From the start up to this place the flag doesn't stand.
     while place < flags.len() && flags[place] != flag {
         place += 1;
     }

@@ -3,8 +3,8 @@
 ghost use Rattle.std.specs.Prelude.{◌≡◌, ◌<◌, ◌^◌, ◌+ℤ◌, All, IfOk, List, length, map};
 ghost use Rattle.plane.specs.declared.edge.Edge.{Edge};
 ghost use Rattle.plane.specs.Meet.Crosses.{IsWithin};
+ghost use Rattle.plane.specs.Ends.{start_of};
 ghost use Rattle.noding.specs.Offsets.{AreJoined};
-ghost use Rattle.noding.specs.Windings.{start_of};
 ghost use Rattle.layers.specs.Around.{halved};
 ghost use Rattle.layers.specs.LineParts.{AreMarked, AreTold, IsLoop, mark_of};
 ghost use Rattle.layers.specs.Lines.{middle};
@@ -13,14 +13,13 @@ use super::Keep;
 use crate::around::{HalfPoint, append_pairs_in};
 use crate::points::Border;
 use crate::shapes::Shapes;
-use noding::edges::start_of;
 use overlay::fill::FillRule;
-use plane::edge::Edge;
+use plane::edge::{Edge, start_of};
 use plane::point::Point;
 use std::alloc::{AllocError, Allocator};
 
-/// Whether each of the edges is kept: whether its middle lies in the shape of the rings, or doesn't. The ends tell where the edges of
-/// each ring stop, which lead back to where they begin.
+/// Whether each of the edges is kept: whether its middle lies in the shape of the rings, or doesn't. The ends tell where the
+/// edges of each ring stop, which lead back to where they begin.
 pub fn kept_edges<A: Allocator + Copy>(
     alloc: A,
     edges: &[Edge],
@@ -101,6 +100,7 @@ fn marks_of<A: Allocator>(
     ensures { IfOk result (λ flags. AreMarked pairs.now mark count flags.items) }
 {
     let mut flags = vec![in alloc; !mark; count]?;
+    // The mark stands at the first places of the pairs so far, and the other flag elsewhere.
     for (place, _) in pairs {
         flags[*place] = mark;
     }

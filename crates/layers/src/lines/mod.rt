@@ -25,8 +25,8 @@ use std::alloc::Allocator;
 /// Lines: the points of all of them, one line after another, and where each stops among these. Points behind the last end are of no
 /// line.
 ///
-/// A line goes from each of its points to the next one. It may cross itself and others, lie along them, end where it begins, stand on
-/// a point for a while, and have one point or none.
+/// A line goes from each of its points to the next one. It may cross itself and others, lie along them, end where it begins,
+/// stand on a point for a while, and have one point or none.
 #[derive(Clone, Copy, Debug)]
 pub struct Lines<'a> {
     pub points: &'a [Point],
@@ -72,9 +72,9 @@ impl<A: Allocator + Copy> Pieces<A> {
 ///
 /// Lines and rings are broken together where they meet, and what they are broken into has whole ends again, within half a unit of
 /// them on both axes (`noding::snap`). Such a part of a line lies inside where its middle does: where the parts of the rings wind
-/// around it as the rule wants it, or where it lies on one of them. So what goes along a ring counts as inside. Parts that follow each
-/// other are one piece, as long as they are kept, also across the line's own points. So each part of a line is in just one piece of
-/// those inside and those outside, and a piece ends where the line does or goes over to the other side.
+/// around it as the rule wants it, or where it lies on one of them. So what goes along a ring counts as inside. Parts that follow
+/// each other are one piece, as long as they are kept, also across the line's own points. So each part of a line is in just one
+/// piece of those inside and those outside, and a piece ends where the line does or goes over to the other side.
 ///
 /// A piece has two points at least, and goes the way of its line. It has those points of its line, and also those at which another
 /// line or ring breaks the line within the piece. A line that has fewer than two points has no piece, nor has one that stands on a

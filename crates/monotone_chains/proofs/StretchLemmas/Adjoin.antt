@@ -1,18 +1,16 @@
 -- Where clear stretches adjoin.
-use Rattle.std.proofs.Common.{◌≡◌, ◌⊎◌, inl, inr, ⊎_elim, pos, ℤ, ◌+ℤ◌, ◌-ℤ◌, ◌*ℤ◌, ◌≤ℤ◌, List, refl, ap, arith}
+use Rattle.std.proofs.Common.{◌≡◌, ◌⊎◌, inl, inr, ⊎_elim, ℤ, ◌≤ℤ◌, List, refl, ap, arith}
 use Rattle.std.specs.List.{Contains}
 use Rattle.std.proofs.lemmas.Int.{ints}
 use Rattle.plane.specs.declared.edge.Edge.{Edge}
 use Rattle.plane.specs.declared.point.Point.{Point}
 use Rattle.plane.specs.Meet.Edges.{RationalPoint}
-use Rattle.plane.proofs.MeetLemmas.Identities.{identity, minus, number, plus, times}
 use Rattle.noding.specs.Chains.{Passes}
 use Rattle.monotone_chains.specs.Stretches.{AreClear, GoesOn, IsStretch, chord}
-use Rattle.noding.proofs.SnapLemmas.Numbers.{n_of}
 use Rattle.noding.proofs.SnapLemmas.Rounding.{whole}
 use Rattle.monotone_chains.proofs.StretchLemmas.Apart.{hulls-differ}
 use Rattle.monotone_chains.proofs.StretchLemmas.Boxes.{BoxHas, IsTip, box-passed, outmost-tip, passed-near}
-use Rattle.noding.proofs.SnapLemmas.Hulls.{IsInHull, IsNearHull}
+use Rattle.noding.proofs.SnapLemmas.Hulls.{IsNearHull}
 use Rattle.monotone_chains.proofs.StretchLemmas.Placed.{LiesIn}
 
 -- what is near the hulls of both is where one goes on as the other
@@ -83,26 +81,6 @@ passed-adjoin s t is is_too clear x y passes passes_too =
     ⊎_elim (λ goes. adjoin-on s t is is_too x goes) (λ back. Adjoin-exchanged t s x (adjoin-on t s is_too is x back)) (passed-goes s t is is_too clear x y passes passes_too)
 
 -- ---- by columns
-
--- where one goes on as the other, the hull of the one doesn't reach beyond that column, and that of the other begins there
-pub hull-left : (s t : List Point) (goes : GoesOn s t) (point : RationalPoint) → IsInHull s point → point.x ≤ℤ (pos point.n *ℤ goes.at.x)
-hull-left s t goes point inside =
-    let most = inside (pos 1) (pos 0) goes.at.x (λ p held. upto p.x p.y goes.at.x (⊎_elim (λ same. let e = ap (λ (q : Point). q.x) same in omega (arith, ints, e)) (λ less. omega (arith, ints, less)) (goes.left p held))) in
-    let same = identity (plus (times (n_of 1) (number point.x)) (times (n_of 0) (number point.y))) (number point.x) (omega arith) in
-    omega (arith, ints, most, same)
-  where
-    upto : (x y c : ℤ) → x ≤ℤ c → ((pos 1 *ℤ x) +ℤ (pos 0 *ℤ y)) ≤ℤ c
-    upto x y c less = let same = identity (plus (times (n_of 1) (number x)) (times (n_of 0) (number y))) (number x) (omega arith) in omega (arith, ints, less, same)
-
-pub hull-right : (s t : List Point) (goes : GoesOn s t) (point : RationalPoint) → IsInHull t point → (pos point.n *ℤ goes.at.x) ≤ℤ point.x
-hull-right s t goes point inside =
-    let most = inside (pos 0 -ℤ pos 1) (pos 0) (pos 0 -ℤ goes.at.x) (λ p held. from p.x p.y goes.at.x (⊎_elim (λ same. let e = ap (λ (q : Point). q.x) same in omega (arith, ints, e)) (λ less. omega (arith, ints, less)) (goes.right p held))) in
-    let same = identity (plus (times (minus (n_of 0) (n_of 1)) (number point.x)) (times (n_of 0) (number point.y))) (minus (n_of 0) (number point.x)) (omega arith) in
-    let scale = identity (times (n_of point.n) (minus (n_of 0) (number goes.at.x))) (minus (n_of 0) (times (n_of point.n) (number goes.at.x))) (omega arith) in
-    omega (arith, ints, most, same, scale)
-  where
-    from : (x y c : ℤ) → c ≤ℤ x → (((pos 0 -ℤ pos 1) *ℤ x) +ℤ (pos 0 *ℤ y)) ≤ℤ (pos 0 -ℤ c)
-    from x y c more = let same = identity (plus (times (minus (n_of 0) (n_of 1)) (number x)) (times (n_of 0) (number y))) (minus (n_of 0) (number x)) (omega arith) in omega (arith, ints, more, same)
 
 -- so what lies along the other begins there, too
 pub lies-right : (s t : List Point) → IsStretch t → (goes : GoesOn s t) (edge : Edge) → LiesIn t edge → (goes.at.x ≤ℤ edge.x0) × (goes.at.x ≤ℤ edge.x1)

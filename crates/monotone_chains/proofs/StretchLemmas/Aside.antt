@@ -11,7 +11,8 @@ use Rattle.plane.specs.Meet.Edges.{RationalPoint}
 use Rattle.plane.proofs.MeetLemmas.Identities.{identity, minus, number, plus, scaled, times}
 use Rattle.overlay.specs.Contours.Outlines.{ring_point}
 use Rattle.noding.specs.Chains.{Passes}
-use Rattle.noding.specs.Windings.{end_of, start_of, further}
+use Rattle.plane.specs.Ends.{end_of, start_of}
+use Rattle.noding.specs.Windings.{further}
 use Rattle.monotone_chains.specs.Stretches.{AreApart, AreClear, GoesOn, IsStretch, chord}
 use Rattle.noding.proofs.SnapLemmas.Numbers.{n_of}
 use Rattle.monotone_chains.proofs.StretchLemmas.Adjoin.{lies-left, lies-right}

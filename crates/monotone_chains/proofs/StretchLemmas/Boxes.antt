@@ -12,7 +12,7 @@ use Rattle.plane.specs.Meet.Edges.{IsOf, RationalPoint}
 use Rattle.overlay.specs.Contours.Outlines.{ring_point}
 use Rattle.noding.specs.Chains.{IsEnd, Passes}
 use Rattle.noding.specs.Close.{InBox}
-use Rattle.noding.specs.Windings.{edge_between, end_of, start_of}
+use Rattle.plane.specs.Ends.{edge_between, end_of, start_of}
 use Rattle.monotone_chains.specs.Stretches.{AreClear, Falls, IsLong, IsStretch, Rises, chord}
 use Rattle.noding.proofs.SnapLemmas.Along.{Passes-in_box, from_at, point_at}
 use Rattle.noding.proofs.SnapLemmas.Near.{IsNear-piece}
@@ -181,15 +181,6 @@ IsEnd-tip s p (inr is) = inr (ap (λ (q : Point). q.x) is, ap (λ (q : Point). q
 pub tip-IsEnd : (s : List Point) (p : Point) → IsEnd (chord s) p.x p.y → IsTip s p
 tip-IsEnd s p (inl (is_x, is_y)) = inl (ap₂ point_at is_x is_y)
 tip-IsEnd s p (inr (is_x, is_y)) = inr (ap₂ point_at is_x is_y)
-
--- its points lie in its box, and so do those ends
-pub box-held : (s : List Point) (p : Point) → Contains s p → BoxHas s p.x p.y
-box-held s p held = record {
-  left = (p, held, omega (arith, ints));
-  right = (p, held, omega (arith, ints));
-  low = (p, held, omega (arith, ints));
-  high = (p, held, omega (arith, ints));
-}
 
 pub tip-held : (s : List Point) → IsStretch s → (p : Point) → IsTip s p → Contains s p
 tip-held s is p (inl same) = subst (Contains s) (sym same) (chord-from s is)

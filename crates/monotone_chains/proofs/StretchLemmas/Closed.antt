@@ -5,7 +5,8 @@ use Rattle.std.proofs.lemmas.List.Elements.{All-head, All-tail}
 use Rattle.std.proofs.lemmas.List.Sums.{sum_by-cons}
 use Rattle.plane.specs.declared.edge.Edge.{Edge}
 use Rattle.plane.specs.declared.point.Point.{Point}
-use Rattle.noding.specs.Windings.{IsClosed, end_of, pieces, start_of}
+use Rattle.plane.specs.Ends.{end_of, start_of}
+use Rattle.noding.specs.Windings.{IsClosed, pieces}
 use Rattle.monotone_chains.specs.Stretches.{IsStretch, chord}
 use Rattle.overlay.proofs.ContourLemmas.Counts.{along, ends, ends-append, starts, starts-append, unit}
 use Rattle.monotone_chains.proofs.StretchLemmas.Ways.{chord-way}

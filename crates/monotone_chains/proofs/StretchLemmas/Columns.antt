@@ -8,7 +8,8 @@ use Rattle.plane.specs.declared.point.Point.{Point}
 use Rattle.plane.specs.Meet.Edges.{RationalPoint}
 use Rattle.plane.proofs.MeetLemmas.Identities.{identity, number, plus, scaled, times}
 use Rattle.overlay.specs.Contours.Outlines.{ring_point}
-use Rattle.noding.specs.Windings.{end_of, pieces, reversed, start_of, winding, count}
+use Rattle.plane.specs.Ends.{end_of, reversed, start_of}
+use Rattle.noding.specs.Windings.{pieces, winding, count}
 use Rattle.monotone_chains.specs.Stretches.{Rises, chord}
 use Rattle.noding.proofs.SnapLemmas.Counted.{counted, is_low}
 use Rattle.noding.proofs.SnapLemmas.Heights.{Covering}

@@ -1,18 +1,17 @@
 -- What the code that cuts parts anew asks, as lemmas over plain variables.
-use Rattle.std.proofs.Common.{◌≡◌, ◌⊎◌, inl, inr, ℕ, ◌≤◌, Bool, true, false, List, [], ◌++◌, length, get_or, take, drop, sym, ap, ap₂, ◌∙◌, subst, subst₂, arith}
+use Rattle.std.proofs.Common.{◌≡◌, ◌⊎◌, inl, inr, ℕ, ◌≤◌, Bool, true, false, List, ◌++◌, length, get_or, take, drop, sym, ap, ap₂, ◌∙◌, subst, arith}
 use Rattle.std.specs.List.{All, AllPairs, AllZip}
 use Rattle.std.proofs.Math.Seq.{drop-append_seam, take-append_seam}
 use Rattle.std.proofs.lemmas.List.{length-append, length-take-le, take-append-drop}
 use Rattle.plane.specs.declared.edge.Edge.{Edge}
 use Rattle.monotone_chains.specs.Stretches.{AreApart, AreClear, IsLong}
-use Rattle.monotone_chains.specs.Stretches.Cut.{AreCut, AreRefined, AreRelieved, AreSettled, IsPart, IsSettled, edges_along, way}
+use Rattle.monotone_chains.specs.Stretches.Cut.{AreCut, IsRound, IsPart, IsSettled, edges_along, way}
 use Rattle.monotone_chains.specs.declared.stretches.parts.Part.{Part}
 use Rattle.overlay.proofs.BoundaryLemmas.Broken.{zip-back, zip-front}
 use Rattle.noding.proofs.ChainLemmas.Offsets.{joined}
-use Rattle.noding.proofs.ChainLemmas.Zips.{AllZip-length}
 use Rattle.monotone_chains.proofs.StretchLemmas.CutGroups.{AreStretches-ways, clear-parts}
 use Rattle.monotone_chains.proofs.StretchLemmas.CutLists.{joined-append}
-use Rattle.monotone_chains.proofs.StretchLemmas.CutRefined.{AreRefined-both, Cut, edges-cut, parts-cut}
+use Rattle.monotone_chains.proofs.StretchLemmas.CutRefined.{Cut, edges-cut, parts-cut}
 
 -- a pair stays settled where marks stay
 pub IsSettled-kept : (parts : List Part) (before after : List Bool) (pair : ℕ × ℕ) → ((k : ℕ) → get_or before k false ≡ true → get_or after k false ≡ true) → IsSettled parts before pair → IsSettled parts after pair
@@ -24,31 +23,6 @@ IsSettled-kept parts before after pair keeps is d = on (is d)
     on (inr apart) = inr apart
 
 -- ---- one round after another
-
--- parts of both sides that are cut, one side after the other
-pub cut-both : (most count bound : ℕ) (parts before middle after : List Part) (busy : List Bool) → count ≤ length parts → length busy ≡ length parts → AreSettled parts busy → before ≡ [] → bound ≡ length middle
-    → ((groups : List (List Part)) × AreRefined most (take count parts) groups (take count busy) × (middle ≡ before ++ joined groups))
-    → ((groups : List (List Part)) × AreRefined most (drop count parts) groups (drop count busy) × (after ≡ middle ++ joined groups))
-    → (groups : List (List Part)) × AreRelieved most parts groups × (after ≡ joined groups) × (bound ≡ length (joined (take count groups)))
-cut-both most count bound parts before middle after busy within marks clear none stops (groups, first, is) (groups', second, is') = (
-  groups ++ groups',
-  record {
-    busy = busy;
-    refined = subst₂ (λ (all : List Part) (set : List Bool). AreRefined most all (groups ++ groups') set) (take-append-drop count parts) (take-append-drop count busy)
-        (AreRefined-both most (take count parts) (drop count parts) groups groups' (take count busy) (drop count busy)
-        (length-take-le count busy (omega (arith, within, marks)) ∙ sym (length-take-le count parts within)) first second);
-    clear = clear;
-  },
-  is' ∙ ap (λ (list : List Part). list ++ joined groups') start ∙ sym (joined-append groups groups'),
-  stops ∙ ap (λ (list : List Part). length list) (start ∙ ap (λ (lists : List (List Part)). joined lists) (sym front_groups)),
-)
-  where
-    start : middle ≡ joined groups
-    start = is ∙ ap (λ (list : List Part). list ++ joined groups) none
-
-    -- the first groups are those of the first parts
-    front_groups : take count (groups ++ groups') ≡ groups
-    front_groups = ap (λ (n : ℕ). take n (groups ++ groups')) (sym (AllZip-length Cut (take count parts) groups first.cut ∙ length-take-le count parts within)) ∙ take-append_seam groups groups'
 
 -- parts, so many first ones of one side, and what they are cut into
 module _ (parts refined : List Part) (groups : List (List Part)) (count bound : ℕ) (within : count ≤ length parts) (zip : AllZip Cut parts groups)
@@ -86,26 +60,26 @@ module _ (parts refined : List Part) (groups : List (List Part)) (count bound : 
 
 -- ---- the result
 
-AreCut-last : (subject clip : List Edge) (parts refined : List Part) (groups : List (List Part)) (count bound : ℕ) → All IsPart parts → count ≤ length parts → AreRelieved 1 parts groups
+AreCut-last : (subject clip : List Edge) (parts refined : List Part) (groups : List (List Part)) (count bound : ℕ) → All IsPart parts → count ≤ length parts → IsRound 1 parts groups
     → refined ≡ joined groups → bound ≡ length (joined (take count groups)) → subject ≡ edges_along (take count parts) → clip ≡ edges_along (drop count parts)
     → AreCut subject clip refined bound
-AreCut-last subject clip parts refined groups count bound each within relieved is stops first second = (
+AreCut-last subject clip parts refined groups count bound each within round is stops first second = (
   AreStretches-ways subject clip (take bound refined) (drop bound refined)
-      (first ∙ front-kept parts refined groups count bound within relieved.refined.cut is stops)
-      (second ∙ back-kept parts refined groups count bound within relieved.refined.cut is stops)
-      (subst (All IsPart) (sym (take-append-drop bound refined)) (all-parts parts refined groups count bound within relieved.refined.cut is stops))
-      (subst (AllPairs (λ one other. IsLong (way one) ⊎ IsLong (way other) → AreClear (way one) (way other))) (sym is ∙ sym (take-append-drop bound refined)) (clear-parts parts groups each relieved)),
-  bound-within parts refined groups count bound within relieved.refined.cut is stops,
+      (first ∙ front-kept parts refined groups count bound within round.refined.cut is stops)
+      (second ∙ back-kept parts refined groups count bound within round.refined.cut is stops)
+      (subst (All IsPart) (sym (take-append-drop bound refined)) (all-parts parts refined groups count bound within round.refined.cut is stops))
+      (subst (AllPairs (λ one other. IsLong (way one) ⊎ IsLong (way other) → AreClear (way one) (way other))) (sym is ∙ sym (take-append-drop bound refined)) (clear-parts parts groups each round)),
+  bound-within parts refined groups count bound within round.refined.cut is stops,
 )
 
 -- where they were cut before
 pub AreCut-next : (parts shorter given refined : List Part) (groups : List (List Part)) (count bound refined_count : ℕ) → count ≤ length parts → AllZip Cut parts groups
     → shorter ≡ joined groups → bound ≡ length (joined (take count groups)) → given ≡ shorter
-    → ((groups' : List (List Part)) × AreRelieved 1 given groups' × (refined ≡ joined groups') × (refined_count ≡ length (joined (take bound groups'))))
+    → ((groups' : List (List Part)) × IsRound 1 given groups' × (refined ≡ joined groups') × (refined_count ≡ length (joined (take bound groups'))))
     → AreCut (edges_along (take count parts)) (edges_along (drop count parts)) refined refined_count
-AreCut-next parts shorter given refined groups count bound refined_count within zip is stops same (groups', relieved, is', stops') =
+AreCut-next parts shorter given refined groups count bound refined_count within zip is stops same (groups', round, is', stops') =
     AreCut-last (edges_along (take count parts)) (edges_along (drop count parts)) given refined groups' bound refined_count
-    (all-parts parts given groups count bound within zip here stops) (bound-within parts given groups count bound within zip here stops) relieved is' stops'
+    (all-parts parts given groups count bound within zip here stops) (bound-within parts given groups count bound within zip here stops) round is' stops'
     (front-kept parts given groups count bound within zip here stops) (back-kept parts given groups count bound within zip here stops)
   where
     here : given ≡ joined groups

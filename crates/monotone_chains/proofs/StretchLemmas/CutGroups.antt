@@ -11,7 +11,7 @@ use Rattle.plane.specs.declared.point.Point.{Point}
 use Rattle.plane.specs.Pairs.Pairs.{ArePairs}
 use Rattle.noding.specs.Windings.{pieces}
 use Rattle.monotone_chains.specs.Stretches.{AreApart, AreClear, AreStretches, IsLong, IsStretch}
-use Rattle.monotone_chains.specs.Stretches.Cut.{AreClearParts, AreRelieved, AreSettled, IsCutInto, IsPart, IsSettled, IsShort, edges_along, way}
+use Rattle.monotone_chains.specs.Stretches.Cut.{AreClearParts, IsRound, AreSettled, IsCutInto, IsPart, IsSettled, IsShort, edges_along, way}
 use Rattle.monotone_chains.specs.Stretches.Spans.{IsSpan, SpansMeet}
 use Rattle.monotone_chains.specs.declared.stretches.parts.Part.{Part}
 use Rattle.monotone_chains.specs.declared.stretches.spans.Span.{Span}
@@ -118,7 +118,7 @@ longer points group one some cut held more =
         let sum = length-append (pieces (way part)) (edges_along parts) in
         omega (arith, rest, sum)
 
-module _ (parts : List Part) (groups : List (List Part)) (are_parts : All IsPart parts) (are : AreRelieved 1 parts groups) where
+module _ (parts : List Part) (groups : List (List Part)) (are_parts : All IsPart parts) (are : IsRound 1 parts groups) where
   -- a part of the result with another one
   abbrev Keeps : Part → Part → Type 0
   Keeps one other = IsLong (way one) ⊎ IsLong (way other) → AreClear (way one) (way other)

@@ -6,7 +6,7 @@ use Rattle.std.proofs.lemmas.List.Elements.{All-contains}
 use Rattle.plane.specs.declared.edge.Edge.{Edge}
 use Rattle.plane.specs.declared.point.Point.{Point}
 use Rattle.monotone_chains.specs.Stretches.{AreApart}
-use Rattle.noding.specs.Windings.{height_over, margin_of}
+use Rattle.plane.specs.Lines.{height_over, margin_of}
 use Rattle.noding.proofs.SnapLemmas.Numbers.{abs-negative}
 use Rattle.noding.proofs.SnapLemmas.Hulls.{over}
 

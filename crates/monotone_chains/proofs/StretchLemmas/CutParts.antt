@@ -9,7 +9,8 @@ use Rattle.plane.specs.declared.edge.Edge.{Edge}
 use Rattle.plane.specs.declared.point.Point.{Point}
 use Rattle.overlay.specs.Contours.Outlines.{ring_point}
 use Rattle.overlay.specs.Contours.Rings.{has_two_ends, real_edges, ring_edges}
-use Rattle.noding.specs.Windings.{edge_between, pieces}
+use Rattle.plane.specs.Ends.{edge_between}
+use Rattle.noding.specs.Windings.{pieces}
 use Rattle.monotone_chains.specs.Stretches.{IsStretch}
 use Rattle.monotone_chains.specs.Stretches.Cut.{AppendsParts, IsCutInParts, IsPart, IsShort, edges_along, way}
 use Rattle.monotone_chains.specs.declared.stretches.parts.Part.{Part}

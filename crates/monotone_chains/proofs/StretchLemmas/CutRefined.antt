@@ -1,12 +1,12 @@
 -- Parts that are cut anew: those of two lists, one by one, and what they have.
-use Rattle.std.proofs.Common.{◌≡◌, ◌⊎◌, inl, inr, ℕ, zero, suc, ◌+◌, ◌-◌, ◌<◌, ◌≤◌, Bool, true, false, List, [], ◌∷◌, ◌++◌, length, get_or, take, refl, sym, ap, ap₂, ◌∙◌, subst, subst₂, append-nil, append_assoc, arith}
+use Rattle.std.proofs.Common.{◌≡◌, ◌⊎◌, inl, inr, ℕ, zero, suc, ◌+◌, ◌-◌, ◌<◌, ◌≤◌, Bool, true, false, List, [], ◌∷◌, ◌++◌, length, get_or, take, refl, sym, ap, ap₂, ◌∙◌, subst, subst₂, append-nil, arith}
 use Rattle.std.specs.List.{All, AllZip, Contains}
 use Rattle.std.proofs.lemmas.Bool.{cases_lt}
-use Rattle.std.proofs.lemmas.List.{flat_map_more, get_or_append_left, get_or-append_right, length-append, length-take-le, take_more}
+use Rattle.std.proofs.lemmas.List.{flat_map_more, get_or_append_left, get_or-append_right, length-append, length-take-le, take-append-le, take_all, take_more}
 use Rattle.std.proofs.lemmas.List.Elements.{All-append, All-cons, All-nil, Contains-get_or}
 use Rattle.plane.specs.declared.edge.Edge.{Edge}
 use Rattle.noding.specs.Windings.{pieces}
-use Rattle.monotone_chains.specs.Stretches.Cut.{AreRefined, IsCutInto, IsPart, IsShort, edges_along, way}
+use Rattle.monotone_chains.specs.Stretches.Cut.{AreRefined, AreSettled, IsCutInto, IsPart, IsRound, IsShort, edges_along, way}
 use Rattle.monotone_chains.specs.declared.stretches.parts.Part.{Part}
 use Rattle.overlay.proofs.BoundaryLemmas.Broken.{zip-append}
 use Rattle.noding.proofs.ChainLemmas.Offsets.{joined}
@@ -80,19 +80,60 @@ AreRefined-single most part group mark cut keeps cuts = record {
     few zero e within marked = cuts marked
     few (suc k) e within marked = absurd (omega (arith, within))
 
--- the next part of a list
-pub AreRefined-next : (most : ℕ) (parts : List Part) (busy : List Bool) (i : ℕ) (d : Part) (b : Bool) (old before after : List Part) → i < length parts → length busy ≡ length parts
-    → ((group : List Part) × IsCutInto (way (get_or parts i d)) group × (get_or busy i b ≡ false → group ≡ get_or parts i d ∷ []) × (get_or busy i b ≡ true → All (IsShort most) group) × (after ≡ before ++ group))
-    → ((groups : List (List Part)) × AreRefined most (take i parts) groups (take i busy) × (before ≡ old ++ joined groups))
-    → (groups : List (List Part)) × AreRefined most (take (i + 1) parts) groups (take (i + 1) busy) × (after ≡ old ++ joined groups)
-AreRefined-next most parts busy i d b old before after inside marks (group, cut, keeps, cuts, more) (groups, so_far, stands) = (
+-- What the first so many parts are cut into, and how many parts those of one side become: the first `count` of all.
+abbrev pub AreRefinedUpto : ℕ → ℕ → List Part → List Bool → ℕ → List Part → ℕ → Type 0
+AreRefinedUpto most count parts busy upto refined bound =
+    (groups : List (List Part)) × AreRefined most (take upto parts) groups (take upto busy) × (refined ≡ joined groups) × (bound ≡ length (joined (take count groups)))
+
+-- none so far
+pub AreRefinedUpto-none : (most count : ℕ) (parts : List Part) (busy : List Bool) (refined : List Part) → refined ≡ [] → AreRefinedUpto most count parts busy 0 refined 0
+AreRefinedUpto-none most count parts busy refined none = (
+  [],
+  record { cut = tt; kept = λ k d e within. absurd (omega (arith, within)); few = λ k e within. absurd (omega (arith, within)) },
+  none,
+  ap (λ (lists : List (List Part)). length (joined lists)) (sym (take_all count [] (omega arith))),
+)
+
+-- one part more, which is one of those that are counted or isn't
+pub AreRefinedUpto-more : (most count : ℕ) (parts : List Part) (busy : List Bool) (i : ℕ) (d : Part) (mark : Bool) (before after : List Part) (bound bound' : ℕ) → i < length parts → length busy ≡ length parts → mark ≡ get_or busy i false
+    → ((group : List Part) × IsCutInto (way (get_or parts i d)) group × (mark ≡ false → group ≡ get_or parts i d ∷ []) × (mark ≡ true → All (IsShort most) group) × (after ≡ before ++ group))
+    → ((i < count) × (bound' ≡ length after)) ⊎ ((count ≤ i) × (bound' ≡ bound)) → AreRefinedUpto most count parts busy i before bound → AreRefinedUpto most count parts busy (i + 1) after bound'
+AreRefinedUpto-more most count parts busy i d mark before after bound bound' inside marks marked (group, cut, keeps, cuts, more) counted (groups, so_far, stands, stops) = (
   groups ++ group ∷ [],
-  subst₂ (λ (done : List Part) (set : List Bool). AreRefined most done (groups ++ group ∷ []) set) (sym (take_more parts i d inside)) (sym (take_more busy i b (omega (arith, inside, marks))))
-      (AreRefined-both most (take i parts) (get_or parts i d ∷ []) groups (group ∷ []) (take i busy) (get_or busy i b ∷ [])
+  subst₂ (λ (done : List Part) (set : List Bool). AreRefined most done (groups ++ group ∷ []) set) (sym (take_more parts i d inside)) (sym (take_more busy i false (omega (arith, inside, marks))))
+      (AreRefined-both most (take i parts) (get_or parts i d ∷ []) groups (group ∷ []) (take i busy) (get_or busy i false ∷ [])
       (length-take-le i busy (omega (arith, inside, marks)) ∙ sym (length-take-le i parts (omega (arith, inside))))
-      so_far (AreRefined-single most (get_or parts i d) group (get_or busy i b) cut keeps cuts)),
-  more ∙ ap (λ (list : List Part). list ++ group) stands ∙ append_assoc old (joined groups) group
-      ∙ ap (λ (list : List Part). old ++ list) (flat_map_more (λ (list : List Part). list) [] groups group),
+      so_far (AreRefined-single most (get_or parts i d) group (get_or busy i false) cut (λ is. keeps (marked ∙ is)) (λ is. cuts (marked ∙ is)))),
+  now,
+  on counted,
+)
+  where
+    now : after ≡ joined (groups ++ group ∷ [])
+    now = more ∙ ap (λ (list : List Part). list ++ group) stands ∙ flat_map_more (λ (list : List Part). list) [] groups group
+
+    size : length groups ≡ i
+    size = AllZip-length Cut (take i parts) groups so_far.cut ∙ length-take-le i parts (omega (arith, inside))
+
+    on : ((i < count) × (bound' ≡ length after)) ⊎ ((count ≤ i) × (bound' ≡ bound)) → bound' ≡ length (joined (take count (groups ++ group ∷ [])))
+    on (inl (below, is)) =
+        let sum = length-append groups (group ∷ []) in
+        is ∙ ap (λ (list : List Part). length list) now
+        ∙ ap (λ (lists : List (List Part)). length (joined lists)) (sym (take_all count (groups ++ group ∷ []) (let n = size in omega (arith, sum, n, below))))
+    on (inr (from, is)) =
+        is ∙ stops ∙ ap (λ (lists : List (List Part)). length (joined lists)) (sym (take-append-le count groups (group ∷ []) (let n = size in omega (arith, n, from))))
+
+-- all of them
+pub AreRefinedUpto-all : (most count : ℕ) (parts : List Part) (busy : List Bool) (upto : ℕ) (refined : List Part) (bound : ℕ) → length parts ≤ upto → length busy ≡ length parts → AreSettled parts busy
+    → AreRefinedUpto most count parts busy upto refined bound → (groups : List (List Part)) × IsRound most parts groups × (refined ≡ joined groups) × (bound ≡ length (joined (take count groups)))
+AreRefinedUpto-all most count parts busy upto refined bound past marks clear (groups, are, stands, stops) = (
+  groups,
+  record {
+    busy = busy;
+    refined = subst₂ (λ (all : List Part) (set : List Bool). AreRefined most all groups set) (take_all upto parts past) (take_all upto busy (omega (arith, past, marks))) are;
+    clear = clear;
+  },
+  stands,
+  stops,
 )
 
 -- a part that is kept

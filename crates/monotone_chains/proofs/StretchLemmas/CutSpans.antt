@@ -1,5 +1,5 @@
 -- Where parts lie.
-use Rattle.std.proofs.Common.{◌≡◌, ◌⊎◌, inl, inr, ℕ, zero, suc, ◌+◌, ◌-◌, ◌<◌, pos, ◌+ℤ◌, ◌<ℤ◌, ◌≤ℤ◌, Bool, IsTrue, List, [], ◌∷◌, ◌++◌, length, get_or, take, drop, refl, sym, ap, ap₂, ◌∙◌, append_assoc, subst, subst₂, arith}
+use Rattle.std.proofs.Common.{◌≡◌, ◌⊎◌, inl, inr, ℕ, suc, ◌+◌, ◌-◌, ◌<◌, pos, ◌+ℤ◌, ◌<ℤ◌, ◌≤ℤ◌, Bool, IsTrue, List, [], ◌∷◌, ◌++◌, length, get_or, take, drop, refl, sym, ap, ap₂, ◌∙◌, append_assoc, subst, subst₂, arith}
 use Rattle.std.specs.List.{All, AllZip, Contains}
 use Rattle.std.proofs.Math.Seq.{drop-append_seam}
 use Rattle.std.proofs.lemmas.Int.{by_lt_z, ints}
@@ -210,24 +210,3 @@ pub span-behind : (parts parts' : List Part) (part : Part) (spans spans' : List 
     → AllZip IsSpan parts' spans'
 span-behind parts parts' part spans spans' span is stands so_far lies =
     subst₂ (λ (all : List Part) (list : List Span). AllZip IsSpan all list) (sym is) (sym stands) (AllZip-more IsSpan parts spans part span so_far lies)
-
--- the first of them, and those behind
-pub front-spans : (parts : List Part) (spans : List Span) (n : ℕ) → AllZip IsSpan parts spans → AllZip IsSpan (take n parts) (take n spans)
-front-spans [] [] zero zip = tt
-front-spans [] [] (suc n) zip = tt
-front-spans (part ∷ parts) (span ∷ spans) zero zip = tt
-front-spans (part ∷ parts) (span ∷ spans) (suc n) zip = (zip.0, front-spans parts spans n zip.1)
-front-spans [] (span ∷ spans) n zip = absurd zip
-front-spans (part ∷ parts) [] n zip = absurd zip
-
-back-spans : (parts : List Part) (spans : List Span) (n : ℕ) → AllZip IsSpan parts spans → AllZip IsSpan (drop n parts) (drop n spans)
-back-spans [] [] zero zip = tt
-back-spans [] [] (suc n) zip = tt
-back-spans (part ∷ parts) (span ∷ spans) zero zip = zip
-back-spans (part ∷ parts) (span ∷ spans) (suc n) zip = back-spans parts spans n zip.1
-back-spans [] (span ∷ spans) n zip = absurd zip
-back-spans (part ∷ parts) [] n zip = absurd zip
-
-pub rest-spans : (parts : List Part) (spans : List Span) (n : ℕ) → AllZip IsSpan parts spans → AllZip IsSpan (take (length parts - n) (drop n parts)) (take (length spans - n) (drop n spans))
-rest-spans parts spans n zip =
-    subst₂ (λ (some : List Part) (list : List Span). AllZip IsSpan some list) (sym (rest-is parts parts n refl)) (sym (rest-is spans spans n refl)) (back-spans parts spans n zip)

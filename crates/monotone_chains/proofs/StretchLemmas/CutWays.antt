@@ -1,5 +1,5 @@
 -- The points along which parts go, and parts of points.
-use Rattle.std.proofs.Common.{◌≡◌, ◌⊎◌, inl, inr, ℕ, suc, ◌+◌, ◌-◌, ◌<◌, ◌≤◌, pos, ◌<ℤ◌, true, false, List, [], ◌∷◌, ◌++◌, length, get_or, take, drop, refl, sym, ap, ap₂, ◌∙◌, subst, arith}
+use Rattle.std.proofs.Common.{◌≡◌, ◌⊎◌, inl, inr, ℕ, suc, ◌+◌, ◌-◌, ◌<◌, ◌≤◌, pos, ◌<ℤ◌, true, List, [], ◌∷◌, ◌++◌, length, get_or, take, drop, refl, sym, ap, ap₂, ◌∙◌, subst, arith}
 use Rattle.std.specs.List.{All, AllPairs, between}
 use Rattle.std.proofs.lemmas.Bool.{cases_lt}
 use Rattle.std.proofs.lemmas.Int.{ints}
@@ -14,12 +14,13 @@ use Rattle.plane.specs.declared.edge.Edge.{Edge}
 use Rattle.plane.specs.declared.point.Point.{Point}
 use Rattle.overlay.specs.Contours.Outlines.{ring_point}
 use Rattle.overlay.specs.Contours.Rings.{has_two_ends, real_edges}
-use Rattle.noding.specs.Windings.{edge_between, pieces}
+use Rattle.plane.specs.Ends.{edge_between}
+use Rattle.noding.specs.Windings.{pieces}
 use Rattle.monotone_chains.specs.Stretches.{Falls, IsStretch, Rises}
 use Rattle.monotone_chains.specs.Stretches.Cut.{IsPart, IsPoint, way}
 use Rattle.monotone_chains.specs.declared.stretches.parts.Part.{Part}
 use Rattle.noding.proofs.ChainLemmas.Runs.{between-more}
-use Rattle.overlay.proofs.ContourLemmas.RealEdges.{no-two_ends, two_ends-differ}
+use Rattle.overlay.proofs.ContourLemmas.RealEdges.{two_ends-differ}
 use Rattle.overlay.proofs.ContourLemmas.Rings.{pieces-append}
 use Rattle.monotone_chains.proofs.StretchLemmas.CutLists.{between-joined}
 use Rattle.monotone_chains.proofs.StretchLemmas.NodedWays.{at-pieces}
@@ -141,14 +142,6 @@ pieces-joined from mid upto points first second within =
     ∙ ap₂ (λ (one other : List Point). pieces one ++ pieces other) (sym (between-more from mid points _ first (omega (arith, second, within)))) (sym begins)
 
 -- ---- edges of a part from a point to itself
-
-pub real-point : (part : Part) → IsPoint part → real_edges (pieces (way part)) ≡ []
-real-point part is =
-    ap₂ (λ (inner : List Point) (to : Point). real_edges (pieces (part.from ∷ (inner ++ to ∷ [])))) is.none (sym is.same)
-    ∙ none (edge_between part.from part.from) (no-two_ends part.from)
-  where
-    none : (edge : Edge) → has_two_ends edge ≡ false → real_edges (edge ∷ []) ≡ []
-    none edge isnt = rw isnt
 
 pub real-way : (part : Part) → IsPart part → ¬ (IsPoint part) → real_edges (pieces (way part)) ≡ pieces (way part)
 real-way part is isnt = filter_all has_two_ends (pieces (way part)) (on is.along)

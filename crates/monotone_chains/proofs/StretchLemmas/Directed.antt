@@ -8,10 +8,8 @@ use Rattle.plane.specs.declared.point.Point.{Point}
 use Rattle.plane.proofs.SweepLineLemmas.Rightwards.{rightwards-left, rightwards-right}
 use Rattle.overlay.specs.Contours.Outlines.{ring_point}
 use Rattle.overlay.specs.Fill.Filled.{HaveSameEnds}
-use Rattle.noding.specs.Windings.{edge_between, reversed}
+use Rattle.plane.specs.Ends.{edge_between, reversed}
 use Rattle.monotone_chains.specs.Stretches.{chord}
-use Rattle.monotone_chains.specs.Stretches.Widening.{chord_of}
-use Rattle.monotone_chains.specs.declared.stretches.widening.Chord.{Chord}
 use Rattle.overlay.proofs.FillLemmas.Kept.{same-exchanged, same-rightwards, same-trans}
 
 -- ---- edges turned rightwards
@@ -21,16 +19,10 @@ turned-same : (one other : Edge) → rightwards one ≡ rightwards other → Hav
 turned-same one other same =
     same-trans one (rightwards one) other (same-exchanged (rightwards one) one (same-rightwards one)) (subst (λ (edge : Edge). HaveSameEnds edge other) (sym same) (same-rightwards other))
 
-chord_of-same : (one other : Edge) → chord_of one ≡ chord_of other → HaveSameEnds one other
-chord_of-same one other same = turned-same one other (ap (λ (c : Chord). let is : Edge = record { x0 = c.x0; y0 = c.y0; x1 = c.x1; y1 = c.y1 } in is) same)
-
 -- an edge that isn't vertical and the same back are one if turned so
-pub chord_of-reversed : (edge : Edge) → edge.x1 ≢ edge.x0 → chord_of (reversed edge) ≡ chord_of edge
-chord_of-reversed edge sloped = ap chord_edge (go (lt_z edge.x1 edge.x0) (lt_z edge.x0 edge.x1) refl refl)
+pub rightwards-reversed : (edge : Edge) → edge.x1 ≢ edge.x0 → rightwards (reversed edge) ≡ rightwards edge
+rightwards-reversed edge sloped = go (lt_z edge.x1 edge.x0) (lt_z edge.x0 edge.x1) refl refl
   where
-    chord_edge : Edge → Chord
-    chord_edge right = record { x0 = right.x0; y0 = right.y0; x1 = right.x1; y1 = right.y1 }
-
     go : (b d : Bool) → lt_z edge.x1 edge.x0 ≡ b → lt_z edge.x0 edge.x1 ≡ d → rightwards (reversed edge) ≡ rightwards edge
     go true true e f = absurd (omega (arith, ints, e, f))
     go true false e f = rightwards-right (reversed edge) f ∙ sym (rightwards-left edge e)
@@ -39,15 +31,15 @@ chord_of-reversed edge sloped = ap chord_edge (go (lt_z edge.x1 edge.x0) (lt_z e
 
 -- ---- which way the chord goes
 
-module _ (stretch : List Point) (from to : Point) (sloped : from.x ≢ to.x) (same : chord_of (chord stretch) ≡ chord_of (edge_between from to)) where
+module _ (stretch : List Point) (from to : Point) (sloped : from.x ≢ to.x) (same : rightwards (chord stretch) ≡ rightwards (edge_between from to)) where
   pub goes-along : (ring_point stretch 0).x ≡ from.x → chord stretch ≡ edge_between from to
-  goes-along starts = elim (chord_of-same (chord stretch) (edge_between from to) same) [
+  goes-along starts = elim (turned-same (chord stretch) (edge_between from to) same) [
     | inl is ↦ is
     | inr back ↦ absurd (sloped (sym starts ∙ ap (λ (e : Edge). e.x0) back))
   ]
 
   pub goes-back : (ring_point stretch 0).x ≢ from.x → chord stretch ≡ reversed (edge_between from to)
-  goes-back starts = elim (chord_of-same (chord stretch) (edge_between from to) same) [
+  goes-back starts = elim (turned-same (chord stretch) (edge_between from to) same) [
     | inl is ↦ absurd (starts (ap (λ (e : Edge). e.x0) is))
     | inr back ↦ back
   ]

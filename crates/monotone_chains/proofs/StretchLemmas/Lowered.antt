@@ -10,7 +10,8 @@ use Rattle.plane.specs.Meet.Edges.{RationalPoint}
 use Rattle.plane.specs.SweepLine.Heights.{run}
 use Rattle.plane.proofs.MeetLemmas.Identities.{Term, at_most, at_most_of, identity, minus, number, plus, scaled, times}
 use Rattle.plane.proofs.SweepLineLemmas.Gaps.{product_above}
-use Rattle.noding.specs.Windings.{end_of, pieces, start_of, winding, further}
+use Rattle.plane.specs.Ends.{end_of, start_of}
+use Rattle.noding.specs.Windings.{pieces, winding, further}
 use Rattle.monotone_chains.specs.Stretches.{Rises, chord}
 use Rattle.overlay.proofs.FillLemmas.Under.{le_is, le_true}
 use Rattle.noding.proofs.SnapLemmas.Counted.{height_at, is_low}

@@ -9,7 +9,8 @@ use Rattle.plane.specs.Meet.Edges.{IsOf, RationalPoint}
 use Rattle.plane.proofs.MeetLemmas.Along.{same_or_apart}
 use Rattle.overlay.specs.Fill.Filled.{AreDistinct, AreNoded, HaveSameEnds, IsNextInColumn}
 use Rattle.noding.specs.Meeting.{MeetAtEnds}
-use Rattle.noding.specs.Windings.{pieces, reversed}
+use Rattle.plane.specs.Ends.{reversed}
+use Rattle.noding.specs.Windings.{pieces}
 use Rattle.monotone_chains.specs.Stretches.{GoesAlong, IsLong, IsStretch, chord}
 use Rattle.overlay.proofs.FillLemmas.Kept.{same-exchanged}
 use Rattle.noding.proofs.SnapLemmas.Hobby.Ends.{exchange_meet}

@@ -7,7 +7,8 @@ use Rattle.std.proofs.lemmas.List.Elements.{All-contains}
 use Rattle.plane.specs.declared.edge.Edge.{Edge}
 use Rattle.plane.specs.declared.point.Point.{Point}
 use Rattle.overlay.specs.Fill.Filled.{HaveSameEnds}
-use Rattle.noding.specs.Windings.{end_of, pieces, reversed, start_of}
+use Rattle.plane.specs.Ends.{end_of, reversed, start_of}
+use Rattle.noding.specs.Windings.{pieces}
 use Rattle.monotone_chains.specs.Stretches.{Falls, GoesAlong, IsLong, IsStretch, Rises, chord}
 use Rattle.monotone_chains.proofs.StretchLemmas.Boxes.{ClearIfLong, chord-from, chord-sloped, chord-to, clear-any, long-ways}
 use Rattle.monotone_chains.proofs.StretchLemmas.NodedNear.{HasEnds, near-ends}

@@ -9,7 +9,8 @@ use Rattle.plane.specs.declared.point.Point.{Point}
 use Rattle.plane.proofs.MeetLemmas.Identities.{identity, minus, number, plus, times}
 use Rattle.overlay.specs.Fill.Filled.{HaveSameEnds}
 use Rattle.noding.specs.Chains.{IsEnd}
-use Rattle.noding.specs.Windings.{end_of, start_of, further}
+use Rattle.plane.specs.Ends.{end_of, start_of}
+use Rattle.noding.specs.Windings.{further}
 use Rattle.monotone_chains.specs.Stretches.{AreApart, IsLong, IsStretch, chord}
 use Rattle.noding.proofs.SnapLemmas.Along.{point_at}
 use Rattle.noding.proofs.SnapLemmas.Numbers.{n_of}

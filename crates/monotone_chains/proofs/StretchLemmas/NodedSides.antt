@@ -9,7 +9,8 @@ use Rattle.plane.specs.Meet.Kinds.{IsEnd}
 use Rattle.plane.proofs.MeetLemmas.Boxes.{way_above, way_below}
 use Rattle.plane.proofs.MeetLemmas.Identities.{Term, identity, minus, number, plus, times, unscaled}
 use Rattle.noding.specs.Meeting.{MeetAtEnds}
-use Rattle.noding.specs.Windings.{end_of, reversed, start_of, further}
+use Rattle.plane.specs.Ends.{end_of, reversed, start_of}
+use Rattle.noding.specs.Windings.{further}
 use Rattle.monotone_chains.specs.Stretches.{AreClear}
 use Rattle.noding.proofs.SnapLemmas.Hobby.Ends.{exchange_meet}
 use Rattle.noding.proofs.SnapLemmas.Numbers.{n_of, natural}

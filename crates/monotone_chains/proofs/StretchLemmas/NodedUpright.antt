@@ -15,7 +15,7 @@ use Rattle.plane.proofs.MeetLemmas.Identities.{unscaled}
 use Rattle.overlay.specs.Fill.Filled.{AreNoded, HaveSameEnds, IsNextInColumn}
 use Rattle.noding.specs.Chains.{IsEnd as EndAt}
 use Rattle.noding.specs.Meeting.{MeetAtEnds}
-use Rattle.noding.specs.Windings.{end_of, reversed, start_of}
+use Rattle.plane.specs.Ends.{end_of, reversed, start_of}
 use Rattle.monotone_chains.specs.Stretches.{IsLong, IsStretch, chord}
 use Rattle.overlay.proofs.FillLemmas.Aside.{aside}
 use Rattle.overlay.proofs.FillLemmas.Kept.{same-exchanged}

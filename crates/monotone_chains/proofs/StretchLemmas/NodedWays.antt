@@ -9,7 +9,8 @@ use Rattle.plane.specs.declared.point.Point.{Point}
 use Rattle.plane.specs.Meet.Edges.{IsOf, RationalPoint}
 use Rattle.overlay.specs.Fill.Filled.{HaveSameEnds}
 use Rattle.noding.specs.Meeting.{MeetAtEnds}
-use Rattle.noding.specs.Windings.{edge_between, end_of, pieces, start_of}
+use Rattle.plane.specs.Ends.{edge_between, end_of, start_of}
+use Rattle.noding.specs.Windings.{pieces}
 use Rattle.monotone_chains.specs.Stretches.{Falls, Rises}
 use Rattle.noding.proofs.SnapLemmas.Hobby.Ends.{exchange_meet}
 use Rattle.monotone_chains.proofs.StretchLemmas.Boxes.{AllPairs-any}

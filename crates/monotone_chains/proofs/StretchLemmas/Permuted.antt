@@ -9,7 +9,7 @@ use Rattle.plane.proofs.PairsLemmas.Bags.{AllPairs-permutation}
 use Rattle.overlay.specs.declared.fill.rules.FillRule.{FillRule}
 use Rattle.overlay.specs.declared.fill.rules.Operation.{Operation}
 use Rattle.overlay.specs.Fill.Filled.{HaveSameEnds, IsEndOfSloped, IsFilled, IsNextInColumn}
-use Rattle.noding.specs.Windings.{reversed}
+use Rattle.plane.specs.Ends.{reversed}
 use Rattle.overlay.proofs.ContourLemmas.Counts.{IsClosed-permuted}
 use Rattle.overlay.proofs.FillLemmas.Kept.{same-exchanged}
 use Rattle.noding.proofs.SnapLemmas.Windings.{winding-permutation}

@@ -12,7 +12,8 @@ use Rattle.overlay.specs.declared.fill.rules.FillRule.{FillRule}
 use Rattle.overlay.specs.declared.fill.rules.Operation.{Operation}
 use Rattle.overlay.specs.Fill.Filled.{IsFilled}
 use Rattle.noding.specs.Chains.{IsChain}
-use Rattle.noding.specs.Windings.{pieces, reversed}
+use Rattle.plane.specs.Ends.{reversed}
+use Rattle.noding.specs.Windings.{pieces}
 use Rattle.monotone_chains.specs.Stretches.{IsLong, IsStretch, chord}
 use Rattle.noding.proofs.ChainLemmas.Zips.{AllZip-flat_map}
 use Rattle.noding.proofs.SnapLemmas.Noded.{IsPiece-chain}

@@ -4,7 +4,7 @@ use Rattle.std.specs.List.{Contains}
 use Rattle.plane.specs.declared.edge.Edge.{Edge}
 use Rattle.plane.specs.declared.point.Point.{Point}
 use Rattle.noding.specs.Chains.{Passes}
-use Rattle.noding.specs.Windings.{reversed}
+use Rattle.plane.specs.Ends.{reversed}
 use Rattle.monotone_chains.specs.Stretches.{IsLong, chord}
 
 -- both ends of the edge are points that the chord of the stretch passes

@@ -4,7 +4,7 @@ use Rattle.std.specs.List.{AllPairs, Contains}
 use Rattle.std.proofs.lemmas.List.{get_or-reverse, length-reverse, reverse-reverse}
 use Rattle.plane.specs.declared.point.Point.{Point}
 use Rattle.overlay.specs.Contours.Outlines.{ring_point}
-use Rattle.noding.specs.Windings.{edge_between, reversed}
+use Rattle.plane.specs.Ends.{edge_between, reversed}
 use Rattle.monotone_chains.specs.Stretches.{Falls, Rises, chord}
 
 pub Contains-reverse : {X : Type 0} (xs : List X) (x : X) → Contains xs x → Contains (reverse xs) x

@@ -4,7 +4,8 @@ use Rattle.plane.specs.declared.edge.Edge.{Edge}
 use Rattle.plane.specs.declared.point.Point.{Point}
 use Rattle.overlay.specs.Contours.Outlines.{next_or, ring_point}
 use Rattle.overlay.specs.Contours.Rings.{ring_edges}
-use Rattle.noding.specs.Windings.{edge_between, pieces}
+use Rattle.plane.specs.Ends.{edge_between}
+use Rattle.noding.specs.Windings.{pieces}
 
 path-length : (from : Point) (points : List Point) (to : Point) → length (pieces (from ∷ (points ++ to ∷ []))) ≡ suc (length points)
 path-length from [] to = refl

@@ -8,7 +8,7 @@ use Rattle.plane.specs.declared.point.Point.{Point}
 use Rattle.overlay.specs.Contours.Rings.{IsRing, ring_edges}
 use Rattle.overlay.specs.Fill.Filled.{AreDistinct, HaveSameEnds}
 use Rattle.noding.specs.Chains.{IsEnd}
-use Rattle.noding.specs.Windings.{start_of}
+use Rattle.plane.specs.Ends.{start_of}
 use Rattle.monotone_chains.specs.Stretches.{IsLong, IsStretch, IsWidened}
 use Rattle.monotone_chains.proofs.StretchLemmas.Boxes.{ClearIfLong, IsTip}
 use Rattle.monotone_chains.proofs.StretchLemmas.RingEdges.{length-ring_edges, ring-edge}

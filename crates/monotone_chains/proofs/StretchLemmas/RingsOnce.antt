@@ -14,7 +14,7 @@ use Rattle.plane.specs.declared.edge.Edge.{Edge}
 use Rattle.plane.specs.declared.point.Point.{Point}
 use Rattle.overlay.specs.Fill.Filled.{AreDistinct, HaveSameEnds}
 use Rattle.noding.specs.Chains.{IsEnd}
-use Rattle.noding.specs.Windings.{end_of, reversed, start_of}
+use Rattle.plane.specs.Ends.{end_of, reversed, start_of}
 use Rattle.monotone_chains.specs.Stretches.{AreClear, GoesAlong, IsLong, IsStretch, but_last, chord}
 use Rattle.overlay.proofs.FillLemmas.Kept.{same-exchanged, same-trans}
 use Rattle.monotone_chains.proofs.StretchLemmas.Boxes.{ClearIfLong, IsTip, clear-any, long-ways, outmost-tip}

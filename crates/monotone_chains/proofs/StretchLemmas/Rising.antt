@@ -8,7 +8,8 @@ use Rattle.plane.specs.declared.point.Point.{Point}
 use Rattle.plane.specs.Meet.Edges.{RationalPoint}
 use Rattle.plane.proofs.MeetLemmas.Identities.{scaled}
 use Rattle.overlay.specs.Contours.Outlines.{ring_point}
-use Rattle.noding.specs.Windings.{edge_between, end_of, pieces, start_of, winding, count}
+use Rattle.plane.specs.Ends.{edge_between, end_of, start_of}
+use Rattle.noding.specs.Windings.{pieces, winding, count}
 use Rattle.monotone_chains.specs.Stretches.{Rises, chord}
 use Rattle.noding.proofs.SnapLemmas.Counted.{added, is_low, under}
 use Rattle.noding.proofs.SnapLemmas.Heights.{Covering}

@@ -9,7 +9,7 @@ use Rattle.i_tree.proofs.RootLemmas.Lists.{Contains-here, Contains-there}
 use Rattle.plane.specs.declared.edge.Edge.{Edge}
 use Rattle.plane.specs.declared.point.Point.{Point}
 use Rattle.plane.specs.Meet.Edges.{RationalPoint}
-use Rattle.noding.specs.Windings.{pieces, reversed, winding}
+use Rattle.noding.specs.Windings.{pieces, winding}
 use Rattle.monotone_chains.specs.Stretches.{AreClear, IsLong, IsStretch, Rises, chord}
 use Rattle.monotone_chains.proofs.StretchLemmas.Aside.{edge-aside, points-aside}
 use Rattle.monotone_chains.proofs.StretchLemmas.Boxes.{ClearIfLong, clear-any, long-ways}
@@ -17,7 +17,7 @@ use Rattle.monotone_chains.proofs.StretchLemmas.Columns.{AreAside, rising-aside,
 use Rattle.monotone_chains.proofs.StretchLemmas.Lowered.{IsShiftOf, shift-rising}
 use Rattle.monotone_chains.proofs.StretchLemmas.Placed.{LiesIn}
 use Rattle.monotone_chains.proofs.StretchLemmas.Reverse.{Contains-reversed, Rises-reverse}
-use Rattle.monotone_chains.proofs.StretchLemmas.Turned.{turned-back, turned-same}
+use Rattle.monotone_chains.proofs.StretchLemmas.Turned.{turned-back}
 
 -- A stretch counts for the one point what its chord counts for the other.
 abbrev pub Matches : List Point → RationalPoint → RationalPoint → Type 0
@@ -28,10 +28,6 @@ Matches points point other = winding (pieces points) point ≡ winding (chord po
 pub record IsShift (all : List (List Point)) (point other : RationalPoint) : Type 0 where
   pub long : (s : List Point) → Contains all s → IsLong s → Matches s point other
   pub short : (edge : Edge) (t : List Point) → Contains all t → ¬ (IsLong t) → LiesIn t edge → winding (edge ∷ []) point ≡ winding (edge ∷ []) other
-
--- the other way
-pub IsShift-reverse : (all : List (List Point)) (point other : RationalPoint) → IsShift all point other → (s : List Point) → Contains all s → IsLong s → winding (pieces (reverse s)) point ≡ winding (reversed (chord s) ∷ []) other
-IsShift-reverse all point other shift s among long = turned-same s point other (omega (arith, long)) (shift.long s among long)
 
 -- ---- an element that passes, or none
 

@@ -6,7 +6,8 @@ use Rattle.i_tree.proofs.RootLemmas.Lists.{Contains-here}
 use Rattle.plane.specs.declared.edge.Edge.{Edge}
 use Rattle.plane.specs.declared.point.Point.{Point}
 use Rattle.overlay.specs.Boundary.{HasSloped}
-use Rattle.noding.specs.Windings.{edge_between, pieces}
+use Rattle.plane.specs.Ends.{edge_between}
+use Rattle.noding.specs.Windings.{pieces}
 use Rattle.monotone_chains.specs.Stretches.{GoesAlong, IsStretch, chord}
 use Rattle.monotone_chains.proofs.StretchLemmas.Boxes.{ClearIfLong}
 use Rattle.monotone_chains.proofs.StretchLemmas.NodedKinds.{long-rises, way-kind}

@@ -5,7 +5,8 @@ use Rattle.std.proofs.lemmas.List.{reverse-append}
 use Rattle.plane.specs.declared.edge.Edge.{Edge}
 use Rattle.plane.specs.declared.point.Point.{Point}
 use Rattle.plane.specs.Meet.Edges.{RationalPoint}
-use Rattle.noding.specs.Windings.{edge_between, pieces, reversed, winding}
+use Rattle.plane.specs.Ends.{edge_between, reversed}
+use Rattle.noding.specs.Windings.{pieces, winding}
 use Rattle.monotone_chains.specs.Stretches.{chord}
 use Rattle.noding.proofs.SnapLemmas.Windings.{winding-append, winding-added}
 use Rattle.monotone_chains.proofs.StretchLemmas.Reverse.{chord-reverse}

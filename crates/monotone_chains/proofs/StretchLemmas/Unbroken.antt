@@ -7,7 +7,8 @@ use Rattle.plane.specs.declared.edge.Edge.{Edge}
 use Rattle.plane.specs.declared.point.Point.{Point}
 use Rattle.plane.proofs.PairsLemmas.Bags.{Contains-from_map, Contains-map}
 use Rattle.noding.specs.Chains.{CrossAt, IsChain, IsEnd, IsHot, Passes}
-use Rattle.noding.specs.Windings.{end_of, pieces, start_of}
+use Rattle.plane.specs.Ends.{end_of, start_of}
+use Rattle.noding.specs.Windings.{pieces}
 use Rattle.monotone_chains.specs.Stretches.{IsLong, IsStretch, chord}
 use Rattle.noding.proofs.ChainLemmas.Crossings.{CrossAt-end}
 use Rattle.noding.proofs.SnapLemmas.Along.{point_at}
@@ -15,7 +16,7 @@ use Rattle.noding.proofs.Callers.{end-hot}
 use Rattle.noding.proofs.SnapLemmas.Crossing.{CrossAt-itself}
 use Rattle.noding.proofs.SnapLemmas.Paths.{IsPath, IsPath-chain}
 use Rattle.monotone_chains.proofs.StretchLemmas.Adjoin.{Adjoin, passed-adjoin}
-use Rattle.monotone_chains.proofs.StretchLemmas.Boxes.{BoxHas, ClearIfLong, IsEnd-tip, IsTip, box-passed, chord-sloped, clear-any, tip-IsEnd, tip-held}
+use Rattle.monotone_chains.proofs.StretchLemmas.Boxes.{ClearIfLong, IsEnd-tip, IsTip, chord-sloped, clear-any, tip-IsEnd, tip-held}
 
 -- ---- a chain of which each point is an end of its edge
 
@@ -82,10 +83,6 @@ module _ (all : List (List Point)) (each : All IsStretch all) (clear : AllPairs 
         let (t, among_one, is_one) = Contains-from_map chord all one first in
         let (u, among_other, is_other) = Contains-from_map chord all other second in
         hot_crossing t u among_one among_other (subst (λ (e : Edge). CrossAt e (chord u) h.x h.y) (sym is_one) (subst (λ (e : Edge). CrossAt one e h.x h.y) (sym is_other) cross))
-
-  -- the chain of a chord lies in the box of its stretch
-  pub chain-in_box : (t : List Point) → Contains all t → (chain : List Point) → IsChain (map chord all) (chord t) chain → (c : Point) → Contains chain c → BoxHas t c.x c.y
-  chain-in_box t among chain is c held = box-passed t (is_stretch t among) c.x c.y ((is.exact c).0 held).1
 
   -- where that is long, the chain is the chord's two ends
   pub chain-unbroken : (s : List Point) → Contains all s → IsLong s → (chain : List Point) → IsChain (map chord all) (chord s) chain → chain ≡ start_of (chord s) ∷ end_of (chord s) ∷ []

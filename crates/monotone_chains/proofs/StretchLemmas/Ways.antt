@@ -7,7 +7,7 @@ use Rattle.i_tree.proofs.RootLemmas.Joined.{last_cut}
 use Rattle.plane.specs.declared.edge.Edge.{Edge}
 use Rattle.plane.specs.declared.point.Point.{Point}
 use Rattle.overlay.specs.Contours.Outlines.{ring_point}
-use Rattle.noding.specs.Windings.{end_of, start_of}
+use Rattle.plane.specs.Ends.{end_of, start_of}
 use Rattle.monotone_chains.specs.Stretches.{GoesAlong, IsStretch, but_last, chord}
 
 -- ---- all points but the last

@@ -11,7 +11,8 @@ use Rattle.plane.specs.declared.edge.Edge.{Edge}
 use Rattle.plane.specs.declared.point.Point.{Point}
 use Rattle.plane.specs.Meet.Edges.{RationalPoint}
 use Rattle.noding.specs.Chains.{IsChain}
-use Rattle.noding.specs.Windings.{pieces, reversed, winding}
+use Rattle.plane.specs.Ends.{reversed}
+use Rattle.noding.specs.Windings.{pieces, winding}
 use Rattle.monotone_chains.specs.Stretches.{GoesAlong, IsLong, IsStretch, chord}
 use Rattle.noding.proofs.SnapLemmas.Along.{Passes-end, Passes-start}
 use Rattle.noding.proofs.SnapLemmas.Numbers.{both}

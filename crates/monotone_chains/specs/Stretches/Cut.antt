@@ -66,8 +66,8 @@ pub record AreRefined (most : ℕ) (parts : List Part) (groups : List (List Part
   pub kept : (k : ℕ) (d : Part) (e : List Part) → k < length parts → get_or busy k false ≡ false → get_or groups k e ≡ get_or parts k d ∷ []
   pub few : (k : ℕ) (e : List Part) → k < length parts → get_or busy k false ≡ true → All (IsShort most) (get_or groups k e)
 
--- They are cut so, and two parts are both busy or clear of each other.
-pub record AreRelieved (most : ℕ) (parts : List Part) (groups : List (List Part)) : Type 0 where
+-- One round of refining: the parts are cut so by some marks, and two of them are both busy or clear of each other.
+pub record IsRound (most : ℕ) (parts : List Part) (groups : List (List Part)) : Type 0 where
   pub busy : List Bool
   pub refined : AreRefined most parts groups busy
   pub clear : AreSettled parts busy

@@ -16,20 +16,16 @@ use Rattle.monotone_chains.specs.declared.stretches.spans.Span.{Span}
 abbrev pub beside : ℤ → ℤ
 beside side = cond (lt_z side (pos 2147483647)) (side +ℤ pos 1) side
 
-abbrev pub widened : Bounds → Bounds
-widened bounds = record { left = bounds.left; right = beside bounds.right; low = bounds.low; high = beside bounds.high }
+-- The box, a unit wider and a unit higher.
+abbrev pub expanded : Bounds → Bounds
+expanded bounds = record { left = bounds.left; right = beside bounds.right; low = bounds.low; high = beside bounds.high }
 
--- The least box of a span, and a unit wider and higher: parts whose wider boxes don't meet are more than a unit apart.
+-- The least box of a span, and that expanded: parts whose expanded boxes don't meet are more than a unit apart.
 abbrev pub box_of : Span → Bounds
 box_of span = bounds_of (record { x0 = span.left.x; y0 = span.low; x1 = span.right.x; y1 = span.high })
 
 abbrev pub bounds_of_span : Span → Bounds
-bounds_of_span span = widened (box_of span)
-
--- Some number lies from the one up to the next, and from the third up to the fourth.
-pub record ShareSome (from upto other_from other_upto : ℤ) : Type 0 where
-  pub first : from ≤ℤ other_upto
-  pub second : other_from ≤ℤ upto
+bounds_of_span span = expanded (box_of span)
 
 -- The points are more than a unit apart along x.
 abbrev pub AreFar : Point → Point → Type 0

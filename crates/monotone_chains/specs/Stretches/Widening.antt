@@ -8,25 +8,15 @@ use Rattle.plane.specs.declared.edge.Edge.{Edge}
 use Rattle.monotone_chains.specs.Stretches.{IsLong, chord}
 use Rattle.monotone_chains.specs.Stretches.Cut.{IsPart, way}
 use Rattle.monotone_chains.specs.declared.stretches.parts.Part.{Part}
-use Rattle.monotone_chains.specs.declared.stretches.widening.Chord.{Chord}
 use Rattle.monotone_chains.specs.declared.stretches.widening.LongStretch.{LongStretch}
 
--- The ends of an edge, the left one first.
-abbrev pub chord_of : Edge → Chord
-chord_of edge = record {
-  x0 = (rightwards edge).x0;
-  y0 = (rightwards edge).y0;
-  x1 = (rightwards edge).x1;
-  y1 = (rightwards edge).y1;
-}
-
-abbrev pub chord_cmp : Chord → Chord → Ordering
-chord_cmp one other =
+abbrev pub edge_cmp : Edge → Edge → Ordering
+edge_cmp one other =
     ordering_then (int_cmp one.x0 other.x0) (ordering_then (int_cmp one.y0 other.y0) (ordering_then (int_cmp one.x1 other.x1) (int_cmp one.y1 other.y1)))
 
 -- The stretch along the part at this place.
 abbrev pub entry_of : ℕ → Part → LongStretch
-entry_of place part = record { chord = chord_of (chord (way part)); place = place }
+entry_of place part = record { chord = rightwards (chord (way part)); place = place }
 
 -- These are the long stretches along the parts before this place.
 pub record HasLong (parts : List Part) (upto : ℕ) (table : List LongStretch) : Type 0 where
@@ -34,7 +24,7 @@ pub record HasLong (parts : List Part) (upto : ℕ) (table : List LongStretch) :
   pub all : (k : ℕ) (d : Part) → k < upto → IsLong (way (get_or parts k d)) → Contains table (entry_of k (get_or parts k d))
 
 abbrev pub AreInOrder : List LongStretch → Type 0
-AreInOrder table = IsSortedByKey (λ (entry : LongStretch). entry.chord) chord_cmp table
+AreInOrder table = IsSortedByKey (λ (entry : LongStretch). entry.chord) edge_cmp table
 
 -- These are all long stretches in the order of their chords.
 pub record IsTable (parts : List Part) (table : List LongStretch) : Type 0 where

@@ -5,8 +5,7 @@ ghost use Rattle.monotone_chains.specs.Stretches.{chord};
 ghost use Rattle.monotone_chains.specs.Stretches.Cut.{way};
 
 use super::parts::Part;
-use noding::edges::edge_between;
-use plane::edge::Edge;
+use plane::edge::{Edge, edge_between};
 use std::alloc::{AllocError, Allocator};
 
 /// The chords of stretches.

@@ -61,6 +61,7 @@ fn append_runs<'a, A: Allocator>(
 {
     let last = points.len() - 1;
     let mut next = 0;
+    // The parts are of the edges up to `next`, where a run begins.
     while next < last {
         if parts.len() > limit {
             return Ok(false);
@@ -99,6 +100,7 @@ fn rise_end(points: &[Point], from: usize) -> usize
     ensures rises { Rises (between from (result + 1) points.now) }
 {
     let mut end = from + 1;
+    // Up to `end` x rises.
     while end + 1 < points.len() && points[end].x < points[end + 1].x {
         end += 1;
     }
@@ -114,6 +116,7 @@ fn fall_end(points: &[Point], from: usize) -> usize
     ensures falls { Falls (between from (result + 1) points.now) }
 {
     let mut end = from + 1;
+    // Up to `end` x falls.
     while end + 1 < points.len() && points[end + 1].x < points[end].x {
         end += 1;
     }
@@ -177,6 +180,7 @@ pub fn cut_part<'a, A: Allocator>(
     ensures { OnOk result (IsCutInParts (between from (upto + 1) (way part.entry)) most parts.old.items parts.new.items) }
 {
     let mut next = from;
+    // Up to `next` the part is cut.
     while next < upto {
         let end = part_end(next, upto, most);
         parts.push(part_within(part, next, end))?;

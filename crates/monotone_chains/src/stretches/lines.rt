@@ -5,11 +5,10 @@ ghost use Rattle.std.specs.Prelude.{◌≡◌, ◌<◌, ◌+◌, ◌^◌, pos, �
 ghost use Rattle.plane.specs.Meet.Crosses.{IsWithin};
 ghost use Rattle.monotone_chains.specs.Stretches.{AreApart};
 ghost use Rattle.monotone_chains.specs.Stretches.Cut.{way};
-ghost use Rattle.noding.specs.Windings.{height_over, margin_of};
+ghost use Rattle.plane.specs.Lines.{height_over, margin_of};
 
 use super::parts::Part;
-use noding::edges::{edge_between, height_over, margin_of, reverse};
-use plane::edge::Edge;
+use plane::edge::{Edge, edge_between, height_over, margin_of, reverse};
 use plane::point::Point;
 
 /// Whether a line along one of the parts keeps their points apart.
@@ -52,6 +51,7 @@ fn greatest_over(line: Edge, part: Part) -> i128
     ensures most { All (λ point. height_over line point ≤ℤ result) (way part.entry) }
 {
     let mut most = higher(line, height_over(line, part.from), part.to);
+    // No end of the part, and no point so far, lies farther.
     for point in part.inner {
         most = higher(line, most, *point);
     }

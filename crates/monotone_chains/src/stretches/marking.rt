@@ -13,8 +13,8 @@ use i_tree::Refusal;
 use plane::pairs::pairs_upto;
 use std::alloc::{AllocError, Allocator};
 
-/// Marks of the parts that lie there: of two parts both are marked, or they are clear of each other. Where more pairs of parts come near
-/// each other than so many, all are marked.
+/// Marks of the parts that lie there: of two parts both are marked, or they are clear of each other. Where more pairs of parts
+/// come near each other than so many, all are marked.
 pub fn busy_of<A: Allocator + Copy>(
     alloc: A,
     parts: &[Part],
@@ -49,6 +49,7 @@ fn mark(parts: &[Part], pairs: &[(usize, usize)], busy: &mut [bool])
     requires size { length busy.old ≡ length parts.now }
     ensures { All (IsSettled parts.entry.now busy.new) pairs.now }
 {
+    // Of each pair so far both parts are marked, or a line keeps them apart: marks stay.
     for pair in pairs {
         settle(parts, pair.0, pair.1, busy);
     }

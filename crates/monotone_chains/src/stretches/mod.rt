@@ -7,7 +7,7 @@ ghost use Rattle.monotone_chains.specs.Stretches.Cut.{AreCut, IsPart, edges_alon
 use i_tree::Refusal;
 use parts::Part;
 use plane::point::Point;
-use refining::relieved;
+use refining::refine;
 use spans::spans_of;
 use std::alloc::Allocator;
 
@@ -37,8 +37,9 @@ pub struct Stretches<'a, A: Allocator> {
 
 /// The parts as stretches. The first `count` are the subject's, and the others the clip's.
 ///
-/// The boxes of the parts are swept. A part whose box another one's meets, where no line along one of them keeps their points apart,
-/// is cut into shorter parts, and in the end into single edges. Where more pairs of boxes meet than `limit`, all parts are.
+/// The boxes of the parts are swept. A part whose box another one's meets, where no line along one of them keeps their points
+/// apart, is cut into shorter parts, and in the end into single edges. Where more pairs of boxes meet than `limit`, all parts
+/// are.
 ///
 /// It is refused for want of memory alone.
 pub fn stretches_of<'a, A: Allocator + Copy>(
@@ -54,8 +55,8 @@ pub fn stretches_of<'a, A: Allocator + Copy>(
     ensures refused { IfErr result (λ cause. cause ≡ OutOfMemory) }
 {
     let spans = spans_of(alloc, parts)?;
-    let shorter = relieved(alloc, parts, &spans, count, SHORTER, limit)?;
-    let clear = relieved(
+    let shorter = refine(alloc, parts, &spans, count, SHORTER, limit)?;
+    let clear = refine(
         alloc,
         &shorter.parts,
         &shorter.spans,

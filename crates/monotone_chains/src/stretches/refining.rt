@@ -1,10 +1,10 @@
-//! Parts cut anew, where others come to them.
+//! Parts cut anew, where others come to them: one round after another.
 
 ghost use Rattle.std.specs.Prelude.{◌≡◌, ◌<◌, ◌≤◌, ◌++◌, ◌∷◌, [], true, false, List, All, IfErr, IfOk, OnOk, length, take};
 ghost use Rattle.std.specs.List.{AllZip, flat_map};
 ghost use Rattle.i_tree.specs.declared.Refusal.TheVariants.{OutOfMemory};
 ghost use Rattle.monotone_chains.specs.declared.stretches.parts.Part.{Part};
-ghost use Rattle.monotone_chains.specs.Stretches.Cut.{AreRefined, AreRelieved, IsCutInto, IsPart, IsShort, way};
+ghost use Rattle.monotone_chains.specs.Stretches.Cut.{IsCutInto, IsPart, IsRound, IsShort, way};
 ghost use Rattle.monotone_chains.specs.Stretches.Spans.{IsSpan};
 
 use super::cutting::cut_part;
@@ -22,9 +22,12 @@ pub struct Refined<'a, A: Allocator> {
     pub count: usize,
 }
 
-/// The parts that lie there, where those to which others come are cut into parts of so many edges at most. The first `count` are
-/// the subject's. What isn't cut lies where it lay.
-pub fn relieved<'a, A: Allocator + Copy>(
+/// One round of refining: each part to which others come is cut into parts of `most` edges at most, and the others stay as they
+/// are and where they lie. The first `count` are the subject's. Where more pairs of parts come near each other than `limit`, all
+/// are cut.
+///
+/// It is refused for want of memory alone.
+pub fn refine<'a, A: Allocator + Copy>(
     alloc: A,
     parts: &[Part<'a>],
     spans: &[Span],
@@ -36,7 +39,7 @@ pub fn relieved<'a, A: Allocator + Copy>(
     requires spans { AllZip IsSpan parts.now spans.now }
     requires count { count ≤ length parts.now }
     requires most { 0 < most }
-    ensures ok { IfOk result (λ refined. (groups : List (List Part)) × AreRelieved most parts.entry.now groups
+    ensures ok { IfOk result (λ refined. (groups : List (List Part)) × IsRound most parts.entry.now groups
         × (refined.parts.items ≡ flat_map (λ group. group) groups)
         × (refined.count ≡ length (flat_map (λ group. group) (take count groups)))) }
     ensures spans { IfOk result (λ refined. AllZip IsSpan refined.parts.items refined.spans.items) }
@@ -48,46 +51,16 @@ pub fn relieved<'a, A: Allocator + Copy>(
         spans: Vec::with_capacity(alloc, parts.len())?,
         count: 0,
     };
-    refine(
-        &parts[..count],
-        &spans[..count],
-        &busy[..count],
-        most,
-        &mut refined,
-    )?;
-    let refined_count = refined.parts.len();
-    refine(
-        &parts[count..],
-        &spans[count..],
-        &busy[count..],
-        most,
-        &mut refined,
-    )?;
-    refined.count = refined_count;
-    Ok(refined)
-}
-
-// Appends the parts that lie there, where those that are busy are cut into parts of so many edges at most.
-fn refine<'a, A: Allocator>(
-    parts: &[Part<'a>],
-    spans: &[Span],
-    busy: &[bool],
-    most: usize,
-    refined: &mut Refined<'a, A>,
-) -> Result<(), AllocError>
-    requires parts { All IsPart parts.now }
-    requires spans { AllZip IsSpan parts.now spans.now }
-    requires marks { length busy.now ≡ length parts.now }
-    requires most { 0 < most }
-    requires so_far { AllZip IsSpan refined.old.parts.items refined.old.spans.items }
-    ensures ok { OnOk result ((groups : List (List Part)) × AreRefined most parts.entry.now groups busy.now
-        × (refined.new.parts.items ≡ refined.old.parts.items ++ flat_map (λ group. group) groups)) }
-    ensures spans { OnOk result (AllZip IsSpan refined.new.parts.items refined.new.spans.items) }
-{
+    let mut subject_count = 0;
+    // What the parts before this place are cut into stands there, and is counted where they are the subject's.
     for (place, part) in parts.iter().enumerate() {
-        refine_part(*part, spans[place], busy[place], most, refined)?;
+        refine_part(*part, spans[place], busy[place], most, &mut refined)?;
+        if place < count {
+            subject_count = refined.parts.len();
+        }
     }
-    Ok(())
+    refined.count = subject_count;
+    Ok(refined)
 }
 
 // Appends the part that lies there, or if it is busy its parts.

@@ -3,13 +3,13 @@
 ghost use Rattle.std.specs.Prelude.{◌≡◌, ◌⊎◌, pos, ◌+ℤ◌, ◌<ℤ◌, All, IfOk, OnOk, MatchBool, length};
 ghost use Rattle.std.specs.Bool.{OnTrue};
 ghost use Rattle.std.specs.List.{AllZip};
-ghost use Rattle.plane.specs.Pairs.Bounds.{BoundsMeet};
 ghost use Rattle.overlay.specs.Contours.Outlines.{ring_point};
 ghost use Rattle.monotone_chains.specs.Stretches.Cut.{IsPart, way};
-ghost use Rattle.monotone_chains.specs.Stretches.Spans.{AppendsSpans, AreFar, AreSeveral, ComeNear, HasHeights, IsSpan, LeadsTo, ShareSome, SpansMeet, beside, bounds_of_span, box_of, widened};
+ghost use Rattle.monotone_chains.specs.Stretches.Spans.{AppendsSpans, AreFar, AreSeveral, ComeNear, HasHeights, IsSpan, LeadsTo, SpansMeet, beside, bounds_of_span, box_of, expanded};
 
 use super::parts::Part;
 use plane::edge::Edge;
+use plane::pairs::boxes::boxes_meet;
 use plane::pairs::items::{Bounds, Boxed, Meets};
 use plane::point::Point;
 use std::alloc::{AllocError, Allocator};
@@ -38,7 +38,7 @@ impl Boxed for Span {
     ghost bounds = { bounds_of_span };
 
     fn bounds(self) -> Bounds {
-        widened(box_of(self))
+        expanded(box_of(self))
     }
 }
 
@@ -56,8 +56,8 @@ fn box_of(span: Span) -> Bounds
 }
 
 // The box, a unit wider and higher.
-fn widened(bounds: Bounds) -> Bounds
-    ensures { result ≡ widened bounds }
+fn expanded(bounds: Bounds) -> Bounds
+    ensures { result ≡ expanded bounds }
 {
     Bounds {
         left: bounds.left,
@@ -107,30 +107,6 @@ fn adjoin(one: Span, other: Span) -> bool
     ensures { let adjoin = LeadsTo one other ⊎ LeadsTo other one in MatchBool result adjoin (¬ adjoin) }
 {
     leads_to(one, other) || leads_to(other, one)
-}
-
-// Whether the boxes share a point.
-fn boxes_meet(one: Bounds, other: Bounds) -> bool
-    ensures { MatchBool result (BoundsMeet one other) (¬ (BoundsMeet one other)) }
-{
-    if !columns_meet(one, other) {
-        return false;
-    }
-    rows_meet(one, other)
-}
-
-// Whether the boxes share an x.
-fn columns_meet(one: Bounds, other: Bounds) -> bool
-    ensures { let meet = ShareSome one.left one.right other.left other.right in MatchBool result meet (¬ meet) }
-{
-    one.left <= other.right && other.left <= one.right
-}
-
-// Whether they share a y.
-fn rows_meet(one: Bounds, other: Bounds) -> bool
-    ensures { let meet = ShareSome one.low one.high other.low other.high in MatchBool result meet (¬ meet) }
-{
-    one.low <= other.high && other.low <= one.high
 }
 
 // Whether the other part begins where the one ends, and both have no other points near there.

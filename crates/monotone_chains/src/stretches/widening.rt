@@ -1,37 +1,28 @@
 //! Rings with the points of stretches in place of their chords.
 
-ghost use Rattle.std.specs.Prelude.{◌≡◌, ◌≢◌, ◌++◌, ◌∷◌, [], ◌<◌, List, All, Contains, IfOk, MatchOption, OnErr, OnOk, get_or, length, map, reverse};
+ghost use Rattle.std.specs.Prelude.{◌≡◌, ◌≢◌, ◌++◌, ◌∷◌, [], ◌<◌, List, All, Contains, IfOk, MatchOption, OnOk, get_or, length, map, reverse};
 ghost use Rattle.std.specs.List.{AllZip, flat_map};
 ghost use Rattle.plane.specs.declared.point.Point.{Point};
-ghost use Rattle.noding.specs.Offsets.{AreJoined, Extends, offsets};
-ghost use Rattle.noding.specs.Windings.{edge_between};
+ghost use Rattle.plane.specs.Ends.{edge_between};
+ghost use Rattle.plane.specs.SweepLine.Heights.{rightwards};
+ghost use Rattle.noding.specs.Offsets.{AreJoined, offsets};
 ghost use Rattle.monotone_chains.specs.Stretches.{GoesAlong, IsLong, IsWidened, but_last};
 ghost use Rattle.monotone_chains.specs.Stretches.Cut.{IsPart, way};
-ghost use Rattle.monotone_chains.specs.Stretches.Widening.{AreInOrder, HasLong, IsTable, chord_of, entry_of};
+ghost use Rattle.monotone_chains.specs.Stretches.Widening.{AreInOrder, HasLong, IsTable, entry_of};
 
 use super::chords::chord_of_part;
 use super::parts::Part;
-use noding::edges::edge_between;
 use overlay::contours::next_in;
 use overlay::rings::ring_at;
-use plane::edge::Edge;
+use plane::edge::{Edge, edge_between};
 use plane::point::Point;
 use plane::sweep_line::heights::turn_rightwards;
 use std::alloc::{AllocError, Allocator};
 
-/// The ends of a chord, the left one first. Chords are in order by these.
-#[derive(Clone, Copy, Debug, PartialEq, Eq, PartialOrd, Ord)]
-pub struct Chord {
-    pub x0: i32,
-    pub y0: i32,
-    pub x1: i32,
-    pub y1: i32,
-}
-
-/// A stretch of several edges: its chord, and its place among all stretches.
+/// A stretch of several edges: its chord, turned rightwards, and its place among all stretches. They are in order by their chords.
 #[derive(Clone, Copy, Debug)]
 pub struct LongStretch {
-    pub chord: Chord,
+    pub chord: Edge,
     pub place: usize,
 }
 
@@ -48,13 +39,13 @@ pub fn append_widened<A: Allocator + Copy>(
 ) -> Result<(), AllocError>
     requires parts { All IsPart parts.now }
     requires rings { (rings : List (List Point)) × AreJoined rings ring_points.now ring_ends.now }
-    ensures ok { (rings : List (List Point)) → AreJoined rings ring_points.now ring_ends.now → OnOk result (
+    ensures { (rings : List (List Point)) → AreJoined rings ring_points.now ring_ends.now → OnOk result (
         (widened : List (List Point)) × AllZip (IsWidened (map way parts.entry.now)) rings widened
         × (points.new.items ≡ points.old.items ++ flat_map (λ ring. ring) widened)
         × (ends.new.items ≡ ends.old.items ++ offsets (length points.old.items) widened)) }
-    ensures err { OnErr result (Extends points.old.items points.new.items × Extends ends.old.items ends.new.items) }
 {
     let table = table_of(*points.allocator(), parts)?;
+    // The rings before this one stand there, widened, and where each stops.
     for ring in 0..ring_ends.len() {
         append_ring(parts, &table, ring_at(ring_points, ring_ends, ring), points)?;
         ends.push(points.len())?;
@@ -70,10 +61,10 @@ fn append_ring<A: Allocator>(
     points: &mut Vec<Point, A>,
 ) -> Result<(), AllocError>
     requires { IsTable parts.now table.now }
-    ensures ok { OnOk result ((widened : List Point) × IsWidened (map way parts.entry.now) ring.now widened
+    ensures { OnOk result ((widened : List Point) × IsWidened (map way parts.entry.now) ring.now widened
         × (points.new.items ≡ points.old.items ++ widened)) }
-    ensures err { OnErr result (Extends points.old.items points.new.items) }
 {
+    // The points along the edges before this place are appended, of each edge all but its end.
     for (place, at) in ring.iter().enumerate() {
         append_way(parts, table, *at, next_in(ring, place), points)?;
     }
@@ -89,9 +80,8 @@ fn append_way<A: Allocator>(
     points: &mut Vec<Point, A>,
 ) -> Result<(), AllocError>
     requires { IsTable parts.now table.now }
-    ensures ok { OnOk result ((along : List Point) × GoesAlong (map way parts.entry.now) (edge_between from to) along
+    ensures { OnOk result ((along : List Point) × GoesAlong (map way parts.entry.now) (edge_between from to) along
         × (points.new.items ≡ points.old.items ++ but_last along)) }
-    ensures err { OnErr result (Extends points.old.items points.new.items) }
 {
     match stretch_between(table, from, to) {
         Some(stretch) => append_stretch(parts[stretch.place], from, points),
@@ -106,17 +96,17 @@ fn append_way<A: Allocator>(
 fn stretch_between(table: &[LongStretch], from: Point, to: Point) -> Option<LongStretch>
     requires { AreInOrder table.now }
     ensures { MatchOption result
-        (from.x ≢ to.x → (entry : LongStretch) → Contains table.now entry → entry.chord ≢ chord_of (edge_between from to))
-        (λ entry. (from.x ≢ to.x) × Contains table.now entry × (entry.chord ≡ chord_of (edge_between from to))) }
+        (from.x ≢ to.x → (entry : LongStretch) → Contains table.now entry → entry.chord ≢ rightwards (edge_between from to))
+        (λ entry. (from.x ≢ to.x) × Contains table.now entry × (entry.chord ≡ rightwards (edge_between from to))) }
 {
     if from.x == to.x {
         return None;
     }
-    with_chord(table, chord_of(edge_between(from, to)))
+    with_chord(table, turn_rightwards(edge_between(from, to)))
 }
 
 // The stretch with this chord.
-fn with_chord(table: &[LongStretch], chord: Chord) -> Option<LongStretch>
+fn with_chord(table: &[LongStretch], chord: Edge) -> Option<LongStretch>
     requires { AreInOrder table.now }
     ensures { MatchOption result ((entry : LongStretch) → Contains table.now entry → entry.chord ≢ chord)
         (λ entry. Contains table.now entry × (entry.chord ≡ chord)) }
@@ -124,19 +114,6 @@ fn with_chord(table: &[LongStretch], chord: Chord) -> Option<LongStretch>
     match table.binary_search_by_key(&chord, |stretch| stretch.chord) {
         Ok(place) => Some(table[place]),
         Err(_) => None,
-    }
-}
-
-// The ends of the edge, the left one first.
-fn chord_of(edge: Edge) -> Chord
-    ensures { result ≡ chord_of edge }
-{
-    let right = turn_rightwards(edge);
-    Chord {
-        x0: right.x0,
-        y0: right.y0,
-        x1: right.x1,
-        y1: right.y1,
     }
 }
 
@@ -150,7 +127,6 @@ fn append_stretch<A: Allocator>(
         points.new.items ≡ points.old.items ++ but_last (way part.entry)) }
     ensures back { part.entry.from.x ≢ from.x → OnOk result (
         points.new.items ≡ points.old.items ++ but_last (reverse (way part.entry))) }
-    ensures err { OnErr result (Extends points.old.items points.new.items) }
 {
     if part.from.x == from.x {
         points.push(part.from)?;
@@ -163,8 +139,7 @@ fn append_stretch<A: Allocator>(
 
 // Appends the points from the last one back to the first.
 fn append_back<A: Allocator>(inner: &[Point], points: &mut Vec<Point, A>) -> Result<(), AllocError>
-    ensures ok { OnOk result (points.new.items ≡ points.old.items ++ reverse inner.now) }
-    ensures err { OnErr result (Extends points.old.items points.new.items) }
+    ensures { OnOk result (points.new.items ≡ points.old.items ++ reverse inner.now) }
 {
     for point in inner.iter().rev() {
         points.push(*point)?;
@@ -191,6 +166,7 @@ fn push_long<A: Allocator>(
     requires none { table.old.items ≡ [] }
     ensures { OnOk result (HasLong parts.entry.now (length parts.entry.now) table.new.items) }
 {
+    // The table has the long ones before this place.
     for (place, part) in parts.iter().enumerate() {
         push_if_long(*part, place, table)?;
     }
@@ -208,7 +184,7 @@ fn push_if_long<A: Allocator>(
     ensures short { ¬ (IsLong (way part.entry)) → OnOk result (table.new.items ≡ table.old.items) }
 {
     if !part.inner.is_empty() {
-        let chord = chord_of(chord_of_part(part));
+        let chord = turn_rightwards(chord_of_part(part));
         table.push(LongStretch { chord, place })?;
     }
     Ok(())

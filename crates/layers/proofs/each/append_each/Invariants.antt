@@ -11,6 +11,6 @@ use Rattle.layers.proofs.each.append_each.Given as goal
 abbrev pub invariant-loop-at : goal.invariant-loop-at
 invariant-loop-at g l =
     (each : List (List (List (List Point))))
-    × AreOverlaysUpto l.rule l.operation (edges_of_groups l.subjects l.subject_groups) (edges_of_groups l.clips l.clip_groups) l.at each
+    × AreOverlaysUpto l.rule l.operation (edges_of_groups l.subjects.shapes l.subjects.groups) (edges_of_groups l.clips.shapes l.clips.groups) l.at each
     × Appends (flat_map (λ polygons. polygons) each) l.fn.out l.out
     × (l.ends.items ≡ l.fn.ends.items ++ offsets (length l.fn.out.polygon_ends.items) each)

@@ -7,8 +7,8 @@ use Rattle.layers.proofs.each.group_at.Goals as goal
 
 pub returns-clause-group : goal.returns-clause-group
 returns-clause-group c =
-    let groups = c.args.groups in
-    let named : ℕ → Type 0 = λ place. place < length c.args.shapes.shape_ends.now in
+    let groups = c.args.grouped.groups in
+    let named : ℕ → Type 0 = λ place. place < length c.args.grouped.shapes.shape_ends.now in
     let start = start_of groups.ends.now c.args.at in
     let end = get_or groups.ends.now c.args.at 0 in
     let here = lists_of-at groups.places.now 0 groups.ends.now c.args.at c.requires.at in (

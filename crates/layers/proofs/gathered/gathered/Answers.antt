@@ -3,7 +3,7 @@ use Rattle.std.proofs.lemmas.List.{take_more}
 use Rattle.plane.specs.declared.point.Point.{Point}
 use Rattle.layers.specs.Shapes.{rings_at, shapes_of}
 use Rattle.layers.proofs.GatheredLemmas.{AreGathered-more}
-use Rattle.layers.proofs.ListLemmas.{flat_map-append}
+use Rattle.std.proofs.lemmas.List.Concat.{flat_map-append}
 use Rattle.layers.proofs.gathered.gathered.Goals as goal
 
 pub loop-place-preserved : goal.loop-place-preserved

@@ -1,7 +1,7 @@
 use Rattle.std.proofs.Common.{◌∙◌, ◌^◌, [], ◌∷◌, take, get_or, sym, subst, ap, ap₂, add-one, arith}
 use Rattle.std.proofs.lemmas.List.{length-take, take_all}
 use Rattle.plane.specs.Meet.Crosses.{IsWithin}
-use Rattle.noding.specs.Windings.{edge_between}
+use Rattle.plane.specs.Ends.{edge_between}
 use Rattle.layers.specs.Around.{halved}
 use Rattle.layers.specs.Chains.{IsAround, chain_edges}
 use Rattle.layers.proofs.AroundLemmas.Chains.{length-pieces, pieces-at}

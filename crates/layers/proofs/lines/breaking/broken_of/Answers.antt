@@ -56,10 +56,11 @@ moved_back-requires g c =
     let edges = c.args.edges.now in
     let (chains, are, _, ends) = c.in_ok-snap.ensures.ok in
     let some = chains-some edges chains are in
+    let inside = chains-count edges chains c.args.count (within lines rings edges c.args.line_ends.now c.args.ring_ends.now c.args.count gathered is) are in
     let stops_3 = stops chains c.in_ok-points.points.items c.in_ok-ends.ends.items c.snap.new.ends.items c.deref-3.result.now c.in_ok-points.ensures.items c.in_ok-ends.ensures.items ends c.deref-3.ensures.value in
     let stops_5 = stops chains c.in_ok-points.points.items c.in_ok-ends.ends.items c.snap.new.ends.items c.deref-5.result.now c.in_ok-points.ensures.items c.in_ok-ends.ensures.items ends c.deref-5.ensures.value in
     rings-behind lines rings chains (gathered-cut lines rings edges c.args.line_ends.now c.args.ring_ends.now chains gathered are) c.count_pieces-count.result c.deref-6.result.now
-    (c.count_pieces-count.ensures chains stops_3 some ∙ ap (λ (n : ℕ). length (flat_map pieces (take n chains))) is)
+    (c.count_pieces-count.ensures chains stops_3 some inside ∙ ap (λ (n : ℕ). length (flat_map pieces (take n chains))) is)
     (c.deref-6.ensures.value ∙ c.in_ok-of_rings.ensures chains stops_5 some ∙ ap (λ (numbers : List ℕ). map (λ number. length (flat_map pieces (take number chains))) numbers) gathered.rings_end)
 
 pub returns-clause-ok : goal.returns-clause-ok
@@ -67,6 +68,7 @@ returns-clause-ok g c = λ lines rings gathered is.
     let edges = c.args.edges.now in
     let (chains, are, points, ends) = c.in_ok-snap.ensures.ok in
     let some = chains-some edges chains are in
+    let inside = chains-count edges chains c.args.count (within lines rings edges c.args.line_ends.now c.args.ring_ends.now c.args.count gathered is) are in
     let none = c.in_ok-points.ensures.items in
     let stops_2 = stops chains c.in_ok-points.points.items c.in_ok-ends.ends.items c.snap.new.ends.items c.deref-2.result.now none c.in_ok-ends.ensures.items ends c.deref-2.ensures.value in
     let stops_3 = stops chains c.in_ok-points.points.items c.in_ok-ends.ends.items c.snap.new.ends.items c.deref-3.result.now none c.in_ok-ends.ensures.items ends c.deref-3.ensures.value in
@@ -76,6 +78,6 @@ returns-clause-ok g c = λ lines rings gathered is.
     let counted : List ℕ → List ℕ = λ numbers. map (λ number. length (flat_map pieces (take number chains))) numbers in
     broken-edges lines rings chains (gathered-cut lines rings edges c.args.line_ends.now c.args.ring_ends.now chains gathered are) c.in_ok-pieces.pieces.items c.count_pieces-count.result c.in_ok-of_lines.of_lines.items c.in_ok-moved_back.field-0.items
     (c.in_ok-pieces.ensures chains (joined, stops_2))
-    (c.count_pieces-count.ensures chains stops_3 some ∙ ap (λ (n : ℕ). length (flat_map pieces (take n chains))) is)
+    (c.count_pieces-count.ensures chains stops_3 some inside ∙ ap (λ (n : ℕ). length (flat_map pieces (take n chains))) is)
     (c.in_ok-of_lines.ensures chains stops_4 some ∙ ap counted gathered.lines_end)
     (c.in_ok-moved_back.ensures ∙ ap (λ (numbers : List ℕ). map (λ end. end - c.count_pieces-count.result) numbers) (c.deref-6.ensures.value ∙ c.in_ok-of_rings.ensures chains stops_5 some ∙ ap counted gathered.rings_end))

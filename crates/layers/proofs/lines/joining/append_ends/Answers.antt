@@ -3,7 +3,7 @@ use Rattle.std.proofs.lemmas.List.{map-append, take_more}
 use Rattle.plane.specs.declared.edge.Edge.{Edge}
 use Rattle.plane.specs.declared.point.Point.{Point}
 use Rattle.plane.proofs.PairsLemmas.Extends.{OnErr-always}
-use Rattle.noding.specs.Windings.{end_of}
+use Rattle.plane.specs.Ends.{end_of}
 use Rattle.layers.proofs.lines.joining.append_ends.Goals as goal
 
 pub returns-in_err-push-clause-err : goal.returns-in_err-push-clause-err

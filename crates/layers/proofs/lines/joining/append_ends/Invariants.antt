@@ -1,5 +1,5 @@
 use Rattle.std.proofs.Common.{◌≡◌, ◌++◌, map, take}
-use Rattle.noding.specs.Windings.{end_of}
+use Rattle.plane.specs.Ends.{end_of}
 use Rattle.layers.proofs.lines.joining.append_ends.Given as goal
 
 abbrev pub invariant-loop-edge : goal.invariant-loop-edge

@@ -2,7 +2,7 @@ use Rattle.std.proofs.Common.{◌<◌, ◌++◌, ◌∷◌, [], List, length, ge
 use Rattle.std.proofs.lemmas.Bool.{eqb-false}
 use Rattle.std.proofs.lemmas.Result.{on_ok_weaker}
 use Rattle.plane.specs.declared.point.Point.{Point}
-use Rattle.noding.specs.Windings.{end_of, start_of}
+use Rattle.plane.specs.Ends.{end_of, start_of}
 use Rattle.layers.proofs.LineLemmas.Paths.{along-some}
 use Rattle.layers.proofs.lines.joining.append_points.Goals as goal
 

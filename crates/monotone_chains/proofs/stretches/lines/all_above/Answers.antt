@@ -5,7 +5,7 @@ use Rattle.std.proofs.lemmas.List.{take_all}
 use Rattle.std.proofs.lemmas.List.Elements.{All-more}
 use Rattle.plane.specs.declared.point.Point.{Point}
 use Rattle.monotone_chains.specs.Stretches.Cut.{way}
-use Rattle.noding.specs.Windings.{height_over, margin_of}
+use Rattle.plane.specs.Lines.{height_over, margin_of}
 use Rattle.monotone_chains.proofs.StretchLemmas.CutRows.{All-way}
 use Rattle.monotone_chains.proofs.stretches.lines.all_above.Goals as goal
 

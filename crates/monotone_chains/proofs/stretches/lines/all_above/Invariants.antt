@@ -1,6 +1,6 @@
 use Rattle.std.proofs.Common.{◌+ℤ◌, ◌<ℤ◌, take}
 use Rattle.std.specs.List.{All}
-use Rattle.noding.specs.Windings.{height_over, margin_of}
+use Rattle.plane.specs.Lines.{height_over, margin_of}
 use Rattle.monotone_chains.proofs.stretches.lines.all_above.Given as goal
 
 -- the points so far lie further

@@ -6,7 +6,7 @@ use Rattle.std.proofs.lemmas.List.{take_all}
 use Rattle.std.proofs.lemmas.List.Elements.{All-more, All-weaker}
 use Rattle.plane.specs.Meet.Crosses.{IsWithin}
 use Rattle.plane.specs.declared.point.Point.{Point}
-use Rattle.noding.specs.Windings.{height_over}
+use Rattle.plane.specs.Lines.{height_over}
 use Rattle.monotone_chains.proofs.StretchLemmas.CutRows.{All-way}
 use Rattle.monotone_chains.proofs.stretches.lines.greatest_over.Goals as goal
 

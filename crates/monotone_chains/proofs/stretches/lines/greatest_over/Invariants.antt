@@ -1,7 +1,7 @@
 use Rattle.std.proofs.Common.{◌^◌, ◌≤ℤ◌, take}
 use Rattle.std.specs.List.{All}
 use Rattle.plane.specs.Meet.Crosses.{IsWithin}
-use Rattle.noding.specs.Windings.{height_over}
+use Rattle.plane.specs.Lines.{height_over}
 use Rattle.monotone_chains.proofs.stretches.lines.greatest_over.Given as goal
 
 -- no point so far lies further

@@ -4,7 +4,7 @@ use Rattle.std.specs.Int.{w128}
 use Rattle.std.specs.List.{All}
 use Rattle.monotone_chains.specs.Stretches.{AreApart}
 use Rattle.monotone_chains.specs.Stretches.Cut.{way}
-use Rattle.noding.specs.Windings.{height_over, margin_of}
+use Rattle.plane.specs.Lines.{height_over, margin_of}
 use Rattle.monotone_chains.proofs.StretchLemmas.CutTests.{OnTrue-weaker}
 use Rattle.monotone_chains.proofs.StretchLemmas.CutLines.{AreApart-line}
 use Rattle.monotone_chains.proofs.stretches.lines.lies_beyond.Goals as goal

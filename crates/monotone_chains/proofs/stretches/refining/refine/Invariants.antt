@@ -1,13 +1,8 @@
-use Rattle.std.proofs.Common.{◌≡◌, ◌++◌, List, take}
 use Rattle.std.specs.List.{AllZip}
-use Rattle.monotone_chains.specs.Stretches.Cut.{AreRefined}
 use Rattle.monotone_chains.specs.Stretches.Spans.{IsSpan}
-use Rattle.monotone_chains.specs.declared.stretches.parts.Part.{Part}
-use Rattle.noding.proofs.ChainLemmas.Offsets.{joined}
+use Rattle.monotone_chains.proofs.StretchLemmas.CutRefined.{AreRefinedUpto}
 use Rattle.monotone_chains.proofs.stretches.refining.refine.Given as goal
 
--- the parts so far are cut anew
+-- the parts so far are cut anew, those of the subject are counted, and where all lie is told
 abbrev pub invariant-loop-place : goal.invariant-loop-place
-invariant-loop-place g l =
-    ((groups : List (List Part)) × AreRefined l.most (take l.place l.parts) groups (take l.place l.busy) × (l.refined.parts.items ≡ l.fn.refined.parts.items ++ joined groups))
-    × AllZip IsSpan l.refined.parts.items l.refined.spans.items
+invariant-loop-place g l = AreRefinedUpto l.most l.count l.parts l.busy.items l.place l.refined.parts.items l.subject_count × AllZip IsSpan l.refined.parts.items l.refined.spans.items

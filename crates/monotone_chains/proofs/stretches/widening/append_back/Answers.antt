@@ -3,7 +3,6 @@ use Rattle.std.proofs.lemmas.List.{map-append}
 use Rattle.std.proofs.lemmas.Iterator.Adapters.{YieldsList-from_rev_slice}
 use Rattle.std.proofs.lemmas.Iterator.Consumers.{YieldsList-end}
 use Rattle.plane.specs.declared.point.Point.{Point}
-use Rattle.plane.proofs.PairsLemmas.Extends.{OnErr-always}
 use Rattle.monotone_chains.proofs.stretches.widening.append_back.Goals as goal
 
 pub loop-point-init : goal.loop-point-init
@@ -16,11 +15,8 @@ loop-point-preserved g c =
     ∙ append_assoc c.args.points.now.items (map (λ (point : Bor Point). point.now) c.loop-point.yielded) (c.in-Some.point.now ∷ [])
     ∙ ap (λ (list : List Point). c.args.points.now.items ++ list) (sym (map-append (λ (point : Bor Point). point.now) c.loop-point.yielded (c.in-Some.point ∷ [])))
 
-pub returns-in_err-push-clause-err : goal.returns-in_err-push-clause-err
-returns-in_err-push-clause-err g c = OnErr-always c.from_residual.result _ (_, c.in_err-push.ensures.items ∙ c.loop-point.invariant)
-
-pub returns-clause-ok : goal.returns-clause-ok
-returns-clause-ok g c =
+pub returns : goal.returns
+returns g c =
     let source = c.into_iter-point-iterator.ensures.into_iter_gives in
     let of = c.rev-point-items.ensures.source in
     let rest : c.into_iter-point-iterator.result.iter.rest.now ≡ c.args.inner.now = ap (λ items. items.iter.rest.now) source ∙ ap (λ items. items.rest.now) of ∙ c.iter.ensures.rest in

@@ -3,13 +3,11 @@ use Rattle.std.specs.List.{AllZip}
 use Rattle.std.proofs.lemmas.List.{flat_map_more, take_all, take_more}
 use Rattle.plane.specs.declared.edge.Edge.{Edge}
 use Rattle.plane.specs.declared.point.Point.{Point}
-use Rattle.plane.proofs.PairsLemmas.Extends.{OnErr-always}
 use Rattle.overlay.specs.Contours.Outlines.{ring_point}
 use Rattle.overlay.specs.Contours.Rings.{ring_edges}
-use Rattle.noding.specs.Windings.{edge_between}
+use Rattle.plane.specs.Ends.{edge_between}
 use Rattle.monotone_chains.specs.Stretches.{GoesAlong, but_last}
 use Rattle.monotone_chains.specs.Stretches.Cut.{way}
-use Rattle.noding.proofs.ChainLemmas.Runs.{Extends-trans}
 use Rattle.noding.proofs.ChainLemmas.Zips.{AllZip-more}
 use Rattle.monotone_chains.proofs.StretchLemmas.RingEdges.{length-ring_edges, ring-edge}
 use Rattle.monotone_chains.proofs.stretches.widening.append_ring.Goals as goal
@@ -17,15 +15,10 @@ use Rattle.monotone_chains.proofs.stretches.widening.append_ring.Goals as goal
 pub loop-place-init : goal.loop-place-init
 loop-place-init g c = ([], tt, sym (append-nil c.args.points.now.items))
 
-pub returns-in_err-append_way-clause-err : goal.returns-in_err-append_way-clause-err
-returns-in_err-append_way-clause-err g c =
-    let (ways, goes, is) = c.loop-place.invariant in
-    OnErr-always c.from_residual.result _ (Extends-trans c.args.points.now.items c.loop-place.points.items c.append_way.new.points.items (_, is) c.in_err-append_way.ensures.err)
-
 pub loop-place-preserved : goal.loop-place-preserved
 loop-place-preserved g c =
     let (ways, goes, is) = c.loop-place.invariant in
-    let (on, along, now) = c.in_ok-append_way.ensures.ok in
+    let (on, along, now) = c.in_ok-append_way.ensures in
     let ring = c.args.ring.now in
     let k = c.loop-place.place in
     let old = c.args.points.now.items in
@@ -42,8 +35,8 @@ loop-place-preserved g c =
       now ∙ ap (λ (list : List Point). list ++ but_last on) is ∙ flat_map_more but_last old ways on,
     )
 
-pub returns-clause-ok : goal.returns-clause-ok
-returns-clause-ok g c =
+pub returns : goal.returns
+returns g c =
     let (ways, goes, is) = c.loop-place.invariant in
     let edges = ring_edges c.args.ring.now in
     let past = c.loop-place-test.false in

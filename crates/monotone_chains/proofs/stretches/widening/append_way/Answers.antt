@@ -18,13 +18,13 @@ offset_bounds-parts-stretch g c =
     let inside : c.in-Some.stretch.place < length c.args.parts.now = (entry-stands c.args.parts.now c.args.table.now c.requires c.in-Some.stretch none among).inside in
     search rules
 
-pub returns-in-Some-clause-ok : goal.returns-in-Some-clause-ok
-returns-in-Some-clause-ok g c =
+pub returns-in-Some : goal.returns-in-Some
+returns-in-Some g c =
     let (sloped, among, same) = c.in-Some.ensures in
     let parts = c.args.parts.now in
     let stands = entry-stands parts c.args.table.now c.requires c.in-Some.stretch _ among in
     stretch-goes (map way parts) _ c.args.from c.args.to c.append_stretch.result c.args.points.now.items c.append_stretch.new.points.items stands.among stands.long sloped (sym stands.chord_is ∙ same)
     c.append_stretch.ensures.along c.append_stretch.ensures.back
 
-pub returns-in_ok-push-in-None-clause-ok : goal.returns-in_ok-push-in-None-clause-ok
-returns-in_ok-push-in-None-clause-ok g c = (_, straight-goes c.args.parts.now c.args.table.now c.requires c.args.from c.args.to c.in-None.ensures, c.in_ok-push-in-None.ensures.items)
+pub returns-in_ok-push-in-None : goal.returns-in_ok-push-in-None
+returns-in_ok-push-in-None g c = (_, straight-goes c.args.parts.now c.args.table.now c.requires c.args.from c.args.to c.in-None.ensures, c.in_ok-push-in-None.ensures.items)

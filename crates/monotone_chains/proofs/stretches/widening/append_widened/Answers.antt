@@ -6,7 +6,6 @@ use Rattle.monotone_chains.specs.Stretches.Cut.{way}
 use Rattle.monotone_chains.specs.Stretches.Widening.{IsTable}
 use Rattle.overlay.specs.Rings.{rings_of}
 use Rattle.overlay.proofs.Callers.{AreEnds-joined, rings-joined}
-use Rattle.overlay.proofs.ContourLemmas.Outlines.{stopped}
 use Rattle.overlay.proofs.EachRing.{rings-size, rings_all}
 use Rattle.monotone_chains.proofs.StretchLemmas.Widened.{AreWidened-more}
 use Rattle.monotone_chains.proofs.stretches.widening.append_widened.Goals as goal
@@ -22,29 +21,18 @@ ring_at-requires g c =
 pub append_ring-requires : goal.append_ring-requires
 append_ring-requires g c = subst (IsTable c.args.parts.now) (sym c.deref.ensures.value) c.in_ok-table.ensures
 
-pub returns-in_err-append_ring-clause-err : goal.returns-in_err-append_ring-clause-err
-returns-in_err-append_ring-clause-err g c =
-    let told = c.loop-ring.invariant in
-    stopped c.from_residual-in_err-append_ring.result _ _ _ _ _ _ _ told.points_are c.in_err-append_ring.ensures.err told.ends_are
-
-pub returns-in_err-push-clause-err : goal.returns-in_err-push-clause-err
-returns-in_err-push-clause-err g c =
-    let told = c.loop-ring.invariant in
-    let (wide, is, now) = c.in_ok-append_ring.ensures.ok in
-    stopped c.from_residual-in_err-push.result _ _ _ _ _ _ _ told.points_are (wide, now) (c.in_err-push.ensures.items ∙ told.ends_are)
-
 pub loop-ring-preserved : goal.loop-ring-preserved
 loop-ring-preserved g c =
     let stretches = map way c.args.parts.now in
     let rings = rings_of c.args.ring_points.now 0 c.args.ring_ends.now in
     let within : c.loop-ring.ring < length rings = omega (arith, rings-size c.args.ring_points.now 0 c.args.ring_ends.now) in
-    let (wide, is, now) = c.in_ok-append_ring.ensures.ok in
+    let (wide, is, now) = c.in_ok-append_ring.ensures in
     let size : c.len.result ≡ length c.append_ring.new.points.items = omega (arith, c.len.ensures) in
     AreWidened-more stretches rings c.loop-ring.ring c.args.points.now.items c.loop-ring.points.items c.append_ring.new.points.items wide c.args.ends.now.items c.loop-ring.ends.items c.push.new.self.items within c.loop-ring.invariant
     (subst (λ (ring : List Point). IsWidened stretches ring wide) c.ring_at.ensures is) now (c.in_ok-push.ensures.items ∙ ap (λ (n : ℕ). c.loop-ring.ends.items ++ n ∷ []) size)
 
-pub returns-clause-ok : goal.returns-clause-ok
-returns-clause-ok g c = λ rings are.
+pub returns : goal.returns
+returns g c = λ rings are.
     (let told = c.loop-ring.invariant in
     let all = rings_all c.args.ring_points.now c.args.ring_ends.now c.loop-ring.ring c.loop-ring-test.false ∙ rings-joined rings c.args.ring_points.now c.args.ring_ends.now are in
     (told.widened, subst (λ (some : List (List Point)). AllZip (IsWidened (map way c.args.parts.now)) some told.widened) all told.each, told.points_are, told.ends_are))
