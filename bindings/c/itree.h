@@ -235,9 +235,8 @@ struct itree_polygons;
  * other and themselves, and stand there more than once.
  *
  * The first ring of a polygon is its outer one, which runs counterclockwise; those behind it are its holes, which run
- * clockwise. The polygons wind once around each point of the result, and not at all around any other, where the point isn't
- * within half a unit, on both axes, of an edge of the rings given; and around every point where all of these edges run along
- * the axes. Around no point do they wind more often. Their rings visit no point twice, and have no points on straight lines:
+ * clockwise. The polygons wind once around each point of the result, and not at all around any other, if each edge of the rings
+ * given runs along an axis, or isn't within half a unit, on both axes, of the point. Around no point do they wind more often. Their rings visit no point twice, and have no points on straight lines:
  * with these, edges of rings meet only at common ends, so a corner may touch the side of a ring. The call returns
  *   ITREE_ANSWERED  and *polygons is the caller's, also where nothing is of the result;
  *   ITREE_REFUSED   and *polygons is NULL;
@@ -270,9 +269,8 @@ void itree_polygons_free(struct itree_polygons *polygons);
 
 /* Shapes: each is some rings, as a polygon with its holes, or a multipolygon. The points of all rings, one ring after the
  * other; for each ring the place among the points at which it stops; and for each shape the place among the rings at
- * which it stops. So the ends are the offsets of the Arrow format without the first, which is 0, and a handle of
- * itree_wkb_read has shapes. Points behind the last ring and rings behind the last shape are of no shape. A ring is as
- * itree_overlay takes it; a shape may have no ring. */
+ * which it stops, both as the ends of itree_overlay. A handle of itree_wkb_read has shapes. Points behind the last ring
+ * and rings behind the last shape are of no shape. A ring is as itree_overlay takes it; a shape may have no ring. */
 struct itree_shapes {
     const struct itree_point *points;
     size_t point_count;
@@ -364,13 +362,13 @@ enum itree_side {
 /* Writes a handle of the pieces of lines that lie inside of rings, or of those that don't, by one of itree_fill_rule and
  * one of itree_side. The rings are as itree_overlay takes them.
  *
- * Lines and rings are broken where they meet, lines one another, too, each at a whole point, as itree_snap breaks edges; so
- * a line that others cross may be moved by half a unit on either axis, and has the points where they do. A part between two such points is inside where its middle is, or
- * where that lies on an edge of the broken rings. Parts that are kept and follow each other along a line are one piece,
- * which has the points between them too. In the handle the pieces are the rings, and the pieces of each line are a
- * polygon: itree_polygons_ring_offsets tells where each piece stops among the points, and itree_polygons_polygon_offsets
- * where those of each line stop among the pieces. A piece runs as its line does, and has two points at least; it isn't
- * closed. The call returns
+ * Lines and rings are broken where they meet, lines one another, too, each at a whole point, as itree_snap breaks edges;
+ * so a line that others cross may be moved by half a unit on either axis, and has the points where they do. A part between
+ * two such points is inside where its middle is, or where that lies on an edge of the broken rings. Parts that are kept
+ * and follow each other along a line are one piece, which has the points between them too. In the handle the pieces are
+ * the rings, and the pieces of each line are a polygon: itree_polygons_ring_offsets tells where each piece stops among the
+ * points, and itree_polygons_polygon_offsets where those of each line stop among the pieces. A piece runs as its line
+ * does, and has two points at least; it isn't closed. The call returns
  *   ITREE_ANSWERED  and *pieces is the caller's, also where there are none;
  *   ITREE_REFUSED   and *pieces is NULL;
  *   ITREE_POINTER   exactly where a pointer is faulty, and *pieces stays as it was;

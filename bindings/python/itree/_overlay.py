@@ -66,9 +66,8 @@ def overlay(
 
     Without a grid coordinates are whole numbers of 32 bits, which may be floats
     in shapes, and so are those of the answer: rings are broken where they meet, and moved there to the next
-    whole point. A point is told rightly, inside or not, that isn't within half
-    a unit of an edge on both axes. Where all edges run along the axes, each
-    point is.
+    whole point. A point is told rightly, inside or not, if each edge runs along
+    an axis, or isn't within half a unit of the point on both axes.
 
     With a grid coordinates are floats, and so are those of the answer, which
     are points of the grid. Where shapes have others than whole numbers of 32

@@ -12,8 +12,8 @@ use std::ops::Range;
 use std::ptr;
 
 /// Shapes, each some rings, as a polygon with its holes: the points of all rings, one ring after the other; where each ring
-/// stops among these; and where each shape stops among the rings. So the ends are the offsets of the Arrow format without the
-/// first, which is 0. Points behind the last ring and rings behind the last shape are of no shape.
+/// stops among these; and where each shape stops among the rings, both as the ends of [`crate::Rings`]. Points behind the
+/// last ring and rings behind the last shape are of no shape.
 ///
 /// `Polygons`, `Shapes` and a `LayerBuf` are such shapes, by a reference to them.
 #[derive(Clone, Copy, Debug, Default, PartialEq, Eq)]

@@ -1032,9 +1032,8 @@ pub fn snap(edges: &[Edge]) -> Result<Chains, Refused> {
 /// again, run either way, and have one point or none. Rings may cross, touch and lie along each other and themselves, and
 /// stand there more than once. The rule says which points are inside.
 ///
-/// The polygons wind once around each point of the result, and not at all around any other, where the point isn't within
-/// half a unit, on both axes, of an edge of the rings given; and around every point where all of these edges run along the
-/// axes. Around no point do they wind more often. Their rings visit no point twice, and have no points on straight lines:
+/// The polygons wind once around each point of the result, and not at all around any other, if each edge of the rings given
+/// runs along an axis, or isn't within half a unit, on both axes, of the point. Around no point do they wind more often. Their rings visit no point twice, and have no points on straight lines:
 /// with these, edges of rings meet only at common ends, so a corner may touch the side of a ring.
 ///
 /// ```

@@ -114,13 +114,6 @@ in_order_below u v upto from within =
     of_order : (m n : ℕ) → m ≤ n → neg_ℤ (pos n) ≤ℤ neg_ℤ (pos m)
     of_order m n h = omega (arith, ints)
 
-pub in_order_across : (u v : ℕ) → 2 ^ 63 ≤ u → v < 2 ^ 63 → in_leasts u ≤ℤ in_leasts v
-in_order_across u v from within =
-    subst (λ (z : ℤ). z ≤ℤ in_leasts v) (sym (below u from)) (subst (λ (z : ℤ). neg_ℤ (pos (magnitude u)) ≤ℤ z) (sym (above v within)) (of_order (magnitude u) (magnitude v)))
-  where
-    of_order : (m n : ℕ) → neg_ℤ (pos m) ≤ℤ pos n
-    of_order m n = omega (arith, ints)
-
 decided : (b : Bool) (P Q : Type 0) → (b ≡ true → P) → (b ≡ false → Q) → MatchBool b P Q
 decided true P Q on_true on_false = on_true refl
 decided false P Q on_true on_false = on_false refl

@@ -34,6 +34,7 @@ fn corners_of_some(positions: &[Position]) -> Result<(Position, Position), usize
 {
     let mut low = positions[0];
     let mut high = positions[0];
+    // The positions before are finite, and `low` and `high` are their corners and the first one's.
     for (i, position) in positions.iter().enumerate() {
         if !is_finite_position(*position) {
             return Err(i);

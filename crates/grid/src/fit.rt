@@ -93,6 +93,7 @@ fn finest(low: Position, high: Position) -> Option<Grid>
     ensures grid { IfSome result (λ grid. IsGrid grid) }
     ensures none { IfNone result ((scale : ℕ) → scale ≤ 2044 → IsScale low high scale → ⊥) }
 {
+    // No scale before this one has a grid that fits.
     for scale in least_scale(low, high)..2045 {
         if let Some(grid) = grid_of(low, high, scale) {
             return Some(grid);

@@ -67,9 +67,6 @@ pub record Taken (words rest : List (Bor (List ℕ))) (ring : List Point) : Type
   pub onwards : (more : List Point) → SaysPoints rest more → SaysPoints words (ring ++ more)
   pub left : (whole : List Point) → SaysPoints words whole → (more : List Point) × SaysPoints rest more
 
-pub Taken-none : (words : List (Bor (List ℕ))) → Taken words words []
-Taken-none words = record { onwards = λ more says. says; left = λ whole says. (whole, says) }
-
 -- the next two words, or the last one
 module _ (words before pair rest : List (Bor (List ℕ))) (ring : List Point) (taken : Taken words before ring) (size : ℕ) (is_two : size ≡ 2) (cut : before ≡ pair ++ rest) (many : length pair ≡ min size (length before)) (some : 0 < length before) where
   found : (whole : List Point) → SaysPoints words whole → ((x : ℤ) × (y : ℤ) × ReadsAll (map (λ word. word.now) pair) (x ∷ y ∷ [])) × ((more : List Point) × SaysPoints rest more)

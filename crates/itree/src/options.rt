@@ -28,6 +28,7 @@ pub fn chosen<'a>(words: &[&'a str]) -> Option<(&'a str, &'a str)> {
     let mut operation = "union";
     let mut rule = "nonzero";
     let mut place = 1;
+    // `operation` and `rule` are what the options before `place` give.
     'options: while place < words.len() {
         let option = option_at(words, place)?;
         match option.choice {

@@ -1,14 +1,15 @@
--- What the calls share that write a handle: the status and the parts of a box that a private call answers, and what the
--- box owns, which the handle leads to.
+-- What the calls share that have to do with a handle: the status and the parts of a box that a private call answers, and
+-- what the box owns, which the handle leads to.
 --
 -- A handle of another kind takes:
 --   a type as `Pairs`, and in `specs` what a handle of it owns, as `owns_pairs`, and what its call answers, as
 --   `AnswersAll`;
 --   a private call that answers `(i32, Raw<Kind, Global>)`, as `all_meetings`: it is proved as ever;
---   an export with the clause `made`, as `itree_meetings_all`, and its walk over the row of the kind: behind the private
---   call `parts_out` takes the answer apart, and at the end `made_in` makes the clause of what is owned. Only what is
---   done with the parameters is its own: `itree_meetings_between` has one slice more, `itree_overlay` four and two numbers;
---   walks as those of `itree_pairs_first` and `itree_pairs_free` for what reads it and what frees it: `held_out` opens
+--   an export with the clause `made`, as `itree_meetings_all`, and a proof over the row of the kind: `makes` (HandleMade)
+--   where the private call takes one list, `makes_by` (HandleMadeBy) where it takes two structs of points and of where
+--   these stop, and two numbers. Another export has a walk of its own, as `itree_meetings_between`: behind the private call
+--   `parts_out` takes the answer apart, and at the end `made_in` makes the clause of what is owned;
+--   `reads` (HandleReads) for each list that is read of it, and `frees` (HandleFrees) for what frees it. `held_out` opens
 --   what the handle owns, and `held_in` closes it.
 -- The walks take the names of the toolchain's logic from `Steps`.
 use Rattle.std.proofs.Common.{◌≡◌, ℕ, ℤ, List, [], ◌∷◌, ◌++◌, refl, sym, ap, ◌∙◌, Bool, true, false, ◌&&◌, w32, Option, Some}
@@ -55,7 +56,7 @@ al = record { row = Z; laws = heap_laws.the_row_laws; g = ghosts; d = impl [] tn
 abbrev pub parts_word : Val → ℕ → ℕ → Val
 parts_word h b o = vstruct (vcons (vptr b o) (vcons h vnil))
 
-both_tt : (x y : Bool) → T x → T y → T (x && (y && true))
+pub both_tt : (x y : Bool) → T x → T y → T (x && (y && true))
 both_tt true true s t = tt
 both_tt true false s t = absurd t
 both_tt false y s t = absurd s

@@ -1,3 +1,10 @@
+pub mod HandleFrees
 pub mod HandleLemmas
+pub mod HandleMade
+pub mod HandleMadeBy
+pub mod HandleReads
 pub mod LayerLemmas
+pub mod ListsMade
+pub mod ShapesMade
+pub mod SideMade
 pub mod Steps

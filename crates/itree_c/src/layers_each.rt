@@ -14,8 +14,15 @@ use crate::handle::Handle;
 use crate::polygon_lists::{PolygonLists, boxed_lists};
 use crate::raw::Raw;
 use crate::status::{ANSWERED, CHOICE, LENGTHS, REFUSED};
-use layers::{FillRule, Groups, LayerFault, Operation, Point, Polygons, Shapes, overlay_each};
+use layers::{FillRule, GroupedShapes, Groups, LayerFault, Operation, Point, Polygons, Shapes, overlay_each};
 use std::alloc::Global;
+
+// One side of the overlays: all its shapes, and which of them are of each group.
+#[derive(Clone, Copy)]
+struct Side<'a> {
+    shapes: Shapes<'a>,
+    groups: Groups<'a>,
+}
 
 /// Writes a handle of the polygons of what the operation makes of each group of the subject's shapes and the clip's group at the same
 /// place, one group after another, or null; and where the polygons of each group stop among all.
@@ -55,16 +62,28 @@ pub unsafe extern "C" fn itree_overlay_each<'a>(
 {
     let (status, Raw { at, alloc: _ }) = all_each(
         alloc,
-        subjects,
-        subject_ring_ends,
-        subject_shape_ends,
-        subject_places,
-        subject_group_ends,
-        clips,
-        clip_ring_ends,
-        clip_shape_ends,
-        clip_places,
-        clip_group_ends,
+        Side {
+            shapes: Shapes {
+                points: subjects,
+                ring_ends: subject_ring_ends,
+                shape_ends: subject_shape_ends,
+            },
+            groups: Groups {
+                places: subject_places,
+                ends: subject_group_ends,
+            },
+        },
+        Side {
+            shapes: Shapes {
+                points: clips,
+                ring_ends: clip_ring_ends,
+                shape_ends: clip_shape_ends,
+            },
+            groups: Groups {
+                places: clip_places,
+                ends: clip_group_ends,
+            },
+        },
         rule,
         operation,
         ends,
@@ -76,83 +95,22 @@ pub unsafe extern "C" fn itree_overlay_each<'a>(
 // The status of the call, and the polygons or null.
 fn all_each<'a>(
     alloc: Global,
-    subjects: &'a [Point],
-    subject_ring_ends: &'a [usize],
-    subject_shape_ends: &'a [usize],
-    subject_places: &'a [usize],
-    subject_group_ends: &'a [usize],
-    clips: &'a [Point],
-    clip_ring_ends: &'a [usize],
-    clip_shape_ends: &'a [usize],
-    clip_places: &'a [usize],
-    clip_group_ends: &'a [usize],
+    subject: Side<'a>,
+    clip: Side<'a>,
     rule: i32,
     operation: i32,
     ends: &mut [usize],
 ) -> (i32, Raw<PolygonLists, Global>)
-    ensures { AnswersEach
-        (record { points = subjects.entry; ring_ends = subject_ring_ends.entry; shape_ends = subject_shape_ends.entry })
-        (record { places = subject_places.entry; ends = subject_group_ends.entry })
-        (record { points = clips.entry; ring_ends = clip_ring_ends.entry; shape_ends = clip_shape_ends.entry })
-        (record { places = clip_places.entry; ends = clip_group_ends.entry })
-        rule operation ends.old ends.new result.0 result.1.value }
-{
-    each_of(
-        alloc,
-        Shapes {
-            points: subjects,
-            ring_ends: subject_ring_ends,
-            shape_ends: subject_shape_ends,
-        },
-        Groups {
-            places: subject_places,
-            ends: subject_group_ends,
-        },
-        Shapes {
-            points: clips,
-            ring_ends: clip_ring_ends,
-            shape_ends: clip_shape_ends,
-        },
-        Groups {
-            places: clip_places,
-            ends: clip_group_ends,
-        },
-        rule,
-        operation,
-        ends,
-    )
-}
-
-// The status of the call, of shapes and groups, and the polygons or null.
-fn each_of(
-    alloc: Global,
-    subjects: Shapes,
-    subject_groups: Groups,
-    clips: Shapes,
-    clip_groups: Groups,
-    rule: i32,
-    operation: i32,
-    ends: &mut [usize],
-) -> (i32, Raw<PolygonLists, Global>)
-    ensures { AnswersEach subjects.entry subject_groups.entry clips.entry clip_groups.entry
+    ensures { AnswersEach subject.entry.shapes subject.entry.groups clip.entry.shapes clip.entry.groups
         rule operation ends.old ends.new result.0 result.1.value }
 {
     let (Some(rule), Some(operation)) = (rule_of(rule), operation_of(operation)) else {
         return (CHOICE, Raw::null(alloc));
     };
-    if ends.len() != subject_groups.ends.len() {
+    if ends.len() != subject.groups.ends.len() {
         return (LENGTHS, Raw::null(alloc));
     }
-    match boxed_each(
-        alloc,
-        subjects,
-        subject_groups,
-        clips,
-        clip_groups,
-        rule,
-        operation,
-        ends,
-    ) {
+    match boxed_each(alloc, subject, clip, rule, operation, ends) {
         Ok(polygons) => (ANSWERED, Raw::of(polygons)),
         Err(LayerFault::Refused(_)) => (REFUSED, Raw::null(alloc)),
         Err(LayerFault::Lengths) => (LENGTHS, Raw::null(alloc)),
@@ -163,32 +121,34 @@ fn each_of(
 // The polygons of all groups, on the heap. Where those of each stop is written.
 fn boxed_each(
     alloc: Global,
-    subjects: Shapes,
-    subject_groups: Groups,
-    clips: Shapes,
-    clip_groups: Groups,
+    subject: Side,
+    clip: Side,
     rule: FillRule,
     operation: Operation,
     ends: &mut [usize],
 ) -> Result<Box<PolygonLists, Global>, LayerFault>
-    requires { length ends.old ≡ length subject_groups.ends.now }
+    requires { length ends.old ≡ length subject.groups.ends.now }
     ensures ok { IfOk result (λ polygons. AreAllOfEach rule operation
-        (edges_of_groups subjects.entry subject_groups.entry) (edges_of_groups clips.entry clip_groups.entry)
+        (edges_of_groups subject.entry.shapes subject.entry.groups) (edges_of_groups clip.entry.shapes clip.entry.groups)
         ends.new polygons.value) }
     ensures err { OnErr result (ends.new ≡ ends.old) }
     ensures lengths { (result ≡ Err Lengths)
-        ↔ ¬ (HaveLengths subjects.entry subject_groups.entry clips.entry clip_groups.entry) }
+        ↔ ¬ (HaveLengths subject.entry.shapes subject.entry.groups clip.entry.shapes clip.entry.groups) }
     ensures no_shape { (result ≡ Err NoShape)
-        ↔ (HaveLengths subjects.entry subject_groups.entry clips.entry clip_groups.entry
-        × (¬ (HaveShapes subjects.entry subject_groups.entry clips.entry clip_groups.entry))) }
+        ↔ (HaveLengths subject.entry.shapes subject.entry.groups clip.entry.shapes clip.entry.groups
+        × (¬ (HaveShapes subject.entry.shapes subject.entry.groups clip.entry.shapes clip.entry.groups))) }
 {
     let mut made = Polygons::new(alloc);
     let mut found = Vec::new(alloc);
     overlay_each(
-        subjects,
-        subject_groups,
-        clips,
-        clip_groups,
+        GroupedShapes {
+            shapes: subject.shapes,
+            groups: subject.groups,
+        },
+        GroupedShapes {
+            shapes: clip.shapes,
+            groups: clip.groups,
+        },
         rule,
         operation,
         &mut made,

@@ -44,10 +44,14 @@ pub unsafe extern "C" fn itree_clip_lines<'a>(
 {
     let (status, Raw { at, alloc: _ }) = all_pieces(
         alloc,
-        line_points,
-        line_ends,
-        points,
-        ring_ends,
+        Lines {
+            points: line_points,
+            ends: line_ends,
+        },
+        Rings {
+            points,
+            ends: ring_ends,
+        },
         rule,
         side,
     );
@@ -58,28 +62,15 @@ pub unsafe extern "C" fn itree_clip_lines<'a>(
 // The status of the call, and the pieces or null.
 fn all_pieces<'a>(
     alloc: Global,
-    line_points: &'a [Point],
-    line_ends: &'a [usize],
-    points: &'a [Point],
-    ring_ends: &'a [usize],
+    lines: Lines<'a>,
+    rings: Rings<'a>,
     rule: i32,
     side: i32,
 ) -> (i32, Raw<PolygonLists, Global>)
-    ensures { AnswersPieces
-        (record { points = line_points.entry; ends = line_ends.entry })
-        (record { points = points.entry; ends = ring_ends.entry })
-        rule side result.0 result.1.value }
+    ensures { AnswersPieces lines.entry rings.entry rule side result.0 result.1.value }
 {
     let (Some(rule), Some(keep)) = (rule_of(rule), keep_of(side)) else {
         return (CHOICE, Raw::null(alloc));
-    };
-    let lines = Lines {
-        points: line_points,
-        ends: line_ends,
-    };
-    let rings = Rings {
-        points,
-        ends: ring_ends,
     };
     match boxed_pieces(alloc, lines, rings, rule, keep) {
         Ok(pieces) => (ANSWERED, Raw::of(pieces)),

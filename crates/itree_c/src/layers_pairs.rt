@@ -43,12 +43,16 @@ pub unsafe extern "C" fn itree_box_pairs<'a>(
 {
     let (status, Raw { at, alloc: _ }) = all_box_pairs(
         alloc,
-        points,
-        ring_ends,
-        shape_ends,
-        other_points,
-        other_ring_ends,
-        other_shape_ends,
+        Shapes {
+            points,
+            ring_ends,
+            shape_ends,
+        },
+        Shapes {
+            points: other_points,
+            ring_ends: other_ring_ends,
+            shape_ends: other_shape_ends,
+        },
     );
     *pairs = at as *mut Handle;
     status
@@ -81,9 +85,11 @@ pub unsafe extern "C" fn itree_points_in<'a>(
     let (status, Raw { at, alloc: _ }) = all_points_in(
         alloc,
         points,
-        shape_points,
-        ring_ends,
-        shape_ends,
+        Shapes {
+            points: shape_points,
+            ring_ends,
+            shape_ends,
+        },
         rule,
         border,
     );
@@ -94,28 +100,11 @@ pub unsafe extern "C" fn itree_points_in<'a>(
 // The status of the call, and the pairs or null.
 fn all_box_pairs<'a>(
     alloc: Global,
-    points: &'a [Point],
-    ring_ends: &'a [usize],
-    shape_ends: &'a [usize],
-    other_points: &'a [Point],
-    other_ring_ends: &'a [usize],
-    other_shape_ends: &'a [usize],
+    shapes: Shapes<'a>,
+    others: Shapes<'a>,
 ) -> (i32, Raw<Pairs, Global>)
-    ensures { AnswersBoxPairs
-        (record { points = points.entry; ring_ends = ring_ends.entry; shape_ends = shape_ends.entry })
-        (record { points = other_points.entry; ring_ends = other_ring_ends.entry; shape_ends = other_shape_ends.entry })
-        result.0 result.1.value }
+    ensures { AnswersBoxPairs shapes.entry others.entry result.0 result.1.value }
 {
-    let shapes = Shapes {
-        points,
-        ring_ends,
-        shape_ends,
-    };
-    let others = Shapes {
-        points: other_points,
-        ring_ends: other_ring_ends,
-        shape_ends: other_shape_ends,
-    };
     match boxed_box_pairs(alloc, shapes, others) {
         Ok(pairs) => (ANSWERED, Raw::of(pairs)),
         Err(LayerFault::Lengths) => (LENGTHS, Raw::null(alloc)),
@@ -141,23 +130,14 @@ fn boxed_box_pairs(
 fn all_points_in<'a>(
     alloc: Global,
     points: &'a [Point],
-    shape_points: &'a [Point],
-    ring_ends: &'a [usize],
-    shape_ends: &'a [usize],
+    shapes: Shapes<'a>,
     rule: i32,
     border: i32,
 ) -> (i32, Raw<Pairs, Global>)
-    ensures { AnswersPointsIn points.now
-        (record { points = shape_points.entry; ring_ends = ring_ends.entry; shape_ends = shape_ends.entry })
-        rule border result.0 result.1.value }
+    ensures { AnswersPointsIn points.now shapes.entry rule border result.0 result.1.value }
 {
     let (Some(rule), Some(border)) = (rule_of(rule), border_of(border)) else {
         return (CHOICE, Raw::null(alloc));
-    };
-    let shapes = Shapes {
-        points: shape_points,
-        ring_ends,
-        shape_ends,
     };
     match boxed_points_in(alloc, points, shapes, rule, border) {
         Ok(pairs) => (ANSWERED, Raw::of(pairs)),

@@ -80,6 +80,7 @@ fn write_first(found: &[(usize, usize)], pairs: &mut [Pair])
     ensures { WritesFirst found.now pairs.old pairs.new }
 {
     let most = found.len().min(pairs.len());
+    // The pairs before this place are those of what was found.
     for place in 0..most {
         let (first, second) = found[place];
         pairs[place] = Pair { first, second };

@@ -26,12 +26,12 @@ use std::alloc::Global;
 /// or behind the points, `CHOICE` (5) where no rule or no operation has the number: then null is written, and all memory has
 /// been given back. At `CHOICE` the ends aren't looked at. What the polygons are is said at `overlay` of `monotone_chains`.
 #[unsafe(no_mangle)]
-pub unsafe extern "C" fn itree_overlay(
+pub unsafe extern "C" fn itree_overlay<'a>(
     alloc: Global,
-    subject: &[Point],
-    subject_ends: &[usize],
-    clip: &[Point],
-    clip_ends: &[usize],
+    subject: &'a [Point],
+    subject_ends: &'a [usize],
+    clip: &'a [Point],
+    clip_ends: &'a [usize],
     rule: i32,
     operation: i32,
     polygons: &mut *mut Handle,
@@ -42,10 +42,14 @@ pub unsafe extern "C" fn itree_overlay(
 {
     let (status, Raw { at, alloc: _ }) = all_polygons(
         alloc,
-        subject,
-        subject_ends,
-        clip,
-        clip_ends,
+        Rings {
+            points: subject,
+            ends: subject_ends,
+        },
+        Rings {
+            points: clip,
+            ends: clip_ends,
+        },
         rule,
         operation,
     );
@@ -122,27 +126,18 @@ pub unsafe extern "C" fn itree_polygons_free(alloc: Global, polygons: *mut Handl
 }
 
 // The status of the call, and the polygons or null.
-fn all_polygons(
+fn all_polygons<'a>(
     alloc: Global,
-    subject: &[Point],
-    subject_ends: &[usize],
-    clip: &[Point],
-    clip_ends: &[usize],
+    subject: Rings<'a>,
+    clip: Rings<'a>,
     rule: i32,
     operation: i32,
 ) -> (i32, Raw<PolygonLists, Global>)
-    ensures { AnswersOverlay subject.now subject_ends.now clip.now clip_ends.now rule operation result.0 result.1.value }
+    ensures { AnswersOverlay subject.entry.points.now subject.entry.ends.now clip.entry.points.now clip.entry.ends.now
+        rule operation result.0 result.1.value }
 {
     let (Some(rule), Some(operation)) = (rule_of(rule), operation_of(operation)) else {
         return (CHOICE, Raw::null(alloc));
-    };
-    let subject = Rings {
-        points: subject,
-        ends: subject_ends,
-    };
-    let clip = Rings {
-        points: clip,
-        ends: clip_ends,
     };
     match boxed_polygons(alloc, subject, clip, rule, operation) {
         Ok(polygons) => (ANSWERED, Raw::of(polygons)),

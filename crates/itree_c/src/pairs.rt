@@ -57,6 +57,7 @@ fn pairs_of(
     let count = places.len();
     let mut pairs = Vec::new(alloc);
     pairs.reserve_exact(count)?;
+    // The pairs are those of the places that were taken off the end, in that order.
     for _written in 0..count {
         if let Some((first, second)) = places.pop() {
             pairs.push_reserved(Pair { first, second });

@@ -12,7 +12,7 @@ use grid::Grid;
 use grid::units::is_grid;
 use plane::point::Point;
 use std::alloc::Global;
-use wkb::{are_ends, write};
+use wkb::{PolygonPoints, are_ends, write};
 
 /// Writes polygons whose points are of the grid as well-known binary, and how many bytes that takes.
 ///
@@ -53,7 +53,12 @@ pub extern "C" fn itree_wkb_write(
     if !have_room(points, ring_ends, polygon_ends) {
         return LENGTHS;
     }
-    let Ok(told) = write(alloc, points, ring_ends, polygon_ends, grid, form, srid) else {
+    let polygons = PolygonPoints {
+        points,
+        ring_ends,
+        polygon_ends,
+    };
+    let Ok(told) = write(alloc, polygons, grid, form, srid) else {
         return REFUSED;
     };
     *size = told.len();

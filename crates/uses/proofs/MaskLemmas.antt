@@ -15,8 +15,9 @@ use Rattle.overlay.specs.declared.fill.rules.Operation.TheVariants.{Difference}
 use Rattle.overlay.specs.Boundary.{result_at}
 use Rattle.overlay.specs.Contours.Rings.{ring_edges}
 use Rattle.overlay.specs.Fill.Rules.{is_inside}
+use Rattle.plane.specs.Lines.{IsAlongAxis}
 use Rattle.noding.specs.Offsets.{AreJoined, offsets}
-use Rattle.noding.specs.Windings.{IsAlongAxis, winding, count}
+use Rattle.noding.specs.Windings.{winding, count}
 use Rattle.noding.proofs.SnapLemmas.Counted.{counted, covers, is_low}
 use Rattle.noding.proofs.SnapLemmas.Exact.{low_level}
 use Rattle.noding.proofs.SnapLemmas.Windings.{back, under-left, under-right, winding-added, winding-append}

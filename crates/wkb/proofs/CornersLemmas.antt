@@ -1,5 +1,5 @@
 -- What the corners of shapes rest on.
-use Rattle.std.proofs.Common.{◌≡◌, ℕ, suc, ◌+◌, ◌-◌, ◌≤◌, ◌<◌, List, [], ◌∷◌, ◌++◌, length, get_or, take, drop, refl, sym, subst, ap, ◌∙◌, inl, inr, arith, length-append, add-one, append_assoc, ◌^◌}
+use Rattle.std.proofs.Common.{◌≡◌, ℕ, suc, ◌+◌, ◌-◌, ◌<◌, List, [], ◌∷◌, ◌++◌, length, get_or, take, drop, refl, sym, subst, ap, ◌∙◌, inl, inr, arith, length-append, add-one, append_assoc, ◌^◌}
 use Rattle.std.proofs.Math.Seq.{get_or-append_right, take-suc, take-length, drop-append_seam}
 use Rattle.std.proofs.Math.ListN.{get_or-append}
 use Rattle.std.proofs.lemmas.Bool.{cases_lt}
@@ -13,10 +13,8 @@ use Rattle.grid.specs.Grid.{IsFinitePosition}
 use Rattle.wkb.specs.declared.fault.LayoutFault.{LayoutFault}
 use Rattle.wkb.specs.declared.fault.LayoutFault.TheVariants.{Refused, Flawed}
 use Rattle.wkb.specs.declared.structure.RingAt.{RingAt}
-use Rattle.wkb.specs.Corners.{AppendsPositions, IsCornersFault, IsInfiniteAmong, IsInfiniteFlaw, IsInfiniteOf, LaysPositions}
+use Rattle.wkb.specs.Corners.{AppendsPositions, IsCornersFault, IsInfiniteFlaw, LaysPositions}
 use Rattle.wkb.specs.Reading.{IfFaulty, IfFlawed, fault_among, shape_bytes}
-use Rattle.std.proofs.lemmas.List.{get_or_default}
-use Rattle.wkb.proofs.RingLemmas.{no_ring}
 
 -- All of both lists are finite.
 pub AreFinite-append : (xs ys : List Position) → AreFinite xs → AreFinite ys → AreFinite (xs ++ ys)
@@ -40,12 +38,6 @@ one_more f rings i d front positions new_positions lt so_far more =
     more ∙ ap (λ (ps : List Position). ps ++ f (get_or rings i d)) so_far ∙ append_assoc front (flat_map f (take i rings)) (f (get_or rings i d))
     ∙ sym (ap (λ (ps : List Position). front ++ ps) (ap (λ (rs : List RingAt). flat_map f rs) taken ∙ here ∙ ap (λ (ps : List Position). flat_map f (take i rings) ++ ps) single))
 
--- What is wrong with one of some rings.
-pub infinite_among : (e : LayoutFault) (bytes : List ℕ) (rings : List RingAt) (i : ℕ) → i < length rings → IfFlawed e (λ flaw. IsInfiniteOf bytes (get_or rings i no_ring) flaw) → IfFlawed e (λ flaw. IsInfiniteAmong bytes rings flaw)
-infinite_among (Refused r) bytes rings i lt h = tt
-infinite_among (Flawed flaw) bytes rings i lt h =
-    record { place = i; ring = get_or rings i no_ring; below = lt; stands = get_or_default rings i no_ring (get_or rings i no_ring) lt; is = h }
-
 -- ---- shapes one after the other
 
 pub one_more_shape : (most_nested : ℕ) (bytes offsets : List ℕ) (count shape : ℕ) (positions new_positions last : List Position) → shape < count
@@ -55,11 +47,6 @@ pub one_more_shape : (most_nested : ℕ) (bytes offsets : List ℕ) (count shape
 one_more_shape most_nested bytes offsets count shape positions new_positions last lt is rest =
     let k : suc (count - (shape + 1)) ≡ count - shape = omega arith in
     subst (λ (n : ℕ). AppendsPositions most_nested bytes offsets n shape positions last) k (new_positions, is, rest)
-
-pub no_more_shapes : (most_nested : ℕ) (bytes offsets : List ℕ) (count shape : ℕ) (positions : List Position) → count ≤ shape → AppendsPositions most_nested bytes offsets (count - shape) shape positions positions
-no_more_shapes most_nested bytes offsets count shape positions le =
-    let k : 0 ≡ count - shape = omega arith in
-    subst (λ (n : ℕ). AppendsPositions most_nested bytes offsets n shape positions positions) k refl
 
 pub fault_of_shape : (e : LayoutFault) (most_nested : ℕ) (bytes offsets : List ℕ) (shape start : ℕ) → shape + 1 < length offsets → start ≡ slice_index offsets shape
     → IfFlawed e (λ flaw. IsInfiniteFlaw most_nested (shape_bytes bytes offsets shape) flaw) → IfFaulty (fault_among e shape start) (λ fault. IsCornersFault most_nested bytes offsets fault)

@@ -1,23 +1,15 @@
 -- What the points of a ring rest on.
-use Rattle.std.proofs.Common.{◌≡◌, ℕ, ◌+◌, ◌-◌, ◌≤◌, ◌<◌, Bool, true, false, cond, List, [], ◌∷◌, ◌++◌, length, drop, get_or, All, refl, sym, ap, subst, ◌∙◌, arith, add-one, drop-cons, suc, inr, ◌^◌}
+use Rattle.std.proofs.Common.{◌≡◌, ℕ, ◌+◌, ◌-◌, ◌≤◌, ◌<◌, Bool, true, false, cond, List, [], ◌∷◌, ◌++◌, length, drop, get_or, refl, sym, ap, subst, ◌∙◌, arith, add-one, drop-cons, suc, inr, ◌^◌}
 use Rattle.std.specs.Prelude.{min, slice_index}
 use Rattle.std.proofs.lemmas.List.FromFn.{length-map-range_with_len}
 use Rattle.std.proofs.lemmas.List.{get_or_default}
 use Rattle.plane.specs.declared.point.Point.{Point}
-use Rattle.grid.specs.declared.position.Position.{Position}
 use Rattle.grid.specs.declared.units.Grid.{Grid}
-use Rattle.grid.specs.Grid.{IsFinitePosition}
 use Rattle.wkb.specs.declared.structure.RingAt.{RingAt}
 use Rattle.wkb.specs.Coordinates.{position, open_count, is_closed, positions_of}
 use Rattle.wkb.specs.declared.fault.LayoutFault.{LayoutFault}
 use Rattle.wkb.specs.declared.fault.LayoutFault.TheVariants.{Refused, Flawed}
-use Rattle.wkb.specs.Reading.{AreTold, IsRing, IsRingFlaw, IsRingsFlaw, AppendsRings, IfFlawed, AppendsShape, AppendsShapes, IsShapeFlaw, IfFaulty, IsFaulty, fault_among, shape_bytes}
-
--- What points tell is finite.
-pub finite_of : (grid : Grid) (positions : List Position) (told : List Point) → AreTold grid positions told → All IsFinitePosition positions
-finite_of grid positions told t k d lt =
-    let told_here = t.each k lt in
-    rw (get_or_default positions k d (record { x = 0; y = 0 }) lt) told_here.finite
+use Rattle.wkb.specs.Reading.{IsRing, IsRingFlaw, IsRingsFlaw, AppendsRings, IfFlawed, AppendsShape, AppendsShapes, IsShapeFlaw, IfFaulty, IsFaulty, fault_among, shape_bytes}
 
 one_less : (b : Bool) (n : ℕ) → cond b (n - 1) n ≤ n
 one_less true n = omega arith

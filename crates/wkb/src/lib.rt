@@ -20,7 +20,7 @@ pub mod writing;
 pub use coordinates::append_positions;
 pub use corners::corners_of;
 pub use fault::{Fault, FaultKind, Flaw, LayoutFault, ReadFault};
-pub use points_written::write;
+pub use points_written::{PolygonPoints, write};
 pub use reading::{Shapes, read};
 pub use srid::srid_of;
 pub use structure::{RingAt, layout};

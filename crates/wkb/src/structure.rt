@@ -68,6 +68,7 @@ fn rings_at<A: Allocator>(
     ensures within { IfOk result (λ end. end ≤ length bytes.now) }
 {
     let mut end = place;
+    // `end` is where the ring before stops, within the bytes.
     for index in 0..count {
         let ring = ring_at(header, 0 < index, bytes, end)?;
         end = ring.start + ring.count as usize * ring.stride;
@@ -124,6 +125,7 @@ fn parts_at<A: Allocator>(
     ensures within { IfOk result (λ end. end ≤ length bytes.now) }
 {
     let mut end = place;
+    // `end` is where the part before stops, within the bytes.
     for _ in 0..count {
         end = part_at(bytes, end, rings)?;
     }
@@ -171,6 +173,7 @@ fn geometry_at<A: Allocator>(
     }
     let count = word_at(header.is_big_endian, bytes, header.end)?;
     let mut end = header.end + 4;
+    // `end` is where the geometry before stops, within the bytes.
     for _ in 0..count {
         end = geometry_at(bytes, end, most_nested - 1, rings)?;
     }

@@ -95,6 +95,7 @@ pub fn are_ends(ends: &[usize], limit: usize) -> bool
     ensures yes { IsTrue result → AreEnds ends.now limit }
     ensures no { AreEnds ends.now limit → IsTrue result }
 {
+    // Each piece before stops where it starts or later, and not behind the limit.
     for index in 0..ends.len() {
         if !is_end(ends, index, limit) {
             return false;
@@ -137,6 +138,7 @@ fn put_rings<A: Allocator>(
     requires range { (start ≤ end) × (end ≤ length ring_ends.now) }
     ensures { OnOk result (bytes.new.items ≡ bytes.old.items ++ flat_map ring (map (ring_of positions.now ring_ends.now) (range_with_len start (end - start)))) }
 {
+    // The rings from the start on and before this one are appended.
     for index in start..end {
         let positions_of_ring = ring_of(positions, ring_ends, index);
         put_ring(positions_of_ring, bytes)?;
@@ -180,6 +182,7 @@ fn put_polygons<A: Allocator>(
     requires polygons { AreEnds polygon_ends.now (length ring_ends.now) }
     ensures { OnOk result (bytes.new.items ≡ bytes.old.items ++ flat_map (polygon srid) (polygons_of positions.now ring_ends.now polygon_ends.now)) }
 {
+    // The polygons before this one are appended.
     for index in 0..polygon_ends.len() {
         let start = start_of(polygon_ends, index);
         put_polygon(

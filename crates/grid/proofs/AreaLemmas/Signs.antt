@@ -1,5 +1,5 @@
 -- Numbers with their signs.
-use Rattle.std.proofs.Common.{◌≡◌, ℕ, zero, suc, ◌+◌, ◌*◌, ◌^◌, ◌<◌, ◌↔◌, Bool, true, false, List, refl, sym, ◌∙◌, ap, arith}
+use Rattle.std.proofs.Common.{◌≡◌, ℕ, zero, suc, ◌+◌, ◌*◌, ◌^◌, ◌<◌, ◌↔◌, Bool, true, false, List, sym, ◌∙◌, ap, arith}
 use Rattle.std.specs.Prelude.{ℤ, pos, negsuc, ◌+ℤ◌, ◌-ℤ◌, ◌*ℤ◌, neg_ℤ, ◌<ℤ◌, not}
 use Rattle.std.proofs.Math.IntN.{*ℤ-zero, *ℤ-negsuc, *ℤ_comm, neg_ℤ-neg_ℤ, pos-*ℤ-pos}
 use Rattle.std.proofs.Math.Bool.{beq}
@@ -31,10 +31,6 @@ pub signed-mul_powers : (a b : Bool) (m n d e : ℕ) → signed (not (beq a b)) 
 signed-mul_powers a b m n d e =
     ap (λ (k : ℕ). signed (not (beq a b)) k) (ap (λ (k : ℕ). m * n * k) (pow-add 2 d e) ∙ powers_apart m n (2 ^ d) (2 ^ e))
     ∙ sym (signed-mul a b (m * 2 ^ d) (n * 2 ^ e))
-
-pub signed-not : (a : Bool) (n : ℕ) → signed (not a) n ≡ neg_ℤ (signed a n)
-signed-not true n = sym (neg_ℤ-neg_ℤ (pos n))
-signed-not false n = refl
 
 -- What is added, and what is taken.
 pub left_of-add : (added taken more : List ℕ) (n : ℕ) → number_of more ≡ number_of added + n → left_of more taken ≡ left_of added taken +ℤ signed false n

@@ -41,6 +41,7 @@ pub fn runs_counterclockwise(ring: &[Position]) -> bool
     let mut taken = zero();
     let start = position_parts_of(*first);
     let mut from = start;
+    // `from` is the position before, and twice the area of the edges up to it is what was added less what was taken.
     for position in rest {
         let to = position_parts_of(*position);
         add_edge(from, to, &mut added, &mut taken);

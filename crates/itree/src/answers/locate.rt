@@ -90,6 +90,7 @@ fn edge_numbers<A: Allocator>(
     ensures { IfOk result (λ kept. kept.items ≡ numbers_of_edges said.now numbers.now) }
 {
     let mut kept = Vec::new(alloc);
+    // The numbers of the lines before that say edges are kept.
     for place in 0..said.len() {
         if said[place].edge().is_some() {
             kept.push(numbers[place])?;

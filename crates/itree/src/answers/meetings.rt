@@ -65,6 +65,7 @@ fn tell<A: Allocator>(
     requires empty { lists_of replies.old ≡ replicate (length replies.old) [] }
     ensures { OnOk result (AreTold numbers.now pairs.now (length replies.old) (lists_of replies.new)) }
 {
+    // Each pair before is told at its later place, in order.
     for pair in pairs {
         let (earlier, later) = *pair;
         replies[later].numbers.push(numbers[earlier])?;

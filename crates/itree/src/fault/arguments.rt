@@ -100,6 +100,7 @@ fn faulty_option(words: &[&str]) -> FaultyArgument
     ensures { result.place < length words.now }
 {
     let mut place = 1;
+    // Before `place` each word is an option, or the value of one.
     'options: while place < words.len() {
         match option_at(words, place) {
             Some(option) => place = option.next,

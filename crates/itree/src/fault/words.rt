@@ -54,6 +54,7 @@ pub fn line_at(text: &[u8], number: usize) -> Option<&[u8]>
 {
     let mut passed = 0;
     let mut rest = Some(text);
+    // `rest` has the lines behind the first `passed` ones, and none of these is the line sought.
     'lines: while let Some(left) = rest {
         let (line, after) = cut_line(left);
         passed += 1;
@@ -88,6 +89,7 @@ fn faulty_number(line: &[u8], start: usize, end: usize, numbers: Numbers) -> Opt
     let mut last_start = start;
     let mut last_end = end;
     let mut count = 0;
+    // The last word found goes from `last_start` to `last_end`; `count` numbers stand behind the name, up to it.
     'words: while let Some((start, end)) = next_word(line, last_end) {
         if numbers.is_full(count) {
             let wanted = Wanted::NoMore;
@@ -132,6 +134,7 @@ fn word_start(line: &[u8], from: usize) -> usize
     ensures solid { result < length line.now → is_ascii_whitespace (get_or line.now result 0) ≡ false }
 {
     let mut at = from;
+    // From the place on and before `at` there is nothing but white space.
     'bytes: while at < line.len() {
         if !line[at].is_ascii_whitespace() {
             return at;
@@ -149,6 +152,7 @@ fn word_end(line: &[u8], start: usize) -> usize
     ensures word { words_of (drop start line.now) ≡ between start result line.now ∷ words_of (drop result line.now) }
 {
     let mut at = start + 1;
+    // From the start on and before `at` there is no white space.
     'bytes: while at < line.len() {
         if line[at].is_ascii_whitespace() {
             return at;

@@ -69,6 +69,7 @@ pub fn parse_commands<A: Allocator + Copy, C: LineCommand>(
     let mut commands = Vec::new(alloc);
     let mut number = 0;
     let mut rest = Some(text);
+    // The commands are those of the first `number` lines, and `rest` has the others.
     'lines: while let Some(left) = rest {
         let (line, after) = cut_line(left);
         number += 1;
@@ -87,6 +88,7 @@ pub fn command_lines<A: Allocator>(alloc: A, text: &[u8]) -> Result<Vec<usize, A
     let mut numbers = Vec::new(alloc);
     let mut number = 0;
     let mut rest = Some(text);
+    // The numbers are those of the lines with words among the first `number`, and `rest` has the others.
     'lines: while let Some(left) = rest {
         let (line, after) = cut_line(left);
         number += 1;

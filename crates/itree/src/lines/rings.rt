@@ -63,6 +63,7 @@ impl<A: Allocator> RingList<A> {
         ensures untaken { IfOk result (λ is_ring. is_ring ≡ false → (ring : List Point) →
             ¬ (ReadsAll (map (λ word. word.now) words.now) (coordinates ring))) }
     {
+        // The points of the words before are appended.
         for pair in words.chunks(2) {
             let Some((x, y)) = two_numbers(pair) else {
                 return Ok(false);
@@ -108,6 +109,7 @@ pub fn parse_rings<A: Allocator + Copy>(alloc: A, text: &[u8]) -> Result<SaidRin
     };
     let mut number = 0;
     let mut rest = Some(text);
+    // The rings are those of the first `number` lines, and `rest` has the others.
     'lines: while let Some(left) = rest {
         let (line, after) = cut_line(left);
         number += 1;
@@ -153,6 +155,7 @@ pub fn polygon_text<A: Allocator + Copy>(
 {
     let mut text = String::new(alloc);
     let mut first = 0;
+    // The text has the polygons before, whose rings stop at `first`.
     for end in &polygons.polygon_ends {
         push_polygon(
             &mut text,
@@ -178,6 +181,7 @@ fn push_polygon<A: Allocator>(
     ensures { OnOk result ((rings : List (List Point)) → AreJoined rings points.now ends.now →
         string_bytes text.new ≡ string_bytes text.old ++ polygon_lines (between first end rings)) }
 {
+    // The text has the rings of the polygon before this one.
     for place in first..end {
         push_ring(text, place == first, ring_at(points, ends, place))?;
     }

@@ -22,6 +22,7 @@ pub fn chain_text<A: Allocator>(
 {
     let mut text = String::new(alloc);
     let mut start = 0;
+    // The text has the chains before, whose points stop at `start`.
     for end in ends {
         push_points(&mut text, "chain", points_between(points, start, *end))?;
         text.push_str("\n")?;

@@ -82,6 +82,7 @@ pub fn segment_line(text: &[u8], place: usize) -> usize
     let mut number = 0;
     let mut passed = 0;
     let mut rest = Some(text);
+    // Of the first `number` lines `passed` say a segment, at most `place` of them, and `rest` has the others.
     'lines: while let Some(left) = rest {
         let (line, after) = cut_line(left);
         number += 1;

@@ -9,7 +9,7 @@ use Rattle.itree_c.proofs.layers_each.boxed_each.Goals as goal
 pub copy_from_slice-requires : goal.copy_from_slice-requires
 copy_from_slice-requires c =
     let (each, are, appended, ends_are) = c.in_ok-overlay_each.ensures.ok in
-    let groups = c.args.subject_groups in
+    let groups = c.args.subject.groups in
     c.requires
     ∙ sym (length-map (lists_of groups.places.now 0 groups.ends.now) _ ∙ length-lists_of groups.places.now 0 groups.ends.now)
     ∙ sym are.as_many

@@ -1,5 +1,5 @@
 -- the handle is the pointer of what was made, of ten lists and two numbers; another list is written
-use Rattle.itree_c.proofs.Steps.{ℤ, List, [], ◌∷◌, ◌++◌, length, refl, sym, subst, named, Val, vptr, vint, of_z, w32, has_ty, WT, T, SProp, ent, id⊢, full_share, ftrue, flft, WpFn, ‵, raw, ◌⊛◌, some, later, ◌$◌, ◌∵◌, !, qed, by, move, keep, drop, split, join, fsplit, fsplit3, fjoin, fjoin3, pick, suffices, use1, await, rewrite, feq_i, feq_l, of_opd, stop, fld, store, no_more, and_then, returns, enter, assigns, alloc_all, pass_all, free_all, look_at, get, get_in, sets, lands_as, through, sub, whole, fact, tables, yes, Is, shows, i32, usize, sint_Lawful, layout, peeks, cell_at, RattleType, owns, types_at, plain, SliceRefOf, ShrSlice, slice_val, Ptr, RawPtr, ptr_val, nothing, heard, opens, closes, Lasts, lasts, triple_of, calls_at, framed, Stays, stay_dropped, stay_ref, walk_of, Goes-dropped, Goes-ref, handle_tells, proved_at, leaves}
+use Rattle.itree_c.proofs.Steps.{ℤ, List, [], ◌∷◌, ◌++◌, length, refl, sym, subst, named, Val, vptr, vint, of_z, w32, has_ty, WT, T, SProp, ent, id⊢, use3, full_share, ftrue, flft, WpFn, ‵, raw, ◌⊛◌, some, later, ◌$◌, ◌∵◌, !, qed, by, move, keep, drop, split, join, fsplit, fsplit3, fjoin, fjoin3, pick, suffices, use1, use2, await, rewrite, feq_i, feq_l, of_opd, stop, fld, store, no_more, and_then, returns, enter, assigns, alloc_all, pass_all, free_all, look_at, get, get_in, sets, lands_as, through, sub, whole, fact, tables, yes, Is, shows, i32, usize, sint_Lawful, layout, peeks, cell_at, RattleType, owns, types_at, plain, SliceRefOf, ShrSlice, slice_val, Ptr, RawPtr, ptr_val, nothing, heard, opens, closes, Lasts, lasts, triple_of, calls_at, framed, Stays, stay_dropped, stay_ref, walk_of, Goes-dropped, Goes-ref, handle_tells, proved_at, leaves}
 use denote.Exit.{left}
 use denote.Signature.{mut_slice_of}
 use denote.Slice.{MutSlice}
@@ -7,10 +7,18 @@ use denote.Triple.Walked.{Stay}
 use types.ByLocal.{look_in_at}
 use types.Part.{agg}
 use types.Run.{addr, from, hop}
+use Rattle.itree_c.proofs.HandleMadeBy.{both}
+use Rattle.itree_c.proofs.ShapesMade.{three, shapes_good, shapes_packed, groups_good, groups_packed}
+use Rattle.itree_c.proofs.SideMade.{side_good, side_packed}
 use Rattle.itree_c.proofs.HandleLemmas.{Z, al, R, Two, status_word, parts_out, made_in}
 use Rattle.itree_c.specs.Layers.{AnswersEach}
 use Rattle.layers.specs.declared.shapes.Groups.{Groups}
+use Rattle.layers.specs.contracts.shapes.Groups.{the_row as groups_row}
+use Rattle.layers.specs.contracts.shapes.Shapes.{the_row as shapes_row}
 use Rattle.layers.specs.declared.shapes.Shapes.{Shapes}
+use Rattle.itree_c.specs.contracts.layers_each.Side.{the_row as side_row}
+use Rattle.itree_c.specs.declared.layers_each.Side.{Side}
+use denote.Signature.{named_lft}
 use Rattle.plane.specs.contracts.point.Point.{the_row as point_row}
 use Rattle.itree_c.specs.contracts.polygon_lists.PolygonLists.{the_row as held_row}
 use Rattle.itree_c.specs.contracts.layers_each.all_each as callee
@@ -48,6 +56,8 @@ itree_overlay_each_spec 𝓤 𝓛 𝓜 𝓡 wired =
     let Points : RattleType = ShrSlice (named 0) κ0 point_row in let Places : RattleType = ShrSlice (named 0) κ0 usize in let Written : RattleType = MutSlice (named 1) κ1 usize in
     let subjects : Shapes = record { points = s1; ring_ends = s2; shape_ends = s3 } in let subject_groups : Groups = record { places = s4; ends = s5 } in
     let clips : Shapes = record { points = s6; ring_ends = s7; shape_ends = s8 } in let clip_groups : Groups = record { places = s9; ends = s10 } in
+    let subject : Side = record { shapes = subjects; groups = subject_groups } in let clip : Side = record { shapes = clips; groups = clip_groups } in let l = named_lft 3 0 tt κs in
+    let xv : Val = three sv1 sv2 sv3 in let xg : Val = both sv4 sv5 in let yv : Val = three sv6 sv7 sv8 in let yg : Val = both sv9 sv10 in
     let Post : Val → SProp 𝓤 = (walk_of 𝓛 ended hs c).post z in let Run : List Val → SProp 𝓤 = λ ws. WpFn 𝓤 H 𝓣.C 𝓣.Λ fn ws Post in
     let K = triple_of 𝓛 callee.signature (callee.spec 𝓛 𝓜.mem 𝓡.returns) in
     qed 𝓛 (((‵ (flft κ0 q0) ⊛ ‵ (flft κ1 q1) ⊛ ‵ (flft ν q') ⊛ ‵ ftrue) ⊛ ‵ (owns (types_at ended.signature.params z.0.0) z.0.3 z.0.4))
@@ -70,10 +80,16 @@ itree_overlay_each_spec 𝓤 𝓛 𝓜 𝓡 wired =
     move ! (1 ∷ []) $
     let typed1 : T (has_ty (layout i32) nv1) × WT nv1 = ((sint_Lawful 𝓛 w32).typed n1 _ (refl, is1.1)).0 in
     let typed2 : T (has_ty (layout i32) nv2) × WT nv2 = ((sint_Lawful 𝓛 w32).typed n2 _ (refl, is2.1)).0 in
-    let y : K.Ghost = (((κ0, (κ1, tt)), (q0, (q1, tt)), tt, (a, (s1, (s2, (s3, (s4, (s5, (s6, (s7, (s8, (s9, (s10, (n1, (n2, (e, tt)))))))))))))), (h ∷ [], (sv1 ∷ [], (sv2 ∷ [], (sv3 ∷ [], (sv4 ∷ [], (sv5 ∷ [], (sv6 ∷ [], (sv7 ∷ [], (sv8 ∷ [], (sv9 ∷ [], (sv10 ∷ [], (nv1 ∷ [], (nv2 ∷ [], (ev ∷ [], tt))))))))))))))), tt) in
+    let y : K.Ghost = (((κ0, (κ1, tt)), (q0, (q1, tt)), tt, (a, (subject, (clip, (n1, (n2, (e, tt)))))), (h ∷ [], (both xv xg ∷ [], (both yv yg ∷ [], (nv1 ∷ [], (nv2 ∷ [], (ev ∷ [], tt))))))), tt) in
     let us : List Val = h ∷ sv1 ∷ sv2 ∷ sv3 ∷ sv4 ∷ sv5 ∷ sv6 ∷ sv7 ∷ sv8 ∷ sv9 ∷ sv10 ∷ nv1 ∷ nv2 ∷ ev ∷ vptr mb mo ∷ [] in
     -- [the reference; the last parameter; …; the allocator; the tokens; nothing]
-    nothing ! $ move ! (2 ∷ 0 ∷ []) $ fjoin ! $ move ! (2 ∷ 0 ∷ []) $ fjoin ! $ move ! (2 ∷ 0 ∷ []) $ fjoin ! $ move ! (2 ∷ 0 ∷ []) $ fjoin ! $ move ! (2 ∷ 0 ∷ []) $ fjoin ! $ move ! (2 ∷ 0 ∷ []) $ fjoin ! $ move ! (2 ∷ 0 ∷ []) $ fjoin ! $ move ! (2 ∷ 0 ∷ []) $ fjoin ! $ move ! (2 ∷ 0 ∷ []) $ fjoin ! $ move ! (2 ∷ 0 ∷ []) $ fjoin ! $ move ! (2 ∷ 0 ∷ []) $ fjoin ! $ move ! (2 ∷ 0 ∷ []) $ fjoin ! $ move ! (2 ∷ 0 ∷ []) $ fjoin ! $ move ! (2 ∷ 0 ∷ []) $ fjoin ! $
+    nothing ! $ move ! (2 ∷ 0 ∷ []) $ fjoin ! $ move ! (2 ∷ 0 ∷ []) $ fjoin ! $ move ! (2 ∷ 0 ∷ []) $ fjoin ! $
+    move ! (3 ∷ 2 ∷ []) $ use2 𝓛 (‵ ((groups_row l).own_val clip_groups (yg ∷ []))) (groups_packed 𝓛 l s9 s10 sv9 sv10) $
+    move ! (5 ∷ 4 ∷ 3 ∷ []) $ use3 𝓛 (‵ ((shapes_row l).own_val clips (yv ∷ []))) (shapes_packed 𝓛 l s6 s7 s8 sv6 sv7 sv8) $
+    use2 𝓛 (‵ ((side_row l).own_val clip (both yv yg ∷ []))) (side_packed 𝓛 l clips clip_groups yv yg) $ fjoin ! $
+    move ! (3 ∷ 2 ∷ []) $ use2 𝓛 (‵ ((groups_row l).own_val subject_groups (xg ∷ []))) (groups_packed 𝓛 l s4 s5 sv4 sv5) $
+    move ! (5 ∷ 4 ∷ 3 ∷ []) $ use3 𝓛 (‵ ((shapes_row l).own_val subjects (xv ∷ []))) (shapes_packed 𝓛 l s1 s2 s3 sv1 sv2 sv3) $
+    use2 𝓛 (‵ ((side_row l).own_val subject (both xv xg ∷ []))) (side_packed 𝓛 l subjects subject_groups xv xg) $ fjoin ! $ move ! (2 ∷ 0 ∷ []) $ fjoin ! $
     -- [the arguments; the reference; the tokens; nothing]
     move ! (2 ∷ []) $ split ! $ move ! (1 ∷ []) $ split ! $ move ! (1 ∷ []) $ split ! $ move ! (2 ∷ 1 ∷ []) $ join ! $ move ! (2 ∷ 0 ∷ []) $ join ! $
     -- [the callee's tokens; the token of ν; the arguments; the reference; nothing]
@@ -81,15 +97,21 @@ itree_overlay_each_spec 𝓤 𝓛 𝓜 𝓡 wired =
     -- [what the call asks for; the token of ν; the reference; nothing]
     suffices ! (Run us) (subst (λ (vs : List Val). ent 𝓤 (Run us) (Run vs)) (sym (λ i. (eh i ++ (are.1.0.0.0 i ++ (are.1.1.0.0.0 i ++ (are.1.1.1.0.0.0 i ++ (are.1.1.1.1.0.0.0 i ++ (are.1.1.1.1.1.0.0.0 i ++ (are.1.1.1.1.1.1.0.0.0 i ++ (are.1.1.1.1.1.1.1.0.0.0 i ++ (are.1.1.1.1.1.1.1.1.0.0.0 i ++ (are.1.1.1.1.1.1.1.1.1.0.0.0 i ++ (are.1.1.1.1.1.1.1.1.1.1.0.0.0 i ++ (is1.0 i ++ (is2.0 i ++ (are.1.1.1.1.1.1.1.1.1.1.1.1.1.0.0.0 i ++ (are.1.1.1.1.1.1.1.1.1.1.1.1.1.1.0.0 i ++ []))))))))))))))))) (id⊢ 𝓤 (Run us))) $
     enter ! 𝓣.C 𝓣.Λ fn us Post $ alloc_all ! (λ l. pass_all ! refl (fits, ((tt, (tt, (record { fits = are.1.0.0.1.0 }, tt))), ((tt, (tt, (record { fits = are.1.1.0.0.1.0 }, tt))), ((tt, (tt, (record { fits = are.1.1.1.0.0.1.0 }, tt))), ((tt, (tt, (record { fits = are.1.1.1.1.0.0.1.0 }, tt))), ((tt, (tt, (record { fits = are.1.1.1.1.1.0.0.1.0 }, tt))), ((tt, (tt, (record { fits = are.1.1.1.1.1.1.0.0.1.0 }, tt))), ((tt, (tt, (record { fits = are.1.1.1.1.1.1.1.0.0.1.0 }, tt))), ((tt, (tt, (record { fits = are.1.1.1.1.1.1.1.1.0.0.1.0 }, tt))), ((tt, (tt, (record { fits = are.1.1.1.1.1.1.1.1.1.0.0.1.0 }, tt))), ((tt, (tt, (record { fits = are.1.1.1.1.1.1.1.1.1.1.0.0.1.0 }, tt))), (typed1, (typed2, ((tt, (tt, (record { fits = are.1.1.1.1.1.1.1.1.1.1.1.1.1.0.0.1.0 }, tt))), ((tt, tt), tt))))))))))))))) $
+    sets ! (agg ! (and_then ! (get ! refl) (and_then ! (get ! refl) (and_then ! (get ! refl) (no_more !))))) refl (shapes_good s1.ref_ptr s2.ref_ptr s3.ref_ptr (length s1.now) (length s2.now) (length s3.now) (record { fits = are.1.0.0.1.0 }) (record { fits = are.1.1.0.0.1.0 }) (record { fits = are.1.1.1.0.0.1.0 })) $
+    sets ! (agg ! (and_then ! (get ! refl) (and_then ! (get ! refl) (no_more !)))) refl (groups_good s4.ref_ptr s5.ref_ptr (length s4.now) (length s5.now) (record { fits = are.1.1.1.1.0.0.1.0 }) (record { fits = are.1.1.1.1.1.0.0.1.0 })) $
+    sets ! (agg ! (and_then ! (get ! refl) (and_then ! (get ! refl) (no_more !)))) refl (side_good (three sv1 sv2 sv3) (both sv4 sv5) (shapes_good s1.ref_ptr s2.ref_ptr s3.ref_ptr (length s1.now) (length s2.now) (length s3.now) (record { fits = are.1.0.0.1.0 }) (record { fits = are.1.1.0.0.1.0 }) (record { fits = are.1.1.1.0.0.1.0 })) (groups_good s4.ref_ptr s5.ref_ptr (length s4.now) (length s5.now) (record { fits = are.1.1.1.1.0.0.1.0 }) (record { fits = are.1.1.1.1.1.0.0.1.0 }))) $
+    sets ! (agg ! (and_then ! (get ! refl) (and_then ! (get ! refl) (and_then ! (get ! refl) (no_more !))))) refl (shapes_good s6.ref_ptr s7.ref_ptr s8.ref_ptr (length s6.now) (length s7.now) (length s8.now) (record { fits = are.1.1.1.1.1.1.0.0.1.0 }) (record { fits = are.1.1.1.1.1.1.1.0.0.1.0 }) (record { fits = are.1.1.1.1.1.1.1.1.0.0.1.0 })) $
+    sets ! (agg ! (and_then ! (get ! refl) (and_then ! (get ! refl) (no_more !)))) refl (groups_good s9.ref_ptr s10.ref_ptr (length s9.now) (length s10.now) (record { fits = are.1.1.1.1.1.1.1.1.1.0.0.1.0 }) (record { fits = are.1.1.1.1.1.1.1.1.1.1.0.0.1.0 })) $
+    sets ! (agg ! (and_then ! (get ! refl) (and_then ! (get ! refl) (no_more !)))) refl (side_good (three sv6 sv7 sv8) (both sv9 sv10) (shapes_good s6.ref_ptr s7.ref_ptr s8.ref_ptr (length s6.now) (length s7.now) (length s8.now) (record { fits = are.1.1.1.1.1.1.0.0.1.0 }) (record { fits = are.1.1.1.1.1.1.1.0.0.1.0 }) (record { fits = are.1.1.1.1.1.1.1.1.0.0.1.0 })) (groups_good s9.ref_ptr s10.ref_ptr (length s9.now) (length s10.now) (record { fits = are.1.1.1.1.1.1.1.1.1.0.0.1.0 }) (record { fits = are.1.1.1.1.1.1.1.1.1.1.0.0.1.0 }))) $
     -- the slice that is written is lent on as it is
     sets ! (addr ! (from ! (fld ! refl (hop ! (look_in_at ! 14 (sub ! 0 refl (whole !))) (stop !))))) refl (tt, tt) $
     sets ! (agg ! (and_then ! (get ! refl) (and_then ! (get_in ! (fld ! refl (stop !)) (sub ! 1 refl (whole !))) (no_more !)))) refl (tt, (tt, (record { fits = are.1.1.1.1.1.1.1.1.1.1.1.1.1.0.0.1.0 }, tt))) $
-    calls_at ! (framed 𝓤 H 𝓜 𝓣) K (met 𝓤 𝓛 𝓜 𝓡 (code.calls-itree_c::layers_each::all_each 𝓡.env wired)) y (and_then ! (get ! refl) (and_then ! (get ! refl) (and_then ! (get ! refl) (and_then ! (get ! refl) (and_then ! (get ! refl) (and_then ! (get ! refl) (and_then ! (get ! refl) (and_then ! (get ! refl) (and_then ! (get ! refl) (and_then ! (get ! refl) (and_then ! (get ! refl) (and_then ! (get ! refl) (and_then ! (get ! refl) (and_then ! (get ! refl) (no_more !))))))))))))))) (λ v.
+    calls_at ! (framed 𝓤 H 𝓜 𝓣) K (met 𝓤 𝓛 𝓜 𝓡 (code.calls-itree_c::layers_each::all_each 𝓡.env wired)) y (and_then ! (get ! refl) (and_then ! (get ! refl) (and_then ! (get ! refl) (and_then ! (get ! refl) (and_then ! (get ! refl) (and_then ! (get ! refl) (no_more !))))))) (λ v.
     use1 𝓛 (later (some (λ (r : ℤ × (R held_row).Denot). ((‵ (flft κ0 q0) ⊛ ‵ (flft κ1 q1) ⊛ ‵ ftrue) ⊛ ‵ ((Two held_row).own_val r (v ∷ []))) ⊛ some (λ (ws : Lasts callee.ended y.0.0 y.0.3).
-    ‵ (lasts callee.ended y.0.0 y.0.3 ws) ⊛ raw (fact 𝓤 (AnswersEach subjects subject_groups clips clip_groups n1 n2 e.now ws.1.1.1.1.1.1.1.1.1.1.1.1.1.0 r.0 r.1.value)))))) (id⊢ 𝓤 _) $
-    await ! tt $ pick ! (λ r. split ! $ move ! (1 ∷ []) $ pick ! (λ ws. split ! $ move ! (1 ∷ []) $ heard ! (AnswersEach subjects subject_groups clips clip_groups n1 n2 e.now ws.1.1.1.1.1.1.1.1.1.1.1.1.1.0 r.0 r.1.value) (λ told.
+    ‵ (lasts callee.ended y.0.0 y.0.3 ws) ⊛ raw (fact 𝓤 (AnswersEach subjects subject_groups clips clip_groups n1 n2 e.now ws.1.1.1.1.1.0 r.0 r.1.value)))))) (id⊢ 𝓤 _) $
+    await ! tt $ pick ! (λ r. split ! $ move ! (1 ∷ []) $ pick ! (λ ws. split ! $ move ! (1 ∷ []) $ heard ! (AnswersEach subjects subject_groups clips clip_groups n1 n2 e.now ws.1.1.1.1.1.0 r.0 r.1.value) (λ told.
     -- [what is left of the parameters; the tokens and the answer; the token of ν; the reference; nothing]
-    fsplit ! $ drop ! $ fsplit ! $ drop ! $ fsplit ! $ drop ! $ fsplit ! $ drop ! $ fsplit ! $ drop ! $ fsplit ! $ drop ! $ fsplit ! $ drop ! $ fsplit ! $ drop ! $ fsplit ! $ drop ! $ fsplit ! $ drop ! $ fsplit ! $ drop ! $ fsplit ! $ drop ! $ fsplit ! $ drop ! $ fsplit ! $ move ! (2 ∷ []) $ split ! $ move ! (1 ∷ []) $
+    fsplit ! $ drop ! $ fsplit ! $ drop ! $ fsplit ! $ drop ! $ fsplit ! $ drop ! $ fsplit ! $ drop ! $ fsplit ! $ move ! (2 ∷ []) $ split ! $ move ! (1 ∷ []) $
     -- [the answer; the tokens; what is left of the slice; nothing; the token of ν; the reference; nothing]
     parts_out held_row ! r v (λ is.
     let p : Ptr = r.1.at in let vp : Val = ptr_val p in let u : Val = status_word held_row r.0 in
@@ -110,5 +132,5 @@ itree_overlay_each_spec 𝓤 𝓛 𝓜 𝓡 wired =
     -- [the parameters; the token of ν; nothing; what the box owns; the status; the tokens; …]
     move ! (5 ∷ []) $ split ! $ move ! (1 ∷ []) $ split ! $ move ! (4 ∷ 1 ∷ []) $ join ! $ move ! (1 ∷ 0 ∷ []) $ join ! $ move ! (1 ∷ 0 ∷ []) $ join ! $
     -- [the tokens; the parameters; nothing; what the box owns; the status; …]
-    move ! (3 ∷ []) $ made_in held_row ! (AnswersEach subjects subject_groups clips clip_groups n1 n2 e.now ws.1.1.1.1.1.1.1.1.1.1.1.1.1.0 r.0) p r.1.value told $
-    keep ! (1 ∷ 2 ∷ 4 ∷ 0 ∷ []) $ by ! (leaves 𝓛 ended hs c z u r.0 (tt, (tt, (tt, (tt, (tt, (tt, (tt, (tt, (tt, (tt, (tt, (tt, (tt, (ws.1.1.1.1.1.1.1.1.1.1.1.1.1.0, (p, tt))))))))))))))) (tt, (tt, (tt, (tt, (tt, (tt, (tt, (tt, (tt, (tt, (tt, (tt, (tt, (tt, (tt, tt))))))))))))))))))))))))))))
+    move ! (3 ∷ []) $ made_in held_row ! (AnswersEach subjects subject_groups clips clip_groups n1 n2 e.now ws.1.1.1.1.1.0 r.0) p r.1.value told $
+    keep ! (1 ∷ 2 ∷ 4 ∷ 0 ∷ []) $ by ! (leaves 𝓛 ended hs c z u r.0 (tt, (tt, (tt, (tt, (tt, (tt, (tt, (tt, (tt, (tt, (tt, (tt, (tt, (ws.1.1.1.1.1.0, (p, tt))))))))))))))) (tt, (tt, (tt, (tt, (tt, (tt, (tt, (tt, (tt, (tt, (tt, (tt, (tt, (tt, (tt, tt))))))))))))))))))))))))))))

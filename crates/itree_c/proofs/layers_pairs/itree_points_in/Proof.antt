@@ -1,8 +1,11 @@
 -- the handle is the pointer of what was made, of four lists and two numbers
-use Rattle.itree_c.proofs.Steps.{ℤ, List, [], ◌∷◌, ◌++◌, length, refl, sym, subst, named, Val, vptr, vint, of_z, w32, has_ty, WT, T, SProp, ent, id⊢, full_share, ftrue, flft, WpFn, ‵, raw, ◌⊛◌, some, later, ◌$◌, ◌∵◌, !, qed, by, move, keep, drop, split, join, fsplit, fsplit3, fjoin, fjoin3, pick, suffices, use1, await, rewrite, feq_i, feq_l, of_opd, stop, fld, store, no_more, and_then, returns, enter, assigns, alloc_all, pass_all, free_all, look_at, get, get_in, sets, lands_as, through, sub, whole, fact, tables, yes, Is, shows, i32, usize, sint_Lawful, layout, peeks, cell_at, RattleType, owns, types_at, plain, SliceRefOf, ShrSlice, slice_val, Ptr, RawPtr, ptr_val, nothing, heard, opens, closes, Lasts, lasts, triple_of, calls_at, framed, Stays, stay_dropped, stay_ref, walk_of, Goes-dropped, Goes-ref, handle_tells, proved_at, leaves}
+use Rattle.itree_c.proofs.Steps.{ℤ, List, [], ◌∷◌, ◌++◌, length, refl, sym, subst, named, Val, vptr, vint, of_z, w32, has_ty, WT, T, SProp, ent, id⊢, agg, use3, full_share, ftrue, flft, WpFn, ‵, raw, ◌⊛◌, some, later, ◌$◌, ◌∵◌, !, qed, by, move, keep, drop, split, join, fsplit, fsplit3, fjoin, fjoin3, pick, suffices, use1, await, rewrite, feq_i, feq_l, of_opd, stop, fld, store, no_more, and_then, returns, enter, assigns, alloc_all, pass_all, free_all, look_at, get, get_in, sets, lands_as, through, sub, whole, fact, tables, yes, Is, shows, i32, usize, sint_Lawful, layout, peeks, cell_at, RattleType, owns, types_at, plain, SliceRefOf, ShrSlice, slice_val, Ptr, RawPtr, ptr_val, nothing, heard, opens, closes, Lasts, lasts, triple_of, calls_at, framed, Stays, stay_dropped, stay_ref, walk_of, Goes-dropped, Goes-ref, handle_tells, proved_at, leaves}
+use Rattle.itree_c.proofs.ShapesMade.{three, shapes_good, shapes_packed}
 use Rattle.itree_c.proofs.HandleLemmas.{Z, al, R, Two, status_word, parts_out, made_in}
 use Rattle.itree_c.specs.Layers.{AnswersPointsIn}
+use Rattle.layers.specs.contracts.shapes.Shapes.{the_row as shapes_row}
 use Rattle.layers.specs.declared.shapes.Shapes.{Shapes}
+use denote.Signature.{named_lft}
 use Rattle.plane.specs.contracts.point.Point.{the_row as point_row}
 use Rattle.itree_c.specs.contracts.pairs.Pairs.{the_row as held_row}
 use Rattle.itree_c.specs.contracts.layers_pairs.all_points_in as callee
@@ -28,7 +31,7 @@ itree_points_in_spec 𝓤 𝓛 𝓜 𝓡 wired =
     let n2 = z.0.3.1.1.1.1.1.1.0 in let nv2 : Val = vint w32 (of_z w32 n2) in
     let m = z.0.3.1.1.1.1.1.1.1.0 in let mb = m.ref_ptr.0 in let mo = m.ref_ptr.1 in
     let Points : RattleType = ShrSlice (named 0) κ0 point_row in let Places : RattleType = ShrSlice (named 0) κ0 usize in
-    let shapes : Shapes = record { points = s2; ring_ends = s3; shape_ends = s4 } in
+    let shapes : Shapes = record { points = s2; ring_ends = s3; shape_ends = s4 } in let l = named_lft 2 0 tt κs in let xv : Val = three sv2 sv3 sv4 in
     let Post : Val → SProp 𝓤 = (walk_of 𝓛 ended hs c).post z in let Run : List Val → SProp 𝓤 = λ ws. WpFn 𝓤 H 𝓣.C 𝓣.Λ fn ws Post in
     let K = triple_of 𝓛 callee.signature (callee.spec 𝓛 𝓜.mem 𝓡.returns) in
     qed 𝓛 (((‵ (flft κ0 q0) ⊛ ‵ (flft ν q') ⊛ ‵ ftrue) ⊛ ‵ (owns (types_at ended.signature.params z.0.0) z.0.3 z.0.4))
@@ -44,10 +47,11 @@ itree_points_in_spec 𝓤 𝓛 𝓜 𝓡 wired =
     move ! (1 ∷ []) $
     let typed1 : T (has_ty (layout i32) nv1) × WT nv1 = ((sint_Lawful 𝓛 w32).typed n1 _ (refl, is1.1)).0 in
     let typed2 : T (has_ty (layout i32) nv2) × WT nv2 = ((sint_Lawful 𝓛 w32).typed n2 _ (refl, is2.1)).0 in
-    let y : K.Ghost = (((κ0, tt), (q0, tt), tt, (a, (s1, (s2, (s3, (s4, (n1, (n2, tt))))))), (h ∷ [], (sv1 ∷ [], (sv2 ∷ [], (sv3 ∷ [], (sv4 ∷ [], (nv1 ∷ [], (nv2 ∷ [], tt)))))))), tt) in
+    let y : K.Ghost = (((κ0, tt), (q0, tt), tt, (a, (s1, (shapes, (n1, (n2, tt))))), (h ∷ [], (sv1 ∷ [], (xv ∷ [], (nv1 ∷ [], (nv2 ∷ [], tt)))))), tt) in
     let us : List Val = h ∷ sv1 ∷ sv2 ∷ sv3 ∷ sv4 ∷ nv1 ∷ nv2 ∷ vptr mb mo ∷ [] in
     -- [the reference; the last parameter; …; the allocator; the tokens; nothing]
-    nothing ! $ move ! (2 ∷ 0 ∷ []) $ fjoin ! $ move ! (2 ∷ 0 ∷ []) $ fjoin ! $ move ! (2 ∷ 0 ∷ []) $ fjoin ! $ move ! (2 ∷ 0 ∷ []) $ fjoin ! $ move ! (2 ∷ 0 ∷ []) $ fjoin ! $ move ! (2 ∷ 0 ∷ []) $ fjoin ! $ move ! (2 ∷ 0 ∷ []) $ fjoin ! $
+    nothing ! $ move ! (2 ∷ 0 ∷ []) $ fjoin ! $ move ! (2 ∷ 0 ∷ []) $ fjoin ! $
+    move ! (4 ∷ 3 ∷ 2 ∷ []) $ use3 𝓛 (‵ ((shapes_row l).own_val shapes (xv ∷ []))) (shapes_packed 𝓛 l s2 s3 s4 sv2 sv3 sv4) $ fjoin ! $ move ! (2 ∷ 0 ∷ []) $ fjoin ! $ move ! (2 ∷ 0 ∷ []) $ fjoin ! $
     -- [the arguments; the reference; the tokens; nothing]
     move ! (2 ∷ []) $ split ! $ move ! (1 ∷ []) $ split ! $ move ! (2 ∷ 1 ∷ []) $ join ! $
     -- [the callee's tokens; the token of ν; the arguments; the reference; nothing]
@@ -55,7 +59,8 @@ itree_points_in_spec 𝓤 𝓛 𝓜 𝓡 wired =
     -- [what the call asks for; the token of ν; the reference; nothing]
     suffices ! (Run us) (subst (λ (vs : List Val). ent 𝓤 (Run us) (Run vs)) (sym (λ i. (eh i ++ (are.1.0.0.0 i ++ (are.1.1.0.0.0 i ++ (are.1.1.1.0.0.0 i ++ (are.1.1.1.1.0.0.0 i ++ (is1.0 i ++ (is2.0 i ++ (are.1.1.1.1.1.1.1.0.0 i ++ [])))))))))) (id⊢ 𝓤 (Run us))) $
     enter ! 𝓣.C 𝓣.Λ fn us Post $ alloc_all ! (λ l. pass_all ! refl (fits, ((tt, (tt, (record { fits = are.1.0.0.1.0 }, tt))), ((tt, (tt, (record { fits = are.1.1.0.0.1.0 }, tt))), ((tt, (tt, (record { fits = are.1.1.1.0.0.1.0 }, tt))), ((tt, (tt, (record { fits = are.1.1.1.1.0.0.1.0 }, tt))), (typed1, (typed2, ((tt, tt), tt)))))))) $
-    calls_at ! (framed 𝓤 H 𝓜 𝓣) K (met 𝓤 𝓛 𝓜 𝓡 (code.calls-itree_c::layers_pairs::all_points_in 𝓡.env wired)) y (and_then ! (get ! refl) (and_then ! (get ! refl) (and_then ! (get ! refl) (and_then ! (get ! refl) (and_then ! (get ! refl) (and_then ! (get ! refl) (and_then ! (get ! refl) (no_more !)))))))) (λ v.
+    sets ! (agg ! (and_then ! (get ! refl) (and_then ! (get ! refl) (and_then ! (get ! refl) (no_more !))))) refl (shapes_good s2.ref_ptr s3.ref_ptr s4.ref_ptr (length s2.now) (length s3.now) (length s4.now) (record { fits = are.1.1.0.0.1.0 }) (record { fits = are.1.1.1.0.0.1.0 }) (record { fits = are.1.1.1.1.0.0.1.0 })) $
+    calls_at ! (framed 𝓤 H 𝓜 𝓣) K (met 𝓤 𝓛 𝓜 𝓡 (code.calls-itree_c::layers_pairs::all_points_in 𝓡.env wired)) y (and_then ! (get ! refl) (and_then ! (get ! refl) (and_then ! (get ! refl) (and_then ! (get ! refl) (and_then ! (get ! refl) (no_more !)))))) (λ v.
     use1 𝓛 (later (some (λ (r : ℤ × (R held_row).Denot). ((‵ (flft κ0 q0) ⊛ ‵ ftrue) ⊛ ‵ ((Two held_row).own_val r (v ∷ []))) ⊛ some (λ (ws : Lasts callee.ended y.0.0 y.0.3).
     ‵ (lasts callee.ended y.0.0 y.0.3 ws) ⊛ raw (fact 𝓤 (AnswersPointsIn s1.now shapes n1 n2 r.0 r.1.value)))))) (id⊢ 𝓤 _) $
     await ! tt $ pick ! (λ r. split ! $ move ! (1 ∷ []) $ pick ! (λ ws. split ! $ drop ! $ heard ! (AnswersPointsIn s1.now shapes n1 n2 r.0 r.1.value) (λ told. split ! $ move ! (1 ∷ []) $
