@@ -107,7 +107,7 @@ def busy_of(parts):
     }
 
 
-def relieved(parts, most):
+def refined(parts, most):
     """The parts, those to which others come near cut into parts of so many edges."""
     busy = busy_of(parts)
     return [short for at, part in enumerate(parts) for short in (cut(part, most) if at in busy else [part])]
@@ -152,7 +152,7 @@ def numbers(parts):
 def chords():
     rings = [ring_of(place) for place in RINGS]
     first = [part for ring in rings for part in parts_of(ring)]
-    last = relieved(relieved(first, SHORTER), SINGLE)
+    last = refined(refined(first, SHORTER), SINGLE)
     busy = busy_of(first)
     one, other = Panel(18), Panel(374)
     parts = [one.box(first[at], RED) for at in sorted(busy)] + one.chords(first) + other.chords(last)
