@@ -10,6 +10,8 @@ pub mod Exact
 pub mod Heights
 pub mod Hobby
 pub mod Hulls
+pub mod Local
+pub mod Lying
 pub mod Means
 pub mod Near
 pub mod Noded
@@ -17,6 +19,7 @@ pub mod Numbers
 pub mod Passing
 pub mod Paths
 pub mod Pieces
+pub mod Resting
 pub mod Reversed
 pub mod Rounding
 pub mod Slanted

@@ -39,11 +39,15 @@ pub record Upto (edge : Edge) (x y other_x other_y : ℤ) : Type 0 where
   pub along_x : UptoOn edge.x0 edge.x1 x other_x
   pub along_y : UptoOn edge.y0 edge.y1 y other_y
 
--- The chain of an edge among others: the hot points that it passes, once each, in the order along it.
-pub record IsChain (edges : List Edge) (edge : Edge) (chain : List Point) : Type 0 where
+-- A chain along an edge over the nodes that a predicate tells: these points, once each, in the order along the edge.
+pub record IsAlong (IsNode : ℤ → ℤ → Type 0) (edge : Edge) (chain : List Point) : Type 0 where
   pub in_order : AllPairs (λ c d. Upto edge c.x c.y d.x d.y) chain
   pub once : AllPairs (λ c d. c ≢ d) chain
-  pub exact : (c : Point) → Contains chain c ↔ (IsHot edges c.x c.y × Passes edge c.x c.y)
+  pub exact : (c : Point) → Contains chain c ↔ IsNode c.x c.y
+
+-- The chain of an edge among others: the hot points that it passes.
+abbrev pub IsChain : List Edge → Edge → List Point → Type 0
+IsChain edges edge chain = IsAlong (λ x y. IsHot edges x y × Passes edge x y) edge chain
 
 -- The chains of edges, each at its edge's place.
 abbrev pub AreChains : List Edge → List (List Point) → Type 0

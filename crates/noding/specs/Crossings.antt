@@ -1,5 +1,5 @@
 -- What crossings round to, as a list of points. For private contracts.
-use Rattle.std.specs.Prelude.{◌≡◌, ◌↔◌, ◌⊎◌, ℕ, ℤ, List, Contains, Some, slice_get}
+use Rattle.std.specs.Prelude.{◌≡◌, ◌↔◌, ◌⊎◌, ℕ, List, Contains, Some, slice_get}
 use Rattle.plane.specs.declared.edge.Edge.{Edge}
 use Rattle.noding.specs.Chains.{CrossAt, IsEnd}
 use Rattle.noding.specs.Gains.{IsOfSome}

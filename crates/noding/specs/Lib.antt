@@ -4,6 +4,7 @@ pub mod Close
 pub mod Crossing
 pub mod Crossings
 pub mod Gains
+pub mod Local
 pub mod Meeting
 pub mod Near
 pub mod Offsets

@@ -1,6 +1,6 @@
 -- Lists in one list, by where each stops.
 use Rattle.std.specs.List.{flat_map}
-use Rattle.std.specs.Prelude.{◌≡◌, ℕ, ◌+◌, List, [], ◌∷◌, ◌++◌, length}
+use Rattle.std.specs.Prelude.{◌≡◌, ℕ, ◌+◌, List, [], ◌∷◌, length}
 -- those of a list from the one place on, and before the other
 pub use Rattle.std.specs.List.{between}
 

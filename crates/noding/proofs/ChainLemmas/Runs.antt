@@ -8,7 +8,6 @@ use Rattle.plane.specs.declared.edge.Edge.{Edge}
 use Rattle.plane.specs.declared.point.Point.{Point}
 use Rattle.noding.specs.Chains.{IsChain, IsHot, Upto}
 use Rattle.noding.specs.Close.{PassesInside}
-use Rattle.plane.specs.Lists.{Extends}
 use Rattle.plane.specs.Ends.{start_of}
 use Rattle.noding.specs.Offsets.{between, offsets}
 use Rattle.noding.specs.Stops.{AreAt, AreStops, GoesToEnd, IsBefore, IsStop, point_of, stop_of}

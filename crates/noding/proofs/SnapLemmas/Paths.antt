@@ -1,11 +1,11 @@
 -- A chain point by point, as inductions take it.
-use Rattle.std.proofs.Common.{List, [], ap, arith, get_or, inl, inr, map, refl, subst, suc, sym, zero, ◌++◌, ◌∙◌, ◌∷◌, ◌≡◌}
+use Rattle.std.proofs.Common.{List, [], ap, arith, get_or, inl, inr, map, refl, subst, suc, sym, zero, ℤ, ◌++◌, ◌∙◌, ◌∷◌, ◌≡◌}
 use Rattle.std.proofs.lemmas.List.Elements.{All-head, All-tail, Contains-get_or}
-use Rattle.std.specs.List.{All, AllPairs, Contains}
+use Rattle.std.specs.List.{All, AllPairs, AllZip, Contains}
 use Rattle.std.specs.Prelude.{List, [], ◌∷◌, ◌≡◌}
 use Rattle.plane.specs.declared.edge.Edge.{Edge}
 use Rattle.plane.specs.declared.point.Point.{Point}
-use Rattle.noding.specs.Chains.{IsChain, IsHot, Passes, Upto}
+use Rattle.noding.specs.Chains.{IsAlong, IsChain, IsHot, Passes, Upto}
 use Rattle.plane.specs.Ends.{end_of, start_of}
 use Rattle.noding.specs.Windings.{pieces}
 use Rattle.noding.proofs.SnapLemmas.Along.{Upto-to_end, point_at, Passes-start, Passes-end, Upto-from_start, Upto-same}
@@ -77,6 +77,21 @@ module _ (edge : Edge) where
 all-by : {X : Type 0} (P : X → Type 0) (xs : List X) → ((x : X) → Contains xs x → P x) → All P xs
 all-by P xs each k d inside = each (get_or xs k d) (Contains-get_or xs k d inside)
 
+-- what follows for each edge and its chain follows for all
+pub AllZip-by : {X Y : Type 0} (P Q : X → Y → Type 0) (xs : List X) (ys : List Y) → ((x : X) (y : Y) → Contains xs x → P x y → Q x y) → AllZip P xs ys → AllZip Q xs ys
+AllZip-by P Q [] [] each are = tt
+AllZip-by P Q [] (y ∷ ys) each are = absurd are
+AllZip-by P Q (x ∷ xs) [] each are = absurd are
+AllZip-by P Q (x ∷ xs) (y ∷ ys) each (is, are) =
+    (each x y (0, omega arith, refl) is, AllZip-by P Q xs ys (λ other its (k, inside, at). each other its (suc k, omega (arith, inside), at)) are)
+
+-- a chain over nodes that its edge passes, among them its ends, is a path of it
+pub IsPath-along : (IsNode : ℤ → ℤ → Type 0) (edge : Edge) (chain : List Point) → ((x y : ℤ) → IsNode x y → Passes edge x y) → IsNode edge.x0 edge.y0 → IsNode edge.x1 edge.y1 → IsAlong IsNode edge chain → IsPath edge chain
+IsPath-along IsNode edge chain passes start end along =
+    path_of edge chain (all-by (λ c. Passes edge c.x c.y) chain (λ c inside. passes c.x c.y ((along.exact c).0 inside))) along.in_order
+    ((along.exact (start_of edge)).1 start)
+    ((along.exact (end_of edge)).1 end)
+
 -- an edge's ends are hot
 pub IsHot-from : (edges : List Edge) (edge : Edge) → Contains edges edge → IsHot edges edge.x0 edge.y0
 IsHot-from edges edge among = inl (edge, among, inl (refl, refl))
@@ -87,9 +102,11 @@ IsHot-to edges edge among = inl (edge, among, inr (refl, refl))
 -- a chain is a path of its edge
 pub IsPath-chain : (edges : List Edge) (edge : Edge) (chain : List Point) → Contains edges edge → IsChain edges edge chain → IsPath edge chain
 IsPath-chain edges edge chain among is =
-    path_of edge chain (all-by (λ c. Passes edge c.x c.y) chain (λ c inside. ((is.exact c).0 inside).1)) is.in_order
-    ((is.exact (start_of edge)).1 (IsHot-from edges edge among, Passes-start edge))
-    ((is.exact (end_of edge)).1 (IsHot-to edges edge among, Passes-end edge))
+    IsPath-along (λ x y. IsHot edges x y × Passes edge x y) edge chain (λ x y node. node.1) (IsHot-from edges edge among, Passes-start edge) (IsHot-to edges edge among, Passes-end edge) is
+
+-- so those of some edges are
+pub IsPath-chains : (all some : List Edge) (chains : List (List Point)) → ((edge : Edge) → Contains some edge → Contains all edge) → AllZip (IsChain all) some chains → AllZip IsPath some chains
+IsPath-chains all some chains among are = AllZip-by (IsChain all) IsPath some chains (λ edge chain held is. IsPath-chain all edge chain (among edge held) is) are
 
 -- ---- a chain's pieces have its edge's start and end, and else begin where they end
 

@@ -36,6 +36,11 @@ abbrev pub HasCrossings : (ℤ → ℤ → Type 0) → Edge → Edge → Type 0
 HasCrossings hot one other =
     (point : RationalPoint) (x y : ℤ) → AreNotParallel one other → IsOf one point → IsOf other point → RoundsTo point x y → hot x y
 
+-- Of two edges, each with points of its own: what is a point of the one and is passed by the other is one of the other's too.
+pub record Share (hot other_hot : ℤ → ℤ → Type 0) (edge other : Edge) : Type 0 where
+  pub here : (x y : ℤ) → other_hot x y → Passes edge x y → hot x y
+  pub there : (x y : ℤ) → hot x y → Passes other x y → other_hot x y
+
 -- ---- two pieces that cross
 
 -- Twice the area of the triangle of an edge and a point: above 0 where the point is to the left of the edge.

@@ -1,6 +1,6 @@
 -- The chains of many edges, added up: what their pieces count, and how many of them start and end.
-use Rattle.std.proofs.Common.{Bool, IsPermutation, List, [], ap, arith, cond, map, refl, suc, sum_by, sym, ℕ, ◌++◌, ◌+◌, ◌∙◌, ◌∷◌, ◌≡◌, ⊎_elim}
-use Rattle.std.proofs.lemmas.List.Elements.{All-head, All-tail}
+use Rattle.std.proofs.Common.{Bool, IsPermutation, List, [], ap, arith, cond, map, refl, sum_by, sym, ℕ, ◌++◌, ◌+◌, ◌∙◌, ◌∷◌, ◌≡◌, ⊎_elim}
+use Rattle.std.proofs.lemmas.List.Elements.{All-contains}
 use Rattle.std.proofs.lemmas.List.Sorted.{sum_by-IsPermutation}
 use Rattle.std.proofs.lemmas.List.Sums.{sum_by-append, sum_by-cons}
 use Rattle.std.specs.List.{All, AllZip, Contains, count_by, flat_map}
@@ -14,22 +14,23 @@ use Rattle.noding.specs.Windings.{IsClosed, pieces, winding}
 use Rattle.noding.proofs.SnapLemmas.Clear.{chain-clear}
 use Rattle.noding.proofs.SnapLemmas.Exact.{chain-exact}
 use Rattle.noding.proofs.SnapLemmas.Numbers.{both}
-use Rattle.noding.proofs.SnapLemmas.Paths.{GoesOn, IsPath, IsPath-chain}
+use Rattle.noding.proofs.SnapLemmas.Paths.{AllZip-by, GoesOn, IsPath, IsPath-chain, IsPath-chains}
 use Rattle.noding.proofs.SnapLemmas.Along.{point_at}
 use Rattle.noding.proofs.SnapLemmas.Windings.{winding-append}
 
-module _ (all : List Edge) (point : RationalPoint) (P : Edge → Type 0) (each : (edge : Edge) (chain : List Point) → IsPath edge chain → P edge → winding (pieces chain) point ≡ winding (edge ∷ []) point) where
-  -- what holds of each chain and its edge holds of their sums
-  total : (edges : List Edge) (chains : List (List Point)) → ((edge : Edge) → Contains edges edge → Contains all edge) → AllZip (IsChain all) edges chains → All P edges → winding (flat_map pieces chains) point ≡ winding edges point
-  total [] [] among are every = refl
-  total [] (chain ∷ chains) among are every = absurd are
-  total (edge ∷ edges) [] among are every = absurd are
-  total (edge ∷ edges) (chain ∷ chains) among (is, are) every =
-      winding-append (pieces chain) (flat_map pieces chains) point
-      ∙ both (winding (pieces chain) point) (winding (edge ∷ []) point) (winding (flat_map pieces chains) point) (winding edges point)
-      (each edge chain (IsPath-chain all edge chain (among edge (0, omega arith, refl)) is) (All-head P edge edges every))
-      (total edges chains (λ other (k, inside, is_at). among other (suc k, omega (arith, inside), is_at)) are (All-tail P edge edges every))
-      ∙ sym (winding-append (edge ∷ []) edges point)
+-- The chain's pieces count at the point what the edge counts.
+abbrev pub CountsSame : RationalPoint → Edge → List Point → Type 0
+CountsSame point edge chain = winding (pieces chain) point ≡ winding (edge ∷ []) point
+
+-- where each chain counts what its edge counts all do
+pub sum-same : (point : RationalPoint) (edges : List Edge) (chains : List (List Point)) → AllZip (CountsSame point) edges chains → winding (flat_map pieces chains) point ≡ winding edges point
+sum-same point [] [] are = refl
+sum-same point [] (chain ∷ chains) are = absurd are
+sum-same point (edge ∷ edges) [] are = absurd are
+sum-same point (edge ∷ edges) (chain ∷ chains) (is, are) =
+    winding-append (pieces chain) (flat_map pieces chains) point
+    ∙ both (winding (pieces chain) point) (winding (edge ∷ []) point) (winding (flat_map pieces chains) point) (winding edges point) is (sum-same point edges chains are)
+    ∙ sym (winding-append (edge ∷ []) edges point)
 
 -- the chain of one edge, where the edge is far or runs along an axis
 pub chain-counts : (edge : Edge) (chain : List Point) (point : RationalPoint) → IsPath edge chain → CountsExactly edge point → winding (pieces chain) point ≡ winding (edge ∷ []) point
@@ -38,7 +39,9 @@ chain-counts edge chain point is exactly = ⊎_elim (λ axis. chain-exact edge c
 -- the chains of some of the edges, at a point at which each of these is
 pub some-exact : (all some : List Edge) (chains : List (List Point)) (point : RationalPoint) → ((edge : Edge) → Contains some edge → Contains all edge) → AllZip (IsChain all) some chains
     → All (λ edge. CountsExactly edge point) some → winding (flat_map pieces chains) point ≡ winding some point
-some-exact all some chains point among are exactly = total all point (λ edge. CountsExactly edge point) (λ edge chain is one. chain-counts edge chain point is one) some chains among are exactly
+some-exact all some chains point among are exactly =
+    sum-same point some chains
+    (AllZip-by (IsChain all) (CountsSame point) some chains (λ edge chain held is. chain-counts edge chain point (IsPath-chain all edge chain (among edge held) is) (All-contains (λ edge. CountsExactly edge point) some edge exactly held)) are)
 
 -- ---- starts and ends
 
@@ -85,19 +88,29 @@ module _ (test : Point → Bool) where
       omega (arith, same, sum)
 
   -- and of all chains: so their pieces start and end as often as their edges
-  pub balance : (all edges : List Edge) (chains : List (List Point)) → ((edge : Edge) → Contains edges edge → Contains all edge) → AllZip (IsChain all) edges chains
-      → starts (flat_map pieces chains) + ends edges ≡ starts edges + ends (flat_map pieces chains)
-  balance all [] [] among are = refl
-  balance all [] (chain ∷ chains) among are = absurd are
-  balance all (edge ∷ edges) [] among are = absurd are
-  balance all (edge ∷ edges) (chain ∷ chains) among (is, are) =
-      let here = along_path edge chain (IsPath-chain all edge chain (among edge (0, omega arith, refl)) is) in
-      let later = balance all edges chains (λ other (k, inside, is_at). among other (suc k, omega (arith, inside), is_at)) are in
+  balance : (edges : List Edge) (chains : List (List Point)) → AllZip IsPath edges chains → starts (flat_map pieces chains) + ends edges ≡ starts edges + ends (flat_map pieces chains)
+  balance [] [] are = refl
+  balance [] (chain ∷ chains) are = absurd are
+  balance (edge ∷ edges) [] are = absurd are
+  balance (edge ∷ edges) (chain ∷ chains) (is, are) =
+      let here = along_path edge chain is in
+      let later = balance edges chains are in
       let starts_all = starts-append (pieces chain) (flat_map pieces chains) in
       let ends_all = ends-append (pieces chain) (flat_map pieces chains) in
       let starts_edges = starts-cons edge edges in
       let ends_edges = ends-cons edge edges in
       omega (arith, here, later, starts_all, ends_all, starts_edges, ends_edges)
+
+-- the pieces of closed edges are closed
+pub paths-closed : (edges : List Edge) (chains : List (List Point)) → AllZip IsPath edges chains → IsClosed edges → IsClosed (flat_map pieces chains)
+paths-closed edges chains are closed test =
+    let sum = balance test edges chains are in
+    let same = closed test in
+    omega (arith, sum, same)
+
+-- so are those of some edges among all
+pub some-closed : (all some : List Edge) (chains : List (List Point)) → ((edge : Edge) → Contains some edge → Contains all edge) → AllZip (IsChain all) some chains → IsClosed some → IsClosed (flat_map pieces chains)
+some-closed all some chains among are closed = paths-closed some chains (IsPath-chains all some chains among are) closed
 
 -- ---- closed edges by a permutation
 
@@ -110,10 +123,3 @@ pub IsClosed-permutation : (edges : List Edge) → IsPermutation (map start_of e
 IsClosed-permutation edges is test =
     let unit : Point → ℕ = λ point. cond (test point) 1 0 in
     sym (sum_by-map unit start_of edges) ∙ sym (sum_by-IsPermutation unit (map start_of edges) (map end_of edges) is) ∙ sum_by-map unit end_of edges
-
--- so the pieces of some closed edges are closed
-pub some-closed : (all some : List Edge) (chains : List (List Point)) → ((edge : Edge) → Contains some edge → Contains all edge) → AllZip (IsChain all) some chains → IsClosed some → IsClosed (flat_map pieces chains)
-some-closed all some chains among are closed test =
-    let sum = balance test all some chains among are in
-    let same = closed test in
-    omega (arith, sum, same)

@@ -5,7 +5,7 @@ use Rattle.plane.specs.declared.edge.Edge.{Edge}
 use Rattle.plane.specs.Meet.Crosses.{cross}
 use Rattle.plane.specs.Meet.Edges.{IsAtShare, IsOf, RationalPoint}
 use Rattle.plane.specs.Meet.Kinds.{HasPoint, IsAt, IsEnd as IsEndPoint}
-use Rattle.noding.specs.Chains.{IsEnd}
+use Rattle.noding.specs.Chains.{IsEnd, Passes}
 use Rattle.noding.specs.Meeting.{MeetAtEnds}
 use Rattle.plane.specs.Ends.{reversed}
 use Rattle.noding.proofs.SnapLemmas.Hobby.Lines.{Common, Weights}
@@ -14,7 +14,7 @@ use Rattle.noding.proofs.SnapLemmas.Hobby.Touches.{Flat, Lies, Touch, by_p1, by_
 use Rattle.noding.proofs.SnapLemmas.Hobby.Turns.{four}
 use Rattle.noding.proofs.SnapLemmas.Hobby.Uncrossed.{piece-clear, pieces-uncrossed}
 use Rattle.noding.proofs.SnapLemmas.Numbers.{double, n_of, negate, negate_back, negate_both, negate_times, negative, positive_by, side, way_from, way_to, zero_by, cross-exchanged}
-use Rattle.noding.proofs.SnapLemmas.Pieces.{CrossProperly, CrossesLeft, HasCrossings, IsPiece, left_of}
+use Rattle.noding.proofs.SnapLemmas.Pieces.{CrossProperly, CrossesLeft, HasCrossings, IsPiece, Share, left_of}
 use Rattle.noding.proofs.SnapLemmas.Reversed.{left-reversed, reverse_along, IsOf-reversed}
 use Rattle.plane.proofs.MeetLemmas.Identities.{Term, identity, minus, number, plus, same_of, times}
 
@@ -26,7 +26,7 @@ pub record EndsOnly (one other : Edge) : Type 0 where
 -- ---- reversed
 
 -- the premises and the conclusion hold of reversed edges
-reversed-on : (edge : Edge) (x y : ℤ) → HasPoint (reversed edge) x y → HasPoint edge x y
+pub reversed-on : (edge : Edge) (x y : ℤ) → HasPoint (reversed edge) x y → HasPoint edge x y
 reversed-on edge x y (point, of, is) = (point, IsOf-reversed (reversed edge) point of, is)
 
 reversed-end : (edge : Edge) (x y : ℤ) → IsEnd edge x y → IsEnd (reversed edge) x y
@@ -414,15 +414,15 @@ meet-at_ends one other point only only_back uncrossed of_one of_other =
 -- ---- pieces
 
 -- a hot point on a piece is an end of it, so each end of another piece
-pieces_ends : (hot : ℤ → ℤ → Type 0) (edge other piece other_piece : Edge) → IsPiece hot edge piece → IsPiece hot other other_piece → EndsOnly piece other_piece
-pieces_ends hot edge other piece other_piece first second = record {
-  from = λ on. piece-clear hot edge piece other_piece.x0 other_piece.y0 first second.from_hot on;
-  to = λ on. piece-clear hot edge piece other_piece.x1 other_piece.y1 first second.to_hot on;
+pieces_ends : (hot other_hot : ℤ → ℤ → Type 0) (edge other piece other_piece : Edge) → IsPiece hot edge piece → IsPiece other_hot other other_piece → ((x y : ℤ) → other_hot x y → Passes edge x y → hot x y) → EndsOnly piece other_piece
+pieces_ends hot other_hot edge other piece other_piece first second here = record {
+  from = λ on. piece-clear hot edge piece other_piece.x0 other_piece.y0 first (here other_piece.x0 other_piece.y0 second.from_hot) on;
+  to = λ on. piece-clear hot edge piece other_piece.x1 other_piece.y1 first (here other_piece.x1 other_piece.y1 second.to_hot) on;
 }
 
 -- the theorem: two pieces meet only at common ends, or are the same
-pub pieces-meet : (hot : ℤ → ℤ → Type 0) (edge other piece other_piece : Edge) (point : RationalPoint) → IsPiece hot edge piece → IsPiece hot other other_piece → HasCrossings hot edge other → IsOf piece point → IsOf other_piece point → MeetAtEnds piece other_piece point
-pieces-meet hot edge other piece other_piece point first second crossings of_one of_other =
-    meet-at_ends piece other_piece point (pieces_ends hot edge other piece other_piece first second) (pieces_ends hot other edge other_piece piece second first)
-    (pieces-uncrossed hot edge other piece other_piece first second crossings)
+pub pieces-meet : (hot other_hot : ℤ → ℤ → Type 0) (edge other piece other_piece : Edge) (point : RationalPoint) → IsPiece hot edge piece → IsPiece other_hot other other_piece → HasCrossings hot edge other → Share hot other_hot edge other → IsOf piece point → IsOf other_piece point → MeetAtEnds piece other_piece point
+pieces-meet hot other_hot edge other piece other_piece point first second crossings share of_one of_other =
+    meet-at_ends piece other_piece point (pieces_ends hot other_hot edge other piece other_piece first second share.here) (pieces_ends other_hot hot other edge other_piece piece second first share.there)
+    (pieces-uncrossed hot other_hot edge other piece other_piece first second crossings share)
     of_one of_other

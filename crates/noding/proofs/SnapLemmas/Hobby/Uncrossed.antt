@@ -5,12 +5,12 @@ use Rattle.std.proofs.lemmas.Int.{by_lt_z, ints}
 use Rattle.plane.specs.declared.edge.Edge.{Edge}
 use Rattle.plane.specs.Meet.Crosses.{cross}
 use Rattle.plane.specs.Meet.Kinds.{HasPoint}
-use Rattle.noding.specs.Chains.{IsEnd}
+use Rattle.noding.specs.Chains.{IsEnd, Passes}
 use Rattle.plane.specs.Ends.{reversed}
 use Rattle.noding.proofs.SnapLemmas.Hobby.Leads.{pieces-lead}
 use Rattle.noding.proofs.SnapLemmas.Means.{Passes-on_piece}
 use Rattle.noding.proofs.SnapLemmas.Numbers.{n_of}
-use Rattle.noding.proofs.SnapLemmas.Pieces.{CrossProperly, HasCrossings, InBox, IsBetween, IsPiece, Leads, left_of}
+use Rattle.noding.proofs.SnapLemmas.Pieces.{CrossProperly, HasCrossings, InBox, IsBetween, IsPiece, Leads, left_of, Share}
 use Rattle.noding.proofs.SnapLemmas.Reversed.{left-reversed}
 use Rattle.plane.proofs.MeetLemmas.Identities.{Term, at_most, at_most_of, identity, minus, number, plus, same_of, times, unscaled}
 
@@ -32,7 +32,7 @@ left-end edge x y (inr (is_x, is_y)) =
     ap (λ z. left_of edge z y) is_x ∙ ap (λ z. left_of edge edge.x1 z) is_y ∙ left_none_to edge.x0 edge.y0 edge.x1 edge.y1
 
 -- ends of edges that cross are on a side
-record Sides (one other : Edge) : Type 0 where
+pub record Sides (one other : Edge) : Type 0 where
   s1 : left_of one other.x0 other.y0 ≢ pos 0
   s2 : left_of one other.x1 other.y1 ≢ pos 0
   p1 : left_of other one.x0 one.y0 ≢ pos 0
@@ -48,7 +48,7 @@ turned_not : (z t : ℤ) → t ≡ (pos 0 -ℤ z) → t ≢ pos 0 → z ≢ pos 
 turned_not z t is apart same = apart (omega (arith, ints, is, same))
 
 -- the ends of edges that cross are on sides
-sides : (one other : Edge) → CrossProperly one other → Sides one other
+pub sides : (one other : Edge) → CrossProperly one other → Sides one other
 sides one other (inl crosses) = record {
   s1 = below_not (left_of one other.x0 other.y0) crosses.from;
   s2 = above_not (left_of one other.x1 other.y1) crosses.to;
@@ -63,38 +63,38 @@ sides one other (inr crosses) = record {
 }
 
 -- a common end
-common_end : (one other : Edge) (x y : ℤ) → Sides one other → IsEnd one x y → IsEnd other x y → ⊥
+pub common_end : (one other : Edge) (x y : ℤ) → Sides one other → IsEnd one x y → IsEnd other x y → ⊥
 common_end one other x y apart first (inl (is_x, is_y)) =
     apart.s1 (ap (λ z. left_of one z other.y0) (sym is_x) ∙ ap (λ z. left_of one x z) (sym is_y) ∙ left-end one x y first)
 common_end one other x y apart first (inr (is_x, is_y)) =
     apart.s2 (ap (λ z. left_of one z other.y1) (sym is_x) ∙ ap (λ z. left_of one x z) (sym is_y) ∙ left-end one x y first)
 
 -- so what pieces that cross lead to is absurd
-uncrossed : (hot : ℤ → ℤ → Type 0) (edge other piece other_piece : Edge) → IsPiece hot edge piece → IsPiece hot other other_piece → HasCrossings hot edge other → Sides piece other_piece → Leads edge other piece other_piece → ⊥
-uncrossed hot edge other piece other_piece first second crossings apart (inl found) =
-    apart.s1 (left-end piece other_piece.x0 other_piece.y0 (first.next other_piece.x0 other_piece.y0 second.from_hot found))
-uncrossed hot edge other piece other_piece first second crossings apart (inr (inl found)) =
-    apart.s2 (left-end piece other_piece.x1 other_piece.y1 (first.next other_piece.x1 other_piece.y1 second.to_hot found))
-uncrossed hot edge other piece other_piece first second crossings apart (inr (inr (inl found))) =
-    apart.p1 (left-end other_piece piece.x0 piece.y0 (second.next piece.x0 piece.y0 first.from_hot found))
-uncrossed hot edge other piece other_piece first second crossings apart (inr (inr (inr (inl found)))) =
-    apart.p2 (left-end other_piece piece.x1 piece.y1 (second.next piece.x1 piece.y1 first.to_hot found))
-uncrossed hot edge other piece other_piece first second crossings apart (inr (inr (inr (inr meets)))) =
+uncrossed : (hot other_hot : ℤ → ℤ → Type 0) (edge other piece other_piece : Edge) → IsPiece hot edge piece → IsPiece other_hot other other_piece → HasCrossings hot edge other → Share hot other_hot edge other → Sides piece other_piece → Leads edge other piece other_piece → ⊥
+uncrossed hot other_hot edge other piece other_piece first second crossings share apart (inl found) =
+    apart.s1 (left-end piece other_piece.x0 other_piece.y0 (first.next other_piece.x0 other_piece.y0 (share.here other_piece.x0 other_piece.y0 second.from_hot found.passes) found))
+uncrossed hot other_hot edge other piece other_piece first second crossings share apart (inr (inl found)) =
+    apart.s2 (left-end piece other_piece.x1 other_piece.y1 (first.next other_piece.x1 other_piece.y1 (share.here other_piece.x1 other_piece.y1 second.to_hot found.passes) found))
+uncrossed hot other_hot edge other piece other_piece first second crossings share apart (inr (inr (inl found))) =
+    apart.p1 (left-end other_piece piece.x0 piece.y0 (second.next piece.x0 piece.y0 (share.there piece.x0 piece.y0 first.from_hot found.passes) found))
+uncrossed hot other_hot edge other piece other_piece first second crossings share apart (inr (inr (inr (inl found)))) =
+    apart.p2 (left-end other_piece piece.x1 piece.y1 (second.next piece.x1 piece.y1 (share.there piece.x1 piece.y1 first.to_hot found.passes) found))
+uncrossed hot other_hot edge other piece other_piece first second crossings share apart (inr (inr (inr (inr meets)))) =
     let is_hot = crossings meets.point meets.x meets.y meets.apart meets.of_one meets.of_other meets.rounds in
     let one_end = first.next meets.x meets.y is_hot (record {
       passes = (meets.point, meets.of_one, meets.rounds);
       box = meets.box;
     }) in
-    let other_end = second.next meets.x meets.y is_hot (record {
+    let other_end = second.next meets.x meets.y (share.there meets.x meets.y is_hot (meets.point, meets.of_other, meets.rounds)) (record {
       passes = (meets.point, meets.of_other, meets.rounds);
       box = meets.other_box;
     }) in
     common_end piece other_piece meets.x meets.y apart one_end other_end
 
 -- two pieces don't cross
-pub pieces-uncrossed : (hot : ℤ → ℤ → Type 0) (edge other piece other_piece : Edge) → IsPiece hot edge piece → IsPiece hot other other_piece → HasCrossings hot edge other → CrossProperly piece other_piece → ⊥
-pieces-uncrossed hot edge other piece other_piece first second crossings crosses =
-    uncrossed hot edge other piece other_piece first second crossings (sides piece other_piece crosses)
+pub pieces-uncrossed : (hot other_hot : ℤ → ℤ → Type 0) (edge other piece other_piece : Edge) → IsPiece hot edge piece → IsPiece other_hot other other_piece → HasCrossings hot edge other → Share hot other_hot edge other → CrossProperly piece other_piece → ⊥
+pieces-uncrossed hot other_hot edge other piece other_piece first second crossings share crosses =
+    uncrossed hot other_hot edge other piece other_piece first second crossings share (sides piece other_piece crosses)
     (pieces-lead edge other piece other_piece first.from_passes first.to_passes second.from_passes second.to_passes crosses)
 
 -- ---- no hot point is inside a piece
@@ -141,9 +141,10 @@ box-on edge x y (point, (a, at), is) = record {
 }
 
 -- so a hot point on a piece is an end of it
-pub piece-clear : (hot : ℤ → ℤ → Type 0) (edge piece : Edge) (x y : ℤ) → IsPiece hot edge piece → hot x y → HasPoint piece x y → IsEnd piece x y
+pub piece-clear : (hot : ℤ → ℤ → Type 0) (edge piece : Edge) (x y : ℤ) → IsPiece hot edge piece → (Passes edge x y → hot x y) → HasPoint piece x y → IsEnd piece x y
 piece-clear hot edge piece x y part is_hot on =
-    part.next x y is_hot (record {
-      passes = Passes-on_piece edge piece x y part.from_passes part.to_passes on;
+    let passes = Passes-on_piece edge piece x y part.from_passes part.to_passes on in
+    part.next x y (is_hot passes) (record {
+      passes = passes;
       box = box-on piece x y on;
     })
