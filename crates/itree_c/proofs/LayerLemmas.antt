@@ -1,7 +1,7 @@
 -- What the calls over many shapes tell by a status.
 use Rattle.std.proofs.Common.{◌≡◌, ℕ, List, [], ◌++◌, Result, Err, length, ap, ◌∙◌}
 use Rattle.std.specs.Prelude.{◌↔◌}
-use Rattle.layers.proofs.ListLemmas.{length-offsets}
+use Rattle.noding.proofs.Callers.{length-offsets}
 use Rattle.layers.specs.declared.fault.LayerFault.{LayerFault}
 use Rattle.layers.specs.declared.fault.LayerFault.TheVariants.{Lengths, NoShape}
 use Rattle.noding.specs.Offsets.{offsets}

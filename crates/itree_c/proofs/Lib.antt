@@ -1,3 +1,4 @@
+pub mod GroupedMade
 pub mod HandleFrees
 pub mod HandleLemmas
 pub mod HandleMade
@@ -6,5 +7,4 @@ pub mod HandleReads
 pub mod LayerLemmas
 pub mod ListsMade
 pub mod ShapesMade
-pub mod SideMade
 pub mod Steps

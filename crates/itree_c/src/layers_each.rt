@@ -14,15 +14,10 @@ use crate::handle::Handle;
 use crate::polygon_lists::{PolygonLists, boxed_lists};
 use crate::raw::Raw;
 use crate::status::{ANSWERED, CHOICE, LENGTHS, REFUSED};
-use layers::{FillRule, GroupedShapes, Groups, LayerFault, Operation, Point, Polygons, Shapes, overlay_each};
+use layers::{
+    FillRule, GroupedShapes, Groups, LayerFault, Operation, Point, Polygons, Shapes, overlay_each,
+};
 use std::alloc::Global;
-
-// One side of the overlays: all its shapes, and which of them are of each group.
-#[derive(Clone, Copy)]
-struct Side<'a> {
-    shapes: Shapes<'a>,
-    groups: Groups<'a>,
-}
 
 /// Writes a handle of the polygons of what the operation makes of each group of the subject's shapes and the clip's group at the same
 /// place, one group after another, or null; and where the polygons of each group stop among all.
@@ -62,7 +57,7 @@ pub unsafe extern "C" fn itree_overlay_each<'a>(
 {
     let (status, Raw { at, alloc: _ }) = all_each(
         alloc,
-        Side {
+        GroupedShapes {
             shapes: Shapes {
                 points: subjects,
                 ring_ends: subject_ring_ends,
@@ -73,7 +68,7 @@ pub unsafe extern "C" fn itree_overlay_each<'a>(
                 ends: subject_group_ends,
             },
         },
-        Side {
+        GroupedShapes {
             shapes: Shapes {
                 points: clips,
                 ring_ends: clip_ring_ends,
@@ -95,8 +90,8 @@ pub unsafe extern "C" fn itree_overlay_each<'a>(
 // The status of the call, and the polygons or null.
 fn all_each<'a>(
     alloc: Global,
-    subject: Side<'a>,
-    clip: Side<'a>,
+    subject: GroupedShapes<'a>,
+    clip: GroupedShapes<'a>,
     rule: i32,
     operation: i32,
     ends: &mut [usize],
@@ -121,8 +116,8 @@ fn all_each<'a>(
 // The polygons of all groups, on the heap. Where those of each stop is written.
 fn boxed_each(
     alloc: Global,
-    subject: Side,
-    clip: Side,
+    subject: GroupedShapes,
+    clip: GroupedShapes,
     rule: FillRule,
     operation: Operation,
     ends: &mut [usize],
@@ -140,20 +135,7 @@ fn boxed_each(
 {
     let mut made = Polygons::new(alloc);
     let mut found = Vec::new(alloc);
-    overlay_each(
-        GroupedShapes {
-            shapes: subject.shapes,
-            groups: subject.groups,
-        },
-        GroupedShapes {
-            shapes: clip.shapes,
-            groups: clip.groups,
-        },
-        rule,
-        operation,
-        &mut made,
-        &mut found,
-    )?;
+    overlay_each(subject, clip, rule, operation, &mut made, &mut found)?;
     made.ring_ends.insert(0, 0)?;
     made.polygon_ends.insert(0, 0)?;
     let lists = boxed_lists(alloc, made)?;

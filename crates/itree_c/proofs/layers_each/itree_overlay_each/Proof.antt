@@ -9,15 +9,15 @@ use types.Part.{agg}
 use types.Run.{addr, from, hop}
 use Rattle.itree_c.proofs.HandleMadeBy.{both}
 use Rattle.itree_c.proofs.ShapesMade.{three, shapes_good, shapes_packed, groups_good, groups_packed}
-use Rattle.itree_c.proofs.SideMade.{side_good, side_packed}
+use Rattle.itree_c.proofs.GroupedMade.{grouped_good, grouped_packed}
 use Rattle.itree_c.proofs.HandleLemmas.{Z, al, R, Two, status_word, parts_out, made_in}
 use Rattle.itree_c.specs.Layers.{AnswersEach}
 use Rattle.layers.specs.declared.shapes.Groups.{Groups}
 use Rattle.layers.specs.contracts.shapes.Groups.{the_row as groups_row}
 use Rattle.layers.specs.contracts.shapes.Shapes.{the_row as shapes_row}
 use Rattle.layers.specs.declared.shapes.Shapes.{Shapes}
-use Rattle.itree_c.specs.contracts.layers_each.Side.{the_row as side_row}
-use Rattle.itree_c.specs.declared.layers_each.Side.{Side}
+use Rattle.layers.specs.contracts.shapes.GroupedShapes.{the_row as grouped_row}
+use Rattle.layers.specs.declared.shapes.GroupedShapes.{GroupedShapes}
 use denote.Signature.{named_lft}
 use Rattle.plane.specs.contracts.point.Point.{the_row as point_row}
 use Rattle.itree_c.specs.contracts.polygon_lists.PolygonLists.{the_row as held_row}
@@ -56,7 +56,7 @@ itree_overlay_each_spec 𝓤 𝓛 𝓜 𝓡 wired =
     let Points : RattleType = ShrSlice (named 0) κ0 point_row in let Places : RattleType = ShrSlice (named 0) κ0 usize in let Written : RattleType = MutSlice (named 1) κ1 usize in
     let subjects : Shapes = record { points = s1; ring_ends = s2; shape_ends = s3 } in let subject_groups : Groups = record { places = s4; ends = s5 } in
     let clips : Shapes = record { points = s6; ring_ends = s7; shape_ends = s8 } in let clip_groups : Groups = record { places = s9; ends = s10 } in
-    let subject : Side = record { shapes = subjects; groups = subject_groups } in let clip : Side = record { shapes = clips; groups = clip_groups } in let l = named_lft 3 0 tt κs in
+    let subject : GroupedShapes = record { shapes = subjects; groups = subject_groups } in let clip : GroupedShapes = record { shapes = clips; groups = clip_groups } in let l = named_lft 3 0 tt κs in
     let xv : Val = three sv1 sv2 sv3 in let xg : Val = both sv4 sv5 in let yv : Val = three sv6 sv7 sv8 in let yg : Val = both sv9 sv10 in
     let Post : Val → SProp 𝓤 = (walk_of 𝓛 ended hs c).post z in let Run : List Val → SProp 𝓤 = λ ws. WpFn 𝓤 H 𝓣.C 𝓣.Λ fn ws Post in
     let K = triple_of 𝓛 callee.signature (callee.spec 𝓛 𝓜.mem 𝓡.returns) in
@@ -86,10 +86,10 @@ itree_overlay_each_spec 𝓤 𝓛 𝓜 𝓡 wired =
     nothing ! $ move ! (2 ∷ 0 ∷ []) $ fjoin ! $ move ! (2 ∷ 0 ∷ []) $ fjoin ! $ move ! (2 ∷ 0 ∷ []) $ fjoin ! $
     move ! (3 ∷ 2 ∷ []) $ use2 𝓛 (‵ ((groups_row l).own_val clip_groups (yg ∷ []))) (groups_packed 𝓛 l s9 s10 sv9 sv10) $
     move ! (5 ∷ 4 ∷ 3 ∷ []) $ use3 𝓛 (‵ ((shapes_row l).own_val clips (yv ∷ []))) (shapes_packed 𝓛 l s6 s7 s8 sv6 sv7 sv8) $
-    use2 𝓛 (‵ ((side_row l).own_val clip (both yv yg ∷ []))) (side_packed 𝓛 l clips clip_groups yv yg) $ fjoin ! $
+    use2 𝓛 (‵ ((grouped_row l).own_val clip (both yv yg ∷ []))) (grouped_packed 𝓛 l clips clip_groups yv yg) $ fjoin ! $
     move ! (3 ∷ 2 ∷ []) $ use2 𝓛 (‵ ((groups_row l).own_val subject_groups (xg ∷ []))) (groups_packed 𝓛 l s4 s5 sv4 sv5) $
     move ! (5 ∷ 4 ∷ 3 ∷ []) $ use3 𝓛 (‵ ((shapes_row l).own_val subjects (xv ∷ []))) (shapes_packed 𝓛 l s1 s2 s3 sv1 sv2 sv3) $
-    use2 𝓛 (‵ ((side_row l).own_val subject (both xv xg ∷ []))) (side_packed 𝓛 l subjects subject_groups xv xg) $ fjoin ! $ move ! (2 ∷ 0 ∷ []) $ fjoin ! $
+    use2 𝓛 (‵ ((grouped_row l).own_val subject (both xv xg ∷ []))) (grouped_packed 𝓛 l subjects subject_groups xv xg) $ fjoin ! $ move ! (2 ∷ 0 ∷ []) $ fjoin ! $
     -- [the arguments; the reference; the tokens; nothing]
     move ! (2 ∷ []) $ split ! $ move ! (1 ∷ []) $ split ! $ move ! (1 ∷ []) $ split ! $ move ! (2 ∷ 1 ∷ []) $ join ! $ move ! (2 ∷ 0 ∷ []) $ join ! $
     -- [the callee's tokens; the token of ν; the arguments; the reference; nothing]
@@ -99,10 +99,10 @@ itree_overlay_each_spec 𝓤 𝓛 𝓜 𝓡 wired =
     enter ! 𝓣.C 𝓣.Λ fn us Post $ alloc_all ! (λ l. pass_all ! refl (fits, ((tt, (tt, (record { fits = are.1.0.0.1.0 }, tt))), ((tt, (tt, (record { fits = are.1.1.0.0.1.0 }, tt))), ((tt, (tt, (record { fits = are.1.1.1.0.0.1.0 }, tt))), ((tt, (tt, (record { fits = are.1.1.1.1.0.0.1.0 }, tt))), ((tt, (tt, (record { fits = are.1.1.1.1.1.0.0.1.0 }, tt))), ((tt, (tt, (record { fits = are.1.1.1.1.1.1.0.0.1.0 }, tt))), ((tt, (tt, (record { fits = are.1.1.1.1.1.1.1.0.0.1.0 }, tt))), ((tt, (tt, (record { fits = are.1.1.1.1.1.1.1.1.0.0.1.0 }, tt))), ((tt, (tt, (record { fits = are.1.1.1.1.1.1.1.1.1.0.0.1.0 }, tt))), ((tt, (tt, (record { fits = are.1.1.1.1.1.1.1.1.1.1.0.0.1.0 }, tt))), (typed1, (typed2, ((tt, (tt, (record { fits = are.1.1.1.1.1.1.1.1.1.1.1.1.1.0.0.1.0 }, tt))), ((tt, tt), tt))))))))))))))) $
     sets ! (agg ! (and_then ! (get ! refl) (and_then ! (get ! refl) (and_then ! (get ! refl) (no_more !))))) refl (shapes_good s1.ref_ptr s2.ref_ptr s3.ref_ptr (length s1.now) (length s2.now) (length s3.now) (record { fits = are.1.0.0.1.0 }) (record { fits = are.1.1.0.0.1.0 }) (record { fits = are.1.1.1.0.0.1.0 })) $
     sets ! (agg ! (and_then ! (get ! refl) (and_then ! (get ! refl) (no_more !)))) refl (groups_good s4.ref_ptr s5.ref_ptr (length s4.now) (length s5.now) (record { fits = are.1.1.1.1.0.0.1.0 }) (record { fits = are.1.1.1.1.1.0.0.1.0 })) $
-    sets ! (agg ! (and_then ! (get ! refl) (and_then ! (get ! refl) (no_more !)))) refl (side_good (three sv1 sv2 sv3) (both sv4 sv5) (shapes_good s1.ref_ptr s2.ref_ptr s3.ref_ptr (length s1.now) (length s2.now) (length s3.now) (record { fits = are.1.0.0.1.0 }) (record { fits = are.1.1.0.0.1.0 }) (record { fits = are.1.1.1.0.0.1.0 })) (groups_good s4.ref_ptr s5.ref_ptr (length s4.now) (length s5.now) (record { fits = are.1.1.1.1.0.0.1.0 }) (record { fits = are.1.1.1.1.1.0.0.1.0 }))) $
+    sets ! (agg ! (and_then ! (get ! refl) (and_then ! (get ! refl) (no_more !)))) refl (grouped_good (three sv1 sv2 sv3) (both sv4 sv5) (shapes_good s1.ref_ptr s2.ref_ptr s3.ref_ptr (length s1.now) (length s2.now) (length s3.now) (record { fits = are.1.0.0.1.0 }) (record { fits = are.1.1.0.0.1.0 }) (record { fits = are.1.1.1.0.0.1.0 })) (groups_good s4.ref_ptr s5.ref_ptr (length s4.now) (length s5.now) (record { fits = are.1.1.1.1.0.0.1.0 }) (record { fits = are.1.1.1.1.1.0.0.1.0 }))) $
     sets ! (agg ! (and_then ! (get ! refl) (and_then ! (get ! refl) (and_then ! (get ! refl) (no_more !))))) refl (shapes_good s6.ref_ptr s7.ref_ptr s8.ref_ptr (length s6.now) (length s7.now) (length s8.now) (record { fits = are.1.1.1.1.1.1.0.0.1.0 }) (record { fits = are.1.1.1.1.1.1.1.0.0.1.0 }) (record { fits = are.1.1.1.1.1.1.1.1.0.0.1.0 })) $
     sets ! (agg ! (and_then ! (get ! refl) (and_then ! (get ! refl) (no_more !)))) refl (groups_good s9.ref_ptr s10.ref_ptr (length s9.now) (length s10.now) (record { fits = are.1.1.1.1.1.1.1.1.1.0.0.1.0 }) (record { fits = are.1.1.1.1.1.1.1.1.1.1.0.0.1.0 })) $
-    sets ! (agg ! (and_then ! (get ! refl) (and_then ! (get ! refl) (no_more !)))) refl (side_good (three sv6 sv7 sv8) (both sv9 sv10) (shapes_good s6.ref_ptr s7.ref_ptr s8.ref_ptr (length s6.now) (length s7.now) (length s8.now) (record { fits = are.1.1.1.1.1.1.0.0.1.0 }) (record { fits = are.1.1.1.1.1.1.1.0.0.1.0 }) (record { fits = are.1.1.1.1.1.1.1.1.0.0.1.0 })) (groups_good s9.ref_ptr s10.ref_ptr (length s9.now) (length s10.now) (record { fits = are.1.1.1.1.1.1.1.1.1.0.0.1.0 }) (record { fits = are.1.1.1.1.1.1.1.1.1.1.0.0.1.0 }))) $
+    sets ! (agg ! (and_then ! (get ! refl) (and_then ! (get ! refl) (no_more !)))) refl (grouped_good (three sv6 sv7 sv8) (both sv9 sv10) (shapes_good s6.ref_ptr s7.ref_ptr s8.ref_ptr (length s6.now) (length s7.now) (length s8.now) (record { fits = are.1.1.1.1.1.1.0.0.1.0 }) (record { fits = are.1.1.1.1.1.1.1.0.0.1.0 }) (record { fits = are.1.1.1.1.1.1.1.1.0.0.1.0 })) (groups_good s9.ref_ptr s10.ref_ptr (length s9.now) (length s10.now) (record { fits = are.1.1.1.1.1.1.1.1.1.0.0.1.0 }) (record { fits = are.1.1.1.1.1.1.1.1.1.1.0.0.1.0 }))) $
     -- the slice that is written is lent on as it is
     sets ! (addr ! (from ! (fld ! refl (hop ! (look_in_at ! 14 (sub ! 0 refl (whole !))) (stop !))))) refl (tt, tt) $
     sets ! (agg ! (and_then ! (get ! refl) (and_then ! (get_in ! (fld ! refl (stop !)) (sub ! 1 refl (whole !))) (no_more !)))) refl (tt, (tt, (record { fits = are.1.1.1.1.1.1.1.1.1.1.1.1.1.0.0.1.0 }, tt))) $
