@@ -9,7 +9,7 @@ use Rattle.plane.specs.Meet.Edges.{RationalPoint, IsOf}
 use Rattle.plane.specs.Meet.Kinds.{HasPoint}
 use Rattle.plane.specs.Pairs.Bounds.{BoundsMeet}
 use Rattle.noding.specs.Chains.{Passes, IsEnd, CrossAt, IsHot, Upto, IsAlong, IsChain, AreChains}
-use Rattle.noding.specs.Local.{AreNoded, IsMoved, IsNode}
+use Rattle.noding.specs.Local.{AreNodeChains, IsMoved, IsNode}
 use Rattle.noding.specs.Meeting.{MeetAtEnds}
 use Rattle.noding.specs.Near.{CountsExactly, IsNear}
 use Rattle.plane.specs.Ends.{start_of, end_of}
@@ -107,7 +107,7 @@ module _ (edges : List Edge) (edge : Edge) (chain : List Point) (among : Contain
 
 -- ---- a noding that moves only what it must
 
-module _ (edges : List Edge) (chains : List (List Point)) (are : AreNoded edges chains) where
+module _ (edges : List Edge) (chains : List (List Point)) (are : AreNodeChains edges chains) where
   -- Hobby's theorem holds of it: a point that two pieces have is an end of both, or they have the same ends.
   pub node-noded : (piece other : Edge) (point : RationalPoint) → Contains (flat_map pieces chains) piece → Contains (flat_map pieces chains) other
       → IsOf piece point → IsOf other point → MeetAtEnds piece other point

@@ -5,9 +5,12 @@ pub mod Crossed
 pub mod Crossings
 pub mod Ends
 pub mod Gains
+pub mod Local
+pub mod Moving
 pub mod Offsets
 pub mod Order
 pub mod Runs
+pub mod Spreading
 pub mod Standing
 pub mod Stops
 pub mod Zips

@@ -6,6 +6,7 @@ pub mod Crossings
 pub mod Gains
 pub mod Local
 pub mod Meeting
+pub mod Moving
 pub mod Near
 pub mod Offsets
 pub mod Rounding

@@ -1,7 +1,8 @@
 -- A noding that moves only what it must: edges stay exactly where they are, but for those near to where others cross at a
 -- point with fractions.
-use Rattle.std.specs.List.{AllZip}
-use Rattle.std.specs.Prelude.{◌⊎◌, ℕ, zero, suc, ℤ, List, Contains}
+use Rattle.std.specs.Bool.{MatchBool}
+use Rattle.std.specs.List.{AllZip, filter}
+use Rattle.std.specs.Prelude.{◌≡◌, ◌⊎◌, ◌↔◌, ◌++◌, ◌∷◌, [], Bool, true, ℕ, zero, suc, ℤ, List, Contains, Some, slice_get}
 use Rattle.plane.specs.declared.edge.Edge.{Edge}
 use Rattle.plane.specs.declared.point.Point.{Point}
 use Rattle.plane.specs.Meet.Edges.{RationalPoint, IsOf}
@@ -13,6 +14,14 @@ use Rattle.noding.specs.Rounding.{RoundsTo}
 abbrev pub CrossBeside : Edge → Edge → ℤ → ℤ → Type 0
 CrossBeside one other x y =
     AreNotParallel one other × ((point : RationalPoint) × IsOf one point × IsOf other point × RoundsTo point x y × (¬ (IsAt point x y)))
+
+-- The edges at this pair of places do.
+pub record CrossBesideAt (edges : List Edge) (pair : ℕ × ℕ) (point : Point) : Type 0 where
+  pub one : Edge
+  pub other : Edge
+  pub first : slice_get edges pair.0 ≡ Some one
+  pub second : slice_get edges pair.1 ≡ Some other
+  pub cross : CrossBeside one other point.x point.y
 
 -- The edge passes a whole point of these that doesn't lie on it.
 abbrev pub PassesBeside : (ℤ → ℤ → Type 0) → Edge → Type 0
@@ -38,5 +47,29 @@ abbrev pub IsNode : List Edge → Edge → ℤ → ℤ → Type 0
 IsNode edges edge x y = IsHot edges x y × Passes edge x y × (HasPoint edge x y ⊎ IsMoved edges edge)
 
 -- The chains of edges over their nodes, each at its edge's place.
-abbrev pub AreNoded : List Edge → List (List Point) → Type 0
-AreNoded edges chains = AllZip (λ edge chain. IsAlong (IsNode edges edge) edge chain) edges chains
+abbrev pub AreNodeChains : List Edge → List (List Point) → Type 0
+AreNodeChains edges chains = AllZip (λ edge chain. IsAlong (IsNode edges edge) edge chain) edges chains
+
+-- ---- for private contracts
+
+-- The points are those that move edges in the first round.
+abbrev pub AreFirst : List Edge → List Point → Type 0
+AreFirst edges points = (point : Point) → Contains points point ↔ MovesInRound edges 0 point.x point.y
+
+-- These tell of each edge whether it is moved.
+abbrev pub AreMoved : List Edge → List Bool → Type 0
+AreMoved edges moved = AllZip (λ edge is_moved. MatchBool is_moved (IsMoved edges edge) (¬ (IsMoved edges edge))) edges moved
+
+-- The point lies on the edge, or this is said to be moved.
+abbrev pub IsKept : Edge → Bool → Point → Type 0
+IsKept edge is_moved point = HasPoint edge point.x point.y ⊎ (is_moved ≡ true)
+
+-- The list gains the point where it is so.
+abbrev pub AppendsIfKept : Edge → Bool → Point → List Point → List Point → Type 0
+AppendsIfKept edge is_moved point before after =
+    IsKept edge is_moved point × (after ≡ before ++ point ∷ []) ⊎ (¬ (IsKept edge is_moved point)) × (after ≡ before)
+
+-- The list gains the points of the chain that are so, in their order.
+abbrev pub AppendsKept : Edge → Bool → List Point → List Point → List Point → Type 0
+AppendsKept edge is_moved chain before after =
+    (keep : Point → Bool) × (after ≡ before ++ filter keep chain) × ((point : Point) → (keep point ≡ true) ↔ IsKept edge is_moved point)

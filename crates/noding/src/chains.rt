@@ -90,3 +90,11 @@ fn append_end<A: Allocator>(edge: Edge, points: &mut Vec<Point, A>) -> Result<()
     points.push(end_of(edge))?;
     Ok(())
 }
+
+/// The points from the one place on, and before the other.
+pub fn chain_at(points: &[Point], start: usize, end: usize) -> &[Point]
+    requires { (start ≤ end) × (end ≤ length points.now) }
+    ensures { result.now ≡ between start end points.now }
+{
+    &points[start..end]
+}

@@ -23,9 +23,12 @@ mod chains;
 mod close;
 mod crossing;
 mod crossings;
+mod local;
 mod passing;
 pub mod pieces;
 pub mod stops;
+
+pub use local::node;
 
 /// Appends the chain of each edge in turn to `points`, and to `ends` where each chain stops among these.
 ///

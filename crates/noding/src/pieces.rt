@@ -1,11 +1,12 @@
 //! The pieces of chains.
 
-ghost use Rattle.std.specs.Prelude.{◌≡◌, ◌≤◌, ◌++◌, List, IfOk, OnOk, length};
-ghost use Rattle.std.specs.List.{between, flat_map};
+ghost use Rattle.std.specs.Prelude.{◌≡◌, ◌++◌, List, IfOk, OnOk, length};
+ghost use Rattle.std.specs.List.{flat_map};
 ghost use Rattle.plane.specs.declared.point.Point.{Point};
 ghost use Rattle.noding.specs.Offsets.{AreJoined};
 ghost use Rattle.noding.specs.Windings.{pieces};
 
+use crate::chains::chain_at;
 use plane::edge::{Edge, edge_between};
 use plane::point::Point;
 use std::alloc::{AllocError, Allocator};
@@ -32,14 +33,6 @@ pub fn pieces_of<A: Allocator>(
         start = *end;
     }
     Ok(edges)
-}
-
-// The points from the one place on, and before the other.
-fn chain_at(points: &[Point], start: usize, end: usize) -> &[Point]
-    requires { (start ≤ end) × (end ≤ length points.now) }
-    ensures { result.now ≡ between start end points.now }
-{
-    &points[start..end]
 }
 
 // Appends the edges from each point of the chain to the next.

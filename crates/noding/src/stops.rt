@@ -38,9 +38,23 @@ pub fn stops_in_order<A: Allocator + Copy>(
     ensures refused { IfErr result (λ cause. cause ≡ OutOfMemory) }
 {
     let pairs = close_pairs(alloc, edges)?;
+    stops_of_pairs(alloc, edges, &pairs)
+}
+
+/// The same, where these pairs of edges come close.
+pub fn stops_of_pairs<A: Allocator + Copy>(
+    alloc: A,
+    edges: &[Edge],
+    pairs: &[(usize, usize)],
+) -> Result<Vec<Stop, A>, Refusal>
+    requires close { ArePairs ComeClose edges.now pairs.now }
+    requires within { All (λ pair. (pair.0 < length edges.now) × (pair.1 < length edges.now)) pairs.now }
+    ensures ok { IfOk result (λ stops. AreStops edges.now stops.items) }
+    ensures refused { IfErr result (λ cause. cause ≡ OutOfMemory) }
+{
     let mut stops = Vec::new(alloc);
-    push_stops_at_ends(edges, &pairs, &mut stops)?;
-    push_stops_at_crossings(edges, &pairs, &mut stops)?;
+    push_stops_at_ends(edges, pairs, &mut stops)?;
+    push_stops_at_crossings(edges, pairs, &mut stops)?;
     sort_in_buckets(
         &mut stops,
         number_of,

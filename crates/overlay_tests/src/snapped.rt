@@ -1,10 +1,10 @@
 //! Edges and their chains, as worked by hand, and each request for memory refused in turn.
 
 use i_tree::Refusal;
-use noding::snap;
+use noding::{node, snap};
 use plane::edge::Edge;
 use plane::point::Point;
-use std::alloc::Global;
+use std::alloc::{Allocator, Global};
 use std::test::Fail;
 use test_kit::Refusing;
 use test_kit::in_turn::{Trial, refuse_in_turn};
@@ -150,6 +150,93 @@ static ROWS: [Row; 12] = [
     },
 ];
 
+// Of `node`: edges stay where they are, but for those that pass what others round to that cross at a point with fractions.
+static NODES: [Row; 3] = [
+    // The first side passes the pixel of the corner (2, 2), and no two sides cross.
+    Row {
+        name: "a triangle",
+        edges: &[[0, 7, 2, 0], [2, 0, 2, 2], [2, 2, 0, 7]],
+        points: &[[0, 7], [2, 0], [2, 0], [2, 2], [2, 2], [0, 7]],
+        ends: &[2, 4, 6],
+    },
+    // The first two at (3/2, 1/2). The third has (12, 1), and passes (11, 1), which doesn't lie on it.
+    Row {
+        name: "a crossing, and an edge elsewhere",
+        edges: &[
+            [0, 0, 3, 1],
+            [0, 1, 3, 0],
+            [10, 0, 14, 2],
+            [12, 1, 12, 1],
+            [11, 1, 11, 1],
+        ],
+        points: &[
+            [0, 0],
+            [2, 1],
+            [3, 1],
+            [0, 1],
+            [2, 1],
+            [3, 0],
+            [10, 0],
+            [12, 1],
+            [14, 2],
+            [12, 1],
+            [11, 1],
+        ],
+        ends: &[3, 6, 9, 10, 11],
+    },
+    // The first two at (30/13, 3/13). The first passes (8, 1), and so moves the fourth, which crosses none. The fifth passes
+    // (2, 6), which no moved edge passes.
+    Row {
+        name: "an edge that a moved one's point moves",
+        edges: &[
+            [0, 0, 10, 1],
+            [0, 1, 3, 0],
+            [8, 1, 8, 1],
+            [6, 2, 9, 1],
+            [0, 5, 4, 6],
+            [2, 6, 2, 6],
+        ],
+        points: &[
+            [0, 0],
+            [2, 0],
+            [3, 0],
+            [8, 1],
+            [9, 1],
+            [10, 1],
+            [0, 1],
+            [2, 0],
+            [3, 0],
+            [8, 1],
+            [6, 2],
+            [8, 1],
+            [9, 1],
+            [0, 5],
+            [4, 6],
+            [2, 6],
+        ],
+        ends: &[6, 9, 10, 13, 15, 16],
+    },
+];
+
+// Which call breaks the edges.
+#[derive(Clone, Copy)]
+enum Call {
+    Snap,
+    Node,
+}
+
+fn break_edges<A: Allocator + Copy>(
+    call: Call,
+    edges: &[Edge],
+    points: &mut Vec<Point, A>,
+    ends: &mut Vec<usize, A>,
+) -> Result<(), Refusal> {
+    match call {
+        Call::Snap => snap(edges, points, ends),
+        Call::Node => node(edges, points, ends),
+    }
+}
+
 fn edge(ends: [i32; 4]) -> Edge {
     let [x0, y0, x1, y1] = ends;
     Edge { x0, y0, x1, y1 }
@@ -172,11 +259,11 @@ fn points_of(alloc: Global, row: &Row) -> Result<Vec<Point>, Fail> {
 }
 
 // Whether the edges have these chains.
-fn is_snapped(alloc: Global, row: &Row) -> Result<bool, Fail> {
+fn is_broken(alloc: Global, call: Call, row: &Row) -> Result<bool, Fail> {
     let edges = edges_of(alloc, row)?;
     let mut points = Vec::new(alloc);
     let mut ends = Vec::new(alloc);
-    let outcome = snap(&edges, &mut points, &mut ends);
+    let outcome = break_edges(call, &edges, &mut points, &mut ends);
     let same_points = points == points_of(alloc, row)?;
     Ok(outcome == Ok(()) && same_points && ends.as_slice() == row.ends)
 }
@@ -184,7 +271,10 @@ fn is_snapped(alloc: Global, row: &Row) -> Result<bool, Fail> {
 #[test]
 fn edges_have_the_chains_worked_by_hand(rt: HostRuntime) -> Result<(), Fail> {
     for row in &ROWS {
-        assert!(rt; is_snapped(rt.alloc(), row)?, "{}", row.name);
+        assert!(rt; is_broken(rt.alloc(), Call::Snap, row)?, "{}", row.name);
+    }
+    for row in &NODES {
+        assert!(rt; is_broken(rt.alloc(), Call::Node, row)?, "{}", row.name);
     }
     Ok(())
 }
@@ -200,7 +290,9 @@ struct Snapped<'a> {
 #[derive(Drop)]
 struct Snapping<'a> {
     memory: &'a Refusing<Global>,
+    call: Call,
     edges: Vec<Edge>,
+    points: usize,
 }
 
 impl<'a> Trial for Snapping<'a> {
@@ -219,7 +311,12 @@ impl<'a> Trial for Snapping<'a> {
     }
 
     fn call(&self, snapped: &mut Snapped<'a>) {
-        snapped.outcome = snap(&self.edges, &mut snapped.points, &mut snapped.ends);
+        snapped.outcome = break_edges(
+            self.call,
+            &self.edges,
+            &mut snapped.points,
+            &mut snapped.ends,
+        );
     }
 
     // Where room for all was asked in advance and refused, the call may still have found room for each.
@@ -233,9 +330,10 @@ impl<'a> Trial for Snapping<'a> {
         (done || refused) && snapped.points.len() == 1 && snapped.ends.as_slice() == [1].as_slice()
     }
 
-    // Each level edge goes through twelve upright ones, at two of them by its ends, and each upright one through twelve.
     fn is_done(&self, snapped: &mut Snapped<'a>) -> bool {
-        snapped.outcome == Ok(()) && snapped.points.len() == 289 && snapped.ends.len() == 25
+        snapped.outcome == Ok(())
+            && snapped.points.len() == self.points + 1
+            && snapped.ends.len() == self.edges.len() + 1
     }
 }
 
@@ -247,10 +345,20 @@ fn keeps_points_and_ends_at_each_refusal(rt: HostRuntime) -> Result<(), Fail> {
         edges.push(edge([0, place, 11, place]))?;
         edges.push(edge([place, 0, place, 11]))?;
     }
+    // Each level edge goes through twelve upright ones, at two of them by its ends, and each upright one through twelve.
     let snapping = Snapping {
         memory: &memory,
+        call: Call::Snap,
         edges,
+        points: 288,
     };
     assert!(rt; refuse_in_turn(&memory, &snapping).is_ok_and(|requests| requests > 10));
+    let noding = Snapping {
+        memory: &memory,
+        call: Call::Node,
+        edges: edges_of(rt.alloc(), &NODES[2])?,
+        points: 16,
+    };
+    assert!(rt; refuse_in_turn(&memory, &noding).is_ok_and(|requests| requests > 10));
     Ok(())
 }

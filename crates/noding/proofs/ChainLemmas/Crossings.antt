@@ -23,7 +23,7 @@ use Rattle.noding.proofs.SnapLemmas.Crossing.{CrossAt-exchanged, CrossAt-itself,
 use Rattle.noding.proofs.SnapLemmas.Rounding.{RoundsTo-itself, whole}
 
 -- an end of an edge is a point of it
-end-of_edge : (edge : Edge) (x y : ℤ) → IsEnd edge x y → IsOf edge (whole x y)
+pub end-of_edge : (edge : Edge) (x y : ℤ) → IsEnd edge x y → IsOf edge (whole x y)
 end-of_edge edge x y (inl (same_x, same_y)) =
     subst (λ (a : ℤ). IsOf edge (whole a y)) (sym same_x) (subst (λ (b : ℤ). IsOf edge (whole edge.x0 b)) (sym same_y) (0, from_at edge))
 end-of_edge edge x y (inr (same_x, same_y)) =

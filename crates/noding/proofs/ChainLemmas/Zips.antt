@@ -24,6 +24,13 @@ AllZip-at R (x ∷ xs) [] d e k zip within = absurd zip
 AllZip-at R (x ∷ xs) (y ∷ ys) d e zero zip within = zip.0
 AllZip-at R (x ∷ xs) (y ∷ ys) d e (suc k) zip within = AllZip-at R xs ys d e k zip.1 (omega (arith, within))
 
+-- and what holds at each place
+pub AllZip-places : {A B : Type 0} (R : A → B → Type 0) (xs : List A) (ys : List B) (d : A) (e : B) → length ys ≡ length xs → ((k : ℕ) → k < length xs → R (get_or xs k d) (get_or ys k e)) → AllZip R xs ys
+AllZip-places R [] [] d e same at = tt
+AllZip-places R (x ∷ xs) (y ∷ ys) d e same at = (at 0 (omega arith), AllZip-places R xs ys d e (omega (arith, same)) (λ k within. at (suc k) (omega (arith, within))))
+AllZip-places R [] (y ∷ ys) d e same at = absurd (omega (arith, same))
+AllZip-places R (x ∷ xs) [] d e same at = absurd (omega (arith, same))
+
 -- an element of what lists have is of one of them, which stands beside some item
 pub AllZip-flat_map : {A B C : Type 0} (R : A → B → Type 0) (f : B → List C) (xs : List A) (ys : List B) (z : C) → AllZip R xs ys → Contains (flat_map f ys) z
     → (x : A) × (y : B) × Contains xs x × R x y × Contains (f y) z

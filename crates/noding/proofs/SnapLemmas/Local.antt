@@ -16,7 +16,7 @@ use Rattle.plane.proofs.MeetLemmas.Along.{ends, starts, whole_point}
 use Rattle.plane.proofs.MeetLemmas.Identities.{Term, identity, minus, number, plus, same_of, times, unscaled}
 use Rattle.plane.proofs.MeetLemmas.Kinds.{one-of_crossing}
 use Rattle.noding.specs.Chains.{AreNotParallel, IsAlong, IsChain, IsHot, Passes, Upto}
-use Rattle.noding.specs.Local.{AreNoded, CrossBeside, IsMoved, IsNode, Moves, MovesInRound, PassesBeside}
+use Rattle.noding.specs.Local.{AreNodeChains, CrossBeside, IsMoved, IsNode, Moves, MovesInRound, PassesBeside}
 use Rattle.noding.specs.Meeting.{MeetAtEnds}
 use Rattle.noding.specs.Rounding.{RoundsTo}
 use Rattle.noding.specs.Near.{CountsExactly}
@@ -74,7 +74,7 @@ mean_is b a n n0 n1 p p0 p1 c d parts is first second =
     ap (λ z. mean_on b a n0 n1 z p1) first
     ∙ ap (λ z. mean_on b a n0 n1 (pos n0 *ℤ c) z) second
     ∙ identity (plus (times (n_of b) (times (n_of n1) (times (n_of n0) (number c)))) (times (n_of a) (times (n_of n0) (times (n_of n1) (number d)))))
-      (times (n_of (n0 * n1)) (plus (times (n_of (b + a)) (number c)) (times (n_of a) (minus (number d) (number c))))) (omega arith)
+    (times (n_of (n0 * n1)) (plus (times (n_of (b + a)) (number c)) (times (n_of a) (minus (number d) (number c))))) (omega arith)
     ∙ ap (λ j. pos (n0 * n1) *ℤ ((pos j *ℤ c) +ℤ (pos a *ℤ (d -ℤ c)))) parts
     ∙ ap (λ z. pos (n0 * n1) *ℤ z) (sym is)
 
@@ -229,7 +229,7 @@ cancelled m n p c some is =
     omega (arith, ints, upto, back)
 
 -- the common point of two edges that aren't parallel is a whole point that lies on both
-common_whole : (one other : Edge) (point : RationalPoint) (x y : ℤ) → AreNotParallel one other → IsOf one point → IsOf other point → HasPoint one x y → HasPoint other x y → IsAt point x y
+pub common_whole : (one other : Edge) (point : RationalPoint) (x y : ℤ) → AreNotParallel one other → IsOf one point → IsOf other point → HasPoint one x y → HasPoint other x y → IsAt point x y
 common_whole one other point x y apart of_one of_other (first, first_of, first_at) (second, second_of, second_at) =
     let some = mul-pos first.positive second.positive in
     let n = first.n * second.n in
@@ -382,7 +382,7 @@ module _ (edges : List Edge) where
             pieces-meet (IsNode edges edge) (IsNode edges other) edge other piece other_piece point first second by.crossings by.share of_one of_other
 
 -- of the pieces of all chains
-pub noded-meet : (edges : List Edge) (chains : List (List Point)) → AreNoded edges chains → (piece other_piece : Edge) (point : RationalPoint) → Contains (flat_map pieces chains) piece → Contains (flat_map pieces chains) other_piece → IsOf piece point → IsOf other_piece point
+pub noded-meet : (edges : List Edge) (chains : List (List Point)) → AreNodeChains edges chains → (piece other_piece : Edge) (point : RationalPoint) → Contains (flat_map pieces chains) piece → Contains (flat_map pieces chains) other_piece → IsOf piece point → IsOf other_piece point
     → MeetAtEnds piece other_piece point
 noded-meet edges chains are piece other_piece point first second of_one of_other =
     let one = piece_of (IsNode edges) (λ edge x y node. node.1) edges chains piece are first in
@@ -463,7 +463,7 @@ pub noded-told : (edges : List Edge) (edge : Edge) (chain : List Point) (point :
 noded-told edges edge chain point among along (inl exactly) = chain-counts edge chain point (IsPath-noded edges edge chain along among) exactly
 noded-told edges edge chain point among along (inr still) = chain-rests edge chain point (IsPath-noded edges edge chain along among) (still-on edges edge chain along still)
 
-module _ (edges : List Edge) (chains : List (List Point)) (are : AreNoded edges chains) where
+module _ (edges : List Edge) (chains : List (List Point)) (are : AreNodeChains edges chains) where
   abbrev Along : Edge → List Point → Type 0
   Along edge chain = IsAlong (IsNode edges edge) edge chain
 

@@ -65,7 +65,7 @@ height_same n p x0 x1 y0 y1 a0 a1 b0 b1 first second =
     ∙ ap (λ z. (z *ℤ ((pos n *ℤ a1) -ℤ p)) +ℤ (((x1 -ℤ x0) *ℤ b1) *ℤ (p -ℤ (pos n *ℤ a0)))) (up_from (x1 -ℤ x0) b0 y0 ((y1 -ℤ y0) *ℤ (a0 -ℤ x0)) first)
     ∙ ap (λ z. ((((x1 -ℤ x0) *ℤ y0) +ℤ ((y1 -ℤ y0) *ℤ (a0 -ℤ x0))) *ℤ ((pos n *ℤ a1) -ℤ p)) +ℤ (z *ℤ (p -ℤ (pos n *ℤ a0)))) (up_from (x1 -ℤ x0) b1 y0 ((y1 -ℤ y0) *ℤ (a1 -ℤ x0)) second)
     ∙ identity (plus (times (there a0) right) (times (there a1) left))
-      (times (minus (number a1) (number a0)) (plus (times (number y0) (minus (times (n_of n) (number x1)) (number p))) (times (number y1) (minus (number p) (times (n_of n) (number x0)))))) (omega arith)
+    (times (minus (number a1) (number a0)) (plus (times (number y0) (minus (times (n_of n) (number x1)) (number p))) (times (number y1) (minus (number p) (times (n_of n) (number x0)))))) (omega arith)
 
 exchange : (w r : ℕ) (y u v : ℤ) → u ≡ pos w → v ≡ pos r → (pos w *ℤ (y *ℤ v)) ≡ (pos r *ℤ (y *ℤ u))
 exchange w r y u v is_w is_r =

@@ -76,7 +76,7 @@ fn has_end_of(one: Edge, other: Edge) -> bool
 }
 
 /// Whether the point is of the edge. An edge that is this point tells it.
-fn has_point(edge: Edge, x: i32, y: i32) -> bool
+pub fn has_point(edge: Edge, x: i32, y: i32) -> bool
     ensures { MatchBool result (HasPoint edge x y) (¬ (HasPoint edge x y)) }
 {
     meet(

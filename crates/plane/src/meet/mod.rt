@@ -8,7 +8,7 @@ use crate::edge::Edge;
 use crate::pairs::{first_pair, pairs_among, pairs_between};
 pub use exact::meet;
 use i_tree::Refusal;
-pub use kinds::{Meeting, how_they_meet};
+pub use kinds::{Meeting, has_point, how_they_meet};
 use std::alloc::Allocator;
 
 mod boxes;

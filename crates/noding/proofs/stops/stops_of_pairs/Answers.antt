@@ -1,4 +1,4 @@
-use Rattle.std.proofs.Common.{◌⊎◌, ℕ, List, [], sym, subst, rules}
+use Rattle.std.proofs.Common.{◌⊎◌, List, [], sym, subst, rules}
 use Rattle.std.specs.Ordering.{is_lt}
 use Rattle.std.proofs.lemmas.List.Filters.{dedup_is}
 use Rattle.std.proofs.lemmas.List.Sorted.{answers_always, ranks_by}
@@ -9,20 +9,20 @@ use Rattle.noding.specs.contracts.stops.StopOrd.TheImpl.Laws.{matches_eq-law, to
 use Rattle.noding.specs.declared.stops.Stop.{Stop}
 use Rattle.noding.proofs.ChainLemmas.Gains.{gained-all, gains-join}
 use Rattle.noding.proofs.ChainLemmas.Stops.{AreStops-sorted}
-use Rattle.noding.proofs.stops.stops_in_order.Goals as goal
+use Rattle.noding.proofs.stops.stops_of_pairs.Goals as goal
 
 pub returns-clause-ok : goal.returns-clause-ok
 returns-clause-ok g c =
     let edges = c.args.edges.now in
-    let pairs = c.in_ok-pairs.pairs.items in
+    let pairs = c.args.pairs.now in
     let ended = c.push_stops_at_ends.new.stops.items in
     let all = c.push_stops_at_crossings.new.stops.items in
     let at_ends =
     subst (λ (before : List Stop). GainsThese (IsOfSome (IsStopOfPair edges) pairs) before ended) c.new-stops.ensures.items
-    (subst (λ (among : List (ℕ × ℕ)). GainsThese (IsOfSome (IsStopOfPair edges) among) c.new-stops.result.items ended) c.deref.ensures.value c.in_ok-push_stops_at_ends.ensures) in
-    let at_crossings = subst (λ (among : List (ℕ × ℕ)). GainsThese (IsStopCrossed edges among) ended all) c.deref-2.ensures.value c.in_ok-push_stops_at_crossings.ensures.ok in
+    c.in_ok-push_stops_at_ends.ensures in
+    let at_crossings = c.in_ok-push_stops_at_crossings.ensures.ok in
     let told = gains-join (IsOfSome (IsStopOfPair edges) pairs) (IsStopCrossed edges pairs) [] ended all at_ends at_crossings in
     subst (AreStops edges) (sym (dedup_is _ _ _ c.dedup.ensures.filtered))
-    (AreStops-sorted edges pairs c.in_ok-pairs.ensures.ok all
+    (AreStops-sorted edges pairs c.requires.close all
     (gained-all (λ stop. IsOfSome (IsStopOfPair edges) pairs stop ⊎ IsStopCrossed edges pairs stop) all told)
     _ matches_eq-law c.sort_in_buckets.new.items.items c.sort_in_buckets.ensures.permutation (c.in_ok-sort_in_buckets.ensures.sorted (λ a b. is_lt (stop_order.cmp a b)) (ranks_by stop_total (λ it. it)) (answers_always _ _ _ (λ f a r f' called. search rules))))

@@ -1,0 +1,32 @@
+use Rattle.std.proofs.Common.{[], pos}
+use Rattle.plane.proofs.PairsLemmas.Extends.{Extends-same, Extends-trans}
+use Rattle.plane.specs.declared.point.Point.{Point}
+use Rattle.noding.specs.Gains.{IsOfSome}
+use Rattle.noding.specs.Moving.{IsMovedAt}
+use Rattle.noding.proofs.ChainLemmas.Gains.{gains-none, none_of}
+use Rattle.noding.proofs.ChainLemmas.Moving.{gains-all, gains-next}
+use Rattle.noding.proofs.local.move_at_all.Goals as goal
+
+pub loop-point-init : goal.loop-point-init
+loop-point-init g c = (
+  c.requires.spread,
+  c.requires.flagged,
+  Extends-same c.args.order.now.items,
+  gains-none (IsOfSome (IsMovedAt c.args.edges.now c.args.visits.now) []) c.args.order.now.items (none_of (IsMovedAt c.args.edges.now c.args.visits.now)),
+)
+
+pub loop-point-preserved : goal.loop-point-preserved
+loop-point-preserved g c =
+    let (spread, flagged, longer, gains) = c.loop-point.invariant in
+    let before = c.args.order.now.items in
+    let now = c.loop-point.order.items in
+    let after = c.move_at.new.order.items in
+    let none : Point = record { x = pos 0; y = pos 0 } in (
+      c.in_ok-move_at.ensures.spread,
+      c.in_ok-move_at.ensures.flagged,
+      Extends-trans before now after longer c.in_ok-move_at.ensures.more,
+      gains-next (IsMovedAt c.args.edges.now c.args.visits.now) c.args.points.now c.loop-point.point-index none before now after c.loop-point-test.true gains c.in_ok-move_at.ensures.gains,
+    )
+
+pub returns-clause-gains : goal.returns-clause-gains
+returns-clause-gains g c = gains-all (IsMovedAt c.args.edges.now c.args.visits.now) c.args.points.now c.loop-point.point-index c.args.order.now.items c.loop-point.order.items c.loop-point-test.false c.loop-point.invariant.3
