@@ -34,47 +34,36 @@ fn scattered(place: i32) -> i32 {
     (place.saturating_mul(377) % 1000).saturating_add(1)
 }
 
-// Inserts a key that is not there among so many, and then tries to insert it again.
-fn inserts_key<'a, C: KeyExpCollection<CountedKey<'a>, i32, i32>>(
-    keys: &mut C,
-    tally: &'a Tally,
-    number: i32,
-    count: usize,
-) -> bool {
+// Inserts a key that is not there, and then tries to insert it again.
+fn inserts_key<'a>(list: &mut CountedList<'a>, tally: &'a Tally, number: i32) -> bool {
     let key = counted_key(number, tally);
+    let count = list.stored();
     tally.take();
-    if keys.contains_key(0, key) || !compared(tally, count, true) {
+    if list.contains_key(0, key) || !compared(tally, count, true) {
         return false;
     }
-    if keys.insert(key, number, 0).is_err() || !compared(tally, count, false) {
+    if list.insert(key, number, 0).is_err() || !compared(tally, count, false) {
         return false;
     }
     let more = count.saturating_add(1);
-    matches!(keys.insert_new(key, 0, 0), Ok(false)) && compared(tally, more, true)
+    matches!(list.insert_new(key, 0, 0), Ok(false)) && compared(tally, more, true)
 }
 
 // Looks for a number of those from 1 to 1000, or for one above them.
-fn finds_key<'a, C: KeyExpCollection<CountedKey<'a>, i32, i32>>(
-    keys: &mut C,
-    tally: &'a Tally,
-    number: i32,
-) -> bool {
+fn finds_key<'a>(list: &mut CountedList<'a>, tally: &'a Tally, number: i32) -> bool {
     let key = counted_key(number, tally);
     tally.take();
-    let below = keys.first_less(0, 0, key);
+    let below = list.first_less(0, 0, key);
     if below != number.saturating_sub(1) || !compared(tally, 1000, false) {
         return false;
     }
-    keys.contains_key(0, key) == (number <= 1000) && compared(tally, 1000, true)
+    list.contains_key(0, key) == (number <= 1000) && compared(tally, 1000, true)
 }
 
 // Looks for each number, and for one above them.
-fn finds_keys<'a, C: KeyExpCollection<CountedKey<'a>, i32, i32>>(
-    keys: &mut C,
-    tally: &'a Tally,
-) -> bool {
+fn finds_keys<'a>(list: &mut CountedList<'a>, tally: &'a Tally) -> bool {
     for number in 1..=1001 {
-        if !finds_key(keys, tally, number) {
+        if !finds_key(list, tally, number) {
             return false;
         }
     }
@@ -82,18 +71,13 @@ fn finds_keys<'a, C: KeyExpCollection<CountedKey<'a>, i32, i32>>(
 }
 
 // Inserts the numbers from 1 to 1000, and 1001 after the queries between.
-fn compares_keys<'a, C: KeyExpCollection<CountedKey<'a>, i32, i32>>(
-    keys: &mut C,
-    tally: &'a Tally,
-) -> bool {
-    let mut count = 0usize;
+fn compares_keys<'a>(list: &mut CountedList<'a>, tally: &'a Tally) -> bool {
     for place in 0..1000 {
-        if !inserts_key(keys, tally, scattered(place), count) {
+        if !inserts_key(list, tally, scattered(place)) {
             return false;
         }
-        count = count.saturating_add(1);
     }
-    finds_keys(keys, tally) && inserts_key(keys, tally, 1001, count)
+    finds_keys(list, tally) && inserts_key(list, tally, 1001)
 }
 
 #[test]

@@ -291,6 +291,15 @@ static ROWS: &[Row] = &[
             (Call::Requests, Answer::Number(0)),
         ],
     },
+    Row {
+        name: "a hundred thousand handles",
+        steps: &[
+            (Call::Rising(100000), Answer::Done),
+            (Call::Len, Answer::Number(100000)),
+            (Call::Spare, Answer::Number(31071)),
+            (Call::Walk, Answer::Yes),
+        ],
+    },
 ];
 
 // Makes the calls over a new tree, and compares the answers.

@@ -292,6 +292,7 @@ struct Snapping<'a> {
     memory: &'a Refusing<Global>,
     call: Call,
     edges: Vec<Edge>,
+    // How many points stand there in the end.
     points: usize,
 }
 
@@ -332,7 +333,7 @@ impl<'a> Trial for Snapping<'a> {
 
     fn is_done(&self, snapped: &mut Snapped<'a>) -> bool {
         snapped.outcome == Ok(())
-            && snapped.points.len() == self.points + 1
+            && snapped.points.len() == self.points
             && snapped.ends.len() == self.edges.len() + 1
     }
 }
@@ -350,14 +351,14 @@ fn keeps_points_and_ends_at_each_refusal(rt: HostRuntime) -> Result<(), Fail> {
         memory: &memory,
         call: Call::Snap,
         edges,
-        points: 288,
+        points: 289,
     };
     assert!(rt; refuse_in_turn(&memory, &snapping).is_ok_and(|requests| requests > 10));
     let noding = Snapping {
         memory: &memory,
         call: Call::Node,
         edges: edges_of(rt.alloc(), &NODES[2])?,
-        points: 16,
+        points: 17,
     };
     assert!(rt; refuse_in_turn(&memory, &noding).is_ok_and(|requests| requests > 10));
     Ok(())
