@@ -1,5 +1,5 @@
 -- What a caller of snap rounding wants of its chains, in a caller's words.
-use Rattle.std.proofs.Common.{◌≡◌, ◌≢◌, ◌⊎◌, List, [], ◌∷◌, ◌++◌, map, sym, subst, inl, inr}
+use Rattle.std.proofs.Common.{◌≡◌, ◌≢◌, List, [], ◌∷◌, ◌++◌, map, sym, subst, inl, inr}
 use Rattle.std.specs.Prelude.{ℤ}
 use Rattle.std.specs.List.{All, Contains, flat_map}
 use Rattle.plane.specs.declared.edge.Edge.{Edge}
@@ -8,8 +8,8 @@ use Rattle.plane.specs.Meet.Boxes.{bounds_of}
 use Rattle.plane.specs.Meet.Edges.{RationalPoint, IsOf}
 use Rattle.plane.specs.Meet.Kinds.{HasPoint}
 use Rattle.plane.specs.Pairs.Bounds.{BoundsMeet}
-use Rattle.noding.specs.Chains.{Passes, IsEnd, CrossAt, IsHot, Upto, IsAlong, IsChain, AreChains}
-use Rattle.noding.specs.Local.{AreNodeChains, IsMoved, IsNode}
+use Rattle.noding.specs.Chains.{Passes, IsEnd, CrossAt, IsHot, Upto, IsChain, AreChains}
+use Rattle.noding.specs.Local.{AreNodeChains, IsExactAt, IsMoved, IsNode, IsNodeChain}
 use Rattle.noding.specs.Meeting.{MeetAtEnds}
 use Rattle.noding.specs.Near.{CountsExactly, IsNear}
 use Rattle.plane.specs.Ends.{start_of, end_of}
@@ -22,6 +22,8 @@ use Rattle.noding.proofs.SnapLemmas.Paths.{IsPath-chain, path-begins, path-ends}
 use Rattle.noding.proofs.SnapLemmas.Sums.{chain-counts, some-closed, some-exact}
 -- Where no two edges cross at a point with fractions no edge is moved, by `node`.
 pub use Rattle.noding.proofs.SnapLemmas.Local.{none-moved}
+-- What is moved among some edges is moved among more.
+pub use Rattle.noding.proofs.SnapLemmas.More.{IsMoved-more}
 -- A point rounds to one whole point.
 pub use Rattle.noding.proofs.SnapLemmas.Rounding.{RoundsTo-unique}
 -- What an edge passes lies in its box; of two points that it passes one isn't behind the other, and where neither is they are
@@ -114,14 +116,14 @@ module _ (edges : List Edge) (chains : List (List Point)) (are : AreNodeChains e
   node-noded piece other point first second of_one of_other = noded-meet edges chains are piece other point first second of_one of_other
 
   -- The pieces wind around a point as the edges do, where each edge isn't moved, or runs along an axis, or isn't near the point.
-  pub node-exact : (point : RationalPoint) → All (λ edge. CountsExactly edge point ⊎ (¬ (IsMoved edges edge))) edges → winding (flat_map pieces chains) point ≡ winding edges point
-  node-exact point told = noded-winding edges chains are point told
+  pub node-exact : (point : RationalPoint) → All (IsExactAt edges point) edges → winding (flat_map pieces chains) point ≡ winding edges point
+  node-exact point told = noded-winding edges edges chains (λ edge among. among) are point told
 
   -- The pieces of closed edges are closed.
   pub node-closed : IsClosed edges → IsClosed (flat_map pieces chains)
-  node-closed are_closed = noded-closed edges chains are are_closed
+  node-closed are_closed = noded-closed edges edges chains (λ edge among. among) are are_closed
 
-module _ (edges : List Edge) (edge : Edge) (chain : List Point) (among : Contains edges edge) (along : IsAlong (IsNode edges edge) edge chain) where
+module _ (edges : List Edge) (edge : Edge) (chain : List Point) (among : Contains edges edge) (along : IsNodeChain edges edge chain) where
   -- An edge that isn't moved is its chain: all points of this lie on it.
   pub node-still : ¬ (IsMoved edges edge) → (c : Point) → Contains chain c → HasPoint edge c.x c.y
   node-still still c held = still-on edges edge chain along still c held

@@ -5,6 +5,7 @@ pub mod Crossed
 pub mod Crossings
 pub mod Ends
 pub mod Gains
+pub mod Kept
 pub mod Local
 pub mod Moving
 pub mod Offsets
@@ -13,4 +14,5 @@ pub mod Runs
 pub mod Spreading
 pub mod Standing
 pub mod Stops
+pub mod Visits
 pub mod Zips

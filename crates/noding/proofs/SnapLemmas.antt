@@ -13,6 +13,7 @@ pub mod Hulls
 pub mod Local
 pub mod Lying
 pub mod Means
+pub mod More
 pub mod Near
 pub mod Noded
 pub mod Numbers

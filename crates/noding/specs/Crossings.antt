@@ -4,6 +4,7 @@ use Rattle.plane.specs.declared.edge.Edge.{Edge}
 use Rattle.noding.specs.Chains.{CrossAt, IsEnd}
 use Rattle.noding.specs.Gains.{IsOfSome}
 use Rattle.plane.specs.declared.point.Point.{Point}
+use Rattle.noding.specs.declared.crossings.Crossing.{Crossing}
 
 -- The edges cross at a point that rounds to this one, which is an end of neither.
 abbrev pub CrossInside : Edge → Edge → Point → Type 0
@@ -20,3 +21,34 @@ pub record IsCrossingOf (edges : List Edge) (pair : ℕ × ℕ) (point : Point) 
 -- The points are those at which the edges at one of the pairs cross so.
 abbrev pub AreCrossings : List Edge → List (ℕ × ℕ) → List Point → Type 0
 AreCrossings edges pairs points = (point : Point) → Contains points point ↔ IsOfSome (IsCrossingOf edges) pairs point
+
+-- ---- crossings with the places of their edges
+
+-- The edges at the crossing's places cross at its point.
+pub record IsCrossed (edges : List Edge) (crossing : Crossing) : Type 0 where
+  pub one : Edge
+  pub other : Edge
+  pub first : slice_get edges crossing.one ≡ Some one
+  pub second : slice_get edges crossing.other ≡ Some other
+  pub cross : CrossAt one other crossing.point.x crossing.point.y
+
+-- It is the crossing of the edges at this pair of places.
+abbrev pub IsCrossedAt : List Edge → ℕ × ℕ → Crossing → Type 0
+IsCrossedAt edges pair crossing = (pair ≡ (crossing.one, crossing.other)) × IsCrossed edges crossing
+
+-- The crossings are those of the edges at the pairs.
+abbrev pub AreCrossed : List Edge → List (ℕ × ℕ) → List Crossing → Type 0
+AreCrossed edges pairs crossings = (crossing : Crossing) → Contains crossings crossing ↔ IsOfSome (IsCrossedAt edges) pairs crossing
+
+-- The point is the crossing's, and an end of neither edge.
+pub record IsPointInside (edges : List Edge) (crossing : Crossing) (point : Point) : Type 0 where
+  pub one : Edge
+  pub other : Edge
+  pub first : slice_get edges crossing.one ≡ Some one
+  pub second : slice_get edges crossing.other ≡ Some other
+  pub none : ¬ (IsEnd one crossing.point.x crossing.point.y ⊎ IsEnd other crossing.point.x crossing.point.y)
+  pub is : point ≡ crossing.point
+
+-- The points are those of the crossings that are so.
+abbrev pub ArePointsInside : List Edge → List Crossing → List Point → Type 0
+ArePointsInside edges crossings points = (point : Point) → Contains points point ↔ IsOfSome (IsPointInside edges) crossings point

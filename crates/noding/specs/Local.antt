@@ -1,13 +1,15 @@
 -- A noding that moves only what it must: edges stay exactly where they are, but for those near to where others cross at a
 -- point with fractions.
 use Rattle.std.specs.Bool.{MatchBool}
-use Rattle.std.specs.List.{AllZip, filter}
-use Rattle.std.specs.Prelude.{◌≡◌, ◌⊎◌, ◌↔◌, ◌++◌, ◌∷◌, [], Bool, true, ℕ, zero, suc, ℤ, List, Contains, Some, slice_get}
+use Rattle.std.specs.List.{AllZip}
+use Rattle.std.specs.Prelude.{◌≡◌, ◌⊎◌, ◌↔◌, Bool, ℕ, zero, suc, ℤ, List, Contains, Some, slice_get}
 use Rattle.plane.specs.declared.edge.Edge.{Edge}
 use Rattle.plane.specs.declared.point.Point.{Point}
 use Rattle.plane.specs.Meet.Edges.{RationalPoint, IsOf}
 use Rattle.plane.specs.Meet.Kinds.{HasPoint, IsAt}
+use Rattle.noding.specs.declared.crossings.Crossing.{Crossing}
 use Rattle.noding.specs.Chains.{AreNotParallel, IsAlong, IsHot, Passes}
+use Rattle.noding.specs.Near.{CountsExactly}
 use Rattle.noding.specs.Rounding.{RoundsTo}
 
 -- The edges aren't parallel, and their common point, which isn't whole, rounds to the whole point (x, y).
@@ -46,11 +48,29 @@ IsMoved edges edge = PassesBeside (Moves edges) edge
 abbrev pub IsNode : List Edge → Edge → ℤ → ℤ → Type 0
 IsNode edges edge x y = IsHot edges x y × Passes edge x y × (HasPoint edge x y ⊎ IsMoved edges edge)
 
+-- The chain of an edge over its nodes.
+abbrev pub IsNodeChain : List Edge → Edge → List Point → Type 0
+IsNodeChain edges edge chain = IsAlong (IsNode edges edge) edge chain
+
 -- The chains of edges over their nodes, each at its edge's place.
 abbrev pub AreNodeChains : List Edge → List (List Point) → Type 0
-AreNodeChains edges chains = AllZip (λ edge chain. IsAlong (IsNode edges edge) edge chain) edges chains
+AreNodeChains edges chains = AllZip (IsNodeChain edges) edges chains
+
+-- Among these edges the edge runs along an axis, or isn't near the point, or isn't moved: so the pieces of its chain over its
+-- nodes count there as the edge does.
+abbrev pub IsExactAt : List Edge → RationalPoint → Edge → Type 0
+IsExactAt edges point edge = CountsExactly edge point ⊎ ¬ (IsMoved edges edge)
 
 -- ---- for private contracts
+
+-- The point is the crossing's, and the edges at its places cross beside it.
+pub record IsPointBeside (edges : List Edge) (crossing : Crossing) (point : Point) : Type 0 where
+  pub one : Edge
+  pub other : Edge
+  pub first : slice_get edges crossing.one ≡ Some one
+  pub second : slice_get edges crossing.other ≡ Some other
+  pub cross : CrossBeside one other crossing.point.x crossing.point.y
+  pub is : point ≡ crossing.point
 
 -- The points are those that move edges in the first round.
 abbrev pub AreFirst : List Edge → List Point → Type 0
@@ -59,17 +79,3 @@ AreFirst edges points = (point : Point) → Contains points point ↔ MovesInRou
 -- These tell of each edge whether it is moved.
 abbrev pub AreMoved : List Edge → List Bool → Type 0
 AreMoved edges moved = AllZip (λ edge is_moved. MatchBool is_moved (IsMoved edges edge) (¬ (IsMoved edges edge))) edges moved
-
--- The point lies on the edge, or this is said to be moved.
-abbrev pub IsKept : Edge → Bool → Point → Type 0
-IsKept edge is_moved point = HasPoint edge point.x point.y ⊎ (is_moved ≡ true)
-
--- The list gains the point where it is so.
-abbrev pub AppendsIfKept : Edge → Bool → Point → List Point → List Point → Type 0
-AppendsIfKept edge is_moved point before after =
-    IsKept edge is_moved point × (after ≡ before ++ point ∷ []) ⊎ (¬ (IsKept edge is_moved point)) × (after ≡ before)
-
--- The list gains the points of the chain that are so, in their order.
-abbrev pub AppendsKept : Edge → Bool → List Point → List Point → List Point → Type 0
-AppendsKept edge is_moved chain before after =
-    (keep : Point → Bool) × (after ≡ before ++ filter keep chain) × ((point : Point) → (keep point ≡ true) ↔ IsKept edge is_moved point)

@@ -1,13 +1,18 @@
 -- The stops of edges at hot points. For private contracts.
-use Rattle.std.specs.Prelude.{◌≡◌, ◌≢◌, ◌⊎◌, ℕ, ◌<◌, ◌≤◌, ℤ, pos, ◌-ℤ◌, ◌<ℤ◌, cond, List, [], ◌∷◌, ◌++◌, All, AllPairs, Contains, Some, get_or, length, slice_get}
+use Rattle.std.specs.Prelude.{◌≡◌, ◌≢◌, ◌⊎◌, ◌↔◌, Bool, true, false, ℕ, ◌<◌, ◌≤◌, ℤ, pos, ◌-ℤ◌, ◌<ℤ◌, cond, List, [], ◌∷◌, ◌++◌, All, AllPairs, Contains, Some, get_or, length, map, slice_get}
+use Rattle.std.specs.List.{AllZip}
 use Rattle.std.specs.Int.Signed.{lt_z}
 use Rattle.plane.specs.declared.edge.Edge.{Edge}
 use Rattle.plane.specs.declared.point.Point.{Point}
-use Rattle.noding.specs.Chains.{IsHot}
+use Rattle.plane.specs.Meet.Kinds.{HasPoint}
+use Rattle.noding.specs.Chains.{IsEnd, IsHot, Passes}
 use Rattle.noding.specs.Close.{PassesInside}
 use Rattle.noding.specs.Crossings.{CrossInside, IsCrossingOf}
 use Rattle.noding.specs.Gains.{IsOfSome}
+use Rattle.noding.specs.Local.{IsNode}
+use Rattle.noding.specs.Offsets.{between}
 use Rattle.plane.specs.Ends.{start_of, end_of}
+use Rattle.noding.specs.declared.crossings.Crossing.{Crossing}
 use Rattle.noding.specs.declared.stops.Stop.{Stop}
 
 -- The number, or where the way from the one number to the other goes down its reflection: so they rise along the way.
@@ -72,10 +77,19 @@ pub record IsStopOfCrossing (edges : List Edge) (pair : ℕ × ℕ) (stop : Stop
   pub cross : CrossInside one other point
   pub is : (stop ≡ stop_of pair.0 one point.x point.y) ⊎ (stop ≡ stop_of pair.1 other point.x point.y)
 
--- It is one of two edges at these places, where they cross.
-abbrev pub IsStopOfBoth : ℕ → Edge → ℕ → Edge → Stop → Type 0
-IsStopOfBoth place one other_place other stop =
-    (point : Point) × CrossInside one other point × ((stop ≡ stop_of place one point.x point.y) ⊎ (stop ≡ stop_of other_place other point.x point.y))
+-- It is one of two edges at the crossing's point, which is an end of neither.
+abbrev pub IsStopOfBoth : Crossing → Edge → Edge → Stop → Type 0
+IsStopOfBoth crossing one other stop =
+    (¬ (IsEnd one crossing.point.x crossing.point.y ⊎ IsEnd other crossing.point.x crossing.point.y))
+    × ((stop ≡ stop_of crossing.one one crossing.point.x crossing.point.y) ⊎ (stop ≡ stop_of crossing.other other crossing.point.x crossing.point.y))
+
+-- It is one of the edges at the crossing's places.
+pub record IsStopAtCrossing (edges : List Edge) (crossing : Crossing) (stop : Stop) : Type 0 where
+  pub one : Edge
+  pub other : Edge
+  pub first : slice_get edges crossing.one ≡ Some one
+  pub second : slice_get edges crossing.other ≡ Some other
+  pub at : IsStopOfBoth crossing one other stop
 
 -- It is one of some edge, at one of the points.
 pub record IsStopAmong (edges : List Edge) (points : List Point) (stop : Stop) : Type 0 where
@@ -92,18 +106,26 @@ IsBefore one other =
     (one.place < other.place)
     ⊎ ((one.place ≡ other.place) × ((one.along_x <ℤ other.along_x) ⊎ ((one.along_x ≡ other.along_x) × (one.along_y <ℤ other.along_y))))
 
--- A stop of one of the edges, at a hot point that the edge passes between its ends.
-pub record IsStop (edges : List Edge) (stop : Stop) : Type 0 where
+-- A stop of one of the edges, at a node of it that the edge passes between its ends.
+pub record IsStopOf (IsNode : Edge → ℤ → ℤ → Type 0) (edges : List Edge) (stop : Stop) : Type 0 where
   pub edge : Edge
   pub stands : slice_get edges stop.place ≡ Some edge
-  pub hot : IsHot edges (point_of edge stop).x (point_of edge stop).y
-  pub passes : PassesInside edge (point_of edge stop).x (point_of edge stop).y
+  pub node : IsNode edge (point_of edge stop).x (point_of edge stop).y
+  pub inside : PassesInside edge (point_of edge stop).x (point_of edge stop).y
 
--- All stops of the edges, in order.
-pub record AreStops (edges : List Edge) (stops : List Stop) : Type 0 where
-  pub each : (place : ℕ) (edge : Edge) (x y : ℤ) → slice_get edges place ≡ Some edge → IsHot edges x y → PassesInside edge x y → Contains stops (stop_of place edge x y)
-  pub of : All (IsStop edges) stops
+-- All stops of the edges at their nodes, in order.
+pub record AreStopsOf (IsNode : Edge → ℤ → ℤ → Type 0) (edges : List Edge) (stops : List Stop) : Type 0 where
+  pub each : (place : ℕ) (edge : Edge) (x y : ℤ) → slice_get edges place ≡ Some edge → IsNode edge x y → PassesInside edge x y → Contains stops (stop_of place edge x y)
+  pub of : All (IsStopOf IsNode edges) stops
   pub in_order : AllPairs IsBefore stops
+
+-- Those at the hot points that the edges pass.
+abbrev pub AreStops : List Edge → List Stop → Type 0
+AreStops edges stops = AreStopsOf (λ edge x y. IsHot edges x y × Passes edge x y) edges stops
+
+-- Those at the nodes of a noding that moves only what it must.
+abbrev pub AreNodeStops : List Edge → List Stop → Type 0
+AreNodeStops edges stops = AreStopsOf (IsNode edges) edges stops
 
 -- From the one place to the other in the list the stops are those at the edge at this place: they end where the list does, or
 -- before a stop at another edge.
@@ -113,7 +135,57 @@ pub record AreAt (place : ℕ) (start end : ℕ) (stops : List Stop) : Type 0 wh
   pub at : (k : ℕ) (default : Stop) → start ≤ k → k < end → (get_or stops k default).place ≡ place
   pub last : (default : Stop) → end < length stops → (get_or stops end default).place ≢ place
 
+-- Before this place in the list the stops are at edges before this one, and from it on at this one or later ones.
+pub record Split (place next : ℕ) (stops : List Stop) : Type 0 where
+  pub inside : next ≤ length stops
+  pub before : (k : ℕ) (d : Stop) → k < next → (get_or stops k d).place < place
+  pub behind : (k : ℕ) (d : Stop) → next ≤ k → k < length stops → place ≤ (get_or stops k d).place
+
 -- The list goes on to the edge's end, unless that is its start.
 abbrev pub GoesToEnd : Edge → List Point → List Point → Type 0
 GoesToEnd edge before after =
     (start_of edge ≡ end_of edge) × (after ≡ before) ⊎ (start_of edge ≢ end_of edge) × (after ≡ before ++ end_of edge ∷ [])
+
+-- The chain is made of the edge's stops among these: it has the edge's start, their points, and the edge's end.
+pub record IsRun (edges : List Edge) (stops : List Stop) (edge : Edge) (chain : List Point) : Type 0 where
+  pub place : ℕ
+  pub start : ℕ
+  pub end : ℕ
+  pub stands : slice_get edges place ≡ Some edge
+  pub split : Split place start stops
+  pub run : AreAt place start end stops
+  pub goes : GoesToEnd edge (start_of edge ∷ map (point_of edge) (between start end stops)) chain
+
+-- Each edge's chain is.
+abbrev pub AreRuns : List Edge → List Stop → List (List Point) → Type 0
+AreRuns edges stops chains = AllZip (IsRun edges stops) edges chains
+
+-- ---- which stops are nodes
+
+-- The stop's point lies on the edge.
+abbrev pub LiesOn : Edge → Stop → Type 0
+LiesOn edge stop = HasPoint edge (point_of edge stop).x (point_of edge stop).y
+
+-- It lies on its own edge, of these.
+abbrev pub LiesOnItsEdge : List Edge → Stop → Type 0
+LiesOnItsEdge edges stop = (edge : Edge) → slice_get edges stop.place ≡ Some edge → LiesOn edge stop
+
+-- It lies on the edge, or this is said to be moved.
+abbrev pub IsKept : Edge → Bool → Stop → Type 0
+IsKept edge is_moved stop = LiesOn edge stop ⊎ (is_moved ≡ true)
+
+-- So it is of its own edge, of these.
+pub record IsKeptAmong (edges : List Edge) (moved : List Bool) (stop : Stop) : Type 0 where
+  pub edge : Edge
+  pub stands : slice_get edges stop.place ≡ Some edge
+  pub kept : IsKept edge (get_or moved stop.place false) stop
+
+-- The list gains the stop where it is kept.
+abbrev pub AppendsIfKept : Edge → Bool → Stop → List Stop → List Stop → Type 0
+AppendsIfKept edge is_moved stop before after =
+    IsKept edge is_moved stop × (after ≡ before ++ stop ∷ []) ⊎ (¬ (IsKept edge is_moved stop)) × (after ≡ before)
+
+-- Those of the stops that are kept, in order.
+pub record AreKept (edges : List Edge) (moved : List Bool) (stops nodes : List Stop) : Type 0 where
+  pub exact : (stop : Stop) → Contains nodes stop ↔ (Contains stops stop × IsKeptAmong edges moved stop)
+  pub in_order : AllPairs IsBefore nodes

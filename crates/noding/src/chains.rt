@@ -1,28 +1,52 @@
 //! From the stops of edges to their chains.
 
-ghost use Rattle.std.specs.Prelude.{◌≡◌, ◌∷◌, ◌++◌, ◌≤◌, List, IfOk, OnOk, OnErr, length, map};
+ghost use Rattle.std.specs.Prelude.{◌≡◌, ◌∷◌, ◌++◌, ◌≤◌, List, AllPairs, IfOk, OnOk, OnErr, length, map};
 ghost use Rattle.std.specs.List.{flat_map};
 ghost use Rattle.plane.specs.declared.point.Point.{Point};
-ghost use Rattle.noding.specs.Chains.{AreChains};
 ghost use Rattle.plane.specs.Lists.{Extends};
 ghost use Rattle.plane.specs.Ends.{start_of};
 ghost use Rattle.noding.specs.Offsets.{offsets, between};
-ghost use Rattle.noding.specs.Stops.{AreAt, AreStops, GoesToEnd, point_of};
+ghost use Rattle.noding.specs.Stops.{AreAt, AreRuns, GoesToEnd, IsBefore, point_of};
 
 use crate::stops::{Stop, point_of};
 use plane::edge::{Edge, end_of, start_of};
 use plane::point::Point;
 use std::alloc::{AllocError, Allocator};
 
-/// Appends the points of each edge's stops to `points`, and where they stop to `ends`.
+/// Appends to `points` for each edge its start, the points of its stops, and its end, and to `ends` where that stops.
+///
+/// Where memory has no room both are left as they were.
 pub fn append_chains<A: Allocator>(
     edges: &[Edge],
     stops: &[Stop],
     points: &mut Vec<Point, A>,
     ends: &mut Vec<usize, A>,
 ) -> Result<(), AllocError>
-    requires { AreStops edges.now stops.now }
-    ensures ok { OnOk result ((chains : List (List Point)) × AreChains edges.now chains
+    requires { AllPairs IsBefore stops.now }
+    ensures ok { OnOk result ((chains : List (List Point)) × AreRuns edges.now stops.now chains
+        × (points.new.items ≡ points.old.items ++ flat_map (λ chain. chain) chains)
+        × (ends.new.items ≡ ends.old.items ++ offsets (length points.old.items) chains)) }
+    ensures err { OnErr result ((points.new.items ≡ points.old.items) × (ends.new.items ≡ ends.old.items)) }
+{
+    let points_before = points.len();
+    let ends_before = ends.len();
+    let outcome = push_chains(edges, stops, points, ends);
+    if outcome.is_err() {
+        points.truncate(points_before);
+        ends.truncate(ends_before);
+    }
+    outcome
+}
+
+// The same, but where memory has no room some may stay appended.
+fn push_chains<A: Allocator>(
+    edges: &[Edge],
+    stops: &[Stop],
+    points: &mut Vec<Point, A>,
+    ends: &mut Vec<usize, A>,
+) -> Result<(), AllocError>
+    requires { AllPairs IsBefore stops.now }
+    ensures ok { OnOk result ((chains : List (List Point)) × AreRuns edges.now stops.now chains
         × (points.new.items ≡ points.old.items ++ flat_map (λ chain. chain) chains)
         × (ends.new.items ≡ ends.old.items ++ offsets (length points.old.items) chains)) }
     ensures err { OnErr result (Extends points.old.items points.new.items × Extends ends.old.items ends.new.items) }

@@ -1,8 +1,8 @@
 //! What the points in which two edges cross round to.
 
-ghost use Rattle.std.specs.Prelude.{◌≡◌, ◌⊎◌, ◌<◌, All, length, IfOk, MatchBool, MatchOption, OnOk};
+ghost use Rattle.std.specs.Prelude.{◌≡◌, ◌⊎◌, ◌<◌, All, length, IfOk, MatchBool, OnOk};
 ghost use Rattle.noding.specs.Chains.{IsEnd};
-ghost use Rattle.noding.specs.Crossings.{AreCrossings, CrossInside, IsCrossingOf};
+ghost use Rattle.noding.specs.Crossings.{AreCrossed, ArePointsInside, IsCrossedAt, IsPointInside};
 ghost use Rattle.noding.specs.Gains.{GainsThese, IsOfSome};
 ghost use Rattle.plane.specs.declared.point.Point.{Point};
 
@@ -14,17 +14,60 @@ use plane::point::{Point, number_at};
 use std::alloc::{AllocError, Allocator};
 use std::cmp::Ordering;
 
-/// What the crossings of these pairs of edges round to, each once, but for those that round to an end of the two.
-pub fn crossings<A: Allocator + Copy>(
+/// Two edges that aren't parallel and meet: their places among all, and what their common point rounds to.
+#[derive(Clone, Copy, Debug)]
+pub struct Crossing {
+    pub one: usize,
+    pub other: usize,
+    pub point: Point,
+}
+
+/// The crossings of the edges at these pairs, in their order.
+pub fn crossings_of_pairs<A: Allocator>(
     alloc: A,
     edges: &[Edge],
     pairs: &[(usize, usize)],
-) -> Result<Vec<Point, A>, AllocError>
+) -> Result<Vec<Crossing, A>, AllocError>
     requires { All (λ pair. (pair.0 < length edges.now) × (pair.1 < length edges.now)) pairs.now }
-    ensures { IfOk result (λ points. AreCrossings edges.now pairs.now points.items) }
+    ensures { IfOk result (λ crossings. AreCrossed edges.now pairs.now crossings.items) }
+{
+    let mut crossings = Vec::new(alloc);
+    for pair in pairs {
+        push_crossing(edges, *pair, &mut crossings)?;
+    }
+    Ok(crossings)
+}
+
+// Appends the crossing of the edges at this pair, if they cross.
+fn push_crossing<A: Allocator>(
+    edges: &[Edge],
+    pair: (usize, usize),
+    crossings: &mut Vec<Crossing, A>,
+) -> Result<(), AllocError>
+    requires within { (pair.0 < length edges.now) × (pair.1 < length edges.now) }
+    ensures { OnOk result (GainsThese (IsCrossedAt edges.now pair) crossings.old.items crossings.new.items) }
+{
+    if let Some(point) = crossing(edges[pair.0], edges[pair.1]) {
+        crossings.push(Crossing {
+            one: pair.0,
+            other: pair.1,
+            point,
+        })?;
+    }
+    Ok(())
+}
+
+/// The points of these crossings, each once, but for those that are an end of one of the two edges.
+pub fn points_inside<A: Allocator + Copy>(
+    alloc: A,
+    edges: &[Edge],
+    crossings: &[Crossing],
+) -> Result<Vec<Point, A>, AllocError>
+    requires { All (λ crossing. (crossing.one < length edges.now) × (crossing.other < length edges.now)) crossings.now }
+    ensures { IfOk result (λ points. ArePointsInside edges.now crossings.now points.items) }
 {
     let mut points = Vec::new(alloc);
-    push_crossings(edges, pairs, &mut points)?;
+    push_points_inside(edges, crossings, &mut points)?;
     sort_in_buckets(
         &mut points,
         |point| number_at(point.x, point.y),
@@ -34,50 +77,39 @@ pub fn crossings<A: Allocator + Copy>(
     Ok(points)
 }
 
-// Appends what the crossings of these pairs of edges round to, but for ends of the two.
-fn push_crossings<A: Allocator>(
+// Appends the points of these crossings, but for ends of the two edges.
+fn push_points_inside<A: Allocator>(
     edges: &[Edge],
-    pairs: &[(usize, usize)],
+    crossings: &[Crossing],
     points: &mut Vec<Point, A>,
 ) -> Result<(), AllocError>
-    requires { All (λ pair. (pair.0 < length edges.now) × (pair.1 < length edges.now)) pairs.now }
-    ensures { OnOk result (GainsThese (IsOfSome (IsCrossingOf edges.now) pairs.now) points.old.items points.new.items) }
+    requires { All (λ crossing. (crossing.one < length edges.now) × (crossing.other < length edges.now)) crossings.now }
+    ensures { OnOk result (GainsThese (IsOfSome (IsPointInside edges.now) crossings.now) points.old.items points.new.items) }
 {
-    for pair in pairs {
-        push_crossing(edges[pair.0], edges[pair.1], points)?;
+    for crossing in crossings {
+        push_point_inside(edges, *crossing, points)?;
     }
     Ok(())
 }
 
-// Appends what the crossing of the edges rounds to, if they cross and it is no end of the two.
-fn push_crossing<A: Allocator>(
-    one: Edge,
-    other: Edge,
+// Appends the crossing's point, if it is no end of the two edges.
+fn push_point_inside<A: Allocator>(
+    edges: &[Edge],
+    crossing: Crossing,
     points: &mut Vec<Point, A>,
 ) -> Result<(), AllocError>
-    ensures { OnOk result (GainsThese (CrossInside one other) points.old.items points.new.items) }
+    requires within { (crossing.one < length edges.now) × (crossing.other < length edges.now) }
+    ensures { OnOk result (GainsThese (IsPointInside edges.now crossing) points.old.items points.new.items) }
 {
-    if let Some(point) = crossing_inside(one, other) {
-        points.push(point)?;
+    if is_end_of_one(edges[crossing.one], edges[crossing.other], crossing.point) {
+        return Ok(());
     }
+    points.push(crossing.point)?;
     Ok(())
 }
 
-/// What the crossing of the edges rounds to, if they cross and it is no end of the two.
-pub fn crossing_inside(one: Edge, other: Edge) -> Option<Point>
-    ensures { MatchOption result ((point : Point) → ¬ (CrossInside one other point)) (CrossInside one other) }
-{
-    let Some(point) = crossing(one, other) else {
-        return None;
-    };
-    if is_end_of_one(one, other, point) {
-        return None;
-    }
-    Some(point)
-}
-
-// Whether the point is an end of one of the edges.
-fn is_end_of_one(one: Edge, other: Edge, point: Point) -> bool
+/// Whether the point is an end of one of the edges.
+pub fn is_end_of_one(one: Edge, other: Edge, point: Point) -> bool
     ensures { let end = IsEnd one point.x point.y ⊎ IsEnd other point.x point.y in MatchBool result end (¬ end) }
 {
     is_end(one, point.x, point.y) || is_end(other, point.x, point.y)

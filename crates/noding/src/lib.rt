@@ -9,7 +9,6 @@ ghost use Rattle.std.specs.List.{flat_map};
 ghost use Rattle.i_tree.specs.declared.Refusal.TheVariants.{OutOfMemory};
 ghost use Rattle.plane.specs.declared.point.Point.{Point};
 ghost use Rattle.noding.specs.Chains.{AreChains};
-ghost use Rattle.plane.specs.Lists.{Extends};
 ghost use Rattle.noding.specs.Offsets.{offsets};
 
 use chains::append_chains;
@@ -24,11 +23,12 @@ mod close;
 mod crossing;
 mod crossings;
 mod local;
+mod moved;
 mod passing;
 pub mod pieces;
 pub mod stops;
 
-pub use local::node;
+pub use local::{node, nodes_in_order};
 
 /// Appends the chain of each edge in turn to `points`, and to `ends` where each chain stops among these.
 ///
@@ -50,30 +50,7 @@ pub fn snap<A: Allocator + Copy>(
     ensures err { OnErr result ((points.new.items ≡ points.old.items) × (ends.new.items ≡ ends.old.items)) }
     ensures refused { IfErr result (λ cause. cause ≡ OutOfMemory) }
 {
-    let points_before = points.len();
-    let ends_before = ends.len();
-    let outcome = append_all(edges, points, ends);
-    if outcome.is_err() {
-        points.truncate(points_before);
-        ends.truncate(ends_before);
-    }
-    outcome
-}
-
-// As `snap`, but where it is refused, it may have appended something.
-fn append_all<A: Allocator + Copy>(
-    edges: &[Edge],
-    points: &mut Vec<Point, A>,
-    ends: &mut Vec<usize, A>,
-) -> Result<(), Refusal>
-    ensures ok { OnOk result ((chains : List (List Point)) × AreChains edges.now chains
-        × (points.new.items ≡ points.old.items ++ flat_map (λ chain. chain) chains)
-        × (ends.new.items ≡ ends.old.items ++ offsets (length points.old.items) chains)) }
-    ensures err { OnErr result (Extends points.old.items points.new.items × Extends ends.old.items ends.new.items) }
-    ensures refused { IfErr result (λ cause. cause ≡ OutOfMemory) }
-{
-    let alloc = *points.allocator();
-    let stops = stops_in_order(alloc, edges)?;
+    let stops = stops_in_order(*points.allocator(), edges)?;
     append_chains(edges, &stops, points, ends)?;
     Ok(())
 }

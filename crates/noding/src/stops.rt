@@ -1,14 +1,15 @@
 //! The stops of edges: which hot points each passes between its ends, in the order along it.
 
-ghost use Rattle.std.specs.Prelude.{◌≡◌, ◌<◌, All, length, IfErr, IfOk, OnOk};
+ghost use Rattle.std.specs.Prelude.{◌≡◌, ◌<◌, ℕ, List, All, length, IfErr, IfOk, OnOk};
 ghost use Rattle.i_tree.specs.declared.Refusal.TheVariants.{OutOfMemory};
 ghost use Rattle.plane.specs.Pairs.Pairs.{ArePairs};
 ghost use Rattle.noding.specs.Close.{ComeClose};
+ghost use Rattle.noding.specs.Crossings.{AreCrossed};
 ghost use Rattle.noding.specs.Gains.{GainsThese, IsOfSome};
-ghost use Rattle.noding.specs.Stops.{AreStops, IsStopAlong, IsStopAmong, IsStopAt, IsStopAtEnd, IsStopCrossed, IsStopOfBoth, IsStopOfCrossing, IsStopOfPair, point_of, stop_of, reflected};
+ghost use Rattle.noding.specs.Stops.{AreStops, IsStopAlong, IsStopAmong, IsStopAt, IsStopAtCrossing, IsStopAtEnd, IsStopCrossed, IsStopOfBoth, IsStopOfPair, point_of, stop_of, reflected};
 
 use crate::close::{close_pairs, pairs_passed};
-use crate::crossings::{crossing_inside, crossings};
+use crate::crossings::{Crossing, crossings_of_pairs, is_end_of_one, points_inside};
 use crate::passing::passes_inside;
 use event_queue::buckets::sort_in_buckets;
 use i_tree::Refusal;
@@ -38,23 +39,26 @@ pub fn stops_in_order<A: Allocator + Copy>(
     ensures refused { IfErr result (λ cause. cause ≡ OutOfMemory) }
 {
     let pairs = close_pairs(alloc, edges)?;
-    stops_of_pairs(alloc, edges, &pairs)
+    let crossings = crossings_of_pairs(alloc, edges, &pairs)?;
+    stops_of_pairs(alloc, edges, &pairs, &crossings)
 }
 
-/// The same, where these pairs of edges come close.
+/// The same, where these pairs of edges come close, and have these crossings.
 pub fn stops_of_pairs<A: Allocator + Copy>(
     alloc: A,
     edges: &[Edge],
     pairs: &[(usize, usize)],
+    crossings: &[Crossing],
 ) -> Result<Vec<Stop, A>, Refusal>
     requires close { ArePairs ComeClose edges.now pairs.now }
     requires within { All (λ pair. (pair.0 < length edges.now) × (pair.1 < length edges.now)) pairs.now }
+    requires crossed { AreCrossed edges.now pairs.now crossings.now }
     ensures ok { IfOk result (λ stops. AreStops edges.now stops.items) }
     ensures refused { IfErr result (λ cause. cause ≡ OutOfMemory) }
 {
     let mut stops = Vec::new(alloc);
     push_stops_at_ends(edges, pairs, &mut stops)?;
-    push_stops_at_crossings(edges, pairs, &mut stops)?;
+    push_stops_at_crossings(edges, crossings, &mut stops)?;
     sort_in_buckets(
         &mut stops,
         number_of,
@@ -119,56 +123,57 @@ fn push_if_inside<A: Allocator>(
     Ok(())
 }
 
-// Appends the stops of all edges where edges at one of these pairs cross, which are those that come close. Of edges along the
-// axes one that passes such a crossing crosses one of the two there, so that the two of each pair have all stops.
+// Appends the stops of all edges at these crossings, which are those of the pairs that come close. Of edges along the axes one that
+// passes such a crossing crosses one of the two there, so that the two of each crossing have all stops.
 fn push_stops_at_crossings<A: Allocator + Copy>(
     edges: &[Edge],
-    pairs: &[(usize, usize)],
+    crossings: &[Crossing],
     stops: &mut Vec<Stop, A>,
 ) -> Result<(), Refusal>
-    requires close { ArePairs ComeClose edges.now pairs.now }
-    requires within { All (λ pair. (pair.0 < length edges.now) × (pair.1 < length edges.now)) pairs.now }
-    ensures ok { OnOk result (GainsThese (IsStopCrossed edges.now pairs.now) stops.old.items stops.new.items) }
+    requires { All (λ crossing. (crossing.one < length edges.now) × (crossing.other < length edges.now)) crossings.now }
+    ensures ok { OnOk result ((pairs : List (ℕ × ℕ)) → ArePairs ComeClose edges.now pairs → AreCrossed edges.now pairs crossings.now →
+        GainsThese (IsStopCrossed edges.now pairs) stops.old.items stops.new.items) }
     ensures refused { IfErr result (λ cause. cause ≡ OutOfMemory) }
 {
     if run_along_axes(edges) {
-        push_stops_of_crossings(edges, pairs, stops)?;
+        push_stops_of_crossings(edges, crossings, stops)?;
         return Ok(());
     }
-    let points = crossings(*stops.allocator(), edges, pairs)?;
+    let points = points_inside(*stops.allocator(), edges, crossings)?;
     push_stops_at_points(edges, &points, stops)?;
     Ok(())
 }
 
-// Appends the stops of the two edges at each of these pairs where they cross.
+// Appends the stops of the two edges of each crossing at its point.
 fn push_stops_of_crossings<A: Allocator>(
     edges: &[Edge],
-    pairs: &[(usize, usize)],
+    crossings: &[Crossing],
     stops: &mut Vec<Stop, A>,
 ) -> Result<(), AllocError>
-    requires { All (λ pair. (pair.0 < length edges.now) × (pair.1 < length edges.now)) pairs.now }
-    ensures { OnOk result (GainsThese (IsOfSome (IsStopOfCrossing edges.now) pairs.now) stops.old.items stops.new.items) }
+    requires { All (λ crossing. (crossing.one < length edges.now) × (crossing.other < length edges.now)) crossings.now }
+    ensures { OnOk result (GainsThese (IsOfSome (IsStopAtCrossing edges.now) crossings.now) stops.old.items stops.new.items) }
 {
-    for pair in pairs {
-        push_stops_of_both(pair.0, edges[pair.0], pair.1, edges[pair.1], stops)?;
+    for crossing in crossings {
+        push_stops_of_both(*crossing, edges[crossing.one], edges[crossing.other], stops)?;
     }
     Ok(())
 }
 
-// Appends the stops of two edges, which are at these places, where they cross, if that is no end of the two.
+// Appends the stops of the crossing's two edges at its point, if that is no end of the two.
 fn push_stops_of_both<A: Allocator>(
-    place: usize,
+    crossing: Crossing,
     one: Edge,
-    other_place: usize,
     other: Edge,
     stops: &mut Vec<Stop, A>,
 ) -> Result<(), AllocError>
-    ensures { OnOk result (GainsThese (IsStopOfBoth place one other_place other) stops.old.items stops.new.items) }
+    ensures { OnOk result (GainsThese (IsStopOfBoth crossing one other) stops.old.items stops.new.items) }
 {
-    if let Some(point) = crossing_inside(one, other) {
-        stops.push(stop_of(place, one, point.x, point.y))?;
-        stops.push(stop_of(other_place, other, point.x, point.y))?;
+    let point = crossing.point;
+    if is_end_of_one(one, other, point) {
+        return Ok(());
     }
+    stops.push(stop_of(crossing.one, one, point.x, point.y))?;
+    stops.push(stop_of(crossing.other, other, point.x, point.y))?;
     Ok(())
 }
 

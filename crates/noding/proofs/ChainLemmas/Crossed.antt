@@ -6,16 +6,17 @@ use Rattle.std.proofs.lemmas.List.Elements.{All-contains}
 use Rattle.std.proofs.lemmas.Option.{same_Some}
 use Rattle.plane.specs.declared.edge.Edge.{Edge}
 use Rattle.plane.specs.Pairs.Pairs.{ArePairs}
-use Rattle.noding.specs.Chains.{CrossAt}
+use Rattle.noding.specs.Chains.{CrossAt, IsEnd}
 use Rattle.noding.specs.Close.{ComeClose, PassesInside}
-use Rattle.noding.specs.Crossings.{AreCrossings, CrossInside, IsCrossingOf}
+use Rattle.noding.specs.Crossings.{AreCrossed, AreCrossings, CrossInside, IsCrossingOf}
 use Rattle.noding.specs.Gains.{GainsThese, IsOfSome}
-use Rattle.noding.specs.Stops.{IsStopAmong, IsStopCrossed, IsStopOfBoth, IsStopOfCrossing, stop_of}
+use Rattle.noding.specs.Stops.{IsStopAmong, IsStopAtCrossing, IsStopCrossed, IsStopOfBoth, IsStopOfCrossing, stop_of}
 use Rattle.plane.specs.Lines.{IsAlongAxis}
 use Rattle.plane.specs.declared.point.Point.{Point}
+use Rattle.noding.specs.declared.crossings.Crossing.{Crossing}
 use Rattle.noding.specs.declared.stops.Stop.{Stop}
-use Rattle.noding.proofs.ChainLemmas.Crossings.{CrossInside-exchanged, CrossInside-unique, crossing-pair}
-use Rattle.noding.proofs.ChainLemmas.Gains.{gains-join, gains-none, gains-one, gains-same, held-at}
+use Rattle.noding.proofs.ChainLemmas.Crossings.{CrossInside-exchanged, crossed-at, crossed-pair, crossing-pair, pair-crossed}
+use Rattle.noding.proofs.ChainLemmas.Gains.{gains-join, gains-one, gains-same, held-at}
 use Rattle.noding.proofs.SnapLemmas.Crossing.{CrossAt-itself}
 use Rattle.noding.proofs.SnapLemmas.Axes.{CrossAt-axes}
 
@@ -33,36 +34,53 @@ passes-first one other point ((slanted, (at, of_one, of_other, rounds)), none) =
 passes-second : (one other : Edge) (point : Point) → CrossInside one other point → PassesInside other point.x point.y
 passes-second one other point ((slanted, (at, of_one, of_other, rounds)), none) = ((at, of_other, rounds), λ end. none (inr end))
 
--- the stops of both
-pub gains-both : (place : ℕ) (one : Edge) (other_place : ℕ) (other : Edge) (point : Point) (before now after : List Stop) → CrossInside one other point
-    → now ≡ before ++ stop_of place one point.x point.y ∷ [] → after ≡ now ++ stop_of other_place other point.x point.y ∷ [] → GainsThese (IsStopOfBoth place one other_place other) before after
-gains-both place one other_place other point before now after cross first second =
-    gains-same (λ stop. (stop ≡ stop_of place one point.x point.y) ⊎ (stop ≡ stop_of other_place other point.x point.y)) (IsStopOfBoth place one other_place other) before after
-    (λ stop is. (point, cross, is))
-    (λ stop (found, there, is). subst (λ (p : Point). (stop ≡ stop_of place one p.x p.y) ⊎ (stop ≡ stop_of other_place other p.x p.y)) (CrossInside-unique one other found point there cross) is)
-    (gains-join (λ stop. stop ≡ stop_of place one point.x point.y) (λ stop. stop ≡ stop_of other_place other point.x point.y) before now after
-    (subst (λ (items : List Stop). GainsThese (λ stop. stop ≡ stop_of place one point.x point.y) before items) (sym first) (gains-one before (stop_of place one point.x point.y)))
-    (subst (λ (items : List Stop). GainsThese (λ stop. stop ≡ stop_of other_place other point.x point.y) now items) (sym second) (gains-one now (stop_of other_place other point.x point.y))))
+-- the stops of both, where the point is no end
+pub gains-both : (crossing : Crossing) (one other : Edge) (before now after : List Stop) → ¬ (IsEnd one crossing.point.x crossing.point.y ⊎ IsEnd other crossing.point.x crossing.point.y)
+    → now ≡ before ++ stop_of crossing.one one crossing.point.x crossing.point.y ∷ [] → after ≡ now ++ stop_of crossing.other other crossing.point.x crossing.point.y ∷ [] → GainsThese (IsStopOfBoth crossing one other) before after
+gains-both crossing one other before now after none first second =
+    let stop = stop_of crossing.one one crossing.point.x crossing.point.y in
+    let other_stop = stop_of crossing.other other crossing.point.x crossing.point.y in
+    gains-same (λ s. (s ≡ stop) ⊎ (s ≡ other_stop)) (IsStopOfBoth crossing one other) before after (λ s is. (none, is)) (λ s at. at.1)
+    (gains-join (λ s. s ≡ stop) (λ s. s ≡ other_stop) before now after
+    (subst (λ (items : List Stop). GainsThese (λ s. s ≡ stop) before items) (sym first) (gains-one before stop))
+    (subst (λ (items : List Stop). GainsThese (λ s. s ≡ other_stop) now items) (sym second) (gains-one now other_stop)))
 
--- edges that don't cross have none
-pub gains-neither : (place : ℕ) (one : Edge) (other_place : ℕ) (other : Edge) (before : List Stop) → ((point : Point) → ¬ (CrossInside one other point)) → GainsThese (IsStopOfBoth place one other_place other) before before
-gains-neither place one other_place other before none = gains-none (IsStopOfBoth place one other_place other) before (λ stop (point, cross, is). none point cross)
+-- the same of the edges at a crossing's places
+pub gains-of_both : (edges : List Edge) (crossing : Crossing) (one other : Edge) (before after : List Stop) → slice_get edges crossing.one ≡ Some one → slice_get edges crossing.other ≡ Some other
+    → GainsThese (IsStopOfBoth crossing one other) before after → GainsThese (IsStopAtCrossing edges crossing) before after
+gains-of_both edges crossing one other before after first second =
+    gains-same (IsStopOfBoth crossing one other) (IsStopAtCrossing edges crossing) before after
+    (λ stop at. record { one = one; other = other; first = first; second = second; at = at })
+    (λ stop is.
+    let one_is : is.one ≡ one = same_Some _ _ (sym is.first ∙ first) in
+    let other_is : is.other ≡ other = same_Some _ _ (sym is.second ∙ second) in
+    subst (λ (e : Edge). IsStopOfBoth crossing e other stop) one_is (subst (λ (e : Edge). IsStopOfBoth crossing is.one e stop) other_is is.at))
 
--- the same of the edges at a pair
-pub gains-of_both : (edges : List Edge) (pair : ℕ × ℕ) (one other : Edge) (before after : List Stop) → slice_get edges pair.0 ≡ Some one → slice_get edges pair.1 ≡ Some other
-    → GainsThese (IsStopOfBoth pair.0 one pair.1 other) before after → GainsThese (IsStopOfCrossing edges pair) before after
-gains-of_both edges pair one other before after first second =
-    gains-same (IsStopOfBoth pair.0 one pair.1 other) (IsStopOfCrossing edges pair) before after
-    (λ stop (point, cross, is). record { one = one; other = other; point = point; first = first; second = second; cross = cross; is = is })
-    (λ stop at.
-    let one_is : at.one ≡ one = same_Some _ _ (sym at.first ∙ first) in
-    let other_is : at.other ≡ other = same_Some _ _ (sym at.second ∙ second) in
-    subst (λ (e : Edge). IsStopOfBoth pair.0 e pair.1 other stop) one_is (subst (λ (e : Edge). IsStopOfBoth pair.0 at.one pair.1 e stop) other_is (at.point, at.cross, at.is)))
+-- a stop at a crossing is one at some pair
+pub gains-paired : (edges : List Edge) (pairs : List (ℕ × ℕ)) (crossings : List Crossing) (before after : List Stop) → AreCrossed edges pairs crossings
+    → GainsThese (IsOfSome (IsStopAtCrossing edges) crossings) before after → GainsThese (IsOfSome (IsStopOfCrossing edges) pairs) before after
+gains-paired edges pairs crossings before after crossed = gains-same (IsOfSome (IsStopAtCrossing edges) crossings) (IsOfSome (IsStopOfCrossing edges) pairs) before after to from
+  where
+    to : (stop : Stop) → IsOfSome (IsStopAtCrossing edges) crossings stop → IsOfSome (IsStopOfCrossing edges) pairs stop
+    to stop (crossing, held, is) =
+        let (among, cross) = crossed-pair edges pairs crossings crossed crossing held in
+        let (none, at) = is.at in (
+          (crossing.one, crossing.other),
+          among,
+          record { one = is.one; other = is.other; point = crossing.point; first = is.first; second = is.second; cross = (crossed-at edges crossing is.one is.other is.first is.second cross, none); is = at },
+        )
+
+    from : (stop : Stop) → IsOfSome (IsStopOfCrossing edges) pairs stop → IsOfSome (IsStopAtCrossing edges) crossings stop
+    from stop (pair, held, at) = (
+      record { one = pair.0; other = pair.1; point = at.point },
+      pair-crossed edges pairs crossings crossed pair at.one at.other at.point held at.first at.second at.cross.0,
+      record { one = at.one; other = at.other; first = at.first; second = at.second; at = (at.cross.1, at.is) },
+    )
 
 module _ (edges : List Edge) (pairs : List (ℕ × ℕ)) (close : ArePairs ComeClose edges pairs) where
   -- a stop at a pair is one of an edge where edges cross
-  crossed-at : (stop : Stop) → IsOfSome (IsStopOfCrossing edges) pairs stop → IsStopCrossed edges pairs stop
-  crossed-at stop (pair, held, at) =
+  crossed_stop : (stop : Stop) → IsOfSome (IsStopOfCrossing edges) pairs stop → IsStopCrossed edges pairs stop
+  crossed_stop stop (pair, held, at) =
       let crossing : IsOfSome (IsCrossingOf edges) pairs at.point = (pair, held, record { one = at.one; other = at.other; first = at.first; second = at.second; cross = at.cross }) in
       elim at.is [
         | inl is ↦ record { place = pair.0; edge = at.one; point = at.point; stands = at.first; crossed = crossing; along = (passes-first at.one at.other at.point at.cross, is) }
@@ -111,4 +129,4 @@ module _ (edges : List Edge) (pairs : List (ℕ × ℕ)) (close : ArePairs ComeC
 
     -- so they are the same stops
     pub gains-along_axes : (before after : List Stop) → GainsThese (IsOfSome (IsStopOfCrossing edges) pairs) before after → GainsThese (IsStopCrossed edges pairs) before after
-    gains-along_axes before after = gains-same (IsOfSome (IsStopOfCrossing edges) pairs) (IsStopCrossed edges pairs) before after crossed-at at-crossed
+    gains-along_axes before after = gains-same (IsOfSome (IsStopOfCrossing edges) pairs) (IsStopCrossed edges pairs) before after crossed_stop at-crossed

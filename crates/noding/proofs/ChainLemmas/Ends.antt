@@ -1,5 +1,5 @@
--- A chain is its edge's start, the hot points that the edge passes between its ends, and its end.
-use Rattle.std.proofs.Common.{◌≡◌, ◌≢◌, ◌⊎◌, inl, inr, ℤ, Bool, true, false, List, [], ◌∷◌, ◌++◌, get_or, refl, sym, ap, ap₂, ◌∙◌, subst, ⊎_elim}
+-- A chain is its edge's start, the nodes that the edge passes between its ends, and its end.
+use Rattle.std.proofs.Common.{◌≡◌, ◌≢◌, ◌⊎◌, inl, inr, ℤ, Bool, true, false, List, [], ◌∷◌, ◌++◌, get_or, sym, ap, ap₂, ◌∙◌, subst, ⊎_elim}
 use Rattle.std.specs.Bool.{MatchBool}
 use Rattle.std.specs.List.{AllPairs, Contains}
 use Rattle.std.proofs.lemmas.List.Elements.{Contains-append_left, Contains-get_or, Contains-push, Contains-push_cases}
@@ -10,11 +10,11 @@ use Rattle.plane.proofs.MeetLemmas.Along.{same_or_apart}
 use Rattle.plane.proofs.PairsLemmas.Bags.{here_or_there}
 use Rattle.plane.specs.declared.edge.Edge.{Edge}
 use Rattle.plane.specs.declared.point.Point.{Point}
-use Rattle.noding.specs.Chains.{IsChain, IsEnd, IsHot, Passes, Upto}
+use Rattle.noding.specs.Chains.{IsAlong, IsEnd, Passes, Upto}
 use Rattle.noding.specs.Close.{PassesInside}
 use Rattle.noding.specs.Stops.{GoesToEnd}
 use Rattle.plane.specs.Ends.{end_of, start_of}
-use Rattle.noding.proofs.SnapLemmas.Along.{Passes-end, Passes-start, Upto-from_start, Upto-to_end, point_at}
+use Rattle.noding.proofs.SnapLemmas.Along.{Upto-from_start, Upto-to_end, point_at}
 
 -- what an edge passes is inside it where it is none of its ends
 pub inside_by : (edge : Edge) (x y : ℤ) (end passed : Bool) → MatchBool end (IsEnd edge x y) (¬ (IsEnd edge x y)) → end ≡ false → MatchBool passed (Passes edge x y) (¬ (Passes edge x y)) → MatchBool passed (PassesInside edge x y) (¬ (PassesInside edge x y))
@@ -50,10 +50,11 @@ end_or_not edge x y = go (ends_of edge (point_at x y))
     go (is_end same) = inl (inr (ap (λ (p : Point). p.x) same, ap (λ (p : Point). p.y) same))
     go (neither none) = inr none
 
-module _ (edges : List Edge) (edge : Edge) (held : Contains edges edge) (inner : List Point)
+-- nodes of an edge that it passes, among them its ends, and the nodes between its ends in order
+module _ (IsNode : ℤ → ℤ → Type 0) (edge : Edge) (passed : (x y : ℤ) → IsNode x y → Passes edge x y) (start_is : IsNode edge.x0 edge.y0) (end_is : IsNode edge.x1 edge.y1) (inner : List Point)
     (inner_in_order : AllPairs (λ c d. Upto edge c.x c.y d.x d.y) inner) (inner_once : AllPairs (λ c d. c ≢ d) inner)
-    (of_inner : (c : Point) → Contains inner c → IsHot edges c.x c.y × PassesInside edge c.x c.y)
-    (in_inner : (c : Point) → IsHot edges c.x c.y × PassesInside edge c.x c.y → Contains inner c) where
+    (of_inner : (c : Point) → Contains inner c → IsNode c.x c.y × PassesInside edge c.x c.y)
+    (in_inner : (c : Point) → IsNode c.x c.y × PassesInside edge c.x c.y → Contains inner c) where
   abbrev front : List Point
   front = start_of edge ∷ inner
 
@@ -71,29 +72,23 @@ module _ (edges : List Edge) (edge : Edge) (held : Contains edges edge) (inner :
       (of_inner c (Contains-get_or inner k d within)).1.1 (inl (sym (ap (λ (p : Point). p.x) same), sym (ap (λ (p : Point). p.y) same))))
       inner_once
 
-  start_is : IsHot edges edge.x0 edge.y0 × Passes edge edge.x0 edge.y0
-  start_is = (inl (edge, held, inl (refl, refl)), Passes-start edge)
-
-  end_is : IsHot edges edge.x1 edge.y1 × Passes edge edge.x1 edge.y1
-  end_is = (inl (edge, held, inr (refl, refl)), Passes-end edge)
-
-  of_front : (c : Point) → Contains front c → IsHot edges c.x c.y × Passes edge c.x c.y
+  of_front : (c : Point) → Contains front c → IsNode c.x c.y
   of_front c held =
       ⊎_elim
-      (λ same. subst (λ (p : Point). IsHot edges p.x p.y × Passes edge p.x p.y) same start_is)
-      (λ among. let is = of_inner c among in (is.0, is.1.0))
+      (λ same. subst (λ (p : Point). IsNode p.x p.y) same start_is)
+      (λ among. (of_inner c among).0)
       (here_or_there (start_of edge) inner c held)
 
-  in_front : (c : Point) → IsHot edges c.x c.y × Passes edge c.x c.y → Contains front c ⊎ (c ≡ end_of edge)
-  in_front c (hot, passed) = go (ends_of edge c)
+  in_front : (c : Point) → IsNode c.x c.y → Contains front c ⊎ (c ≡ end_of edge)
+  in_front c node = go (ends_of edge c)
     where
       go : EndOr edge c → Contains front c ⊎ (c ≡ end_of edge)
       go (is_start same) = inl (subst (λ (p : Point). Contains front p) (sym same) (Contains-here (start_of edge) inner))
       go (is_end same) = inr same
-      go (neither none) = inl (Contains-there (start_of edge) inner c (in_inner c (hot, (passed, none))))
+      go (neither none) = inl (Contains-there (start_of edge) inner c (in_inner c (node, (passed c.x c.y node, none))))
 
   -- an edge that is a point has one end
-  whole_point : start_of edge ≡ end_of edge → IsChain edges edge front
+  whole_point : start_of edge ≡ end_of edge → IsAlong IsNode edge front
   whole_point same = record {
     in_order = front_in_order;
     once = front_once;
@@ -106,7 +101,7 @@ module _ (edges : List Edge) (edge : Edge) (held : Contains edges edge) (inner :
   in_order : AllPairs (λ c d. Upto edge c.x c.y d.x d.y) all
   in_order =
       all_pairs_push (λ c d. Upto edge c.x c.y d.x d.y) front (end_of edge) front_in_order
-      (λ k d within. let c = get_or front k d in Upto-to_end edge c.x c.y (of_front c (Contains-get_or front k d within)).1)
+      (λ k d within. let c = get_or front k d in Upto-to_end edge c.x c.y (passed c.x c.y (of_front c (Contains-get_or front k d within))))
 
   once : start_of edge ≢ end_of edge → AllPairs (λ c d. c ≢ d) all
   once apart =
@@ -117,18 +112,18 @@ module _ (edges : List Edge) (edge : Edge) (held : Contains edges edge) (inner :
       go c same (inl start) = apart (start ∙ same)
       go c same (inr among) = (of_inner c among).1.1 (inr (ap (λ (p : Point). p.x) same, ap (λ (p : Point). p.y) same))
 
-  of_all : (c : Point) → Contains all c → IsHot edges c.x c.y × Passes edge c.x c.y
+  of_all : (c : Point) → Contains all c → IsNode c.x c.y
   of_all c held =
-      ⊎_elim (of_front c) (λ same. subst (λ (p : Point). IsHot edges p.x p.y × Passes edge p.x p.y) same end_is) (Contains-push_cases front (end_of edge) c held)
+      ⊎_elim (of_front c) (λ same. subst (λ (p : Point). IsNode p.x p.y) same end_is) (Contains-push_cases front (end_of edge) c held)
 
-  in_all : (c : Point) → IsHot edges c.x c.y × Passes edge c.x c.y → Contains all c
+  in_all : (c : Point) → IsNode c.x c.y → Contains all c
   in_all c is =
       ⊎_elim (Contains-append_left front (end_of edge ∷ []) c) (λ same. subst (λ (p : Point). Contains all p) (sym same) (Contains-push front (end_of edge))) (in_front c is)
 
-  pub IsChain-ends : (chain : List Point) → GoesToEnd edge (start_of edge ∷ inner) chain → IsChain edges edge chain
-  IsChain-ends chain (inl (point, is)) = subst (IsChain edges edge) (sym is) (whole_point point)
-  IsChain-ends chain (inr (apart, is)) =
-      subst (IsChain edges edge) (sym is) (record {
+  pub IsAlong-ends : (chain : List Point) → GoesToEnd edge (start_of edge ∷ inner) chain → IsAlong IsNode edge chain
+  IsAlong-ends chain (inl (point, is)) = subst (IsAlong IsNode edge) (sym is) (whole_point point)
+  IsAlong-ends chain (inr (apart, is)) =
+      subst (IsAlong IsNode edge) (sym is) (record {
         in_order = in_order;
         once = once apart;
         exact = λ c. (of_all c, in_all c);

@@ -79,6 +79,15 @@ module _ {X Y : Type 0} (Is : X → Y → Type 0) where
       from : (y : Y) → IsOfSome Is (items ++ last ∷ []) y → IsOfSome Is items y ⊎ Is last y
       from y (x, held, is) = ⊎_elim (λ earlier. inl (x, earlier, is)) (λ same. inr (subst (λ (x : X). Is x y) (sym same) is)) (Contains-push_cases items last x held)
 
+-- one more item of a list, and all of them
+pub gains-next : {X Y : Type 0} (Is : X → Y → Type 0) (items : List X) (k : ℕ) (d : X) (before now after : List Y) → k < length items → GainsThese (IsOfSome Is (take k items)) before now → GainsThese (Is (get_or items k d)) now after
+    → GainsThese (IsOfSome Is (take (k + 1) items)) before after
+gains-next {X} Is items k d before now after within gains more =
+    subst (λ (done : List X). GainsThese (IsOfSome Is done) before after) (sym (take_more items k d within)) (gains-more Is (take k items) (get_or items k d) before now after gains more)
+
+pub gains-all : {X Y : Type 0} (Is : X → Y → Type 0) (items : List X) (k : ℕ) (before after : List Y) → length items ≤ k → GainsThese (IsOfSome Is (take k items)) before after → GainsThese (IsOfSome Is items) before after
+gains-all {X} Is items k before after all = subst (λ (done : List X). GainsThese (IsOfSome Is done) before after) (take_all k items all)
+
 -- ---- a loop over pairs of places, each of one of the items and one of the others
 
 module _ {X Y Z : Type 0} (Is : ℕ × ℕ → Z → Type 0) (items : List X) (others : List Y) (pairs : List (ℕ × ℕ)) (before : List Z) where

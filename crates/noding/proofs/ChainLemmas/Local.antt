@@ -1,28 +1,26 @@
 -- Edges that cross at points with fractions, as they are found.
-use Rattle.std.proofs.Common.{arith, pos, ◌≡◌, ◌⊎◌, ◌↔◌, ◌++◌, ◌∷◌, ◌+◌, ◌<◌, [], ℕ, ℤ, Bool, true, false, List, Some, append-nil, append_assoc, get_or, inl, inr, length, refl, sym, subst, take, ap, ◌∙◌, ⊎_elim}
+use Rattle.std.proofs.Common.{arith, pos, ◌≡◌, ◌↔◌, ◌++◌, ◌∷◌, ◌<◌, [], ℕ, ℤ, Bool, true, false, List, Some, inl, inr, refl, sym, subst, ap, ◌∙◌}
 use Rattle.std.specs.Bool.{MatchBool}
-use Rattle.std.specs.List.{Contains, filter, slice_get}
+use Rattle.std.specs.List.{Contains, slice_get}
 use Rattle.std.proofs.lemmas.Bool.{cases_eq, cases_lt}
-use Rattle.std.proofs.lemmas.List.{take_more}
-use Rattle.std.proofs.lemmas.List.Elements.{filter-append}
 use Rattle.std.proofs.lemmas.Option.{same_Some}
 use Rattle.plane.specs.declared.edge.Edge.{Edge}
 use Rattle.plane.specs.declared.point.Point.{Point}
-use Rattle.plane.specs.Meet.Edges.{Meet}
+use Rattle.noding.specs.declared.crossings.Crossing.{Crossing}
 use Rattle.plane.specs.Meet.Kinds.{HasPoint}
 use Rattle.plane.specs.Pairs.Pairs.{ArePairs}
 use Rattle.plane.proofs.MeetLemmas.Identities.{identity, number, times}
-use Rattle.noding.specs.Chains.{AreNotParallel, CrossAt, IsAlong, IsChain, IsEnd}
+use Rattle.noding.specs.Chains.{CrossAt, IsEnd}
 use Rattle.noding.specs.Close.{ComeClose, ShareEnd}
+use Rattle.noding.specs.Crossings.{AreCrossed}
 use Rattle.noding.specs.Gains.{GainsThese, IsOfSome}
-use Rattle.noding.specs.Local.{AppendsIfKept, AreFirst, CrossBeside, CrossBesideAt, IsKept, IsMoved, IsNode, MovesInRound}
-use Rattle.noding.proofs.ChainLemmas.Crossings.{end-of_edge}
-use Rattle.noding.proofs.ChainLemmas.Gains.{gains-only, gains-same, held-at, place-of}
+use Rattle.noding.specs.Local.{AreFirst, CrossBeside, CrossBesideAt, IsPointBeside, MovesInRound}
+use Rattle.noding.proofs.ChainLemmas.Crossings.{crossed-pair, end-of_edge, pair-crossed}
+use Rattle.noding.proofs.ChainLemmas.Gains.{gains-none, gains-only, held-at, place-of}
 use Rattle.noding.proofs.SnapLemmas.Crossing.{CrossAt-exchanged, CrossAt-itself, CrossAt-unique}
 use Rattle.noding.proofs.SnapLemmas.Rounding.{RoundsTo-itself, whole}
 use Rattle.noding.proofs.SnapLemmas.Along.{point_at}
-use Rattle.noding.proofs.SnapLemmas.Local.{common_whole, noded-filter}
-use Rattle.noding.proofs.SnapLemmas.Lying.{has_point-or_not}
+use Rattle.noding.proofs.SnapLemmas.Local.{common_whole}
 
 -- what two tests say of both, where the first holds, and where it doesn't
 pub both_tested : (test : Bool) (A B : Type 0) → A → MatchBool test B (¬ B) → MatchBool test (A × B) (¬ (A × B))
@@ -32,12 +30,6 @@ both_tested false A B first second = λ both. second both.1
 pub first_fails : (test : Bool) (A B : Type 0) → MatchBool test A (¬ A) → test ≡ false → MatchBool test (A × B) (¬ (A × B))
 first_fails true A B is same = absurd (cc)
 first_fails false A B is same = λ both. is both.0
-
--- what a test says, or what is false
-pub other_fails : (flag test : Bool) (A : Type 0) → flag ≡ false → MatchBool test A (¬ A) → MatchBool test (A ⊎ (flag ≡ true)) (¬ (A ⊎ (flag ≡ true)))
-other_fails true test A same is = absurd (cc)
-other_fails false true A same is = inl is
-other_fails false false A same is = λ kept. ⊎_elim is (λ no. absurd (cc)) kept
 
 -- edges that cross at a point that doesn't lie on both cross beside it
 pub CrossBeside-of : (one other : Edge) (x y : ℤ) → CrossAt one other x y → ¬ (HasPoint one x y × HasPoint other x y) → CrossBeside one other x y
@@ -56,109 +48,30 @@ no_beside-whole one other x y cross both point found =
     let (same_x, same_y) = CrossAt-unique one other point.x point.y x y (CrossAt-beside one other point.x point.y found) cross in
     beside_whole one other x y both.0 both.1 (subst (λ (a : ℤ). CrossBeside one other a y) same_x (subst (λ (b : ℤ). CrossBeside one other point.x b) same_y found))
 
--- nor do those that don't cross
-pub no_beside : (one other : Edge) → ¬ (AreNotParallel one other × Meet one other) → (point : Point) → ¬ (CrossBeside one other point.x point.y)
-no_beside one other none point (slanted, (at, of_one, of_other, rounds, beside)) = none (slanted, (at, of_one, of_other))
+module _ (edges : List Edge) (crossing : Crossing) (one other : Edge) (first : slice_get edges crossing.one ≡ Some one) (second : slice_get edges crossing.other ≡ Some other) where
+  -- a crossing beside its point
+  pub gains-beside : (before after : List Point) → CrossBeside one other crossing.point.x crossing.point.y → after ≡ before ++ crossing.point ∷ [] → GainsThese (IsPointBeside edges crossing) before after
+  gains-beside before after cross =
+      gains-only (IsPointBeside edges crossing) before after crossing.point (record { one = one; other = other; first = first; second = second; cross = cross; is = refl }) (λ point at. at.is)
 
--- they cross so at one point
-pub gains-beside : (one other : Edge) (point : Point) (before after : List Point) → CrossBeside one other point.x point.y → after ≡ before ++ point ∷ [] → GainsThese (λ c. CrossBeside one other c.x c.y) before after
-gains-beside one other point before after cross =
-    gains-only (λ c. CrossBeside one other c.x c.y) before after point cross
-    (λ found is.
-    let (same_x, same_y) = CrossAt-unique one other found.x found.y point.x point.y (CrossAt-beside one other found.x found.y is) (CrossAt-beside one other point.x point.y cross) in
-    ap (λ (a : ℤ). point_at a found.y) same_x ∙ ap (λ (b : ℤ). point_at point.x b) same_y)
-
--- the edges at a pair
-pub gains-of_beside : (edges : List Edge) (pair : ℕ × ℕ) (one other : Edge) (before after : List Point) → slice_get edges pair.0 ≡ Some one → slice_get edges pair.1 ≡ Some other
-    → GainsThese (λ c. CrossBeside one other c.x c.y) before after → GainsThese (CrossBesideAt edges pair) before after
-gains-of_beside edges pair one other before after first second =
-    gains-same (λ c. CrossBeside one other c.x c.y) (CrossBesideAt edges pair) before after
-    (λ point cross. record { one = one; other = other; first = first; second = second; cross = cross })
-    (λ point is.
-    let one_is : is.one ≡ one = same_Some _ _ (sym is.first ∙ first) in
-    let other_is : is.other ≡ other = same_Some _ _ (sym is.second ∙ second) in
-    subst (λ (e : Edge). CrossBeside e other point.x point.y) one_is (subst (λ (e : Edge). CrossBeside is.one e point.x point.y) other_is is.cross))
-
--- ---- which points of a chain are kept
-
-kept_or_not : (edge : Edge) (is_moved : Bool) (point : Point) → IsKept edge is_moved point ⊎ (¬ (IsKept edge is_moved point))
-kept_or_not edge true point = inl (inr refl)
-kept_or_not edge false point = elim (has_point-or_not edge point.x point.y) [
-  | inl on ↦ inl (inl on)
-  | inr none ↦ inr (λ kept. ⊎_elim none (λ is. absurd (cc)) kept)
-]
-
-abbrev chosen : {A : Type 0} → A ⊎ (¬ A) → Bool
-chosen (inl is) = true
-chosen (inr none) = false
-
-chosen-true : {A : Type 0} (told : A ⊎ (¬ A)) → (chosen told ≡ true) ↔ A
-chosen-true (inl is) = (λ same. is, λ is. refl)
-chosen-true (inr none) = (λ same. absurd (cc), λ is. absurd (none is))
-
--- the test as a function
-pub kept : Edge → Bool → Point → Bool
-kept edge is_moved point = chosen (kept_or_not edge is_moved point)
-
-pub kept-told : (edge : Edge) (is_moved : Bool) (point : Point) → (kept edge is_moved point ≡ true) ↔ IsKept edge is_moved point
-unfolding kept
-kept-told edge is_moved point = chosen-true (kept_or_not edge is_moved point)
-
-pub kept-false : (edge : Edge) (is_moved : Bool) (point : Point) → ¬ (IsKept edge is_moved point) → kept edge is_moved point ≡ false
-kept-false edge is_moved point none = go (kept edge is_moved point) (λ is. none ((kept-told edge is_moved point).0 is))
-  where
-    go : (b : Bool) → ¬ (b ≡ true) → b ≡ false
-    go true none = absurd (none refl)
-    go false none = refl
-
--- one more point of a list, where it passes and where it doesn't
-filter-more : (p : Point → Bool) (before now after items : List Point) (k : ℕ) (d : Point) → k < length items → now ≡ before ++ filter p (take k items) → p (get_or items k d) ≡ true → after ≡ now ++ get_or items k d ∷ []
-    → after ≡ before ++ filter p (take (k + 1) items)
-filter-more p before now after items k d within is passes pushed =
-    pushed ∙ ap (λ (list : List Point). list ++ get_or items k d ∷ []) is ∙ append_assoc before (filter p (take k items)) (get_or items k d ∷ [])
-    ∙ ap (λ (list : List Point). before ++ list) (ap (λ (list : List Point). filter p (take k items) ++ list) (sym (filter_one p (get_or items k d) passes)) ∙ sym (filter-append p (take k items) (get_or items k d ∷ [])) ∙ ap (filter p) (sym (take_more items k d within)))
-  where
-    filter_one : (p : Point → Bool) (x : Point) → p x ≡ true → filter p (x ∷ []) ≡ x ∷ []
-    filter_one p x passes = rw passes refl
-
-filter-past : (p : Point → Bool) (before now items : List Point) (k : ℕ) (d : Point) → k < length items → now ≡ before ++ filter p (take k items) → p (get_or items k d) ≡ false → now ≡ before ++ filter p (take (k + 1) items)
-filter-past p before now items k d within is fails =
-    is ∙ ap (λ (list : List Point). before ++ list) (sym (append-nil (filter p (take k items))) ∙ ap (λ (list : List Point). filter p (take k items) ++ list) (sym (filter_none p (get_or items k d) fails)) ∙ sym (filter-append p (take k items) (get_or items k d ∷ [])) ∙ ap (filter p) (sym (take_more items k d within)))
-  where
-    filter_none : (p : Point → Bool) (x : Point) → p x ≡ false → filter p (x ∷ []) ≡ []
-    filter_none p x fails = rw fails refl
-
-pub kept-more : (edge : Edge) (is_moved : Bool) (before now after items : List Point) (k : ℕ) (d : Point) → k < length items → now ≡ before ++ filter (kept edge is_moved) (take k items) → AppendsIfKept edge is_moved (get_or items k d) now after
-    → after ≡ before ++ filter (kept edge is_moved) (take (k + 1) items)
-kept-more edge is_moved before now after items k d within is (inl (has, pushed)) =
-    filter-more (kept edge is_moved) before now after items k d within is ((kept-told edge is_moved (get_or items k d)).1 has) pushed
-kept-more edge is_moved before now after items k d within is (inr (none, same)) =
-    same ∙ filter-past (kept edge is_moved) before now items k d within is (kept-false edge is_moved (get_or items k d) none)
-
--- ---- the chain of one edge, of what is kept
-
-same_is : {A : Type 0} (flag : Bool) → MatchBool flag A (¬ A) → (flag ≡ true) ↔ A
-same_is true is = (λ same. is, λ a. refl)
-same_is false none = (λ same. absurd (cc), λ a. absurd (none a))
-
-pub noded-kept : (edges : List Edge) (edge : Edge) (is_moved : Bool) (chain : List Point) (keep : Point → Bool) → IsChain edges edge chain → MatchBool is_moved (IsMoved edges edge) (¬ (IsMoved edges edge))
-    → ((point : Point) → (keep point ≡ true) ↔ IsKept edge is_moved point) → IsAlong (IsNode edges edge) edge (filter keep chain)
-noded-kept edges edge is_moved chain keep is told which =
-    let moved = same_is is_moved told in
-    noded-filter edges edge chain keep is
-    (λ c held. (
-      λ kept. ⊎_elim inl (λ flag. inr (moved.0 flag)) ((which c).0 kept),
-      λ node. (which c).1 (⊎_elim inl (λ is. inr (moved.1 is)) node),
-    ))
+  -- one whose point lies on both edges
+  pub gains-on_both : (before : List Point) → HasPoint one crossing.point.x crossing.point.y × HasPoint other crossing.point.x crossing.point.y → GainsThese (IsPointBeside edges crossing) before before
+  gains-on_both before (on, other_on) =
+      gains-none (IsPointBeside edges crossing) before
+      (λ point at.
+      let one_is : one ≡ at.one = same_Some _ _ (sym first ∙ at.first) in
+      let other_is : other ≡ at.other = same_Some _ _ (sym second ∙ at.second) in
+      beside_whole at.one at.other crossing.point.x crossing.point.y (subst (λ (e : Edge). HasPoint e crossing.point.x crossing.point.y) one_is on)
+      (subst (λ (e : Edge). HasPoint e crossing.point.x crossing.point.y) other_is other_on) at.cross)
 
 -- ---- edges that cross beside a whole point are at a pair that comes close
 
-CrossBeside-exchanged : (one other : Edge) (x y : ℤ) → CrossBeside one other x y → CrossBeside other one x y
+pub CrossBeside-exchanged : (one other : Edge) (x y : ℤ) → CrossBeside one other x y → CrossBeside other one x y
 CrossBeside-exchanged one other x y (slanted, (point, of_one, of_other, rounds, beside)) =
     ((CrossAt-exchanged one other x y (slanted, (point, of_one, of_other, rounds))).0, (point, of_other, of_one, rounds, beside))
 
 -- an edge has its ends
-has_end : (edge : Edge) (x y : ℤ) → IsEnd edge x y → HasPoint edge x y
+pub has_end : (edge : Edge) (x y : ℤ) → IsEnd edge x y → HasPoint edge x y
 has_end edge x y end = (whole x y, end-of_edge edge x y end, record { x_is = identity (number x) (times (number (pos 1)) (number x)) (omega arith); y_is = identity (number y) (times (number (pos 1)) (number y)) (omega arith) })
 
 no_shared : (one other : Edge) (x y : ℤ) → CrossBeside one other x y → ¬ (ShareEnd one other)
@@ -194,5 +107,25 @@ module _ (edges : List Edge) (pairs : List (ℕ × ℕ)) (close : ArePairs ComeC
   beside-first point ((i, j), held, is) = (is.one, is.other, held-at edges i is.one is.first, held-at edges j is.other is.second, is.cross)
 
   -- so these tell the points that move edges in the first round
-  pub AreFirst-paired : (points : List Point) → ((point : Point) → Contains points point ↔ IsOfSome (CrossBesideAt edges) pairs point) → AreFirst edges points
+  AreFirst-paired : (points : List Point) → ((point : Point) → Contains points point ↔ IsOfSome (CrossBesideAt edges) pairs point) → AreFirst edges points
   AreFirst-paired points told point = (λ held. beside-first point ((told point).0 held), λ moves. (told point).1 (beside-paired point moves))
+
+  module _ (crossings : List Crossing) (crossed : AreCrossed edges pairs crossings) where
+    point_paired : (point : Point) → IsOfSome (IsPointBeside edges) crossings point → IsOfSome (CrossBesideAt edges) pairs point
+    point_paired point (crossing, held, at) =
+        let (among, is) = crossed-pair edges pairs crossings crossed crossing held in (
+          (crossing.one, crossing.other),
+          among,
+          record { one = at.one; other = at.other; first = at.first; second = at.second; cross = subst (λ (p : Point). CrossBeside at.one at.other p.x p.y) (sym at.is) at.cross },
+        )
+
+    paired_point : (point : Point) → IsOfSome (CrossBesideAt edges) pairs point → IsOfSome (IsPointBeside edges) crossings point
+    paired_point point (pair, held, at) = (
+      record { one = pair.0; other = pair.1; point = point },
+      pair-crossed edges pairs crossings crossed pair at.one at.other point held at.first at.second (CrossAt-beside at.one at.other point.x point.y at.cross),
+      record { one = at.one; other = at.other; first = at.first; second = at.second; cross = at.cross; is = refl },
+    )
+
+    -- as the points of their crossings do
+    pub AreFirst-crossed : (points : List Point) → ((point : Point) → Contains points point ↔ IsOfSome (IsPointBeside edges) crossings point) → AreFirst edges points
+    AreFirst-crossed points told = AreFirst-paired points (λ point. (λ held. point_paired point ((told point).0 held), λ is. (told point).1 (paired_point point is)))

@@ -1,20 +1,25 @@
 -- The stops of one edge stand together, and their points are its chain.
-use Rattle.std.proofs.Common.{◌≡◌, ◌≢◌, inl, inr, ℕ, ◌+◌, ◌-◌, ◌<◌, ◌≤◌, List, [], ◌∷◌, ◌++◌, Some, length, get_or, map, take, drop, sym, ap, ◌∙◌, subst, subst₂, append_assoc, arith}
+use Rattle.std.proofs.Common.{◌≡◌, ◌≢◌, inl, inr, ℕ, ℤ, ◌+◌, ◌-◌, ◌<◌, ◌≤◌, List, [], ◌∷◌, ◌++◌, Some, length, get_or, map, take, drop, sym, ap, ◌∙◌, subst, subst₂, append_assoc, arith}
 use Rattle.std.specs.List.{AllPairs, Contains, flat_map, slice_get}
 use Rattle.std.proofs.lemmas.Bool.{cases_eq, cases_lt}
 use Rattle.std.proofs.lemmas.List.{get_or-drop, get_or-map, get_or-take, length-append, length-drop, length-map, length-take-le, map-append, take_more}
 use Rattle.std.proofs.lemmas.Option.{same_Some}
 use Rattle.plane.specs.declared.edge.Edge.{Edge}
 use Rattle.plane.specs.declared.point.Point.{Point}
-use Rattle.noding.specs.Chains.{IsChain, IsHot, Upto}
+use Rattle.noding.specs.Chains.{AreChains, IsAlong, IsChain, IsHot, Passes, Upto}
 use Rattle.noding.specs.Close.{PassesInside}
+use Rattle.noding.specs.Local.{AreNodeChains, IsNode, IsNodeChain}
 use Rattle.plane.specs.Ends.{start_of}
 use Rattle.noding.specs.Offsets.{between, offsets}
-use Rattle.noding.specs.Stops.{AreAt, AreStops, GoesToEnd, IsBefore, IsStop, point_of, stop_of}
+use Rattle.noding.specs.Stops.{AreAt, AreNodeStops, AreRuns, AreStops, AreStopsOf, GoesToEnd, IsBefore, IsRun, IsStopOf, point_of, stop_of}
+pub use Rattle.noding.specs.Stops.{Split}
 use Rattle.noding.specs.declared.stops.Stop.{Stop}
-use Rattle.noding.proofs.ChainLemmas.Ends.{IsChain-ends}
+use Rattle.noding.proofs.ChainLemmas.Ends.{IsAlong-ends}
 use Rattle.noding.proofs.ChainLemmas.Gains.{held-at}
 use Rattle.noding.proofs.ChainLemmas.Stops.{differ-before, point-of_stop, upto-before}
+use Rattle.noding.proofs.SnapLemmas.Along.{Passes-end, Passes-start}
+use Rattle.noding.proofs.SnapLemmas.Local.{ends_on}
+use Rattle.noding.proofs.SnapLemmas.Paths.{AllZip-by, IsHot-from, IsHot-to}
 
 -- ---- lists
 
@@ -48,12 +53,6 @@ made-more f before start end items d rising inside =
 
 -- ---- the stops of one edge
 
--- Before this place in the list the stops are at edges before this one, and from it on at this one or later ones.
-pub record Split (place next : ℕ) (stops : List Stop) : Type 0 where
-  pub inside : next ≤ length stops
-  pub before : (k : ℕ) (d : Stop) → k < next → (get_or stops k d).place < place
-  pub behind : (k : ℕ) (d : Stop) → next ≤ k → k < length stops → place ≤ (get_or stops k d).place
-
 pub Split-none : (stops : List Stop) → Split 0 0 stops
 Split-none stops = record {
   inside = omega arith;
@@ -61,7 +60,7 @@ Split-none stops = record {
   behind = λ k d from within. omega arith;
 }
 
-module _ (edges : List Edge) (stops : List Stop) (are : AreStops edges stops) (place : ℕ) (start end : ℕ) (split : Split place start stops) (run : AreAt place start end stops) where
+module _ (stops : List Stop) (in_order : AllPairs IsBefore stops) (place start end : ℕ) (split : Split place start stops) (run : AreAt place start end stops) where
   -- the last of them is followed by stops at later edges
   behind : (k : ℕ) (d : Stop) → end ≤ k → k < length stops → place + 1 ≤ (get_or stops k d).place
   behind k d from within =
@@ -70,7 +69,7 @@ module _ (edges : List Edge) (stops : List Stop) (are : AreStops edges stops) (p
       let at_least = split.behind end d rising (omega (arith, from, within)) in
       elim (cases_eq end k) [
         | inl same ↦ subst (λ (n : ℕ). place + 1 ≤ (get_or stops n d).place) same (omega (arith, last, at_least))
-        | inr differs ↦ later k d (omega (arith, from, differs)) within (omega (arith, last, at_least)) (are.in_order end k d (omega (arith, from, differs)) within)
+        | inr differs ↦ later k d (omega (arith, from, differs)) within (omega (arith, last, at_least)) (in_order end k d (omega (arith, from, differs)) within)
       ]
     where
       later : (k : ℕ) (d : Stop) → end < k → k < length stops → place + 1 ≤ (get_or stops end d).place → IsBefore (get_or stops end d) (get_or stops k d) → place + 1 ≤ (get_or stops k d).place
@@ -78,8 +77,8 @@ module _ (edges : List Edge) (stops : List Stop) (are : AreStops edges stops) (p
       later k d above within least (inr (same, along)) = omega (arith, least, same)
 
   -- so the next edge's stops are split off where these end
-  pub Split-next : Split (place + 1) end stops
-  Split-next = record {
+  pub Split-run : Split (place + 1) end stops
+  Split-run = record {
     inside = run.inside;
     before = λ k d within. elim (cases_lt k start) [
       | inl earlier ↦ let lower = split.before k d earlier in omega (arith, lower)
@@ -87,6 +86,10 @@ module _ (edges : List Edge) (stops : List Stop) (are : AreStops edges stops) (p
     ];
     behind = behind;
   }
+
+module _ {IsNode : Edge → ℤ → ℤ → Type 0} (edges : List Edge) (stops : List Stop) (are : AreStopsOf IsNode edges stops) (place start end : ℕ) (split : Split place start stops) (run : AreAt place start end stops) where
+  pub Split-next : Split (place + 1) end stops
+  Split-next = Split-run stops are.in_order place start end split run
 
   module _ (edge : Edge) (stands : slice_get edges place ≡ Some edge) where
     abbrev inner : List Point
@@ -102,13 +105,13 @@ module _ (edges : List Edge) (stops : List Stop) (are : AreStops edges stops) (p
         get_or-map (point_of edge) (between start end stops) k e d inside ∙ ap (point_of edge) (between-at start end k stops e within run.inside)
 
     -- a stop among these is one of the edge
-    is_stop : (k : ℕ) (e : Stop) → start ≤ k → k < end → (IsHot edges (point_of edge (get_or stops k e)).x (point_of edge (get_or stops k e)).y) × (PassesInside edge (point_of edge (get_or stops k e)).x (point_of edge (get_or stops k e)).y)
+    is_stop : (k : ℕ) (e : Stop) → start ≤ k → k < end → IsNode edge (point_of edge (get_or stops k e)).x (point_of edge (get_or stops k e)).y × (PassesInside edge (point_of edge (get_or stops k e)).x (point_of edge (get_or stops k e)).y)
     is_stop k e from within =
         let stop = get_or stops k e in
         let inside = run.inside in
-        let is : IsStop edges stop = are.of k e (omega (arith, inside, within)) in
+        let is : IsStopOf IsNode edges stop = are.of k e (omega (arith, inside, within)) in
         let same : is.edge ≡ edge = same_Some _ _ (sym is.stands ∙ ap (slice_get edges) (run.at k e from within) ∙ stands) in
-        subst (λ (it : Edge). (IsHot edges (point_of it stop).x (point_of it stop).y) × (PassesInside it (point_of it stop).x (point_of it stop).y)) same (is.hot, is.passes)
+        subst (λ (it : Edge). IsNode it (point_of it stop).x (point_of it stop).y × (PassesInside it (point_of it stop).x (point_of it stop).y)) same (is.node, is.inside)
 
     abbrev some_stop : Stop
     some_stop = stop_of place edge (edge.x0) (edge.y0)
@@ -140,18 +143,18 @@ module _ (edges : List Edge) (stops : List Stop) (are : AreStops edges stops) (p
         let before = are.in_order (start + i) (start + j) e (omega (arith, below)) (omega (arith, upto_end, inside)) in
         subst₂ (λ (c d : Point). c ≢ d) (sym (inner-at i d e upto_i)) (sym (inner-at j d e upto_end)) (differ-before edge one other (place_one ∙ sym place_other) before)
 
-    -- each of these points is hot, and the edge passes it between its ends
-    of_inner : (c : Point) → Contains inner c → IsHot edges c.x c.y × PassesInside edge c.x c.y
+    -- each of these points is a node, and the edge passes it between its ends
+    of_inner : (c : Point) → Contains inner c → IsNode edge c.x c.y × PassesInside edge c.x c.y
     of_inner c (k, within, at) =
         let e = some_stop in
         let upto_end : start + k < end = omega (arith, within, long) in
-        subst (λ (p : Point). IsHot edges p.x p.y × PassesInside edge p.x p.y) (sym (inner-at k c e upto_end) ∙ at) (is_stop (start + k) e (omega arith) upto_end)
+        subst (λ (p : Point). IsNode edge p.x p.y × PassesInside edge p.x p.y) (sym (inner-at k c e upto_end) ∙ at) (is_stop (start + k) e (omega arith) upto_end)
 
     -- and each such point is of them
-    in_inner : (c : Point) → IsHot edges c.x c.y × PassesInside edge c.x c.y → Contains inner c
-    in_inner c (is_hot, passed) =
+    in_inner : (c : Point) → IsNode edge c.x c.y × PassesInside edge c.x c.y → Contains inner c
+    in_inner c (node, inside) =
         let stop = stop_of place edge c.x c.y in
-        let (k, within, at) = are.each place edge c.x c.y stands is_hot passed in
+        let (k, within, at) = are.each place edge c.x c.y stands node inside in
         let here : (get_or stops k stop).place ≡ place = ap (λ (s : Stop). s.place) at in
         let from : start ≤ k = elim (cases_lt k start) [
           | inl earlier ↦ let lower = split.before k stop earlier in absurd (omega (arith, lower, here))
@@ -159,11 +162,45 @@ module _ (edges : List Edge) (stops : List Stop) (are : AreStops edges stops) (p
         ] in
         let upto_end : k < end = elim (cases_lt k end) [
           | inl before ↦ before
-          | inr later ↦ let above = behind k stop later within in absurd (omega (arith, above, here))
+          | inr later ↦ let above = behind stops are.in_order place start end split run k stop later within in absurd (omega (arith, above, here))
         ] in
         let whole : start + (k - start) ≡ k = omega (arith, from) in
         (k - start, omega (arith, long, from, upto_end), inner-at (k - start) c stop (omega (arith, whole, upto_end)) ∙ ap (λ (n : ℕ). point_of edge (get_or stops n stop)) whole ∙ ap (point_of edge) at ∙ point-of_stop place edge c.x c.y)
 
     -- the edge's ends, and these points between them, are its chain
-    pub IsChain-run : (chain : List Point) → GoesToEnd edge (start_of edge ∷ map (point_of edge) (between start end stops)) chain → IsChain edges edge chain
-    IsChain-run = IsChain-ends edges edge (held-at edges place edge stands) inner inner_in_order inner_once of_inner in_inner
+    pub IsAlong-run : ((x y : ℤ) → IsNode edge x y → Passes edge x y) → IsNode edge edge.x0 edge.y0 → IsNode edge edge.x1 edge.y1
+        → (chain : List Point) → GoesToEnd edge (start_of edge ∷ map (point_of edge) (between start end stops)) chain → IsAlong (IsNode edge) edge chain
+    IsAlong-run passed starts ends = IsAlong-ends (IsNode edge) edge passed starts ends inner inner_in_order inner_once of_inner in_inner
+
+-- ---- chains of all hot points, and of nodes
+
+module _ (edges : List Edge) (edge : Edge) (among : Contains edges edge) where
+  hot_ends : (IsHot edges edge.x0 edge.y0 × Passes edge edge.x0 edge.y0) × (IsHot edges edge.x1 edge.y1 × Passes edge edge.x1 edge.y1)
+  hot_ends = ((IsHot-from edges edge among, Passes-start edge), (IsHot-to edges edge among, Passes-end edge))
+
+  node_ends : IsNode edges edge edge.x0 edge.y0 × IsNode edges edge edge.x1 edge.y1
+  node_ends =
+      let on = ends_on edge in
+      ((IsHot-from edges edge among, Passes-start edge, inl on.0), (IsHot-to edges edge among, Passes-end edge, inl on.1))
+
+module _ (edges : List Edge) (stops : List Stop) (are : AreStops edges stops) (place start end : ℕ) (split : Split place start stops) (run : AreAt place start end stops) (edge : Edge) (stands : slice_get edges place ≡ Some edge) where
+  pub IsChain-run : (chain : List Point) → GoesToEnd edge (start_of edge ∷ map (point_of edge) (between start end stops)) chain → IsChain edges edge chain
+  IsChain-run =
+      let its = hot_ends edges edge (held-at edges place edge stands) in
+      IsAlong-run edges stops are place start end split run edge stands (λ x y node. node.1) its.0 its.1
+
+module _ (edges : List Edge) (stops : List Stop) (are : AreNodeStops edges stops) (place start end : ℕ) (split : Split place start stops) (run : AreAt place start end stops) (edge : Edge) (stands : slice_get edges place ≡ Some edge) where
+  pub IsNodeChain-run : (chain : List Point) → GoesToEnd edge (start_of edge ∷ map (point_of edge) (between start end stops)) chain → IsNodeChain edges edge chain
+  IsNodeChain-run =
+      let its = node_ends edges edge (held-at edges place edge stands) in
+      IsAlong-run edges stops are place start end split run edge stands (λ x y node. node.1) its.0 its.1
+
+-- ---- the chains of all edges
+
+pub AreChains-runs : (edges : List Edge) (stops : List Stop) (chains : List (List Point)) → AreStops edges stops → AreRuns edges stops chains → AreChains edges chains
+AreChains-runs edges stops chains are =
+    AllZip-by (IsRun edges stops) (IsChain edges) edges chains (λ edge chain among is. IsChain-run edges stops are is.place is.start is.end is.split is.run edge is.stands chain is.goes)
+
+pub AreNodeChains-runs : (edges : List Edge) (stops : List Stop) (chains : List (List Point)) → AreNodeStops edges stops → AreRuns edges stops chains → AreNodeChains edges chains
+AreNodeChains-runs edges stops chains are =
+    AllZip-by (IsRun edges stops) (IsNodeChain edges) edges chains (λ edge chain among is. IsNodeChain-run edges stops are is.place is.start is.end is.split is.run edge is.stands chain is.goes)

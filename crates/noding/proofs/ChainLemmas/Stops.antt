@@ -16,7 +16,7 @@ use Rattle.noding.specs.Chains.{IsEnd, IsHot, Passes, Upto, UptoOn}
 use Rattle.noding.specs.Close.{ComeClose, PassesEnd, PassesInside, PassesPoint}
 use Rattle.plane.proofs.PointLemmas.{whole_point}
 use Rattle.noding.specs.Gains.{GainsThese, IsOfSome}
-use Rattle.noding.specs.Stops.{AreStops, IsBefore, IsStop, IsStopAlong, IsStopAmong, IsStopAt, IsStopAtEnd, IsStopCrossed, IsStopOfPair, point_of, stop_of, reflected}
+use Rattle.noding.specs.Stops.{AreStops, IsBefore, IsStopAlong, IsStopAmong, IsStopAt, IsStopAtEnd, IsStopCrossed, IsStopOf, IsStopOfPair, point_of, stop_of, reflected}
 use Rattle.noding.specs.contracts.stops.StopOrd.TheImpl.{ghosts as stop_order}
 use Rattle.noding.specs.contracts.stops.StopOrd.TheImpl.Laws.{total-law as stop_total}
 use Rattle.noding.specs.declared.stops.Stop.{Stop}
@@ -110,6 +110,10 @@ module _ (edge other : Edge) (x y : ℤ) (passes : PassesInside edge x y) where
   stop_at_end place (inl (same_x, same_y)) = inl (at_end edge other.x0 other.y0 x y same_x same_y passes, ap₂ (stop_of place edge) same_x same_y)
   stop_at_end place (inr (same_x, same_y)) = inr (at_end edge other.x1 other.y1 x y same_x same_y passes, ap₂ (stop_of place edge) same_x same_y)
 
+-- A stop at a hot point that the edge passes.
+abbrev IsStop : List Edge → Stop → Type 0
+IsStop edges stop = IsStopOf (λ edge x y. IsHot edges x y × Passes edge x y) edges stop
+
 -- a stop at a hot point
 IsStop-along : (edges : List Edge) (place : ℕ) (edge : Edge) (x y : ℤ) (stop : Stop) → slice_get edges place ≡ Some edge → IsHot edges x y → IsStopAlong place edge x y stop → IsStop edges stop
 IsStop-along edges place edge x y stop stands hot (passes, is) =
@@ -118,8 +122,8 @@ IsStop-along edges place edge x y stop stands hot (passes, is) =
     record {
       edge = edge;
       stands = ap (slice_get edges) same_place ∙ stands;
-      hot = subst (λ (p : Point). IsHot edges p.x p.y) (sym point) hot;
-      passes = subst (λ (p : Point). PassesInside edge p.x p.y) (sym point) passes;
+      node = subst (λ (p : Point). IsHot edges p.x p.y × Passes edge p.x p.y) (sym point) (hot, passes.0);
+      inside = subst (λ (p : Point). PassesInside edge p.x p.y) (sym point) passes;
     }
 
 -- one at an end of another edge
@@ -187,7 +191,7 @@ module _ (edges : List Edge) (pairs : List (ℕ × ℕ)) (close : ArePairs ComeC
     pub AreStops-sorted : (same : Stop → Stop → Bool) → ((a b : Stop) → same a b ≡ eq_by_cmp stop_order.cmp a b) → (sorted : List Stop) → IsPermutation stops sorted → IsSorted stop_order.cmp sorted
         → AreStops edges (dedup same sorted)
     AreStops-sorted same ties sorted moved rising = record {
-      each = λ place edge x y stands hot passes. (kept (stop_of place edge x y)).1 (listed place edge x y stands hot passes);
+      each = λ place edge x y stands node passes. (kept (stop_of place edge x y)).1 (listed place edge x y stands node.0 passes);
       of = λ k d within. all_stops (get_or (dedup same sorted) k d) ((kept (get_or (dedup same sorted) k d)).0 (Contains-get_or (dedup same sorted) k d within));
       in_order = stops-in_order (dedup same sorted) (IsStrictlySortedBy-dedup stop_total ties sorted rising);
     }

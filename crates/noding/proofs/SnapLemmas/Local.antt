@@ -1,12 +1,9 @@
 -- A noding that moves only what it must: pieces of its chains meet only at common ends, or are the same.
-use Rattle.std.proofs.Common.{Bool, true, ap, arith, inl, inr, pos, refl, suc, sym, subst, zero, List, ℕ, ℤ, ◌*ℤ◌, ◌*◌, ◌+ℤ◌, ◌+◌, ◌-ℤ◌, ◌-◌, ◌<ℤ◌, ◌<◌, ◌∙◌, ◌≡◌, ◌≢◌, ◌↔◌, ◌⊎◌}
+use Rattle.std.proofs.Common.{ap, arith, inl, inr, pos, refl, suc, sym, subst, zero, List, ℕ, ℤ, ◌*ℤ◌, ◌*◌, ◌+ℤ◌, ◌+◌, ◌-ℤ◌, ◌-◌, ◌<ℤ◌, ◌<◌, ◌∙◌, ◌≡◌, ◌⊎◌}
 use Rattle.std.proofs.Math.Nat.{mul-le-mul_left, mul-pos}
 use Rattle.std.proofs.lemmas.Int.{ints}
 use Rattle.std.proofs.lemmas.List.Elements.{All-contains}
-use Rattle.std.proofs.lemmas.List.Kept.{AllPairs-filter}
-use Rattle.std.specs.List.{All, Contains, filter, flat_map}
-use Rattle.i_tree.proofs.RootLemmas.Lists.{Contains-filter}
-use Rattle.i_tree.proofs.RootLemmas.Members.{Contains-from_filter}
+use Rattle.std.specs.List.{All, AllZip, Contains, flat_map}
 use Rattle.plane.specs.declared.edge.Edge.{Edge}
 use Rattle.plane.specs.declared.point.Point.{Point}
 use Rattle.plane.specs.Meet.Crosses.{cross}
@@ -15,11 +12,10 @@ use Rattle.plane.specs.Meet.Kinds.{HasPoint, IsAt}
 use Rattle.plane.proofs.MeetLemmas.Along.{ends, starts, whole_point}
 use Rattle.plane.proofs.MeetLemmas.Identities.{Term, identity, minus, number, plus, same_of, times, unscaled}
 use Rattle.plane.proofs.MeetLemmas.Kinds.{one-of_crossing}
-use Rattle.noding.specs.Chains.{AreNotParallel, IsAlong, IsChain, IsHot, Passes, Upto}
-use Rattle.noding.specs.Local.{AreNodeChains, CrossBeside, IsMoved, IsNode, Moves, MovesInRound, PassesBeside}
+use Rattle.noding.specs.Chains.{AreNotParallel, IsHot, Passes}
+use Rattle.noding.specs.Local.{AreNodeChains, CrossBeside, IsExactAt, IsMoved, IsNode, IsNodeChain, Moves, MovesInRound, PassesBeside}
 use Rattle.noding.specs.Meeting.{MeetAtEnds}
 use Rattle.noding.specs.Rounding.{RoundsTo}
-use Rattle.noding.specs.Near.{CountsExactly}
 use Rattle.noding.specs.Windings.{IsClosed, pieces, winding}
 use Rattle.noding.proofs.SnapLemmas.Along.{Passes-end, Passes-start}
 use Rattle.noding.proofs.SnapLemmas.Hobby.Ends.{EndsOnly, meet-at_ends, pieces-meet}
@@ -389,6 +385,11 @@ noded-meet edges chains are piece other_piece point first second of_one of_other
     let other = piece_of (IsNode edges) (λ edge x y node. node.1) edges chains other_piece are second in
     nodes-meet edges one.edge other.edge one.among other.among piece other_piece point one.is other.is of_one of_other
 
+-- what moves edges is hot
+pub moves-hot : (edges : List Edge) (round : ℕ) (x y : ℤ) → MovesInRound edges round x y → IsHot edges x y
+moves-hot edges zero x y (one, other, first, second, (slanted, (point, of_one, of_other, rounds, beside))) = inr (one, other, first, second, (slanted, (point, of_one, of_other, rounds)))
+moves-hot edges (suc round) x y (hot, moved) = hot
+
 -- ---- the least set
 
 -- what has the crossings beside whole points, and with a point that moves an edge each hot point that the edge passes, has all
@@ -401,26 +402,6 @@ moves-least edges IsFound begins spreads x y (round, moves) = in_round round x y
     in_round zero x y (one, other, first, second, cross) = begins one other x y first second cross
     in_round (suc round) x y (hot, (edge, among, passes, (a, b, moves, passes_there, beside))) = spreads edge x y among (a, b, in_round round a b moves, passes_there, beside) hot passes
 
--- the nodes of an edge, in order, are those points of its chain by `snap` that lie on it, or all where it is moved
-pub noded-filter : (edges : List Edge) (edge : Edge) (chain : List Point) (keep : Point → Bool) → IsChain edges edge chain
-    → ((c : Point) → Contains chain c → (keep c ≡ true) ↔ (HasPoint edge c.x c.y ⊎ IsMoved edges edge)) → IsAlong (IsNode edges edge) edge (filter keep chain)
-noded-filter edges edge chain keep is told = record {
-  in_order = AllPairs-filter (λ c d. Upto edge c.x c.y d.x d.y) keep chain is.in_order;
-  once = AllPairs-filter (λ c d. c ≢ d) keep chain is.once;
-  exact = λ c. (of_filter c, in_filter c);
-}
-  where
-    of_filter : (c : Point) → Contains (filter keep chain) c → IsNode edges edge c.x c.y
-    of_filter c held =
-        let (among, kept) = Contains-from_filter keep chain c held in
-        let (hot, passes) = (is.exact c).0 among in
-        (hot, passes, (told c among).0 kept)
-
-    in_filter : (c : Point) → IsNode edges edge c.x c.y → Contains (filter keep chain) c
-    in_filter c (hot, passes, node) =
-        let among = (is.exact c).1 (hot, passes) in
-        Contains-filter keep chain c ((told c among).1 node) among
-
 -- ---- what isn't moved
 
 -- where no two edges cross beside a whole point nothing is moved
@@ -432,14 +413,14 @@ none-moved edges none edge (x, y, (round, moves), passes, beside) = in_none roun
     in_none (suc round) x y (hot, (edge, among, passes, (a, b, moves, passes_there, beside))) = in_none round a b moves
 
 -- an edge has its ends
-ends_on : (edge : Edge) → HasPoint edge edge.x0 edge.y0 × HasPoint edge edge.x1 edge.y1
+pub ends_on : (edge : Edge) → HasPoint edge edge.x0 edge.y0 × HasPoint edge edge.x1 edge.y1
 ends_on edge =
     let some : 0 < 1 = omega arith in (
       (whole_point 1 some edge.x0 edge.y0, starts edge 1 some, record { x_is = refl; y_is = refl }),
       (whole_point 1 some edge.x1 edge.y1, ends edge 1 some, record { x_is = refl; y_is = refl }),
     )
 
-module _ (edges : List Edge) (edge : Edge) (chain : List Point) (along : IsAlong (IsNode edges edge) edge chain) where
+module _ (edges : List Edge) (edge : Edge) (chain : List Point) (along : IsNodeChain edges edge chain) where
   -- each node of an edge that isn't moved lies on it
   pub still-on : ¬ (IsMoved edges edge) → (c : Point) → Contains chain c → HasPoint edge c.x c.y
   still-on still c held = elim ((along.exact c).0 held).2 [
@@ -455,24 +436,23 @@ module _ (edges : List Edge) (edge : Edge) (chain : List Point) (along : IsAlong
       (IsHot-to edges edge among, Passes-end edge, inl (ends_on edge).1)
       along
 
--- The edge counts exactly at the point, or it isn't moved.
-abbrev pub IsTold : List Edge → RationalPoint → Edge → Type 0
-IsTold edges point edge = CountsExactly edge point ⊎ (¬ (IsMoved edges edge))
-
-pub noded-told : (edges : List Edge) (edge : Edge) (chain : List Point) (point : RationalPoint) → Contains edges edge → IsAlong (IsNode edges edge) edge chain → IsTold edges point edge → CountsSame point edge chain
+-- it counts what its edge does where that is told
+pub noded-told : (edges : List Edge) (edge : Edge) (chain : List Point) (point : RationalPoint) → Contains edges edge → IsNodeChain edges edge chain → IsExactAt edges point edge → CountsSame point edge chain
 noded-told edges edge chain point among along (inl exactly) = chain-counts edge chain point (IsPath-noded edges edge chain along among) exactly
 noded-told edges edge chain point among along (inr still) = chain-rests edge chain point (IsPath-noded edges edge chain along among) (still-on edges edge chain along still)
 
-module _ (edges : List Edge) (chains : List (List Point)) (are : AreNodeChains edges chains) where
-  abbrev Along : Edge → List Point → Type 0
-  Along edge chain = IsAlong (IsNode edges edge) edge chain
-
-  -- all pieces count what all edges count, at a point that is told of each
-  pub noded-winding : (point : RationalPoint) → All (IsTold edges point) edges → winding (flat_map pieces chains) point ≡ winding edges point
+-- the chains of some edges among all
+module _ (all some : List Edge) (chains : List (List Point)) (among : (edge : Edge) → Contains some edge → Contains all edge) (are : AllZip (IsNodeChain all) some chains) where
+  -- their pieces count what these edges count, at a point that is told of each
+  pub noded-winding : (point : RationalPoint) → All (IsExactAt all point) some → winding (flat_map pieces chains) point ≡ winding some point
   noded-winding point told =
-      sum-same point edges chains
-      (AllZip-by Along (CountsSame point) edges chains (λ edge chain held along. noded-told edges edge chain point held along (All-contains (IsTold edges point) edges edge told held)) are)
+      sum-same point some chains
+      (AllZip-by (IsNodeChain all) (CountsSame point) some chains (λ edge chain held along. noded-told all edge chain point (among edge held) along (All-contains (IsExactAt all point) some edge told held)) are)
 
-  -- the pieces of closed edges are closed
-  pub noded-closed : IsClosed edges → IsClosed (flat_map pieces chains)
-  noded-closed closed = paths-closed edges chains (AllZip-by Along IsPath edges chains (λ edge chain held along. IsPath-noded edges edge chain along held) are) closed
+  -- they are paths of their edges
+  pub IsPath-nodes : AllZip IsPath some chains
+  IsPath-nodes = AllZip-by (IsNodeChain all) IsPath some chains (λ edge chain held along. IsPath-noded all edge chain along (among edge held)) are
+
+  -- where these are closed so are their pieces
+  pub noded-closed : IsClosed some → IsClosed (flat_map pieces chains)
+  noded-closed closed = paths-closed some chains IsPath-nodes closed

@@ -1,22 +1,29 @@
-use Rattle.std.proofs.Common.{pos, get_or}
+use Rattle.std.proofs.Common.{[], pos, get_or}
+use Rattle.std.proofs.lemmas.Option.{slice_get-get_or}
 use Rattle.plane.specs.declared.edge.Edge.{Edge}
-use Rattle.noding.specs.Stops.{IsStopOfCrossing}
+use Rattle.noding.specs.Gains.{IsOfSome}
+use Rattle.noding.specs.Stops.{IsStopAtCrossing}
+use Rattle.noding.specs.declared.crossings.Crossing.{Crossing}
 use Rattle.noding.proofs.ChainLemmas.Crossed.{gains-of_both}
-use Rattle.noding.proofs.ChainLemmas.Gains.{upto-all, upto-first, upto-next}
+use Rattle.noding.proofs.ChainLemmas.Gains.{gains-all, gains-next, gains-none, none_of}
 use Rattle.noding.proofs.stops.push_stops_of_crossings.Goals as goal
 
-pub loop-pair-init : goal.loop-pair-init
-loop-pair-init g c = upto-first (IsStopOfCrossing c.args.edges.now) c.args.edges.now c.args.edges.now c.args.pairs.now c.args.stops.now.items
+pub loop-crossing-init : goal.loop-crossing-init
+loop-crossing-init g c = gains-none (IsOfSome (IsStopAtCrossing c.args.edges.now) []) c.args.stops.now.items (none_of (IsStopAtCrossing c.args.edges.now))
 
-pub loop-pair-preserved : goal.loop-pair-preserved
-loop-pair-preserved g c =
+pub loop-crossing-preserved : goal.loop-crossing-preserved
+loop-crossing-preserved g c =
     let edges = c.args.edges.now in
-    let pairs = c.args.pairs.now in
-    let k = c.loop-pair.pair-index in
+    let crossings = c.args.crossings.now in
+    let k = c.loop-crossing.crossing-index in
+    let now = c.loop-crossing.stops.items in
+    let after = c.push_stops_of_both.new.stops.items in
     let none : Edge = record { x0 = pos 0; y0 = pos 0; x1 = pos 0; y1 = pos 0 } in
-    let pair = get_or pairs k (0, 0) in
-    upto-next (IsStopOfCrossing edges) edges edges pairs c.args.stops.now.items c.requires k none none c.loop-pair.stops.items c.push_stops_of_both.new.stops.items c.loop-pair-test.true c.loop-pair.invariant
-    (λ first second. gains-of_both edges pair (get_or edges pair.0 none) (get_or edges pair.1 none) c.loop-pair.stops.items c.push_stops_of_both.new.stops.items first second c.in_ok-push_stops_of_both.ensures)
+    let nowhere : Crossing = record { one = 0; other = 0; point = record { x = pos 0; y = pos 0 } } in
+    let crossing = get_or crossings k nowhere in
+    let (first, second) = c.requires k nowhere c.loop-crossing-test.true in
+    gains-next (IsStopAtCrossing edges) crossings k nowhere c.args.stops.now.items now after c.loop-crossing-test.true c.loop-crossing.invariant
+    (gains-of_both edges crossing (get_or edges crossing.one none) (get_or edges crossing.other none) now after (slice_get-get_or edges crossing.one none first) (slice_get-get_or edges crossing.other none second) c.in_ok-push_stops_of_both.ensures)
 
 pub returns : goal.returns
-returns g c = upto-all (IsStopOfCrossing c.args.edges.now) c.args.edges.now c.args.edges.now c.args.pairs.now c.args.stops.now.items c.loop-pair.pair-index c.loop-pair.stops.items c.loop-pair-test.false c.loop-pair.invariant
+returns g c = gains-all (IsStopAtCrossing c.args.edges.now) c.args.crossings.now c.loop-crossing.crossing-index c.args.stops.now.items c.loop-crossing.stops.items c.loop-crossing-test.false c.loop-crossing.invariant

@@ -1,8 +1,8 @@
 use Rattle.std.proofs.Common.{take}
 use Rattle.noding.specs.Gains.{GainsThese, IsOfSome}
-use Rattle.noding.specs.Stops.{IsStopOfCrossing}
+use Rattle.noding.specs.Stops.{IsStopAtCrossing}
 use Rattle.noding.proofs.stops.push_stops_of_crossings.Given as goal
 
--- the stops of the pairs so far
-abbrev pub invariant-loop-pair : goal.invariant-loop-pair
-invariant-loop-pair g l = GainsThese (IsOfSome (IsStopOfCrossing l.fn.edges) (take l.pair-index l.pairs)) l.fn.stops.items l.stops.items
+-- the stops of the crossings so far
+abbrev pub invariant-loop-crossing : goal.invariant-loop-crossing
+invariant-loop-crossing g l = GainsThese (IsOfSome (IsStopAtCrossing l.fn.edges) (take l.crossing-index l.crossings)) l.fn.stops.items l.stops.items

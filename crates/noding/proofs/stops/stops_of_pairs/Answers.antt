@@ -7,9 +7,13 @@ use Rattle.noding.specs.Stops.{AreStops, IsStopCrossed, IsStopOfPair}
 use Rattle.noding.specs.contracts.stops.StopOrd.TheImpl.{ghosts as stop_order}
 use Rattle.noding.specs.contracts.stops.StopOrd.TheImpl.Laws.{matches_eq-law, total-law as stop_total}
 use Rattle.noding.specs.declared.stops.Stop.{Stop}
+use Rattle.noding.proofs.ChainLemmas.Crossings.{within-crossed}
 use Rattle.noding.proofs.ChainLemmas.Gains.{gained-all, gains-join}
 use Rattle.noding.proofs.ChainLemmas.Stops.{AreStops-sorted}
 use Rattle.noding.proofs.stops.stops_of_pairs.Goals as goal
+
+pub push_stops_at_crossings-requires : goal.push_stops_at_crossings-requires
+push_stops_at_crossings-requires g c = within-crossed c.args.edges.now c.args.pairs.now c.args.crossings.now c.requires.crossed
 
 pub returns-clause-ok : goal.returns-clause-ok
 returns-clause-ok g c =
@@ -20,7 +24,7 @@ returns-clause-ok g c =
     let at_ends =
     subst (λ (before : List Stop). GainsThese (IsOfSome (IsStopOfPair edges) pairs) before ended) c.new-stops.ensures.items
     c.in_ok-push_stops_at_ends.ensures in
-    let at_crossings = c.in_ok-push_stops_at_crossings.ensures.ok in
+    let at_crossings = c.in_ok-push_stops_at_crossings.ensures.ok pairs c.requires.close c.requires.crossed in
     let told = gains-join (IsOfSome (IsStopOfPair edges) pairs) (IsStopCrossed edges pairs) [] ended all at_ends at_crossings in
     subst (AreStops edges) (sym (dedup_is _ _ _ c.dedup.ensures.filtered))
     (AreStops-sorted edges pairs c.requires.close all
