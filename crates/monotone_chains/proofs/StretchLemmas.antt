@@ -5,8 +5,10 @@ pub mod Aside
 pub mod Bounding
 pub mod Boxes
 pub mod Callers
+pub mod ChainsOf
 pub mod Closed
 pub mod Columns
+pub mod Corners
 pub mod CutCallers
 pub mod CutClear
 pub mod CutGroups
@@ -24,6 +26,7 @@ pub mod Entries
 pub mod Inner
 pub mod LongOnes
 pub mod Lowered
+pub mod Moved
 pub mod Noded
 pub mod NodedColumns
 pub mod NodedKinds
@@ -31,9 +34,11 @@ pub mod NodedNear
 pub mod NodedSides
 pub mod NodedUpright
 pub mod NodedWays
+pub mod Nodes
 pub mod Permuted
 pub mod Pieces
 pub mod Placed
+pub mod Resting
 pub mod Reverse
 pub mod RingEdges
 pub mod Rings
@@ -45,6 +50,7 @@ pub mod Sides
 pub mod Sloped
 pub mod Table
 pub mod Turned
+pub mod TwoEnds
 pub mod Unbroken
 pub mod Ways
 pub mod Widened

@@ -3,3 +3,5 @@ pub mod Broken
 pub mod Pieces
 pub mod Bounding
 pub mod Sloped
+pub mod Corners
+pub mod TwoEnds

@@ -1,11 +1,20 @@
 -- What a caller of overlays wants of the rings that it gives, and of the polygons that it gets.
-use Rattle.std.proofs.Common.{◌≡◌, ◌++◌, [], ℕ, List, length, ap, ap₂, refl, subst, sym, ◌∙◌, arith}
+use Rattle.std.proofs.Common.{◌≡◌, ◌++◌, [], inr, ℕ, ℤ, List, length, ap, ap₂, refl, subst, sym, ◌∙◌, arith}
+use Rattle.std.specs.List.{Contains}
+use Rattle.plane.specs.declared.edge.Edge.{Edge}
 use Rattle.plane.specs.declared.point.Point.{Point}
+use Rattle.plane.specs.Meet.Edges.{RationalPoint}
+use Rattle.noding.specs.Local.{CrossBeside}
 use Rattle.noding.specs.Offsets.{AreJoined, offsets}
-use Rattle.noding.specs.Windings.{IsClosed}
+use Rattle.noding.specs.Windings.{IsClosed, winding}
+use Rattle.noding.proofs.Callers.{none-moved}
 use Rattle.noding.proofs.ChainLemmas.Offsets.{joined}
+use Rattle.overlay.specs.Boundary.{result_at}
+use Rattle.overlay.specs.Overlay.{IsOverlay, polygon_edges}
 use Rattle.overlay.specs.Polygons.{AreAppended, rings_of as rings_in}
 use Rattle.overlay.specs.Rings.{AreEnds, edges_of, real_edges, rings_of}
+use Rattle.overlay.specs.declared.fill.rules.FillRule.{FillRule}
+use Rattle.overlay.specs.declared.fill.rules.Operation.{Operation}
 use Rattle.overlay.specs.declared.rings.Rings.{Rings}
 use Rattle.overlay.proofs.ContourLemmas.Counts.{rings-closed}
 use Rattle.overlay.proofs.RingLemmas.{closed-real}
@@ -44,3 +53,8 @@ AreJoined-appended polygons points ring_ends polygon_ends are = (are.points_are,
 -- The real edges of rings are closed
 pub edges-closed : (rings : Rings) → IsClosed (real_edges (edges_of rings))
 edges-closed rings = closed-real (edges_of rings) (λ test. rings-closed test (rings_of rings.points.now 0 rings.ends.now))
+
+-- Where no two of the edges given cross at a point with fractions, an overlay is exact at every point.
+pub exact-everywhere : (rule : FillRule) (operation : Operation) (subject clip : List Edge) (polygons : List (List (List Point))) → IsOverlay rule operation subject clip polygons
+    → ((one other : Edge) (x y : ℤ) → Contains (subject ++ clip) one → Contains (subject ++ clip) other → ¬ (CrossBeside one other x y)) → (point : RationalPoint) → winding (polygon_edges polygons) point ≡ result_at rule operation subject clip point
+exact-everywhere rule operation subject clip polygons is none point = is.exact point (λ k d within. inr (none-moved (subject ++ clip) none _))

@@ -8,6 +8,7 @@ pub mod Outlines
 pub mod RealEdges
 pub mod Rings
 pub mod Straight
+pub mod Three
 pub mod Turns
 pub mod Walks
 pub mod Ways

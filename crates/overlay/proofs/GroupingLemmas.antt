@@ -2,8 +2,11 @@ pub mod Bags
 pub mod Begins
 pub mod Below
 pub mod Callers
+pub mod Corners
 pub mod Edges
 pub mod Filling
 pub mod Grouped
+pub mod Outlined
 pub mod Placed
+pub mod Sides
 pub mod Sweep

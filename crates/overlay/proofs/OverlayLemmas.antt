@@ -1,23 +1,30 @@
 -- Polygons of the edges that bound a result are an overlay.
-use Rattle.std.proofs.Common.{◌≡◌, ◌⊎◌, ◌++◌, List, ℤ, pos, map, refl, ap₂, sym, subst, ◌∙◌}
-use Rattle.std.specs.List.{All}
-use Rattle.std.proofs.lemmas.List.Elements.{All-append, All-filter}
+use Rattle.std.proofs.Common.{◌≡◌, inl, inr, ⊎_elim, ◌++◌, ◌≤◌, List, length, ℤ, map, refl, ap₂, sym, subst, ◌∙◌}
+use Rattle.std.specs.List.{All, Contains, flat_map}
+use Rattle.std.proofs.lemmas.List.Elements.{All-append, All-filter, All-weaker, Contains-append_cases, Contains-append_left, Contains-append_right}
 use Rattle.i_tree.proofs.RootLemmas.Joined.{All-front, All-behind}
+use Rattle.i_tree.proofs.RootLemmas.Members.{Contains-from_filter}
 use Rattle.plane.specs.declared.edge.Edge.{Edge}
 use Rattle.plane.specs.declared.point.Point.{Point}
 use Rattle.plane.specs.Meet.Edges.{RationalPoint}
 use Rattle.overlay.specs.declared.fill.rules.FillRule.{FillRule}
 use Rattle.overlay.specs.declared.fill.rules.Operation.{Operation}
-use Rattle.overlay.specs.Boundary.{BoundsResult, HasSloped, result_at}
+use Rattle.overlay.specs.Boundary.{BoundsResult, HasSloped, WindsAsBroken, result_at}
 use Rattle.overlay.specs.Contours.Outlines.{AreOutlines, outline}
-use Rattle.overlay.specs.Contours.Rings.{AreContours}
+use Rattle.overlay.specs.Contours.Rings.{AreContours, ring_edges}
 use Rattle.overlay.specs.Fill.Rules.{is_result}
-use Rattle.noding.specs.Near.{CountsExactly}
-use Rattle.noding.specs.Windings.{count}
-use Rattle.overlay.proofs.BoundaryLemmas.Bounding.{rings-bound}
+use Rattle.noding.specs.Chains.{IsHot}
+use Rattle.noding.specs.Local.{IsExactAt}
+use Rattle.noding.specs.Windings.{count, winding}
+use Rattle.noding.proofs.Callers.{IsMoved-more}
+use Rattle.noding.proofs.SnapLemmas.More.{IsHot-more}
+use Rattle.overlay.proofs.BoundaryLemmas.Bounding.{rings-bound, winds-exactly, winds-once, winds-same}
+use Rattle.overlay.proofs.BoundaryLemmas.Corners.{outlines-hold}
 use Rattle.overlay.proofs.ContourLemmas.Callers.{outlines-wind}
-use Rattle.overlay.specs.Overlay.{IsOverlay}
+use Rattle.overlay.specs.Overlay.{IsOverlay, polygon_edges}
+use Rattle.overlay.proofs.GroupingLemmas.Corners.{rings-corners}
 use Rattle.overlay.proofs.GroupingLemmas.Grouped.{map-joined}
+use Rattle.overlay.proofs.GroupingLemmas.Outlined.{outlines-run, polygons-outlined}
 use Rattle.overlay.specs.Polygons.{BoundsSome, IsPolygon, rings_of}
 use Rattle.overlay.specs.Rings.{has_two_ends, real_edges}
 use Rattle.overlay.proofs.RingLemmas.{winding-real}
@@ -27,39 +34,68 @@ pub bounds-some : (rule : FillRule) (operation : Operation) (subject clip edges 
 bounds-some rule operation subject clip edges bounds sloped = record {
   noded = bounds.noded;
   distinct = bounds.distinct;
-  once = bounds.once;
+  once = winds-once rule operation subject clip edges bounds.everywhere;
   sloped = sloped;
 }
 
--- what bounds the result of real edges bounds that of all
-pub bounds-real : (rule : FillRule) (operation : Operation) (subject clip edges : List Edge) → BoundsResult rule operation (real_edges subject) (real_edges clip) edges → BoundsResult rule operation subject clip edges
-bounds-real rule operation subject clip edges bounds = record {
-  noded = bounds.noded;
-  distinct = bounds.distinct;
-  once = bounds.once;
-  exact = λ point exactly. bounds.exact point (both (λ edge. CountsExactly edge point) exactly) ∙ same point;
-}
-  where
-    -- what holds of all holds of the real ones
-    both : (P : Edge → Type 0) → All P (subject ++ clip) → All P (real_edges subject ++ real_edges clip)
-    both P every =
-        All-append P (real_edges subject) (real_edges clip)
-        (All-filter has_two_ends P subject (All-front P subject clip every))
-        (All-filter has_two_ends P clip (All-behind P subject clip every))
+-- ---- real edges
 
-    same : (point : RationalPoint) → result_at rule operation (real_edges subject) (real_edges clip) point ≡ result_at rule operation subject clip point
-    same point = ap₂ (λ (a b : ℤ). count (is_result rule operation a b)) (winding-real subject point) (winding-real clip point)
+module _ (subject clip : List Edge) where
+  -- what holds of all holds of the real ones
+  both : (P : Edge → Type 0) → All P (subject ++ clip) → All P (real_edges subject ++ real_edges clip)
+  both P every =
+      All-append P (real_edges subject) (real_edges clip)
+      (All-filter has_two_ends P subject (All-front P subject clip every))
+      (All-filter has_two_ends P clip (All-behind P subject clip every))
 
-pub polygons-overlay : (rule : FillRule) (operation : Operation) (subject clip edges : List Edge) (whole : List (List (List Point))) → BoundsResult rule operation subject clip edges → All IsPolygon whole → AreContours edges (rings_of whole)
+  -- these are among all
+  of_all : (edge : Edge) → Contains (real_edges subject ++ real_edges clip) edge → Contains (subject ++ clip) edge
+  of_all edge held = ⊎_elim
+      (λ first. Contains-append_left subject clip edge (Contains-from_filter has_two_ends subject edge first).0)
+      (λ second. Contains-append_right subject clip edge (Contains-from_filter has_two_ends clip edge second).0)
+      (Contains-append_cases (real_edges subject) (real_edges clip) edge held)
+
+  -- so one that isn't moved among all isn't moved among them
+  among_real : (point : RationalPoint) → All (IsExactAt (subject ++ clip) point) (subject ++ clip) → All (IsExactAt (real_edges subject ++ real_edges clip) point) (real_edges subject ++ real_edges clip)
+  among_real point exactly =
+      All-weaker (IsExactAt (subject ++ clip) point) (IsExactAt (real_edges subject ++ real_edges clip) point)
+      (λ edge told. ⊎_elim inl (λ still. inr (λ moved. still (IsMoved-more (real_edges subject ++ real_edges clip) (subject ++ clip) of_all edge moved))) told)
+      (real_edges subject ++ real_edges clip) (both (IsExactAt (subject ++ clip) point) exactly)
+
+  -- what winds as the result of the real edges where these count exactly does so where all edges do
+  pub exact-real : (rule : FillRule) (operation : Operation) (edges : List Edge) → WindsAsBroken rule operation (real_edges subject) (real_edges clip) edges → (point : RationalPoint) → All (IsExactAt (subject ++ clip) point) (subject ++ clip)
+      → winding edges point ≡ result_at rule operation subject clip point
+  exact-real rule operation edges everywhere point exactly =
+      winds-exactly rule operation (real_edges subject) (real_edges clip) edges everywhere point (among_real point exactly)
+      ∙ ap₂ (λ (a b : ℤ). count (is_result rule operation a b)) (winding-real subject point) (winding-real clip point)
+
+  -- where what bounds the result begins, its outlines have their points
+  pub corners-real : (rule : FillRule) (operation : Operation) (rings : List (List Point)) → BoundsResult rule operation (real_edges subject) (real_edges clip) (flat_map ring_edges rings) → All (λ ring. All (λ p. IsHot (subject ++ clip) p.x p.y) ring) (map outline rings)
+  corners-real rule operation rings bounds =
+      outlines-hold (λ p. IsHot (subject ++ clip) p.x p.y) rings
+      (All-weaker (λ edge. IsHot (real_edges subject ++ real_edges clip) edge.x0 edge.y0) (λ edge. IsHot (subject ++ clip) edge.x0 edge.y0)
+      (λ edge hot. IsHot-more (real_edges subject ++ real_edges clip) (subject ++ clip) of_all edge.x0 edge.y0 hot)
+      (flat_map ring_edges rings) bounds.corners)
+
+-- ---- polygons
+
+pub polygons-overlay : (rule : FillRule) (operation : Operation) (subject clip edges : List Edge) (whole : List (List (List Point))) → BoundsResult rule operation (real_edges subject) (real_edges clip) edges → All IsPolygon whole → AreContours edges (rings_of whole)
     → IsOverlay rule operation subject clip (map (λ polygon. map outline polygon) whole)
 polygons-overlay rule operation subject clip edges whole bounds directed are =
     let outlines = subst (AreOutlines edges) (sym (map-joined outline whole)) (outlines-wind edges (rings_of whole) are) in
+    let polygons = map (λ polygon. map outline polygon) whole in
+    let boundary = rings-bound rule operation (real_edges subject) (real_edges clip) edges (rings_of whole) bounds are in
+    let everywhere = winds-same rule operation (real_edges subject) (real_edges clip) edges (polygon_edges polygons) outlines.winds bounds.everywhere in
     record {
       each = outlines.each;
-      once = λ point. subst (λ (z : ℤ). (z ≡ pos 0) ⊎ (z ≡ pos 1)) (sym (outlines.winds point)) (bounds.once point);
-      exact = λ point exactly. outlines.winds point ∙ bounds.exact point exactly;
+      three_points = subst (All (λ ring. 3 ≤ length ring)) (sym (map-joined outline whole))
+          (rings-corners (flat_map ring_edges (rings_of whole)) boundary.bounds.noded boundary.bounds.two_ends (rings_of whole) are.each (λ edge among. among) boundary.bounds.distinct);
+      directed = polygons-outlined whole (outlines-run (rings_of whole) boundary.bounds.noded boundary.bounds.distinct) directed;
+      everywhere = everywhere;
+      once = winds-once rule operation (real_edges subject) (real_edges clip) (polygon_edges polygons) everywhere;
+      exact = exact-real subject clip rule operation (polygon_edges polygons) everywhere;
+      corners = subst (λ (rings : List (List Point)). All (λ ring. All (λ p. IsHot (subject ++ clip) p.x p.y) ring) rings) (sym (map-joined outline whole)) (corners-real subject clip rule operation (rings_of whole) boundary.bounds);
       whole = whole;
-      directed = directed;
-      bounds = rings-bound rule operation subject clip edges (rings_of whole) bounds are;
+      bounds = boundary;
       outlined = refl;
     }

@@ -1,6 +1,6 @@
 -- The boundary of what an operation makes of two sets of closed edges, on the grid again.
 use Rattle.std.specs.List.{AllZip, flat_map}
-use Rattle.std.specs.Prelude.{◌≡◌, ◌≢◌, ◌⊎◌, ◌++◌, ◌<◌, ◌≤◌, List, [], ◌∷◌, All, Contains, ℕ, ℤ, pos, drop, length, take}
+use Rattle.std.specs.Prelude.{◌≡◌, ◌≢◌, ◌⊎◌, ◌++◌, ◌<◌, ◌≤◌, List, [], ◌∷◌, All, Contains, ℕ, ℤ, drop, length, take}
 use Rattle.plane.specs.declared.edge.Edge.{Edge}
 use Rattle.plane.specs.declared.point.Point.{Point}
 use Rattle.plane.specs.Meet.Edges.{RationalPoint}
@@ -13,8 +13,8 @@ use Rattle.overlay.specs.Contours.Rings.{IsRing, ring_edges}
 use Rattle.overlay.specs.Fill.Filled.{AreDistinct, AreNoded}
 use Rattle.overlay.specs.Fill.Turned.{turned}
 use Rattle.overlay.specs.Fill.Rules.{is_result}
-use Rattle.noding.specs.Chains.{IsChain}
-use Rattle.noding.specs.Near.{CountsExactly}
+use Rattle.noding.specs.Chains.{IsHot}
+use Rattle.noding.specs.Local.{IsNodeChain}
 use Rattle.plane.specs.Ends.{edge_between, end_of, start_of}
 use Rattle.noding.specs.Offsets.{offsets}
 use Rattle.noding.specs.Windings.{pieces, winding, count}
@@ -23,13 +23,32 @@ use Rattle.noding.specs.Windings.{pieces, winding, count}
 abbrev pub result_at : FillRule → Operation → List Edge → List Edge → RationalPoint → ℤ
 result_at rule operation subject clip point = count (is_result rule operation (winding subject point) (winding clip point))
 
--- Edges that bound the result: they meet only at common ends, no two have the same ends, and they wind once around each point of
--- it, and around no others, if each edge given runs along an axis or isn't near the point.
+-- The pieces of the subject's edges and of the clip's, which are broken together, and moved only where they must be.
+pub record AreBroken (subject clip broken broken_clip : List Edge) : Type 0 where
+  pub chains : List (List Point)
+  pub clip_chains : List (List Point)
+  pub are : AllZip (IsNodeChain (subject ++ clip)) subject chains
+  pub clip_are : AllZip (IsNodeChain (subject ++ clip)) clip clip_chains
+  pub is : broken ≡ flat_map pieces chains
+  pub clip_is : broken_clip ≡ flat_map pieces clip_chains
+
+-- At every point the edges wind as the result of the pieces that the edges of subject and clip are broken into.
+abbrev pub WindsAsBroken : FillRule → Operation → List Edge → List Edge → List Edge → Type 0
+WindsAsBroken rule operation subject clip edges =
+    (broken : List Edge) × (broken_clip : List Edge) × AreBroken subject clip broken broken_clip
+    × ((point : RationalPoint) → winding edges point ≡ result_at rule operation broken broken_clip point)
+
+-- Edges that bound the result: they meet only at common ends, no two have the same ends, and everywhere they wind as the result of
+-- what subject and clip are broken into. So they wind once around a point or not at all, and as the result of subject and clip if
+-- each edge of these isn't moved among all, or runs along an axis, or isn't near the point. Each begins at an end of an edge of
+-- subject or clip, or at what two of these cross at, rounded.
 pub record BoundsResult (rule : FillRule) (operation : Operation) (subject clip edges : List Edge) : Type 0 where
   pub noded : AreNoded edges
   pub distinct : AreDistinct edges
-  pub once : (point : RationalPoint) → (winding edges point ≡ pos 0) ⊎ (winding edges point ≡ pos 1)
-  pub exact : (point : RationalPoint) → All (λ edge. CountsExactly edge point) (subject ++ clip) → winding edges point ≡ result_at rule operation subject clip point
+  -- none is a point
+  pub two_ends : All (λ edge. start_of edge ≢ end_of edge) edges
+  pub everywhere : WindsAsBroken rule operation subject clip edges
+  pub corners : All (λ edge. IsHot (subject ++ clip) edge.x0 edge.y0) edges
 
 -- Rings whose edges do.
 pub record IsBoundary (rule : FillRule) (operation : Operation) (subject clip : List Edge) (rings : List (List Point)) : Type 0 where
@@ -46,15 +65,6 @@ abbrev pub AppendsBoundary : FillRule → Operation → List Edge → List Edge 
 AppendsBoundary rule operation subject clip points points' ends ends' =
     (rings : List (List Point)) × IsBoundary rule operation subject clip rings × HasSloped (flat_map ring_edges rings)
     × (points' ≡ points ++ flat_map (λ ring. ring) rings) × (ends' ≡ ends ++ offsets (length points) rings)
-
--- The pieces of the subject's edges and of the clip's, which are broken together.
-pub record AreBroken (subject clip broken broken_clip : List Edge) : Type 0 where
-  pub chains : List (List Point)
-  pub clip_chains : List (List Point)
-  pub are : AllZip (IsChain (subject ++ clip)) subject chains
-  pub clip_are : AllZip (IsChain (subject ++ clip)) clip clip_chains
-  pub is : broken ≡ flat_map pieces chains
-  pub clip_is : broken_clip ≡ flat_map pieces clip_chains
 
 -- Lists of which none is empty.
 abbrev pub AllSome : {X : Type 0} → List (List X) → Type 0

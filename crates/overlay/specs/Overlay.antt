@@ -1,15 +1,16 @@
 -- What an overlay of two sets of edges is: polygons around the points of the result.
-use Rattle.std.specs.Prelude.{◌≡◌, ◌⊎◌, ◌++◌, List, All, pos, map}
+use Rattle.std.specs.Prelude.{◌≡◌, ◌⊎◌, ◌++◌, ◌≤◌, List, All, length, pos, map}
 use Rattle.std.specs.List.{flat_map}
 use Rattle.plane.specs.declared.edge.Edge.{Edge}
 use Rattle.plane.specs.declared.point.Point.{Point}
 use Rattle.plane.specs.Meet.Edges.{RationalPoint}
 use Rattle.overlay.specs.declared.fill.rules.FillRule.{FillRule}
 use Rattle.overlay.specs.declared.fill.rules.Operation.{Operation}
-use Rattle.overlay.specs.Boundary.{IsBoundary, result_at}
+use Rattle.overlay.specs.Boundary.{IsBoundary, WindsAsBroken, result_at}
 use Rattle.overlay.specs.Contours.Outlines.{outline}
-use Rattle.overlay.specs.Contours.Rings.{IsRing, ring_edges}
-use Rattle.noding.specs.Near.{CountsExactly}
+use Rattle.overlay.specs.Contours.Rings.{IsRing, real_edges, ring_edges}
+use Rattle.noding.specs.Chains.{IsHot}
+use Rattle.noding.specs.Local.{IsExactAt}
 use Rattle.noding.specs.Windings.{winding}
 use Rattle.overlay.specs.Polygons.{IsPolygon, rings_of}
 
@@ -17,14 +18,21 @@ use Rattle.overlay.specs.Polygons.{IsPolygon, rings_of}
 abbrev pub polygon_edges : List (List (List Point)) → List Edge
 polygon_edges polygons = flat_map ring_edges (rings_of polygons)
 
--- Polygons around the points of the result. Their rings visit no point twice. They wind once around each point of the result, and
--- not at all around any other, if each edge given runs along an axis or isn't near the point.
+-- Polygons around the points of the result. Their rings visit no point twice, and have three points at least; outer ones run
+-- counterclockwise, and holes clockwise. At every point they wind as the result of the pieces that the edges of subject and clip
+-- are broken into, those from a point to itself left out. So they wind once around a point or not at all, and as the result of
+-- subject and clip if each edge given isn't moved among all, or runs along an axis, or isn't near the point. Where
+-- no two edges cross at a point with fractions none is moved. Each point of the polygons is an end of an edge given, or what two
+-- of them cross at, rounded.
 pub record IsOverlay (rule : FillRule) (operation : Operation) (subject clip : List Edge) (polygons : List (List (List Point))) : Type 0 where
   pub each : All IsRing (rings_of polygons)
+  pub three_points : All (λ ring. 3 ≤ length ring) (rings_of polygons)
+  pub directed : All IsPolygon polygons
+  pub everywhere : WindsAsBroken rule operation (real_edges subject) (real_edges clip) (polygon_edges polygons)
   pub once : (point : RationalPoint) → (winding (polygon_edges polygons) point ≡ pos 0) ⊎ (winding (polygon_edges polygons) point ≡ pos 1)
-  pub exact : (point : RationalPoint) → All (λ edge. CountsExactly edge point) (subject ++ clip) → winding (polygon_edges polygons) point ≡ result_at rule operation subject clip point
+  pub exact : (point : RationalPoint) → All (IsExactAt (subject ++ clip) point) (subject ++ clip) → winding (polygon_edges polygons) point ≡ result_at rule operation subject clip point
+  pub corners : All (λ ring. All (λ p. IsHot (subject ++ clip) p.x p.y) ring) (rings_of polygons)
   -- the polygons with all their points, of which those on straight lines are left out: their edges meet only at common ends
   pub whole : List (List (List Point))
-  pub directed : All IsPolygon whole
-  pub bounds : IsBoundary rule operation subject clip (rings_of whole)
+  pub bounds : IsBoundary rule operation (real_edges subject) (real_edges clip) (rings_of whole)
   pub outlined : polygons ≡ map (λ polygon. map outline polygon) whole

@@ -24,10 +24,18 @@ use std::alloc::Allocator;
 /// The winding number of rings around a point, and the rule, say whether the point is inside of them. Any rings are taken:
 /// such as cross, touch or lie along one another or themselves, run either way, and stand there more than once.
 ///
-/// The polygons wind once around each point of the result, and not at all around any other, if each edge of the rings given runs
-/// along an axis, or isn't within half a unit, on both axes, of the point. Around no point do they wind more often. Their rings
-/// visit no point twice. Points at which a ring goes straight on are left out; with these, edges of rings meet only at common ends,
-/// so that a corner may touch the side of a ring.
+/// The polygons wind once around each point of the result, and not at all around any other, if each edge of the rings given isn't
+/// moved, or runs along an axis, or isn't within half a unit, on both axes, of the point. An edge is moved only where it comes near
+/// to what two edges cross at, a point with fractions, or near to what such an edge passes (`noding::node`). Where no two edges
+/// cross at a point with fractions, none is, and the answer is exact at every point.
+///
+/// Everywhere they wind as the result of the pieces that the edges are broken into (`boundary::broken`), so around no point more than
+/// once. Each of their points is an end of an edge given, or what two of these cross at, rounded. Their rings visit no point twice.
+/// Points at which a ring goes straight on are left out; with these, edges of rings meet only at common ends, so that a corner may
+/// touch the side of a ring.
+///
+/// Each ring has three points or more. The first ring of a polygon is its outer one, and runs counterclockwise; the others are its
+/// holes, and run clockwise.
 ///
 /// While few edges are active at once along the sweep they stand in a list, and once more are in a tree (`GrowingStatus`).
 ///

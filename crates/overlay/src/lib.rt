@@ -1,7 +1,8 @@
 //! Overlay of polygons: the union, intersection, difference or xor of two sets of rings, as polygons with holes.
 //!
 //! Rings are points on a grid of whole numbers, and may cross, touch and overlap as they like. The result is told for every
-//! point of the plane. All is told in whole numbers, and what is rounded is rounded exactly.
+//! point of the plane. All is told in whole numbers, and what is rounded is rounded exactly: where no two edges cross at a point
+//! with fractions, nothing is.
 #![tactic(auto)]
 
 pub mod areas;

@@ -1,10 +1,11 @@
 -- Ends of edges among stretches: none is an inner point of a long one, and inside its columns they lie beyond all its points.
-use Rattle.std.proofs.Common.{◌≡◌, ◌≢◌, inl, inr, ⊎_elim, ℤ, ◌≤ℤ◌, ◌<ℤ◌, List, sym, ap, ◌∙◌, subst, arith}
+use Rattle.std.proofs.Common.{◌≡◌, ◌≢◌, inl, inr, ⊎_elim, ℤ, ◌≤ℤ◌, ◌<ℤ◌, List, sym, ap, subst, arith}
 use Rattle.std.specs.List.{All, AllPairs, Contains}
-use Rattle.std.proofs.lemmas.Int.{by_lt_z, ints}
+use Rattle.std.proofs.lemmas.Int.{ints}
 use Rattle.std.proofs.lemmas.List.Elements.{All-contains}
 use Rattle.plane.specs.declared.edge.Edge.{Edge}
 use Rattle.plane.specs.declared.point.Point.{Point}
+use Rattle.overlay.proofs.BoundaryLemmas.Corners.{end-sloped}
 use Rattle.overlay.specs.Fill.Filled.{HaveSameEnds, IsEndOfSloped, IsNextInColumn}
 use Rattle.noding.specs.Chains.{IsEnd}
 use Rattle.noding.specs.Windings.{further}
@@ -59,19 +60,6 @@ amid-no_end s edge x y (inl same) (inl (at, _)) = let e = ap (λ (g : Edge). g.x
 amid-no_end s edge x y (inl same) (inr (at, _)) = let e = ap (λ (g : Edge). g.x1) same in ⊎_elim (λ amid. omega (arith, ints, at, e, amid.1)) (λ amid. omega (arith, ints, at, e, amid.0))
 amid-no_end s edge x y (inr same) (inl (at, _)) = let e = ap (λ (g : Edge). g.x0) same in ⊎_elim (λ amid. omega (arith, ints, at, e, amid.1)) (λ amid. omega (arith, ints, at, e, amid.0))
 amid-no_end s edge x y (inr same) (inr (at, _)) = let e = ap (λ (g : Edge). g.x1) same in ⊎_elim (λ amid. omega (arith, ints, at, e, amid.0)) (λ amid. omega (arith, ints, at, e, amid.1))
-
--- each end of an edge is one of an edge that isn't vertical
-pub end-sloped : (edges : List Edge) → All (λ edge. edge.x1 ≡ edge.x0 → IsNextInColumn edges edge) edges → (edge : Edge) (x y : ℤ) → Contains edges edge → IsEnd edge x y → IsEndOfSloped edges x y
-end-sloped edges vertical edge x y among end =
-    by_lt_z edge.x0 edge.x1
-    (λ less. (edge, among, (λ same. omega (arith, ints, less, same)), end))
-    (λ upto. by_lt_z edge.x1 edge.x0
-    (λ less. (edge, among, (λ same. omega (arith, ints, less, same)), end))
-    (λ from. let same : edge.x1 ≡ edge.x0 = omega (arith, ints, upto, from) in stands (All-contains (λ e. e.x1 ≡ e.x0 → IsNextInColumn edges e) edges edge vertical among same) end))
-  where
-    stands : IsNextInColumn edges edge → IsEnd edge x y → IsEndOfSloped edges x y
-    stands next (inl (at_x, at_y)) = subst (λ (a : ℤ). IsEndOfSloped edges a y) (sym at_x) (subst (λ (b : ℤ). IsEndOfSloped edges edge.x0 b) (sym at_y) next.from)
-    stands next (inr (at_x, at_y)) = subst (λ (a : ℤ). IsEndOfSloped edges a y) (sym (at_x ∙ next.vertical)) (subst (λ (b : ℤ). IsEndOfSloped edges edge.x0 b) (sym at_y) next.to)
 
 module _ (all : List (List Point)) (each : All IsStretch all) (clear : AllPairs ClearIfLong all) (edges : List Edge) (placed : All (λ edge. edge.x1 ≢ edge.x0 → IsPlaced all edge) edges) where
   -- an end strictly inside the columns of a long stretch lies beyond all its points

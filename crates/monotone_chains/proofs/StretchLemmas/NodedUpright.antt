@@ -24,7 +24,8 @@ use Rattle.overlay.proofs.FillLemmas.Tests.{lt_false, lt_true}
 use Rattle.overlay.proofs.FillLemmas.Uncrossed.{MeetOnly-exchanged, MeetOnly-reversed}
 use Rattle.noding.proofs.SnapLemmas.Hobby.Ends.{reverse_meet_other}
 use Rattle.monotone_chains.proofs.StretchLemmas.Boxes.{ClearIfLong, IsAmid, IsTip, chord-from, chord-to, tip-or_amid}
-use Rattle.monotone_chains.proofs.StretchLemmas.Inner.{end-sloped, off-end}
+use Rattle.overlay.proofs.BoundaryLemmas.Corners.{end-sloped}
+use Rattle.monotone_chains.proofs.StretchLemmas.Inner.{off-end}
 use Rattle.monotone_chains.proofs.StretchLemmas.NodedNear.{HasEnds}
 use Rattle.monotone_chains.proofs.StretchLemmas.NodedColumns.{IsOver, IsUnder, beyond-side, over-height, under-height}
 use Rattle.monotone_chains.proofs.StretchLemmas.NodedKinds.{sloped-chord}

@@ -61,7 +61,7 @@ module _ (points : List Point) (ways : Rises points ⊎ Falls points) where
       ways
 
   -- a later piece follows an earlier one
-  follow : AllPairs Follows (pieces points)
+  pub follow : AllPairs Follows (pieces points)
   follow k l d before within =
       let (inside, at) = at-pieces points k (start_of d) d (omega (arith, before, within)) in
       let (other_inside, other_at) = at-pieces points l (start_of d) d within in

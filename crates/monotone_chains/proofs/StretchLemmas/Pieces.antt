@@ -11,12 +11,12 @@ use Rattle.overlay.specs.Boundary.{AreBroken}
 use Rattle.overlay.specs.declared.fill.rules.FillRule.{FillRule}
 use Rattle.overlay.specs.declared.fill.rules.Operation.{Operation}
 use Rattle.overlay.specs.Fill.Filled.{IsFilled}
-use Rattle.noding.specs.Chains.{IsChain}
+use Rattle.noding.specs.Local.{IsNode, IsNodeChain}
 use Rattle.plane.specs.Ends.{reversed}
 use Rattle.noding.specs.Windings.{pieces}
 use Rattle.monotone_chains.specs.Stretches.{IsLong, IsStretch, chord}
 use Rattle.noding.proofs.ChainLemmas.Zips.{AllZip-flat_map}
-use Rattle.noding.proofs.SnapLemmas.Noded.{IsPiece-chain}
+use Rattle.noding.proofs.SnapLemmas.Noded.{IsPiece-along}
 use Rattle.monotone_chains.proofs.StretchLemmas.Boxes.{ClearIfLong}
 use Rattle.monotone_chains.proofs.StretchLemmas.Placed.{IsPlaced, LiesIn}
 use Rattle.monotone_chains.proofs.StretchLemmas.Unbroken.{pieces-unbroken}
@@ -38,14 +38,14 @@ IsPlaced-reversed stretches edge (inr (s, among, short, lies)) = inr (s, among, 
 -- ---- chains
 
 module _ (all : List (List Point)) (each : All IsStretch all) (clear : AllPairs ClearIfLong all) where
-  pub pieces-lie : (t : List Point) → Contains all t → (chain : List Point) → IsChain (map chord all) (chord t) chain → All (LiesIn t) (pieces chain)
+  pub pieces-lie : (t : List Point) → Contains all t → (chain : List Point) → IsNodeChain (map chord all) (chord t) chain → All (LiesIn t) (pieces chain)
   pieces-lie t among chain is k d within =
-      let piece = IsPiece-chain (map chord all) (chord t) chain is _ (Contains-get_or (pieces chain) k d within) in (
+      let piece = IsPiece-along (IsNode (map chord all) (chord t)) (chord t) chain (λ x y node. node.1) is _ (Contains-get_or (pieces chain) k d within) in (
         piece.from_passes,
         piece.to_passes,
       )
 
-  zip_placed : (some : List (List Point)) (chains : List (List Point)) → ((s : List Point) → Contains some s → Contains all s) → AllZip (IsChain (map chord all)) (map chord some) chains → AllZip ArePlaced some chains
+  zip_placed : (some : List (List Point)) (chains : List (List Point)) → ((s : List Point) → Contains some s → Contains all s) → AllZip (IsNodeChain (map chord all)) (map chord some) chains → AllZip ArePlaced some chains
   zip_placed [] [] among are = tt
   zip_placed [] (chain ∷ chains) among are = absurd are
   zip_placed (s ∷ some) [] among are = absurd are
@@ -76,11 +76,11 @@ module _ (stretches clip_stretches : List (List Point)) (each : All IsStretch (s
 
   pub chains-placed : AllZip ArePlaced stretches are.chains
   chains-placed = zip_placed (stretches ++ clip_stretches) each clear stretches are.chains (Contains-append_left stretches clip_stretches)
-      (subst (λ (edges : List Edge). AllZip (IsChain edges) (map chord stretches) are.chains) (sym one_map) are.are)
+      (subst (λ (edges : List Edge). AllZip (IsNodeChain edges) (map chord stretches) are.chains) (sym one_map) are.are)
 
   pub clip-placed : AllZip ArePlaced clip_stretches are.clip_chains
   clip-placed = zip_placed (stretches ++ clip_stretches) each clear clip_stretches are.clip_chains (Contains-append_right stretches clip_stretches)
-      (subst (λ (edges : List Edge). AllZip (IsChain edges) (map chord clip_stretches) are.clip_chains) (sym one_map) are.clip_are)
+      (subst (λ (edges : List Edge). AllZip (IsNodeChain edges) (map chord clip_stretches) are.clip_chains) (sym one_map) are.clip_are)
 
   pub broken-placed : (edge : Edge) → Contains (broken ++ broken_clip) edge → IsPlaced (stretches ++ clip_stretches) edge
   broken-placed edge held = ⊎_elim

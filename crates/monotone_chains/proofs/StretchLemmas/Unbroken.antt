@@ -6,7 +6,8 @@ use Rattle.i_tree.proofs.RootLemmas.Lists.{Contains-here, Contains-there}
 use Rattle.plane.specs.declared.edge.Edge.{Edge}
 use Rattle.plane.specs.declared.point.Point.{Point}
 use Rattle.plane.proofs.PairsLemmas.Bags.{Contains-from_map, Contains-map}
-use Rattle.noding.specs.Chains.{CrossAt, IsChain, IsEnd, IsHot, Passes}
+use Rattle.noding.specs.Chains.{CrossAt, IsEnd, IsHot, Passes}
+use Rattle.noding.specs.Local.{IsNodeChain}
 use Rattle.plane.specs.Ends.{end_of, start_of}
 use Rattle.noding.specs.Windings.{pieces}
 use Rattle.monotone_chains.specs.Stretches.{IsLong, IsStretch, chord}
@@ -14,7 +15,8 @@ use Rattle.noding.proofs.ChainLemmas.Crossings.{CrossAt-end}
 use Rattle.noding.proofs.SnapLemmas.Along.{point_at}
 use Rattle.noding.proofs.Callers.{end-hot}
 use Rattle.noding.proofs.SnapLemmas.Crossing.{CrossAt-itself}
-use Rattle.noding.proofs.SnapLemmas.Paths.{IsPath, IsPath-chain}
+use Rattle.noding.proofs.SnapLemmas.Local.{IsPath-noded}
+use Rattle.noding.proofs.SnapLemmas.Paths.{IsPath}
 use Rattle.monotone_chains.proofs.StretchLemmas.Adjoin.{Adjoin, passed-adjoin}
 use Rattle.monotone_chains.proofs.StretchLemmas.Boxes.{ClearIfLong, IsEnd-tip, IsTip, chord-sloped, clear-any, tip-IsEnd, tip-held}
 
@@ -85,12 +87,12 @@ module _ (all : List (List Point)) (each : All IsStretch all) (clear : AllPairs 
         hot_crossing t u among_one among_other (subst (λ (e : Edge). CrossAt e (chord u) h.x h.y) (sym is_one) (subst (λ (e : Edge). CrossAt one e h.x h.y) (sym is_other) cross))
 
   -- where that is long, the chain is the chord's two ends
-  pub chain-unbroken : (s : List Point) → Contains all s → IsLong s → (chain : List Point) → IsChain (map chord all) (chord s) chain → chain ≡ start_of (chord s) ∷ end_of (chord s) ∷ []
+  pub chain-unbroken : (s : List Point) → Contains all s → IsLong s → (chain : List Point) → IsNodeChain (map chord all) (chord s) chain → chain ≡ start_of (chord s) ∷ end_of (chord s) ∷ []
   chain-unbroken s among long chain is =
       two_points (chord s) chain (chord-sloped s (is_stretch s among) long)
-      (λ c held. let (hot, passes) = (is.exact c).0 held in hot-tip s among long c passes hot)
-      is.once (IsPath-chain (map chord all) (chord s) chain (Contains-map chord all s among) is)
+      (λ c held. let (hot, passes, node) = (is.exact c).0 held in hot-tip s among long c passes hot)
+      is.once (IsPath-noded (map chord all) (chord s) chain is (Contains-map chord all s among))
 
   -- and its one piece is the chord
-  pub pieces-unbroken : (s : List Point) → Contains all s → IsLong s → (chain : List Point) → IsChain (map chord all) (chord s) chain → pieces chain ≡ chord s ∷ []
+  pub pieces-unbroken : (s : List Point) → Contains all s → IsLong s → (chain : List Point) → IsNodeChain (map chord all) (chord s) chain → pieces chain ≡ chord s ∷ []
   pieces-unbroken s among long chain is = ap pieces (chain-unbroken s among long chain is)

@@ -1,24 +1,19 @@
 -- How often edges wind where long stretches stand for their chords, told at the point that stands for the point.
-use Rattle.std.proofs.Common.{◌≡◌, ◌≢◌, inl, inr, ⊎_elim, pos, List, [], ◌∷◌, length, map, reverse, arith, ap, refl, sym, ◌∙◌, subst}
+use Rattle.std.proofs.Common.{◌≡◌, ◌≢◌, inl, inr, ⊎_elim, pos, List, [], ◌∷◌, length, reverse, arith, ap, refl, sym, ◌∙◌}
 use Rattle.std.specs.List.{All, AllZip, Contains, flat_map}
 use Rattle.std.proofs.lemmas.Bool.{cases_lt}
 use Rattle.std.proofs.lemmas.Int.{by_lt_z, ints}
 use Rattle.std.proofs.lemmas.List.{length-reverse}
 use Rattle.std.proofs.lemmas.List.Elements.{All-contains, All-head, All-tail}
-use Rattle.i_tree.proofs.RootLemmas.Joined.{All-behind, All-front}
-use Rattle.i_tree.proofs.RootLemmas.Lists.{Contains-here, Contains-there}
 use Rattle.plane.specs.declared.edge.Edge.{Edge}
 use Rattle.plane.specs.declared.point.Point.{Point}
 use Rattle.plane.specs.Meet.Edges.{RationalPoint}
-use Rattle.noding.specs.Chains.{IsChain}
 use Rattle.plane.specs.Ends.{reversed}
 use Rattle.noding.specs.Windings.{pieces, winding}
 use Rattle.monotone_chains.specs.Stretches.{GoesAlong, IsLong, IsStretch, chord}
 use Rattle.noding.proofs.SnapLemmas.Along.{Passes-end, Passes-start}
 use Rattle.noding.proofs.SnapLemmas.Numbers.{both}
-use Rattle.noding.proofs.SnapLemmas.Paths.{IsPath, IsPath-chain}
 use Rattle.noding.proofs.SnapLemmas.Windings.{back, winding-added, winding-append}
-use Rattle.monotone_chains.proofs.StretchLemmas.Pieces.{ArePlaced}
 use Rattle.monotone_chains.proofs.StretchLemmas.Placed.{IsPlaced, LiesIn}
 use Rattle.monotone_chains.proofs.StretchLemmas.Shifts.{IsShift, Matches}
 use Rattle.monotone_chains.proofs.StretchLemmas.Turned.{turned-back}
@@ -92,7 +87,7 @@ module _ (all : List (List Point)) (each : All IsStretch all) (point other : Rat
   -- ---- what the chords are broken into
 
   -- edges that lie along a stretch of a single edge count the same for both points
-  lying : (t : List Point) → Contains all t → ¬ (IsLong t) → (edges : List Edge) → All (LiesIn t) edges → winding edges other ≡ winding edges point
+  pub lying : (t : List Point) → Contains all t → ¬ (IsLong t) → (edges : List Edge) → All (LiesIn t) edges → winding edges other ≡ winding edges point
   lying t among short [] lie = refl
   lying t among short (edge ∷ edges) lie =
       winding-append (edge ∷ []) edges other
@@ -100,30 +95,3 @@ module _ (all : List (List Point)) (each : All IsStretch all) (point other : Rat
       (sym (shift.short edge t among short (All-head (LiesIn t) edge edges lie)))
       (lying t among short edges (All-tail (LiesIn t) edge edges lie))
       ∙ sym (winding-append (edge ∷ []) edges point)
-
-  module _ (P : Edge → Type 0) (count_same : (edge : Edge) (chain : List Point) → IsPath edge chain → P edge → winding (pieces chain) point ≡ winding (edge ∷ []) point) (edges : List Edge) where
-    -- the chain of a stretch's chord counts for the other point what the stretch counts for the point
-    chain-winding : (s : List Point) (chain : List Point) → Contains all s → Contains edges (chord s) → ArePlaced s chain → IsChain edges (chord s) chain → All P (pieces s) → winding (pieces chain) other ≡ winding (pieces s) point
-    chain-winding s chain among held (if_long, if_short) is has = ⊎_elim
-        (λ long. ap (λ (list : List Edge). winding list other) (if_long long) ∙ sym (all-match s among))
-        (λ upto.
-        let short : ¬ (IsLong s) = λ long. omega (arith, long, upto) in
-        let single = single-pieces s (is_stretch s among) short in
-        lying s among short (pieces chain) (if_short short)
-        ∙ count_same (chord s) chain (IsPath-chain edges (chord s) chain held is) (All-head P (chord s) [] (subst (All P) single has))
-        ∙ sym (ap (λ (list : List Edge). winding list point) single))
-        (cases_lt 2 (length s))
-
-    -- and so the chains of many
-    pub chains-winding : (some chains : List (List Point)) → ((s : List Point) → Contains some s → Contains all s × Contains edges (chord s)) → AllZip ArePlaced some chains → AllZip (IsChain edges) (map chord some) chains → All P (flat_map pieces some)
-        → winding (flat_map pieces chains) other ≡ winding (flat_map pieces some) point
-    chains-winding [] [] among placed are has = refl
-    chains-winding [] (chain ∷ chains) among placed are has = absurd placed
-    chains-winding (s ∷ some) [] among placed are has = absurd placed
-    chains-winding (s ∷ some) (chain ∷ chains) among (one, placed) (is, are) has =
-        let (here, held) = among s (Contains-here s some) in
-        winding-append (pieces chain) (flat_map pieces chains) other
-        ∙ both (winding (pieces chain) other) (winding (pieces s) point) (winding (flat_map pieces chains) other) (winding (flat_map pieces some) point)
-        (chain-winding s chain here held one is (All-front P (pieces s) (flat_map pieces some) has))
-        (chains-winding some chains (λ t later. among t (Contains-there s some t later)) placed are (All-behind P (pieces s) (flat_map pieces some) has))
-        ∙ sym (winding-append (pieces s) (flat_map pieces some) point)

@@ -3,18 +3,18 @@ use Rattle.std.proofs.Common.{◌≡◌, ◌<◌, ◌≤◌, ◌+◌, ◌-◌, �
 use Rattle.std.specs.List.{All, AllZip, flat_map}
 use Rattle.std.proofs.lemmas.Grind.{flat_map-append}
 use Rattle.std.proofs.lemmas.List.{length-append, length-drop, length-take-le, take-append-drop, take_all}
-use Rattle.std.proofs.lemmas.List.Elements.{All-head, All-tail, Contains-get_or}
+use Rattle.std.proofs.lemmas.List.Elements.{All-head, All-tail}
 use Rattle.i_tree.proofs.RootLemmas.Joined.{All-front}
 use Rattle.std.proofs.Math.Seq.{drop-append_seam, take-append_seam}
 use Rattle.plane.specs.declared.edge.Edge.{Edge}
 use Rattle.plane.specs.declared.point.Point.{Point}
 use Rattle.overlay.specs.Boundary.{AllSome, AreBroken}
-use Rattle.noding.specs.Chains.{AreChains, IsChain}
+use Rattle.noding.specs.Local.{AreNodeChains, IsNodeChain}
 use Rattle.noding.specs.Offsets.{offsets}
 use Rattle.noding.specs.Windings.{pieces}
 use Rattle.noding.proofs.ChainLemmas.Offsets.{joined, offset-at}
 use Rattle.noding.proofs.ChainLemmas.Zips.{AllZip-at, AllZip-length}
-use Rattle.noding.proofs.Callers.{starts}
+use Rattle.noding.proofs.SnapLemmas.Paths.{IsPath}
 
 pub zip-append : {A B : Type 0} (R : A → B → Type 0) (xs xs' : List A) (ys ys' : List B) → AllZip R xs ys → AllZip R xs' ys' → AllZip R (xs ++ xs') (ys ++ ys')
 zip-append R [] xs' [] ys' first second = second
@@ -38,17 +38,17 @@ pub rest-is : {X : Type 0} (items list : List X) (count : ℕ) → list ≡ item
 rest-is items list count is = take_all (length list - count) (drop count list) (let size = length-drop count list in omega (arith, size)) ∙ ap (drop count) is
 
 -- the chains of both are those of all edges
-pub all-chains : (subject clip broken broken_clip : List Edge) (are : AreBroken subject clip broken broken_clip) → AreChains (subject ++ clip) (are.chains ++ are.clip_chains)
-all-chains subject clip broken broken_clip are = zip-append (IsChain (subject ++ clip)) subject clip are.chains are.clip_chains are.are are.clip_are
+pub all-chains : (subject clip broken broken_clip : List Edge) (are : AreBroken subject clip broken broken_clip) → AreNodeChains (subject ++ clip) (are.chains ++ are.clip_chains)
+all-chains subject clip broken broken_clip are = zip-append (IsNodeChain (subject ++ clip)) subject clip are.chains are.clip_chains are.are are.clip_are
 
 -- the chains of all edges, cut behind those of the subject's
-pub broken-chains : (edges : List Edge) (chains : List (List Point)) (bound : ℕ) → bound ≤ length edges → AreChains edges chains
+pub broken-chains : (edges : List Edge) (chains : List (List Point)) (bound : ℕ) → bound ≤ length edges → AreNodeChains edges chains
     → AreBroken (take bound edges) (drop bound edges) (flat_map pieces (take bound chains)) (flat_map pieces (drop bound chains))
 broken-chains edges chains bound within are = record {
   chains = take bound chains;
   clip_chains = drop bound chains;
-  are = subst (λ (n : ℕ). AllZip (IsChain (subject ++ clip)) subject (take n chains)) first (zip-front (IsChain (subject ++ clip)) subject clip chains together);
-  clip_are = subst (λ (n : ℕ). AllZip (IsChain (subject ++ clip)) clip (drop n chains)) first (zip-back (IsChain (subject ++ clip)) subject clip chains together);
+  are = subst (λ (n : ℕ). AllZip (IsNodeChain (subject ++ clip)) subject (take n chains)) first (zip-front (IsNodeChain (subject ++ clip)) subject clip chains together);
+  clip_are = subst (λ (n : ℕ). AllZip (IsNodeChain (subject ++ clip)) clip (drop n chains)) first (zip-back (IsNodeChain (subject ++ clip)) subject clip chains together);
   is = refl;
   clip_is = refl;
 }
@@ -62,11 +62,11 @@ broken-chains edges chains bound within are = record {
     first : length subject ≡ bound
     first = length-take-le bound edges within
 
-    together : AreChains (subject ++ clip) chains
-    together = subst (λ (list : List Edge). AreChains list chains) (sym (take-append-drop bound edges)) are
+    together : AreNodeChains (subject ++ clip) chains
+    together = subst (λ (list : List Edge). AreNodeChains list chains) (sym (take-append-drop bound edges)) are
 
 -- and the pieces of all chains
-pub cut-broken : (edges all : List Edge) (chains : List (List Point)) (bound count : ℕ) → bound ≤ length edges → AreChains edges chains → all ≡ flat_map pieces chains → count ≡ length (flat_map pieces (take bound chains))
+pub cut-broken : (edges all : List Edge) (chains : List (List Point)) (bound count : ℕ) → bound ≤ length edges → AreNodeChains edges chains → all ≡ flat_map pieces chains → count ≡ length (flat_map pieces (take bound chains))
     → (count ≤ length all) × AreBroken (take bound edges) (drop bound edges) (take count all) (drop count all)
 cut-broken edges all chains bound count within are is size = (
   (let sum = length-append front back in let whole = ap (λ (list : List Edge). length list) parts in omega (arith, size, sum, whole)),
@@ -115,15 +115,17 @@ first-pieces lists n d some within more =
     same_place : (n : ℕ) → 0 < n → suc (n - 1) ≡ n
     same_place n more = omega (arith, more)
 
--- no chain is empty, and there are as many as edges
-pub chains-some : (edges : List Edge) (chains : List (List Point)) → AreChains edges chains → AllSome chains
+-- no chain that is a path is empty, and there are as many as edges
+pub chains-some : (edges : List Edge) (chains : List (List Point)) → AllZip IsPath edges chains → AllSome chains
 chains-some edges chains are k d within =
-    let size = AllZip-length (IsChain edges) edges chains are in
+    let size = AllZip-length IsPath edges chains are in
     let none : Edge = record { x0 = pos 0; y0 = pos 0; x1 = pos 0; y1 = pos 0 } in
     let inside : k < length edges = omega (arith, size, within) in
-    let is = AllZip-at (IsChain edges) edges chains none d k are inside in
-    let begins = starts edges (get_or edges k none) (get_or chains k d) (Contains-get_or edges k none inside) is in
-    subst (λ (chain : List Point). 0 < length chain) (sym begins) (omega arith)
+    path_some (get_or edges k none) (get_or chains k d) (AllZip-at IsPath edges chains none d k are inside)
+  where
+    path_some : (edge : Edge) (chain : List Point) → IsPath edge chain → 0 < length chain
+    path_some edge [] none = absurd none
+    path_some edge (from ∷ others) is = omega arith
 
-pub chains-count : (edges : List Edge) (chains : List (List Point)) (bound : ℕ) → bound ≤ length edges → AreChains edges chains → bound ≤ length chains
-chains-count edges chains bound within are = let size = AllZip-length (IsChain edges) edges chains are in omega (arith, size, within)
+pub chains-count : (edges : List Edge) (chains : List (List Point)) (bound : ℕ) → bound ≤ length edges → AllZip IsPath edges chains → bound ≤ length chains
+chains-count edges chains bound within are = let size = AllZip-length IsPath edges chains are in omega (arith, size, within)

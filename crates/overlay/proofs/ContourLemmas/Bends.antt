@@ -1,5 +1,5 @@
 -- An outline winds around each point as its ring does, and is a ring.
-use Rattle.std.proofs.Common.{◌≡◌, ◌≢◌, ◌⊎◌, inl, inr, ℕ, ◌-◌, ℤ, ◌+ℤ◌, List, [], ◌∷◌, ◌++◌, length, map, refl, sym, ap, ap₂, ◌∙◌, subst, arith}
+use Rattle.std.proofs.Common.{◌≡◌, ◌≢◌, ◌⊎◌, inl, inr, ℕ, ◌-◌, ℤ, ◌+ℤ◌, true, false, List, [], ◌∷◌, ◌++◌, length, map, refl, sym, ap, ap₂, ◌∙◌, subst, arith}
 use Rattle.std.specs.List.{All, AllPairs, flat_map}
 use Rattle.std.proofs.lemmas.Bool.{cond_both}
 use Rattle.std.proofs.lemmas.Int.{ints}
@@ -12,52 +12,86 @@ use Rattle.overlay.specs.Contours.Outlines.{IsStraight, bends, goes_straight, ne
 use Rattle.overlay.specs.Contours.Rings.{IsRing, ring_edges}
 use Rattle.plane.specs.Ends.{edge_between}
 use Rattle.noding.specs.Windings.{pieces, winding}
-use Rattle.overlay.proofs.ContourLemmas.Outlines.{straight-is}
+use Rattle.overlay.proofs.ContourLemmas.Outlines.{straight-is, straight-true}
 use Rattle.overlay.proofs.ContourLemmas.Straight.{straight-further, straight-longer, straight-nowhere, under-nowhere, under-straight}
 use Rattle.noding.proofs.SnapLemmas.Counted.{added, under}
 use Rattle.noding.proofs.SnapLemmas.Windings.{winding-added, winding-append}
 
--- what holds of the bends, whether it goes straight on at their first point or not
-bends-by : (P : List Point → Type 0) (before at : Point) (points : List Point) (behind : Point) → (IsStraight before at (next_or points behind) → P (bends at points behind)) → P (at ∷ bends at points behind)
-    → P (bends before (at ∷ points) behind)
-bends-by P before at points behind skipped kept =
+-- what holds of the bends where it goes straight on at their first point, and where it doesn't
+pub bends-either : (P : List Point → Type 0) (before at : Point) (points : List Point) (behind : Point) → (IsStraight before at (next_or points behind) → P (bends at points behind))
+    → (¬ (IsStraight before at (next_or points behind)) → P (at ∷ bends at points behind)) → P (bends before (at ∷ points) behind)
+bends-either P before at points behind skipped kept =
     cond_both (goes_straight before at (next_or points behind)) (bends at points behind) (at ∷ bends at points behind) P
-    (λ is. skipped (straight-is before at (next_or points behind) is)) (λ bent. kept)
+    (λ is. skipped (straight-is before at (next_or points behind) is)) (λ bent. kept (λ straight. never (sym (straight-true before at (next_or points behind) straight) ∙ bent)))
+  where
+    never : true ≡ false → ⊥
+    never h = cc
+
+-- the same, whether it goes straight on there or not
+pub bends-by : (P : List Point → Type 0) (before at : Point) (points : List Point) (behind : Point) → (IsStraight before at (next_or points behind) → P (bends at points behind)) → P (at ∷ bends at points behind)
+    → P (bends before (at ∷ points) behind)
+bends-by P before at points behind skipped kept = bends-either P before at points behind skipped (λ bent. kept)
 
 -- ---- from the last point that is kept
 
 -- The last point that is kept is this one, or from it straight over this one it goes to the next.
-abbrev Leads : Point → Point → Point → Type 0
+abbrev pub Leads : Point → Point → Point → Type 0
 Leads kept before next = (kept ≡ before) ⊎ IsStraight kept before next
 
 -- the last of the points, or if there is none the one before them
-abbrev last_from : Point → List Point → Point
+abbrev pub last_from : Point → List Point → Point
 last_from from [] = from
 last_from from (point ∷ points) = last_from point points
 
-leads-on : (kept before at next : Point) → Leads kept before at → IsStraight before at next → Leads kept at next
-leads-on kept before at next (inl same) is = inr (subst (λ (p : Point). IsStraight p at next) (sym same) is)
-leads-on kept before at next (inr so_far) is = inr (straight-longer kept before at next so_far is)
+pub leads-straight : (kept before at next : Point) → Leads kept before at → IsStraight before at next → IsStraight kept at next
+leads-straight kept before at next (inl same) is = subst (λ (p : Point). IsStraight p at next) (sym same) is
+leads-straight kept before at next (inr so_far) is = straight-longer kept before at next so_far is
+
+pub leads-on : (kept before at next : Point) → Leads kept before at → IsStraight before at next → Leads kept at next
+leads-on kept before at next leads is = inr (leads-straight kept before at next leads is)
 
 -- as far as the last of the points
-leads-last : (kept before : Point) (points : List Point) (behind : Point) → Leads kept before (next_or points behind) → Leads (last_from kept (bends before points behind)) (last_from before points) behind
+pub leads-last : (kept before : Point) (points : List Point) (behind : Point) → Leads kept before (next_or points behind) → Leads (last_from kept (bends before points behind)) (last_from before points) behind
 leads-last kept before [] behind leads = leads
 leads-last kept before (at ∷ points) behind leads =
     bends-by (λ rest. Leads (last_from kept rest) (last_from at points) behind) before at points behind
     (λ straight. leads-last kept at points behind (leads-on kept before at (next_or points behind) leads straight))
     (leads-last at at points behind (inl refl))
 
+-- The next point is this one, or straight over it there it goes on to this one.
+abbrev pub Reaches : Point → Point → Point → Type 0
+Reaches kept next end = (next ≡ end) ⊎ IsStraight kept next end
+
+-- From a point that leads to the one behind the points, it reaches the next one that is kept.
+abbrev pub Ends : Point → Point → Point → Type 0
+Ends last behind end = (kept : Point) → Leads kept last behind → Reaches kept behind end
+
+pub ends-there : (last behind : Point) → Ends last behind behind
+ends-there last behind kept leads = inl refl
+
+straight-reaches : (kept before next end : Point) → IsStraight kept before next → Reaches before next end → IsStraight kept before end
+straight-reaches kept before next end is (inl same) = subst (λ (p : Point). IsStraight kept before p) same is
+straight-reaches kept before next end is (inr more) = straight-further kept before next end is more
+
 -- where it goes straight on, it does so as far as the next point that is kept
-straight-next : (kept before : Point) (points : List Point) (behind : Point) → IsStraight kept before (next_or points behind) → IsStraight kept before (next_or (bends before points behind) behind)
-straight-next kept before [] behind is = is
-straight-next kept before (at ∷ points) behind is =
-    bends-by (λ rest. IsStraight kept before (next_or rest behind)) before at points behind
-    (λ straight. straight-further kept before at (next_or (bends at points behind) behind) is (straight-next before at points behind straight))
+straight-next : (kept before : Point) (points : List Point) (behind end : Point) → Ends (last_from before points) behind end → IsStraight kept before (next_or points behind) → IsStraight kept before (next_or (bends before points behind) end)
+straight-next kept before [] behind end ends is = straight-reaches kept before behind end is (ends before (inl refl))
+straight-next kept before (at ∷ points) behind end ends is =
+    bends-by (λ rest. IsStraight kept before (next_or rest end)) before at points behind
+    (λ straight. straight-further kept before at (next_or (bends at points behind) end) is (straight-next before at points behind end ends straight))
     is
+
+pub reaches : (kept before : Point) (points : List Point) (behind end : Point) → Ends (last_from before points) behind end → Leads kept before (next_or points behind)
+    → Reaches kept (next_or points behind) (next_or (bends before points behind) end)
+reaches kept before [] behind end ends leads = ends kept leads
+reaches kept before (at ∷ points) behind end ends leads =
+    bends-by (λ rest. Reaches kept at (next_or rest end)) before at points behind
+    (λ straight. inr (straight-next kept at points behind end ends (leads-straight kept before at (next_or points behind) leads straight)))
+    (inl refl)
 
 leads-next : (kept before : Point) (points : List Point) (behind : Point) → Leads kept before (next_or points behind) → Leads kept before (next_or (bends before points behind) behind)
 leads-next kept before points behind (inl same) = inl same
-leads-next kept before points behind (inr is) = inr (straight-next kept before points behind is)
+leads-next kept before points behind (inr is) = inr (straight-next kept before points behind behind (ends-there (last_from before points) behind) is)
 
 -- ---- what is under a point
 
@@ -108,7 +142,7 @@ ring-last first others =
     let before : length (first ∷ others) - 1 ≡ length others = omega arith in
     ap (λ (place : ℕ). ring_point (first ∷ others) place) before ∙ last-at first others
 
-outline-is : (first : Point) (others : List Point) → outline (first ∷ others) ≡ bends (last_from first others) (first ∷ others) first
+pub outline-is : (first : Point) (others : List Point) → outline (first ∷ others) ≡ bends (last_from first others) (first ∷ others) first
 outline-is first others = ap (λ (before : Point). bends before (first ∷ others) first) (ring-last first others)
 
 -- An outline winds around each rational point as its ring does.
@@ -139,16 +173,16 @@ winding-outline (first ∷ others) point =
         omega (arith, ints, sum, whole, outer, none, over)
 
 -- some point is kept
-outline-some : (first : Point) (others : List Point) → outline (first ∷ others) ≢ []
+pub outline-some : (first : Point) (others : List Point) → outline (first ∷ others) ≢ []
 outline-some first others =
     let last = ring_point (first ∷ others) (length (first ∷ others) - 1) in
     bends-by (λ kept. kept ≢ []) last first others first
     (λ straight none. straight-nowhere last first
-    (subst (λ (kept : List Point). IsStraight last first (next_or kept first)) none (straight-next last first others first straight)))
+    (subst (λ (kept : List Point). IsStraight last first (next_or kept first)) none (straight-next last first others first first (ends-there (last_from first others) first) straight)))
     (λ none. absurd cc)
 
 -- the points that are kept are some of them
-All-bends : (P : Point → Type 0) (before : Point) (points : List Point) (behind : Point) → All P points → All P (bends before points behind)
+pub All-bends : (P : Point → Type 0) (before : Point) (points : List Point) (behind : Point) → All P points → All P (bends before points behind)
 All-bends P before [] behind all = all
 All-bends P before (at ∷ points) behind all =
     let rest = All-bends P at points behind (All-tail P at points all) in

@@ -18,7 +18,7 @@ use Rattle.noding.proofs.SnapLemmas.Windings.{after, back, before, within}
 -- ---- the ways between points
 
 -- the two ways go along each other
-ways : (before at after : Point) → IsStraight before at after → GoesAlong (at.x -ℤ before.x) (at.y -ℤ before.y) (after.x -ℤ at.x) (after.y -ℤ at.y)
+pub ways : (before at after : Point) → IsStraight before at after → GoesAlong (at.x -ℤ before.x) (at.y -ℤ before.y) (after.x -ℤ at.x) (after.y -ℤ at.y)
 ways before at after is = (is.along, is.ahead)
 
 straight : (before at after : Point) → GoesAlong (at.x -ℤ before.x) (at.y -ℤ before.y) (after.x -ℤ at.x) (after.y -ℤ at.y) → IsStraight before at after
@@ -29,14 +29,14 @@ joined_ways : (a b c : ℤ) → ((b -ℤ a) +ℤ (c -ℤ b)) ≡ (c -ℤ a)
 joined_ways a b c = identity (plus (minus (number b) (number a)) (minus (number c) (number b))) (minus (number c) (number a)) (omega arith)
 
 -- so the whole way goes along the second one
-whole : (before at after : Point) → IsStraight before at after → GoesAlong (after.x -ℤ before.x) (after.y -ℤ before.y) (after.x -ℤ at.x) (after.y -ℤ at.y)
+pub whole : (before at after : Point) → IsStraight before at after → GoesAlong (after.x -ℤ before.x) (after.y -ℤ before.y) (after.x -ℤ at.x) (after.y -ℤ at.y)
 whole before at after is =
     let both = GoesAlong-both (at.x -ℤ before.x) (at.y -ℤ before.y) (after.x -ℤ at.x) (after.y -ℤ at.y) (ways before at after is) in
     subst (λ (y : ℤ). GoesAlong (after.x -ℤ before.x) y (after.x -ℤ at.x) (after.y -ℤ at.y)) (joined_ways before.y at.y after.y)
     (subst (λ (x : ℤ). GoesAlong x ((at.y -ℤ before.y) +ℤ (after.y -ℤ at.y)) (after.x -ℤ at.x) (after.y -ℤ at.y)) (joined_ways before.x at.x after.x) both)
 
 -- and along the first one
-whole-first : (before at after : Point) → IsStraight before at after → GoesAlong (after.x -ℤ before.x) (after.y -ℤ before.y) (at.x -ℤ before.x) (at.y -ℤ before.y)
+pub whole-first : (before at after : Point) → IsStraight before at after → GoesAlong (after.x -ℤ before.x) (after.y -ℤ before.y) (at.x -ℤ before.x) (at.y -ℤ before.y)
 whole-first before at after is =
     GoesAlong-trans (after.x -ℤ before.x) (after.y -ℤ before.y) (after.x -ℤ at.x) (after.y -ℤ at.y) (whole before at after is) (at.x -ℤ before.x) (at.y -ℤ before.y)
     (GoesAlong-sym (at.x -ℤ before.x) (at.y -ℤ before.y) (after.x -ℤ at.x) (after.y -ℤ at.y) (ways before at after is))
@@ -53,7 +53,7 @@ straight-further before at after last one other =
     (GoesAlong-sym (last.x -ℤ at.x) (last.y -ℤ at.y) (after.x -ℤ at.x) (after.y -ℤ at.y) (whole-first at after last other)))
 
 -- the other way round it goes straight on, too
-straight-back : (before at after : Point) → IsStraight before at after → IsStraight after at before
+pub straight-back : (before at after : Point) → IsStraight before at after → IsStraight after at before
 straight-back before at after is =
     let none = is.along in
     record {
@@ -73,12 +73,28 @@ straight-back before at after is =
         (plus (times (minus (number at.x) (number before.x)) (minus (number after.x) (number at.x))) (times (minus (number at.y) (number before.y)) (minus (number after.y) (number at.y))))
         (omega arith)
 
+-- where it goes straight on to a first point, and over a later one to a last one, it does so over the first one
+pub straight-early : (before first at last : Point) → IsStraight before first at → IsStraight before at last → IsStraight before first last
+straight-early before first at last one other =
+    let back = straight-back before first at one in
+    let late = straight-back before at last other in
+    let later = straight last at first (GoesAlong-trans (at.x -ℤ last.x) (at.y -ℤ last.y) (before.x -ℤ at.x) (before.y -ℤ at.y) (ways last at before late) (first.x -ℤ at.x) (first.y -ℤ at.y) (whole-first at first before back)) in
+    straight-back last first before (straight-longer last at first before later back)
+
 -- but not from a point to itself
 pub straight-nowhere : (before at : Point) → ¬ (IsStraight before at at)
 straight-nowhere before at is =
     let none : dot (at.x -ℤ before.x) (at.y -ℤ before.y) (at.x -ℤ at.x) (at.y -ℤ at.y) ≡ pos 0 =
     identity (plus (times (minus (number at.x) (number before.x)) (minus (number at.x) (number at.x))) (times (minus (number at.y) (number before.y)) (minus (number at.y) (number at.y)))) (n_of 0) (omega arith) in
     let ahead = is.ahead in
+    omega (arith, ints, none, ahead)
+
+-- nor back to where it came from
+pub straight-home : (at between : Point) → ¬ (IsStraight at between at)
+straight-home at between is =
+    let none : dot (at.x -ℤ at.x) (at.y -ℤ at.y) (at.x -ℤ between.x) (at.y -ℤ between.y) ≡ pos 0 =
+    identity (plus (times (minus (number at.x) (number at.x)) (minus (number at.x) (number between.x))) (times (minus (number at.y) (number at.y)) (minus (number at.y) (number between.y)))) (n_of 0) (omega arith) in
+    let ahead = (whole at between at is).1 in
     omega (arith, ints, none, ahead)
 
 -- ---- what is under a point

@@ -50,12 +50,12 @@ dots : (ux uy vx vy wx wy : ℤ) → (dot vx vy vx vy *ℤ dot ux uy wx wy) ≡ 
 dots ux uy vx vy wx wy =
     identity (times (along vx vy vx vy) (along ux uy wx wy)) (minus (times (along ux uy vx vy) (along vx vy wx wy)) (times (across ux uy vx vy) (across vx vy wx wy))) (omega arith)
 
-without_plus : (a b c d : ℤ) → c ≡ pos 0 → ((a *ℤ b) +ℤ (c *ℤ d)) ≡ (a *ℤ b)
+pub without_plus : (a b c d : ℤ) → c ≡ pos 0 → ((a *ℤ b) +ℤ (c *ℤ d)) ≡ (a *ℤ b)
 without_plus a b c d none =
     ap (λ (z : ℤ). (a *ℤ b) +ℤ (z *ℤ d)) none
     ∙ identity (plus (times (number a) (number b)) (times (n_of 0) (number d))) (times (number a) (number b)) (omega arith)
 
-without_minus : (a b c d : ℤ) → c ≡ pos 0 → ((a *ℤ b) -ℤ (c *ℤ d)) ≡ (a *ℤ b)
+pub without_minus : (a b c d : ℤ) → c ≡ pos 0 → ((a *ℤ b) -ℤ (c *ℤ d)) ≡ (a *ℤ b)
 without_minus a b c d none =
     ap (λ (z : ℤ). (a *ℤ b) -ℤ (z *ℤ d)) none
     ∙ identity (minus (times (number a) (number b)) (times (n_of 0) (number d))) (times (number a) (number b)) (omega arith)
@@ -70,7 +70,7 @@ module _ (ux uy vx vy : ℤ) (is : GoesAlong ux uy vx vy) where
       omega (arith, ints, zero, ahead)))
 
   -- to a third one both turn to the same side
-  crosses-alike : (wx wy : ℤ) → Alike (cross ux uy wx wy) (cross vx vy wx wy)
+  pub crosses-alike : (wx wy : ℤ) → Alike (cross ux uy wx wy) (cross vx vy wx wy)
   crosses-alike wx wy =
       alike_by (dot vx vy vx vy) (dot ux uy vx vy) (cross ux uy wx wy) (cross vx vy wx wy) square is.1
       (crosses ux uy vx vy wx wy ∙ without_plus (dot ux uy vx vy) (cross vx vy wx wy) (cross ux uy vx vy) (dot vx vy wx wy) is.0)

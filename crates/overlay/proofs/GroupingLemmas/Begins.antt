@@ -28,17 +28,17 @@ use Rattle.overlay.specs.Polygons.{BoundsSome, begins_before, first_sloped, is_c
 use Rattle.overlay.proofs.GroupingLemmas.Bags.{Contains-flat_map, Contains-in_flat_map}
 use Rattle.overlay.proofs.GroupingLemmas.Edges.{edges_from-first}
 
-abbrev Upto : Edge → Edge → Type 0
+abbrev pub Upto : Edge → Edge → Type 0
 Upto one other = BeginsUpto (rightwards one) (rightwards other)
 
 -- an edge that isn't vertical, and begins no later than any other one that isn't
-record IsFirst (edges : List Edge) (first : Edge) : Type 0 where
-  among : Contains edges first
-  sloped : first.x1 ≢ first.x0
-  begins : (other : Edge) → Contains edges other → other.x1 ≢ other.x0 → Upto first other
+pub record IsFirst (edges : List Edge) (first : Edge) : Type 0 where
+  pub among : Contains edges first
+  pub sloped : first.x1 ≢ first.x0
+  pub begins : (other : Edge) → Contains edges other → other.x1 ≢ other.x0 → Upto first other
 
 -- such an edge, or none where all are vertical
-abbrev Told : List Edge → Option Edge → Type 0
+abbrev pub Told : List Edge → Option Edge → Type 0
 Told edges None = (other : Edge) → Contains edges other → ¬ (other.x1 ≢ other.x0)
 Told edges (Some first) = IsFirst edges first
 
@@ -120,7 +120,7 @@ told-from done (edge ∷ edges) best told =
     subst (λ (list : List Edge). Told list (first_sloped (sooner best edge) edges)) (append_assoc done (edge ∷ []) edges)
     (told-from (done ++ edge ∷ []) edges (sooner best edge) (told-sooner done edge best told))
 
-told-all : (edges : List Edge) → Told edges (first_sloped None edges)
+pub told-all : (edges : List Edge) → Told edges (first_sloped None edges)
 told-all edges = told-from [] edges None (λ other held is. (let (k, within, at) = held in absurd (omega (arith, within))))
 
 -- the one that begins first isn't vertical

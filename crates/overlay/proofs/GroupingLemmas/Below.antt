@@ -1,7 +1,7 @@
 -- The highest side so far of those below another one.
-use Rattle.std.proofs.Common.{◌≡◌, ◌<◌, ◌⊎◌, inl, inr, ℕ, Option, Some, None, sym, subst, ◌∙◌}
+use Rattle.std.proofs.Common.{◌≡◌, ◌⊎◌, inl, inr, ℕ, Option, Some, None, sym, subst}
 use Rattle.std.specs.Prelude.{IfSome}
-use Rattle.overlay.specs.Grouping.{IsRightward, IsSideAmong, IsSideOf}
+use Rattle.overlay.specs.Grouping.{IsRightward, IsSideOf}
 use Rattle.overlay.specs.declared.grouping.sides.Side.{Side}
 
 -- It is the best one before, or one of the ring.

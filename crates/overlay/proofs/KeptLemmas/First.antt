@@ -1,9 +1,7 @@
 -- Of edges that bound a region the one that begins first goes rightwards.
-use Rattle.std.proofs.Common.{◌≡◌, ◌≢◌, ◌⊎◌, inl, inr, ◌+◌, ◌<◌, ◌∷◌, [], Bool, true, false, cond, ℕ, ℤ, pos, negsuc, ◌+ℤ◌, ◌-ℤ◌, ◌*ℤ◌, ◌≤ℤ◌, ◌<ℤ◌, List, get_or, refl, ap, sym, subst, suc, zero, ◌∙◌, arith}
+use Rattle.std.proofs.Common.{◌≡◌, ◌≢◌, ◌⊎◌, inl, inr, ◌+◌, ◌<◌, ◌∷◌, [], Bool, true, false, cond, ℕ, ℤ, pos, negsuc, ◌+ℤ◌, ◌-ℤ◌, ◌*ℤ◌, ◌≤ℤ◌, ◌<ℤ◌, List, refl, ap, sym, subst, suc, zero, ◌∙◌, arith}
 use Rattle.std.specs.List.{Contains}
-use Rattle.std.proofs.lemmas.Bool.{cases_lt}
 use Rattle.std.proofs.lemmas.Int.{ints, by_lt_z}
-use Rattle.std.proofs.lemmas.List.{get_or_default}
 use Rattle.std.proofs.lemmas.List.Elements.{All-contains}
 use Rattle.i_tree.proofs.RootLemmas.Lists.{AllPairs-head, AllPairs-tail, Contains-here, Contains-there}
 use Rattle.plane.specs.declared.edge.Edge.{Edge}
@@ -25,7 +23,7 @@ use Rattle.overlay.proofs.FillLemmas.Uncrossed.{MeetOnly-exchanged, MeetOnly-rig
 use Rattle.overlay.proofs.FillLemmas.Under.{is_counted-from, under_is, under_over}
 use Rattle.overlay.proofs.FillLemmas.Weights.{weight-left}
 use Rattle.overlay.proofs.FillLemmas.Wound.{winding-total}
-use Rattle.overlay.proofs.PieceLemmas.Made.{alike, begins-lower, rightwards-onwards}
+use Rattle.overlay.proofs.PieceLemmas.Made.{begins-lower, rightwards-onwards}
 use Rattle.noding.proofs.SnapLemmas.Counted.{height_at, is_counted}
 use Rattle.noding.proofs.SnapLemmas.Numbers.{Natural, below, n_of, natural}
 use Rattle.noding.proofs.SnapLemmas.Rounding.{Floor}
@@ -57,7 +55,7 @@ total-one f g (edge ∷ edges) (suc k, within, is) distinct none =
 -- ---- edges that meet only at common ends, turned rightwards
 
 -- they meet no more
-turned-meet : (edges : List Edge) → AreNoded edges → (one other : Edge) → Contains edges one → Contains edges other → MeetOnly (rightwards one) (rightwards other)
+pub turned-meet : (edges : List Edge) → AreNoded edges → (one other : Edge) → Contains edges one → Contains edges other → MeetOnly (rightwards one) (rightwards other)
 turned-meet edges noded one other first second =
     let meet : MeetOnly one other = λ point of_one of_other. noded one other point first second of_one of_other in
     MeetOnly-exchanged (rightwards other) (rightwards one) (MeetOnly-rightwards other (rightwards one) (MeetOnly-exchanged (rightwards one) other (MeetOnly-rightwards one other meet)))

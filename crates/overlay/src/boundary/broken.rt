@@ -8,15 +8,15 @@ ghost use Rattle.noding.specs.Offsets.{offsets};
 ghost use Rattle.noding.specs.Windings.{pieces};
 
 use i_tree::Refusal;
+use noding::node;
 use noding::pieces::pieces_of;
-use noding::snap;
 use plane::edge::Edge;
 use std::alloc::{AllocError, Allocator};
 
 /// The pieces of the subject's edges and then of the clip's, and how many of them are the subject's.
 ///
-/// The edges of both are broken together where they meet, and rounded, as `snap` does it. They needn't be closed. It is refused
-/// where memory has no room.
+/// The edges of both are broken together where they meet, and moved only where they must be, as `node` does it. They needn't be
+/// closed. It is refused where memory has no room.
 pub fn broken<A: Allocator + Copy>(
     alloc: A,
     subject: &[Edge],
@@ -29,7 +29,7 @@ pub fn broken<A: Allocator + Copy>(
     // A chain has two points at least, but that of a point.
     let mut points = Vec::with_capacity(alloc, edges.len().saturating_add(edges.len()))?;
     let mut ends = Vec::with_capacity(alloc, edges.len())?;
-    snap(&edges, &mut points, &mut ends)?;
+    node(&edges, &mut points, &mut ends)?;
     let pieces = pieces_of(alloc, &points, &ends)?;
     let count = count_pieces(&ends, subject.len());
     Ok((pieces, count))

@@ -23,14 +23,15 @@ pub mod pieces;
 /// another, and to `ring_ends` where each stops among these.
 ///
 /// The first `count` of the edges are the subject's, and the others the clip's. Both are closed, as those of rings are; they may
-/// cross, touch, lie along one another, and stand there more than once. They are broken where they meet and rounded
-/// (`broken_pieces`), which of the pieces bound the result is told by their winding numbers (`fill_pieces`), and these become
+/// cross, touch, lie along one another, and stand there more than once. They are broken where they meet, and moved only where they
+/// must be (`broken_pieces`), which of the pieces bound the result is told by their winding numbers (`fill_pieces`), and these become
 /// rings (`contours_in_place`).
 ///
 /// The rings have the result on their left. None visits a point twice, and no two of their edges cross, or share more than an
-/// end. They wind once around each point of the result, and not at all around any other, if each edge given runs along an axis, or
-/// isn't within half a unit, on both axes, of the point. Around no point do they wind more often. If there are any rings, some edge
-/// of theirs isn't vertical.
+/// end. They wind once around each point of the result, and not at all around any other, if each edge given isn't moved, or runs
+/// along an axis, or isn't within half a unit, on both axes, of the point. Everywhere they wind as the result of the pieces, so
+/// around no point more than once. Each of their points is an end of an edge given, or what two of these cross at, rounded. If there
+/// are any rings, some edge of theirs isn't vertical.
 ///
 /// It is refused where memory or the status has no room, and leaves `points` and `ring_ends` as they were then. What the status
 /// holds is removed before and after, in every case. The memory is that of `points` and `ring_ends`.

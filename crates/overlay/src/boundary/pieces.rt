@@ -7,21 +7,22 @@ ghost use Rattle.plane.specs.declared.point.Point.{Point};
 ghost use Rattle.overlay.specs.declared.fill.pieces.Operand.TheVariants.{Subject, Clip};
 ghost use Rattle.overlay.specs.Boundary.{AreBroken, GoesOnToEnd, chain_pieces};
 ghost use Rattle.overlay.specs.Fill.Turned.{turned};
-ghost use Rattle.noding.specs.Chains.{AreChains};
+ghost use Rattle.noding.specs.Local.{AreNodeChains};
 ghost use Rattle.plane.specs.Ends.{edge_between, end_of, start_of};
 ghost use Rattle.noding.specs.Offsets.{between};
-ghost use Rattle.noding.specs.Stops.{AreAt, AreStops, GoesToEnd, point_of};
+ghost use Rattle.noding.specs.Stops.{AreAt, AreNodeStops, GoesToEnd, point_of};
 ghost use Rattle.noding.specs.Windings.{pieces};
 
 use crate::fill::pieces::{Operand, Piece, is_sloped, piece_of, room_for};
 use i_tree::Refusal;
-use noding::stops::{Stop, point_of, stops_in_order};
+use noding::nodes_in_order;
+use noding::stops::{Stop, point_of};
 use plane::edge::{Edge, edge_between, end_of, start_of};
 use plane::point::Point;
 use std::alloc::{AllocError, Allocator};
 
-/// The pieces of the subject's edges and then of the clip's, which are broken together where they meet, and rounded, as `broken`
-/// does it: those that aren't vertical, turned rightwards. The first `count` of the edges are the subject's.
+/// The pieces of the subject's edges and then of the clip's, which are broken together where they meet, and moved only where they
+/// must be, as `broken` does it: those that aren't vertical, turned rightwards. The first `count` of the edges are the subject's.
 ///
 /// No list of chains or of broken edges is made. It is refused where memory has no room.
 pub fn broken_pieces<A: Allocator + Copy>(
@@ -35,7 +36,7 @@ pub fn broken_pieces<A: Allocator + Copy>(
         × (out.items ≡ turned Subject broken ++ turned Clip broken_clip)
         × (length broken + length broken_clip < 2 ^ 63)) }
 {
-    let stops = stops_in_order(alloc, edges)?;
+    let stops = nodes_in_order(alloc, edges)?;
     let mut out = Vec::with_capacity(alloc, room_for(edges, &stops)?)?;
     append_pieces(edges, &stops, count, &mut out)?;
     Ok(out)
@@ -48,8 +49,8 @@ fn append_pieces<A: Allocator>(
     count: usize,
     out: &mut Vec<Piece, A>,
 ) -> Result<(), AllocError>
-    requires { AreStops edges.now stops.now }
-    ensures { OnOk result ((chains : List (List Point)) × AreChains edges.now chains
+    requires { AreNodeStops edges.now stops.now }
+    ensures { OnOk result ((chains : List (List Point)) × AreNodeChains edges.now chains
         × (out.new.items ≡ out.old.items ++ chain_pieces count chains)
         × (length (flat_map pieces chains) ≤ length edges.now + length stops.now)) }
 {

@@ -28,7 +28,7 @@ mod verticals;
 ///
 /// The winding number of edges around a point is the number of those under it that go rightwards, less those that go leftwards;
 /// the rule says which points are inside by it. The edges have to be closed, as those of rings are, and noded: each point of two
-/// of them is an end of both, or the two have the same ends. The pieces that `snap` makes of closed edges are both.
+/// of them is an end of both, or the two have the same ends. The pieces that `node` makes of closed edges are both.
 ///
 /// The edges appended are closed and noded too, and no two have the same ends. They wind once around each point of the result,
 /// and not at all around any other: the result is on the left of each. One that isn't vertical is an edge of the subject or of

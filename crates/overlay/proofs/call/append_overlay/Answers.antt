@@ -7,9 +7,9 @@ use Rattle.overlay.specs.Contours.Outlines.{outline}
 use Rattle.overlay.specs.Contours.Rings.{AreContours, IsRing, ring_edges}
 use Rattle.overlay.specs.Polygons.{AreAppended, BoundsSome, IsPolygon}
 use Rattle.overlay.specs.Polygons.{rings_of as all_rings}
-use Rattle.overlay.specs.Rings.{edges_in, edges_of}
+use Rattle.overlay.specs.Rings.{edges_in, edges_of, real_edges}
 use Rattle.overlay.proofs.Callers.{AreEnds-joined, AreJoined-first, rings-joined}
-use Rattle.overlay.proofs.OverlayLemmas.{bounds-real, bounds-some, polygons-overlay}
+use Rattle.overlay.proofs.OverlayLemmas.{bounds-some, polygons-overlay}
 use Rattle.overlay.proofs.call.append_overlay.Goals as goal
 
 pub append_polygons-requires-clause-ends : goal.append_polygons-requires-clause-ends
@@ -45,8 +45,8 @@ returns-clause-ok g c =
     let new = c.append_polygons.new.out in
     let (rings, is, _, points_are, ends_are) = c.in_ok-append_boundary.ensures.ok in
     let same = rings-joined rings points ends (AreJoined-first rings _ _ _ _ _ _ c.new-points.ensures.items c.new-ends.ensures.items points_are ends_are c.deref.ensures.value c.deref-2.ensures.value) in
-    let bounds : BoundsResult rule operation subject clip (edges_in points ends) =
-    subst (λ (all : List (List Point)). BoundsResult rule operation subject clip (flat_map ring_edges all)) (sym same) (bounds-real rule operation subject clip (flat_map ring_edges rings) is.bounds) in
+    let bounds : BoundsResult rule operation (real_edges subject) (real_edges clip) (edges_in points ends) =
+    subst (λ (all : List (List Point)). BoundsResult rule operation (real_edges subject) (real_edges clip) (flat_map ring_edges all)) (sym same) is.bounds in
     on_ok_weaker c.append_polygons.result (λ (found : (whole : List (List (List Point))) × All IsPolygon whole × AreContours (edges_in points ends) (all_rings whole)
     × AreAppended (map (λ polygon. map outline polygon) whole) out.points.items new.points.items out.ring_ends.items new.ring_ends.items out.polygon_ends.items new.polygon_ends.items). (
       map (λ polygon. map outline polygon) found.0,

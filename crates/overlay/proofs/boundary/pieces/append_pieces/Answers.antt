@@ -8,10 +8,10 @@ use Rattle.overlay.specs.declared.fill.pieces.Piece.{Piece}
 use Rattle.overlay.specs.declared.fill.pieces.Operand.{Operand}
 use Rattle.overlay.specs.Boundary.{chain_pieces}
 use Rattle.overlay.specs.Fill.Turned.{turned}
-use Rattle.noding.specs.Chains.{IsChain}
+use Rattle.noding.specs.Local.{IsNodeChain}
 use Rattle.noding.specs.Windings.{pieces}
 use Rattle.overlay.proofs.BoundaryLemmas.Pieces.{chain_pieces-clip, chain_pieces-subject, chain-few}
-use Rattle.noding.proofs.ChainLemmas.Runs.{IsChain-run, Split-next}
+use Rattle.noding.proofs.ChainLemmas.Runs.{IsNodeChain-run, Split-next}
 use Rattle.noding.proofs.ChainLemmas.Zips.{AllZip-length, AllZip-more}
 use Rattle.overlay.proofs.boundary.pieces.append_pieces.Goals as goal
 
@@ -29,8 +29,8 @@ loop-place-preserved g c =
     let none : Edge = record { x0 = pos 0; y0 = pos 0; x1 = pos 0; y1 = pos 0 } in
     let edge = get_or edges place none in
     let stands = slice_get-get_or edges place none c.loop-place-test.true in
-    let is_chain = IsChain-run edges stops c.requires place next end split run edge stands chain goes in
-    let size : length chains ≡ place = AllZip-length (IsChain edges) (take place edges) chains are ∙ length-take-le place edges (let within = c.loop-place-test.true in omega (arith, within)) in
+    let is_chain = IsNodeChain-run edges stops c.requires place next end split run edge stands chain goes in
+    let size : length chains ≡ place = AllZip-length (IsNodeChain edges) (take place edges) chains are ∙ length-take-le place edges (let within = c.loop-place-test.true in omega (arith, within)) in
     let more : chain_pieces count chains ++ turned c.operand_at.result (pieces chain) ≡ chain_pieces count (chains ++ chain ∷ []) = elim (cases_lt place count) [
       | inl less ↦ ap (λ (operand : Operand). chain_pieces count chains ++ turned operand (pieces chain)) (c.operand_at.ensures.subject less) ∙ sym (chain_pieces-subject count chains chain (omega (arith, size, less)))
       | inr upto ↦ ap (λ (operand : Operand). chain_pieces count chains ++ turned operand (pieces chain)) (c.operand_at.ensures.clip upto) ∙ sym (chain_pieces-clip count chains chain (omega (arith, size, upto)))
@@ -38,8 +38,8 @@ loop-place-preserved g c =
       Split-next edges stops c.requires place next end split run,
       (
         chains ++ chain ∷ [],
-        subst (λ (done : List Edge). AllZip (IsChain edges) done (chains ++ chain ∷ [])) (sym (take_more edges place none c.loop-place-test.true))
-            (AllZip-more (IsChain edges) (take place edges) chains edge chain are is_chain),
+        subst (λ (done : List Edge). AllZip (IsNodeChain edges) done (chains ++ chain ∷ [])) (sym (take_more edges place none c.loop-place-test.true))
+            (AllZip-more (IsNodeChain edges) (take place edges) chains edge chain are is_chain),
         gained ∙ ap (λ (list : List Piece). list ++ turned c.operand_at.result (pieces chain)) is ∙ append_assoc before (chain_pieces count chains) (turned c.operand_at.result (pieces chain)) ∙ ap (λ (list : List Piece). before ++ list) more,
         (let rising = run.rising in
             let inside = run.inside in
@@ -55,7 +55,7 @@ pub returns : goal.returns
 returns g c =
     let (split, (chains, are, is, few)) = c.loop-place.invariant in
     let edges = c.args.edges.now in
-    let all = subst (λ (done : List Edge). AllZip (IsChain edges) done chains) (take_all c.loop-place.place edges c.loop-place-test.false) are in
-    let size = AllZip-length (IsChain edges) edges chains all in
+    let all = subst (λ (done : List Edge). AllZip (IsNodeChain edges) done chains) (take_all c.loop-place.place edges c.loop-place-test.false) are in
+    let size = AllZip-length (IsNodeChain edges) edges chains all in
     let inside = split.inside in
     (chains, all, is, omega (arith, size, inside, few))
