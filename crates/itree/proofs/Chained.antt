@@ -1,10 +1,18 @@
--- The lines of chains, of which one stands after the other in one list.
+-- Chains, of which one stands after the other in one list, and their lines.
 use Rattle.std.proofs.Common.{◌≡◌, ◌<◌, ◌≤◌, ◌+◌, ℕ, List, [], ◌∷◌, ◌++◌, length, take, get_or, sym, ap, ◌∙◌, append_assoc, arith}
 use Rattle.std.proofs.lemmas.List.{flat_map_more, take_all, take_more}
 use Rattle.itree.specs.Replies.{chain_words, reply_lines}
-use Rattle.noding.specs.Offsets.{AreJoined}
-use Rattle.noding.proofs.Callers.{length-offsets}
+use Rattle.noding.specs.Offsets.{AreJoined, offsets}
+use Rattle.noding.proofs.Callers.{joined, length-offsets}
 use Rattle.plane.specs.declared.point.Point.{Point}
+
+-- chains that were appended to nothing
+pub AreJoined-first : (chains : List (List Point)) (before after points : List Point) (ends_before ends_after ends : List ℕ) → before ≡ [] → ends_before ≡ [] → after ≡ before ++ joined chains
+    → ends_after ≡ ends_before ++ offsets (length before) chains → points ≡ after → ends ≡ ends_after → AreJoined chains points ends
+AreJoined-first chains before after points ends_before ends_after ends none no_end appended ended points_are ends_are = (
+  points_are ∙ appended ∙ ap (λ (all : List Point). all ++ joined chains) none,
+  ends_are ∙ ended ∙ ap (λ (all : List ℕ). all ++ offsets (length before) chains) no_end ∙ ap (λ (all : List Point). offsets (length all) chains) none,
+)
 
 -- one line more
 pub chain_lines-more : (chains : List (List Point)) (i : ℕ) (chain : List Point) (before told after : List ℕ) → i < length chains → chain ≡ get_or chains i [] → before ≡ reply_lines chain_words (take i chains)

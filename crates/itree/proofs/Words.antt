@@ -6,7 +6,7 @@ use Rattle.itree.specs.Modes.{row_of, Names, NamesRange, NamesOverlay, Chooses}
 use Rattle.itree.specs.SegLines.{SaysNoSegCommand}
 use Rattle.itree.specs.Texts.{HasFirstFaulty}
 use Rattle.itree.specs.declared.mode.Mode.{Mode}
-use Rattle.itree.specs.declared.mode.Mode.TheVariants.{KeyTree, KeyList, SetTree, SetList, Segments, Sweep, Meetings, Locate, Snap, Overlay}
+use Rattle.itree.specs.declared.mode.Mode.TheVariants.{KeyTree, KeyList, SetTree, SetList, Segments, Sweep, Meetings, Locate, Snap, Node, Overlay}
 use Rattle.std.proofs.lemmas.Slice.Eq.{bytes_eq-Decides}
 use Rattle.std.specs.Option.{option_eq}
 use Rattle.std.specs.Str.{bytes_eq}
@@ -114,6 +114,7 @@ Names-faulty (word ∷ words) Sweep Sweep text number names too faulty = faulty
 Names-faulty (word ∷ words) Meetings Meetings text number names too faulty = faulty
 Names-faulty (word ∷ words) Locate Locate text number names too faulty = faulty
 Names-faulty (word ∷ words) Snap Snap text number names too faulty = faulty
+Names-faulty (word ∷ words) Node Node text number names too faulty = faulty
 Names-faulty (word ∷ words) (Overlay operation rule) (Overlay operation' rule') text number names too faulty = faulty
 Names-faulty (word ∷ words) one other text number names too faulty =
     let same : (row_of one).word ≡ (row_of other).word = sym names.0.0 ∙ too.0.0 in

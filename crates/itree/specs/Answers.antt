@@ -25,6 +25,7 @@ use Rattle.plane.specs.declared.edge.Edge.{Edge}
 use Rattle.plane.specs.declared.point.Point.{Point}
 use Rattle.overlay.specs.Contours.Rings.{ring_edges}
 use Rattle.noding.specs.Chains.{AreChains}
+use Rattle.noding.specs.Local.{AreNodeChains}
 use Rattle.overlay.specs.declared.fill.rules.FillRule.{FillRule}
 use Rattle.overlay.specs.declared.fill.rules.Operation.{Operation}
 use Rattle.overlay.specs.Overlay.{IsOverlay}
@@ -110,6 +111,12 @@ pub record AnswersLocate (lines : List (List ℕ)) (said : List LocateLine) (out
 pub record AnswersSnap (edges : List Edge) (output : List ℕ) : Type 0 where
   pub chains : List (List Point)
   pub are : AreChains edges chains
+  pub written : output ≡ reply_lines chain_words chains
+
+-- the chains are those of the edges over their nodes, each at its edge's place, and the output is their lines
+pub record AnswersNode (edges : List Edge) (output : List ℕ) : Type 0 where
+  pub chains : List (List Point)
+  pub are : AreNodeChains edges chains
   pub written : output ≡ reply_lines chain_words chains
 
 -- the polygons are what the operation makes of the inside of the subject and that of the clip, whose rings are said, and the output

@@ -2,7 +2,7 @@
 use Rattle.std.specs.Prelude.{◌≡◌, ◌⊎◌, ⊤, ℕ, ℤ, List, [], ◌∷◌, map, codes}
 use Rattle.std.specs.Borrow.{Bor}
 use Rattle.i_tree.specs.Seg.Buckets.{HasLayout}
-use Rattle.itree.specs.Answers.{AnswersKeys, AnswersSet, AnswersRange, AnswersSweep, AnswersMeetings, AnswersLocate, AnswersSnap, AnswersOverlay}
+use Rattle.itree.specs.Answers.{AnswersKeys, AnswersSet, AnswersRange, AnswersSweep, AnswersMeetings, AnswersLocate, AnswersSnap, AnswersNode, AnswersOverlay}
 use Rattle.itree.specs.MeetingsLines.{SaysEdge}
 use Rattle.itree.specs.Grammar.{ReadsAll}
 use Rattle.itree.specs.KeyLines.{KeyLine, SaysKeyCommand}
@@ -15,7 +15,7 @@ use Rattle.itree.specs.declared.lines.locate.LocateLine.{LocateLine}
 use Rattle.itree.specs.declared.lines.sweep.SweepLine.{SweepLine}
 use Rattle.plane.specs.declared.edge.Edge.{Edge}
 use Rattle.itree.specs.declared.mode.Mode.{Mode}
-use Rattle.itree.specs.declared.mode.Mode.TheVariants.{KeyTree, KeyList, SetTree, SetList, Segments, Sweep, Meetings, Locate, Snap, Overlay}
+use Rattle.itree.specs.declared.mode.Mode.TheVariants.{KeyTree, KeyList, SetTree, SetList, Segments, Sweep, Meetings, Locate, Snap, Node, Overlay}
 use Rattle.overlay.specs.declared.fill.rules.FillRule.{FillRule}
 use Rattle.overlay.specs.declared.fill.rules.FillRule.TheVariants.{EvenOdd, NonZero, Positive, Negative}
 use Rattle.overlay.specs.declared.fill.rules.Operation.{Operation}
@@ -120,15 +120,15 @@ locate_row = record {
 }
 
 -- edges of the plane, each over its chain
-abbrev pub snap_row : Row
-snap_row = record {
-  word = codes "snap";
+abbrev pub chains_row : List ℕ → (List Edge → List ℕ → Type 0) → Row
+chains_row word AnswersThese = record {
+  word = word;
   choices = [];
   numbers = [];
   Fits = ⊤;
   Command = Edge;
   SaysCommand = SaysEdge;
-  AnswersAll = λ lines. AnswersSnap;
+  AnswersAll = λ lines. AnswersThese;
   IsOverlap = λ lines number. ⊥;
   AreCrossing = λ lines first second. ⊥;
 }
@@ -171,7 +171,8 @@ row_of (Segments min max) = segments_row min max
 row_of Sweep = sweep_row
 row_of Meetings = meetings_row
 row_of Locate = locate_row
-row_of Snap = snap_row
+row_of Snap = chains_row (codes "snap") AnswersSnap
+row_of Node = chains_row (codes "node") AnswersNode
 row_of (Overlay operation rule) = overlay_row operation rule
 
 -- the numbers of the mode fit: those of segments are the ends of a range that has a layout

@@ -26,6 +26,7 @@ use i_tree::set::tree::SetTree;
 use i_tree::status::tree::StatusTree;
 use locate::answer_locate;
 use meetings::answer_meetings;
+use node::answer_node;
 use rings::answer_rings;
 use runs::{SegReply, run_keys, run_segments, run_sets};
 use snap::answer_snap;
@@ -35,6 +36,7 @@ use sweep::answer_sweep;
 
 mod locate;
 mod meetings;
+mod node;
 mod rings;
 mod snap;
 mod sweep;
@@ -103,6 +105,10 @@ pub fn answer_text<A: Allocator + Copy>(
         Mode::Snap => {
             let edges = parse_commands(alloc, text)?;
             answer_snap(alloc, &edges)
+        }
+        Mode::Node => {
+            let edges = parse_commands(alloc, text)?;
+            answer_node(alloc, &edges)
         }
         Mode::Overlay { operation, rule } => {
             let said = parse_rings(alloc, text)?;

@@ -49,6 +49,10 @@ itree snap: for each edge between two points of the plane the points of the grid
 where edges are broken where they meet, from its beginning to its end. No two then cross.
   edge X0 Y0 X1 Y1                     chain X Y ..
 
+itree node: as itree snap, but an edge is moved only where it comes near to where two edges cross at
+a point with fractions, or near to what such an edge passes. Any other is broken at what lies on it.
+  edge X0 Y0 X1 Y1                     chain X Y ..
+
 itree overlay OPERATION RULE: polygons of what OPERATION, union, intersection, difference or xor,
 makes of the inside of the subject and that of the clip, by RULE, evenodd, nonzero, positive or
 negative. Each line is a ring. A polygon has a line, polygon X Y .., its outer ring, and behind it

@@ -34,6 +34,8 @@ pub enum Mode {
     Locate,
     /// Edges of the plane, and over which points of the grid each goes where they are broken.
     Snap,
+    /// As in `Snap`, but where edges are moved only where they must be.
+    Node,
     /// Rings of the subject and of the clip, and the polygons that the operation makes of what is inside of them by the rule.
     Overlay {
         operation: Operation,
@@ -58,6 +60,7 @@ impl Mode {
             ["meetings"] => Some(Mode::Meetings),
             ["locate"] => Some(Mode::Locate),
             ["snap"] => Some(Mode::Snap),
+            ["node"] => Some(Mode::Node),
             ["overlay", operation, rule] => overlay_by(operation, rule),
             _ => None,
         }

@@ -23,8 +23,8 @@ use std::io::{Read, Write};
 /// `VERSION`.
 ///
 /// `words` are the arguments without the program's name, which are to be the one word of a mode: `keytree`, `keylist`,
-/// `settree`, `setlist`, `sweep`, `meetings`, `locate` or `snap`; `seg`, `MIN` and `MAX`, the ends of a range that has a layout;
-/// `overlay`, an operation and a fill rule; or one word that asks for help, `help`, `--help` or `-h`, or for the version,
+/// `settree`, `setlist`, `sweep`, `meetings`, `locate`, `snap` or `node`; `seg`, `MIN` and `MAX`, the ends of a range that has a
+/// layout; `overlay`, an operation and a fill rule; or one word that asks for help, `help`, `--help` or `-h`, or for the version,
 /// `--version` or `-V`. `faults` stands for standard error, and the answer is the process's status:
 ///
 /// - 0 where all replies, or the text asked for, were written and flushed. An insertion that was refused has a reply too.

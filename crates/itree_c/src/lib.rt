@@ -18,6 +18,7 @@ pub mod layers_lines;
 pub mod layers_pairs;
 pub mod layers_parents;
 pub mod meetings;
+pub mod noded;
 pub mod overlaid;
 pub mod pairs;
 pub mod places;

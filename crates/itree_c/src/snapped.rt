@@ -7,7 +7,7 @@ ghost use Rattle.std.specs.Vec.{vec_ptr};
 ghost use Rattle.itree_c.specs.Chains.{owns_chains, AnswersChains, AreAllChains};
 ghost use Rattle.itree_c.specs.declared.chains.Chains.{Chains as Held};
 
-use crate::chains::{Chains, drop_chains};
+use crate::chains::{Chains, boxed_chains, drop_chains};
 use crate::handle::Handle;
 use crate::raw::Raw;
 use crate::status::{ANSWERED, REFUSED};
@@ -85,33 +85,19 @@ pub unsafe extern "C" fn itree_chains_free(alloc: Global, chains: *mut Handle)
 fn all_chains(alloc: Global, edges: &[Edge]) -> (i32, Raw<Chains, Global>)
     ensures { AnswersChains edges.now result.0 result.1.value }
 {
-    match boxed_chains(alloc, edges) {
+    match boxed_snap(alloc, edges) {
         Ok(chains) => (ANSWERED, Raw::of(chains)),
         Err(_) => (REFUSED, Raw::null(alloc)),
     }
 }
 
 // The chains of these edges, on the heap.
-fn boxed_chains(alloc: Global, edges: &[Edge]) -> Result<Box<Chains, Global>, Refusal>
+fn boxed_snap(alloc: Global, edges: &[Edge]) -> Result<Box<Chains, Global>, Refusal>
     ensures { IfOk result (λ chains. AreAllChains edges.now chains.value) }
 {
-    let mut held_points = Vec::new(alloc);
-    let mut held_offsets = Vec::new(alloc);
-    held_offsets.push(0)?;
-    snap(edges, &mut held_points, &mut held_offsets)?;
-    let points = held_points.as_ptr();
-    let point_count = held_points.len();
-    let offsets = held_offsets.as_ptr();
-    let offset_count = held_offsets.len();
-    Ok(Box::new(
-        alloc,
-        Chains {
-            points,
-            point_count,
-            offsets,
-            offset_count,
-            held_points,
-            held_offsets,
-        },
-    )?)
+    let mut points = Vec::new(alloc);
+    let mut offsets = Vec::new(alloc);
+    offsets.push(0)?;
+    snap(edges, &mut points, &mut offsets)?;
+    Ok(boxed_chains(alloc, points, offsets)?)
 }

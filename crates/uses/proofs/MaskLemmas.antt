@@ -154,7 +154,7 @@ axial-rectangles (it ∷ rectangles) =
 pub AreFree-overlay : (rectangles masks : List Rectangle) (subject clip : List Edge) (polygons : List (List (List Point))) → subject ≡ edges_of rectangles → clip ≡ edges_of masks → IsOverlay NonZero Difference subject clip polygons → AreFree rectangles masks polygons
 AreFree-overlay rectangles masks subject clip polygons are mask_are is = λ point.
     let axial = subst (λ (edges : List Edge). All IsAlongAxis edges) (sym (ap₂ (λ (a b : List Edge). a ++ b) are mask_are)) (All-append IsAlongAxis (edges_of rectangles) (edges_of masks) (axial-rectangles rectangles) (axial-rectangles masks)) in
-    is.exact point (λ k d within. inl (axial k d within)) ∙ ap₂ (λ a b. result_at NonZero Difference a b point) are mask_are ∙ free-result rectangles masks point
+    is.exact point (λ k d within. inl (inl (axial k d within))) ∙ ap₂ (λ a b. result_at NonZero Difference a b point) are mask_are ∙ free-result rectangles masks point
 
 -- the corners, one rectangle after another, are their rings
 joined-corners : (rectangles : List Rectangle) (points : List Point) (ends : List ℕ) → points ≡ flat_map corners rectangles → ends ≡ offsets 0 (map corners rectangles) → AreJoined (map corners rectangles) points ends

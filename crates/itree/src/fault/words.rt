@@ -184,7 +184,7 @@ fn beginning(mode: Mode) -> Wanted
         Mode::SetTree | Mode::SetList => Wanted::OfSets,
         Mode::Segments { .. } => Wanted::OfSegments,
         Mode::Sweep => Wanted::OfSweep,
-        Mode::Meetings | Mode::Snap => Wanted::OfEdges,
+        Mode::Meetings | Mode::Snap | Mode::Node => Wanted::OfEdges,
         Mode::Locate => Wanted::OfLocate,
         Mode::Overlay { .. } => Wanted::OfRings,
     }

@@ -13,6 +13,7 @@ use Rattle.overlay.specs.Contours.Rings.{has_two_ends, real_edges, ring_edges}
 use Rattle.noding.specs.Chains.{AreChains, IsChain}
 use Rattle.noding.specs.Offsets.{offsets}
 use Rattle.noding.specs.Windings.{pieces}
+use Rattle.noding.proofs.SnapLemmas.Paths.{IsPath-chains}
 use Rattle.overlay.proofs.BoundaryLemmas.Broken.{chains-count, chains-some}
 use Rattle.noding.proofs.ChainLemmas.Zips.{AllZip-length}
 use Rattle.layers.specs.LineParts.{AreBrokenEdges, AreGathered, IsLoop, real_ring}
@@ -174,7 +175,8 @@ module _ (lines rings : List (List Point)) (chains : List (List Point)) (cut : A
 -- so many chains stop where the edges of each line do, and of each ring
 pub stops-some : (edges : List Edge) (chain_ends : List ℕ) (chains : List (List Point)) (numbers : List ℕ) → AreChains edges chains → chain_ends ≡ offsets 0 chains → All (λ n. n ≤ length edges) numbers → All (StopSome chain_ends) numbers
 stops-some edges chain_ends chains numbers are stops within =
-    All-weaker (λ n. n ≤ length edges) (StopSome chain_ends) (λ n below. (chains, stops, chains-some edges chains are, chains-count edges chains n below are)) numbers within
+    let paths = IsPath-chains edges edges chains (λ edge among. among) are in
+    All-weaker (λ n. n ≤ length edges) (StopSome chain_ends) (λ n below. (chains, stops, chains-some edges chains paths, chains-count edges chains n below paths)) numbers within
 
 -- of chains that stop where so many and more do, there are as many
 pub StopSome-upto : (ends : List ℕ) (number : ℕ) (chains : List (List Point)) → StopSome ends number → ends ≡ offsets 0 chains → number ≤ length chains

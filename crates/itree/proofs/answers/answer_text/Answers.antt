@@ -5,7 +5,7 @@ use Rattle.i_tree.specs.Rb.Shape.{Shape, entries}
 use Rattle.i_tree.specs.Seg.Buckets.{IsLayout}
 use Rattle.i_tree.specs.Set.Pairs.{values}
 use Rattle.i_tree.specs.Set.SetList.{numbered}
-use Rattle.itree.specs.Answers.{AnswersKeys, AnswersSet, AnswersSegments, AnswersSweep, AnswersMeetings, AnswersLocate, AnswersSnap, AnswersOverlay}
+use Rattle.itree.specs.Answers.{AnswersKeys, AnswersSet, AnswersSegments, AnswersSweep, AnswersMeetings, AnswersLocate, AnswersSnap, AnswersNode, AnswersOverlay}
 use Rattle.itree.specs.Grammar.{lines_of}
 use Rattle.itree.specs.KeyLines.{KeyLine}
 use Rattle.itree.specs.SegLines.{SegLine}
@@ -13,7 +13,7 @@ use Rattle.itree.specs.Texts.{HasOverlapLine, HasCrossingLines}
 use Rattle.itree.specs.declared.lines.locate.LocateLine.{LocateLine}
 use Rattle.itree.specs.declared.lines.sweep.SweepLine.{SweepLine}
 use Rattle.itree.specs.declared.mode.Mode.{Mode}
-use Rattle.itree.specs.declared.mode.Mode.TheVariants.{KeyTree, KeyList, SetTree, SetList, Segments, Sweep, Meetings, Locate, Snap, Overlay}
+use Rattle.itree.specs.declared.mode.Mode.TheVariants.{KeyTree, KeyList, SetTree, SetList, Segments, Sweep, Meetings, Locate, Snap, Node, Overlay}
 use Rattle.plane.specs.declared.edge.Edge.{Edge}
 use Rattle.itree.specs.declared.set_key.SetKey.{SetKey}
 use Rattle.itree.specs.declared.timed_key.TimedKey.{TimedKey}
@@ -88,6 +88,12 @@ returns-in_ok-edges-in-Snap-clause-answered g c =
     let parsed = c.in_ok-edges-in-Snap in
     answered c.answer_snap.result (λ output. string_bytes output) Snap c.args.mode c.in-Snap.is c.args.text.now parsed.edges.items parsed.ensures.said
     (subst (λ (edges : List Edge). IfOk c.answer_snap.result (λ output. AnswersSnap edges (string_bytes output))) c.deref-in-Snap.ensures.value c.answer_snap.ensures.answered)
+
+pub returns-in_ok-edges-in-Node-clause-answered : goal.returns-in_ok-edges-in-Node-clause-answered
+returns-in_ok-edges-in-Node-clause-answered g c =
+    let parsed = c.in_ok-edges-in-Node in
+    answered c.answer_node.result (λ output. string_bytes output) Node c.args.mode c.in-Node.is c.args.text.now parsed.edges.items parsed.ensures.said
+    (subst (λ (edges : List Edge). IfOk c.answer_node.result (λ output. AnswersNode edges (string_bytes output))) c.deref-in-Node.ensures.value c.answer_node.ensures.answered)
 
 pub returns-in_ok-said-in-Overlay-clause-answered : goal.returns-in_ok-said-in-Overlay-clause-answered
 returns-in_ok-said-in-Overlay-clause-answered g c =

@@ -5,6 +5,7 @@ use Rattle.plane.specs.declared.edge.Edge.{Edge}
 use Rattle.plane.specs.declared.point.Point.{Point}
 use Rattle.noding.specs.Offsets.{offsets}
 use Rattle.noding.specs.Windings.{pieces}
+use Rattle.noding.proofs.SnapLemmas.Paths.{IsPath-chains}
 use Rattle.overlay.proofs.BoundaryLemmas.Broken.{chains-count, chains-some}
 use Rattle.layers.specs.LineParts.{AreGathered, real_ring}
 use Rattle.layers.specs.Lines.{line_edges}
@@ -25,11 +26,12 @@ pub count_pieces-count-requires : goal.count_pieces-count-requires
 count_pieces-count-requires g c =
     let (lines, rings, gathered, is) = c.requires in
     let edges = c.args.edges.now in
-    let (chains, are, _, ends) = c.in_ok-snap.ensures.ok in (
+    let (chains, are, _, ends) = c.in_ok-snap.ensures.ok in
+    let paths = IsPath-chains edges edges chains (λ edge among. among) are in (
       chains,
       stops chains c.in_ok-points.points.items c.in_ok-ends.ends.items c.snap.new.ends.items c.deref-3.result.now c.in_ok-points.ensures.items c.in_ok-ends.ensures.items ends c.deref-3.ensures.value,
-      chains-some edges chains are,
-      chains-count edges chains c.args.count (within lines rings edges c.args.line_ends.now c.args.ring_ends.now c.args.count gathered is) are,
+      chains-some edges chains paths,
+      chains-count edges chains c.args.count (within lines rings edges c.args.line_ends.now c.args.ring_ends.now c.args.count gathered is) paths,
     )
 
 pub counts_of-requires : goal.counts_of-requires
@@ -55,8 +57,9 @@ moved_back-requires g c =
     let (lines, rings, gathered, is) = c.requires in
     let edges = c.args.edges.now in
     let (chains, are, _, ends) = c.in_ok-snap.ensures.ok in
-    let some = chains-some edges chains are in
-    let inside = chains-count edges chains c.args.count (within lines rings edges c.args.line_ends.now c.args.ring_ends.now c.args.count gathered is) are in
+    let paths = IsPath-chains edges edges chains (λ edge among. among) are in
+    let some = chains-some edges chains paths in
+    let inside = chains-count edges chains c.args.count (within lines rings edges c.args.line_ends.now c.args.ring_ends.now c.args.count gathered is) paths in
     let stops_3 = stops chains c.in_ok-points.points.items c.in_ok-ends.ends.items c.snap.new.ends.items c.deref-3.result.now c.in_ok-points.ensures.items c.in_ok-ends.ensures.items ends c.deref-3.ensures.value in
     let stops_5 = stops chains c.in_ok-points.points.items c.in_ok-ends.ends.items c.snap.new.ends.items c.deref-5.result.now c.in_ok-points.ensures.items c.in_ok-ends.ensures.items ends c.deref-5.ensures.value in
     rings-behind lines rings chains (gathered-cut lines rings edges c.args.line_ends.now c.args.ring_ends.now chains gathered are) c.count_pieces-count.result c.deref-6.result.now
@@ -67,8 +70,9 @@ pub returns-clause-ok : goal.returns-clause-ok
 returns-clause-ok g c = λ lines rings gathered is.
     let edges = c.args.edges.now in
     let (chains, are, points, ends) = c.in_ok-snap.ensures.ok in
-    let some = chains-some edges chains are in
-    let inside = chains-count edges chains c.args.count (within lines rings edges c.args.line_ends.now c.args.ring_ends.now c.args.count gathered is) are in
+    let paths = IsPath-chains edges edges chains (λ edge among. among) are in
+    let some = chains-some edges chains paths in
+    let inside = chains-count edges chains c.args.count (within lines rings edges c.args.line_ends.now c.args.ring_ends.now c.args.count gathered is) paths in
     let none = c.in_ok-points.ensures.items in
     let stops_2 = stops chains c.in_ok-points.points.items c.in_ok-ends.ends.items c.snap.new.ends.items c.deref-2.result.now none c.in_ok-ends.ensures.items ends c.deref-2.ensures.value in
     let stops_3 = stops chains c.in_ok-points.points.items c.in_ok-ends.ends.items c.snap.new.ends.items c.deref-3.result.now none c.in_ok-ends.ensures.items ends c.deref-3.ensures.value in
