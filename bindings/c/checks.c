@@ -20,6 +20,7 @@ int32_t proved_itree_how_they_meet(const struct itree_edge *one, const struct it
 size_t proved_itree_pairs_first(const struct itree_pairs *pairs, struct itree_pair **first);
 void proved_itree_pairs_free(struct itree_pairs *pairs);
 int32_t proved_itree_snap(const struct itree_edge *edges, size_t edge_count, struct itree_chains **chains);
+int32_t proved_itree_node(const struct itree_edge *edges, size_t edge_count, struct itree_chains **chains);
 size_t proved_itree_chains_points(const struct itree_chains *chains, struct itree_point **first);
 size_t proved_itree_chains_offsets(const struct itree_chains *chains, size_t **first);
 void proved_itree_chains_free(struct itree_chains *chains);
@@ -176,6 +177,14 @@ int32_t itree_snap(const struct itree_edge *edges, size_t edge_count, struct itr
     }
     limits_begin();
     return limits_end(proved_itree_snap(slice(edges, edge_count), edge_count, chains));
+}
+
+int32_t itree_node(const struct itree_edge *edges, size_t edge_count, struct itree_chains **chains) {
+    if (!can_hold(edges, edge_count, OF(struct itree_edge)) || !can_hold(chains, 1, OF(struct itree_chains *))) {
+        return ITREE_POINTER;
+    }
+    limits_begin();
+    return limits_end(proved_itree_node(slice(edges, edge_count), edge_count, chains));
 }
 
 /* There is one offset more than there are chains. */

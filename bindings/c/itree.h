@@ -185,6 +185,17 @@ struct itree_chains;
  * chains may not be NULL. What *chains was before isn't looked at. */
 int32_t itree_snap(const struct itree_edge *edges, size_t edge_count, struct itree_chains **chains);
 
+/* Writes a handle of the chains that the edges become where they are moved only where they must be: one for each edge, in
+ * the order of the edges.
+ *
+ * An edge passes the hot points of its chain of itree_snap. Where two edges cross at a point with fractions, what this
+ * rounds to moves the edges that pass it and that it doesn't lie on; so does each hot point that a moved edge passes. The
+ * chain of a moved edge is that of itree_snap. Any other edge stays where it is: its chain is the hot points that lie on
+ * it exactly. So where no two edges cross at a point with fractions, none is moved. Each chain begins and ends as its
+ * edge does, and the pieces of the chains meet at common ends alone, or are the same. The call returns what itree_snap
+ * does, and *chains is as there. */
+int32_t itree_node(const struct itree_edge *edges, size_t edge_count, struct itree_chains **chains);
+
 /* How many chains there are: as many as there were edges; 0 at NULL. */
 size_t itree_chains_count(const struct itree_chains *chains);
 
@@ -236,8 +247,11 @@ struct itree_polygons;
  *
  * The first ring of a polygon is its outer one, which runs counterclockwise; those behind it are its holes, which run
  * clockwise. The polygons wind once around each point of the result, and not at all around any other, if each edge of the rings
- * given runs along an axis, or isn't within half a unit, on both axes, of the point. Around no point do they wind more often. Their rings visit no point twice, and have no points on straight lines:
- * with these, edges of rings meet only at common ends, so a corner may touch the side of a ring. The call returns
+ * given isn't moved, or runs along an axis, or isn't within half a unit, on both axes, of the point. Around no point do they
+ * wind more often. Only such edges are moved as pass what two edges cross at, a point with fractions that is rounded, or
+ * what a moved edge passes; so valid polygons keep their region. The rings visit no point twice, and have no points on
+ * straight lines: with these, edges of rings meet only at common ends, so a corner may touch the side of a ring. The call
+ * returns
  *   ITREE_ANSWERED  and *polygons is the caller's, also where nothing is of the result;
  *   ITREE_REFUSED   and *polygons is NULL;
  *   ITREE_POINTER   exactly where a pointer is faulty, and *polygons stays as it was;

@@ -359,6 +359,15 @@ private:
     return Chains(handle);
 }
 
+/// The chains that the edges become where they are moved only where they must be, one for each edge, in their order, where
+/// the library wrote them. Which edges are moved, and which points are of a chain, is said at `itree_node` of itree.h.
+/// Where no two edges cross at a point with fractions, each edge stays where it is. Throws what `snap` does.
+[[nodiscard]] inline Chains node(Span<Edge> edges) {
+    ::itree_chains *handle = nullptr;
+    detail::throw_unless_answered(::itree_node(edges.data(), edges.size(), &handle));
+    return Chains(handle);
+}
+
 /// Which points are inside of rings: by how often the rings go round a point counterclockwise, where y points upwards,
 /// less how often they go round it clockwise.
 enum class FillRule : std::int32_t {
@@ -1126,8 +1135,8 @@ template <typename Subject = detail::InBraces<Position>, typename Clip = detail:
     return detail::overlay(subject_rings, clip_rings, operation, rule);
 }
 
-/// The polygons of what is inside of the rings: the union of them with nothing. So rings that cross themselves become
-/// valid polygons. It takes and throws what `overlay` does.
+/// The polygons of what is inside of the rings: the union of them with nothing. So of rings that cross themselves
+/// polygons are made whose edges don't cross. It takes and throws what `overlay` does.
 template <typename Items = detail::InBraces<Point>>
 [[nodiscard]] Polygons simplify(const Items &rings, FillRule rule) {
     return overlay(rings, Rings(), Operation::union_, rule);

@@ -692,6 +692,33 @@ static void checks_snap(void) {
     itree_chains_free(chains);
 }
 
+static void checks_node(void) {
+    const struct itree_edge triangle[] = {{0, 7, 2, 0}, {2, 0, 2, 2}, {2, 2, 0, 7}};
+    const struct itree_point left[] = {{0, 7}, {2, 0}}, right[] = {{2, 0}, {2, 2}}, top[] = {{2, 2}, {0, 7}};
+    const struct itree_point over[] = {{0, 7}, {2, 2}, {2, 0}};
+    struct itree_chains *chains = NULL;
+    check("a side that passes close by a corner", itree_node(triangle, 3, &chains) == ITREE_ANSWERED);
+    check("three chains, of six points", itree_chains_count(chains) == 3 && itree_chains_point_count(chains) == 6);
+    check("no side is moved",
+          is_chain(chains, 0, left, 2) && is_chain(chains, 1, right, 2) && is_chain(chains, 2, top, 2));
+    itree_chains_free(chains);
+    check("the same by snap rounding", itree_snap(triangle, 3, &chains) == ITREE_ANSWERED);
+    check("it has no side of its own left", is_chain(chains, 0, over, 3) && is_chain(chains, 2, top, 2));
+    itree_chains_free(chains);
+    /* The first two cross at (30/13, 3/13). The third is a point, which the first passes, and the fourth. The last passes
+     * (9, 4), which is an end of the one before it, and no edge that is moved passes that. */
+    const struct itree_edge edges[] = {{0, 0, 10, 1}, {0, 1, 3, 0}, {8, 1, 8, 1},
+                                       {6, 2, 9, 1},  {9, 4, 9, 4}, {8, 4, 12, 5}};
+    const struct itree_point first[] = {{0, 0}, {2, 0}, {3, 0}, {8, 1}, {9, 1}, {10, 1}};
+    const struct itree_point second[] = {{0, 1}, {2, 0}, {3, 0}}, fourth[] = {{6, 2}, {8, 1}, {9, 1}},
+                             last[] = {{8, 4}, {12, 5}};
+    check("edges that cross at a point with fractions", itree_node(edges, 6, &chains) == ITREE_ANSWERED);
+    check("both are moved", is_chain(chains, 0, first, 6) && is_chain(chains, 1, second, 3));
+    check("so is what passes a point that they pass", is_chain(chains, 3, fourth, 3));
+    check("another stays", is_chain(chains, 5, last, 2) && itree_chains_point_count(chains) == 16);
+    itree_chains_free(chains);
+}
+
 static void checks_no_chains(void) {
     const struct itree_edge edges[] = {{0, 0, 9, 9}, {0, 9, 9, 0}};
     uint64_t words[8] = {0};
@@ -702,37 +729,60 @@ static void checks_no_chains(void) {
     check("no edges to break", itree_snap(NULL, 2, &chains) == ITREE_POINTER);
     check("edges to break at an odd address", itree_snap((void *)odd, 2, &chains) == ITREE_POINTER);
     check("more edges to break than memory", itree_snap(edges, SIZE_MAX / 16, &chains) == ITREE_POINTER);
+    check("nor for these",
+          itree_node(edges, 2, NULL) == ITREE_POINTER && itree_node(NULL, 2, &chains) == ITREE_POINTER);
+    check("these at odd addresses",
+          itree_node(edges, 2, (void *)odd) == ITREE_POINTER && itree_node((void *)odd, 2, &chains) == ITREE_POINTER);
     check("the handle of chains stays as it was there", chains == (void *)words);
     check("null for no edges to break", itree_snap(NULL, 0, &chains) == ITREE_ANSWERED && chains != NULL);
     check("there are no chains", itree_chains_count(chains) == 0 && itree_chains_point_count(chains) == 0);
     check("nor points", itree_chains_points(chains) == NULL && itree_chains_offsets(chains)[0] == 0);
+    itree_chains_free(chains);
+    check("null for none of these", itree_node(NULL, 0, &chains) == ITREE_ANSWERED && chains != NULL);
+    check("there are none", itree_chains_count(chains) == 0 && itree_chains_offsets(chains)[0] == 0);
     itree_chains_free(chains);
     check("null has no chains", itree_chains_count(NULL) == 0 && itree_chains_point_count(NULL) == 0);
     check("nor points or offsets", itree_chains_points(NULL) == NULL && itree_chains_offsets(NULL) == NULL);
     itree_chains_free(NULL);
 }
 
-static void checks_refused_chains(void) {
-    struct itree_edge edges[40];
+/* A call that makes chains of edges. */
+typedef int32_t breaking(const struct itree_edge *edges, size_t edge_count, struct itree_chains **chains);
+
+/* The chains of the edges, once each request for memory was refused in turn. */
+static struct itree_chains *refused_in_turn(breaking *call, const struct itree_edge *edges, size_t count) {
     struct itree_chains *chains = NULL;
     size_t requests = 0;
     int ok = 1;
-    for (int32_t place = 0; place < 20; place++) {
-        edges[place] = (struct itree_edge){0, place, 40, place};
-        edges[20 + place] = (struct itree_edge){place, 0, place, 40};
-    }
     while (1) {
-        chains = (void *)edges;
+        chains = (void *)(uintptr_t)edges;
         refuse_after(requests);
-        const int32_t status = itree_snap(edges, 40, &chains);
+        const int32_t status = call(edges, count, &chains);
         refuse_after(SIZE_MAX);
         if (status != ITREE_REFUSED) break;
         ok = ok && chains == NULL;
         requests++;
     }
     check("each request for chains is refused in turn", requests > 4 && ok);
-    /* Each edge has 20 points where it meets others, of which its start is one, and its end. */
-    check("with all requests granted each is broken", itree_chains_point_count(chains) == 40 * 21);
+    return chains;
+}
+
+static void checks_refused_chains(void) {
+    struct itree_edge edges[40];
+    for (int32_t place = 0; place < 20; place++) {
+        edges[place] = (struct itree_edge){0, place, 40, place};
+        edges[20 + place] = (struct itree_edge){place, 0, place, 40};
+    }
+    breaking *const calls[] = {itree_snap, itree_node};
+    for (size_t place = 0; place < 2; place++) {
+        struct itree_chains *chains = refused_in_turn(calls[place], edges, 40);
+        /* Each edge has 20 points where it meets others, of which its start is one, and its end. */
+        check("with all requests granted each is broken", itree_chains_point_count(chains) == 40 * 21);
+        itree_chains_free(chains);
+    }
+    const struct itree_edge slanted[] = {{0, 0, 10, 1}, {0, 1, 3, 0}, {8, 1, 8, 1}, {6, 2, 9, 1}};
+    struct itree_chains *chains = refused_in_turn(itree_node, slanted, 4);
+    check("with all requests granted edges are moved", itree_chains_point_count(chains) == 13);
     itree_chains_free(chains);
 }
 
@@ -752,6 +802,7 @@ int main(void) {
     checks_first_meeting();
     checks_how_they_meet();
     checks_snap();
+    checks_node();
     checks_no_chains();
     checks_refused_chains();
     checks_locate();

@@ -316,6 +316,34 @@ void checks_snap() {
     check("refused memory is thrown for chains", requests > 4);
 }
 
+void checks_node() {
+    const std::vector<itree::Edge> triangle{{0, 7, 2, 0}, {2, 0, 2, 2}, {2, 2, 0, 7}};
+    const Chains sides{{{0, 7}, {2, 0}}, {{2, 0}, {2, 2}}, {{2, 2}, {0, 7}}};
+    check("a side that passes close by a corner stays", copied(itree::node(triangle)) == sides);
+    check("by snap rounding it goes over this",
+          copied(itree::snap(triangle))[0] == Chains::value_type{{0, 7}, {2, 2}, {2, 0}});
+    const std::vector<itree::Edge> slanted{{0, 0, 3, 1}, {0, 1, 3, 0}, {10, 0, 14, 2}, {12, 1, 12, 1}, {11, 1, 11, 1}};
+    check("edges that cross at a point with fractions are moved, and no others",
+          copied(itree::node(slanted)) == Chains{{{0, 0}, {2, 1}, {3, 1}},
+                                                 {{0, 1}, {2, 1}, {3, 0}},
+                                                 {{10, 0}, {12, 1}, {14, 2}},
+                                                 {{12, 1}},
+                                                 {{11, 1}}});
+    check("a point in braces stays", copied(itree::node({{7, 8, 7, 8}})) == Chains{{{7, 8}}});
+    check("of no edges there are no chains", itree::node({}).empty());
+    std::size_t requests = 0;
+    for (bool refused = true; refused; requests++) {
+        refuse_after(requests);
+        try {
+            (void)itree::node(slanted);
+            refused = false;
+        } catch (const std::bad_alloc &) {
+        }
+        refuse_after(SIZE_MAX);
+    }
+    check("refused memory is thrown for these chains", requests > 4);
+}
+
 using Found = std::vector<std::optional<std::size_t>>;
 
 /// What `locate` gives: places, or a pair that crosses.
@@ -430,6 +458,7 @@ int main() {
     checks_between();
     checks_how_they_meet();
     checks_snap();
+    checks_node();
     checks_locate();
     checks_many_edges();
     checks_locate_faults();

@@ -97,6 +97,7 @@ static int32_t call(int which) {
     case 11: status = itree_points_in(points, MANY, &shapes, 1, 0, &pairs); break;
     case 12: status = itree_clip_lines(&lines, points, MANY, &end, 1, 1, 0, &polygons); break;
     case 13: return itree_polygon_parents(&shapes, &stop, 1);
+    case 14: status = itree_node(edges, MANY, &chains); break;
     }
     const int has_handle = pairs != NULL || chains != NULL || polygons != NULL;
     itree_pairs_free(pairs);
@@ -105,7 +106,7 @@ static int32_t call(int which) {
     return has_handle == (status == ITREE_ANSWERED) ? status : -1;
 }
 
-enum { EACH = 9, CALLS = 14 };
+enum { EACH = 9, CALLS = 15 };
 
 static void checks_memory(void) {
     for (int which = 0; which < CALLS; which++) {

@@ -1114,6 +1114,7 @@ class Stopped(unittest.TestCase):
             lambda **how: itree.meetings_between(edges, edges, **how),
             lambda **how: itree.first_meeting([(it, 0, it, 1) for it in range(900)], **how),
             lambda **how: itree.snap(edges[:200], **how),
+            lambda **how: itree.node(edges[:200], **how),
             lambda **how: itree.locate([(it, 0, it + 1, 1) for it in range(900)], [(1, 1)] * 900, **how),
             lambda **how: itree.below([(it, it, 1) for it in range(900)], [(1, 1)] * 900, **how),
         ):

@@ -423,19 +423,91 @@ class Snap(unittest.TestCase):
             itree.snap([(1, 2, 3)])
 
     def test_raises_memory_error(self):
-        library, requests = ctypes.CDLL(os.environ["ITREE_LIBRARY"]), 0
-        while True:
-            library.refuse_after(ctypes.c_size_t(requests))
-            try:
-                chains = itree.snap(self.WORKED[1][0])
-            except MemoryError:
-                requests += 1
-                continue
-            finally:
-                library.refuse_after(ctypes.c_size_t(-1))
-            break
-        self.assertEqual(chains, self.WORKED[1][1])
-        self.assertGreater(requests, 4)
+        assert_refused_in_turn(self, itree.snap, *self.WORKED[1])
+
+
+def assert_refused_in_turn(test, call, edges, wanted):
+    """Each request of the call for memory is refused in turn, and then the edges have the chains."""
+    library, requests = ctypes.CDLL(os.environ["ITREE_LIBRARY"]), 0
+    while True:
+        library.refuse_after(ctypes.c_size_t(requests))
+        try:
+            chains = call(edges)
+        except MemoryError:
+            requests += 1
+            continue
+        finally:
+            library.refuse_after(ctypes.c_size_t(-1))
+        break
+    test.assertEqual(chains, wanted)
+    test.assertGreater(requests, 4)
+
+
+def plain_nodes(edges):
+    """The chains where edges are moved only where they must be, round by round until no more are."""
+    passed = plain_chains(edges)
+    on = [[point for point in chain if plainly_meet(edge, point + point)] for edge, chain in zip(edges, passed)]
+    common = [point for point in (common_point(*pair) for pair in itertools.combinations(edges, 2)) if point]
+    moving, moved = {rounded(point) for point in common if rounded(point) != point}, set()
+    while True:
+        more = {place for place, chain in enumerate(passed) if moving & {*chain} - {*on[place]}}
+        if more == moved:
+            return [(passed if place in moved else on)[place] for place in range(len(edges))]
+        moved = more
+        moving = moving.union(*(passed[place] for place in moved))
+
+
+class Node(unittest.TestCase):
+    WORKED = (
+        # A side passes close by the corner (2, 2), and none crosses another.
+        ([(0, 7, 2, 0), (2, 0, 2, 2), (2, 2, 0, 7)], [[(0, 7), (2, 0)], [(2, 0), (2, 2)], [(2, 2), (0, 7)]]),
+        # The third has (12, 1), and passes (11, 1), which doesn't lie on it.
+        (
+            [(0, 0, 3, 1), (0, 1, 3, 0), (10, 0, 14, 2), (12, 1, 12, 1), (11, 1, 11, 1)],
+            [[(0, 0), (2, 1), (3, 1)], [(0, 1), (2, 1), (3, 0)], [(10, 0), (12, 1), (14, 2)], [(12, 1)], [(11, 1)]],
+        ),
+        # The first two cross at (30/13, 3/13). The first passes (8, 1), which so moves the last.
+        (
+            [(0, 0, 10, 1), (0, 1, 3, 0), (8, 1, 8, 1), (6, 2, 9, 1)],
+            [
+                [(0, 0), (2, 0), (3, 0), (8, 1), (9, 1), (10, 1)],
+                [(0, 1), (2, 0), (3, 0)],
+                [(8, 1)],
+                [(6, 2), (8, 1), (9, 1)],
+            ],
+        ),
+        ([], []),
+    )
+
+    def test_moves_only_edges_that_must_be_moved(self):
+        for edges, wanted in self.WORKED:
+            self.assertEqual(plain_nodes(edges), wanted)
+            self.assertEqual(itree.node(edges), wanted)
+
+    def test_answers_as_the_plain_model(self):
+        numbers, other = random.Random(38), 0
+        for whole, rounds in (9, 600), (40, 300), (2**32, 100):
+            for _ in range(rounds):
+                rows = range(numbers.randrange(9))
+                edges = [tuple(numbers.randrange(whole) - whole // 2 for _ in range(4)) for _ in rows]
+                chains = itree.node(edges)
+                self.assertEqual(chains, plain_nodes(edges), edges)
+                other += chains != plain_chains(edges)
+        self.assertGreater(other, 50)
+
+    def test_answers_arrays(self):
+        edges, wanted = self.WORKED[1]
+        chains = itree.node(edges, as_array=True)
+        self.assertIsInstance(chains, itree.Chains)
+        self.assertEqual(chains.offsets.tolist(), [0, *itertools.accumulate(map(len, wanted))])
+        self.assertEqual(list(map(tuple, chains.points.tolist())), list(itertools.chain(*wanted)))
+
+    def test_what_are_no_edges(self):
+        with self.assertRaisesRegex(ValueError, "^edges, row 0: 3 numbers, 4 are wanted$"):
+            itree.node([(1, 2, 3)])
+
+    def test_raises_memory_error(self):
+        assert_refused_in_turn(self, itree.node, *self.WORKED[2])
 
 
 def rightwards(edge):
@@ -1042,6 +1114,8 @@ pair: Optional[Tuple[int, int]] = itree.first_meeting(edges)
 kind: str = itree.how_they_meet((0, 0, 9, 9), [(0, 9), (9, 0)])
 kind = itree.how_they_meet(edges[0], array.array("i"))
 crosses = itree.how_they_meet(edges[0], edges[0]) == "crosses"  # error
+broken: List[List[Tuple[int, int]]] = itree.snap(edges) + itree.node(edges)
+chains: itree.Chains = itree.node(edges, as_array=True, memory_limit=10**6)
 places: List[Optional[int]] = itree.locate(edges, [(1, 2)])
 view = itree.locate(edges, [(1, 2)], True)
 heights: List[Optional[int]] = itree.below([(1, 2, 3)], [(1, 2)])
@@ -1085,6 +1159,7 @@ view = itree.meetings(edges)  # error
 pairs = itree.meetings(edges, as_array=True)  # error
 pairs = itree.meetings_between(edges, edges, as_array=True)  # error
 pair = itree.first_meeting(7)  # error
+broken = itree.node(edges, as_array=True)  # error
 kind = itree.how_they_meet(7, edges[0])  # error
 itree.overlay([[("a", 1)]], [])  # error
 itree.overlay([], [], "sum")  # error

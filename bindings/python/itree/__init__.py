@@ -2,7 +2,8 @@
 broken where they meet, and which edge or segment lies straight below a point.
 
 The answers are those of a library that is proved in Rattle, in whole numbers of
-32 bits: exact, but for what `overlay`, `simplify` and `snap` say that they round.
+32 bits: exact, but for what `overlay`, `simplify`, `snap` and `node` say that they
+round.
 
     >>> import itree
     >>> square, hole = [(0, 0), (9, 0), (9, 9), (0, 9)], [(2, 2), (4, 2), (4, 4), (2, 4)]
@@ -147,6 +148,7 @@ from ._edges import (
     locate,
     meetings,
     meetings_between,
+    node,
     snap,
 )
 from ._grid import Grid
@@ -177,6 +179,7 @@ __all__ = [
     "make_valid",
     "meetings",
     "meetings_between",
+    "node",
     "overlay",
     "overlay_each",
     "points_in",

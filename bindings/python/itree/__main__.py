@@ -74,7 +74,7 @@ def _parser() -> argparse.ArgumentParser:
         "overlay", help="what an operation makes of two files, or of lines", description=DESCRIPTION + LINES
     )
     overlay.add_argument("--operation", choices=list(OPERATIONS), default="union", help="union where none is given")
-    simplify = commands.add_parser("simplify", help="valid polygons of one file", description=DESCRIPTION)
+    simplify = commands.add_parser("simplify", help="polygons of one file whose edges don't cross", description=DESCRIPTION)
     simplify.set_defaults(operation="union")
     overlay.add_argument("files", nargs="*", metavar="FILE", help="two files; or OPERATION RULE; or nothing, for lines")
     simplify.add_argument("files", nargs=1, metavar="FILE")

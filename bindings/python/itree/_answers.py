@@ -94,12 +94,12 @@ def numbers_of(handle: Handle) -> memoryview:
     return _held(handle, library.itree_pairs_first(at), 2 * library.itree_pairs_count(at), "Q")
 
 
-def chains_of(edges: HeldRows, limit: int) -> Tuple[memoryview, memoryview]:
-    """The points of all chains, as flat 32-bit numbers, and the offsets, as signed 64-bit numbers, where the library wrote
-    them. Their memory is given back once there is neither a view of them nor an array over one."""
+def chains_of(call: Callable[..., int], edges: HeldRows, limit: int) -> Tuple[memoryview, memoryview]:
+    """The points of all chains that the call makes of the edges, as flat 32-bit numbers, and the offsets, as signed 64-bit
+    numbers, where the library wrote them. Their memory is given back once there is neither a view of them nor an array over
+    one."""
     handle = Handle(library.itree_chains_free)
     kept = edges.kept(), handle
-    call = library.itree_snap
     checked(made(call, edges.at, edges.count, handle.to_write, size=edges.count, limit=limit, kept=kept), limit)
     at = handle.at
     points = _held(handle, library.itree_chains_points(at), 2 * library.itree_chains_point_count(at), "i")

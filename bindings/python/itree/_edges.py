@@ -1,9 +1,9 @@
-"""What is asked of edges and segments: which lie below points, which meet, and what they become by snap rounding."""
+"""What is asked of edges and segments: which lie below points, which meet, and what they become where they are broken."""
 
 from __future__ import annotations
 
 import ctypes
-from typing import Any, Iterator, List, Literal, Optional, Tuple, Union, overload
+from typing import Any, Callable, Iterator, List, Literal, Optional, Tuple, Union, overload
 
 from . import _answers
 from ._calls import limit_of, made
@@ -81,7 +81,7 @@ class Heights:
 
 
 class Chains:
-    """Answers of `snap`, as two memoryviews.
+    """Answers of `snap` and `node`, as two memoryviews.
 
     points: the points of all chains, one chain behind the other, int32, of the
     shape (points, 2).
@@ -396,9 +396,63 @@ def snap(
     memory_limit bytes at once. What is raised for faulty rows is told at
     help(itree).
     """
+    return _broken(library.itree_snap, edges, as_array, memory_limit)
+
+
+@overload
+def node(edges: Rows, as_array: Literal[False] = ..., *, memory_limit: Optional[int] = ...) -> List[List[Tuple[int, int]]]:
+    ...
+
+
+@overload
+def node(edges: Rows, as_array: Literal[True], *, memory_limit: Optional[int] = ...) -> Chains:
+    ...
+
+
+@overload
+def node(edges: Rows, as_array: bool, *, memory_limit: Optional[int] = ...) -> Union[List[List[Tuple[int, int]]], Chains]:
+    ...
+
+
+def node(
+    edges: Rows, as_array: bool = False, *, memory_limit: Optional[int] = None
+) -> Union[List[List[Tuple[int, int]]], Chains]:
+    """The chains that the edges become where they are moved only where they must
+    be: edges that are broken where they meet, at whole points.
+
+    edges and as_array are those of `snap`, and the answer is of the same form.
+
+    >>> node([(0, 0, 3, 1), (0, 1, 3, 0)])
+    [[(0, 0), (2, 1), (3, 1)], [(0, 1), (2, 1), (3, 0)]]
+
+    An edge passes the hot points of its chain of `snap`. Where two edges cross
+    at a point with fractions, what this rounds to moves the edges that pass it
+    and that it doesn't lie on; so does each hot point that a moved edge passes.
+    The chain of a moved edge is that of `snap`. Any other edge stays where it
+    is: its chain is the hot points that lie on it exactly. So where no two
+    edges cross at a point with fractions, none is moved, as of a triangle with
+    a side that passes close by a corner:
+
+    >>> node([(0, 7, 2, 0), (2, 0, 2, 2), (2, 2, 0, 7)])
+    [[(0, 7), (2, 0)], [(2, 0), (2, 2)], [(2, 2), (0, 7)]]
+    >>> snap([(0, 7, 2, 0), (2, 0, 2, 2), (2, 2, 0, 7)])
+    [[(0, 7), (2, 2), (2, 0)], [(2, 0), (2, 2)], [(2, 2), (0, 7)]]
+
+    Each chain begins and ends as its edge does, and the pieces of the chains
+    meet at common ends alone, or are the same.
+
+    Raises what `snap` does.
+    """
+    return _broken(library.itree_node, edges, as_array, memory_limit)
+
+
+def _broken(
+    call: Callable[..., int], edges: Rows, as_array: bool, memory_limit: Optional[int]
+) -> Union[List[List[Tuple[int, int]]], Chains]:
+    """The chains that a call makes of the edges."""
     limit = limit_of(memory_limit)
     with HeldRows(edges, EDGES) as rows:
-        points, offsets = _answers.chains_of(rows, limit)
+        points, offsets = _answers.chains_of(call, rows, limit)
     if as_array:
         return Chains(_answers.in_rows_of_two(points, "i"), offsets)
     return _answers.in_chains(points, offsets)

@@ -29,6 +29,7 @@ _CALLS = {
     "itree_locate": (_status, [_address, _length, _address, _length, _address, _length, _address, _address]),
     "itree_meetings_all": (_status, [_address, _length, _address]),
     "itree_meetings_between": (_status, [_address, _length, _address, _length, _address]),
+    "itree_node": (_status, [_address, _length, _address]),
     "itree_overlay": (_status, [*[_address, _length] * 4, _status, _status, _address]),
     "itree_overlay_each": (_status, [*[_address] * 4, _status, _status, _address, _length, _address]),
     "itree_pairs_count": (_length, [_address]),

@@ -65,9 +65,11 @@ def overlay(
     'MultiPolygon'
 
     Without a grid coordinates are whole numbers of 32 bits, which may be floats
-    in shapes, and so are those of the answer: rings are broken where they meet, and moved there to the next
-    whole point. A point is told rightly, inside or not, if each edge runs along
-    an axis, or isn't within half a unit of the point on both axes.
+    in shapes, and so are those of the answer: where two edges cross at a point
+    with fractions, those that pass the next whole point are moved to it, and
+    those that pass a point of a moved edge, too. A point is told rightly, inside
+    or not, if each edge isn't moved, or runs along an axis, or isn't within half
+    a unit of the point on both axes. So valid polygons keep their region.
 
     With a grid coordinates are floats, and so are those of the answer, which
     are points of the grid. Where shapes have others than whole numbers of 32
@@ -100,8 +102,9 @@ def simplify(
     rings: what `overlay` takes.
     rule, grid, memory_limit: as those of `overlay`.
 
-    So rings that cross or touch, themselves, too, become valid polygons. A
-    bow-tie becomes two triangles:
+    So of rings that cross or touch, themselves, too, polygons are made whose
+    rings visit no point twice, and whose edges don't cross; that shapely calls
+    them valid is tested, not proved. A bow-tie becomes two triangles:
 
     >>> bow = [(0, 0), (4, 4), (4, 0), (0, 4)]
     >>> sorted(sorted(polygon.outer) for polygon in simplify([bow]))
@@ -124,7 +127,7 @@ def unary_union(shapes: Shapes, *, grid: Optional[Grid] = None, memory_limit: Op
 
 
 def make_valid(shape: Shapes, *, grid: Optional[Grid] = None, memory_limit: Optional[int] = None) -> Polygons:
-    """Valid polygons of a shape whose rings cross or touch, as shapely's make_valid: `simplify` by "evenodd".
+    """The polygons of a shape whose rings cross or touch, as shapely's make_valid: `simplify` by "evenodd".
 
     A point is inside where rings wind around it an odd number of times: so what
     is covered twice is outside.

@@ -765,6 +765,8 @@ mod calls {
 
         pub fn itree_snap(edges: *const Edge, edge_count: usize, chains: *mut *mut Handle) -> i32;
 
+        pub fn itree_node(edges: *const Edge, edge_count: usize, chains: *mut *mut Handle) -> i32;
+
         pub fn itree_chains_count(chains: *const Handle) -> usize;
 
         pub fn itree_chains_point_count(chains: *const Handle) -> usize;
@@ -981,6 +983,21 @@ fn pairs_of(status: i32, handle: *mut calls::Handle) -> Result<Pairs, Refused> {
     Ok(Pairs { handle, first, count })
 }
 
+/// The chains of a handle that a call wrote, where it answered.
+fn chains_of(status: i32, handle: *mut calls::Handle) -> Result<Chains, Refused> {
+    let handle = answered(status, handle)?;
+    // SAFETY: the handle was written by a call, and nothing else has it.
+    unsafe {
+        Ok(Chains {
+            points: calls::itree_chains_points(handle.as_ptr()),
+            point_count: calls::itree_chains_point_count(handle.as_ptr()),
+            offsets: calls::itree_chains_offsets(handle.as_ptr()),
+            count: calls::itree_chains_count(handle.as_ptr()),
+            handle,
+        })
+    }
+}
+
 /// The pairs `(i, j)`, `i` below `j`, of places of edges that share a point, each once, in no particular order.
 ///
 /// It is `meetings_all`, whose pairs are copied.
@@ -1012,17 +1029,33 @@ pub fn snap(edges: &[Edge]) -> Result<Chains, Refused> {
     let mut handle = ptr::null_mut();
     // SAFETY: as in `below`.
     let status = unsafe { calls::itree_snap(edges.as_ptr(), edges.len(), &mut handle) };
-    let handle = answered(status, handle)?;
-    // SAFETY: the handle was written by the call, and nothing else has it.
-    unsafe {
-        Ok(Chains {
-            points: calls::itree_chains_points(handle.as_ptr()),
-            point_count: calls::itree_chains_point_count(handle.as_ptr()),
-            offsets: calls::itree_chains_offsets(handle.as_ptr()),
-            count: calls::itree_chains_count(handle.as_ptr()),
-            handle,
-        })
-    }
+    chains_of(status, handle)
+}
+
+/// The chains that the edges become where they are moved only where they must be, one for each edge, in their order, where
+/// the library wrote them.
+///
+/// An edge passes the hot points of its chain of `snap`. Where two edges cross at a point with fractions, what this rounds
+/// to moves the edges that pass it and that it doesn't lie on; so does each hot point that a moved edge passes. The chain
+/// of a moved edge is that of `snap`. Any other edge stays where it is: its chain is the hot points that lie on it exactly.
+/// So where no two edges cross at a point with fractions, none is moved. Each chain begins and ends as its edge does, and
+/// the pieces of the chains meet at common ends alone, or are the same.
+///
+/// ```
+/// use itree::{node, snap, Edge, Point};
+///
+/// // A side passes close by the corner (2, 2).
+/// let (top, low, corner) = (Point { x: 0, y: 7 }, Point { x: 2, y: 0 }, Point { x: 2, y: 2 });
+/// let side = |one: Point, other: Point| Edge { x0: one.x, y0: one.y, x1: other.x, y1: other.y };
+/// let triangle = [side(top, low), side(low, corner), side(corner, top)];
+/// assert_eq!(node(&triangle).unwrap().chain(0), [top, low]);
+/// assert_eq!(snap(&triangle).unwrap().chain(0), [top, corner, low]);
+/// ```
+pub fn node(edges: &[Edge]) -> Result<Chains, Refused> {
+    let mut handle = ptr::null_mut();
+    // SAFETY: as in `below`.
+    let status = unsafe { calls::itree_node(edges.as_ptr(), edges.len(), &mut handle) };
+    chains_of(status, handle)
 }
 
 /// The polygons of what the operation makes of the inside of the subject and that of the clip, where the library wrote
@@ -1033,8 +1066,10 @@ pub fn snap(edges: &[Edge]) -> Result<Chains, Refused> {
 /// stand there more than once. The rule says which points are inside.
 ///
 /// The polygons wind once around each point of the result, and not at all around any other, if each edge of the rings given
-/// runs along an axis, or isn't within half a unit, on both axes, of the point. Around no point do they wind more often. Their rings visit no point twice, and have no points on straight lines:
-/// with these, edges of rings meet only at common ends, so a corner may touch the side of a ring.
+/// isn't moved, or runs along an axis, or isn't within half a unit, on both axes, of the point. Around no point do they wind
+/// more often. Only such edges are moved as pass what two edges cross at, a point with fractions that is rounded, or what a
+/// moved edge passes; so valid polygons keep their region. The rings visit no point twice, and have no points on straight
+/// lines: with these, edges of rings meet only at common ends, so a corner may touch the side of a ring.
 ///
 /// ```
 /// use itree::{overlay, FillRule, Operation, Point};
@@ -1066,8 +1101,8 @@ pub fn overlay<S: AsRef<[Point]>, C: AsRef<[Point]>>(
     overlay_rings(subject, clip, operation, rule).map_err(|_| Refused)
 }
 
-/// The polygons of what is inside of the rings by the rule: the union of them with nothing. So rings that cross themselves
-/// become valid polygons.
+/// The polygons of what is inside of the rings by the rule: the union of them with nothing. So of rings that cross
+/// themselves polygons are made whose edges don't cross.
 ///
 /// ```
 /// use itree::{simplify, FillRule, Point};

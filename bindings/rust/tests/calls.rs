@@ -3,8 +3,8 @@
 #![warn(unsafe_op_in_unsafe_fn)]
 
 use itree::{
-    below, first_meeting, how_they_meet, locate, meetings, meetings_all, meetings_between, snap, Edge, Fault,
-    LocateFault, Meeting, Point, Refused, Segment,
+    below, first_meeting, how_they_meet, locate, meetings, meetings_all, meetings_between, node, snap, Chains, Edge,
+    Fault, LocateFault, Meeting, Point, Refused, Segment,
 };
 use refuse::granted;
 use std::collections::{BTreeSet, HashMap};
@@ -273,8 +273,6 @@ fn is_refused_pairs_where_memory_is() {
 
 #[test]
 fn breaks_edges_where_they_meet() {
-    type Row = (i32, i32, i32, i32);
-    type Chain = &'static [(i32, i32)];
     let cases: [(&[Row], &[Chain]); 4] = [
         (
             &[(0, 0, 10, 10), (0, 10, 10, 0)],
@@ -288,19 +286,70 @@ fn breaks_edges_where_they_meet() {
         (&[], &[]),
     ];
     for (rows, wanted) in cases {
-        let edge = |&(x0, y0, x1, y1): &Row| Edge { x0, y0, x1, y1 };
-        let edges: Vec<Edge> = rows.iter().map(edge).collect();
-        let chains = snap(&edges).unwrap();
-        assert_eq!((chains.len(), chains.is_empty()), (wanted.len(), wanted.is_empty()));
-        assert_eq!(chains.offsets().len(), wanted.len() + 1);
-        assert_eq!(chains.points().len(), wanted.concat().len());
-        for (place, chain) in chains.iter().enumerate() {
-            let points: Vec<(i32, i32)> = chain.iter().map(|point| (point.x, point.y)).collect();
-            assert_eq!(points, wanted[place], "{rows:?}");
-            assert_eq!(chains.chain(place), chain);
-        }
+        let chains = snap(&edges_of(rows)).unwrap();
+        assert_chains(&chains, wanted);
         let taken = std::thread::spawn(move || chains.iter().len());
         assert_eq!(taken.join().unwrap(), wanted.len());
+    }
+}
+
+type Row = (i32, i32, i32, i32);
+
+type Chain = &'static [(i32, i32)];
+
+fn edges_of(rows: &[Row]) -> Vec<Edge> {
+    let edge = |&(x0, y0, x1, y1): &Row| Edge { x0, y0, x1, y1 };
+    rows.iter().map(edge).collect()
+}
+
+fn assert_chains(chains: &Chains, wanted: &[Chain]) {
+    assert_eq!((chains.len(), chains.is_empty()), (wanted.len(), wanted.is_empty()));
+    assert_eq!(chains.offsets().len(), wanted.len() + 1);
+    assert_eq!(chains.points().len(), wanted.concat().len());
+    for (place, chain) in chains.iter().enumerate() {
+        let points: Vec<(i32, i32)> = chain.iter().map(|point| (point.x, point.y)).collect();
+        assert_eq!(points, wanted[place], "{wanted:?}");
+        assert_eq!(chains.chain(place), chain);
+    }
+}
+
+#[test]
+fn moves_only_edges_that_must_be_moved() {
+    let cases: [(&[Row], &[Chain]); 4] = [
+        (
+            &[(0, 7, 2, 0), (2, 0, 2, 2), (2, 2, 0, 7)],
+            &[&[(0, 7), (2, 0)], &[(2, 0), (2, 2)], &[(2, 2), (0, 7)]],
+        ),
+        (
+            &[
+                (0, 0, 3, 1),
+                (0, 1, 3, 0),
+                (10, 0, 14, 2),
+                (12, 1, 12, 1),
+                (11, 1, 11, 1),
+            ],
+            &[
+                &[(0, 0), (2, 1), (3, 1)],
+                &[(0, 1), (2, 1), (3, 0)],
+                &[(10, 0), (12, 1), (14, 2)],
+                &[(12, 1)],
+                &[(11, 1)],
+            ],
+        ),
+        // The first two cross at (30/13, 3/13). The first passes (8, 1), which so moves the last.
+        (
+            &[(0, 0, 10, 1), (0, 1, 3, 0), (8, 1, 8, 1), (6, 2, 9, 1)],
+            &[
+                &[(0, 0), (2, 0), (3, 0), (8, 1), (9, 1), (10, 1)],
+                &[(0, 1), (2, 0), (3, 0)],
+                &[(8, 1)],
+                &[(6, 2), (8, 1), (9, 1)],
+            ],
+        ),
+        (&[], &[]),
+    ];
+    for (rows, wanted) in cases {
+        assert_chains(&node(&edges_of(rows)).unwrap(), wanted);
     }
 }
 
@@ -320,12 +369,14 @@ fn is_refused_chains_where_memory_is() {
             y1: 40 - y,
         })
         .collect();
-    let mut requests = 0;
-    while granted(requests, || snap(&edges)).is_err() {
-        requests += 1;
+    for call in [snap, node] {
+        let mut requests = 0;
+        while granted(requests, || call(&edges)).is_err() {
+            requests += 1;
+        }
+        assert!(requests > 4, "{requests} requests");
+        assert_eq!(call(&edges).unwrap().len(), 40);
     }
-    assert!(requests > 4, "{requests} requests");
-    assert_eq!(snap(&edges).unwrap().len(), 40);
 }
 
 fn rightwards(edge: &Edge) -> Edge {
