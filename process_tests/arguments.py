@@ -59,6 +59,7 @@ FAULTY = (
     ("locate twice", ["locate", "locate"]),
     ("one too many after snap", ["snap", "extra"]),
     ("snap twice", ["snap", "snap"]),
+    ("one too many after node", ["node", "snap"]),
     ("overlay and an operation", ["overlay", "union"]),
     ("overlay and a rule", ["overlay", "nonzero"]),
     ("overlay and a range", ["overlay", "0", "128"]),

@@ -54,6 +54,7 @@ LINES = (
     ("snap", b"edge\n", (1, 1, "edge", ONE_MORE)),
     ("snap", b"edge 1 2 3 4 5\n", (1, 14, "5", NO_MORE)),
     ("snap", b"edge 1 2 3 4,\n", (1, 12, "4,", NUMBER)),
+    ("node", b"edge 1 2 3 4\nchain 0 0\n", (2, 1, "chain", "edge is wanted")),
     ("overlay union nonzero", b"ring 0 0\n", (1, 1, "ring", OF_RINGS)),
     ("overlay union nonzero", b"subject 0 0 6 0 6\n", (1, 17, "6", ONE_MORE)),
     ("overlay xor evenodd", b"subject 0 0\nclip 0 0 6 0 six 6\n", (2, 14, "six", NUMBER)),

@@ -1,5 +1,6 @@
 #!/usr/bin/env python3
-"""The noding that moves only what it must, by its definition with fractions, and what is to hold of it.
+"""The noding that moves only what it must, by its definition with fractions, which is what the mode `node` is to answer, and
+what is to hold of it.
 
 Candidates are the ends of edges and what the points round to in which two edges meet that aren't parallel. What such a point
 with fractions rounds to moves edges: those that pass it and that it isn't on. Each candidate that a moved edge passes moves
@@ -7,7 +8,8 @@ edges, too. The chain of a moved edge is the candidates that it passes, that of 
 
 usage: process_tests/noded.py SETS [SEED]
 
-So many sets of edges by chance are noded, lines and rings, on small grids. The first that isn't as it should be is printed.
+So many sets of edges by chance are noded, lines and rings, on small grids. The first that isn't as it should be is printed. The
+cases of the program stand in nodes.py.
 """
 
 import sys
@@ -84,9 +86,9 @@ def counts_as_before(edge, found, is_moved, x, y):
     return winding([one + other for one, other in zip(found, found[1:])], x, y) == winding([edge], x, y)
 
 
-def problem(random, edges):
-    """What isn't as it should be, or None."""
-    found, hot, moved = noded(edges)
+def problem(random, edges, model):
+    """What isn't as it should be of edges and what `noded` makes of them, or None."""
+    found, hot, moved = model
     candidates = hot_points(edges)
     if not are_apart(found):
         return "pieces meet apart from common ends"
@@ -125,10 +127,11 @@ def main():
     all_edges = moved_here = moved_by_snap = quiet = 0
     for _ in range(count):
         edges = edges_by_chance(random)
-        wrong = problem(random, edges)
+        model = noded(edges)
+        wrong = problem(random, edges, model)
         if wrong:
             sys.exit(f"{wrong}: {edges}")
-        _found, _hot, moved = noded(edges)
+        _found, _hot, moved = model
         points = hot_points(edges)
         all_edges += len(edges)
         moved_here += len(moved)

@@ -15,7 +15,7 @@ from drawings import LOOKS, any_of, diamond, drawn, frame, line_of, looks, near,
 from many import MANY, SEED
 from odd import is_number, spoilt
 from processes import Case, Looked, Outcome, answered, by_pipe, dialogue, lines, refused
-from windings import OPERATIONS, PARTS as IN_ONE, RULES, Drawing, edges_of, polygons_in, problems
+from windings import OPERATIONS, PARTS as IN_ONE, RULES, Drawing, chain_problems, edges_of, polygons_in, problems
 
 LEAST, GREATEST = -2147483648, 2147483647
 
@@ -233,11 +233,13 @@ def told_problems(mode, drawings, step, told):
         if not 0 <= place < len(found):
             return f"the polygon {polygon} lies outside of all".encode()
         found[place].append([[(x - place * (step or 0), y) for x, y in ring] for ring in polygon])
-    for (drawing, points), its in zip(drawings, found):
+    for place, ((drawing, points), its) in enumerate(zip(drawings, found)):
         made = edges_of([ring for polygon in its for ring in polygon])
         starts = [(x0 * IN_ONE, y0 * IN_ONE) for x0, y0, _, _ in made[: LOOKS // 4]]
         middles = [((x0 + x1) * IN_ONE // 2, (y0 + y1) * IN_ONE // 2) for x0, y0, x1, y1 in made[-LOOKS // 4 :]]
-        for problem in problems(drawing, its, rule, operation, points + starts + middles):
+        asked = drawing, its, rule, operation, points + starts + middles
+        # Chains take long, so they are made for half of the drawings.
+        for problem in chain(problems(*asked), chain_problems(*asked) if place % 2 == 0 else ()):
             return f"{problem}: {its}, of {' / '.join(said_by(Random(0), drawing))}".encode()
     return b""
 

@@ -41,7 +41,13 @@ GROUPS = (
 )
 
 # Modules whose cases run where the help of each program lists their mode.
-WHERE_LISTED = {"snaps": "snap", "overlays": "overlay OPERATION RULE", "long_overlays": "overlay OPERATION RULE"}
+WHERE_LISTED = {
+    "snaps": "snap",
+    "nodes": "node",
+    "overlays": "overlay OPERATION RULE",
+    "still": "overlay OPERATION RULE",
+    "long_overlays": "overlay OPERATION RULE",
+}
 
 # So many parts of modules run side by side at most.
 AT_ONCE = min(len(os.sched_getaffinity(0)), 4)

@@ -422,26 +422,31 @@ def moved(item, step, times):
     return tuple(number + step[at % 2] * times for at, number in enumerate(item))
 
 
-def in_one_text(name, sets, step):
+def chains_apart(edges):
+    """The chain of each edge, whose pieces meet in common ends alone."""
+    found = chains(edges)
+    if not are_apart(found):
+        raise ValueError(f"snap: pieces of {edges} meet elsewhere than in common ends")
+    return found
+
+
+def in_one_text(mode, chains_of, name, sets, step):
     """The case of these sets in one text, each so far from the one before."""
     said, served = [], []
     for place, edges in enumerate(sets):
-        found = chains(edges)
-        if not are_apart(found):
-            raise ValueError(f"snap: pieces of {edges} meet elsewhere than in common ends")
         said += [line_of(moved(edge, step, place)) for edge in edges]
-        served += [reply(moved(point, step, place) for point in points) for points in found]
-    return answered(name, "snap", lines(*said), lines(*served))
+        served += [reply(moved(point, step, place) for point in points) for points in chains_of(edges)]
+    return answered(name, mode, lines(*said), lines(*served))
 
 
-def by_chance(where, point, step, count, seed):
-    """Cases of sets of edges by chance, whose pieces meet in common ends alone."""
+def by_chance(mode, chains_of, where, point, step, count, seed):
+    """Cases of sets of edges by chance, and of their chains."""
     random = Random(seed)
     sets = [some_edges(random, partial(point, random)) for _ in range(count)]
     together = TOGETHER if step else 1
     for at in range(0, count, together):
         name = f"sets of edges {where} by chance, {seed}, from {at} on"
-        yield in_one_text(name, sets[at : at + together], step or (0, 0))
+        yield in_one_text(mode, chains_of, name, sets[at : at + together], step or (0, 0))
 
 
 def wrong_rules(count=400):
@@ -494,5 +499,5 @@ def memory():
 PARTS = (
     *(worked, rows_by_model, odd_texts, wrong_rules, crowds, many, memory),
     *(partial(part, [PLAIN]) for part in (empty_texts, plain_lines, line_numbers, streams.each_mode)),
-    *(partial(by_chance, *kind[:4], seed) for kind in KINDS for seed in range(kind[4])),
+    *(partial(by_chance, "snap", chains_apart, *kind[:4], seed) for kind in KINDS for seed in range(kind[4])),
 )

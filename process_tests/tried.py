@@ -17,6 +17,7 @@ sys.dont_write_bytecode = True
 import arguments
 import meetings
 import messages
+import nodes
 import documents
 import histories
 import locates
@@ -39,7 +40,7 @@ PARTS = (
 TEXTS = text.empty_texts, text.plain_lines, text.faulty_lines, text.numbers
 # Those of modes that the help may not list yet.
 OVERLAYS = overlays.worked, overlays.faulty, overlays.nested, long_overlays.few
-WHERE_LISTED = {"snap": (snaps.worked,), "overlay OPERATION RULE": OVERLAYS}
+WHERE_LISTED = {"snap": (snaps.worked,), "node": (nodes.worked, nodes.rows_by_model), "overlay OPERATION RULE": OVERLAYS}
 READ = "keytree", "setlist", "seg"
 
 CRATE = os.path.normpath(os.path.join(os.path.dirname(os.path.abspath(__file__)), "..", "crates", "itree"))

@@ -6,12 +6,18 @@ at a height that is at most the point's. Points and edges have whole coordinates
 """
 
 from collections import defaultdict
-from itertools import chain
+from itertools import chain, combinations
 from typing import NamedTuple
+
+from noded import noded
 
 # So many parts is one, and half of one.
 PARTS = 12
 HALF = PARTS // 2
+
+# Of so many edges, at most, it is asked whether two cross at a point with fractions, and of so many what their chains are.
+FEW = 80
+FEWER = 30
 
 # A point just inside of a ring is this much closer to it than the ring's edges are long. It lies aside of their middles, since
 # there corners may touch.
@@ -96,6 +102,31 @@ def is_along_axis(edge):
     return x0 == x1 or y0 == y1
 
 
+def meet_at_fraction(one, other):
+    """Whether two edges that aren't parallel meet in a point that isn't whole."""
+    (x0, y0, x1, y1), (z0, w0, z1, w1) = one, other
+    apart = (x1 - x0) * (w1 - w0) - (y1 - y0) * (z1 - z0)
+    share = (z0 - x0) * (w1 - w0) - (w0 - y0) * (z1 - z0)
+    its_share = (z0 - x0) * (y1 - y0) - (w0 - y0) * (x1 - x0)
+    if apart < 0:
+        apart, share, its_share = -apart, -share, -its_share
+    if not apart or not (0 <= share <= apart and 0 <= its_share <= apart):
+        return False
+    return share * (x1 - x0) % apart != 0 or share * (y1 - y0) % apart != 0
+
+
+def none_is_moved(edges):
+    """Whether no two of the edges, which are few, meet in a point that isn't whole: so that none is moved."""
+    return len(edges) <= FEW and not any(meet_at_fraction(one, other) for one, other in combinations(edges, 2))
+
+
+def chain_edges(subject, clip):
+    """The pieces of the subject's edges and those of the clip's, broken together."""
+    its, clips = ([edge for edge in edges if edge[:2] != edge[2:]] for edges in (subject, clip))
+    found = [list(zip(points, points[1:])) for points in noded(its + clips)[0]]
+    return [[one + other for pieces in some for one, other in pieces] for some in (found[: len(its)], found[len(its) :])]
+
+
 def double_area(ring):
     """Twice the area of a ring that runs counterclockwise; below 0 where it runs clockwise."""
     return sum(x0 * y1 - x1 * y0 for x0, y0, x1, y1 in edges_of([ring]))
@@ -149,8 +180,9 @@ def hole_problems(polygon):
 
 def point_problems(drawing, polygons, rule, operation, points):
     """At which points the polygons wind otherwise than they are to."""
+    given = [edges_of(rings) for rings in drawing]
+    is_exact = all(map(is_along_axis, chain(*given))) or none_is_moved([*chain(*given)])
     subject, clip = (edges_of(rings, PARTS) for rings in drawing)
-    is_exact = all(map(is_along_axis, subject + clip))
     subject, clip, *made = map(Columns, (subject, clip, *(edges_of(polygon, PARTS) for polygon in polygons)))
     is_inside, operate = RULES[rule], OPERATIONS[operation]
     for point in points:
@@ -164,6 +196,20 @@ def point_problems(drawing, polygons, rule, operation, points):
             wanted = operate(is_inside(winding(its, point)), is_inside(winding(clips, point)))
             if sum(windings) != wanted:
                 yield f"around {where} the polygons wind {sum(windings)} times in place of {int(wanted)}"
+
+
+def chain_problems(drawing, polygons, rule, operation, points):
+    """At which points the polygons wind otherwise than the pieces of the edges' chains say, at points close to edges, too."""
+    given = [edges_of(rings) for rings in drawing]
+    if sum(map(len, given)) > FEWER:
+        return
+    pieces = [[tuple(number * PARTS for number in edge) for edge in edges] for edges in chain_edges(*given)]
+    made = edges_of([ring for polygon in polygons for ring in polygon], PARTS)
+    is_inside, operate = RULES[rule], OPERATIONS[operation]
+    for point in points:
+        wanted = operate(*(is_inside(winding(edges, point)) for edges in pieces))
+        if winding(made, point) != wanted:
+            yield f"around {point[0]}/{PARTS} {point[1]}/{PARTS} the polygons wind otherwise than the chains say"
 
 
 def sides(edge, points):
