@@ -46,6 +46,27 @@ def crossings(edges):
     return found
 
 
+def winding(edges, point):
+    """How often the edges wind around the point."""
+    x, y = point
+    count = 0
+    for x0, y0, x1, y1 in edges:
+        if x0 <= x < x1:
+            count += (x1 - x0) * (y - y0) >= (y1 - y0) * (x - x0)
+        elif x1 <= x < x0:
+            count -= (x0 - x1) * (y - y1) >= (y0 - y1) * (x - x1)
+    return count
+
+
+def is_near(edge, point, half=HALF):
+    """Whether a point of the edge is at most a half away from the point on both axes."""
+    (x0, y0, x1, y1), (x, y) = edge, point
+    if not (min(x0, x1) - half <= x <= max(x0, x1) + half and min(y0, y1) - half <= y <= max(y0, y1) + half):
+        return False
+    across, up = x1 - x0, y1 - y0
+    return abs(across * (y - y0) - up * (x - x0)) <= half * (abs(across) + abs(up))
+
+
 def ends(edge):
     return {edge[:2], edge[2:]}
 

@@ -3,7 +3,7 @@
 from windings import PARTS as IN_ONE, Drawing, edges_of
 
 # So many points are looked at in each drawing.
-LOOKS = 24
+LOOKS = 40
 
 
 def line_of(name, ring):

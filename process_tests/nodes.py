@@ -9,7 +9,7 @@ import streams
 from chains import chains
 from many import MANY, SEED
 from meetings import line_of, numbers_by_chance
-from noded import edges_by_chance, hot_first, is_on, moved_by, noded, problem
+from local_noding import edges_by_chance, hot_first, is_on, moved_by, noded, problem
 from processes import answered, by_pipe, dialogue, lines, refused
 from snaps import GREATEST, LEAST, along, anywhere, by_chance, in_one_text, moved, near, reply, sloped, some_edges, upwards
 from text import empty_texts, line_numbers, plain_lines

@@ -106,12 +106,12 @@ def polygon_around(random, bound):
 
 
 def goes_round(ring, points):
-    """Whether a ring goes round these points, in parts, each once."""
+    """Whether a ring goes round each of these points, in parts."""
     edges = edges_of([ring], IN_ONE)
-    return all(is_left_of_all(edges, point) for point in points)
+    return all(goes_round_one(edges, point) for point in points)
 
 
-def is_left_of_all(edges, point):
+def goes_round_one(edges, point):
     """Whether a ray upwards from the point crosses the ring an odd number of times, and the point is on no edge."""
     x, y = point
     above = [edge for edge in edges if min(edge[0], edge[2]) <= x < max(edge[0], edge[2])]

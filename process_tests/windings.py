@@ -9,7 +9,8 @@ from collections import defaultdict
 from itertools import chain, combinations
 from typing import NamedTuple
 
-from noded import noded
+from chains import is_near, winding
+from local_noding import noded
 
 # So many parts is one, and half of one.
 PARTS = 12
@@ -74,27 +75,6 @@ class Columns:
     def beside(self, point):
         """The edges of the point's column, among them all that are at most a half away from it."""
         return self.found.get(self.column(point[0]), ())
-
-
-def winding(edges, point):
-    """How often the edges wind around the point."""
-    x, y = point
-    count = 0
-    for x0, y0, x1, y1 in edges:
-        if x0 <= x < x1:
-            count += (x1 - x0) * (y - y0) >= (y1 - y0) * (x - x0)
-        elif x1 <= x < x0:
-            count -= (x0 - x1) * (y - y1) >= (y0 - y1) * (x - x1)
-    return count
-
-
-def is_near(edge, point):
-    """Whether a point of the edge is at most a half away from the point on both axes."""
-    (x0, y0, x1, y1), (x, y) = edge, point
-    if not (min(x0, x1) - HALF <= x <= max(x0, x1) + HALF and min(y0, y1) - HALF <= y <= max(y0, y1) + HALF):
-        return False
-    across, up = x1 - x0, y1 - y0
-    return abs(across * (y - y0) - up * (x - x0)) <= HALF * (abs(across) + abs(up))
 
 
 def is_along_axis(edge):
@@ -192,7 +172,7 @@ def point_problems(drawing, polygons, rule, operation, points):
             yield f"around {where} the polygons wind {windings} times"
             continue
         its, clips = subject.beside(point), clip.beside(point)
-        if is_exact or not any(is_near(edge, point) for edge in (*its, *clips)):
+        if is_exact or not any(is_near(edge, point, HALF) for edge in (*its, *clips)):
             wanted = operate(is_inside(winding(its, point)), is_inside(winding(clips, point)))
             if sum(windings) != wanted:
                 yield f"around {where} the polygons wind {sum(windings)} times in place of {int(wanted)}"

@@ -377,12 +377,12 @@ enum itree_side {
  * one of itree_side. The rings are as itree_overlay takes them.
  *
  * Lines and rings are broken where they meet, lines one another, too, each at a whole point, as itree_snap breaks edges;
- * so a line that others cross may be moved by half a unit on either axis, and has the points where they do. A part between
- * two such points is inside where its middle is, or where that lies on an edge of the broken rings. Parts that are kept
- * and follow each other along a line are one piece, which has the points between them too. In the handle the pieces are
- * the rings, and the pieces of each line are a polygon: itree_polygons_ring_offsets tells where each piece stops among the
- * points, and itree_polygons_polygon_offsets where those of each line stop among the pieces. A piece runs as its line
- * does, and has two points at least; it isn't closed. The call returns
+ * so a line that others cross, or end at or beside, may be moved by half a unit on either axis, and has the points where
+ * they do. A part between two such points is inside where its middle is, or where that lies on an edge of the broken
+ * rings. Parts that are kept and follow each other along a line are one piece, which has the points between them too. In
+ * the handle the pieces are the rings, and the pieces of each line are a polygon: itree_polygons_ring_offsets tells
+ * where each piece stops among the points, and itree_polygons_polygon_offsets where those of each line stop among the
+ * pieces. A piece runs as its line does, and has two points at least; it isn't closed. The call returns
  *   ITREE_ANSWERED  and *pieces is the caller's, also where there are none;
  *   ITREE_REFUSED   and *pieces is NULL;
  *   ITREE_POINTER   exactly where a pointer is faulty, and *pieces stays as it was;

@@ -1364,7 +1364,7 @@ template <typename Points, typename Items>
 }
 
 /// The pieces of each line that lie inside of rings or along their border, or the pieces that don't. Which ones they are is
-/// said at `itree_clip_lines` of itree.h: a line that rings cross may be moved by half a unit there.
+/// said at `itree_clip_lines` of itree.h: a line may be moved by half a unit where others cross it, or end at or beside it.
 ///
 ///     const auto wet = itree::clip_lines(roads, flood, itree::Side::inside, itree::FillRule::non_zero);
 ///     for (const auto &piece : wet[0]) draw(piece);

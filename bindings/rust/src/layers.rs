@@ -474,9 +474,9 @@ pub fn points_in<'s>(
 /// The pieces of each line that lie inside of rings or along their border, or those that don't, where the library wrote them.
 /// Lines and rings are copied; `clip_lines_by_rings` reads them where they lie.
 ///
-/// Lines and rings are broken where they meet, each at a whole point, as `snap` breaks edges: so a line that rings cross may
-/// be moved by half a unit on either axis. A part between two such points is inside where its middle is, or where that lies on
-/// an edge of the broken rings. Parts that are kept and follow each other along a line are one piece.
+/// Lines and rings are broken where they meet, each at a whole point, as `snap` breaks edges: so a line may be moved by half a
+/// unit on either axis where others cross it, or end at or beside it. A part between two such points is inside where its middle
+/// is, or where that lies on an edge of the broken rings. Parts that are kept and follow each other along a line are one piece.
 ///
 /// ```
 /// use itree::{clip_lines, FillRule, Point, Side};

@@ -6,7 +6,7 @@ Candidates are the ends of edges and what the points round to in which two edges
 with fractions rounds to moves edges: those that pass it and that it isn't on. Each candidate that a moved edge passes moves
 edges, too. The chain of a moved edge is the candidates that it passes, that of any other one those of them that lie on it.
 
-usage: process_tests/noded.py SETS [SEED]
+usage: process_tests/local_noding.py SETS [SEED]
 
 So many sets of edges by chance are noded, lines and rings, on small grids. The first that isn't as it should be is printed. The
 cases of the program stand in nodes.py.
@@ -17,7 +17,7 @@ from fractions import Fraction
 from itertools import combinations
 from random import Random
 
-from chains import are_apart, chain, ends, hot_points, is_inside, meeting, passage, rounded
+from chains import are_apart, chain, ends, hot_points, is_inside, is_near, meeting, passage, rounded, winding
 
 BOUNDS = 3, 5, 8, 14, 30
 MOST = 9
@@ -60,30 +60,11 @@ def noded(edges):
     return found, hot, moved
 
 
-def winding(edges, x, y):
-    """How often the edges wind around a point with fractions."""
-    count = 0
-    for x0, y0, x1, y1 in edges:
-        if x0 <= x < x1:
-            count += (x1 - x0) * (y - y0) >= (y1 - y0) * (x - x0)
-        elif x1 <= x < x0:
-            count -= (x0 - x1) * (y - y1) >= (y0 - y1) * (x - x1)
-    return count
-
-
-def is_near(edge, x, y):
-    """Whether a point of the edge is at most a half away from the point, on both axes."""
-    x0, y0, x1, y1 = edge
-    across, up = x1 - x0, y1 - y0
-    in_box = 2 * min(x0, x1) - 1 <= 2 * x <= 2 * max(x0, x1) + 1 and 2 * min(y0, y1) - 1 <= 2 * y <= 2 * max(y0, y1) + 1
-    return in_box and 2 * abs(across * (y - y0) - up * (x - x0)) <= abs(across) + abs(up)
-
-
 def counts_as_before(edge, found, is_moved, x, y):
     """Whether the pieces of a chain count at the point what the edge counts, where that is promised."""
-    if is_moved and edge[0] != edge[2] and edge[1] != edge[3] and is_near(edge, x, y):
+    if is_moved and edge[0] != edge[2] and edge[1] != edge[3] and is_near(edge, (x, y)):
         return True
-    return winding([one + other for one, other in zip(found, found[1:])], x, y) == winding([edge], x, y)
+    return winding([one + other for one, other in zip(found, found[1:])], (x, y)) == winding([edge], (x, y))
 
 
 def problem(random, edges, model):
