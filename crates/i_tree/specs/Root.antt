@@ -6,6 +6,7 @@ pub mod Causes
 pub mod Change
 pub mod Descent
 pub mod Ends
+pub mod Handles
 pub mod Late
 pub mod Levels
 pub mod Live

@@ -57,6 +57,11 @@ impl<T: Drop> From<AllocFailed<T>> for Refusal {
 
 /// Says which of the two it is, in a program's own error.
 impl Display for Refusal {
+    ghost use Rattle.std.specs.Prelude.{Some};
+    ghost use Rattle.i_tree.specs.Root.Causes.{refusal_text};
+
+    ghost output = { λ cause. Some (refusal_text cause) };
+
     fn fmt<W: fmt::Write>(&self, f: &mut Formatter<W>) -> fmt::Result {
         match self {
             Refusal::OutOfMemory => write!(f, "memory was refused"),

@@ -4,6 +4,7 @@ use Rattle.std.specs.Option.{IfSome}
 use Rattle.std.specs.Result.{IfOk, IsOk, OnErr}
 use Rattle.std.specs.declared.cmp.Ordering.{Ordering}
 use Rattle.std.specs.declared.cmp.Ordering.TheVariants.{Less, Equal, Greater}
+use Rattle.std.proofs.lemmas.Bool.{false≢true}
 use Rattle.i_tree.proofs.ExpiringLemmas.List.{none_spare}
 use Rattle.i_tree.proofs.ExpiringLemmas.Search.{ReadsAt}
 use Rattle.i_tree.proofs.ExpiringLemmas.SearchPath.{length-items}
@@ -11,6 +12,7 @@ use Rattle.i_tree.proofs.RbLemmas.SearchPath.Entries.{values-append}
 use Rattle.i_tree.proofs.RbLemmas.SearchPath.Search.{less_left}
 use Rattle.i_tree.proofs.RbLemmas.Shape.Contexts.{occurs_among, occurs_among-append, occurs_among-entries}
 use Rattle.i_tree.proofs.RootLemmas.Joined.{Any-behind, Any-here}
+use Rattle.i_tree.specs.Root.Causes.{RefusedFor}
 use Rattle.i_tree.specs.Root.Ends.{EndsIn, FirstFinds, LastFinds, StartsIn}
 use Rattle.i_tree.specs.Expiring.Descent.{DescendsBetween, FindsAbove, MayCall}
 use Rattle.i_tree.specs.Expiring.Insertion.{AreFoundAt, CallsEqual, HoldNeighbours, IsBetween, IsFoundAt, TellsNeighbours, has_joined}
@@ -21,6 +23,7 @@ use Rattle.i_tree.specs.Rb.Shape.{Shape, entries, occurs, IsHandle}
 use Rattle.i_tree.specs.Root.Steps.{Counts}
 use Rattle.i_tree.specs.Set.Pairs.{values}
 use Rattle.i_tree.specs.declared.Refusal.{Refusal}
+use Rattle.i_tree.specs.declared.Refusal.TheVariants.{OutOfMemory}
 use Rattle.i_tree.specs.declared.expiring.insertion.Beside.{Beside}
 use Rattle.i_tree.specs.declared.TheConstants.{EMPTY_REF}
 use Rattle.i_tree.specs.declared.rb.place.Place.{Place}
@@ -38,6 +41,10 @@ module _ {N : Type 0} where
   pub OnErr-joined : (told : Result (Option N) Refusal) (P : Type 0) → OnErr told P → OnErr (has_joined told) P
   OnErr-joined (Ok neighbours) P holds = tt
   OnErr-joined (Err cause) P holds = holds
+
+  pub RefusedFor-joined : (told : Result (Option N) Refusal) (wanted : Refusal) → RefusedFor wanted (has_joined told) → RefusedFor wanted told
+  RefusedFor-joined (Ok neighbours) wanted refused = tt
+  RefusedFor-joined (Err cause) wanted refused = refused
 
 -- what a descent has come to
 module _ {K V : Type 0} (is_live : K → Bool) (May : K → Ordering → Type 0) (tree : Shape (K × V)) (place : Place) (last : ℕ) (said : Ordering) (next : ℕ)
@@ -146,3 +153,9 @@ module _ {T : Type 0} (old new : Contents T) where
       by_left : (left : ℕ) → slots old - length (items new.shape) ≡ left → slots new ≡ slots_grown left (slots old) → room_in old ≤ room_in new
       by_left zero is more = omega (arith, is, more, in_slots old, in_slots new)
       by_left (suc n) is more = omega (arith, more, in_slots old, in_slots new)
+
+  -- Where there are handles for one pair more, an insertion that succeeds where a slot is free is refused for want of memory alone.
+  pub refused_memory : {A : Type 0} (result : Result A Refusal) → (0 < old.spare → IsOk result) → (slots old ≢ EMPTY_REF → RefusedFor OutOfMemory result) → length (items old.shape) + 1 < EMPTY_REF
+      → RefusedFor OutOfMemory result
+  refused_memory (Ok _) with_spare refused few = tt
+  refused_memory (Err cause) with_spare refused few = refused (λ full. absurd (false≢true (with_spare (omega (arith, few, full, in_slots old)))))

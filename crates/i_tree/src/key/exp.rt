@@ -1,10 +1,11 @@
 //! The trait of collections of keys that expire: what each of them promises.
 
-ghost use Rattle.std.specs.Prelude.{◌≡◌, ◌≤◌, ◌<◌, ℕ, List, [], All, Result, ⊤, length, IsOk, IfOk, OnOk, OnErr, MatchBool};
+ghost use Rattle.std.specs.Prelude.{◌≡◌, ◌≤◌, ◌<◌, ◌+◌, ℕ, List, [], All, Result, ⊤, length, IsOk, IfOk, OnOk, OnErr, MatchBool};
 ghost use Rattle.std.specs.declared.cmp.Ordering.{Ordering};
 ghost use Rattle.i_tree.specs.declared.Refusal.{Refusal};
 ghost use Rattle.i_tree.specs.Expiring.Insertion.{InsertsOrLeaves};
 ghost use Rattle.i_tree.specs.Expiring.Live.{live_pairs, IsExpired};
+ghost use Rattle.i_tree.specs.Root.Causes.{RefusedFor};
 ghost use Rattle.i_tree.specs.Root.Pairs.{HasKey, NoKey, IsNewKey, IsRising};
 ghost use Rattle.i_tree.specs.Root.Answer.{Below, AtMostBy, AboveBy};
 ghost use Rattle.i_tree.specs.Root.Change.{Without, Gains, GainsOrLoses};
@@ -25,6 +26,10 @@ pub trait KeyExpCollection<K: ExpiredKey<E>, E: Expiration, V: Copy> {
 
     /// For how many pairs in all there is room, the stored ones among them. The default promises none.
     ghost room: { Self → ℕ } = { λ _. 0 };
+
+    /// Whether there are handles for so many pairs in all: then an insertion that would make so many is refused for want of
+    /// memory alone. The default promises none.
+    ghost has_handles: { ℕ → Type 0 } = { λ count. count ≡ 0 };
 
     /// What each kind promises beyond these clauses of an insertion that gave this result. The default promises nothing.
     ghost inserts: { K → V → E → Self → Result ⊤ Refusal → Self → Type 0 } = { λ _ _ _ _ _ _. ⊤ };
@@ -47,8 +52,9 @@ pub trait KeyExpCollection<K: ExpiredKey<E>, E: Expiration, V: Copy> {
         ensures err { OnErr result (stored self.new ≡ stored self.old) }
         ensures rising { IsRising K.cmp (stored self.new) }
 
-        // When it is never refused, and what each kind adds.
+        // When it is refused, and what each kind adds.
         ensures with_room { length (stored self.old) < room self.old → IsOk result }
+        ensures refused { has_handles (length (stored self.old) + 1) → RefusedFor Refusal.OutOfMemory result }
         ensures room { room self.old ≤ room self.new }
         ensures inserts { inserts key val time self.old result self.new };
 
@@ -66,8 +72,9 @@ pub trait KeyExpCollection<K: ExpiredKey<E>, E: Expiration, V: Copy> {
         ensures err_new { OnErr result (NoKey K.cmp (live_pairs K.expiration E.cmp time (stored self.old)) key) }
         ensures rising { IsRising K.cmp (stored self.new) }
 
-        // When it is never refused, and what each kind adds: of an insertion, or where the key isn't new of a query.
+        // When it is refused, and what each kind adds: of an insertion, or where the key isn't new of a query.
         ensures with_room { length (stored self.old) < room self.old → IsOk result }
+        ensures refused { has_handles (length (stored self.old) + 1) → RefusedFor Refusal.OutOfMemory result }
         ensures room { room self.old ≤ room self.new }
         ensures inserts { InsertsOrLeaves (λ done. inserts key val time self.old done self.new)
             (leaves time self.old self.new) result };

@@ -115,12 +115,15 @@ impl<K: ExpiredKey<E>, E: Expiration, V: Copy, A: Allocator + Copy> KeyExpList<K
 
 impl<K: ExpiredKey<E>, E: Expiration, V: Copy, A: Allocator + Copy> KeyExpCollection<K, E, V>
     for KeyExpList<K, E, V, A> {
+    ghost use Rattle.std.specs.Prelude.{⊤};
     ghost use Rattle.i_tree.specs.Expiring.List.{ListLeaves, ListClears};
     ghost use Rattle.i_tree.specs.Key.KeyExpList.{KeyListInserts};
 
     ghost stored = { λ list. list.pairs };
 
     ghost room = { λ list. length list.pairs + list.spare };
+
+    ghost has_handles = { λ _. ⊤ };
 
     ghost inserts = { λ key val time old result new. KeyListInserts K.expiration E.cmp (key, val) time old result new };
 

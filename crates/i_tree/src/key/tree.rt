@@ -289,10 +289,13 @@ impl<K: ExpiredKey<E>, E: Expiration, V: Copy, A: Allocator + Copy> KeyExpCollec
     for KeyExpTree<K, E, V, A> {
     ghost use Rattle.i_tree.specs.Expiring.Tree.{TreeLeaves, TreeClears};
     ghost use Rattle.i_tree.specs.Key.KeyExpTree.{KeyTreeInserts};
+    ghost use Rattle.i_tree.specs.declared.TheConstants.{EMPTY_REF};
 
     ghost stored = { λ tree. items tree.shape };
 
     ghost room = { λ tree. length (items tree.shape) + tree.spare };
+
+    ghost has_handles = { λ count. count < EMPTY_REF };
 
     ghost inserts = { λ key val time old result new. KeyTreeInserts K.expiration K.cmp E.cmp key time old result new };
 

@@ -1,10 +1,11 @@
 //! The trait of statuses of a sweep line: what each of them promises.
 
-ghost use Rattle.std.specs.Prelude.{◌≡◌, ◌≤◌, ◌<◌, ℕ, Bool, List, [], All, Option, Result, ⊤, length, is_some, IsOk, IfOk, OnErr};
+ghost use Rattle.std.specs.Prelude.{◌≡◌, ◌≤◌, ◌<◌, ◌+◌, ℕ, Bool, List, [], All, Option, Result, ⊤, length, is_some, IsOk, IfOk, OnErr};
 ghost use Rattle.std.specs.declared.cmp.Ordering.{Ordering};
 ghost use Rattle.i_tree.specs.declared.Refusal.{Refusal};
 ghost use Rattle.i_tree.specs.Expiring.Insertion.{has_joined, TellsNeighbours};
 ghost use Rattle.i_tree.specs.Expiring.Live.{live_pairs, IsExpired};
+ghost use Rattle.i_tree.specs.Root.Causes.{RefusedFor};
 ghost use Rattle.i_tree.specs.Root.Along.{AboveAlongBy, AreNeighboursBy, AtMostAlongBy, NoneEqualBy};
 ghost use Rattle.i_tree.specs.Root.Change.{Without};
 ghost use Rattle.i_tree.specs.Root.Live.{is_live};
@@ -30,6 +31,10 @@ pub trait StatusCollection<K: ExpiredVal<E>, E: Expiration, V: Copy> {
 
     /// For how many pairs in all there is room, the stored ones among them. The default promises none.
     ghost room: { Self → ℕ } = { λ _. 0 };
+
+    /// Whether there are handles for so many pairs in all: then an insertion that would make so many is refused for want of
+    /// memory alone. The default promises none.
+    ghost has_handles: { ℕ → Type 0 } = { λ count. count ≡ 0 };
 
     /// What each kind promises beyond these clauses of an insertion, by what the closure may answer, where this result says
     /// whether the pair joined. The default promises nothing.
@@ -62,8 +67,9 @@ pub trait StatusCollection<K: ExpiredVal<E>, E: Expiration, V: Copy> {
         ensures err { OnErr result (stored self.new ≡ stored self.old) }
         ensures err_new { OnErr result (NoneEqualBy (F.post f) (live_pairs K.expiration E.cmp time (stored self.old))) }
 
-        // When it is never refused, and what each kind adds.
+        // When it is refused, and what each kind adds.
         ensures with_room { length (stored self.old) < room self.old → IsOk result }
+        ensures refused { has_handles (length (stored self.old) + 1) → RefusedFor Refusal.OutOfMemory result }
         ensures room { room self.old ≤ room self.new }
         ensures inserts { inserts (F.post f) key val time self.old result self.new };
 
@@ -89,8 +95,9 @@ pub trait StatusCollection<K: ExpiredVal<E>, E: Expiration, V: Copy> {
         ensures err { OnErr result (stored self.new ≡ stored self.old) }
         ensures err_new { OnErr result (NoneEqualBy (F.post f) (live_pairs K.expiration E.cmp time (stored self.old))) }
 
-        // When it is never refused, and what each kind adds.
+        // When it is refused, and what each kind adds.
         ensures with_room { length (stored self.old) < room self.old → IsOk result }
+        ensures refused { has_handles (length (stored self.old) + 1) → RefusedFor Refusal.OutOfMemory result }
         ensures room { room self.old ≤ room self.new }
         ensures inserts { inserts (F.post f) key val time self.old (has_joined result) self.new };
 

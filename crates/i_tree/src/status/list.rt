@@ -81,12 +81,15 @@ impl<K: ExpiredVal<E>, E: Expiration, V: Copy, A: Allocator + Copy> StatusList<K
 
 impl<K: ExpiredVal<E>, E: Expiration, V: Copy, A: Allocator + Copy> StatusCollection<K, E, V>
     for StatusList<K, E, V, A> {
+    ghost use Rattle.std.specs.Prelude.{⊤};
     ghost use Rattle.i_tree.specs.Expiring.List.{ListLeaves, ListClears};
     ghost use Rattle.i_tree.specs.Status.StatusList.{StatusListInserts};
 
     ghost stored = { λ list. list.pairs };
 
     ghost room = { λ list. length list.pairs + list.spare };
+
+    ghost has_handles = { λ _. ⊤ };
 
     ghost inserts = { λ may_answer key val time old result new.
         StatusListInserts K.expiration E.cmp (key, val) time old result new };

@@ -236,10 +236,13 @@ impl<K: ExpiredVal<E>, E: Expiration, V: Copy, A: Allocator + Copy> StatusCollec
     for StatusTree<K, E, V, A> {
     ghost use Rattle.i_tree.specs.Expiring.Tree.{TreeLeaves, TreeClears};
     ghost use Rattle.i_tree.specs.Status.StatusTree.{StatusTreeInserts};
+    ghost use Rattle.i_tree.specs.declared.TheConstants.{EMPTY_REF};
 
     ghost stored = { λ tree. items tree.shape };
 
     ghost room = { λ tree. length (items tree.shape) + tree.spare };
+
+    ghost has_handles = { λ count. count < EMPTY_REF };
 
     ghost inserts = { λ may_answer key val time old result new.
         StatusTreeInserts (is_live K.expiration E.cmp time) may_answer old result new };

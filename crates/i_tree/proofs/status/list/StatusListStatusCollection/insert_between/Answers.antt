@@ -2,13 +2,14 @@ use Rattle.std.proofs.Common.{◌≡◌, None, Some, List, drop, take, sym, subs
 use Rattle.std.specs.List.{Any, insert}
 use Rattle.std.proofs.lemmas.Bool.{false≢true}
 use Rattle.std.proofs.lemmas.Result.{MatchResult-from_err, err_from_is_err_and}
-use Rattle.i_tree.proofs.ExpiringLemmas.Insertion.{IfOk-joined, OnErr-joined}
+use Rattle.i_tree.proofs.ExpiringLemmas.Insertion.{IfOk-joined, OnErr-joined, RefusedFor-joined}
 use Rattle.i_tree.proofs.ExpiringLemmas.List.{all_stayed, had_no_spare, none_spare, none_was_expired}
 use Rattle.i_tree.proofs.StatusLemmas.ListInsertion.{IsPlaced, joins_placed, neighbours_placed, none_equal}
 use Rattle.i_tree.specs.Expiring.Live.{live_pairs, IsExpired}
 use Rattle.i_tree.specs.Root.Ends.{FirstFinds, LastFinds}
 use Rattle.i_tree.specs.Root.Live.{is_live}
 use Rattle.i_tree.specs.Status.Insertion.{JoinsAlong}
+use Rattle.i_tree.specs.declared.Refusal.TheVariants.{OutOfMemory}
 use Rattle.i_tree.proofs.status.list.StatusListStatusCollection.insert_between.Goals as goal
 
 -- a live key is called Equal
@@ -56,6 +57,9 @@ returns-in_err-put-clause-inserts g c =
           absurd (false≢true (none_was_expired g.K.ExpiredVal.expiration g.E.Ord.cmp c.args.time c.self.inside.held c.remove_expired.new.self c.remove_expired.ensures.leaves (full g c)
           (subst (λ list. Any (IsExpired g.K.ExpiredVal.expiration g.E.Ord.cmp {V = g.row.V.Denot} c.args.time) list.pairs) (sym c.self.view_is) expired)));
     }
+
+pub returns-in_err-put-clause-refused : goal.returns-in_err-put-clause-refused
+returns-in_err-put-clause-refused g c _ = RefusedFor-joined c.from_residual.result OutOfMemory (returns-in_err-put-clause-inserts g c).refused
 
 -- what an insertion that has room leaves: the pair has joined the live ones at its place
 pub returns-clause-cases : goal.returns-clause-cases

@@ -15,3 +15,6 @@ returns-clause-err_new g c = rw c.has_joined.ensures (OnErr-joined c.insert_betw
 
 pub returns-clause-with_room : goal.returns-clause-with_room
 returns-clause-with_room g c few = rw c.has_joined.ensures (IsOk-joined c.insert_between.result (c.insert_between.ensures.with_room few))
+
+pub returns-clause-refused : goal.returns-clause-refused
+returns-clause-refused g c _ = rw c.has_joined.ensures c.insert_between.ensures.inserts.refused

@@ -1,3 +1,4 @@
+use Rattle.i_tree.proofs.ExpiringLemmas.Insertion.{refused_memory}
 use Rattle.i_tree.proofs.StatusLemmas.TreeInsertion.{room_kept}
 use Rattle.i_tree.specs.Root.Live.{is_live}
 use Rattle.i_tree.proofs.status.tree.StatusTreeStatusCollection.insert_by.Goals as goal
@@ -5,3 +6,8 @@ use Rattle.i_tree.proofs.status.tree.StatusTreeStatusCollection.insert_by.Goals 
 pub returns-clause-room : goal.returns-clause-room
 returns-clause-room g c =
     room_kept (is_live g.K.ExpiredVal.expiration g.E.Ord.cmp c.args.time) (goal.F-post g c.args.f) c.args.self.now c.insert_by_counted.result c.insert_by_counted.new.self c.insert_by_counted.ensures.inserts
+
+pub returns-clause-refused : goal.returns-clause-refused
+returns-clause-refused g c few =
+    let inserts = c.insert_by_counted.ensures.inserts in
+    refused_memory c.args.self.now c.insert_by_counted.new.self c.insert_by_counted.result inserts.with_spare inserts.refused few
