@@ -1,3 +1,4 @@
 pub mod Begun
 pub mod Events
+pub mod Room
 pub mod Status

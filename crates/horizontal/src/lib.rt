@@ -3,16 +3,18 @@
 //! None of this is of the Rust crate `i_tree`.
 #![tactic(auto)]
 
-ghost use Rattle.std.specs.Prelude.{◌≡◌, ◌<◌, ◌++◌, [], ℤ, ℕ, List, Option, length, OnOk, OnErr};
+ghost use Rattle.std.specs.Prelude.{◌≡◌, ◌<◌, ◌+◌, ◌++◌, [], ℤ, ℕ, List, Option, length, OnOk, OnErr};
 ghost use Rattle.std.specs.List.{AllZip};
 ghost use Rattle.std.specs.Ordering.{int_cmp};
 ghost use Rattle.i_tree.specs.Root.Answer.{AtMost};
 ghost use Rattle.i_tree.specs.Root.Change.{Gains, Without};
+ghost use Rattle.i_tree.specs.Root.Handles.{HasHandlesFor};
 ghost use Rattle.i_tree.specs.Root.Pairs.{HasKey, NoKey};
 ghost use Rattle.horizontal.specs.Levels.{cmp_levels, entry_of, level_of, live_entries, HasEnded};
 ghost use Rattle.horizontal.specs.Events.{IsQueue};
 ghost use Rattle.horizontal.specs.Heights.{IsHeightBelow, NoneCollide, IsFirstOverlap};
 ghost use Rattle.horizontal.specs.declared.SweepFault.TheVariants.{Refused};
+ghost use Rattle.i_tree.specs.declared.Refusal.{Refusal};
 ghost use Rattle.i_tree.specs.declared.Refusal.TheVariants.{OutOfMemory};
 
 use event_queue::{Event, Task};
@@ -114,8 +116,9 @@ impl Error for SweepFault {}
 /// Two segments collide where they have one height and both cover some x. Where two collide, the answer is `Overlap`, which
 /// tells the first segment, in the order of `x0` and then of place, that collides with one before it in this order.
 /// `Refused` comes where memory for the sweep was refused, or where the store refused a level, whose cause it tells; it may
-/// come where segments collide, too. After any fault `out` is as it was. What the store holds is removed before and after
-/// the sweep, in every case. The memory is that of `out`.
+/// come where segments collide, too. Where the store has handles for as many as there are segments, as a `KeyExpList` always
+/// has, the cause is always `OutOfMemory`. After any fault `out` is as it was. What the store holds is removed before and
+/// after the sweep, in every case. The memory is that of `out`.
 ///
 /// For s segments and p points it compares O((s + p) log (s + p)) times beside the calls of the store, which are at most
 /// one for each segment and one for each point. The sweep is our own, and not of the Rust crate; it is the textbook's sweep
@@ -136,6 +139,8 @@ where
     ensures overlap { (place : ℕ) → result ≡ Err (SweepFault.Overlap place) → IsFirstOverlap segments.now place }
     ensures within { (place : ℕ) → result ≡ Err (SweepFault.Overlap place) → place < length segments.now }
     ensures err { OnErr result (out.new.items ≡ out.old.items) }
+    ensures refused { HasHandlesFor C.has_handles (length segments.now) → (cause : Refusal) →
+        result ≡ Err (SweepFault.Refused cause) → cause ≡ OutOfMemory }
     ensures empty { C.stored store.new ≡ [] }
 {
     store.clear();
@@ -161,6 +166,8 @@ where
         × AllZip (IsHeightBelow segments.now) points.now answers) }
     ensures overlap { (place : ℕ) → result ≡ Err (SweepFault.Overlap place) → IsFirstOverlap segments.now place }
     ensures err { OnErr result (out.new.items ≡ out.old.items) }
+    ensures refused { HasHandlesFor C.has_handles (length segments.now) → (cause : Refusal) →
+        result ≡ Err (SweepFault.Refused cause) → cause ≡ OutOfMemory }
 {
     let alloc = *out.allocator();
     let events = events_of(alloc, segments, points)?;
@@ -184,8 +191,11 @@ fn serve_all<C: KeyExpCollection<Level, i32, Option<i32>>>(
     requires room { length answers.old ≡ length points.now }
     ensures ok { OnOk result (NoneCollide segments.now × AllZip (IsHeightBelow segments.now) points.now answers.new) }
     ensures overlap { (place : ℕ) → result ≡ Err (SweepFault.Overlap place) → IsFirstOverlap segments.now place }
+    ensures refused { HasHandlesFor C.has_handles (length segments.now) → (cause : Refusal) →
+        result ≡ Err (SweepFault.Refused cause) → cause ≡ OutOfMemory }
 {
-    // Stored are the levels that are live at the line, none twice, and the points that it has passed have their answers.
+    // Stored are the levels that are live at the line, none twice, and no more than have begun; and the points that it has passed
+    // have their answers.
     for event in events {
         match event.task {
             Task::End => {}
@@ -207,6 +217,8 @@ fn begin<C: KeyExpCollection<Level, i32, Option<i32>>>(
         × Gains (HasEnded segment.x0) (entry_of segment) (C.stored store.old) (C.stored store.new)) }
     ensures overlap { (other : ℕ) → result ≡ Err (SweepFault.Overlap other) →
         (other ≡ place) × HasKey cmp_levels (live_entries segment.x0 (C.stored store.old)) (level_of segment) }
+    ensures refused { C.has_handles (length (C.stored store.old) + 1) → (cause : Refusal) →
+        result ≡ Err (SweepFault.Refused cause) → cause ≡ OutOfMemory }
 {
     let level = Level {
         y: segment.y,

@@ -49,9 +49,13 @@ module _ (edges : List Edge) (points : List Point) (events : List Event) (queue 
     begins : event.task ≡ Begin
     begins = (subst (IsPayloadOf edges points event) is (is_payload nothing)).0
 
+    -- with one more there are no more than edges
+    pub one_more : length stored + 1 ≤ length edges
+    one_more = omega (arith, holds, begun-before end_x begin_x answer_x edges points events queue k event inside here begins)
+
     -- there is room for one more
     pub room_at_begin : (room : ℕ) → length edges ≤ room → length stored < room
-    room_at_begin room enough = omega (arith, enough, holds, begun-before end_x begin_x answer_x edges points events queue k event inside here begins)
+    room_at_begin room enough = omega (arith, enough, one_more)
 
     pub HoldsBegun-joins : (after : List Entry) → JoinsAt active.edge.x0 (active, tt) stored after → HoldsBegun (take (k + 1) events) after
     HoldsBegun-joins after joins =

@@ -4,6 +4,7 @@ ghost use Rattle.std.specs.Prelude.{◌≡◌, ◌≤◌, ◌++◌, [], ℕ, Lis
 ghost use Rattle.std.specs.List.{AllZip};
 ghost use Rattle.i_tree.specs.declared.Refusal.{Refusal};
 ghost use Rattle.i_tree.specs.declared.Refusal.TheVariants.{OutOfMemory};
+ghost use Rattle.i_tree.specs.Root.Handles.{HasHandlesFor};
 ghost use Rattle.plane.specs.Locate.Answers.{IsPlaceBelow};
 ghost use Rattle.plane.specs.SweepLine.Crossings.{IsCrossing, NoneCross};
 
@@ -32,7 +33,8 @@ mod sweep;
 /// Where two edges cross, as `cross` says, the answer is `Cross`, which tells the places of two that do, the lesser first.
 /// `Refused` comes where memory for the sweep was refused, or where the status refused an edge, whose cause it tells; it may
 /// come where edges cross, too. A status that has room for as many as there are edges refuses none: then the cause is always
-/// `OutOfMemory`. After any fault `out` is as it was. What the status holds is removed before and after the sweep, in every
+/// `OutOfMemory`. So it is where the status has handles for as many as there are edges, as a `GrowingStatus` and a `StatusList`
+/// always have. After any fault `out` is as it was. What the status holds is removed before and after the sweep, in every
 /// case. The memory is that of `out`.
 ///
 /// For e edges and p points it compares O((e + p) log (e + p)) times beside the calls of the status, which are at most two for
@@ -54,6 +56,8 @@ where
     ensures crossing { (i j : ℕ) → result ≡ Err (LocateFault.Cross i j) → IsCrossing edges.now i j }
     ensures err { OnErr result (out.new.items ≡ out.old.items) }
     ensures refused { length edges.now ≤ C.room status.old → (cause : Refusal) →
+        result ≡ Err (LocateFault.Refused cause) → cause ≡ OutOfMemory }
+    ensures handles { HasHandlesFor C.has_handles (length edges.now) → (cause : Refusal) →
         result ≡ Err (LocateFault.Refused cause) → cause ≡ OutOfMemory }
     ensures empty { C.stored status.new ≡ [] }
 {
@@ -81,6 +85,8 @@ where
     ensures crossing { (i j : ℕ) → result ≡ Err (LocateFault.Cross i j) → IsCrossing edges.now i j }
     ensures err { OnErr result (out.new.items ≡ out.old.items) }
     ensures refused { length edges.now ≤ C.room status.old → (cause : Refusal) →
+        result ≡ Err (LocateFault.Refused cause) → cause ≡ OutOfMemory }
+    ensures handles { HasHandlesFor C.has_handles (length edges.now) → (cause : Refusal) →
         result ≡ Err (LocateFault.Refused cause) → cause ≡ OutOfMemory }
 {
     let alloc = *out.allocator();

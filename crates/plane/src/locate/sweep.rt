@@ -1,11 +1,12 @@
 //! The sweep among edges: what is done at each event.
 
-ghost use Rattle.std.specs.Prelude.{◌≡◌, ◌≢◌, ◌≤◌, ◌<◌, ◌<ℤ◌, ◌≤ℤ◌, ◌∷◌, [], ℕ, All, AllPairs, Option, length, OnOk};
+ghost use Rattle.std.specs.Prelude.{◌≡◌, ◌≢◌, ◌≤◌, ◌<◌, ◌+◌, ◌<ℤ◌, ◌≤ℤ◌, ◌∷◌, [], ℕ, All, AllPairs, Option, length, OnOk};
 ghost use Rattle.std.specs.List.{AllZip};
 ghost use Rattle.i_tree.specs.declared.Refusal.{Refusal};
 ghost use Rattle.i_tree.specs.declared.Refusal.TheVariants.{OutOfMemory};
 ghost use Rattle.i_tree.specs.Root.Along.{AreNeighbours, IsMonotoneAlong};
 ghost use Rattle.i_tree.specs.Root.Change.{Without};
+ghost use Rattle.i_tree.specs.Root.Handles.{HasHandlesFor};
 ghost use Rattle.std.specs.declared.cmp.Ordering.TheVariants.{Less};
 ghost use Rattle.plane.specs.Locate.Answers.{IsPlaceBelow};
 ghost use Rattle.plane.specs.SweepLine.Crossings.{Cross, IsCrossing, NoneCross};
@@ -46,6 +47,8 @@ where
     ensures ok { OnOk result (NoneCross edges.now × AllZip (IsPlaceBelow edges.now) points.now answers.new) }
     ensures crossing { (i j : ℕ) → result ≡ Err (LocateFault.Cross i j) → IsCrossing edges.now i j }
     ensures refused { length edges.now ≤ C.room status.old → (cause : Refusal) →
+        result ≡ Err (LocateFault.Refused cause) → cause ≡ OutOfMemory }
+    ensures handles { HasHandlesFor C.has_handles (length edges.now) → (cause : Refusal) →
         result ≡ Err (LocateFault.Refused cause) → cause ≡ OutOfMemory }
 {
     let mut read_ahead = ReadAhead::new(alloc);
@@ -111,6 +114,8 @@ fn begin<C: StatusCollection<ActiveEdge, i64, ()>>(
         HaveCrossing ((beginning, tt) ∷ live_entries beginning.edge.x0 (C.stored status.old)) i j }
     ensures with_room { length (C.stored status.old) < C.room status.old → (cause : Refusal) →
         result ≢ Err (LocateFault.Refused cause) }
+    ensures handles { C.has_handles (length (C.stored status.old) + 1) → (cause : Refusal) →
+        result ≡ Err (LocateFault.Refused cause) → cause ≡ OutOfMemory }
     ensures room { C.room status.old ≤ C.room status.new }
 {
     let stands = |other: ActiveEdge| -> Ordering

@@ -1,10 +1,14 @@
 //! `GrowingStatus`: the status of a sweep line, a list while few pairs are stored, and a tree once more are.
 
-ghost use Rattle.std.specs.Prelude.{◌≡◌, ◌∷◌, ◌++◌, [], true, IfOk, OnOk};
+ghost use Rattle.std.specs.Prelude.{◌≡◌, ◌∷◌, ◌++◌, ◌<◌, ◌≤◌, ◌+◌, [], true, All, is_some, length, IfOk, OnOk, OnErr};
 ghost use Rattle.std.specs.declared.cmp.Ordering.TheVariants.{Less};
-ghost use Rattle.i_tree.specs.Expiring.Live.{AllLive};
+ghost use Rattle.i_tree.specs.Expiring.Insertion.{TellsNeighbours};
+ghost use Rattle.i_tree.specs.Expiring.Live.{live_pairs, AllLive};
 ghost use Rattle.i_tree.specs.Expiring.Tree.{items};
+ghost use Rattle.i_tree.specs.Root.Causes.{RefusedFor};
 ghost use Rattle.i_tree.specs.Root.Live.{is_live};
+ghost use Rattle.i_tree.specs.Status.Insertion.{IsNew, JoinsOrLeaves};
+ghost use Rattle.i_tree.specs.declared.TheConstants.{EMPTY_REF};
 ghost use Rattle.plane.specs.SweepLine.Growing.{AreHeldByOne};
 
 use i_tree::status::exp::StatusCollection;
@@ -23,7 +27,8 @@ const FEW: usize = 128;
 /// Contracts see the stored pairs in their order along the line. Where only few are live at once, a list is quicker than a
 /// tree; where many are, it shifts all behind a place for each that comes. So all pairs go over into the tree when an insertion
 /// leaves more than 128 of them, and stay there until `clear`. For this no insertion is refused: where the tree gets no room,
-/// they stay in the list. It is our own, and not of the Rust crate.
+/// they stay in the list. Nor is one refused for want of handles: where the tree has none left, all live pairs go back into the
+/// list, which needs none. It is our own, and not of the Rust crate.
 #[derive(Drop)]
 pub struct GrowingStatus<K: ExpiredVal<E>, E: Expiration, V: Copy, A: Allocator + Copy> {
     few: StatusList<K, E, V, A>,
@@ -47,7 +52,8 @@ impl<K: ExpiredVal<E>, E: Expiration, V: Copy, A: Allocator + Copy> Model
 impl<K: ExpiredVal<E>, E: Expiration, V: Copy, A: Allocator + Copy> GrowingStatus<K, E, V, A> {
     /// An empty status. It is refused where the allocator refuses the tree's first slots.
     pub fn new(alloc: A) -> Result<Self, Refusal>
-        ensures { IfOk result (λ status. status ≡ []) }
+        ensures empty { IfOk result (λ status. status ≡ []) }
+        ensures refused { RefusedFor Refusal.OutOfMemory result }
     {
         Ok(GrowingStatus {
             few: StatusList::new(alloc, 0)?,
@@ -59,9 +65,13 @@ impl<K: ExpiredVal<E>, E: Expiration, V: Copy, A: Allocator + Copy> GrowingStatu
 
 impl<K: ExpiredVal<E>, E: Expiration, V: Copy, A: Allocator + Copy> StatusCollection<K, E, V>
     for GrowingStatus<K, E, V, A> {
+    ghost use Rattle.std.specs.Prelude.{⊤};
+
     ghost stored = { λ status. status };
 
-    /// Stores the pair in whichever holds the others, and is refused as that is.
+    ghost has_handles = { λ _. ⊤ };
+
+    /// Stores the pair in whichever holds the others. It is refused for want of memory alone.
     #[inline(always)]
     fn insert_by<F: Fn(K) -> Ordering>(
         &mut self,
@@ -73,7 +83,8 @@ impl<K: ExpiredVal<E>, E: Expiration, V: Copy, A: Allocator + Copy> StatusCollec
         Ok(self.insert_between(time, f, key, val)?.is_some())
     }
 
-    /// Stores the pair in whichever holds the others, and is refused as that is.
+    /// Stores the pair in whichever holds the others, and in the list where the tree has no handle left. It is refused for want of
+    /// memory alone.
     #[inline(always)]
     fn insert_between<F: Fn(K) -> Ordering>(
         &mut self,
@@ -83,7 +94,19 @@ impl<K: ExpiredVal<E>, E: Expiration, V: Copy, A: Allocator + Copy> StatusCollec
         val: V,
     ) -> Result<Option<(Option<(K, V)>, Option<(K, V)>)>, Refusal> {
         if self.are_many {
-            return self.many.insert_between(time, f, key, val);
+            let asked = |other: K| -> Ordering
+                requires { F.pre f other }
+                ensures { F.post f other result }
+            { f(other) };
+            match self.many.insert_between(time, asked, key, val) {
+                Ok(told) => return Ok(told),
+                Err(Refusal::OutOfMemory) => return Err(Refusal::OutOfMemory),
+                Err(Refusal::NoHandle) => {
+                    let told = insert_back(&mut self.few, &mut self.many, time, f, key, val)?;
+                    self.are_many = false;
+                    return Ok(told);
+                }
+            }
         }
         let told = self.few.insert_between(time, f, key, val)?;
         self.are_many = go_over_if_many(&mut self.few, &mut self.many, time, key);
@@ -190,18 +213,113 @@ fn append_all<K: ExpiredVal<E>, E: Expiration, V: Copy, A: Allocator + Copy>(
     Ok(())
 }
 
-/// Puts the pair behind all that the tree stores.
-fn append<K: ExpiredVal<E>, E: Expiration, V: Copy, A: Allocator + Copy>(
-    tree: &mut StatusTree<K, E, V, A>,
+/// Puts the pair behind all that are stored.
+fn append<K: ExpiredVal<E>, E: Expiration, V: Copy, C: StatusCollection<K, E, V>>(
+    status: &mut C,
     pair: (K, V),
     time: E,
 ) -> Result<(), Refusal>
-    requires live { AllLive K.expiration E.cmp time (items tree.old.shape) }
-    ensures ok { OnOk result (items tree.new.shape ≡ items tree.old.shape ++ pair ∷ []) }
+    requires live { AllLive K.expiration E.cmp time (C.stored status.old) }
+    ensures ok { OnOk result (C.stored status.new ≡ C.stored status.old ++ pair ∷ []) }
+    ensures refused { C.has_handles (length (C.stored status.old) + 1) → RefusedFor Refusal.OutOfMemory result }
+    ensures room { C.room status.old ≤ C.room status.new }
 {
     let is_before = |_: K| -> Ordering
         ensures { result ≡ Less }
     { Ordering::Less };
-    tree.insert_by(time, is_before, pair.0, pair.1)?;
+    status.insert_by(time, is_before, pair.0, pair.1)?;
     Ok(())
+}
+
+/// Stores the pair in the list, into which all live pairs of the tree go back first. For a tree that has no handle left. Refused,
+/// the list is empty and the tree as it was.
+#[cold]
+#[inline(never)]
+fn insert_back<K: ExpiredVal<E>, E: Expiration, V: Copy, A: Allocator + Copy, F: Fn(K) -> Ordering>(
+    few: &mut StatusList<K, E, V, A>,
+    many: &mut StatusTree<K, E, V, A>,
+    time: E,
+    f: F,
+    key: K,
+    val: V,
+) -> Result<Option<(Option<(K, V)>, Option<(K, V)>)>, Refusal>
+    requires asked { All (λ pair. F.pre f pair.0) (live_pairs K.expiration E.cmp time (items many.old.shape)) }
+    requires empty { few.old.pairs ≡ [] }
+    requires handles { length (items many.old.shape) < EMPTY_REF }
+    ensures cases { IfOk result (λ told.
+        IsNew (F.post f) (is_some told) (live_pairs K.expiration E.cmp time (items many.old.shape))) }
+    ensures ok { IfOk result (λ told. JoinsOrLeaves (is_live K.expiration E.cmp time) (F.post f) (is_some told)
+        (key, val) (items many.old.shape) few.new.pairs) }
+    ensures neighbours { IfOk result
+        (TellsNeighbours (F.post f) (live_pairs K.expiration E.cmp time (items many.old.shape))) }
+    ensures gone { OnOk result (items many.new.shape ≡ []) }
+    ensures stays { OnErr result (few.new.pairs ≡ []) }
+    ensures err { OnErr result (items many.new.shape ≡ items many.old.shape) }
+    ensures refused { RefusedFor Refusal.OutOfMemory result }
+{
+    go_back(few, many, time)?;
+    few.insert_between(time, f, key, val)
+}
+
+/// Puts the live pairs of the tree back into the empty list, with room for one more there, and empties the tree. A refusal
+/// leaves the list empty and the tree as it was.
+fn go_back<K: ExpiredVal<E>, E: Expiration, V: Copy, A: Allocator + Copy>(
+    few: &mut StatusList<K, E, V, A>,
+    many: &mut StatusTree<K, E, V, A>,
+    time: E,
+) -> Result<(), Refusal>
+    requires empty { few.old.pairs ≡ [] }
+    requires handles { length (items many.old.shape) < EMPTY_REF }
+    ensures ok { OnOk result (few.new.pairs ≡ live_pairs K.expiration E.cmp time (items many.old.shape)) }
+    ensures room { OnOk result (0 < few.new.spare) }
+    ensures gone { OnOk result (items many.new.shape ≡ []) }
+    ensures stays { OnErr result (few.new.pairs ≡ []) }
+    ensures err { OnErr result (items many.new.shape ≡ items many.old.shape) }
+    ensures refused { RefusedFor Refusal.OutOfMemory result }
+{
+    few.reserve_capacity(many.stored() + 1)?;
+    if let Err(cause) = append_live(few, many, time) {
+        few.clear();
+        return Err(cause);
+    }
+    many.clear();
+    Ok(())
+}
+
+/// Puts the live pairs of the tree into the empty list, in their order. Where it is refused, some may stand there.
+fn append_live<K: ExpiredVal<E>, E: Expiration, V: Copy, A: Allocator + Copy>(
+    few: &mut StatusList<K, E, V, A>,
+    many: &StatusTree<K, E, V, A>,
+    time: E,
+) -> Result<(), Refusal>
+    requires empty { few.old.pairs ≡ [] }
+    ensures ok { OnOk result (few.new.pairs ≡ live_pairs K.expiration E.cmp time (items many.now.shape)) }
+    ensures room { length few.old.pairs + few.old.spare ≤ length few.new.pairs + few.new.spare }
+    ensures refused { RefusedFor Refusal.OutOfMemory result }
+{
+    let tree = many.core();
+    let mut here = tree.first();
+    // The live ones of the pairs so far stand in the list, in their order, and the handle is that of the next pair.
+    for _ in 0..tree.len() {
+        append_if_live(few, *tree.item(here), time)?;
+        here = tree.after(here);
+    }
+    Ok(())
+}
+
+/// Puts the pair behind all that the list stores, where it is live.
+fn append_if_live<K: ExpiredVal<E>, E: Expiration, V: Copy, A: Allocator + Copy>(
+    few: &mut StatusList<K, E, V, A>,
+    pair: (K, V),
+    time: E,
+) -> Result<(), Refusal>
+    requires live { AllLive K.expiration E.cmp time few.old.pairs }
+    ensures ok { OnOk result (few.new.pairs ≡ few.old.pairs ++ live_pairs K.expiration E.cmp time (pair ∷ [])) }
+    ensures room { length few.old.pairs + few.old.spare ≤ length few.new.pairs + few.new.spare }
+    ensures refused { RefusedFor Refusal.OutOfMemory result }
+{
+    if pair.0.expiration() < time {
+        return Ok(());
+    }
+    append(few, pair, time)
 }

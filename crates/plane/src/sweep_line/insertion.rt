@@ -1,8 +1,10 @@
 //! How an edge joins the active ones where it begins.
 
-ghost use Rattle.std.specs.Prelude.{◌≡◌, ◌≤◌, ◌<◌, ◌<ℤ◌, ◌≤ℤ◌, ℤ, All, length, IsOk, IfOk, OnOk, OnErr};
+ghost use Rattle.std.specs.Prelude.{◌≡◌, ◌≤◌, ◌<◌, ◌+◌, ◌<ℤ◌, ◌≤ℤ◌, ℤ, All, length, IsOk, IfOk, OnOk, OnErr};
 ghost use Rattle.std.specs.declared.cmp.Ordering.{Ordering};
+ghost use Rattle.i_tree.specs.declared.Refusal.TheVariants.{OutOfMemory};
 ghost use Rattle.i_tree.specs.Root.Along.{AreNeighbours};
+ghost use Rattle.i_tree.specs.Root.Causes.{RefusedFor};
 ghost use Rattle.plane.specs.declared.sweep_line.active.ActiveEdge.{ActiveEdge};
 ghost use Rattle.plane.specs.SweepLine.Active.{cmp_active, live_entries};
 ghost use Rattle.plane.specs.SweepLine.Line.{BeganBefore, IsSortedAt, JoinsAt, NoneCrossAmong};
@@ -21,8 +23,8 @@ pub type Neighbours = (Option<(ActiveEdge, ())>, Option<(ActiveEdge, ())>);
 /// The status holds what has begun. Each of it that is live at the edge's beginning began before it, in the order of x and
 /// then of place, and these are sorted by height, there and just behind. With the new one they are so too, and at each later
 /// x, as long as no two of them cross (`sorted`). Expired edges may go. It is refused where the status gets no room for
-/// the edge, never while fewer are stored than there is room for; then what is stored stays as it was. There is no less room
-/// than before, whatever the answer.
+/// the edge, never while fewer are stored than there is room for, and for want of memory alone while there are handles; then what
+/// is stored stays as it was. There is no less room than before, whatever the answer.
 #[inline(always)]
 pub fn insert_beginning<C: StatusCollection<ActiveEdge, i64, ()>>(
     status: &mut C,
@@ -40,6 +42,7 @@ pub fn insert_beginning<C: StatusCollection<ActiveEdge, i64, ()>>(
         → IsSortedAt later (live_entries later (C.stored status.new))) }
     ensures err { OnErr result (C.stored status.new ≡ C.stored status.old) }
     ensures with_room { length (C.stored status.old) < C.room status.old → IsOk result }
+    ensures refused { C.has_handles (length (C.stored status.old) + 1) → RefusedFor OutOfMemory result }
     ensures room { C.room status.old ≤ C.room status.new }
 {
     insert_where(
@@ -77,6 +80,7 @@ pub(crate) fn insert_where<C: StatusCollection<ActiveEdge, i64, ()>, F: Fn(Activ
         → IsSortedAt later (live_entries later (C.stored status.new))) }
     ensures err { OnErr result (C.stored status.new ≡ C.stored status.old) }
     ensures with_room { length (C.stored status.old) < C.room status.old → IsOk result }
+    ensures refused { C.has_handles (length (C.stored status.old) + 1) → RefusedFor OutOfMemory result }
     ensures room { C.room status.old ≤ C.room status.new }
 {
     let x = beginning.edge.x0 as i64;

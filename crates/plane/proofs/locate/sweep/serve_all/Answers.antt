@@ -2,7 +2,7 @@ use Rattle.std.proofs.Common.{rules, subst, arith}
 use Rattle.std.proofs.lemmas.List.{take_all}
 use Rattle.std.proofs.lemmas.Result.{err_from_is_err_and}
 use Rattle.plane.proofs.LocateLemmas.Payloads.{ends_requires, ends_onwards, ends_live_onwards, ends_order, ends_crossing, Swept-ends, begins_sorted, begins_last, begins_onwards, begins_crossing, Swept-begins, asks_requires, asks_inside, Swept-asks}
-use Rattle.plane.proofs.LocateLemmas.Room.{HoldsBegun-joins, HoldsBegun-nothing, HoldsBegun-without, room_at_begin}
+use Rattle.plane.proofs.LocateLemmas.Room.{HoldsBegun-joins, HoldsBegun-nothing, HoldsBegun-without, one_more, room_at_begin}
 use Rattle.plane.proofs.LocateLemmas.Swept.{Swept, Swept-nothing, none_cross, all_answered}
 use Rattle.plane.specs.SweepLine.Active.{IsExpiredAt}
 use Rattle.plane.proofs.locate.sweep.serve_all.Goals as goal
@@ -71,6 +71,13 @@ returns-in_err-begin-in-Begins-clause-refused g c enough cause told =
     let inside = room_at_begin c.args.edges.now c.args.points.now c.args.events.now c.requires.queue c.loop-next.next c.loop-next-test.true (g.C.StatusCollection.stored c.loop-next.status) c.loop-next.invariant.2
     c.in_ok-payload.payload c.in_ok-payload.ensures.value c.in-Begins.active c.in-Begins.is (g.C.StatusCollection.room c.loop-next.status) (omega (arith, enough, c.loop-next.invariant.3)) in
     absurd ((c.in_err-begin-in-Begins.ensures).with_room inside cause cc)
+
+pub returns-in_err-begin-in-Begins-clause-handles : goal.returns-in_err-begin-in-Begins-clause-handles
+returns-in_err-begin-in-Begins-clause-handles g c has cause told =
+    let (fault, was, given) = err_from_is_err_and c.from_residual-in_err-begin-in-Begins.result c.from_residual-in_err-begin-in-Begins.ensures.1 in
+    let most = one_more c.args.edges.now c.args.points.now c.args.events.now c.requires.queue c.loop-next.next c.loop-next-test.true (g.C.StatusCollection.stored c.loop-next.status) c.loop-next.invariant.2
+    c.in_ok-payload.payload c.in_ok-payload.ensures.value c.in-Begins.active c.in-Begins.is in
+    (c.in_err-begin-in-Begins.ensures).handles (has _ most) cause cc
 
 pub place_below-requires : goal.place_below-requires
 place_below-requires g c =
