@@ -3,6 +3,7 @@ pub mod Boxed
 pub mod Boxes
 pub mod Chains
 pub mod Each
+pub mod Faults
 pub mod Gathered
 pub mod LineParts
 pub mod Lines

@@ -1,7 +1,8 @@
 //! Overlays of groups of shapes, one for each two groups, in one call.
 
-ghost use Rattle.std.specs.Prelude.{◌≡◌, ◌++◌, ◌↔◌, ◌<◌, [], List, IsTrue, OnErr, OnOk, Err, get_or, length};
+ghost use Rattle.std.specs.Prelude.{◌≡◌, ◌++◌, ◌↔◌, ◌⊎◌, ◌<◌, [], List, IfErr, IsTrue, OnErr, OnOk, Err, get_or, length};
 ghost use Rattle.std.specs.List.{flat_map};
+ghost use Rattle.i_tree.specs.declared.Refusal.TheVariants.{OutOfMemory};
 ghost use Rattle.plane.specs.declared.point.Point.{Point};
 ghost use Rattle.plane.specs.Lists.{Extends};
 ghost use Rattle.noding.specs.Offsets.{offsets};
@@ -36,8 +37,8 @@ const FEW_POINTS: usize = 4096;
 ///
 /// `Lengths` comes where a ring, a shape or a group stops before it begins or behind the last of what it is made of, or where there
 /// are not as many groups on both sides. `NoShape` comes where these are right, and a group names the place of no shape. Nothing else
-/// is done then. `Refused` comes where memory was refused, or where more edges are live at once in an overlay than a tree has handles.
-/// After any fault `out` and `ends` are as they were.
+/// is done then. `Refused` comes where memory was refused, and for no other cause. After any fault `out` and `ends` are as they
+/// were.
 ///
 /// The memory is that of `out` and `ends`. What an overlay works with is asked of it once for all groups, but for groups of many
 /// points.
@@ -59,6 +60,8 @@ pub fn overlay_each<A: Allocator + Copy>(
     ensures no_shape { (result ≡ Err LayerFault.NoShape)
         ↔ (HaveLengths subjects.entry.shapes subjects.entry.groups clips.entry.shapes clips.entry.groups
         × (¬ (HaveShapes subjects.entry.shapes subjects.entry.groups clips.entry.shapes clips.entry.groups))) }
+    ensures refused { IfErr result (λ fault.
+        (fault ≡ LayerFault.Lengths) ⊎ ((fault ≡ LayerFault.NoShape) ⊎ (fault ≡ LayerFault.Refused OutOfMemory))) }
 {
     if !have_lengths(subjects, clips) {
         return Err(LayerFault::Lengths);
@@ -100,7 +103,7 @@ fn have_shapes(subjects: GroupedShapes, clips: GroupedShapes) -> bool
         && are_named(clips.groups, clips.shapes.shape_ends.len())
 }
 
-// As `overlay_each`, from right lengths and places on. Where it is refused, it may have appended something.
+// As `overlay_each`, from right lengths and places on. It is refused for want of memory alone, and may have appended something.
 fn append_each<A: Allocator + Copy>(
     subjects: GroupedShapes,
     clips: GroupedShapes,
@@ -116,6 +119,7 @@ fn append_each<A: Allocator + Copy>(
         × Appends (flat_map (λ polygons. polygons) each) out.old out.new
         × (ends.new.items ≡ ends.old.items ++ offsets (length out.old.polygon_ends.items) each)) }
     ensures err { OnErr result (AreExtended out.old out.new × Extends ends.old.items ends.new.items) }
+    ensures refused { IfErr result (λ cause. cause ≡ OutOfMemory) }
 {
     let mut arena = Bump::new(*out.points.allocator());
     // The overlays of the groups before this place are appended, and no list stands in the arena.
@@ -147,7 +151,7 @@ fn group_at(grouped: GroupedShapes, at: usize) -> Group
     }
 }
 
-// Appends the overlay of two groups: from lists in the arena, where they have few points.
+// Appends the overlay of two groups: from lists in the arena, where they have few points. It is refused for want of memory alone.
 fn append_pair<A: Allocator + Copy>(
     pair: GroupPair,
     arena: &mut Bump<A>,
@@ -156,6 +160,7 @@ fn append_pair<A: Allocator + Copy>(
     requires { HasPair pair }
     ensures ok { OnOk result (AppendsOverlay pair.entry out.old out.new) }
     ensures err { OnErr result (AreExtended out.old out.new) }
+    ensures refused { IfErr result (λ cause. cause ≡ OutOfMemory) }
 {
     let points = point_count(pair.subject).saturating_add(point_count(pair.clip));
     if FEW_POINTS < points {
@@ -176,6 +181,7 @@ fn append_by_arena<A: Allocator + Copy>(
     requires { HasPair pair }
     ensures ok { OnOk result (AppendsOverlay pair.entry out.old out.new) }
     ensures err { OnErr result (AreExtended out.old out.new) }
+    ensures refused { IfErr result (λ cause. cause ≡ OutOfMemory) }
 {
     let mut made = Polygons::new(arena);
     append_overlay(pair, &mut made)?;
@@ -191,6 +197,7 @@ fn append_overlay<A: Allocator + Copy>(
     requires { HasPair pair }
     ensures ok { OnOk result (AppendsOverlay pair.entry out.old out.new) }
     ensures err { OnErr result (AreAsBefore out.old out.new) }
+    ensures refused { IfErr result (λ cause. cause ≡ OutOfMemory) }
 {
     let alloc = *out.points.allocator();
     let subject = gathered(alloc, pair.subject)?;

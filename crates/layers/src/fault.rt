@@ -47,6 +47,11 @@ impl<T: Drop> From<AllocFailed<T>> for LayerFault {
 
 /// Says why, in a program's own error.
 impl Display for LayerFault {
+    ghost use Rattle.std.specs.Prelude.{Some};
+    ghost use Rattle.layers.specs.Faults.{fault_text};
+
+    ghost output = { λ fault. Some (fault_text fault) };
+
     fn fmt<W: fmt::Write>(&self, f: &mut Formatter<W>) -> fmt::Result {
         match self {
             LayerFault::Refused(cause) => write!(f, "{}", cause),

@@ -1,12 +1,13 @@
 //! `parents`: which polygon lies in a hole of which.
 
-ghost use Rattle.std.specs.Prelude.{◌≡◌, ◌↔◌, ◌++◌, ◌∷◌, ◌<◌, ◌+ℤ◌, [], ℕ, All, Err, IfOk, IfSome, IsSomeAnd, List, MatchBool, OnErr, OnOk, Option, get_or, length};
+ghost use Rattle.std.specs.Prelude.{◌≡◌, ◌↔◌, ◌⊎◌, ◌++◌, ◌∷◌, ◌<◌, ◌+ℤ◌, [], ℕ, All, Err, IfErr, IfOk, IfSome, IsSomeAnd, List, MatchBool, OnErr, OnOk, Option, get_or, length};
 ghost use Rattle.std.specs.Option.{ForSome};
+ghost use Rattle.i_tree.specs.declared.Refusal.TheVariants.{OutOfMemory};
 ghost use Rattle.layers.specs.Around.{halved};
 ghost use Rattle.layers.specs.Parents.{AreBest, AreDepths, AreOuters, AreParents, AreWithin, IsNoBetter, middle_of, outer_of};
 ghost use Rattle.layers.specs.Shapes.{HasShapes, shapes_of};
 ghost use Rattle.layers.specs.declared.around.half_point.HalfPoint.{HalfPoint as HalfPointValue};
-ghost use Rattle.layers.specs.declared.fault.LayerFault.TheVariants.{Lengths};
+ghost use Rattle.layers.specs.declared.fault.LayerFault.TheVariants.{Lengths, Refused};
 
 use crate::around::{HalfPoint, append_pairs_in};
 use crate::fault::LayerFault;
@@ -29,7 +30,7 @@ const FAR: i64 = 0x1_0000_0000;
 /// ring has no point goes round none.
 ///
 /// `Lengths` comes where a ring or a shape stops before it begins or behind the points or the rings, and nothing else is done then.
-/// `Refused` comes where memory was refused. After any fault `out` is as it was. The memory is that of `out`.
+/// `Refused` comes for want of memory alone. After any fault `out` is as it was. The memory is that of `out`.
 pub fn parents<A: Allocator + Copy>(
     polygons: Shapes,
     out: &mut Vec<Option<usize>, A>,
@@ -38,6 +39,7 @@ pub fn parents<A: Allocator + Copy>(
         × (out.new.items ≡ out.old.items ++ found)) }
     ensures err { OnErr result (out.new.items ≡ out.old.items) }
     ensures lengths { (result ≡ Err Lengths) ↔ ¬ (HasShapes polygons.entry) }
+    ensures refused { IfErr result (λ fault. (fault ≡ Lengths) ⊎ (fault ≡ Refused OutOfMemory)) }
 {
     if !are_shapes(polygons) {
         return Err(LayerFault::Lengths);

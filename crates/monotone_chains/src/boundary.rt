@@ -1,6 +1,8 @@
 //! The boundary of what an operation makes of edges that are cut into stretches.
 
-ghost use Rattle.std.specs.Prelude.{◌≡◌, [], List, OnOk};
+ghost use Rattle.std.specs.Prelude.{◌≡◌, [], List, IfErr, OnOk};
+ghost use Rattle.i_tree.specs.declared.Refusal.TheVariants.{OutOfMemory};
+ghost use Rattle.i_tree.specs.Root.Handles.{HasAllHandles};
 ghost use Rattle.plane.specs.declared.edge.Edge.{Edge};
 ghost use Rattle.noding.specs.Windings.{IsClosed};
 ghost use Rattle.overlay.specs.Boundary.{AppendsBoundary};
@@ -22,8 +24,8 @@ use std::alloc::Allocator;
 /// `overlay` does, of edges that are cut into stretches, by the chords of these. One edge stands for all of a stretch, from its first
 /// point to its last. In the rings the points of the stretches stand in place of them.
 ///
-/// It is refused where memory or the status has no room, and then something may have been appended. What the status holds is
-/// removed before and after.
+/// It is refused where memory was refused, or the status refused an edge: for want of memory alone if it has handles for any
+/// number. Then something may have been appended. What the status holds is removed before and after.
 pub fn boundary_along<C, A>(
     stretches: &Stretches<A>,
     choice: Choice,
@@ -39,6 +41,7 @@ where
     ensures ok { (subject clip : List Edge) → AreCut subject clip stretches.now.parts.items stretches.now.count
         → OnOk result (AppendsBoundary choice.rule choice.operation subject clip
         points.old.items points.new.items ring_ends.old.items ring_ends.new.items) }
+    ensures refused { HasAllHandles C.has_handles → IfErr result (λ cause. cause ≡ OutOfMemory) }
     ensures empty { C.stored status.new ≡ [] }
 {
     status.clear();

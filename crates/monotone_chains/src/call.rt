@@ -1,6 +1,8 @@
 //! Overlay of polygons by the chords of their monotone chains, where that pays: the calls of the crate `overlay`.
 
-ghost use Rattle.std.specs.Prelude.{◌≡◌, ◌↔◌, [], List, OnOk, OnErr, Err};
+ghost use Rattle.std.specs.Prelude.{◌≡◌, ◌↔◌, ◌⊎◌, [], List, IfErr, OnOk, OnErr, Err};
+ghost use Rattle.i_tree.specs.declared.Refusal.TheVariants.{OutOfMemory};
+ghost use Rattle.i_tree.specs.Root.Handles.{HasAllHandles};
 ghost use Rattle.plane.specs.declared.point.Point.{Point};
 ghost use Rattle.overlay.specs.declared.fill.rules.Operation.TheVariants.{Union};
 ghost use Rattle.overlay.specs.Overlay.{IsOverlay};
@@ -51,7 +53,7 @@ impl Bounding for ByChains {
 ///
 /// It is faster where rings are long: edges along which x rises, or falls, and to which no others come are one edge to it, and in
 /// the result all of their points stand again. `Lengths` comes where ends don't rise or go behind the points, and `Refused` where
-/// memory was refused or a tree has no handle more. After any fault `out` is as it was.
+/// memory was refused, and for no other cause. After any fault `out` is as it was.
 pub fn overlay<A: Allocator + Copy>(
     subject: Rings,
     clip: Rings,
@@ -65,6 +67,7 @@ pub fn overlay<A: Allocator + Copy>(
     ensures err { OnErr result (AreAsBefore out.old out.new) }
     ensures lengths { (result ≡ Err OverlayFault.Lengths)
         ↔ ¬ (HasEnds subject.entry × HasEnds clip.entry) }
+    ensures refused { IfErr result (λ fault. (fault ≡ OverlayFault.Lengths) ⊎ (fault ≡ OverlayFault.Refused OutOfMemory)) }
 {
     if !are_ends(subject) || !are_ends(clip) {
         return Err(OverlayFault::Lengths);
@@ -73,8 +76,8 @@ pub fn overlay<A: Allocator + Copy>(
     overlay_over(subject, clip, rule, operation, &mut status, out)
 }
 
-/// As `overlay`, over a status of the caller's, which is emptied before and after in every case. `Refused` comes where memory or
-/// the status has no room.
+/// As `overlay`, over a status of the caller's, which is emptied before and after in every case. `Refused` comes where memory was
+/// refused, or the status refused an edge: for want of memory alone if it has handles for any number.
 pub fn overlay_over<C, A>(
     subject: Rings,
     clip: Rings,
@@ -92,6 +95,8 @@ where
     ensures err { OnErr result (AreAsBefore out.old out.new) }
     ensures lengths { (result ≡ Err OverlayFault.Lengths)
         ↔ ¬ (HasEnds subject.entry × HasEnds clip.entry) }
+    ensures refused { HasAllHandles C.has_handles → IfErr result (λ fault.
+        (fault ≡ OverlayFault.Lengths) ⊎ (fault ≡ OverlayFault.Refused OutOfMemory)) }
     ensures empty { C.stored status.new ≡ [] }
 {
     let operands = Operands { subject, clip };
@@ -111,6 +116,7 @@ pub fn simplify<A: Allocator + Copy>(
         × Appends polygons out.old out.new) }
     ensures err { OnErr result (AreAsBefore out.old out.new) }
     ensures lengths { (result ≡ Err OverlayFault.Lengths) ↔ ¬ (HasEnds rings.entry) }
+    ensures refused { IfErr result (λ fault. (fault ≡ OverlayFault.Lengths) ⊎ (fault ≡ OverlayFault.Refused OutOfMemory)) }
 {
     let nothing = Rings {
         points: &[],

@@ -44,7 +44,7 @@ pub fn stops_in_order<A: Allocator + Copy>(
 }
 
 /// The same, where these pairs of edges come close, and have these crossings.
-pub fn stops_of_pairs<A: Allocator + Copy>(
+pub(crate) fn stops_of_pairs<A: Allocator + Copy>(
     alloc: A,
     edges: &[Edge],
     pairs: &[(usize, usize)],

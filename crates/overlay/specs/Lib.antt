@@ -1,6 +1,7 @@
 pub mod Areas
 pub mod Boundary
 pub mod Contours
+pub mod Faults
 pub mod Fill
 pub mod Grouping
 pub mod Overlay

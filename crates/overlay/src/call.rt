@@ -1,6 +1,8 @@
 //! Overlay of polygons, in one call.
 
-ghost use Rattle.std.specs.Prelude.{◌≡◌, ◌↔◌, [], List, OnOk, OnErr, Err};
+ghost use Rattle.std.specs.Prelude.{◌≡◌, ◌↔◌, ◌⊎◌, [], List, IfErr, OnOk, OnErr, Err};
+ghost use Rattle.i_tree.specs.declared.Refusal.TheVariants.{OutOfMemory};
+ghost use Rattle.i_tree.specs.Root.Handles.{HasAllHandles};
 ghost use Rattle.plane.specs.declared.point.Point.{Point};
 ghost use Rattle.overlay.specs.declared.fill.rules.Operation.TheVariants.{Union};
 ghost use Rattle.overlay.specs.Overlay.{IsOverlay};
@@ -40,8 +42,8 @@ use std::alloc::Allocator;
 /// While few edges are active at once along the sweep they stand in a list, and once more are in a tree (`GrowingStatus`).
 ///
 /// `Lengths` comes where the ends of subject or clip don't rise or go behind the points, and nothing else is done then.
-/// `Refused` comes where memory was refused, or where more edges are live at once than a tree has handles. After any fault
-/// `out` is as it was. The memory is that of `out`.
+/// `Refused` comes where memory was refused, and for no other cause. After any fault `out` is as it was. The memory is that of
+/// `out`.
 pub fn overlay<A: Allocator + Copy>(
     subject: Rings,
     clip: Rings,
@@ -55,6 +57,7 @@ pub fn overlay<A: Allocator + Copy>(
     ensures err { OnErr result (AreAsBefore out.old out.new) }
     ensures lengths { (result ≡ Err OverlayFault.Lengths)
         ↔ ¬ (HasEnds subject.entry × HasEnds clip.entry) }
+    ensures refused { IfErr result (λ fault. (fault ≡ OverlayFault.Lengths) ⊎ (fault ≡ OverlayFault.Refused OutOfMemory)) }
 {
     if !are_ends(subject) || !are_ends(clip) {
         return Err(OverlayFault::Lengths);
@@ -63,8 +66,8 @@ pub fn overlay<A: Allocator + Copy>(
     overlay_over(subject, clip, rule, operation, &mut status, out)
 }
 
-/// As `overlay`, over a status of the caller's. `Refused` comes where memory or the status has no room. What the status holds is
-/// removed before and after, in every case.
+/// As `overlay`, over a status of the caller's. `Refused` comes where memory was refused, or the status refused an edge: for want
+/// of memory alone if it has handles for any number. What the status holds is removed before and after, in every case.
 pub fn overlay_over<C, A>(
     subject: Rings,
     clip: Rings,
@@ -82,6 +85,8 @@ where
     ensures err { OnErr result (AreAsBefore out.old out.new) }
     ensures lengths { (result ≡ Err OverlayFault.Lengths)
         ↔ ¬ (HasEnds subject.entry × HasEnds clip.entry) }
+    ensures refused { HasAllHandles C.has_handles → IfErr result (λ fault.
+        (fault ≡ OverlayFault.Lengths) ⊎ (fault ≡ OverlayFault.Refused OutOfMemory)) }
     ensures empty { C.stored status.new ≡ [] }
 {
     let operands = Operands { subject, clip };
@@ -93,7 +98,7 @@ where
 /// faster where rings are long.
 pub trait Bounding {
     /// Appends rings that bound what the operation makes of subject and clip to `points`, and to `ends` where each stops. It is
-    /// refused where memory or the status has no room.
+    /// refused where memory was refused, or the status refused an edge: for want of memory alone if it has handles for any number.
     fn append_boundary<C, A>(
         &self,
         operands: Operands,
@@ -110,6 +115,7 @@ pub trait Bounding {
         ensures ok { OnOk result (AppendsBoundary choice.rule choice.operation
             (real_edges (edges_of operands.entry.subject)) (real_edges (edges_of operands.entry.clip))
             points.old.items points.new.items ends.old.items ends.new.items) }
+        ensures refused { HasAllHandles C.has_handles → IfErr result (λ cause. cause ≡ OutOfMemory) }
         ensures empty { OnOk result (C.stored status.new ≡ []) };
 }
 
@@ -153,6 +159,8 @@ where
     ensures err { OnErr result (AreAsBefore out.old out.new) }
     ensures lengths { (result ≡ Err OverlayFault.Lengths)
         ↔ ¬ (HasEnds operands.entry.subject × HasEnds operands.entry.clip) }
+    ensures refused { HasAllHandles C.has_handles → IfErr result (λ fault.
+        (fault ≡ OverlayFault.Lengths) ⊎ (fault ≡ OverlayFault.Refused OutOfMemory)) }
     ensures empty { C.stored status.new ≡ [] }
 {
     status.clear();
@@ -191,6 +199,7 @@ where
         × IsOverlay choice.rule choice.operation (edges_of operands.entry.subject) (edges_of operands.entry.clip) polygons
         × Appends polygons out.old out.new) }
     ensures err { OnErr result (AreExtended out.old out.new) }
+    ensures refused { HasAllHandles C.has_handles → IfErr result (λ cause. cause ≡ OutOfMemory) }
 {
     let alloc = *out.points.allocator();
     let mut points = Vec::new(alloc);
@@ -213,6 +222,7 @@ pub fn simplify<A: Allocator + Copy>(
         × Appends polygons out.old out.new) }
     ensures err { OnErr result (AreAsBefore out.old out.new) }
     ensures lengths { (result ≡ Err OverlayFault.Lengths) ↔ ¬ (HasEnds rings.entry) }
+    ensures refused { IfErr result (λ fault. (fault ≡ OverlayFault.Lengths) ⊎ (fault ≡ OverlayFault.Refused OutOfMemory)) }
 {
     let nothing = Rings {
         points: &[],

@@ -44,6 +44,11 @@ impl<T: Drop> From<AllocFailed<T>> for OverlayFault {
 
 /// Says why, in a program's own error.
 impl Display for OverlayFault {
+    ghost use Rattle.std.specs.Prelude.{Some};
+    ghost use Rattle.overlay.specs.Faults.{fault_text};
+
+    ghost output = { λ fault. Some (fault_text fault) };
+
     fn fmt<W: fmt::Write>(&self, f: &mut Formatter<W>) -> fmt::Result {
         match self {
             OverlayFault::Refused(cause) => write!(f, "{}", cause),

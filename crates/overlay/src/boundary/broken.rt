@@ -1,7 +1,8 @@
 //! The edges of subject and clip, broken together.
 
-ghost use Rattle.std.specs.Prelude.{◌≡◌, ◌≤◌, ◌++◌, List, IfOk, drop, length, take};
+ghost use Rattle.std.specs.Prelude.{◌≡◌, ◌≤◌, ◌++◌, List, IfErr, IfOk, drop, length, take};
 ghost use Rattle.std.specs.List.{flat_map};
+ghost use Rattle.i_tree.specs.declared.Refusal.TheVariants.{OutOfMemory};
 ghost use Rattle.plane.specs.declared.point.Point.{Point};
 ghost use Rattle.overlay.specs.Boundary.{AllSome, AreBroken, StopSome};
 ghost use Rattle.noding.specs.Offsets.{offsets};
@@ -16,14 +17,15 @@ use std::alloc::{AllocError, Allocator};
 /// The pieces of the subject's edges and then of the clip's, and how many of them are the subject's.
 ///
 /// The edges of both are broken together where they meet, and moved only where they must be, as `node` does it. They needn't be
-/// closed. It is refused where memory has no room.
+/// closed. It is refused for want of memory alone.
 pub fn broken<A: Allocator + Copy>(
     alloc: A,
     subject: &[Edge],
     clip: &[Edge],
 ) -> Result<(Vec<Edge, A>, usize), Refusal>
-    ensures { IfOk result (λ told. (told.1 ≤ length told.0.items)
+    ensures ok { IfOk result (λ told. (told.1 ≤ length told.0.items)
         × AreBroken subject.now clip.now (take told.1 told.0.items) (drop told.1 told.0.items)) }
+    ensures refused { IfErr result (λ cause. cause ≡ OutOfMemory) }
 {
     let edges = all_edges(alloc, subject, clip)?;
     // A chain has two points at least, but that of a point.

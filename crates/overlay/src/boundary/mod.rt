@@ -1,6 +1,8 @@
 //! The boundary of what an operation makes of two sets of closed edges, as rings of whole points.
 
-ghost use Rattle.std.specs.Prelude.{◌≡◌, ◌≤◌, [], List, IfOk, OnOk, OnErr, drop, length, take};
+ghost use Rattle.std.specs.Prelude.{◌≡◌, ◌≤◌, [], List, IfErr, IfOk, OnOk, OnErr, drop, length, take};
+ghost use Rattle.i_tree.specs.declared.Refusal.TheVariants.{OutOfMemory};
+ghost use Rattle.i_tree.specs.Root.Handles.{HasAllHandles};
 ghost use Rattle.plane.specs.declared.edge.Edge.{Edge};
 ghost use Rattle.overlay.specs.Boundary.{AppendsBoundary, AreBroken};
 ghost use Rattle.overlay.specs.Fill.Filled.{IsFilled};
@@ -33,8 +35,9 @@ pub mod pieces;
 /// around no point more than once. Each of their points is an end of an edge given, or what two of these cross at, rounded. If there
 /// are any rings, some edge of theirs isn't vertical.
 ///
-/// It is refused where memory or the status has no room, and leaves `points` and `ring_ends` as they were then. What the status
-/// holds is removed before and after, in every case. The memory is that of `points` and `ring_ends`.
+/// It is refused where memory was refused, or the status refused an edge: for want of memory alone if it has handles for any
+/// number. It leaves `points` and `ring_ends` as they were then. What the status holds is removed before and after, in every case.
+/// The memory is that of `points` and `ring_ends`.
 pub fn boundary<C, A>(
     edges: &[Edge],
     count: usize,
@@ -52,6 +55,7 @@ where
     ensures ok { OnOk result (AppendsBoundary choice.rule choice.operation (take count edges.now) (drop count edges.now)
         points.old.items points.new.items ring_ends.old.items ring_ends.new.items) }
     ensures err { OnErr result ((points.new.items ≡ points.old.items) × (ring_ends.new.items ≡ ring_ends.old.items)) }
+    ensures refused { HasAllHandles C.has_handles → IfErr result (λ cause. cause ≡ OutOfMemory) }
     ensures empty { C.stored status.new ≡ [] }
 {
     status.clear();
@@ -62,6 +66,8 @@ where
 }
 
 /// The edges of the boundary: those that the operation keeps of the pieces of subject and clip. The status is empty before and after.
+///
+/// It is refused as `boundary` is.
 pub fn bounding_edges<C, A>(
     alloc: A,
     edges: &[Edge],
@@ -79,6 +85,7 @@ where
     ensures filled { IfOk result (λ bounding. (broken broken_clip : List Edge)
         × AreBroken (take count edges.now) (drop count edges.now) broken broken_clip
         × IsFilled choice.rule choice.operation broken broken_clip bounding.items) }
+    ensures refused { HasAllHandles C.has_handles → IfErr result (λ cause. cause ≡ OutOfMemory) }
     ensures empty { C.stored status.new ≡ [] }
 {
     let pieces = broken_pieces(alloc, edges, count)?;

@@ -1,7 +1,8 @@
 //! From the stops of edges to the pieces of a fill, with no list of chains or of broken edges between.
 
-ghost use Rattle.std.specs.Prelude.{◌≡◌, ◌∷◌, ◌++◌, ◌+◌, ◌≤◌, ◌<◌, ◌^◌, [], List, IfOk, OnOk, drop, length, map, take};
+ghost use Rattle.std.specs.Prelude.{◌≡◌, ◌∷◌, ◌++◌, ◌+◌, ◌≤◌, ◌<◌, ◌^◌, [], List, IfErr, IfOk, OnOk, drop, length, map, take};
 ghost use Rattle.std.specs.List.{flat_map};
+ghost use Rattle.i_tree.specs.declared.Refusal.TheVariants.{OutOfMemory};
 ghost use Rattle.plane.specs.declared.edge.Edge.{Edge};
 ghost use Rattle.plane.specs.declared.point.Point.{Point};
 ghost use Rattle.overlay.specs.declared.fill.pieces.Operand.TheVariants.{Subject, Clip};
@@ -24,17 +25,18 @@ use std::alloc::{AllocError, Allocator};
 /// The pieces of the subject's edges and then of the clip's, which are broken together where they meet, and moved only where they
 /// must be, as `broken` does it: those that aren't vertical, turned rightwards. The first `count` of the edges are the subject's.
 ///
-/// No list of chains or of broken edges is made. It is refused where memory has no room.
+/// No list of chains or of broken edges is made. It is refused for want of memory alone.
 pub fn broken_pieces<A: Allocator + Copy>(
     alloc: A,
     edges: &[Edge],
     count: usize,
 ) -> Result<Vec<Piece, A>, Refusal>
     requires { count ≤ length edges.now }
-    ensures { IfOk result (λ out. (broken broken_clip : List Edge)
+    ensures ok { IfOk result (λ out. (broken broken_clip : List Edge)
         × AreBroken (take count edges.now) (drop count edges.now) broken broken_clip
         × (out.items ≡ turned Subject broken ++ turned Clip broken_clip)
         × (length broken + length broken_clip < 2 ^ 63)) }
+    ensures refused { IfErr result (λ cause. cause ≡ OutOfMemory) }
 {
     let stops = nodes_in_order(alloc, edges)?;
     let mut out = Vec::with_capacity(alloc, room_for(edges, &stops)?)?;

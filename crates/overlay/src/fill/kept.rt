@@ -1,9 +1,11 @@
 //! The sweep of a fill: pieces begin in turn, and those that bound the result are kept.
 
-ghost use Rattle.std.specs.Prelude.{◌≡◌, ◌≢◌, ◌++◌, ◌≤◌, ◌<◌, ◌≤ℤ◌, ◌<ℤ◌, ℤ, [], All, Option, length, IfOk, IsOk, IfErr, OnOk, OnErr};
+ghost use Rattle.std.specs.Prelude.{◌≡◌, ◌≢◌, ◌++◌, ◌+◌, ◌≤◌, ◌<◌, ◌≤ℤ◌, ◌<ℤ◌, ℤ, [], All, Option, length, IfOk, IsOk, IfErr, OnOk, OnErr};
 ghost use Rattle.std.specs.declared.cmp.Ordering.TheVariants.{Greater};
 ghost use Rattle.i_tree.specs.declared.Refusal.TheVariants.{OutOfMemory};
 ghost use Rattle.i_tree.specs.Root.Along.{IsLast};
+ghost use Rattle.i_tree.specs.Root.Causes.{RefusedFor};
+ghost use Rattle.i_tree.specs.Root.Handles.{HasHandlesFor};
 ghost use Rattle.plane.specs.SweepLine.Active.{Entry, cmp_active, live_entries};
 ghost use Rattle.plane.specs.SweepLine.Line.{BeganBefore, IsSortedAt, JoinsAt, NoneCrossAmong};
 ghost use Rattle.overlay.specs.Fill.Counts.{kept_edge};
@@ -23,7 +25,7 @@ use std::alloc::{AllocError, Allocator};
 /// Appends the edges kept of these pieces: those that have the result on one of their sides alone, so that it is on the left.
 ///
 /// The pieces begin in turn. What is below one is what is above the one before it in the status, and `above` has that by its
-/// place.
+/// place. It is refused for want of memory alone where the status has room or handles for as many as there are pieces.
 pub fn append_kept<C, A>(
     status: &mut C,
     pieces: &[Piece],
@@ -39,6 +41,7 @@ where
         ++ kept_of (λ counts. is_result choice.rule choice.operation counts.subject counts.clip) pieces.now pieces.now) }
     ensures err { OnErr result (Extends out.old.items out.new.items) }
     ensures refused { length pieces.now ≤ C.room status.old → IfErr result (λ cause. cause ≡ OutOfMemory) }
+    ensures handles { HasHandlesFor C.has_handles (length pieces.now) → IfErr result (λ cause. cause ≡ OutOfMemory) }
 {
     let mut above = Vec::with_capacity(*out.allocator(), pieces.len())?;
     // The pieces so far have begun, the status has those that haven't ended, and `above` the counts above each.
@@ -56,6 +59,7 @@ where
 }
 
 // Puts an edge that begins into the status, and tells what is just below it: what is above the last edge below, or nothing.
+// It is refused for want of memory alone while there are handles.
 fn begin<C: StatusCollection<ActiveEdge, i64, ()>>(
     status: &mut C,
     beginning: ActiveEdge,
@@ -77,6 +81,7 @@ fn begin<C: StatusCollection<ActiveEdge, i64, ()>>(
         → NoneCrossAmong (live_entries beginning.edge.x0 (C.stored status.new))
         → IsSortedAt later (live_entries later (C.stored status.new))) }
     ensures with_room { length (C.stored status.old) < C.room status.old → IsOk result }
+    ensures refused { C.has_handles (length (C.stored status.old) + 1) → RefusedFor OutOfMemory result }
     ensures room { C.room status.old ≤ C.room status.new }
 {
     let (before, _) = insert_beginning(status, beginning)?;

@@ -2,6 +2,7 @@
 
 ghost use Rattle.std.specs.Prelude.{◌≡◌, ◌++◌, ◌+◌, ◌≤◌, [], List, length, IfErr, OnOk, OnErr};
 ghost use Rattle.i_tree.specs.declared.Refusal.TheVariants.{OutOfMemory};
+ghost use Rattle.i_tree.specs.Root.Handles.{HasHandlesFor};
 ghost use Rattle.plane.specs.declared.edge.Edge.{Edge};
 ghost use Rattle.overlay.specs.Fill.Filled.{AreNoded, AppendsFilled, IsFilled};
 ghost use Rattle.overlay.specs.Fill.Turned.{AreUnjoined};
@@ -35,8 +36,8 @@ mod verticals;
 /// the clip, or such an edge from its end to its start. A vertical one goes from an end of these to the next one in its column.
 ///
 /// It is refused where memory or the status has no room, and leaves `out` as it was then. A status that has room for as many as
-/// there are edges refuses none: then it is for want of memory alone. What the status holds is removed before and after, in
-/// every case. The memory is that of `out`.
+/// there are edges refuses none: then it is for want of memory alone. So it is where the status has handles for as many. What the
+/// status holds is removed before and after, in every case. The memory is that of `out`.
 ///
 /// For n edges it compares O(n log n) times, and the status is asked once for each two ends between which edges go. The counts
 /// along a sweep line are those of Weiler and Atherton, and of Vatti; the sweep is our own.
@@ -58,6 +59,8 @@ where
         × IsFilled rule operation subject.now clip.now edges) }
     ensures err { OnErr result (out.new.items ≡ out.old.items) }
     ensures refused { length subject.now + length clip.now ≤ C.room status.old
+        → IfErr result (λ cause. cause ≡ OutOfMemory) }
+    ensures handles { HasHandlesFor C.has_handles (length subject.now + length clip.now)
         → IfErr result (λ cause. cause ≡ OutOfMemory) }
     ensures empty { C.stored status.new ≡ [] }
 {
@@ -82,6 +85,7 @@ where
         → OnOk result (AppendsFilled choice subject clip out.old.items out.new.items) }
     ensures err { OnErr result (out.new.items ≡ out.old.items) }
     ensures refused { length pieces.items ≤ C.room status.old → IfErr result (λ cause. cause ≡ OutOfMemory) }
+    ensures handles { HasHandlesFor C.has_handles (length pieces.items) → IfErr result (λ cause. cause ≡ OutOfMemory) }
     ensures empty { C.stored status.new ≡ [] }
 {
     status.clear();
@@ -111,6 +115,7 @@ where
         → OnOk result (AppendsFilled choice subject clip out.old.items out.new.items) }
     ensures err { OnErr result (Extends out.old.items out.new.items) }
     ensures refused { length pieces.items ≤ C.room status.old → IfErr result (λ cause. cause ≡ OutOfMemory) }
+    ensures handles { HasHandlesFor C.has_handles (length pieces.items) → IfErr result (λ cause. cause ≡ OutOfMemory) }
 {
     let first = out.len();
     join_in_order(&mut pieces)?;

@@ -1,6 +1,8 @@
 //! To which outer ring each ring belongs.
 
-ghost use Rattle.std.specs.Prelude.{◌≡◌, ◌<◌, [], true, IfOk, length};
+ghost use Rattle.std.specs.Prelude.{◌≡◌, ◌<◌, [], true, IfErr, IfOk, length};
+ghost use Rattle.i_tree.specs.declared.Refusal.TheVariants.{OutOfMemory};
+ghost use Rattle.i_tree.specs.Root.Handles.{HasAllHandles};
 ghost use Rattle.overlay.specs.Fill.Sweep.{AreFillPieces};
 ghost use Rattle.overlay.specs.Grouping.{AreHomes, AreNumbered, home_of, is_outer, pieces_of};
 ghost use Rattle.overlay.specs.Polygons.{BoundsSome};
@@ -20,8 +22,8 @@ const FEW_HOLES: usize = 64;
 
 /// For each ring the number of an outer ring: for a hole, that of its polygon. An outer ring is its own, whatever stands there.
 ///
-/// Before any home is found, `outer` stands for each. It begins with an empty status, and is refused where memory or the status
-/// has no room.
+/// Before any home is found, `outer` stands for each. It begins with an empty status. It is refused where memory was refused, or
+/// the status refused an edge: for want of memory alone if it has handles for any number.
 pub fn homes<C, A>(
     alloc: A,
     status: &mut C,
@@ -38,7 +40,8 @@ where
     requires bounding { BoundsSome (edges_in points.now ends.now) }
     requires each { length are_outer.now ≡ length ends.now }
     requires outer { is_outer are_outer.now outer ≡ true }
-    ensures { IfOk result (λ homes. AreHomes are_outer.now homes.items) }
+    ensures ok { IfOk result (λ homes. AreHomes are_outer.now homes.items) }
+    ensures refused { HasAllHandles C.has_handles → IfErr result (λ cause. cause ≡ OutOfMemory) }
 {
     let mut homes = vec![in alloc; outer; are_outer.len()]?;
     if count_of_holes(are_outer) <= FEW_HOLES {
@@ -79,7 +82,7 @@ fn settle_few<A: Allocator>(
 }
 
 // Finds the homes of holes by a sweep. A side that runs leftwards has the polygon below it, and so the side just below it is
-// of that polygon too.
+// of that polygon too. It is refused where the status refused one: for want of memory alone if it has handles for any number.
 fn settle<C>(
     status: &mut C,
     sides: &[Side],
@@ -92,7 +95,8 @@ where
     requires pieces { AreFillPieces (pieces_of sides.now) }
     requires numbered { AreNumbered (length are_outer.now) sides.now }
     requires homes { AreHomes are_outer.now homes.old }
-    ensures { AreHomes are_outer.now homes.new }
+    ensures homes { AreHomes are_outer.now homes.new }
+    ensures refused { HasAllHandles C.has_handles → IfErr result (λ cause. cause ≡ OutOfMemory) }
 {
     for (place, side) in sides.iter().enumerate() {
         let edge = side.piece.edge;

@@ -1,6 +1,8 @@
 //! Rings as polygons: which are outer ones, and to which of these each hole belongs.
 
-ghost use Rattle.std.specs.Prelude.{◌≡◌, [], List, All, IfOk, OnErr, OnOk, length, map, position};
+ghost use Rattle.std.specs.Prelude.{◌≡◌, [], List, All, IfErr, IfOk, OnErr, OnOk, length, map, position};
+ghost use Rattle.i_tree.specs.declared.Refusal.TheVariants.{OutOfMemory};
+ghost use Rattle.i_tree.specs.Root.Handles.{HasAllHandles};
 ghost use Rattle.plane.specs.declared.point.Point.{Point};
 ghost use Rattle.overlay.specs.Contours.Outlines.{outline};
 ghost use Rattle.overlay.specs.Contours.Rings.{AreContours, IsRing};
@@ -35,7 +37,8 @@ mod sides;
 /// below the first edge of a hole bounds the same piece of the plane. A pass over the edges tells it for each of a few holes,
 /// and a sweep for more. That a hole lies within its polygon is tested and not proved.
 ///
-/// It begins with an empty status. It is refused where memory or the status has no room, and may have appended something then.
+/// It begins with an empty status. It is refused where memory was refused, or the status refused an edge: for want of memory alone
+/// if it has handles for any number. It may have appended something then.
 pub fn append_polygons<C, A>(
     status: &mut C,
     points: &[Point],
@@ -53,6 +56,7 @@ where
         × AreContours (edges_in points.now ends.now) (rings_of_all whole)
         × Appends (map (λ polygon. map outline polygon) whole) out.old out.new) }
     ensures err { OnErr result (AreExtended out.old out.new) }
+    ensures refused { HasAllHandles C.has_handles → IfErr result (λ cause. cause ≡ OutOfMemory) }
 {
     let alloc = *out.points.allocator();
     let order = order_of(alloc, status, points, ends)?;
@@ -60,7 +64,7 @@ where
     Ok(())
 }
 
-// The rings in the order of their polygons.
+// The rings in the order of their polygons. It is refused as `append_polygons` is.
 fn order_of<C, A>(
     alloc: A,
     status: &mut C,
@@ -78,6 +82,7 @@ where
     ensures polygons { IfOk result (λ order. All IsPolygon (placed_polygons points.now order.items)) }
     ensures contours { IfOk result (λ order.
         AreContours (edges_in points.now ends.now) (rings_of_all (placed_polygons points.now order.items))) }
+    ensures refused { HasAllHandles C.has_handles → IfErr result (λ cause. cause ≡ OutOfMemory) }
 {
     let are_outer = directions(alloc, points, ends)?;
     let Some(outer) = first_outer(&are_outer) else {

@@ -26,3 +26,6 @@ returns-clause-ok g c = c.fill_pieces.ensures.ok c.args.subject.now c.args.clip.
 
 pub returns-clause-refused : goal.returns-clause-refused
 returns-clause-refused g c = λ room. c.fill_pieces.ensures.refused (let few = turned-few c.args.subject.now c.args.clip.now c.in_ok-pieces.pieces.items c.in_ok-pieces.ensures.turned in omega (arith, few, room))
+
+pub returns-clause-handles : goal.returns-clause-handles
+returns-clause-handles g c = λ handles. c.fill_pieces.ensures.handles (λ count upto. handles count (let few = turned-few c.args.subject.now c.args.clip.now c.in_ok-pieces.pieces.items c.in_ok-pieces.ensures.turned in omega (arith, few, upto)))

@@ -32,7 +32,7 @@ returns-clause-within g c = order-within c.args.points.now c.args.ends.now c.der
 pub returns-clause-polygons : goal.returns-clause-polygons
 returns-clause-polygons g c =
     let have : AreHomes c.deref-3.result.now c.deref-4.result.now =
-    subst₂ (λ (list : List Bool) (homes : List ℕ). AreHomes list homes) (c.deref-2.ensures.value ∙ sym c.deref-3.ensures.value) (sym c.deref-4.ensures.value) c.in_ok-homes.ensures in
+    subst₂ (λ (list : List Bool) (homes : List ℕ). AreHomes list homes) (c.deref-2.ensures.value ∙ sym c.deref-3.ensures.value) (sym c.deref-4.ensures.value) c.in_ok-homes.ensures.ok in
     order-polygons c.args.points.now c.args.ends.now c.deref-3.result.now c.deref-4.result.now c.in_ok-rings_in_order.field-0.items c.in_ok-rings_in_order.ensures.all
     (c.deref-3.ensures.value ∙ c.in_ok-are_outer.ensures) have c.in_ok-rings_in_order.ensures.order
 

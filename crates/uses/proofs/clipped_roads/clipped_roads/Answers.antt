@@ -34,14 +34,14 @@ fill-requires-clause-closed c =
     let items = c.in_ok-pieces.pieces.items in
     let rings = c.deref.result.now in
     subst IsClosed (sym (rest-is items c.deref-2.result.now count c.deref-2.ensures.value))
-    (clip-closed c.args.roads.now rings (take count items) (drop count items) c.in_ok-pieces.ensures.1
+    (clip-closed c.args.roads.now rings (take count items) (drop count items) c.in_ok-pieces.ensures.ok.1
     (subst IsClosed (sym (c.deref.ensures.value ∙ c.in_ok-ring_edges.ensures)) (λ test. rings-closed test (rings_of c.args.rings.points.now 0 c.args.rings.ends.now))))
 
 pub fill-requires-clause-noded : goal.fill-requires-clause-noded
 fill-requires-clause-noded c =
     let count = c.in_ok-pieces.count in
     let items = c.in_ok-pieces.pieces.items in
-    noded-back (take count items) (drop count items) _ (broken-noded c.args.roads.now c.deref.result.now (take count items) (drop count items) c.in_ok-pieces.ensures.1) (rest-is items c.deref-2.result.now count c.deref-2.ensures.value)
+    noded-back (take count items) (drop count items) _ (broken-noded c.args.roads.now c.deref.result.now (take count items) (drop count items) c.in_ok-pieces.ensures.ok.1) (rest-is items c.deref-2.result.now count c.deref-2.ensures.value)
 
 -- edges that bound the inside meet only at common ends, so they don't cross
 pub unreachable-requires : goal.unreachable-requires
@@ -67,7 +67,7 @@ returns-in-Ok c =
       ok = record {
         pieces = take count items;
         ring_pieces = drop count items;
-        broken = subst (λ (rings : List Edge). AreBroken c.args.roads.now rings (take count items) (drop count items)) (c.deref.ensures.value ∙ c.in_ok-ring_edges.ensures) c.in_ok-pieces.ensures.1;
+        broken = subst (λ (rings : List Edge). AreBroken c.args.roads.now rings (take count items) (drop count items)) (c.deref.ensures.value ∙ c.in_ok-ring_edges.ensures) c.in_ok-pieces.ensures.ok.1;
         bounds = edges;
         filled = subst (λ (list : List Edge). IsFilled NonZero Union list [] edges) (rest-is items c.deref-2.result.now count c.deref-2.ensures.value) filled;
         places = answers;

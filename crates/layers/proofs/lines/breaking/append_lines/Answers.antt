@@ -1,4 +1,4 @@
-use Rattle.std.proofs.Common.{◌≡◌, ◌<◌, ◌++◌, ◌∷◌, [], ◌∙◌, arith}
+use Rattle.std.proofs.Common.{arith}
 use Rattle.layers.specs.Lines.{line_edges, lines_of}
 use Rattle.layers.proofs.GatheredLemmas.{AreGathered-all, AreGathered-made, AreGathered-none}
 use Rattle.layers.proofs.ListLemmas.{length-lists_of}

@@ -1,4 +1,4 @@
-use Rattle.std.proofs.Common.{◌≡◌, ◌<◌, ◌++◌, ◌∷◌, [], ◌∙◌, arith}
+use Rattle.std.proofs.Common.{arith}
 use Rattle.layers.specs.LineParts.{real_ring}
 use Rattle.overlay.specs.Rings.{rings_of}
 use Rattle.layers.proofs.GatheredLemmas.{AreGathered-all, AreGathered-made, AreGathered-none}

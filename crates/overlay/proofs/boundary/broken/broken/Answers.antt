@@ -34,8 +34,8 @@ count_pieces-count-requires g c =
     let paths = IsPath-nodes edges edges chains (λ edge among. among) are in
     (chains, ends, chains-some edges chains paths, chains-count edges chains (length c.args.subject.now) (within c.args.subject.now c.args.clip.now edges listed) paths)
 
-pub returns : goal.returns
-returns g c =
+pub returns-clause-ok : goal.returns-clause-ok
+returns-clause-ok g c =
     let subject = c.args.subject.now in
     let clip = c.args.clip.now in
     let edges = c.deref.result.now in

@@ -11,8 +11,8 @@ use Rattle.noding.specs.Windings.{pieces}
 use Rattle.overlay.proofs.BoundaryLemmas.Broken.{broken-chains}
 use Rattle.overlay.proofs.boundary.pieces.broken_pieces.Goals as goal
 
-pub returns : goal.returns
-returns g c =
+pub returns-clause-ok : goal.returns-clause-ok
+returns-clause-ok g c =
     let (chains, are, is, few) = c.in_ok-append_pieces.ensures in
     let edges = c.args.edges.now in
     let count = c.args.count in
