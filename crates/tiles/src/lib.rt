@@ -1,0 +1,10 @@
+//! Tiles: what comes near a window of the plane, so that an overlay can be made window by window.
+#![tactic(auto)]
+
+mod cropping;
+mod fault;
+mod window;
+
+pub use cropping::crop;
+pub use fault::CropFault;
+pub use window::Window;
