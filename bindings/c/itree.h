@@ -32,7 +32,7 @@ extern "C" {
 /* What a call returns. At every status but ITREE_ANSWERED no array is written, unless the call says so. */
 enum itree_status {
     ITREE_ANSWERED = 0, /* The answers are written. */
-    ITREE_REFUSED = 1,  /* Memory was refused, or more than 4,294,967,294 items are met at once. */
+    ITREE_REFUSED = 1,  /* Memory was refused; or itree_below or itree_locate met more than 4,294,967,294 at once. */
     ITREE_OVERLAP = 2,  /* Two segments collide. */
     ITREE_LENGTHS = 3,  /* The lengths of two arrays don't fit each other, or a ring stops where it can't. */
     ITREE_POINTER = 4,  /* A pointer is faulty. */
