@@ -238,8 +238,8 @@ def told_problems(mode, drawings, step, told):
         starts = [(x0 * IN_ONE, y0 * IN_ONE) for x0, y0, _, _ in made[: LOOKS // 8]]
         middles = [((x0 + x1) * IN_ONE // 2, (y0 + y1) * IN_ONE // 2) for x0, y0, x1, y1 in made[-LOOKS // 8 :]]
         asked = drawing, its, rule, operation, points + starts + middles
-        # Chains take long, so they are made for three drawings of five.
-        for problem in chain(problems(*asked), chain_problems(*asked) if place % 5 < 3 else ()):
+        # Chains take long, so they are made for three drawings of ten; the gate looks at two builds of the program.
+        for problem in chain(problems(*asked), chain_problems(*asked) if place % 10 < 3 else ()):
             return f"{problem}: {its}, of {' / '.join(said_by(Random(0), drawing))}".encode()
     return b""
 
