@@ -1,11 +1,12 @@
 -- Polygons: an outer ring that runs counterclockwise, and holes that run clockwise.
-use Rattle.std.specs.Prelude.{ℕ, ◌≡◌, ◌⊎◌, pos, ◌++◌, Bool, true, false, ◌&&◌, not, cond, List, [], ◌∷◌, All, Option, Some, None, length}
+use Rattle.std.specs.Prelude.{ℕ, ◌≡◌, ◌⊎◌, pos, ◌++◌, Bool, true, false, ◌&&◌, not, cond, List, [], ◌∷◌, All, Option, Some, None, length, ◌<ℤ◌}
 use Rattle.std.specs.List.{flat_map}
 use Rattle.std.specs.Int.Signed.{lt_z}
 use Rattle.std.specs.Ordering.{int_eq, is_lt}
 use Rattle.plane.specs.declared.edge.Edge.{Edge}
 use Rattle.plane.specs.declared.point.Point.{Point}
 use Rattle.plane.specs.SweepLine.Heights.{rightwards}
+use Rattle.overlay.specs.Areas.{twice_area}
 use Rattle.overlay.specs.Boundary.{HasSloped}
 use Rattle.overlay.specs.Contours.Rings.{ring_edges}
 use Rattle.plane.specs.Meet.Edges.{RationalPoint}
@@ -33,6 +34,10 @@ runs_rightwards (Some edge) = lt_z edge.x0 edge.x1
 -- A ring runs counterclockwise where the lowest of its leftmost edges runs rightwards.
 abbrev pub is_counterclockwise : List Point → Bool
 is_counterclockwise ring = runs_rightwards (first_sloped None (ring_edges ring))
+
+-- The area of a ring, as `twice_area` tells it, is above 0 where it runs counterclockwise, and below 0 where it doesn't.
+abbrev pub HasSignedArea : List Point → Type 0
+HasSignedArea ring = (is_counterclockwise ring ≡ true → pos 0 <ℤ twice_area ring) × (is_counterclockwise ring ≡ false → twice_area ring <ℤ pos 0)
 
 -- An outer ring that runs counterclockwise, and behind it its holes, which don't.
 pub record IsPolygon (rings : List (List Point)) : Type 0 where

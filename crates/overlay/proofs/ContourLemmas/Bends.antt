@@ -1,12 +1,14 @@
--- An outline winds around each point as its ring does, and is a ring.
-use Rattle.std.proofs.Common.{◌≡◌, ◌≢◌, ◌⊎◌, inl, inr, ℕ, ◌-◌, ℤ, ◌+ℤ◌, true, false, List, [], ◌∷◌, ◌++◌, length, map, refl, sym, ap, ap₂, ◌∙◌, subst, arith}
+-- An outline winds around each point as its ring does, has the same area, and is a ring.
+use Rattle.std.proofs.Common.{◌≡◌, ◌≢◌, ◌⊎◌, inl, inr, ℕ, ◌-◌, ℤ, pos, ◌+ℤ◌, ◌-ℤ◌, true, false, List, [], ◌∷◌, ◌++◌, length, map, refl, sym, ap, ap₂, ◌∙◌, subst, arith}
 use Rattle.std.specs.List.{All, AllPairs, flat_map}
 use Rattle.std.proofs.lemmas.Bool.{cond_both}
 use Rattle.std.proofs.lemmas.Int.{ints}
 use Rattle.std.proofs.lemmas.List.Elements.{All-cons, All-head, All-nil, All-tail}
 use Rattle.std.proofs.lemmas.List.Kept.{AllPairs-cons}
 use Rattle.i_tree.proofs.RootLemmas.Lists.{AllPairs-head, AllPairs-tail}
+use Rattle.plane.specs.Meet.Crosses.{cross}
 use Rattle.plane.specs.Meet.Edges.{RationalPoint}
+use Rattle.plane.specs.declared.edge.Edge.{Edge}
 use Rattle.plane.specs.declared.point.Point.{Point}
 use Rattle.overlay.specs.Contours.Outlines.{IsStraight, bends, goes_straight, next_or, outline, ring_point}
 use Rattle.overlay.specs.Contours.Rings.{IsRing, ring_edges}
@@ -14,6 +16,9 @@ use Rattle.plane.specs.Ends.{edge_between}
 use Rattle.noding.specs.Windings.{pieces, winding}
 use Rattle.overlay.proofs.ContourLemmas.Outlines.{straight-is, straight-true}
 use Rattle.overlay.proofs.ContourLemmas.Straight.{straight-further, straight-longer, straight-nowhere, under-nowhere, under-straight}
+use Rattle.overlay.specs.Areas.{swept, twice_area}
+use Rattle.overlay.specs.Fill.Pieces.{total}
+use Rattle.plane.proofs.MeetLemmas.Identities.{identity, minus, number, plus, times}
 use Rattle.noding.proofs.SnapLemmas.Counted.{added, under}
 use Rattle.noding.proofs.SnapLemmas.Windings.{winding-added, winding-append}
 
@@ -93,43 +98,41 @@ leads-next : (kept before : Point) (points : List Point) (behind : Point) → Le
 leads-next kept before points behind (inl same) = inl same
 leads-next kept before points behind (inr is) = inr (straight-next kept before points behind behind (ends-there (last_from before points) behind) is)
 
--- ---- what is under a point
+-- ---- sums over edges that are the same over a straight way and over its whole
 
-module _ (point : RationalPoint) where
-  under-leads : (kept before next : Point) → Leads kept before next → (under (edge_between kept before) point +ℤ under (edge_between before next) point) ≡ under (edge_between kept next) point
-  under-leads kept before next (inl same) =
-      subst (λ (p : Point). (under (edge_between p before) point +ℤ under (edge_between before next) point) ≡ under (edge_between p next) point) (sym same)
-      (let none = under-nowhere before point in omega (arith, ints, none))
-  under-leads kept before next (inr is) = under-straight kept before next is point
+module _ (f : Edge → ℤ) (nowhere : (a : Point) → f (edge_between a a) ≡ pos 0)
+    (straight : (a b c : Point) → IsStraight a b c → (f (edge_between a b) +ℤ f (edge_between b c)) ≡ f (edge_between a c)) where
+  sum-leads : (kept before next : Point) → Leads kept before next → (f (edge_between kept before) +ℤ f (edge_between before next)) ≡ f (edge_between kept next)
+  sum-leads kept before next (inl same) =
+      subst (λ (p : Point). (f (edge_between p before) +ℤ f (edge_between before next)) ≡ f (edge_between p next)) (sym same)
+      (let none = nowhere before in omega (arith, ints, none))
+  sum-leads kept before next (inr is) = straight kept before next is
 
-  -- the edges over the points count as those over the bends, up to the last point that is kept
-  added-bends : (kept before : Point) (points : List Point) (behind : Point) → Leads kept before (next_or points behind)
-      → (under (edge_between kept before) point +ℤ added (pieces (before ∷ points)) point)
-      ≡ (added (pieces (kept ∷ bends before points behind)) point +ℤ under (edge_between (last_from kept (bends before points behind)) (last_from before points)) point)
-  added-bends kept before [] behind leads = omega (arith, ints)
-  added-bends kept before (at ∷ points) behind leads =
-      let first = under-leads kept before at leads in
+  -- the edges over the points give as much as those over the bends, up to the last point that is kept
+  sum-bends : (kept before : Point) (points : List Point) (behind : Point) → Leads kept before (next_or points behind)
+      → (f (edge_between kept before) +ℤ total f (pieces (before ∷ points)))
+      ≡ (total f (pieces (kept ∷ bends before points behind)) +ℤ f (edge_between (last_from kept (bends before points behind)) (last_from before points)))
+  sum-bends kept before [] behind leads = omega (arith, ints)
+  sum-bends kept before (at ∷ points) behind leads =
+      let first = sum-leads kept before at leads in
       bends-by (λ rest.
-      (under (edge_between kept before) point +ℤ (under (edge_between before at) point +ℤ added (pieces (at ∷ points)) point))
-      ≡ (added (pieces (kept ∷ rest)) point +ℤ under (edge_between (last_from kept rest) (last_from at points)) point)) before at points behind
+      (f (edge_between kept before) +ℤ (f (edge_between before at) +ℤ total f (pieces (at ∷ points))))
+      ≡ (total f (pieces (kept ∷ rest)) +ℤ f (edge_between (last_from kept rest) (last_from at points)))) before at points behind
       (λ straight.
-      let rest = added-bends kept at points behind (leads-on kept before at (next_or points behind) leads straight) in
+      let rest = sum-bends kept at points behind (leads-on kept before at (next_or points behind) leads straight) in
       omega (arith, ints, first, rest))
-      (let rest = added-bends at at points behind (inl refl) in
-      let none = under-nowhere at point in
+      (let rest = sum-bends at at points behind (inl refl) in
+      let none = nowhere at in
       omega (arith, ints, first, rest, none))
 
   -- a path that goes on to one more point
-  added-more : (from : Point) (points : List Point) (to : Point) → added (pieces (from ∷ points ++ to ∷ [])) point ≡ (added (pieces (from ∷ points)) point +ℤ under (edge_between (last_from from points) to) point)
-  added-more from [] to = omega (arith, ints)
-  added-more from (next ∷ points) to = let rest = added-more next points to in omega (arith, ints, rest)
+  sum-more : (from : Point) (points : List Point) (to : Point) → total f (pieces (from ∷ points ++ to ∷ [])) ≡ (total f (pieces (from ∷ points)) +ℤ f (edge_between (last_from from points) to))
+  sum-more from [] to = omega (arith, ints)
+  sum-more from (next ∷ points) to = let rest = sum-more next points to in omega (arith, ints, rest)
 
   -- the edges of a ring, the last one first
-  winding-ring : (first : Point) (others : List Point) → winding (ring_edges (first ∷ others)) point ≡ (under (edge_between (last_from first others) first) point +ℤ added (pieces (first ∷ others)) point)
-  winding-ring first others =
-      let sum = winding-added (ring_edges (first ∷ others)) point in
-      let last = added-more first others first in
-      omega (arith, ints, sum, last)
+  sum-ring : (first : Point) (others : List Point) → total f (ring_edges (first ∷ others)) ≡ (f (edge_between (last_from first others) first) +ℤ total f (pieces (first ∷ others)))
+  sum-ring first others = let last = sum-more first others first in omega (arith, ints, last)
 
 -- ---- rings
 
@@ -145,12 +148,13 @@ ring-last first others =
 pub outline-is : (first : Point) (others : List Point) → outline (first ∷ others) ≡ bends (last_from first others) (first ∷ others) first
 outline-is first others = ap (λ (before : Point). bends before (first ∷ others) first) (ring-last first others)
 
--- An outline winds around each rational point as its ring does.
-pub winding-outline : (ring : List Point) (point : RationalPoint) → winding (ring_edges (outline ring)) point ≡ winding (ring_edges ring) point
-winding-outline [] point = refl
-winding-outline (first ∷ others) point =
-    ap (λ (kept : List Point). winding (ring_edges kept) point) (outline-is first others)
-    ∙ same all (leads-next (last_from last all) last (first ∷ others) first (leads-last last last (first ∷ others) first (inl refl))) (added-bends point last last (first ∷ others) first (inl refl))
+-- The edges of an outline give as much as those of its ring.
+pub sum-outline : (f : Edge → ℤ) → ((a : Point) → f (edge_between a a) ≡ pos 0) → ((a b c : Point) → IsStraight a b c → (f (edge_between a b) +ℤ f (edge_between b c)) ≡ f (edge_between a c))
+    → (ring : List Point) → total f (ring_edges (outline ring)) ≡ total f (ring_edges ring)
+sum-outline f nowhere straight [] = refl
+sum-outline f nowhere straight (first ∷ others) =
+    ap (λ (kept : List Point). total f (ring_edges kept)) (outline-is first others)
+    ∙ same all (leads-next (last_from last all) last (first ∷ others) first (leads-last last last (first ∷ others) first (inl refl))) (sum-bends f nowhere straight last last (first ∷ others) first (inl refl))
   where
     last : Point
     last = last_from first others
@@ -159,18 +163,54 @@ winding-outline (first ∷ others) point =
     all = bends last (first ∷ others) first
 
     same : (kept : List Point) → Leads (last_from last kept) last (next_or kept first)
-        → (under (edge_between last last) point +ℤ added (pieces (last ∷ first ∷ others)) point) ≡ (added (pieces (last ∷ kept)) point +ℤ under (edge_between (last_from last kept) last) point)
-        → winding (ring_edges kept) point ≡ winding (ring_edges (first ∷ others)) point
+        → (f (edge_between last last) +ℤ total f (pieces (last ∷ first ∷ others))) ≡ (total f (pieces (last ∷ kept)) +ℤ f (edge_between (last_from last kept) last))
+        → total f (ring_edges kept) ≡ total f (ring_edges (first ∷ others))
     same [] leads sum =
-        let whole = winding-ring point first others in
-        let none = under-nowhere last point in
+        let whole = sum-ring f nowhere straight first others in
+        let none = nowhere last in
         omega (arith, ints, sum, whole, none)
     same (next ∷ kept) leads sum =
-        let whole = winding-ring point first others in
-        let outer = winding-ring point next kept in
-        let none = under-nowhere last point in
-        let over = under-leads point (last_from next kept) last next leads in
+        let whole = sum-ring f nowhere straight first others in
+        let outer = sum-ring f nowhere straight next kept in
+        let none = nowhere last in
+        let over = sum-leads f nowhere straight (last_from next kept) last next leads in
         omega (arith, ints, sum, whole, outer, none, over)
+
+-- what edges count for a point is such a sum
+added-sum : (edges : List Edge) (point : RationalPoint) → added edges point ≡ total (λ edge. under edge point) edges
+added-sum [] point = refl
+added-sum (edge ∷ edges) point = ap (λ z. under edge point +ℤ z) (added-sum edges point)
+
+-- An outline winds around each rational point as its ring does.
+pub winding-outline : (ring : List Point) (point : RationalPoint) → winding (ring_edges (outline ring)) point ≡ winding (ring_edges ring) point
+winding-outline ring point =
+    winding-added (ring_edges (outline ring)) point
+    ∙ added-sum (ring_edges (outline ring)) point
+    ∙ sum-outline (λ edge. under edge point) (λ a. under-nowhere a point) (λ a b c is. under-straight a b c is point) ring
+    ∙ sym (added-sum (ring_edges ring) point)
+    ∙ sym (winding-added (ring_edges ring) point)
+
+-- And it has the same area.
+pub area-outline : (ring : List Point) → twice_area (outline ring) ≡ twice_area ring
+area-outline ring = sum-outline swept swept-nowhere swept-straight ring
+  where
+    swept-nowhere : (a : Point) → swept (edge_between a a) ≡ pos 0
+    swept-nowhere a = identity (minus (times (number a.x) (number a.y)) (times (number a.y) (number a.x))) (number (pos 0)) (omega arith)
+
+    -- what two edges sweep is what the whole does, and what it turns from one to the other
+    turned : (ax ay bx by cx cy : ℤ) → (cross ax ay bx by +ℤ cross bx by cx cy) ≡ (cross ax ay cx cy +ℤ cross (bx -ℤ ax) (by -ℤ ay) (cx -ℤ bx) (cy -ℤ by))
+    turned ax ay bx by cx cy =
+        identity
+        (plus (minus (times (number ax) (number by)) (times (number ay) (number bx))) (minus (times (number bx) (number cy)) (times (number by) (number cx))))
+        (plus (minus (times (number ax) (number cy)) (times (number ay) (number cx)))
+        (minus (times (minus (number bx) (number ax)) (minus (number cy) (number by))) (times (minus (number by) (number ay)) (minus (number cx) (number bx)))))
+        (omega arith)
+
+    swept-straight : (a b c : Point) → IsStraight a b c → (swept (edge_between a b) +ℤ swept (edge_between b c)) ≡ swept (edge_between a c)
+    swept-straight a b c is =
+        let sum = turned a.x a.y b.x b.y c.x c.y in
+        let none = is.along in
+        omega (arith, ints, sum, none)
 
 -- some point is kept
 pub outline-some : (first : Point) (others : List Point) → outline (first ∷ others) ≢ []

@@ -44,11 +44,11 @@ pub twofold : (h k m : ℤ) → ((h *ℤ m) +ℤ (k *ℤ m)) ≡ ((h +ℤ k) *�
 twofold h k m = identity (plus (times (number h) (number m)) (times (number k) (number m))) (times (plus (number h) (number k)) (number m)) (omega arith)
 
 -- twice the height in the middle of the stretch, times the edge's run
-abbrev middle : ℤ → Edge → ℤ
+abbrev pub middle : ℤ → Edge → ℤ
 middle x edge = height_by_run edge x +ℤ height_by_run edge (x +ℤ pos 1)
 
 -- the test compares the middles by cross-multiplying
-lower_out : (x : ℤ) (one other : Edge) → is_lower_on x one other ≡ true → (middle x one *ℤ run other) <ℤ (middle x other *ℤ run one)
+pub lower_out : (x : ℤ) (one other : Edge) → is_lower_on x one other ≡ true → (middle x one *ℤ run other) <ℤ (middle x other *ℤ run one)
 lower_out x one other e =
     let less = lt_is (low x one other) (low x other one) e in
     let left = twofold (height_by_run one x) (height_by_run one (x +ℤ pos 1)) (run other) in

@@ -25,11 +25,11 @@ module _ {X : Type 0} (lower : X → X → Bool) where
   Rises xs = AllPairs (λ x y. lower x y ≡ true) xs
 
   -- sorted by insertion
-  abbrev insert : X → List X → List X
+  abbrev pub insert : X → List X → List X
   insert x [] = x ∷ []
   insert x (y ∷ ys) = cond (lower x y) (x ∷ y ∷ ys) (y ∷ insert x ys)
 
-  abbrev sort : List X → List X
+  abbrev pub sort : List X → List X
   sort [] = []
   sort (x ∷ xs) = insert x (sort xs)
 
@@ -46,7 +46,7 @@ module _ {X : Type 0} (lower : X → X → Bool) where
       by rest true = refl
       by rest false = ap (λ z. f y +ℤ z) rest ∙ exchanged (f x) (f y) (total f ys)
 
-  total-sort : (f : X → ℤ) (xs : List X) → total f (sort xs) ≡ total f xs
+  pub total-sort : (f : X → ℤ) (xs : List X) → total f (sort xs) ≡ total f xs
   total-sort f [] = refl
   total-sort f (x ∷ xs) = total-insert f x (sort xs) ∙ ap (λ z. f x +ℤ z) (total-sort f xs)
 
@@ -58,7 +58,7 @@ module _ {X : Type 0} (lower : X → X → Bool) where
       by rest true = All-cons P x (y ∷ ys) first all
       by rest false = All-cons P y (insert x ys) (All-head P y ys all) rest
 
-  All-sorted : (P : X → Type 0) (xs : List X) → All P xs → All P (sort xs)
+  pub All-sorted : (P : X → Type 0) (xs : List X) → All P xs → All P (sort xs)
   All-sorted P [] all = All-nil P
   All-sorted P (x ∷ xs) all = All-inserted P x (sort xs) (All-head P x xs all) (All-sorted P xs (All-tail P x xs all))
 
@@ -85,7 +85,7 @@ module _ {X : Type 0} (lower : X → X → Bool) where
             rest
 
     -- so a sorted list is in order
-    Rises-sorted : (xs : List X) → All P xs → AllPairs Differ xs → Rises (sort xs)
+    pub Rises-sorted : (xs : List X) → All P xs → AllPairs Differ xs → Rises (sort xs)
     Rises-sorted [] all distinct = AllPairs-nil (λ x y. lower x y ≡ true)
     Rises-sorted (x ∷ xs) all distinct =
         Rises-inserted x (sort xs) (All-head P x xs all) (All-sorted P xs (All-tail P x xs all)) (All-sorted (Differ x) xs (AllPairs-head Differ x xs distinct))
@@ -113,16 +113,16 @@ module _ {X : Type 0} (lower : X → X → Bool) where
     add_none a = omega (arith, ints)
 
     -- below each is a and what of the list is lower
-    abbrev Starts : (X → ℤ) → ℤ → (X → ℤ) → List X → Type 0
+    abbrev pub Starts : (X → ℤ) → ℤ → (X → ℤ) → List X → Type 0
     Starts w a below xs = All (λ y. below y ≡ (a +ℤ sum_below w xs y)) xs
 
     -- so below the first is a
-    starts-first : (w : X → ℤ) (a : ℤ) (below : X → ℤ) (x : X) (xs : List X) → All (λ y. lower x y ≡ true) xs → Starts w a below (x ∷ xs) → below x ≡ a
+    pub starts-first : (w : X → ℤ) (a : ℤ) (below : X → ℤ) (x : X) (xs : List X) → All (λ y. lower x y ≡ true) xs → Starts w a below (x ∷ xs) → below x ≡ a
     starts-first w a below x xs above starts =
         All-head (λ y. below y ≡ (a +ℤ sum_below w (x ∷ xs) y)) x xs starts ∙ ap (λ z. a +ℤ z) (below_first w x xs above) ∙ add_none a
 
     -- and below each of the others a and the first's weight, and what of the others is lower
-    starts-next : (w : X → ℤ) (a : ℤ) (below : X → ℤ) (x : X) (xs : List X) → All (λ y. lower x y ≡ true) xs → Starts w a below (x ∷ xs) → Starts w (a +ℤ w x) below xs
+    pub starts-next : (w : X → ℤ) (a : ℤ) (below : X → ℤ) (x : X) (xs : List X) → All (λ y. lower x y ≡ true) xs → Starts w a below (x ∷ xs) → Starts w (a +ℤ w x) below xs
     starts-next w a below x xs above starts =
         All-weaker (λ y. (lower x y ≡ true) × (below y ≡ (a +ℤ sum_below w (x ∷ xs) y))) (λ y. below y ≡ ((a +ℤ w x) +ℤ sum_below w xs y))
         (λ y both. both.1 ∙ ap (λ t. a +ℤ (cond t (w x) (pos 0) +ℤ sum_below w xs y)) both.0 ∙ assoc a (w x) (sum_below w xs y))

@@ -162,7 +162,7 @@ module _ (rings : List (List Point)) (bounds : BoundsSome (flat_map ring_edges r
       let (ring, inside, held) = Contains-flat_map ring_edges rings first is.among in
       (ring, inside, rightwards-of first is ring inside held (first_sloped None (ring_edges ring)) (told-all (ring_edges ring)))
 
-has-edge : (ring : List Point) → ring ≢ [] → (edge : Edge) × Contains (ring_edges ring) edge
+pub has-edge : (ring : List Point) → ring ≢ [] → (edge : Edge) × Contains (ring_edges ring) edge
 has-edge [] some = absurd (some refl)
 has-edge (point ∷ points) some =
     let first = edge_between point (next_or points point) in

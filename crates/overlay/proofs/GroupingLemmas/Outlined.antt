@@ -175,7 +175,7 @@ module _ (edges : List Edge) where
 -- ---- the first ones
 
 -- of distinct edges two with the same ends are one
-same-one : (edges : List Edge) (one other : Edge) → AreDistinct edges → Contains edges one → Contains edges other → HaveSameEnds one other → one ≡ other
+pub same-one : (edges : List Edge) (one other : Edge) → AreDistinct edges → Contains edges one → Contains edges other → HaveSameEnds one other → one ≡ other
 same-one [] one other distinct (k, within, is) second same = absurd (omega (arith, within))
 same-one (edge ∷ edges) one other distinct (zero, within, is) (zero, within', is') same = sym is ∙ is'
 same-one (edge ∷ edges) one other distinct (zero, within, is) (suc k, within', is') same =

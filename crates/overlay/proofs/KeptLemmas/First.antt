@@ -31,7 +31,7 @@ use Rattle.noding.proofs.SnapLemmas.Rounding.{Floor}
 -- ---- edges of which no two have the same ends
 
 -- where one of them alone counts, the sum is what it counts
-total-one : (f : Edge → ℤ) (g : Edge) (edges : List Edge) → Contains edges g → AreDistinct edges → ((edge : Edge) → Contains edges edge → ¬ (HaveSameEnds edge g) → f edge ≡ pos 0) → total f edges ≡ f g
+pub total-one : (f : Edge → ℤ) (g : Edge) (edges : List Edge) → Contains edges g → AreDistinct edges → ((edge : Edge) → Contains edges edge → ¬ (HaveSameEnds edge g) → f edge ≡ pos 0) → total f edges ≡ f g
 total-one f g [] (k, within, is) distinct none = absurd (omega (arith, within))
 total-one f g (edge ∷ edges) (zero, within, is) distinct none =
     first_alone (f edge) (f g) (total f edges) (ap f is)
