@@ -16,6 +16,10 @@ use Rattle.overlay.specs.Rings.{AreEnds, edges_of, real_edges, rings_of}
 use Rattle.overlay.specs.declared.fill.rules.FillRule.{FillRule}
 use Rattle.overlay.specs.declared.fill.rules.Operation.{Operation}
 use Rattle.overlay.specs.declared.rings.Rings.{Rings}
+-- A ring that visits no point twice and whose edges meet only at common ends, and each ring that bounds a result: its area is above
+-- 0 where it runs counterclockwise, and else below 0.
+pub use Rattle.overlay.proofs.AreaLemmas.Directed.{area-directed}
+pub use Rattle.overlay.proofs.AreaLemmas.Rings.{boundary-signed}
 use Rattle.overlay.proofs.ContourLemmas.Counts.{rings-closed}
 use Rattle.overlay.proofs.RingLemmas.{closed-real}
 use Rattle.overlay.proofs.GroupingLemmas.Placed.{ends-right, rings-back}

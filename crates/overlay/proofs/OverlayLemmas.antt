@@ -18,6 +18,7 @@ use Rattle.noding.specs.Local.{IsExactAt}
 use Rattle.noding.specs.Windings.{count, winding}
 use Rattle.noding.proofs.Callers.{IsMoved-more}
 use Rattle.noding.proofs.SnapLemmas.More.{IsHot-more}
+use Rattle.overlay.proofs.AreaLemmas.Rings.{boundary-signed, outlines-signed}
 use Rattle.overlay.proofs.BoundaryLemmas.Bounding.{rings-bound, winds-exactly, winds-once, winds-same}
 use Rattle.overlay.proofs.BoundaryLemmas.Corners.{outlines-hold}
 use Rattle.overlay.proofs.ContourLemmas.Callers.{outlines-wind}
@@ -25,7 +26,7 @@ use Rattle.overlay.specs.Overlay.{IsOverlay, polygon_edges}
 use Rattle.overlay.proofs.GroupingLemmas.Corners.{rings-corners}
 use Rattle.overlay.proofs.GroupingLemmas.Grouped.{map-joined}
 use Rattle.overlay.proofs.GroupingLemmas.Outlined.{outlines-run, polygons-outlined}
-use Rattle.overlay.specs.Polygons.{BoundsSome, IsPolygon, rings_of}
+use Rattle.overlay.specs.Polygons.{BoundsSome, HasSignedArea, IsPolygon, rings_of}
 use Rattle.overlay.specs.Rings.{has_two_ends, real_edges}
 use Rattle.overlay.proofs.RingLemmas.{winding-real}
 
@@ -85,12 +86,14 @@ polygons-overlay rule operation subject clip edges whole bounds directed are =
     let outlines = subst (AreOutlines edges) (sym (map-joined outline whole)) (outlines-wind edges (rings_of whole) are) in
     let polygons = map (λ polygon. map outline polygon) whole in
     let boundary = rings-bound rule operation (real_edges subject) (real_edges clip) edges (rings_of whole) bounds are in
+    let alike = outlines-run (rings_of whole) boundary.bounds.noded boundary.bounds.distinct in
     let everywhere = winds-same rule operation (real_edges subject) (real_edges clip) edges (polygon_edges polygons) outlines.winds bounds.everywhere in
     record {
       each = outlines.each;
       three_points = subst (All (λ ring. 3 ≤ length ring)) (sym (map-joined outline whole))
           (rings-corners (flat_map ring_edges (rings_of whole)) boundary.bounds.noded boundary.bounds.two_ends (rings_of whole) are.each (λ edge among. among) boundary.bounds.distinct);
-      directed = polygons-outlined whole (outlines-run (rings_of whole) boundary.bounds.noded boundary.bounds.distinct) directed;
+      directed = polygons-outlined whole alike directed;
+      areas = subst (All HasSignedArea) (sym (map-joined outline whole)) (outlines-signed (rings_of whole) alike (boundary-signed rule operation (real_edges subject) (real_edges clip) (rings_of whole) boundary));
       everywhere = everywhere;
       once = winds-once rule operation (real_edges subject) (real_edges clip) (polygon_edges polygons) everywhere;
       exact = exact-real subject clip rule operation (polygon_edges polygons) everywhere;
