@@ -2,10 +2,12 @@
 """usage: tools/try_edit.py CRATE EDIT FUNCTION
 
 Tries one must-fail edit alone: puts crates/CRATE/must-fail/EDIT.edit into the crate, has FUNCTION checked (a path as
-`rt check` prints it, with the crate's name), and undoes the edit. It prints the goals that were not proved. The status is 0
-where the edit is refused, 1 where it is proved or the check ended without a verdict.
+`rt check` prints it, with the crate's name), and undoes the edit. It prints the goals that were not proved. Where a proof names
+what the edit took away, and no goal is refused for another cause, that says little of the contract: it is told. The status is
+0 where the edit is refused, 1 where it is proved or the check ended without a verdict.
 """
 import pathlib
+import re
 import subprocess
 import sys
 
@@ -40,6 +42,20 @@ def refusals(said, function):
     return told and [*told, *(line for line in lines if ": error: `" in line)]
 
 
+def is_lost(line):
+    """Whether the line says that a proof names what isn't there."""
+    return re.search("has no field|is not in scope|was not admitted, was not checked|were not checked", line) is not None
+
+
+def verdict(found):
+    """What the edit came to, by the lines that say why the function isn't proved."""
+    if not found:
+        return "NOT REFUSED"
+    goals = [line for line in found if ": error: `" in line]
+    lost = goals and all(map(is_lost, goals))
+    return "refused, but only because a proof names what the edit took away" if lost else "refused"
+
+
 def main():
     if len(sys.argv) != 4:
         sys.exit(__doc__)
@@ -54,7 +70,7 @@ def main():
         source.write_text(before)
     found = refusals(check.stdout + check.stderr, sys.argv[3])
     print("\n".join(line[:200] for line in found) or (check.stdout + check.stderr)[-2000:])
-    print("refused" if found else "NOT REFUSED")
+    print(verdict(found))
     sys.exit(0 if found else 1)
 
 
