@@ -337,6 +337,22 @@ def by_chance():
             yield located_among(f"edges {where}, {turn}", items)
 
 
+def chains():
+    """Cases of 12 chains above one another, each of 15 edges 10 long whose heights differ by up to 89, with a point above each
+    edge. Neighbours don't follow one another: 5 and 12 have no factor in common."""
+    random = Random(SEED)
+    for turn in range(30):
+        said, served = [], []
+        for place in range(12):
+            low = place * 5 % 12 * 100
+            heights = [low + random.randrange(90) for _ in range(16)]
+            for x, start, end in zip(range(0, 150, 10), heights, heights[1:]):
+                edge = (x, start, x + 10, end) if random.random() < 0.5 else (x + 10, end, x, start)
+                served.append(f"edge {len(said) + 1}")
+                said += [line_of(edge), line_of((x + random.randrange(10), low + 95))]
+        yield answered(f"chains above one another, {turn}", "locate", lines(*said), lines(*served))
+
+
 # Edges of a cell of 20 by 20, which no edge of another cell reaches, and a point among them with the one below it.
 CELL = ((0, 0, 18, 9), (18, 10, 0, 18), (3, 8, 9, 6), (0, 1, 2, 9))
 ASKED = (4, 8, 2)
@@ -369,6 +385,6 @@ def many(count=MANY):
 
 
 PARTS = (
-    *(worked, far_lines, crossings_told, odd_texts, by_chance, many),
+    *(worked, far_lines, crossings_told, odd_texts, by_chance, chains, many),
     *(partial(part, [PLAIN]) for part in (empty_texts, plain_lines, line_numbers, streams.each_mode)),
 )

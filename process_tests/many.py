@@ -87,6 +87,13 @@ def growing_set(count):
     return texts, served
 
 
+def rising_set(count):
+    """Keys of a set that rise, and then a walk back from the last one on."""
+    keys = range(count // 2)
+    texts = [f"insert {key}" for key in keys] + [f"before {key}" for key in reversed(keys)]
+    return texts, ["inserted"] * len(keys) + [f"key {key - 1}" if key else "none" for key in reversed(keys)]
+
+
 def growing_segments(count):
     """Segments that stay, and a query that finds them all."""
     values = shuffled(2 * count - 2)
@@ -103,6 +110,7 @@ TREES = (
     ("segments by chance", SEG, segments_by_chance),
     ("keys that stay", "keytree", growing_keys),
     ("a set that grows", "settree", growing_set),
+    ("a set that rises", "settree", rising_set),
     ("segments that stay", SEG, growing_segments),
 )
 

@@ -208,6 +208,24 @@ def by_chance():
             yield told(f"edges {where}, {turn}", given, edges, range(1, 41))
 
 
+# Sets of edges that go to the right and down: how many, how far right and down, from how many heights, and how many of them are
+# a crowd that begins near one point, at the left and low. More of the one are live at once than a list takes, and then few
+# again. Of the other only the lowest of many strips has more than a list takes.
+CROWDS = (("one strip", 120, 900, 900, 1000, 60), ("many strips", 700, 900, 4, 2000, 90))
+
+
+def crowds():
+    """Cases of such sets."""
+    random = Random(SEED)
+    for where, count, width, height, heights, crowd in CROWDS:
+        edges = []
+        for place in range(count):
+            far, high = (40, 40) if place < crowd else (4000, heights)
+            x, y = random.randrange(far), random.randrange(high)
+            edges.append((x, y, x + random.randrange(width), y - random.randrange(height)))
+        yield told(f"a crowd in {where}", lines(*map(line_of, edges)), edges, range(1, count + 1))
+
+
 def in_cells(count):
     """So many edges in cells of their own, in an order by chance, and their replies."""
     meet = {(a, b) for a in range(len(CELL)) for b in range(len(CELL)) if common_shares(CELL[a], CELL[b])}
@@ -231,4 +249,4 @@ def many(count=MANY):
     yield answered(f"{count} edges in cells", "meetings", given, replies)
 
 
-PARTS = worked, odd_texts, by_chance, many, *(partial(part, [PLAIN]) for part in (empty_texts, line_numbers))
+PARTS = worked, odd_texts, by_chance, crowds, many, *(partial(part, [PLAIN]) for part in (empty_texts, line_numbers))
