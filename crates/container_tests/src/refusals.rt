@@ -1,254 +1,148 @@
 //! Calls of each kind of collection, with each request for memory refused in turn.
 
-use crate::call::{Answer, Call, Store};
-use crate::history::Subject;
-use crate::rows::fill;
+use crate::roomy::{Calls, Roomy};
+use crate::timed_key::{TimedKey, timed};
 use i_tree::Refusal;
-use std::alloc::{AllocError, Global};
+use i_tree::key::exp::KeyExpCollection;
+use i_tree::key::list::KeyExpList;
+use std::alloc::{AllocError, Allocator, Global};
+use std::marker::PhantomData;
 use test_kit::Refusing;
 use test_kit::in_turn::{Trial, refuse_in_turn};
 
-/// How a collection keeps what is stored.
-#[derive(Clone, Copy, PartialEq, Eq)]
-pub enum Kind {
-    List,
-    Tree,
-}
-
-impl Kind {
-    // Whether there may be this room in all after a reservation. A tree reserves one slot, and has eight at least.
-    fn may_have(self, room: usize, capacity: usize) -> bool {
-        match self {
-            Kind::List => room >= capacity,
-            Kind::Tree => room == capacity.max(8).saturating_sub(1),
-        }
-    }
-}
-
-// `new` with a capacity.
-#[derive(Drop)]
-struct Making<S: Store> {
-    memory: S::Memory,
-    kind: Kind,
-    capacity: usize,
-}
-
-impl<S: Store> Trial for Making<S> {
-    type State = Option<Result<S, Refusal>>;
-
-    fn begin(&self) -> Option<Option<Result<S, Refusal>>> {
-        Some(None)
-    }
-
-    fn call(&self, made: &mut Option<Result<S, Refusal>>) {
-        *made = Some(S::make(self.memory, self.capacity));
-    }
-
-    fn is_refused(&self, made: &mut Option<Result<S, Refusal>>, _nth: u64) -> bool {
-        matches!(made, Some(Err(Refusal::OutOfMemory)))
-    }
-
-    fn is_done(&self, made: &mut Option<Result<S, Refusal>>) -> bool {
-        let Some(Ok(store)) = made else {
-            return false;
-        };
-        let (stored, spare) = store.room();
-        stored == 0 && self.kind.may_have(spare, self.capacity)
-    }
-}
-
-// What changes a full collection of numbers that rise from 1 on.
+/// A call that asks for memory.
 #[derive(Clone, Copy)]
-enum Change {
-    Reserve(usize),
-    // A further number, by both calls.
-    Insert,
-    InsertNew,
+pub enum Call {
+    New(usize),
+    /// Room for a hundred.
+    Reserve,
+    /// A further number, by the call that tells more, or by the plain one.
+    Insert(bool),
 }
 
-// A change of a collection of so many numbers, or more.
+// The call over a full collection of so many numbers, or more.
 #[derive(Drop)]
-struct Changing<S: Store> {
-    memory: S::Memory,
-    kind: Kind,
+struct Calling<C: Roomy, W> {
+    memory: C::Memory,
     least: i32,
-    change: Change,
+    call: Call,
+    way: PhantomData<W>,
 }
 
 #[derive(Drop)]
-struct Changed<S: Store> {
-    store: S,
-    last: i32,
-    answer: Answer,
+struct Called<C: Roomy> {
+    store: C,
+    room: (usize, usize),
+    answer: Result<(), Refusal>,
 }
 
-// Whether exactly the numbers from 1 to `last` are stored, each with its own value, and all are live at 10.
-fn holds_rising<S: Store>(store: &mut S, last: i32) -> bool {
-    for number in 1..=last {
-        let below = number.saturating_sub(1);
-        if store.call(Call::AtMost(10, number)) != Answer::Value(number)
-            || store.call(Call::Above(10, below)) != Answer::Value(number)
-        {
-            return false;
+impl<C: Roomy, W: Calls<C>> Trial for Calling<C, W> {
+    type State = Called<C>;
+
+    fn begin(&self) -> Option<Called<C>> {
+        let mut store = C::make(self.memory, 0).ok()?;
+        for number in 1..100 {
+            if number > self.least && store.room().1 == 0 {
+                break;
+            }
+            W::insert(&mut store, number, false).ok()?;
         }
-    }
-    usize::try_from(last) == Ok(store.room().0)
-}
-
-impl<S: Store> Trial for Changing<S> {
-    type State = Changed<S>;
-
-    fn begin(&self) -> Option<Changed<S>> {
-        let mut store = S::make(self.memory, 0).ok()?;
-        fill(&mut store, 1, self.least, 10);
-        let last = self
-            .least
-            .saturating_add(i32::try_from(store.room().1).ok()?);
-        fill(&mut store, self.least.saturating_add(1), last, 10);
-        Some(Changed {
+        Some(Called {
+            room: store.room(),
             store,
-            last,
-            answer: Answer::NoCall,
+            answer: Ok(()),
         })
     }
 
-    fn call(&self, changed: &mut Changed<S>) {
-        let next = changed.last.saturating_add(1);
-        changed.answer = changed.store.call(match self.change {
-            Change::Reserve(capacity) => Call::Reserve(capacity),
-            Change::Insert => Call::Insert(next, 10, next, 0),
-            Change::InsertNew => Call::InsertNew(next, 10, next, 0),
-        });
+    fn call(&self, called: &mut Called<C>) {
+        called.answer = match self.call {
+            Call::New(capacity) => match C::make(self.memory, capacity) {
+                Ok(_) => Ok(()),
+                Err(cause) => Err(cause),
+            },
+            Call::Reserve => called.store.reserve(100),
+            Call::Insert(tells) => W::insert(&mut called.store, 200, tells),
+        };
     }
 
-    fn is_refused(&self, changed: &mut Changed<S>, _nth: u64) -> bool {
-        changed.answer == Answer::Refused(Refusal::OutOfMemory)
-            && changed.store.room().1 == 0
-            && holds_rising(&mut changed.store, changed.last)
+    fn is_refused(&self, called: &mut Called<C>, _nth: u64) -> bool {
+        called.answer == Err(Refusal::OutOfMemory) && called.store.room() == called.room
     }
 
-    fn is_done(&self, changed: &mut Changed<S>) -> bool {
-        let (stored, spare) = changed.store.room();
-        let is_roomy = match self.change {
-            Change::Reserve(capacity) => {
-                self.kind.may_have(stored.saturating_add(spare), capacity)
-            }
-            _ => true,
-        };
-        let last = match changed.answer {
-            Answer::Done => changed.last,
-            _ => changed.last.saturating_add(1),
-        };
-        is_roomy && holds_rising(&mut changed.store, last)
+    // Its clauses say what is stored then.
+    fn is_done(&self, called: &mut Called<C>) -> bool {
+        let joined = usize::from(matches!(self.call, Call::Insert(_)));
+        called.answer == Ok(()) && called.store.room().0 == called.room.0.saturating_add(joined)
     }
 }
 
-// What changes a collection. The room of a set isn't reserved.
-fn changes(subject: Subject) -> &'static [Change] {
-    match subject {
-        Subject::Sets => &[Change::Insert, Change::InsertNew],
-        _ => &[Change::Reserve(100), Change::Insert, Change::InsertNew],
-    }
-}
-
-/// Whether each call takes its memory by one request, or changes nothing where that is refused.
-pub fn takes_all_or_nothing<S: Store>(
+/// Whether each of the calls takes its memory by one request, or changes nothing where that is refused.
+pub fn takes_all_or_nothing<C: Roomy, W: Calls<C>>(
     counted: &Refusing<Global>,
-    memory: S::Memory,
-    kind: Kind,
-    subject: Subject,
+    memory: C::Memory,
+    calls: &[(Call, i32)],
 ) -> bool {
-    for capacity in [1, 8, 20] {
-        let trial: Making<S> = Making {
+    for (call, least) in calls {
+        let calling: Calling<C, W> = Calling {
             memory,
-            kind,
-            capacity,
+            least: *least,
+            call: *call,
+            way: PhantomData,
         };
-        if !matches!(refuse_in_turn(counted, &trial), Ok(1)) {
-            return false;
-        }
-    }
-    for change in changes(subject) {
-        if !changes_all_or_nothing::<S>(counted, memory, kind, *change) {
+        if !matches!(refuse_in_turn(counted, &calling), Ok(1)) {
             return false;
         }
     }
     true
 }
 
-// Makes the change with its request refused, over collections of several sizes.
-fn changes_all_or_nothing<S: Store>(
-    counted: &Refusing<Global>,
-    memory: S::Memory,
-    kind: Kind,
-    change: Change,
-) -> bool {
-    for least in [0, 5, 10, 20, 40] {
-        let trial: Changing<S> = Changing {
-            memory,
-            kind,
-            least,
-            change,
-        };
-        if !matches!(refuse_in_turn(counted, &trial), Ok(1)) {
-            return false;
-        }
-    }
-    true
+// A clone of a list of one key.
+#[derive(Drop)]
+struct Cloning<A: Allocator + Copy> {
+    memory: A,
 }
 
-// A clone of the keys 0, 3, 5 and 8.
-#[derive(Drop)]
-struct Cloning<S: Store> {
-    memory: S::Memory,
-}
+type List<A> = KeyExpList<TimedKey, i32, i32, A>;
 
 #[derive(Drop)]
-struct Cloned<S: Store> {
-    store: S,
-    clone: Option<Result<S, AllocError>>,
+struct Cloned<A: Allocator + Copy> {
+    list: List<A>,
+    clone: Result<List<A>, AllocError>,
 }
 
-// Whether there are the four keys.
-fn has_four<S: Store>(store: &mut S) -> bool {
-    store.call(Call::Below(0, 4)) == Answer::Value(3)
-        && store.call(Call::Below(0, 0)) == Answer::Value(-1)
-        && store.room().0 == 4
-}
+impl<A: Allocator + Copy> Trial for Cloning<A> {
+    type State = Cloned<A>;
 
-impl<S: Store> Trial for Cloning<S> {
-    type State = Cloned<S>;
-
-    fn begin(&self) -> Option<Cloned<S>> {
-        let mut store = S::make(self.memory, 0).ok()?;
-        for key in [0, 3, 5, 8] {
-            store.call(Call::Insert(key, 10, key, 0));
-        }
-        Some(Cloned { store, clone: None })
+    fn begin(&self) -> Option<Cloned<A>> {
+        let mut list = KeyExpList::new(self.memory, 0).ok()?;
+        list.insert_new(timed(3, 10), 3, 0).ok()?;
+        Some(Cloned {
+            list,
+            clone: Err(AllocError),
+        })
     }
 
-    fn call(&self, cloned: &mut Cloned<S>) {
-        cloned.clone = cloned.store.cloned();
+    fn call(&self, cloned: &mut Cloned<A>) {
+        cloned.clone = cloned.list.clone();
     }
 
-    fn is_refused(&self, cloned: &mut Cloned<S>, _nth: u64) -> bool {
-        matches!(cloned.clone, Some(Err(AllocError))) && has_four(&mut cloned.store)
+    fn is_refused(&self, cloned: &mut Cloned<A>, _nth: u64) -> bool {
+        cloned.clone.is_err()
     }
 
     // The clone stays as it is where the original is cleared.
-    fn is_done(&self, cloned: &mut Cloned<S>) -> bool {
-        let Some(Ok(clone)) = &mut cloned.clone else {
-            return false;
-        };
-        has_four(&mut cloned.store)
-            && cloned.store.call(Call::Clear) == Answer::Done
-            && cloned.store.call(Call::Below(0, 4)) == Answer::Value(-1)
-            && has_four(clone)
+    fn is_done(&self, cloned: &mut Cloned<A>) -> bool {
+        cloned.list.clear();
+        match &cloned.clone {
+            Ok(clone) => clone.stored() == 1,
+            Err(_) => false,
+        }
     }
 }
 
-/// Whether a clone of keys takes its memory by one request, or isn't made.
-pub fn clones_at_once<S: Store>(counted: &Refusing<Global>, memory: S::Memory) -> bool {
-    let trial: Cloning<S> = Cloning { memory };
-    matches!(refuse_in_turn(counted, &trial), Ok(1))
+#[test]
+fn a_clone_of_keys_takes_its_memory_at_once(rt: HostRuntime) {
+    let memory = Refusing::new(rt.alloc());
+    let cloning = Cloning { memory: &memory };
+    assert!(rt; refuse_in_turn(&memory, &cloning) == Ok(1));
 }

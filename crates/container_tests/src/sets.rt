@@ -1,282 +1,120 @@
-//! Both kinds of set, by calls as data. Sets have no times.
+//! Sets.
 
-use crate::call::{Answer, Call, Step, Store, whether};
-use i_tree::set::list::SetList;
+use crate::roomy::Calls;
 use i_tree::set::sort::SetCollection;
-use i_tree::set::tree::SetTree;
-use i_tree::{EMPTY_REF, Refusal, Refused};
-use runs::{SetCommand, SetReply, run_sets};
-use std::alloc::{Allocator, Global};
+use i_tree::{EMPTY_REF, Refusal};
 use std::cell::Cell;
 use test_kit::item::Item;
 
-type Command = SetCommand<i32, Item>;
-
-/// A kind of set, by its own calls.
-pub trait SetKind: SetCollection<i32, Item> + Drop {
-    /// Where it takes its memory.
-    type Memory: Allocator + Copy;
-
-    /// An empty set.
-    fn make(memory: Self::Memory, capacity: usize) -> Result<Self, Refusal>;
-
-    /// For how many more values there is room.
-    fn room(&self) -> usize;
+// The item of a key that is its own value.
+fn item(key: i32) -> Item {
+    Item { key, value: key }
 }
 
-impl<A: Allocator + Copy> SetKind for SetList<Item, A> {
-    type Memory = A;
-
-    fn make(memory: A, capacity: usize) -> Result<Self, Refusal> {
-        SetList::new(memory, capacity)
+// Puts the item by the plain call, unless its key is there.
+fn put<C: SetCollection<i32, Item>>(set: &mut C, item: Item) -> Option<Result<(), Refusal>> {
+    if !set.is_ordered() || set.contains_key(&item.key) {
+        return None;
     }
-
-    fn room(&self) -> usize {
-        self.spare()
-    }
+    Some(match set.insert(item) {
+        Ok(()) => Ok(()),
+        Err(refused) => Err(refused.cause),
+    })
 }
 
-impl<A: Allocator + Copy> SetKind for SetTree<i32, Item, A> {
-    type Memory = A;
-
-    fn make(memory: A, capacity: usize) -> Result<Self, Refusal> {
-        SetTree::new(memory, capacity)
+// Puts the item, and answers what came back.
+fn put_new<C: SetCollection<i32, Item>>(
+    set: &mut C,
+    item: Item,
+) -> Option<Result<Option<Item>, Refusal>> {
+    if !set.is_ordered() {
+        return None;
     }
-
-    fn room(&self) -> usize {
-        self.spare()
-    }
+    Some(match set.insert_new(item) {
+        Ok(given) => Ok(given),
+        Err(refused) => Err(refused.cause),
+    })
 }
 
-/// A set, the handle that was kept, those of the numbers from 1 to 7, and how often the last closure was asked.
-#[derive(Drop)]
-pub struct Sets<C> {
-    set: C,
-    held: u32,
-    handles: [u32; 7],
-    asked: Cell<usize>,
+// The handle of the greatest key at most this one, or `EMPTY_REF`.
+fn find<C: SetCollection<i32, Item>>(set: &C, sought: i32, asked: &Cell<usize>) -> u32 {
+    if !set.is_ordered() {
+        return EMPTY_REF;
+    }
+    set.first_index_less_by(|key| {
+        asked.set(asked.get().saturating_add(1));
+        key.cmp(&sought)
+    })
 }
 
-// The answer to an insertion of the item, which is handed back where it is refused.
-fn inserted(told: Result<Option<Item>, Refused<Item>>, item: Item) -> Answer {
-    match told {
-        Ok(None) => Answer::Joined,
-        Ok(Some(given)) if given == item => Answer::Present,
-        Err(refused) if refused.value == item => Answer::Refused(refused.cause),
-        _ => Answer::NoCall,
+// The value at the handle, or -1 where it has none.
+fn value<C: SetCollection<i32, Item>>(set: &C, handle: u32) -> i32 {
+    if !set.has_index(handle) {
+        return -1;
     }
+    set.value_by_index(handle).value
 }
 
-impl<C: SetKind> Sets<C> {
-    fn insert(&mut self, item: Item) -> Answer {
-        if !self.set.is_ordered() {
-            return Answer::NoCall;
-        }
-        if self.set.contains_key(&item.key) {
-            return Answer::Present;
-        }
-        match self.set.insert(item) {
-            Ok(()) => Answer::Joined,
-            Err(refused) => inserted(Err(refused), item),
-        }
-    }
-
-    fn insert_new(&mut self, item: Item) -> Answer {
-        if !self.set.is_ordered() {
-            return Answer::NoCall;
-        }
-        inserted(self.set.insert_new(item), item)
-    }
-
-    // The handle of the greatest key at most this one, or `EMPTY_REF`.
-    fn find(&self, sought: i32) -> u32 {
-        self.asked.set(0);
-        if !self.set.is_ordered() {
-            return EMPTY_REF;
-        }
-        self.set.first_index_less_by(|key| {
-            self.asked.set(self.asked.get().saturating_add(1));
-            key.cmp(&sought)
-        })
-    }
-
-    // The value at the handle, or -1 where it has none.
-    fn value(&self, handle: u32) -> Answer {
-        if !self.set.has_index(handle) {
-            return Answer::Value(-1);
-        }
-        Answer::Value(self.set.value_by_index(handle).value)
-    }
-
-    // The handle before the greatest key at most this one, or `EMPTY_REF`.
-    fn before(&self, sought: i32) -> u32 {
-        let handle = self.find(sought);
-        if !self.set.has_index(handle) {
-            return EMPTY_REF;
-        }
-        self.set.index_before(handle)
-    }
-
-    // The handle after the greatest key at most this one, or the first.
-    fn above(&self, sought: i32) -> u32 {
-        let handle = self.find(sought);
-        if !self.set.has_index(handle) {
-            return self.set.first_index();
-        }
-        self.set.index_after(handle)
-    }
-
-    fn contains(&self, key: i32) -> Answer {
-        if !self.set.is_ordered() {
-            return Answer::NoCall;
-        }
-        whether(self.set.contains_key(&key))
-    }
-
-    fn delete(&mut self, handle: u32) -> Answer {
-        if !self.set.has_index(handle) {
-            return Answer::NoCall;
-        }
-        self.set.delete_by_index(handle);
-        Answer::Done
-    }
-
-    // Deletes the key, where it is there.
-    fn delete_key(&mut self, key: i32) -> Answer {
-        let handle = self.find(key);
-        if !self.set.has_index(handle) || self.set.value_by_index(handle).key != key {
-            return Answer::NoCall;
-        }
-        self.delete(handle)
-    }
-
-    // Keeps the handle of the key, and those of the numbers from 1 to 7.
-    fn hold(&mut self, key: i32) -> Answer {
-        self.held = self.find(key);
-        self.handles = self.first_handles();
-        Answer::Done
-    }
-
-    // The handles of the numbers from 1 to 7.
-    fn first_handles(&self) -> [u32; 7] {
-        let mut handles = [EMPTY_REF; 7];
-        for (key, handle) in (1..).zip(&mut handles) {
-            *handle = self.find(key);
-        }
-        handles
-    }
-
-    // Writes at the handle that was kept.
-    fn write(&mut self, key: Option<i32>, value: Option<i32>) -> Answer {
-        if !self.set.has_index(self.held) {
-            return Answer::NoCall;
-        }
-        let item = self.set.value_by_index_mut(self.held);
-        item.key = key.unwrap_or(item.key);
-        item.value = value.unwrap_or(item.value);
-        Answer::Done
-    }
-
-    // Whether walks by handles and by the iterator meet the same items, so many.
-    fn walks(&self, count: usize) -> bool {
-        let walk = self.set.iter();
-        let is_sized = walk.len() == count && walk.size_hint() == (count, Some(count));
-        let mut met = 0usize;
-        let mut here = self.set.first_index();
-        for item in walk {
-            if !self.set.has_index(here) || self.set.value_by_index(here) != item {
-                return false;
-            }
-            here = self.set.index_after(here);
-            met = met.saturating_add(1);
-        }
-        is_sized && met == count && here == EMPTY_REF
-    }
+// Inserts the keys 4, 1 and 8, and the first again.
+fn inserts<C: SetCollection<i32, Item>>(set: &mut C) -> Option<bool> {
+    put(set, item(4))?.ok()?;
+    let is_new = put_new(set, item(1))?.ok()?.is_none() && put_new(set, item(8))?.ok()?.is_none();
+    let given = put_new(set, Item { key: 4, value: 9 })?.ok()?;
+    Some(is_new && given == Some(Item { key: 4, value: 9 }) && set.len() == 3)
 }
 
-impl<C: SetKind> Store for Sets<C> {
-    type Memory = C::Memory;
-
-    type Reply = SetReply<i32, Item>;
-
-    fn make(memory: C::Memory, capacity: usize) -> Result<Self, Refusal> {
-        Ok(Sets {
-            set: C::make(memory, capacity)?,
-            held: EMPTY_REF,
-            handles: [EMPTY_REF; 7],
-            asked: Cell::new(0),
-        })
+// Whether what is around the handle of the second is so, and that is written and deleted.
+fn goes_around<C: SetCollection<i32, Item>>(set: &mut C) -> bool {
+    let handle = find(set, 5, &Cell::new(0));
+    if !set.has_index(handle) {
+        return false;
     }
-
-    fn room(&self) -> (usize, usize) {
-        (self.set.len(), self.set.room())
+    let before = value(set, set.index_before(handle));
+    let after = value(set, set.index_after(handle));
+    let first = value(set, set.first_index());
+    set.value_by_index_mut(handle).value = 40;
+    let written = value(set, handle);
+    let walked = set.iter().len();
+    if !set.has_index(handle) {
+        return false;
     }
+    set.delete_by_index(handle);
+    (before, after, first, written) == (1, 8, 1, 40) && walked == 3 && set.len() == 2
+}
 
-    fn call(&mut self, call: Call) -> Answer {
-        match call {
-            Call::Insert(key, _, value, _) => self.insert(Item { key, value }),
-            Call::InsertNew(key, _, value, _) => self.insert_new(Item { key, value }),
-            Call::AtMost(_, key) => self.value(self.find(key)),
-            Call::Above(_, key) => self.value(self.above(key)),
-            Call::Contains(_, key) => self.contains(key),
-            Call::First => self.value(self.set.first_index()),
-            Call::Before(key) => self.value(self.before(key)),
-            Call::Delete(key) => self.delete_key(key),
-            Call::Hold(key) => self.hold(key),
-            Call::AreHeld => whether(self.first_handles() == self.handles),
-            Call::WriteValue(value) => self.write(None, Some(value)),
-            Call::WriteKey(key) => self.write(Some(key), None),
-            Call::IsOrdered => whether(self.set.is_ordered()),
-            Call::Walk(count) => whether(self.walks(count)),
-            Call::AskedUpTo(most) => whether(self.asked.get() <= most),
-            _ => Answer::NoCall,
-        }
-    }
-
-    fn run(
-        &mut self,
-        steps: &[Step],
-        out: &mut Vec<SetReply<i32, Item>, C::Memory>,
-        alloc: Global,
-    ) -> Option<Result<(), Refusal>> {
-        if !self.set.is_ordered() {
-            return None;
-        }
-        match run_sets(&mut self.set, commands(steps, alloc)?, out) {
-            Ok(()) => Some(Ok(())),
-            Err(refused) => {
-                let is_whole = refused.value == commands(steps, alloc)?;
-                is_whole.then_some(Err(refused.cause))
-            }
-        }
-    }
-
-    fn told(reply: &SetReply<i32, Item>) -> Answer {
-        match reply {
-            SetReply::Inserted => Answer::Joined,
-            SetReply::Present(item) if item.key == item.value => Answer::Present,
-            SetReply::Refused(item, cause) if item.key == item.value => Answer::Refused(*cause),
-            SetReply::Present(_) | SetReply::Refused(_, _) => Answer::NoCall,
-            SetReply::Deleted => Answer::Done,
-            SetReply::Absent => Answer::NoCall,
-            SetReply::Key(key) => Answer::Value(*key),
-            SetReply::None => Answer::Value(-1),
+// Deletes the first again and again.
+fn delete_all<C: SetCollection<i32, Item>>(set: &mut C) {
+    for _ in 0..set.len() {
+        let first = set.first_index();
+        if set.has_index(first) {
+            set.delete_by_index(first);
         }
     }
 }
 
-// The calls of the steps as commands. Keys are answered, and so a value is to be its key.
-fn commands(steps: &[Step], alloc: Global) -> Option<Vec<Command>> {
-    let mut commands = Vec::new(alloc);
-    for (call, _) in steps {
-        let command = match *call {
-            Call::Insert(key, _, value, _) => SetCommand::Insert(Item { key, value }),
-            Call::AtMost(_, key) => SetCommand::Find(key),
-            Call::Before(key) => SetCommand::Before(key),
-            Call::Delete(key) => SetCommand::Delete(key),
-            _ => return None,
-        };
-        commands.push(command).ok()?;
+/// Numbers as a set of items, each its own value.
+pub struct AsSet;
+
+impl<C: SetCollection<i32, Item>> Calls<C> for AsSet {
+    fn insert(set: &mut C, number: i32, tells: bool) -> Result<(), Refusal> {
+        if !tells {
+            return put(set, item(number)).unwrap_or(Ok(()));
+        }
+        match put_new(set, item(number)) {
+            Some(Err(cause)) => Err(cause),
+            _ => Ok(()),
+        }
     }
-    Some(commands)
+
+    fn asked(set: &mut C, number: i32) -> usize {
+        let asked = Cell::new(0);
+        find(set, number, &asked);
+        asked.get()
+    }
+
+    fn serves(set: &mut C) -> bool {
+        let is_served = inserts(set) == Some(true) && goes_around(set);
+        delete_all(set);
+        is_served && set.len() == 0
+    }
 }

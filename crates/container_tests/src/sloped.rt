@@ -3,7 +3,7 @@
 use i_tree::ExpiredVal;
 
 /// A straight segment, by its height at time 0 and how much that grows each time, up to the time where it ends.
-#[derive(Clone, Copy, Debug, PartialEq, Eq)]
+#[derive(Clone, Copy, PartialEq, Eq)]
 pub struct Sloped {
     pub at: i64,
     pub slope: i64,

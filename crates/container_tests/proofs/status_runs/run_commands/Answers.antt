@@ -2,7 +2,7 @@ use Rattle.std.specs.Prelude.{⊤}
 use Rattle.std.specs.Ordering.{int_cmp}
 use Rattle.runs.proofs.RunLemmas.StatusSteps.{CanProbeAll-always}
 use Rattle.container_tests.specs.declared.sloped.Sloped.{Sloped}
-use Rattle.container_tests.proofs.statuses.run_commands.Goals as goal
+use Rattle.container_tests.proofs.status_runs.run_commands.Goals as goal
 
 -- the probe may always be called
 pub run_status-requires : goal.run_status-requires
