@@ -1,21 +1,19 @@
 //! Which faults a trial of refused memory tells.
 
-use std::alloc::Global;
+use std::alloc::Allocator;
 use test_kit::Refusing;
 use test_kit::in_turn::{Fault, Trial, refuse_in_turn};
 
-type Memory<'a> = &'a Refusing<Global>;
-
 // Two vectors, and whether an item went to both.
 #[derive(Drop)]
-struct Pair<'a> {
-    first: Vec<u8, Memory<'a>>,
-    second: Vec<u8, Memory<'a>>,
+struct Pair<A: Allocator + Copy> {
+    first: Vec<u8, A>,
+    second: Vec<u8, A>,
     is_pushed: bool,
 }
 
 // How an item goes to both vectors.
-#[derive(Clone, Copy, PartialEq, Eq)]
+#[derive(Clone, Copy)]
 enum Way {
     // Room for both is taken first.
     Whole,
@@ -28,22 +26,15 @@ enum Way {
 }
 
 #[derive(Drop)]
-struct Pushing<'a> {
-    memory: Memory<'a>,
+struct Pushing<A: Allocator + Copy> {
+    memory: A,
     way: Way,
 }
 
-fn push_whole(pair: &mut Pair) -> bool {
-    if pair.first.reserve(1).is_err() || pair.second.reserve(1).is_err() {
-        return false;
-    }
-    pair.first.push(7).is_ok() && pair.second.push(7).is_ok()
-}
+impl<A: Allocator + Copy> Trial for Pushing<A> {
+    type State = Pair<A>;
 
-impl<'a> Trial for Pushing<'a> {
-    type State = Pair<'a>;
-
-    fn begin(&self) -> Option<Pair<'a>> {
+    fn begin(&self) -> Option<Pair<A>> {
         Some(Pair {
             first: Vec::new(self.memory),
             second: Vec::new(self.memory),
@@ -51,27 +42,25 @@ impl<'a> Trial for Pushing<'a> {
         })
     }
 
-    fn call(&self, pair: &mut Pair<'a>) {
-        pair.is_pushed = match self.way {
-            Way::Whole => push_whole(pair),
-            Way::Halved => pair.first.push(7).is_ok() && pair.second.push(7).is_ok(),
-            Way::Never => {
-                push_whole(pair);
-                false
+    fn call(&self, pair: &mut Pair<A>) {
+        let is_roomy = match self.way {
+            Way::Whole | Way::Never => {
+                pair.first.reserve(1).is_ok() && pair.second.reserve(1).is_ok()
             }
+            Way::Halved => true,
             Way::WithoutGrowth => false,
         };
+        let is_pushed = is_roomy && pair.first.push(7).is_ok() && pair.second.push(7).is_ok();
+        pair.is_pushed = is_pushed && !matches!(self.way, Way::Never);
     }
 
-    fn is_refused(&self, pair: &mut Pair<'a>, _nth: u64) -> bool {
+    fn is_refused(&self, pair: &mut Pair<A>, _nth: u64) -> bool {
         !pair.is_pushed && pair.first.is_empty() && pair.second.is_empty()
     }
 
-    fn is_done(&self, pair: &mut Pair<'a>) -> bool {
-        if self.way == Way::WithoutGrowth {
-            return true;
-        }
-        pair.is_pushed && pair.first.len() == 1 && pair.second.len() == 1
+    fn is_done(&self, pair: &mut Pair<A>) -> bool {
+        let is_in_both = pair.first.len() == 1 && pair.second.len() == 1;
+        matches!(self.way, Way::WithoutGrowth) || (pair.is_pushed && is_in_both)
     }
 }
 

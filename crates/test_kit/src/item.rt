@@ -18,14 +18,6 @@ impl KeyValue<i32> for Item {
     }
 }
 
-/// The item with this key, whose value tells it from others.
-pub fn number(key: i32) -> Item {
-    Item {
-        key,
-        value: key.saturating_add(100),
-    }
-}
-
 /// A value under a key, that counts when it is dropped.
 pub struct Dropping<'a> {
     pub key: i32,

@@ -1,5 +1,5 @@
 //! For tests alone: an allocator that counts the requests for memory made of it and their bytes, and refuses some of them;
-//! and keys, values, collections and random numbers that several crates of tests share. Its own tests stand in
+//! and keys, values and collections that several crates of tests share. Its own tests stand in
 //! `core_tests`.
 #![tactic(auto)]
 
@@ -10,7 +10,6 @@ pub mod counted_key;
 pub mod growth;
 pub mod in_turn;
 pub mod item;
-pub mod random;
 pub mod short_number;
 pub mod until;
 pub mod watched;
