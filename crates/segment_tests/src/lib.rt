@@ -1,4 +1,5 @@
-//! For tests alone: trees of segments, and runs of commands over them. Worked examples, hostile ones, and refused memory.
+//! For tests alone: trees of segments, and their memory. What their clauses say isn't tried again: a query, a walk and a run
+//! once each. Worked runs, runs by chance and runs with memory refused are over the program (`process_tests`).
 #![tactic(auto)]
 
 #[cfg(test)]
@@ -9,7 +10,5 @@ mod layouts;
 mod memory;
 #[cfg(test)]
 mod refused;
-#[cfg(test)]
-mod rows;
 #[cfg(test)]
 mod walks;

@@ -1,79 +1,43 @@
-//! Walks that are broken off, and how many copies a walk and a collection read.
+//! Walks that are broken off, and how many copies a walk reads.
 
-use crate::calls::{Tree, finds, insert, tree_over};
+use crate::calls::{count_walked, filled, insert, tree_over};
 use i_tree::seg::exp::{SegExpCollection, SegRange};
 use i_tree::seg::tree::SegExpTree;
-use std::alloc::Global;
+use std::alloc::{Allocator, Global};
 use test_kit::counted_key::{CountedValue, Tally};
-use test_kit::until::{Until, number};
 
-// Two values over 0 to 128 that overlap 15 to 90.
-fn two_values(alloc: Global) -> Option<Tree<i32, Global>> {
-    let mut tree = tree_over(alloc, 0, 128)?;
-    insert(&mut tree, 10, 100, number(1))?.ok()?;
-    insert(&mut tree, 20, 80, number(2))?.ok()?;
-    Some(tree)
-}
-
-// Whether a walk of one step yields one of the two, and a later one both.
-fn walks_again(mut tree: Tree<i32, Global>, alloc: Global) -> bool {
-    let range = SegRange { min: 15, max: 90 };
+// Whether a walk of one step yields one of two values, and a later one both.
+fn walks_again<A: Allocator + Copy>(memory: A) -> Option<bool> {
+    let mut tree = filled(memory, 2)?;
+    let range = SegRange { min: 1, max: 9 };
     if !tree.accepts(range) || !tree.is_in_time(0) {
-        return false;
+        return None;
     }
     let mut walk = tree.iter_by_range(range, 0);
     let first = walk.next();
     drop(walk);
-    let is_one = matches!(first, Some(Until { number: 1 | 2, .. }));
-    is_one && finds(&mut tree, alloc, 15, 90, 0, &[1, 2])
+    Some(first.is_some() && count_walked(&mut tree, 1, 9, 0) == Some(2))
 }
 
 #[test]
 fn a_walk_may_be_dropped_after_a_step(rt: HostRuntime) {
-    let tree = two_values(rt.alloc());
-    assert!(rt; tree.is_some_and(|tree| walks_again(tree, rt.alloc())));
+    assert!(rt; walks_again(rt.alloc()) == Some(true));
 }
 
-type Counting<'a> = SegExpTree<i32, i32, CountedValue<'a>, Global>;
-
-// One value at 1 to 30 and ten at 5, over 0 to 31, that count how often an expiration is asked for.
-fn counting_tree(alloc: Global, tally: &Tally) -> Option<Counting<'_>> {
-    let mut tree: Counting = SegExpTree::new(alloc, SegRange { min: 0, max: 31 }).ok()??;
-    for number in 0..11 {
-        let (min, max) = if number == 0 { (1, 30) } else { (5, 5) };
-        let range = SegRange { min, max };
-        if !tree.accepts(range) {
-            return None;
-        }
-        tree.insert_by_range(range, CountedValue { number, tally })
-            .ok()?;
-    }
-    Some(tree)
-}
-
-// How many values a query at 0 collects, and how often an expiration is asked for meanwhile.
-fn collected(alloc: Global, tally: &Tally, range: SegRange<i32>) -> Option<(usize, u64)> {
-    let mut tree = counting_tree(alloc, tally)?;
-    if !tree.accepts(range) || !tree.is_in_time(0) {
-        return None;
-    }
-    let mut out = Vec::new(alloc);
-    tally.restart();
-    tree.collect_by_range(range, 0, &mut out).ok()?;
-    Some((out.len(), tally.expirations()))
-}
-
-// The same of a walk.
-fn walked(alloc: Global, tally: &Tally, range: SegRange<i32>) -> Option<(usize, u64)> {
-    let mut tree = counting_tree(alloc, tally)?;
-    if !tree.accepts(range) || !tree.is_in_time(0) {
-        return None;
+// How many values a walk finds among one at 1 to 30 and ten at 5, over 0 to 31, and how often an expiration is asked for.
+fn walked<A: Allocator + Copy>(
+    memory: A,
+    tally: &Tally,
+    min: i32,
+    max: i32,
+) -> Option<(usize, u64)> {
+    let mut tree: SegExpTree<i32, i32, CountedValue<'_>, A> = tree_over(memory, 0, 31)?;
+    insert(&mut tree, 1, 30, CountedValue { number: 0, tally })?.ok()?;
+    for number in 1..=10 {
+        insert(&mut tree, 5, 5, CountedValue { number, tally })?.ok()?;
     }
     tally.restart();
-    let mut count = 0usize;
-    for _ in tree.iter_by_range(range, 0) {
-        count = count.saturating_add(1);
-    }
+    let count = count_walked(&mut tree, min, max, 0)?;
     Some((count, tally.expirations()))
 }
 
@@ -91,13 +55,9 @@ static READ: [(i32, i32, usize, u64); 5] = [
 fn asks_each_copy_that_it_reads_once(rt: HostRuntime) {
     let tally = Tally::new();
     for (min, max, values, copies) in &READ {
-        let range = SegRange {
-            min: *min,
-            max: *max,
-        };
-        let wanted = Some((*values, *copies));
-        let is_so = collected(rt.alloc(), &tally, range) == wanted
-            && walked(rt.alloc(), &tally, range) == wanted;
-        assert!(rt; is_so, "{min} to {max}");
+        assert!(rt;
+            walked(rt.alloc(), &tally, *min, *max) == Some((*values, *copies)),
+            "{min} to {max}"
+        );
     }
 }
