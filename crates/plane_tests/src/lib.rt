@@ -1,8 +1,6 @@
-//! For tests alone: worked examples of the public calls of `plane`.
+//! For tests alone: worked examples of the public calls of `plane`. Sets by chance are over the program (`process_tests`).
 #![tactic(auto)]
 
-#[cfg(test)]
-mod chains;
 #[cfg(test)]
 mod edges;
 #[cfg(test)]

@@ -1,10 +1,9 @@
-//! Worked sets of edges and points, over each kind of status.
+//! Worked sets of edges and points, over a status that is a list and then a tree. What holds of one holds by the same clauses of
+//! each.
 
 use crate::edges::{Ends, edge, edges_of, turned};
 use i_tree::Refusal;
 use i_tree::status::exp::StatusCollection;
-use i_tree::status::list::StatusList;
-use i_tree::status::tree::StatusTree;
 use plane::edge::Edge;
 use plane::locate::{ActiveEdge, LocateFault, Point, locate};
 use plane::sweep_line::GrowingStatus;
@@ -184,36 +183,6 @@ fn locates_to<C: StatusCollection<ActiveEdge, i64, ()>>(
     Ok(is_wanted(wanted, outcome, &out) && is_empty(status))
 }
 
-fn locates_by_list(
-    alloc: Global,
-    edges: &[Edge],
-    points: &[Point],
-    wanted: Wanted,
-) -> Result<bool, Fail> {
-    locates_to(
-        alloc,
-        &mut StatusList::new(alloc, 0)?,
-        edges,
-        points,
-        wanted,
-    )
-}
-
-fn locates_by_tree(
-    alloc: Global,
-    edges: &[Edge],
-    points: &[Point],
-    wanted: Wanted,
-) -> Result<bool, Fail> {
-    locates_to(
-        alloc,
-        &mut StatusTree::new(alloc, 0)?,
-        edges,
-        points,
-        wanted,
-    )
-}
-
 fn locates_by_growing(
     alloc: Global,
     edges: &[Edge],
@@ -227,18 +196,6 @@ fn locates_by_growing(
         points,
         wanted,
     )
-}
-
-/// The same over a list, over a tree, and over what is one and then the other.
-pub fn locates_over_each(
-    alloc: Global,
-    edges: &[Edge],
-    points: &[Point],
-    wanted: Wanted,
-) -> Result<bool, Fail> {
-    let is_listed = locates_by_list(alloc, edges, points, wanted)?;
-    let is_grown = locates_by_growing(alloc, edges, points, wanted)?;
-    Ok(locates_by_tree(alloc, edges, points, wanted)? && is_listed && is_grown)
 }
 
 fn points_of(alloc: Global, places: &[(i32, i32)]) -> Result<Vec<Point>, Fail> {
@@ -267,9 +224,9 @@ fn locates_so(
 ) -> Result<bool, Fail> {
     let points = points_of(alloc, places)?;
     let others = edges_of(alloc, &all_turned(alloc, edges)?)?;
-    let is_turned_told = locates_over_each(alloc, &others, &points, wanted)?;
+    let is_turned_told = locates_by_growing(alloc, &others, &points, wanted)?;
     let edges = edges_of(alloc, edges)?;
-    Ok(locates_over_each(alloc, &edges, &points, wanted)? && is_turned_told)
+    Ok(locates_by_growing(alloc, &edges, &points, wanted)? && is_turned_told)
 }
 
 // A function that goes over a table is dear to prove if it names the table.

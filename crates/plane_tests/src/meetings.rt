@@ -1,4 +1,4 @@
-//! Sets of edges that meet: worked ones, and ones by chance over many strips.
+//! Worked sets of edges that meet.
 
 use crate::edges::{Ends, edges_of};
 use i_tree::Refusal;
@@ -7,7 +7,6 @@ use plane::meet::{first_meeting, meet, meetings, meetings_between};
 use plane::pairs::pairs_upto;
 use std::alloc::{Allocator, Global};
 use std::test::Fail;
-use test_kit::random::Random;
 
 const LEAST: i32 = i32::MIN;
 
@@ -141,88 +140,6 @@ fn sets_meet_as_worked_by_hand(rt: HostRuntime) -> Result<(), Fail> {
         assert!(rt; is_first(rt.alloc(), row)?, "{}", row.name);
         assert!(rt; is_met_upto(rt.alloc(), row)?, "{}", row.name);
         assert!(rt; is_met_between(rt.alloc(), row)?, "{}", row.name);
-    }
-    Ok(())
-}
-
-// Edges by chance: so many, up to so wide and so high, that begin at so many heights. Some of them are a crowd that
-// begins near one point, at the left and low.
-struct Chance {
-    name: &'static str,
-    crowd: u32,
-    count: u32,
-    width: u16,
-    height: u16,
-    heights: u16,
-    // More pairs than so many meet.
-    least: usize,
-}
-
-static CHANCES: [Chance; 2] = [
-    Chance {
-        // More are live at once than a list takes, and then few again.
-        name: "one strip with a crowd",
-        crowd: 60,
-        count: 120,
-        width: 900,
-        height: 900,
-        heights: 1000,
-        least: 100,
-    },
-    Chance {
-        // Only the lowest strip has more than a list takes.
-        name: "many strips with a crowd in one",
-        crowd: 90,
-        count: 700,
-        width: 900,
-        height: 4,
-        heights: 2000,
-        least: 20,
-    },
-];
-
-fn edges_by_chance(alloc: Global, chance: &Chance) -> Result<Vec<Edge>, Fail> {
-    let mut random = Random::new();
-    let mut edges = Vec::new(alloc);
-    for place in 0..chance.count {
-        let (far, high) = if place < chance.crowd {
-            (40, 40)
-        } else {
-            (4000, chance.heights)
-        };
-        let x0 = random.next(far);
-        let y0 = random.next(high);
-        let x1 = x0.saturating_add(random.next(chance.width));
-        let y1 = y0.saturating_sub(random.next(chance.height));
-        edges.push(Edge { x0, y0, x1, y1 })?;
-    }
-    Ok(edges)
-}
-
-// The pairs of places whose edges meet, pair by pair, in rising order.
-fn each_pair(alloc: Global, edges: &[Edge]) -> Result<Vec<(usize, usize)>, Fail> {
-    let mut pairs = Vec::new(alloc);
-    for (first, one) in edges.iter().enumerate() {
-        for (second, other) in edges.iter().enumerate().skip(first).skip(1) {
-            if meet(*one, *other) {
-                pairs.push((first, second))?;
-            }
-        }
-    }
-    Ok(pairs)
-}
-
-// Whether all pairs that meet are told, and no others, and they are enough.
-fn tells_all(alloc: Global, chance: &Chance) -> Result<bool, Fail> {
-    let edges = edges_by_chance(alloc, chance)?;
-    let pairs = sorted_meetings(alloc, &edges)?;
-    Ok(pairs.len() > chance.least && pairs == each_pair(alloc, &edges)?)
-}
-
-#[test]
-fn tells_all_pairs_by_chance(rt: HostRuntime) -> Result<(), Fail> {
-    for chance in &CHANCES {
-        assert!(rt; tells_all(rt.alloc(), chance)?, "{}", chance.name);
     }
     Ok(())
 }
