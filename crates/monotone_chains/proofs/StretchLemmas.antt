@@ -26,6 +26,7 @@ pub mod Entries
 pub mod Inner
 pub mod LongOnes
 pub mod Lowered
+pub mod Made
 pub mod Moved
 pub mod Noded
 pub mod NodedColumns

@@ -5,3 +5,4 @@ pub mod Bounding
 pub mod Sloped
 pub mod Corners
 pub mod TwoEnds
+pub mod Made

@@ -15,7 +15,7 @@ use Rattle.overlay.specs.Fill.Turned.{turned}
 use Rattle.overlay.specs.Fill.Rules.{is_result}
 use Rattle.noding.specs.Chains.{IsHot}
 use Rattle.noding.specs.Local.{IsNodeChain}
-use Rattle.plane.specs.Ends.{edge_between, end_of, start_of}
+use Rattle.plane.specs.Ends.{edge_between, end_of, reversed, start_of}
 use Rattle.noding.specs.Offsets.{offsets}
 use Rattle.noding.specs.Windings.{pieces, winding, count}
 
@@ -38,6 +38,10 @@ WindsAsBroken rule operation subject clip edges =
     (broken : List Edge) × (broken_clip : List Edge) × AreBroken subject clip broken broken_clip
     × ((point : RationalPoint) → winding edges point ≡ result_at rule operation broken broken_clip point)
 
+-- The edge is a piece of the chain of one of the edges, or such a piece from its end to its start.
+abbrev pub IsPiece : List Edge → Edge → Type 0
+IsPiece edges edge = (one : Edge) × (chain : List Point) × Contains edges one × IsNodeChain edges one chain × (Contains (pieces chain) edge ⊎ Contains (pieces chain) (reversed edge))
+
 -- Edges that bound the result: they meet only at common ends, no two have the same ends, and everywhere they wind as the result of
 -- what subject and clip are broken into. So they wind once around a point or not at all, and as the result of subject and clip if
 -- each edge of these isn't moved among all, or runs along an axis, or isn't near the point. Each begins at an end of an edge of
@@ -49,6 +53,8 @@ pub record BoundsResult (rule : FillRule) (operation : Operation) (subject clip 
   pub two_ends : All (λ edge. start_of edge ≢ end_of edge) edges
   pub everywhere : WindsAsBroken rule operation subject clip edges
   pub corners : All (λ edge. IsHot (subject ++ clip) edge.x0 edge.y0) edges
+  -- each that isn't vertical is a piece of an edge of subject or clip, one way or the other
+  pub made : All (λ edge. edge.x0 ≢ edge.x1 → IsPiece (subject ++ clip) edge) edges
 
 -- Rings whose edges do.
 pub record IsBoundary (rule : FillRule) (operation : Operation) (subject clip : List Edge) (rings : List (List Point)) : Type 0 where

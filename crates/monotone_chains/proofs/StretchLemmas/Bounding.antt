@@ -14,6 +14,7 @@ use Rattle.monotone_chains.specs.Stretches.{AreStretches, GoesAlong, chord}
 use Rattle.overlay.proofs.BoundaryLemmas.TwoEnds.{filled-two_ends}
 use Rattle.monotone_chains.proofs.StretchLemmas.ChainsOf.{broken-edges}
 use Rattle.monotone_chains.proofs.StretchLemmas.Corners.{widened-corners}
+use Rattle.monotone_chains.proofs.StretchLemmas.Made.{widened-made}
 use Rattle.monotone_chains.proofs.StretchLemmas.Pieces.{filled-placed}
 use Rattle.monotone_chains.proofs.StretchLemmas.Shifts.{IsShift, shift-of}
 use Rattle.monotone_chains.proofs.StretchLemmas.TwoEnds.{two_ends-widened}
@@ -52,4 +53,5 @@ module _ (subject clip : List Edge) (stretches clip_stretches : List (List Point
       two_ends = two_ends-widened all cut.each cut.clear edges ways go (filled-two_ends rule operation broken broken_clip edges filled);
       everywhere = widened-everywhere;
       corners = widened-corners subject clip stretches clip_stretches cut broken broken_clip are rule operation edges filled ways go;
+      made = widened-made subject clip stretches clip_stretches cut broken broken_clip are rule operation edges filled ways go;
     }

@@ -35,7 +35,7 @@ use Rattle.monotone_chains.proofs.StretchLemmas.Wound.{all-match, lying, single-
 -- ---- chains of two ends
 
 -- the two ends of an edge
-abbrev ends_of : Edge → List Point
+abbrev pub ends_of : Edge → List Point
 ends_of edge = start_of edge ∷ end_of edge ∷ []
 
 of_two : (a b c : Point) → Contains (a ∷ b ∷ []) c → (a ≡ c) ⊎ (b ≡ c)
@@ -56,7 +56,7 @@ module _ (all : List (List Point)) (each : All IsStretch all) (clear : AllPairs 
   is_stretch s among = All-contains IsStretch all s each among
 
   -- the chain of an edge of a long stretch
-  long-chain : (s : List Point) → Contains all s → IsLong s → (edge : Edge) → Contains (pieces s) edge → IsNodeChain edges edge (ends_of edge)
+  pub long-chain : (s : List Point) → Contains all s → IsLong s → (edge : Edge) → Contains (pieces s) edge → IsNodeChain edges edge (ends_of edge)
   long-chain s among long edge held = record {
     in_order = λ i j d before within. in_order i j d before within;
     once = λ i j d before within. once i j d before within;

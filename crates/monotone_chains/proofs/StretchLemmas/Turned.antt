@@ -25,17 +25,20 @@ pieces-more [] one next = refl
 pieces-more (first ∷ []) one next = refl
 pieces-more (first ∷ second ∷ points) one next = ap (λ (edges : List Edge). edge_between first second ∷ edges) (pieces-more (second ∷ points) one next)
 
+-- of two points or more the first piece comes last where they are turned, from its end to its start
+pub pieces-turned : (from to : Point) (others : List Point) → pieces (reverse (from ∷ to ∷ others)) ≡ pieces (reverse (to ∷ others)) ++ edge_between to from ∷ []
+pieces-turned from to others =
+    let one : reverse (from ∷ to ∷ others) ≡ reverse (to ∷ others) ++ from ∷ [] = reverse-append (from ∷ []) (to ∷ others) in
+    let two : reverse (to ∷ others) ≡ reverse others ++ to ∷ [] = reverse-append (to ∷ []) others in
+    ap pieces (one ∙ ap (λ (points : List Point). points ++ from ∷ []) two)
+    ∙ pieces-more (reverse others) to from
+    ∙ ap (λ (points : List Point). pieces points ++ edge_between to from ∷ []) (sym two)
+
 pub winding-reverse : (points : List Point) (point : RationalPoint) → winding (pieces (reverse points)) point ≡ (pos 0 -ℤ winding (pieces points) point)
 winding-reverse [] point = refl
 winding-reverse (from ∷ []) point = refl
 winding-reverse (from ∷ to ∷ others) point =
-    let one : reverse (from ∷ to ∷ others) ≡ reverse (to ∷ others) ++ from ∷ [] = reverse-append (from ∷ []) (to ∷ others) in
-    let two : reverse (to ∷ others) ≡ reverse others ++ to ∷ [] = reverse-append (to ∷ []) others in
-    let first : pieces (reverse (from ∷ to ∷ others)) ≡ pieces (reverse (to ∷ others)) ++ edge_between to from ∷ [] =
-    ap pieces (one ∙ ap (λ (points : List Point). points ++ from ∷ []) two)
-    ∙ pieces-more (reverse others) to from
-    ∙ ap (λ (points : List Point). pieces points ++ edge_between to from ∷ []) (sym two) in
-    let sum = ap (λ (edges : List Edge). winding edges point) first ∙ winding-append (pieces (reverse (to ∷ others))) (edge_between to from ∷ []) point in
+    let sum = ap (λ (edges : List Edge). winding edges point) (pieces-turned from to others) ∙ winding-append (pieces (reverse (to ∷ others))) (edge_between to from ∷ []) point in
     let rest = winding-reverse (to ∷ others) point in
     let turned = winding-reversed (edge_between from to) point in
     let whole = winding-append (edge_between from to ∷ []) (pieces (to ∷ others)) point in

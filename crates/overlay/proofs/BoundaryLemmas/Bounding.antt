@@ -14,7 +14,7 @@ use Rattle.overlay.specs.declared.fill.pieces.Piece.{Piece}
 use Rattle.overlay.specs.declared.fill.pieces.Operand.TheVariants.{Subject, Clip}
 use Rattle.overlay.specs.declared.fill.rules.FillRule.{FillRule}
 use Rattle.overlay.specs.declared.fill.rules.Operation.{Operation}
-use Rattle.overlay.specs.Boundary.{AreBroken, BoundsResult, IsBoundary, WindsAsBroken, result_at}
+use Rattle.overlay.specs.Boundary.{AreBroken, BoundsResult, IsBoundary, IsPiece, WindsAsBroken, result_at}
 use Rattle.overlay.specs.Contours.Rings.{AreContours, ring_edges}
 use Rattle.overlay.specs.Fill.Filled.{AreNoded, HaveSameEnds, IsFilled}
 use Rattle.overlay.specs.Fill.Rules.{is_result}
@@ -24,6 +24,7 @@ use Rattle.noding.specs.Local.{IsExactAt}
 use Rattle.noding.specs.Windings.{pieces, winding, IsClosed, count}
 use Rattle.overlay.proofs.BoundaryLemmas.Broken.{all-chains}
 use Rattle.overlay.proofs.BoundaryLemmas.Corners.{filled-corners}
+use Rattle.overlay.proofs.BoundaryLemmas.Made.{filled-made}
 use Rattle.overlay.proofs.BoundaryLemmas.TwoEnds.{filled-two_ends}
 use Rattle.noding.proofs.Callers.{node-noded}
 use Rattle.noding.proofs.SnapLemmas.Local.{noded-closed, noded-winding}
@@ -80,6 +81,7 @@ module _ (subject clip broken broken_clip : List Edge) (are : AreBroken subject 
     two_ends = filled-two_ends rule operation broken broken_clip edges filled;
     everywhere = (broken, broken_clip, are, filled.winds);
     corners = filled-corners subject clip broken broken_clip are rule operation edges filled;
+    made = filled-made subject clip broken broken_clip are rule operation edges filled;
   }
 
 -- ---- edges that bound a result
@@ -114,6 +116,7 @@ rings-bound rule operation subject clip edges rings bounds are = record {
     two_ends = All-permutation (λ edge. start_of edge ≢ end_of edge) edges (flat_map ring_edges rings) (IsPermutation-sym (flat_map ring_edges rings) edges are.all) bounds.two_ends;
     everywhere = winds-same rule operation subject clip edges (flat_map ring_edges rings) (λ point. winding-contours edges rings point are) bounds.everywhere;
     corners = All-weaker (Contains (flat_map ring_edges rings)) Begins (λ edge held. All-contains Begins edges edge bounds.corners (inside edge held)) (flat_map ring_edges rings) (All-contains_itself (flat_map ring_edges rings));
+    made = All-weaker (Contains (flat_map ring_edges rings)) Made (λ edge held. All-contains Made edges edge bounds.made (inside edge held)) (flat_map ring_edges rings) (All-contains_itself (flat_map ring_edges rings));
   };
 }
   where
@@ -122,3 +125,6 @@ rings-bound rule operation subject clip edges rings bounds are = record {
 
     Begins : Edge → Type 0
     Begins edge = IsHot (subject ++ clip) edge.x0 edge.y0
+
+    Made : Edge → Type 0
+    Made edge = edge.x0 ≢ edge.x1 → IsPiece (subject ++ clip) edge
