@@ -73,7 +73,7 @@ share-y rx ry vx vy none =
     ∙ without_plus (dot rx ry vx vy) ry (cross rx ry vx vy) rx none
 
 -- a point along the way to another one, and no further than that, is of the edge to it
-lies-before : (at far near : Point) → at ≢ far → cross (far.x -ℤ at.x) (far.y -ℤ at.y) (near.x -ℤ at.x) (near.y -ℤ at.y) ≡ pos 0
+pub lies-before : (at far near : Point) → at ≢ far → cross (far.x -ℤ at.x) (far.y -ℤ at.y) (near.x -ℤ at.x) (near.y -ℤ at.y) ≡ pos 0
     → pos 0 ≤ℤ dot (far.x -ℤ at.x) (far.y -ℤ at.y) (near.x -ℤ at.x) (near.y -ℤ at.y)
     → dot (far.x -ℤ at.x) (far.y -ℤ at.y) (near.x -ℤ at.x) (near.y -ℤ at.y) ≤ℤ dot (far.x -ℤ at.x) (far.y -ℤ at.y) (far.x -ℤ at.x) (far.y -ℤ at.y)
     → Lies (edge_between at far) near.x near.y
