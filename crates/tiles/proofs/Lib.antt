@@ -1,7 +1,10 @@
 pub mod Beside
+pub mod Border
 pub mod Chains
 pub mod Closing
 pub mod Ends
 pub mod Far
 pub mod Gone
+pub mod InPlace
+pub mod Made
 pub mod Sides

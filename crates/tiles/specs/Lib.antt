@@ -1,4 +1,5 @@
--- Definitions of tiles: windows, and rings that are cropped to them.
+-- Definitions of tiles: windows, rings that are cropped to them, and overlays within them.
 pub mod Crop
 pub mod Pushing
+pub mod Tile
 pub mod Window

@@ -3,8 +3,13 @@
 
 mod cropping;
 mod fault;
+mod near;
+mod tile;
+mod tile_fault;
 mod window;
 
 pub use cropping::crop;
 pub use fault::CropFault;
+pub use tile::overlay_in;
+pub use tile_fault::TileFault;
 pub use window::Window;

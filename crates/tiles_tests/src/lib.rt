@@ -4,4 +4,8 @@
 #[cfg(test)]
 mod refused;
 #[cfg(test)]
+mod tiled;
+#[cfg(test)]
+mod tiled_refused;
+#[cfg(test)]
 mod worked;

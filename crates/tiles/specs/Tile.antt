@@ -1,0 +1,83 @@
+-- What an overlay within a window is.
+use Rattle.std.specs.Prelude.{◌≡◌, ◌⊎◌, ◌++◌, ◌∷◌, [], ◌≤◌, ⊤, ℕ, List, All, Contains, codes, length, pos}
+use Rattle.plane.specs.declared.edge.Edge.{Edge}
+use Rattle.plane.specs.declared.point.Point.{Point}
+use Rattle.plane.specs.Lines.{IsAlongAxis}
+use Rattle.plane.specs.Meet.Edges.{RationalPoint}
+use Rattle.noding.specs.Near.{CountsExactly, IsNear}
+use Rattle.noding.specs.Windings.{winding}
+use Rattle.overlay.specs.declared.fill.rules.FillRule.{FillRule}
+use Rattle.overlay.specs.declared.fill.rules.Operation.{Operation}
+use Rattle.overlay.specs.Boundary.{result_at}
+use Rattle.overlay.specs.Contours.Rings.{IsRing, ring_edges}
+use Rattle.overlay.specs.Overlay.{IsOverlay, polygon_edges}
+use Rattle.overlay.specs.Polygons.{HasSignedArea, IsPolygon, rings_of}
+use Rattle.tiles.specs.Window.{CanCropTo, InWindow, IsFault}
+use Rattle.tiles.specs.declared.fault.CropFault.{CropFault}
+use Rattle.tiles.specs.declared.fault.CropFault.TheVariants.{Empty as CropEmpty, Margin as CropMargin, OutOfMemory as CropOutOfMemory}
+use Rattle.tiles.specs.declared.tile_fault.TileFault.{TileFault}
+use Rattle.tiles.specs.declared.tile_fault.TileFault.TheVariants.{Lengths, Empty, Margin, OutOfMemory}
+use Rattle.tiles.specs.declared.window.Window.{Window}
+
+-- The border of a window, counterclockwise.
+abbrev pub border : Window → List Point
+border window =
+    record { x = window.left; y = window.low } ∷ record { x = window.right; y = window.low }
+    ∷ record { x = window.right; y = window.high } ∷ record { x = window.left; y = window.high } ∷ []
+
+-- The border the other way round.
+abbrev pub turned_border : Window → List Point
+turned_border window =
+    record { x = window.left; y = window.low } ∷ record { x = window.left; y = window.high }
+    ∷ record { x = window.right; y = window.high } ∷ record { x = window.right; y = window.low } ∷ []
+
+-- Polygons within the window, around the points of the result that lie in it. Their rings visit no point twice, and have three
+-- points at least; outer ones run counterclockwise, with an area above 0, and holes clockwise, with one below 0.
+pub record IsTile (window : Window) (rule : FillRule) (operation : Operation) (subject clip : List Edge) (polygons : List (List (List Point))) : Type 0 where
+  pub each : All IsRing (rings_of polygons)
+  pub three_points : All (λ ring. 3 ≤ length ring) (rings_of polygons)
+  pub directed : All IsPolygon polygons
+  pub areas : All HasSignedArea (rings_of polygons)
+  pub once : (point : RationalPoint) → (winding (polygon_edges polygons) point ≡ pos 0) ⊎ (winding (polygon_edges polygons) point ≡ pos 1)
+  -- around no point outside of the window
+  pub outside : (point : RationalPoint) → ¬ (InWindow window point) → winding (polygon_edges polygons) point ≡ pos 0
+  -- in the window as the result, if each edge given runs along an axis or isn't near the point
+  pub exact : (point : RationalPoint) → InWindow window point → All (λ edge. CountsExactly edge point) (subject ++ clip) → winding (polygon_edges polygons) point ≡ result_at rule operation subject clip point
+
+-- Why a ring wasn't cropped, as a reason why there is no tile.
+abbrev pub tile_fault : CropFault → TileFault
+tile_fault CropEmpty = Empty
+tile_fault CropMargin = Margin
+tile_fault CropOutOfMemory = OutOfMemory
+
+-- Why there is no tile of the window, where the ends of the rings are right: as `IsFault` tells it.
+abbrev pub IsTileFault : Window → TileFault → Type 0
+IsTileFault window Lengths = ⊤
+IsTileFault window Empty = IsFault window CropEmpty
+IsTileFault window Margin = IsFault window CropMargin
+IsTileFault window OutOfMemory = CanCropTo window
+
+-- what a fault prints
+abbrev pub fault_text : TileFault → List ℕ
+fault_text Lengths = codes "a ring stops before it begins, or behind the points"
+fault_text Empty = codes "no point lies in the window"
+fault_text Margin = codes "a side of the window is less than 2 away from what 32 bits hold"
+fault_text OutOfMemory = codes "memory was refused"
+
+-- ---- for private contracts
+
+-- The edges do for the points of the window in the place of the others.
+pub record AreInPlace (window : Window) (edges instead : List Edge) : Type 0 where
+  -- they wind around each of them as the others do
+  pub winds : (point : RationalPoint) → InWindow window point → winding instead point ≡ winding edges point
+  -- and each that is near such a point is one of the others, or runs along an axis
+  pub near : (edge : Edge) (point : RationalPoint) → Contains instead edge → InWindow window point → IsNear edge point → Contains edges edge ⊎ IsAlongAxis edge
+
+-- An overlay of edges that do in the place of subject and clip, with the border of the window among them.
+pub record IsBordered (window : Window) (rule : FillRule) (operation : Operation) (subject clip : List Edge) (polygons : List (List (List Point))) : Type 0 where
+  pub near : List Edge
+  pub near_clip : List Edge
+  pub is : IsOverlay rule operation near near_clip polygons
+  pub in_place : AreInPlace window subject near
+  pub clip_in_place : AreInPlace window clip near_clip
+  pub bordered : (edge : Edge) → Contains (ring_edges (border window)) edge → Contains (near ++ near_clip) edge
