@@ -28,7 +28,7 @@ use std::alloc::Allocator;
 /// given runs along an axis, or isn't within half a unit, on both axes, of the point. Around no point outside of the window they
 /// wind. So the tiles of windows side by side cover no point twice.
 ///
-/// Rings are cropped first, so that what is far from the window costs next to nothing.
+/// Rings are cropped first (`crop`).
 ///
 /// Each ring has three points or more. The first ring of a polygon is its outer one, and runs counterclockwise; the others are its
 /// holes, and run clockwise.
