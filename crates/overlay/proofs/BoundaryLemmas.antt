@@ -1,4 +1,5 @@
 -- Lemmas on the boundary of a result.
+pub mod Apart
 pub mod Broken
 pub mod Pieces
 pub mod Bounding

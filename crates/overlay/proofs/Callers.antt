@@ -23,6 +23,19 @@ pub use Rattle.overlay.proofs.AreaLemmas.Rings.{boundary-signed}
 -- Of the polygons of an overlay and edges along an axis that were among those given, no two cross at a point with fractions: so an
 -- overlay of these polygons with such edges is exact at every point, by `exact-everywhere`.
 pub use Rattle.overlay.proofs.UncrossedLemmas.Crossing.{none-cross}
+-- The same of edges that bound a result, before these are polygons. Edges of which none is a point are all real ones.
+pub use Rattle.overlay.proofs.UncrossedLemmas.Crossing.{bounds-cross, real-all}
+-- Edges that are kept of pieces bound a result, and so do the rings of them: they wind once around a point or not at all, and as the
+-- result of all edges given where each of these counts exactly. Some edge isn't vertical. What bounds a result bounds something, and
+-- polygons of it are an overlay. They wind as the edges, and their points are ends of such as aren't vertical. A ring's edges are closed.
+pub use Rattle.overlay.proofs.BoundaryLemmas.Bounding.{filled-bounds, rings-bound, winds-once}
+pub use Rattle.overlay.proofs.BoundaryLemmas.Corners.{outlines-sloped}
+pub use Rattle.overlay.proofs.BoundaryLemmas.Sloped.{HasSloped-next, HasSloped-permuted}
+pub use Rattle.overlay.proofs.ContourLemmas.Callers.{IsClosed-ring, outlines-wind, winding-contours}
+pub use Rattle.overlay.proofs.GroupingLemmas.Grouped.{map-joined}
+pub use Rattle.overlay.proofs.OverlayLemmas.{bounds-some, exact-real, polygons-overlay}
+-- Around a point of an edge that isn't vertical they wind otherwise than around a point just below it.
+pub use Rattle.overlay.proofs.BoundaryLemmas.Apart.{WindApart, winds-apart}
 use Rattle.overlay.proofs.ContourLemmas.Counts.{rings-closed}
 use Rattle.overlay.proofs.RingLemmas.{closed-real}
 use Rattle.overlay.proofs.GroupingLemmas.Placed.{ends-right, rings-back}

@@ -11,7 +11,7 @@ pub mod call;
 pub mod contours;
 pub mod fault;
 pub mod fill;
-mod grouping;
+pub mod grouping;
 pub mod rings;
 
 pub use call::{overlay, overlay_by, overlay_over, simplify};

@@ -75,7 +75,7 @@ module _ (window : Window) (point : RationalPoint) (inside : IsInside window poi
   high-nothing one other first second = under-above (edge_between one other) point window.high first second inside.below
 
   pub low-steps : (one other : Point) → one.y ≤ℤ window.low → other.y ≤ℤ window.low → under (edge_between one other) point ≡ (step one.x point -ℤ step other.x point)
-  low-steps one other first second = under-below (edge_between one other) point window.low first second inside.above
+  low-steps one other first second = under-below (edge_between one other) point window.low first second (let above = inside.above in omega (arith, ints, above))
 
   -- an upright edge counts nothing
   pub upright-nothing : (one other : Point) → one.x ≡ other.x → under (edge_between one other) point ≡ pos 0

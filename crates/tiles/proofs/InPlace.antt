@@ -7,13 +7,14 @@ use Rattle.std.proofs.lemmas.List.Elements.{Contains-append_cases, Contains-appe
 use Rattle.plane.specs.declared.edge.Edge.{Edge}
 use Rattle.plane.specs.declared.point.Point.{Point}
 use Rattle.noding.specs.Offsets.{AreJoined}
+use Rattle.noding.specs.Windings.{IsClosed}
 use Rattle.noding.proofs.ChainLemmas.Runs.{offsets-more}
 use Rattle.noding.proofs.SnapLemmas.Windings.{winding-append}
+use Rattle.overlay.specs.Boundary.{BoundsResult}
 use Rattle.overlay.specs.Contours.Rings.{ring_edges}
-use Rattle.overlay.specs.Overlay.{IsOverlay}
 use Rattle.overlay.specs.declared.fill.rules.FillRule.{FillRule}
 use Rattle.overlay.specs.declared.fill.rules.Operation.{Operation}
-use Rattle.overlay.specs.Rings.{HasEnds, edges_of, rings_of}
+use Rattle.overlay.specs.Rings.{HasEnds, edges_of, real_edges, rings_of}
 use Rattle.overlay.specs.declared.rings.Rings.{Rings}
 use Rattle.overlay.proofs.Callers.{AreEnds-joined, rings-joined}
 use Rattle.overlay.proofs.EachRing.{edges_more}
@@ -86,18 +87,20 @@ module _ (window : Window) where
       ∙ flat_map-append ring_edges rings (border window ∷ turned_border window ∷ [])
       ∙ ap (λ (edges : List Edge). flat_map ring_edges rings ++ (ring_edges (border window) ++ edges)) (append-nil (ring_edges (turned_border window)))
 
-  -- an overlay of them has the border among its edges
-  pub IsBordered-made : (rule : FillRule) (operation : Operation) (subject clip : List Edge) (rings clip_rings : List (List Point)) (polygons : List (List (List Point))) → AreInPlace window subject (flat_map ring_edges rings)
-      → AreInPlace window clip (flat_map ring_edges clip_rings)
-      → IsOverlay rule operation (flat_map ring_edges ((rings ++ border window ∷ []) ++ turned_border window ∷ [])) (flat_map ring_edges clip_rings) polygons → IsBordered window rule operation subject clip polygons
-  IsBordered-made rule operation subject clip rings clip_rings polygons one other is =
+  -- what bounds their result has the border among the edges that it is made of
+  pub IsBordered-made : (rule : FillRule) (operation : Operation) (subject clip : List Edge) (rings clip_rings : List (List Point)) (edges : List Edge) → AreInPlace window subject (flat_map ring_edges rings)
+      → AreInPlace window clip (flat_map ring_edges clip_rings) → IsClosed edges
+      → BoundsResult rule operation (real_edges (flat_map ring_edges ((rings ++ border window ∷ []) ++ turned_border window ∷ []))) (real_edges (flat_map ring_edges clip_rings)) edges
+      → IsBordered window rule operation subject clip edges
+  IsBordered-made rule operation subject clip rings clip_rings edges one other closed bounds =
       let sides = ring_edges (border window) ++ ring_edges (turned_border window) in
       let near = flat_map ring_edges rings ++ sides in
       record {
         near = near;
         near_clip = flat_map ring_edges clip_rings;
-        is = subst (λ (edges : List Edge). IsOverlay rule operation edges (flat_map ring_edges clip_rings) polygons) (rings-bordered rings) is;
-        in_place = subst (λ (edges : List Edge). AreInPlace window edges near) (append-nil subject) (AreInPlace-more subject (flat_map ring_edges rings) [] sides one AreInPlace-borders);
+        bounds = subst (λ (given : List Edge). BoundsResult rule operation (real_edges given) (real_edges (flat_map ring_edges clip_rings)) edges) (rings-bordered rings) bounds;
+        closed = closed;
+        in_place = subst (λ (given : List Edge). AreInPlace window given near) (append-nil subject) (AreInPlace-more subject (flat_map ring_edges rings) [] sides one AreInPlace-borders);
         clip_in_place = other;
         bordered = λ edge at. Contains-append_left near (flat_map ring_edges clip_rings) edge
             (Contains-append_right (flat_map ring_edges rings) sides edge (Contains-append_left (ring_edges (border window)) (ring_edges (turned_border window)) edge at));

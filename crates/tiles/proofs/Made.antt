@@ -1,6 +1,7 @@
--- What an overlay is that is cut at the border of a window.
-use Rattle.std.proofs.Common.{Bool, true, false, ◌&&◌, ◌≡◌, ◌≢◌, ◌⊎◌, inl, inr, ⊎_elim, ℤ, pos, List, ◌++◌, refl, ap, ap₂, sym, ◌∙◌, arith}
-use Rattle.std.specs.List.{All, Contains}
+-- What is made of edges that bound a result and are cut at the border of a window.
+use Rattle.std.proofs.Common.{Bool, true, false, cond, ◌&&◌, ◌≡◌, ◌≢◌, ◌⊎◌, inl, inr, ⊎_elim, ℤ, pos, List, [], ◌∷◌, ◌++◌, filter, refl, ap, ap₂, subst, sym, ◌∙◌, arith}
+use Rattle.std.specs.List.{All, Contains, flat_map}
+use Rattle.std.proofs.lemmas.List.Concat.{flat_map-append}
 use Rattle.std.proofs.lemmas.Int.{by_lt_z, ints}
 use Rattle.std.proofs.lemmas.List.Elements.{All-contains, Contains-append_cases, Contains-append_left, Contains-append_right, Contains-get_or}
 use Rattle.plane.specs.declared.edge.Edge.{Edge}
@@ -17,11 +18,15 @@ use Rattle.overlay.specs.declared.fill.rules.Operation.TheVariants.{Intersection
 use Rattle.overlay.specs.Contours.Rings.{ring_edges}
 use Rattle.overlay.specs.Fill.Rules.{is_inside, is_result}
 use Rattle.overlay.specs.Overlay.{IsOverlay, polygon_edges}
-use Rattle.overlay.proofs.Callers.{exact-everywhere, none-cross}
-use Rattle.tiles.specs.Tile.{AreInPlace, IsBordered, IsTile, border}
+use Rattle.overlay.specs.Polygons.{rings_of}
+use Rattle.overlay.specs.Rings.{real_edges}
+use Rattle.overlay.proofs.Callers.{bounds-cross, exact-everywhere, exact-real, none-cross, winds-once}
+use Rattle.tiles.specs.Part.{comes_to_border}
+use Rattle.tiles.specs.Tile.{AreInPlace, HasSlopedEnds, IsBordered, IsTile, border}
 use Rattle.tiles.specs.Window.{HasPoints, InWindow}
 use Rattle.tiles.specs.declared.window.Window.{Window}
 use Rattle.tiles.proofs.Border.{border-along, border-ends, border-winds}
+use Rattle.tiles.proofs.Within.{polygons-within}
 
 -- ---- edges that count exactly
 
@@ -73,41 +78,77 @@ cut-once : (inside : ℤ) → (inside ≡ pos 0) ⊎ (inside ≡ pos 1) → coun
 cut-once inside (inl none) = ap (λ (z : ℤ). count (is_result NonZero Intersection z (pos 1))) none ∙ sym none
 cut-once inside (inr once) = ap (λ (z : ℤ). count (is_result NonZero Intersection z (pos 1))) once ∙ sym once
 
-module _ (window : Window) (rule : FillRule) (operation : Operation) (subject clip : List Edge) (made tile : List (List (List Point))) (some : HasPoints window)
-    (is : IsBordered window rule operation subject clip made) (is_cut : IsOverlay NonZero Intersection (polygon_edges made) (ring_edges (border window)) tile) where
+-- ---- edges of some polygons
+
+-- each edge of those polygons that pass a test is an edge of polygons
+pub edges-passing : (test : List (List Point) → Bool) (polygons : List (List (List Point))) (edge : Edge) → Contains (polygon_edges (filter test polygons)) edge → Contains (polygon_edges polygons) edge
+edges-passing test [] edge held = held
+edges-passing test (polygon ∷ polygons) edge held = by (edges-passing test polygons edge) (test polygon) held
+  where
+    all : polygon_edges (polygon ∷ polygons) ≡ flat_map ring_edges polygon ++ polygon_edges polygons
+    all = flat_map-append ring_edges polygon (rings_of polygons)
+
+    later : Contains (polygon_edges polygons) edge → Contains (polygon_edges (polygon ∷ polygons)) edge
+    later among = subst (λ (edges : List Edge). Contains edges edge) (sym all) (Contains-append_right (flat_map ring_edges polygon) (polygon_edges polygons) edge among)
+
+    by : (Contains (polygon_edges (filter test polygons)) edge → Contains (polygon_edges polygons) edge) → (t : Bool) → Contains (polygon_edges (cond t (polygon ∷ filter test polygons) (filter test polygons))) edge
+        → Contains (polygon_edges (polygon ∷ polygons)) edge
+    by rest false among = later (rest among)
+    by rest true among = ⊎_elim
+        (λ here. subst (λ (edges : List Edge). Contains edges edge) (sym all) (Contains-append_left (flat_map ring_edges polygon) (polygon_edges polygons) edge here))
+        (λ there. later (rest there))
+        (Contains-append_cases (flat_map ring_edges polygon) (polygon_edges (filter test polygons)) edge
+        (subst (λ (edges : List Edge). Contains edges edge) (flat_map-append ring_edges polygon (rings_of (filter test polygons))) among))
+
+-- ---- the tile
+
+module _ (window : Window) (rule : FillRule) (operation : Operation) (subject clip edges : List Edge) (tile : List (List (List Point))) (some : HasPoints window)
+    (is : IsBordered window rule operation subject clip edges) (is_cut : IsOverlay NonZero Intersection edges (ring_edges (border window)) tile)
+    (bounds : List Edge) (has : HasSlopedEnds bounds tile) where
   -- nothing that is cut crosses at a point with fractions
-  uncrossed : (one other : Edge) (x y : ℤ) → Contains (polygon_edges made ++ ring_edges (border window)) one → Contains (polygon_edges made ++ ring_edges (border window)) other → ¬ (CrossBeside one other x y)
-  uncrossed = none-cross rule operation is.near is.near_clip (ring_edges (border window)) made is.is (λ edge at. (is.bordered edge at, border-along window edge at, border-ends window edge some at))
+  uncrossed : (one other : Edge) (x y : ℤ) → Contains (edges ++ ring_edges (border window)) one → Contains (edges ++ ring_edges (border window)) other → ¬ (CrossBeside one other x y)
+  uncrossed = bounds-cross rule operation is.near is.near_clip edges (ring_edges (border window)) is.bounds (λ edge at. (is.bordered edge at, border-along window edge at, border-ends window edge some at))
 
   -- so the tile winds as what is cut
-  as-cut : (point : RationalPoint) → winding (polygon_edges tile) point ≡ count (is_result NonZero Intersection (winding (polygon_edges made) point) (winding (ring_edges (border window)) point))
-  as-cut = exact-everywhere NonZero Intersection (polygon_edges made) (ring_edges (border window)) tile is_cut uncrossed
+  as-cut : (point : RationalPoint) → winding (polygon_edges tile) point ≡ count (is_result NonZero Intersection (winding edges point) (winding (ring_edges (border window)) point))
+  as-cut = exact-everywhere NonZero Intersection edges (ring_edges (border window)) tile is_cut uncrossed
 
   -- around nothing outside of the window
   none-outside : (point : RationalPoint) → ¬ (InWindow window point) → winding (polygon_edges tile) point ≡ pos 0
   none-outside point out = ⊎_elim
       (λ inside. absurd (out inside.0))
-      (λ beside. as-cut point ∙ ap (λ (z : ℤ). count (is_result NonZero Intersection (winding (polygon_edges made) point) z)) beside.1 ∙ cut-nothing (winding (polygon_edges made) point))
+      (λ beside. as-cut point ∙ ap (λ (z : ℤ). count (is_result NonZero Intersection (winding edges point) z)) beside.1 ∙ cut-nothing (winding edges point))
       (border-winds window some point)
 
-  -- and within it as the polygons that are cut
-  same-within : (point : RationalPoint) → InWindow window point → winding (polygon_edges tile) point ≡ winding (polygon_edges made) point
+  -- and within it as the edges that are cut
+  same-within : (point : RationalPoint) → InWindow window point → winding (polygon_edges tile) point ≡ winding edges point
   same-within point within = ⊎_elim
-      (λ inside. as-cut point ∙ ap (λ (z : ℤ). count (is_result NonZero Intersection (winding (polygon_edges made) point) z)) inside.1 ∙ cut-once (winding (polygon_edges made) point) (is.is.once point))
+      (λ inside. as-cut point ∙ ap (λ (z : ℤ). count (is_result NonZero Intersection (winding edges point) z)) inside.1
+      ∙ cut-once (winding edges point) (winds-once rule operation (real_edges is.near) (real_edges is.near_clip) edges is.bounds.everywhere point))
       (λ beside. absurd (beside.0 within))
       (border-winds window some point)
+
+  -- no two of its own edges cross at such a point
+  none-crosses : (one other : Edge) (x y : ℤ) → Contains (polygon_edges tile) one → Contains (polygon_edges tile) other → ¬ (CrossBeside one other x y)
+  none-crosses one other x y first second =
+      none-cross NonZero Intersection edges (ring_edges (border window)) [] tile is_cut (λ edge (k, within, at). absurd (omega (arith, within)))
+      one other x y (Contains-append_left (polygon_edges tile) [] one first) (Contains-append_left (polygon_edges tile) [] other second)
 
   -- so it is a tile
   pub tile-made : IsTile window rule operation subject clip tile
   tile-made = record {
-    each = is_cut.each;
-    three_points = is_cut.three_points;
-    directed = is_cut.directed;
-    areas = is_cut.areas;
-    once = is_cut.once;
-    outside = none-outside;
+    part = record {
+      each = is_cut.each;
+      three_points = is_cut.three_points;
+      directed = is_cut.directed;
+      areas = is_cut.areas;
+      once = is_cut.once;
+      outside = none-outside;
+      uncrossed = λ one other x y first second. none-crosses one other x y (edges-passing (comes_to_border window) tile one first) (edges-passing (comes_to_border window) tile other second);
+    };
+    within = polygons-within window bounds tile has none-outside;
     exact = λ point within counts.
         same-within point within
-        ∙ is.is.exact point (all-exact window point within subject clip is.near is.near_clip is.in_place is.clip_in_place counts)
+        ∙ exact-real is.near is.near_clip rule operation edges is.bounds.everywhere point (all-exact window point within subject clip is.near is.near_clip is.in_place is.clip_in_place counts)
         ∙ ap₂ (λ (a b : ℤ). count (is_result rule operation a b)) (is.in_place.winds point within) (is.clip_in_place.winds point within);
   }

@@ -66,14 +66,13 @@ covering edge point is = by (int_le (pos point.n *ℤ edge.x0) point.x) (int_lt 
 exchanged : (n k : ℕ) (z : ℤ) → (pos n *ℤ (pos k *ℤ z)) ≡ (pos k *ℤ (pos n *ℤ z))
 exchanged n k z = identity (times (n_of n) (times (n_of k) (number z))) (times (n_of k) (times (n_of n) (number z))) (omega arith)
 
--- multiples of numbers of which one is less
-below_twice : (n k : ℕ) (m y z : ℤ) → 0 < k → y ≤ℤ (pos k *ℤ m) → (pos n *ℤ m) <ℤ z → (pos n *ℤ y) <ℤ (pos k *ℤ z)
-below_twice n k m y z some upto less =
-    let first = scaled n y (pos k *ℤ m) upto in
-    let second = scaled k ((pos n *ℤ m) +ℤ pos 1) z (omega (arith, ints, less)) in
+-- multiples of numbers of which one is less, or not more
+below_twice : (n k : ℕ) (m y z : ℤ) → y ≤ℤ (pos k *ℤ m) → (pos n *ℤ m) ≤ℤ z → (pos n *ℤ y) ≤ℤ (pos k *ℤ z)
+below_twice n k m y z some upto =
+    let first = scaled n y (pos k *ℤ m) some in
+    let second = scaled k (pos n *ℤ m) z upto in
     let one = exchanged n k m in
-    let more = identity (times (n_of k) (plus (times (n_of n) (number m)) (n_of 1))) (plus (times (n_of k) (times (n_of n) (number m))) (n_of k)) (omega arith) in
-    omega (arith, ints, first, second, one, more)
+    omega (arith, ints, first, second, one)
 
 above_twice : (n k : ℕ) (m y z : ℤ) → 0 < k → (pos k *ℤ m) ≤ℤ y → z <ℤ (pos n *ℤ m) → (pos k *ℤ z) <ℤ (pos n *ℤ y)
 above_twice n k m y z some upto less =
@@ -84,13 +83,13 @@ above_twice n k m y z some upto less =
     omega (arith, ints, first, second, one, more)
 
 module _ (edge : Edge) (point : RationalPoint) (m : ℤ) where
-  -- an edge with both ends below the point is low there
-  low-below : edge.y0 ≤ℤ m → edge.y1 ≤ℤ m → (pos point.n *ℤ m) <ℤ point.y → Covering edge point → is_low edge point ≡ true
+  -- an edge with both ends below the point, or as high, is low there
+  low-below : edge.y0 ≤ℤ m → edge.y1 ≤ℤ m → (pos point.n *ℤ m) ≤ℤ point.y → Covering edge point → is_low edge point ≡ true
   low-below first second below c =
       let h = height_of edge point c in
       let (a, at) = h.of in
       let upto : h.other.y ≤ℤ (pos h.other.n *ℤ m) = rw at.y (way_below h.other.n a m edge.y0 edge.y1 at.share first second) in
-      let less = below_twice point.n h.other.n m h.other.y point.y h.other.positive upto below in
+      let less = below_twice point.n h.other.n m h.other.y point.y upto below in
       by_lt_z (point.y *ℤ run edge) (height_at edge point)
       (λ high. let over = h.high high in absurd (omega (arith, ints, over, less)))
       (λ low. le-true (height_at edge point) (point.y *ℤ run edge) low)
@@ -106,7 +105,7 @@ module _ (edge : Edge) (point : RationalPoint) (m : ℤ) where
       (λ high. le-false (height_at edge point) (point.y *ℤ run edge) high)
       (λ low. let under_it = h.low low in absurd (omega (arith, ints, under_it, less)))
 
-  counted-below : edge.y0 ≤ℤ m → edge.y1 ≤ℤ m → (pos point.n *ℤ m) <ℤ point.y → counted edge point ≡ count (covers edge point)
+  counted-below : edge.y0 ≤ℤ m → edge.y1 ≤ℤ m → (pos point.n *ℤ m) ≤ℤ point.y → counted edge point ≡ count (covers edge point)
   counted-below first second below = by (covers edge point) refl
     where
       by : (t : Bool) → covers edge point ≡ t → count (t && is_low edge point) ≡ count t
@@ -122,8 +121,8 @@ module _ (edge : Edge) (point : RationalPoint) (m : ℤ) where
 
 -- ---- how often
 
--- an edge below the point by its steps
-pub under-below : (edge : Edge) (point : RationalPoint) (m : ℤ) → edge.y0 ≤ℤ m → edge.y1 ≤ℤ m → (pos point.n *ℤ m) <ℤ point.y → under edge point ≡ (step edge.x0 point -ℤ step edge.x1 point)
+-- an edge below the point, or upto its height, by its steps
+pub under-below : (edge : Edge) (point : RationalPoint) (m : ℤ) → edge.y0 ≤ℤ m → edge.y1 ≤ℤ m → (pos point.n *ℤ m) ≤ℤ point.y → under edge point ≡ (step edge.x0 point -ℤ step edge.x1 point)
 under-below edge point m first second below =
     let one = counted-below edge point m first second below in
     let other = counted-below (reversed edge) point m second first below in

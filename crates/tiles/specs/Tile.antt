@@ -1,18 +1,21 @@
 -- What an overlay within a window is.
-use Rattle.std.specs.Prelude.{◌≡◌, ◌⊎◌, ◌++◌, ◌∷◌, [], ◌≤◌, ⊤, ℕ, List, All, Contains, codes, length, pos}
+use Rattle.std.specs.Prelude.{◌≡◌, ◌⊎◌, ◌++◌, ◌∷◌, [], ⊤, ℕ, List, All, Contains, codes}
 use Rattle.plane.specs.declared.edge.Edge.{Edge}
 use Rattle.plane.specs.declared.point.Point.{Point}
 use Rattle.plane.specs.Lines.{IsAlongAxis}
 use Rattle.plane.specs.Meet.Edges.{RationalPoint}
 use Rattle.noding.specs.Near.{CountsExactly, IsNear}
-use Rattle.noding.specs.Windings.{winding}
+use Rattle.noding.specs.Windings.{IsClosed, winding}
 use Rattle.overlay.specs.declared.fill.rules.FillRule.{FillRule}
 use Rattle.overlay.specs.declared.fill.rules.Operation.{Operation}
-use Rattle.overlay.specs.Boundary.{result_at}
-use Rattle.overlay.specs.Contours.Rings.{IsRing, ring_edges}
-use Rattle.overlay.specs.Overlay.{IsOverlay, polygon_edges}
-use Rattle.overlay.specs.Polygons.{HasSignedArea, IsPolygon, rings_of}
-use Rattle.tiles.specs.Window.{CanCropTo, InWindow, IsFault}
+use Rattle.overlay.specs.Boundary.{BoundsResult, result_at}
+use Rattle.overlay.specs.Contours.Rings.{ring_edges}
+use Rattle.overlay.specs.Fill.Filled.{AreDistinct, AreNoded, IsEndOfSloped}
+use Rattle.overlay.specs.Overlay.{polygon_edges}
+use Rattle.overlay.specs.Polygons.{rings_of}
+use Rattle.overlay.specs.Rings.{real_edges}
+use Rattle.tiles.specs.Part.{IsPart}
+use Rattle.tiles.specs.Window.{CanCropTo, InWindow, IsFault, IsWithin}
 use Rattle.tiles.specs.declared.fault.CropFault.{CropFault}
 use Rattle.tiles.specs.declared.fault.CropFault.TheVariants.{Empty as CropEmpty, Margin as CropMargin, OutOfMemory as CropOutOfMemory}
 use Rattle.tiles.specs.declared.tile_fault.TileFault.{TileFault}
@@ -31,16 +34,11 @@ turned_border window =
     record { x = window.left; y = window.low } ∷ record { x = window.left; y = window.high }
     ∷ record { x = window.right; y = window.high } ∷ record { x = window.right; y = window.low } ∷ []
 
--- Polygons within the window, around the points of the result that lie in it. Their rings visit no point twice, and have three
--- points at least; outer ones run counterclockwise, with an area above 0, and holes clockwise, with one below 0.
+-- Polygons in the window, around the points of the result that lie in it.
 pub record IsTile (window : Window) (rule : FillRule) (operation : Operation) (subject clip : List Edge) (polygons : List (List (List Point))) : Type 0 where
-  pub each : All IsRing (rings_of polygons)
-  pub three_points : All (λ ring. 3 ≤ length ring) (rings_of polygons)
-  pub directed : All IsPolygon polygons
-  pub areas : All HasSignedArea (rings_of polygons)
-  pub once : (point : RationalPoint) → (winding (polygon_edges polygons) point ≡ pos 0) ⊎ (winding (polygon_edges polygons) point ≡ pos 1)
-  -- around no point outside of the window
-  pub outside : (point : RationalPoint) → ¬ (InWindow window point) → winding (polygon_edges polygons) point ≡ pos 0
+  pub part : IsPart window polygons
+  -- all points of the polygons lie in the window or on its sides
+  pub within : All (λ ring. All (IsWithin window) ring) (rings_of polygons)
   -- in the window as the result, if each edge given runs along an axis or isn't near the point
   pub exact : (point : RationalPoint) → InWindow window point → All (λ edge. CountsExactly edge point) (subject ++ clip) → winding (polygon_edges polygons) point ≡ result_at rule operation subject clip point
 
@@ -73,11 +71,20 @@ pub record AreInPlace (window : Window) (edges instead : List Edge) : Type 0 whe
   -- and each that is near such a point is one of the others, or runs along an axis
   pub near : (edge : Edge) (point : RationalPoint) → Contains instead edge → InWindow window point → IsNear edge point → Contains edges edge ⊎ IsAlongAxis edge
 
--- An overlay of edges that do in the place of subject and clip, with the border of the window among them.
-pub record IsBordered (window : Window) (rule : FillRule) (operation : Operation) (subject clip : List Edge) (polygons : List (List (List Point))) : Type 0 where
+-- Edges that bound the result of such as do in the place of subject and clip, with the border of the window among them.
+pub record IsBordered (window : Window) (rule : FillRule) (operation : Operation) (subject clip edges : List Edge) : Type 0 where
   pub near : List Edge
   pub near_clip : List Edge
-  pub is : IsOverlay rule operation near near_clip polygons
+  pub bounds : BoundsResult rule operation (real_edges near) (real_edges near_clip) edges
+  pub closed : IsClosed edges
   pub in_place : AreInPlace window subject near
   pub clip_in_place : AreInPlace window clip near_clip
   pub bordered : (edge : Edge) → Contains (ring_edges (border window)) edge → Contains (near ++ near_clip) edge
+
+-- Such edges meet only at common ends, and the polygons wind as they do. Each point of the polygons is an end of one of them that
+-- isn't vertical.
+pub record HasSlopedEnds (edges : List Edge) (polygons : List (List (List Point))) : Type 0 where
+  pub noded : AreNoded edges
+  pub distinct : AreDistinct edges
+  pub winds : (point : RationalPoint) → winding (polygon_edges polygons) point ≡ winding edges point
+  pub ends : All (λ ring. All (λ p. IsEndOfSloped edges p.x p.y) ring) (rings_of polygons)

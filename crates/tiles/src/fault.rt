@@ -3,6 +3,7 @@
 ghost use Rattle.std.specs.Prelude.{◌≡◌};
 ghost use Rattle.tiles.specs.declared.fault.CropFault.TheVariants.{OutOfMemory};
 
+use i_tree::Refusal;
 use std::alloc::{AllocError, AllocFailed};
 use std::error::Error;
 use std::fmt::{self, Display, Formatter};
@@ -30,6 +31,15 @@ impl<T: Drop> From<AllocFailed<T>> for CropFault {
     ghost from_gives = { λ _ fault. fault ≡ OutOfMemory };
 
     fn from(_refused: AllocFailed<T>) -> CropFault {
+        CropFault::OutOfMemory
+    }
+}
+
+/// A status that grows is refused nothing but memory.
+impl From<Refusal> for CropFault {
+    ghost from_gives = { λ _ fault. fault ≡ OutOfMemory };
+
+    fn from(_refused: Refusal) -> CropFault {
         CropFault::OutOfMemory
     }
 }

@@ -3,6 +3,9 @@
 
 mod cropping;
 mod fault;
+mod join_fault;
+mod joined;
+mod joining;
 mod near;
 mod tile;
 mod tile_fault;
@@ -10,6 +13,9 @@ mod window;
 
 pub use cropping::crop;
 pub use fault::CropFault;
+pub use join_fault::JoinFault;
+pub use joined::given::Tiles;
+pub use joining::join;
 pub use tile::overlay_in;
 pub use tile_fault::TileFault;
 pub use window::Window;

@@ -14,6 +14,7 @@ use crate::fault::CropFault;
 use crate::window::Window;
 use overlay::Rings;
 use overlay::rings::ring_at;
+use plane::edge::{Edge, edge_between};
 use plane::point::Point;
 use std::alloc::{AllocError, Allocator};
 
@@ -87,6 +88,39 @@ fn corner(x: i32, y: i32) -> Point
     ensures { result ≡ record { x = x; y = y } }
 {
     Point { x, y }
+}
+
+// Appends the edges of the window's border, counterclockwise.
+pub(crate) fn append_sides<A: Allocator>(
+    window: Window,
+    edges: &mut Vec<Edge, A>,
+) -> Result<(), AllocError>
+    ensures { OnOk result (edges.new.items ≡ edges.old.items ++ ring_edges (border window)) }
+{
+    append_edges_of_four(
+        corner(window.left, window.low),
+        corner(window.right, window.low),
+        corner(window.right, window.high),
+        corner(window.left, window.high),
+        edges,
+    )
+}
+
+// Appends the edges of a ring of four points.
+fn append_edges_of_four<A: Allocator>(
+    first: Point,
+    second: Point,
+    third: Point,
+    fourth: Point,
+    edges: &mut Vec<Edge, A>,
+) -> Result<(), AllocError>
+    ensures { OnOk result (edges.new.items ≡ edges.old.items ++ ring_edges (first ∷ second ∷ third ∷ fourth ∷ [])) }
+{
+    edges.push(edge_between(first, second))?;
+    edges.push(edge_between(second, third))?;
+    edges.push(edge_between(third, fourth))?;
+    edges.push(edge_between(fourth, first))?;
+    Ok(())
 }
 
 // What the rings become for the window, each cropped.

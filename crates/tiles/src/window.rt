@@ -13,6 +13,7 @@ const MARGIN: i32 = 2;
 
 /// A rectangle along the axes. It has the points on its left and its lower side, and not those on its right and its upper one: so
 /// of windows side by side one has each point.
+#[repr(C)]
 #[derive(Clone, Copy, Debug, PartialEq, Eq)]
 pub struct Window {
     pub left: i32,

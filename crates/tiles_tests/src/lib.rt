@@ -2,6 +2,10 @@
 #![tactic(auto)]
 
 #[cfg(test)]
+mod joined;
+#[cfg(test)]
+mod joined_refused;
+#[cfg(test)]
 mod refused;
 #[cfg(test)]
 mod tiled;

@@ -99,3 +99,12 @@ outlines-hold P (ring ∷ rings) each =
     All-cons (All P) (outline ring) (map outline rings)
     (All-bends P _ ring (ring_point ring 0) (ring_holds P ring (All-front (λ (edge : Edge). P (start_of edge)) (ring_edges ring) (flat_map ring_edges rings) each)))
     (outlines-hold P rings (All-behind (λ (edge : Edge). P (start_of edge)) (ring_edges ring) (flat_map ring_edges rings) each))
+
+-- The points of outlines of edges that are filled are ends of such as aren't vertical.
+pub outlines-sloped : (edges : List Edge) (rings : List (List Point)) → All (λ edge. edge.x1 ≡ edge.x0 → IsNextInColumn edges edge) edges → ((edge : Edge) → Contains (flat_map ring_edges rings) edge → Contains edges edge)
+    → All (λ ring. All (λ p. IsEndOfSloped edges p.x p.y) ring) (map outline rings)
+outlines-sloped edges rings vertical inside =
+    outlines-hold (λ p. IsEndOfSloped edges p.x p.y) rings
+    (All-weaker (Contains (flat_map ring_edges rings)) (λ edge. IsEndOfSloped edges edge.x0 edge.y0)
+    (λ edge held. end-sloped edges vertical edge edge.x0 edge.y0 (inside edge held) (inl (refl, refl)))
+    (flat_map ring_edges rings) (All-contains_itself (flat_map ring_edges rings)))

@@ -3,8 +3,8 @@ use Rattle.std.proofs.Common.{◌≡◌, ◌≢◌, inl, inr, ◌⊎◌, ◌++�
 use Rattle.std.specs.List.{All, Contains, flat_map}
 use Rattle.std.specs.Ordering.{int_eq}
 use Rattle.std.proofs.lemmas.Int.{by_lt_z, ints}
-use Rattle.std.proofs.lemmas.List.Elements.{All-contains, Contains-append_cases, Contains-append_left, Contains-append_right}
-use Rattle.i_tree.proofs.RootLemmas.Lists.{Contains-filter}
+use Rattle.std.proofs.lemmas.List.Elements.{All-contains, All-weaker, Contains-append_cases, Contains-append_left, Contains-append_right}
+use Rattle.i_tree.proofs.RootLemmas.Lists.{Contains-filter, filter_all}
 use Rattle.plane.specs.declared.edge.Edge.{Edge}
 use Rattle.plane.specs.declared.point.Point.{Point}
 use Rattle.plane.specs.Ends.{end_of, reversed, start_of}
@@ -22,7 +22,7 @@ use Rattle.noding.proofs.SnapLemmas.Local.{IsOf-finer, nodes-meet}
 use Rattle.noding.proofs.SnapLemmas.Noded.{IsPiece-along}
 use Rattle.noding.proofs.SnapLemmas.Reversed.{IsOf-reversed}
 use Rattle.noding.proofs.SnapLemmas.Rounding.{RoundsOn-whole, RoundsTo-unique}
-use Rattle.overlay.specs.Boundary.{IsPiece}
+use Rattle.overlay.specs.Boundary.{BoundsResult, IsPiece}
 use Rattle.overlay.specs.Contours.Outlines.{outline}
 use Rattle.overlay.specs.Contours.Rings.{has_two_ends, real_edges, ring_edges}
 use Rattle.overlay.specs.Fill.Filled.{AreNoded}
@@ -176,6 +176,10 @@ two-ends edge apart = by (int_eq edge.x0 edge.x1) (int_eq edge.y0 edge.y1) refl 
     by false t e f = ap (λ (s : Bool). not s || not (int_eq edge.y0 edge.y1)) e
     by true false e f = ap₂ (λ (s t : Bool). not s || not t) e f
 
+-- So edges of which none is a point are all real ones.
+pub real-all : (edges : List Edge) → All (λ edge. start_of edge ≢ end_of edge) edges → real_edges edges ≡ edges
+real-all edges proper = filter_all has_two_ends edges (All-weaker (λ (edge : Edge). start_of edge ≢ end_of edge) (λ (edge : Edge). has_two_ends edge ≡ true) two-ends edges proper)
+
 -- one among subject and clip is among their real edges
 among-real : (subject clip : List Edge) (edge : Edge) → start_of edge ≢ end_of edge → Contains (subject ++ clip) edge → Contains (real_edges subject ++ real_edges clip) edge
 among-real subject clip edge apart held = ⊎_elim
@@ -183,18 +187,28 @@ among-real subject clip edge apart held = ⊎_elim
     (λ second. Contains-append_right (real_edges subject) (real_edges clip) edge (Contains-filter has_two_ends clip edge (two-ends edge apart) second))
     (Contains-append_cases subject clip edge held)
 
+-- What edges that bound a result carry, and edges along an axis that were among those given: no two cross beside a whole point.
+bounds-beside : (rule : FillRule) (operation : Operation) (subject clip edges others : List Edge) → BoundsResult rule operation (real_edges subject) (real_edges clip) edges
+    → ((edge : Edge) → Contains others edge → Contains (subject ++ clip) edge × IsAlongAxis edge × (start_of edge ≢ end_of edge))
+    → (one other : Edge) (x y : ℤ) → AllCarried (edges ++ others) one → AllCarried (edges ++ others) other → ¬ (CrossBeside one other x y)
+bounds-beside rule operation subject clip edges others bounds runs =
+    let (broken, broken_clip, are, winds) = bounds.everywhere in
+    none-beside (real_edges subject ++ real_edges clip) edges others (are.chains ++ are.clip_chains) (all-chains (real_edges subject) (real_edges clip) broken broken_clip are) bounds.noded bounds.two_ends bounds.made
+    (λ edge held. let (among, axis, apart) = runs edge held in (among-real subject clip edge apart among, axis, apart))
+
+-- Of edges that bound a result and edges along an axis that were among those given, no two cross at a point with fractions.
+pub bounds-cross : (rule : FillRule) (operation : Operation) (subject clip edges others : List Edge) → BoundsResult rule operation (real_edges subject) (real_edges clip) edges
+    → ((edge : Edge) → Contains others edge → Contains (subject ++ clip) edge × IsAlongAxis edge × (start_of edge ≢ end_of edge))
+    → (one other : Edge) (x y : ℤ) → Contains (edges ++ others) one → Contains (edges ++ others) other → ¬ (CrossBeside one other x y)
+bounds-cross rule operation subject clip edges others bounds runs one other x y first second =
+    bounds-beside rule operation subject clip edges others bounds runs one other x y (carries-itself (edges ++ others) one first) (carries-itself (edges ++ others) other second)
+
 -- Of the polygons of an overlay and edges along an axis that were among those given, no two cross at a point with fractions.
 pub none-cross : (rule : FillRule) (operation : Operation) (subject clip others : List Edge) (polygons : List (List (List Point))) → IsOverlay rule operation subject clip polygons
     → ((edge : Edge) → Contains others edge → Contains (subject ++ clip) edge × IsAlongAxis edge × (start_of edge ≢ end_of edge))
     → (one other : Edge) (x y : ℤ) → Contains (polygon_edges polygons ++ others) one → Contains (polygon_edges polygons ++ others) other → ¬ (CrossBeside one other x y)
 none-cross rule operation subject clip others polygons is runs one other x y first second =
-    let bounds = is.bounds.bounds in
-    let (broken, broken_clip, are, winds) = bounds.everywhere in
-    let real = real_edges subject ++ real_edges clip in
-    let edges = flat_map ring_edges (rings_of is.whole) in
-    none-beside real edges others (are.chains ++ are.clip_chains) (all-chains (real_edges subject) (real_edges clip) broken broken_clip are) bounds.noded bounds.two_ends bounds.made
-    (λ edge held. let (among, axis, apart) = runs edge held in (among-real subject clip edge apart among, axis, apart))
-    one other x y (carried one first) (carried other second)
+    bounds-beside rule operation subject clip (flat_map ring_edges (rings_of is.whole)) others is.bounds.bounds runs one other x y (carried one first) (carried other second)
   where
     rings_are : rings_of polygons ≡ map outline (rings_of is.whole)
     rings_are = ap (λ (list : List (List (List Point))). rings_of list) is.outlined ∙ map-joined outline is.whole

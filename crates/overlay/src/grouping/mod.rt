@@ -30,7 +30,8 @@ mod order;
 mod sides;
 
 /// Appends polygons whose rings are those of the points, which stop at these ends, without the points at which they go straight
-/// on.
+/// on. `overlay` calls it for a program. One that has edges of its own calls it itself, behind `boundary`: so it makes polygons of
+/// edges that `bounding_edges` kept, and others beside these.
 ///
 /// No ring visits a point twice. Their edges meet only at common ends, and wind once around some points, and not at all around
 /// any other. Rings that run counterclockwise are outer ones, each of a polygon of its own. The others are holes: what is just
