@@ -28,6 +28,14 @@ int32_t proved_itree_overlay(const struct itree_point *subject, size_t subject_c
                              size_t subject_rings, const struct itree_point *clip, size_t clip_count,
                              const size_t *clip_ends, size_t clip_rings, int32_t rule, int32_t operation,
                              struct itree_polygons **polygons);
+int32_t proved_itree_overlay_in(const struct itree_window *window, const struct itree_point *subject,
+                                size_t subject_count, const size_t *subject_ends, size_t subject_rings,
+                                const struct itree_point *clip, size_t clip_count, const size_t *clip_ends,
+                                size_t clip_rings, int32_t rule, int32_t operation, struct itree_polygons **polygons);
+int32_t proved_itree_join(const struct itree_window *windows, size_t window_count, const size_t *tile_ends,
+                          size_t tile_count, const size_t *polygon_ends, size_t polygon_count, const size_t *ring_ends,
+                          size_t ring_count, const struct itree_point *points, size_t point_count,
+                          struct itree_polygons **polygons);
 size_t proved_itree_polygons_points(const struct itree_polygons *polygons, const struct itree_point **first);
 size_t proved_itree_polygons_ring_offsets(const struct itree_polygons *polygons, const size_t **first);
 size_t proved_itree_polygons_polygon_offsets(const struct itree_polygons *polygons, const size_t **first);
@@ -230,6 +238,38 @@ int32_t itree_overlay(const struct itree_point *subject, size_t subject_count, c
                                            slice(subject_ends, subject_rings), subject_rings, slice(clip, clip_count),
                                            clip_count, slice(clip_ends, clip_rings), clip_rings, rule, operation,
                                            polygons));
+}
+
+int32_t itree_overlay_in(const struct itree_window *window, const struct itree_point *subject, size_t subject_count,
+                         const size_t *subject_ends, size_t subject_rings, const struct itree_point *clip,
+                         size_t clip_count, const size_t *clip_ends, size_t clip_rings, int32_t rule, int32_t operation,
+                         struct itree_polygons **polygons) {
+    if (!can_hold(window, 1, OF(struct itree_window)) ||
+        !can_be_rings(subject, subject_count, subject_ends, subject_rings) ||
+        !can_be_rings(clip, clip_count, clip_ends, clip_rings) || !can_hold(polygons, 1, OF(struct itree_polygons *))) {
+        return ITREE_POINTER;
+    }
+    limits_begin();
+    return limits_end(proved_itree_overlay_in(window, slice(subject, subject_count), subject_count,
+                                              slice(subject_ends, subject_rings), subject_rings,
+                                              slice(clip, clip_count), clip_count, slice(clip_ends, clip_rings),
+                                              clip_rings, rule, operation, polygons));
+}
+
+int32_t itree_join(const struct itree_window *windows, size_t window_count, const size_t *tile_ends, size_t tile_count,
+                   const size_t *polygon_ends, size_t polygon_count, const size_t *ring_ends, size_t ring_count,
+                   const struct itree_point *points, size_t point_count, struct itree_polygons **polygons) {
+    if (!can_hold(windows, window_count, OF(struct itree_window)) || !can_hold(tile_ends, tile_count, OF(size_t)) ||
+        !can_hold(polygon_ends, polygon_count, OF(size_t)) ||
+        !can_be_rings(points, point_count, ring_ends, ring_count) ||
+        !can_hold(polygons, 1, OF(struct itree_polygons *))) {
+        return ITREE_POINTER;
+    }
+    limits_begin();
+    return limits_end(proved_itree_join(slice(windows, window_count), window_count, slice(tile_ends, tile_count),
+                                        tile_count, slice(polygon_ends, polygon_count), polygon_count,
+                                        slice(ring_ends, ring_count), ring_count, slice(points, point_count),
+                                        point_count, polygons));
 }
 
 size_t itree_polygons_points(const struct itree_polygons *polygons, const struct itree_point **first) {

@@ -40,7 +40,9 @@ enum itree_status {
     ITREE_CROSSING = 6, /* Two edges cross. */
     ITREE_MEETING = 7,  /* Two edges meet. */
     ITREE_FAULTY = 8,   /* A coordinate or a geometry is faulty. */
-    ITREE_STOPPED = 9   /* The flag of itree_stop_flag stopped the call. */
+    ITREE_STOPPED = 9,  /* The flag of itree_stop_flag stopped the call. */
+    ITREE_WINDOW = 10,  /* A window has no points or comes too near to the ends of 32 bits, or two windows overlap. */
+    ITREE_UNFIT = 11    /* Tiles don't fit: a polygon leaves its window, or polygons at borders overlap. */
 };
 
 /* A status in words, which stay as long as the library does; of a number that is none, that it is none. */
@@ -280,6 +282,57 @@ size_t itree_polygons_polygon_offsets(const struct itree_polygons *polygons, con
 
 /* Gives back the handle and its polygons. At NULL it does nothing. */
 void itree_polygons_free(struct itree_polygons *polygons);
+
+/* A rectangle with whole corners. A point lies in it from its left and its lower side on, and before its right and its upper
+ * one: so of windows side by side one has it. */
+struct itree_window {
+    int32_t left, low, right, high;
+};
+
+/* Writes a handle of the polygons of what of the result of itree_overlay lies in a window: a tile. The rings given, the rule, the
+ * operation and the handle are as there.
+ *
+ * The polygons wind once around each point of the window that is of the result, and not at all around any other, if each edge
+ * of the rings given runs along an axis, or isn't within half a unit, on both axes, of the point. Around no point do they
+ * wind more often, and around none outside of the window at all. Where an edge comes through a side of the window it is
+ * broken there, at a whole point, so it may be moved a little. itree_join makes one set of polygons of the tiles of windows side
+ * by side. The call returns
+ *   ITREE_ANSWERED  and *polygons is the caller's, also where nothing of the result lies in the window;
+ *   ITREE_REFUSED   and *polygons is NULL;
+ *   ITREE_POINTER   exactly where a pointer is faulty, and *polygons stays as it was;
+ *   ITREE_CHOICE    exactly where none is, and rule or operation is none of their numbers: *polygons is NULL;
+ *   ITREE_LENGTHS   exactly where all that is well, and a ring stops before it begins or behind the points: *polygons is
+ *                   NULL;
+ *   ITREE_WINDOW    exactly where all that is well, and no point lies in the window, or a side of it is less than 2 away from
+ *                   what 32 bits hold: *polygons is NULL.
+ * window and polygons may not be NULL. What *polygons was before isn't looked at. Subject and clip may be the same arrays. */
+int32_t itree_overlay_in(const struct itree_window *window, const struct itree_point *subject, size_t subject_count,
+                         const size_t *subject_ends, size_t subject_rings, const struct itree_point *clip,
+                         size_t clip_count, const size_t *clip_ends, size_t clip_rings, int32_t rule, int32_t operation,
+                         struct itree_polygons **polygons);
+
+/* Writes a handle of the polygons of the tiles of several windows, as one set: borders between the windows are gone, nothing is
+ * moved, and polygons that come to no border are as they were. The polygons of each window are as itree_overlay_in writes them, and
+ * stand behind those of the window before it.
+ *
+ * There are tile_count windows, and tile_ends[k] is the place among all polygons at which those of the windows at k stop; the
+ * other ends are as a handle of itree_overlay has its offsets, without the first, which is 0. Around each point the polygons
+ * wind as often as those of all tiles together. No two windows may have a point in common; they needn't lie side by side. The
+ * call returns
+ *   ITREE_ANSWERED  and *polygons is the caller's, also where there are none;
+ *   ITREE_REFUSED   and *polygons is NULL;
+ *   ITREE_POINTER   exactly where a pointer is faulty, and *polygons stays as it was;
+ *   ITREE_LENGTHS   exactly where none is, and a ring, a polygon or a tile stops before it begins or behind the points, the rings
+ *                   or the polygons, or some polygons are of no tile or rings of no polygon, or there aren't as many tiles as
+ *                   windows: *polygons is NULL;
+ *   ITREE_WINDOW    exactly where all that is well, and no point lies in one of the windows, or two of them have one in common:
+ *                   *polygons is NULL;
+ *   ITREE_UNFIT     and all that is well, but a point of a polygon lies neither in its window nor on its sides, or the polygons that come to the sides
+ *                   of their windows wind around some point neither once nor not at all: *polygons is NULL.
+ * polygons may not be NULL. What *polygons was before isn't looked at. */
+int32_t itree_join(const struct itree_window *windows, size_t window_count, const size_t *tile_ends, size_t tile_count,
+                   const size_t *polygon_ends, size_t polygon_count, const size_t *ring_ends, size_t ring_count,
+                   const struct itree_point *points, size_t point_count, struct itree_polygons **polygons);
 
 /* Shapes: each is some rings, as a polygon with its holes, or a multipolygon. The points of all rings, one ring after the
  * other; for each ring the place among the points at which it stops; and for each shape the place among the rings at

@@ -16,6 +16,8 @@ const char *itree_status_text(int32_t status) {
     case ITREE_MEETING: return "two edges meet";
     case ITREE_FAULTY: return "a coordinate or a geometry is faulty";
     case ITREE_STOPPED: return "the call was stopped";
+    case ITREE_WINDOW: return "a window has no points or comes too near to the ends of 32 bits, or two windows overlap";
+    case ITREE_UNFIT: return "tiles don't fit: a polygon leaves its window, or polygons at borders overlap";
     default: return "there is no such status";
     }
 }

@@ -6,10 +6,13 @@
 
 #include <itree.h>
 
+#include <algorithm>
 #include <atomic>
 #include <cmath>
 #include <cstddef>
 #include <cstdint>
+#include <exception>
+#include <functional>
 #include <initializer_list>
 #include <iterator>
 #include <memory>
@@ -17,6 +20,8 @@
 #include <optional>
 #include <stdexcept>
 #include <string>
+#include <system_error>
+#include <thread>
 #include <type_traits>
 #include <utility>
 #include <vector>
@@ -34,6 +39,9 @@ constexpr bool operator==(const itree_edge &one, const itree_edge &other) noexce
 constexpr bool operator==(const itree_pair &one, const itree_pair &other) noexcept {
     return one.first == other.first && one.second == other.second;
 }
+constexpr bool operator==(const itree_window &one, const itree_window &other) noexcept {
+    return one.left == other.left && one.low == other.low && one.right == other.right && one.high == other.high;
+}
 constexpr bool operator==(const itree_position &one, const itree_position &other) noexcept {
     return one.x == other.x && one.y == other.y;
 }
@@ -46,6 +54,7 @@ constexpr bool operator!=(const itree_segment &one, const itree_segment &other) 
 constexpr bool operator!=(const itree_point &one, const itree_point &other) noexcept { return !(one == other); }
 constexpr bool operator!=(const itree_edge &one, const itree_edge &other) noexcept { return !(one == other); }
 constexpr bool operator!=(const itree_pair &one, const itree_pair &other) noexcept { return !(one == other); }
+constexpr bool operator!=(const itree_window &one, const itree_window &other) noexcept { return !(one == other); }
 /// By `first`, then by `second`.
 constexpr bool operator<(const itree_pair &one, const itree_pair &other) noexcept {
     return one.first < other.first || (one.first == other.first && one.second < other.second);
@@ -57,6 +66,10 @@ using Segment = ::itree_segment;
 using Point = ::itree_point;
 using Edge = ::itree_edge;
 using Position = ::itree_position;
+
+/// A rectangle with whole corners. A point lies in it from its left and its lower side on, and before its right and its upper
+/// one: so of windows side by side one has it.
+using Window = ::itree_window;
 
 /// The places of two edges that meet: of one list, `first` below `second`, or one of each of two lists.
 using Pair = ::itree_pair;
@@ -139,11 +152,26 @@ private:
     std::size_t index_;
 };
 
+/// No point lies in a window, it comes too near to the ends of 32 bits, or two windows overlap.
+class WindowFault : public std::invalid_argument {
+public:
+    WindowFault()
+        : std::invalid_argument("a window has no points or comes too near to the ends of 32 bits, or two overlap") {}
+};
+
+/// Tiles don't fit: a polygon leaves its window, or polygons at borders overlap.
+class Unfit : public std::invalid_argument {
+public:
+    Unfit() : std::invalid_argument("tiles don't fit: a polygon leaves its window, or polygons at borders overlap") {}
+};
+
 namespace detail {
 
 /// Throws what a status says that each call may return.
 inline void throw_unless_answered(std::int32_t status) {
     if (status == ITREE_STOPPED) throw Stopped();
+    if (status == ITREE_WINDOW) throw WindowFault();
+    if (status == ITREE_UNFIT) throw Unfit();
     if (status == ITREE_POINTER) throw std::invalid_argument("a span is null, misaligned or larger than memory can be");
     if (status == ITREE_LENGTHS) throw std::invalid_argument("a ring stops before it begins, or behind the points");
     if (status == ITREE_CHOICE) throw std::invalid_argument("there is no such rule or operation");
@@ -1135,6 +1163,45 @@ template <typename Subject = detail::InBraces<Position>, typename Clip = detail:
     return detail::overlay(subject_rings, clip_rings, operation, rule);
 }
 
+namespace detail {
+
+inline Polygons overlay_in(const Window &window, const Rings &subject, const Rings &clip, Operation operation,
+                           FillRule rule) {
+    ::itree_polygons *handle = nullptr;
+    throw_unless_answered(::itree_overlay_in(&window, subject.points.data(), subject.points.size(), subject.ends.data(),
+                                             subject.ends.size(), clip.points.data(), clip.points.size(),
+                                             clip.ends.data(), clip.ends.size(), static_cast<std::int32_t>(rule),
+                                             static_cast<std::int32_t>(operation), &handle));
+    return Polygons(handle);
+}
+
+}  // namespace detail
+
+/// The polygons of what of `overlay`'s result lies in a window: a tile. What they are is said at `itree_overlay_in` of itree.h.
+/// Tiles of windows side by side cover no point twice, and `join` makes one set of polygons of them.
+///
+///     const auto left = itree::overlay_in({0, 0, 50, 100}, fields, ponds, itree::Operation::difference,
+///                                         itree::FillRule::non_zero);
+///
+/// It takes and throws what `overlay` does; and `WindowFault` where no point lies in the window, or a side of it is less than
+/// 2 away from what 32 bits hold.
+template <typename Subject = detail::InBraces<Point>, typename Clip = detail::InBraces<Point>>
+[[nodiscard]] Polygons overlay_in(const Window &window, const Subject &subject, const Clip &clip, Operation operation,
+                                  FillRule rule) {
+    const auto subject_rings = detail::rings_of(subject);
+    const auto clip_rings = detail::rings_of(clip);
+    return detail::overlay_in(window, subject_rings, clip_rings, operation, rule);
+}
+
+/// The same of positions, which are first rounded to the grid. The window is one of the grid's points.
+template <typename Subject = detail::InBraces<Position>, typename Clip = detail::InBraces<Position>>
+[[nodiscard]] Polygons overlay_in(const Window &window, const Subject &subject, const Clip &clip, Operation operation,
+                                  FillRule rule, const Grid &grid) {
+    const auto subject_rings = detail::rings_on(grid, subject);
+    const auto clip_rings = detail::rings_on(grid, clip);
+    return detail::overlay_in(window, subject_rings, clip_rings, operation, rule);
+}
+
 /// The polygons of what is inside of the rings: the union of them with nothing. So of rings that cross themselves
 /// polygons are made whose edges don't cross. It takes and throws what `overlay` does.
 template <typename Items = detail::InBraces<Point>>
@@ -1410,6 +1477,255 @@ template <typename Lines = detail::InBraces<Position>, typename Items = detail::
 }
 [[nodiscard]] inline std::vector<std::optional<std::size_t>> parents(const Polygons &polygons) {
     return parents(polygons.layer());
+}
+
+/// Polygons within a window, as `overlay_in` makes them, that are only read.
+struct Tile {
+    Window window;
+    Layer polygons;
+};
+
+namespace detail {
+
+/// The lists of tiles, those of each behind those of the one before it.
+struct JoinedTiles {
+    std::vector<Window> windows;
+    std::vector<std::size_t> tile_ends, polygon_ends, ring_ends;
+    std::vector<Point> points;
+
+    /// Points and rings behind the last are of no polygon, and left out.
+    void add(const Tile &tile) {
+        const auto &layer = tile.polygons;
+        const auto rings = layer.shape_ends.empty() ? 0 : layer.shape_ends.back();
+        if (rings > layer.ring_ends.size()) throw_unless_answered(ITREE_LENGTHS);
+        const auto count = rings == 0 ? 0 : layer.ring_ends[rings - 1];
+        if (count > layer.points.size()) throw_unless_answered(ITREE_LENGTHS);
+        const auto first_ring = ring_ends.size(), first_point = points.size();
+        for (const auto end : layer.shape_ends) polygon_ends.push_back(first_ring + end);
+        for (std::size_t ring = 0; ring < rings; ring++) ring_ends.push_back(first_point + layer.ring_ends[ring]);
+        points.insert(points.end(), layer.points.begin(), layer.points.begin() + count);
+        windows.push_back(tile.window);
+        tile_ends.push_back(polygon_ends.size());
+    }
+};
+
+}  // namespace detail
+
+/// The polygons of tiles as one set: borders between them are gone, and nothing is moved. Which polygons fit is said at
+/// `itree_join` of itree.h. They stand in any order; what was joined can be joined again, by a window around all of its own.
+///
+///     const auto both = itree::join({{{0, 0, 50, 100}, left.layer()}, {{50, 0, 100, 100}, right.layer()}});
+///
+/// Throws `WindowFault` where no point lies in a window, or two windows overlap, `Unfit` where a polygon leaves its window, or
+/// polygons at borders overlap, `std::invalid_argument` where a ring or a polygon stops where it can't, and
+/// `std::bad_alloc` where memory was refused.
+[[nodiscard]] inline Polygons join(Span<Tile> tiles) {
+    detail::JoinedTiles all;
+    for (const auto &tile : tiles) all.add(tile);
+    ::itree_polygons *handle = nullptr;
+    detail::throw_unless_answered(::itree_join(all.windows.data(), all.windows.size(), all.tile_ends.data(),
+                                               all.tile_ends.size(), all.polygon_ends.data(), all.polygon_ends.size(),
+                                               all.ring_ends.data(), all.ring_ends.size(), all.points.data(),
+                                               all.points.size(), &handle));
+    return Polygons(handle);
+}
+
+namespace detail {
+
+/// Rings, and the least and the greatest coordinates of each. Those of a ring without points come near to nothing.
+class BoxedRings {
+public:
+    /// Throws where a ring stops before it begins, or behind the points.
+    explicit BoxedRings(const Rings &rings) : rings_(rings) {
+        std::size_t start = 0;
+        boxes_.reserve(rings.ends.size());
+        for (const auto end : rings.ends) {
+            if (end < start || end > rings.points.size()) throw_unless_answered(ITREE_LENGTHS);
+            boxes_.push_back(nothing());
+            for (auto place = start; place < end; place++) add(rings.points[place], boxes_.back());
+            start = end;
+        }
+        count_ = start;
+    }
+
+    /// How many points the rings have.
+    [[nodiscard]] std::size_t count() const { return count_; }
+    [[nodiscard]] const Point &operator[](std::size_t place) const { return rings_.points[place]; }
+    /// Widens the box by those of all rings.
+    void add_to(Window &box) const {
+        for (const auto &it : boxes_) {
+            box = {std::min(box.left, it.left), std::min(box.low, it.low), std::max(box.right, it.right),
+                   std::max(box.high, it.high)};
+        }
+    }
+    /// The rings that come as near to the window as a call looks.
+    [[nodiscard]] OwnRings<Point> near(const Window &window) const {
+        OwnRings<Point> found;
+        std::size_t start = 0;
+        for (std::size_t ring = 0; ring < boxes_.size(); ring++) {
+            const auto end = rings_.ends[ring];
+            if (is_near(boxes_[ring], window)) {
+                found.points.insert(found.points.end(), rings_.points.begin() + start, rings_.points.begin() + end);
+                found.ends.push_back(found.points.size());
+            }
+            start = end;
+        }
+        return found;
+    }
+    /// A box with no point.
+    static Window nothing() { return {INT32_MAX, INT32_MAX, INT32_MIN, INT32_MIN}; }
+
+private:
+    static void add(const Point &point, Window &box) {
+        box = {std::min(box.left, point.x), std::min(box.low, point.y), std::max(box.right, point.x),
+               std::max(box.high, point.y)};
+    }
+    /// The window's sides are 2 or more away from the ends of 32 bits.
+    static bool is_near(const Window &box, const Window &window) {
+        return box.left <= window.right + 2 && window.left - 2 <= box.right && box.low <= window.high + 2 &&
+               window.low - 2 <= box.high;
+    }
+
+    Rings rings_;
+    std::vector<Window> boxes_;
+    std::size_t count_ = 0;
+};
+
+/// Points of both, one of so many that there are few.
+inline std::vector<Point> sample_of(const BoxedRings &subject, const BoxedRings &clip) {
+    constexpr std::size_t most = 1 << 16;
+    const auto count = subject.count() + clip.count(), step = count / most + 1;
+    std::vector<Point> sample;
+    for (std::size_t place = 0; place < count; place += step) {
+        sample.push_back(place < subject.count() ? subject[place] : clip[place - subject.count()]);
+    }
+    return sample;
+}
+
+/// The sides of so many parts between two numbers: with as many of the sorted ones in each, but where these repeat.
+inline std::vector<std::int32_t> sides_of(std::int32_t first, std::int32_t last,
+                                          const std::vector<std::int32_t> &sorted, std::size_t parts) {
+    std::vector<std::int32_t> sides{first};
+    for (std::size_t part = 1; part < parts; part++) {
+        const auto side = sorted[sorted.size() * part / parts];
+        if (sides.back() < side && side < last) sides.push_back(side);
+    }
+    sides.push_back(last);
+    return sides;
+}
+
+/// So many windows or a few more or less, which part a rectangle: columns, each cut into rows, with as many points in each.
+inline std::vector<Window> windows_of(const Window &bounds, std::vector<Point> sample, std::size_t count) {
+    const auto columns = static_cast<std::size_t>(std::ceil(std::sqrt(static_cast<double>(count))));
+    std::sort(sample.begin(), sample.end(), [](const Point &one, const Point &other) { return one.x < other.x; });
+    std::vector<std::int32_t> xs(sample.size());
+    std::transform(sample.begin(), sample.end(), xs.begin(), [](const Point &point) { return point.x; });
+    const auto sides = sides_of(bounds.left, bounds.right, xs, columns);
+    std::vector<Window> windows;
+    std::size_t place = 0;
+    for (std::size_t column = 1; column < sides.size(); column++) {
+        std::vector<std::int32_t> ys;
+        for (; place < sample.size() && sample[place].x < sides[column]; place++) ys.push_back(sample[place].y);
+        std::sort(ys.begin(), ys.end());
+        const auto rows = (ys.size() * count + sample.size() / 2) / sample.size();
+        const auto heights = sides_of(bounds.low, bounds.high, ys, rows);
+        for (std::size_t row = 1; row < heights.size(); row++) {
+            windows.push_back({sides[column - 1], heights[row - 1], sides[column], heights[row]});
+        }
+    }
+    return windows;
+}
+
+/// Does the work by so many threads at once, of which this is one. What it throws ends the program.
+template <typename Work>
+void work_by(std::size_t threads, const Work &work) {
+    struct Others {
+        ~Others() {
+            for (auto &thread : threads) thread.join();
+        }
+        std::vector<std::thread> threads;
+    } others;
+    others.threads.reserve(threads);
+    try {
+        while (others.threads.size() + 1 < threads) others.threads.emplace_back(std::cref(work));
+    } catch (const std::system_error &) {
+        // There are no more threads: those that there are do it.
+    }
+    work();
+}
+
+/// A tile for each window, by so many threads at once, joined. Throws what the first of the calls that fail throws.
+inline Polygons overlay_windows(const BoxedRings &subject, const BoxedRings &clip, Operation operation, FillRule rule,
+                                const std::vector<Window> &windows, std::size_t threads) {
+    std::vector<Polygons> tiles(windows.size());
+    std::vector<std::exception_ptr> faults(windows.size());
+    std::atomic<std::size_t> next{0};
+    work_by(std::min(threads, windows.size()), [&] {
+        for (auto place = next++; place < windows.size(); place = next++) {
+            try {
+                tiles[place] = detail::overlay_in(windows[place], subject.near(windows[place]),
+                                                  clip.near(windows[place]), operation, rule);
+            } catch (...) {
+                faults[place] = std::current_exception();
+                next = windows.size();
+            }
+        }
+    });
+    for (const auto &fault : faults) {
+        if (fault) std::rethrow_exception(fault);
+    }
+    std::vector<Tile> all;
+    for (std::size_t place = 0; place < tiles.size(); place++) all.push_back({windows[place], tiles[place].layer()});
+    return join(all);
+}
+
+inline Polygons overlay_threads(const Rings &subject, const Rings &clip, Operation operation, FillRule rule,
+                                std::size_t threads) {
+    constexpr std::size_t points_of_window = 60000, most = 64;
+    constexpr std::int32_t least_side = INT32_MIN + 2, greatest_side = INT32_MAX - 2;
+    const BoxedRings subject_rings(subject), clip_rings(clip);
+    auto all = BoxedRings::nothing();
+    subject_rings.add_to(all);
+    clip_rings.add_to(all);
+    const auto count = std::min((subject_rings.count() + clip_rings.count()) / points_of_window, most);
+    if (count < 2 || std::min(all.left, all.low) < least_side || std::max(all.right, all.high) > greatest_side) {
+        return detail::overlay(subject, clip, operation, rule);
+    }
+    const Window around{std::max(all.left - 1, least_side), std::max(all.low - 1, least_side),
+                        std::min(all.right + 1, greatest_side), std::min(all.high + 1, greatest_side)};
+    if (threads == 0) threads = std::max(std::thread::hardware_concurrency(), 1u);
+    return overlay_windows(subject_rings, clip_rings, operation, rule,
+                           windows_of(around, sample_of(subject_rings, clip_rings), count), threads);
+}
+
+}  // namespace detail
+
+/// What `overlay` answers of the same, by so many threads at once, of which this is one; 0 is as many as there are processors.
+/// Each makes tiles of windows that hold about 60,000 points, 64 windows at most, and these are joined. The windows depend
+/// on the points alone, so the answer doesn't depend on the number of threads. Where an edge comes through a side of a
+/// window, it is broken there, at a whole point, and may be moved a little: the polygons are right where `overlay_in` says so.
+///
+///     const auto wet = itree::overlay_threads(parcels, floods, itree::Operation::intersection,
+///                                             itree::FillRule::non_zero, 4);
+///
+/// Few points are one call of `overlay`, and so are points that come nearer than 2 to the ends of 32 bits, which no window
+/// reaches. A `MemoryLimit` and a `Stopper` of this thread don't hold for the others. It takes and throws what `overlay` does;
+/// what a call in another thread throws is thrown here. Where glibc is older than 2.34 the program is linked with -pthread.
+template <typename Subject = detail::InBraces<Point>, typename Clip = detail::InBraces<Point>>
+[[nodiscard]] Polygons overlay_threads(const Subject &subject, const Clip &clip, Operation operation, FillRule rule,
+                                       std::size_t threads) {
+    const auto subject_rings = detail::rings_of(subject);
+    const auto clip_rings = detail::rings_of(clip);
+    return detail::overlay_threads(subject_rings, clip_rings, operation, rule, threads);
+}
+
+/// The same of positions, which are first rounded to the grid.
+template <typename Subject = detail::InBraces<Position>, typename Clip = detail::InBraces<Position>>
+[[nodiscard]] Polygons overlay_threads(const Subject &subject, const Clip &clip, Operation operation, FillRule rule,
+                                       std::size_t threads, const Grid &grid) {
+    const auto subject_rings = detail::rings_on(grid, subject);
+    const auto clip_rings = detail::rings_on(grid, clip);
+    return detail::overlay_threads(subject_rings, clip_rings, operation, rule, threads);
 }
 
 /// The rings of shapes in well-known binary, their positions rounded to the grid: outer rings counterclockwise, and holes

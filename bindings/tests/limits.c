@@ -29,14 +29,16 @@ static const char *word_of(enum itree_status status) {
     case ITREE_MEETING: return "meeting";
     case ITREE_FAULTY: return "faulty";
     case ITREE_STOPPED: return "stopped";
+    case ITREE_WINDOW: return "window";
+    case ITREE_UNFIT: return "unfit";
     }
     return "none";
 }
 
 static void checks_words(void) {
-    const char *const none = itree_status_text(ITREE_STOPPED + 1);
+    const char *const none = itree_status_text(ITREE_UNFIT + 1);
     int ok = 1;
-    for (int32_t status = 0; status <= ITREE_STOPPED; status++) {
+    for (int32_t status = 0; status <= ITREE_UNFIT; status++) {
         const char *const text = itree_status_text(status);
         ok = ok && strlen(text) > 10 && strcmp(text, none) != 0 &&
              strcmp(word_of((enum itree_status)status), "none") != 0;
@@ -73,10 +75,12 @@ static int32_t call(int which) {
     static struct itree_height heights[MANY];
     static struct itree_place places[MANY];
     static struct itree_pair found[MANY];
-    const size_t end = MANY, first = 0, one = 1;
+    const size_t end = MANY, first = 0, one = 1, three = 3;
     const struct itree_shapes shapes = {points, MANY, &end, 1, &one, 1};
     const struct itree_groups groups = {&first, 1, &one, 1};
     const struct itree_lines lines = {points, MANY, &end, 1};
+    const struct itree_window window = {0, 0, 9, 999};
+    const struct itree_point corners[] = {{0, 0}, {9, 0}, {0, 9}};
     size_t stop = 0;
     struct itree_pairs *pairs = NULL;
     struct itree_chains *chains = NULL;
@@ -98,6 +102,8 @@ static int32_t call(int which) {
     case 12: status = itree_clip_lines(&lines, points, MANY, &end, 1, 1, 0, &polygons); break;
     case 13: return itree_polygon_parents(&shapes, &stop, 1);
     case 14: status = itree_node(edges, MANY, &chains); break;
+    case 15: status = itree_overlay_in(&window, points, MANY, &end, 1, points, MANY, &end, 1, 1, 0, &polygons); break;
+    case 16: status = itree_join(&window, 1, &one, 1, &one, 1, &three, 1, corners, 3, &polygons); break;
     }
     const int has_handle = pairs != NULL || chains != NULL || polygons != NULL;
     itree_pairs_free(pairs);
@@ -106,7 +112,7 @@ static int32_t call(int which) {
     return has_handle == (status == ITREE_ANSWERED) ? status : -1;
 }
 
-enum { EACH = 9, CALLS = 15 };
+enum { EACH = 9, CALLS = 17 };
 
 static void checks_memory(void) {
     for (int which = 0; which < CALLS; which++) {

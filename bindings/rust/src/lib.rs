@@ -33,11 +33,13 @@ pub use layers::{
     Border, Groups, Layer, LayerBuf, LayerFault, Lines, Overlays, OverlaysIter, Pieces, Side,
 };
 pub use limits::{limited_to, memory_peak, stopped_by};
+pub use tiles::{join, overlay_in, overlay_threads, Tile, TileFault, Window};
 pub use wkb::{read_wkb, wkb_corners, wkb_srid, Shapes, WkbFault, WkbFaultKind};
 
 mod grid;
 mod layers;
 mod limits;
+mod tiles;
 mod wkb;
 
 /// The version of the library, as `"0.4.0"`.
@@ -595,7 +597,7 @@ impl ExactSizeIterator for PolygonsIter<'_> {}
 
 /// The calls of `itree.h`.
 mod calls {
-    use super::{Edge, Grid, Pair, Point, Position, Segment};
+    use super::{Edge, Grid, Pair, Point, Position, Segment, Window};
     use std::os::raw::c_char;
 
     pub const ANSWERED: i32 = 0;
@@ -604,6 +606,8 @@ mod calls {
     pub const CROSSING: i32 = 6;
     pub const MEETING: i32 = 7;
     pub const FAULTY: i32 = 8;
+    pub const WINDOW: i32 = 10;
+    pub const UNFIT: i32 = 11;
 
     pub const MULTIPOLYGON: i32 = 0;
     pub const EACH_POLYGON: i32 = 1;
@@ -788,6 +792,35 @@ mod calls {
             clip_rings: usize,
             rule: i32,
             operation: i32,
+            polygons: *mut *mut Handle,
+        ) -> i32;
+
+        pub fn itree_overlay_in(
+            window: *const Window,
+            subject: *const Point,
+            subject_count: usize,
+            subject_ends: *const usize,
+            subject_rings: usize,
+            clip: *const Point,
+            clip_count: usize,
+            clip_ends: *const usize,
+            clip_rings: usize,
+            rule: i32,
+            operation: i32,
+            polygons: *mut *mut Handle,
+        ) -> i32;
+
+        pub fn itree_join(
+            windows: *const Window,
+            window_count: usize,
+            tile_ends: *const usize,
+            tile_count: usize,
+            polygon_ends: *const usize,
+            polygon_count: usize,
+            ring_ends: *const usize,
+            ring_count: usize,
+            points: *const Point,
+            point_count: usize,
             polygons: *mut *mut Handle,
         ) -> i32;
 

@@ -113,7 +113,7 @@ module _ {M : Type 1} {𝓤 : Ura M} (𝓛 : Logic 𝓤) (held : RattleType) (A 
       let Answer : ℤ → Option held.Denot → Type 0 = Answers l x x' n1 n2 in
       qed 𝓛 (((‵ (flft κ q) ⊛ ‵ (flft ν q') ⊛ ‵ ftrue) ⊛ ‵ (owned_all (types_at ended.signature.params z.0.0) z.0.3 z.0.4))
       ∷ raw ((c z.0.0 z.0.3).requires z.1) ∷ []) ∵ split ! $ move ! (1 ∷ []) $ fsplit ! $
-      -- [the allocator; the other parameters; the tokens; nothing]. One parameter after another is taken out, and stands before those out already.
+      -- [the allocator; the other parameters; the tokens; nothing]. One parameter after another is taken out, before those out.
       handle_tells al ! a z.0.4.0 (λ h eh fits.
       move ! (1 ∷ []) $ fsplit ! $ rewrite ! 0 (λ (vs : List Val). ‵ (Points.own_val s1 vs)) are.1.0.0.0 refl $
       move ! (1 ∷ []) $ fsplit ! $ rewrite ! 0 (λ (vs : List Val). ‵ (Places.own_val s2 vs)) are.1.1.0.0.0 refl $

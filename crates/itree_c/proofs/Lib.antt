@@ -8,3 +8,4 @@ pub mod LayerLemmas
 pub mod ListsMade
 pub mod ShapesMade
 pub mod Steps
+pub mod TileLemmas

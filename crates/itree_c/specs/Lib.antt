@@ -11,4 +11,5 @@ pub mod Places
 pub mod Raw
 pub mod Shapes
 pub mod Status
+pub mod Tiles
 pub mod Written

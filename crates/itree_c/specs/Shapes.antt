@@ -32,8 +32,8 @@ number_of_fault Offsets = OFFSETS
 abbrev pub place_of_fault : Fault → ShapePlace
 place_of_fault fault = record { kind = number_of_fault fault.kind; shape = fault.shape; byte = fault.byte }
 
--- the points, ring by ring, and the offsets are 0 and where each ring stops among the points, and 0 and where each shape stops among
--- the rings
+-- the points, ring by ring, and the offsets are 0 and where each ring stops among the points, and 0 and where each shape stops
+-- among the rings
 abbrev pub AreAllShapes : Grid → List ℕ → List ℕ → PolygonLists → Type 0
 AreAllShapes grid bytes offsets held =
     (ring_ends : List ℕ) × (shape_ends : List ℕ)

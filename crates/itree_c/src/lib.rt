@@ -1,5 +1,5 @@
 //! Calls from C, and so from each language that calls C: a static library over `horizontal`, `plane`, `noding`, `overlay`,
-//! `monotone_chains`, `grid`, `wkb` and `layers`.
+//! `monotone_chains`, `grid`, `wkb`, `layers` and `tiles`.
 //!
 //! Each function takes slices, which are a pointer and a length in C, writes its answers into slices of its caller's,
 //! and answers a status. An answer whose size isn't known before goes out as a handle, which the caller gives back.
@@ -12,6 +12,7 @@ pub mod choices;
 pub mod grids;
 pub mod handle;
 pub mod heights;
+pub mod joined;
 pub mod kinds;
 pub mod layers_each;
 pub mod layers_lines;
@@ -29,3 +30,4 @@ pub mod shapes_read;
 pub mod shapes_written;
 pub mod snapped;
 pub mod status;
+pub mod tiled;

@@ -1,6 +1,6 @@
 //! Polygons on the heap, which an overlay has made.
 
-ghost use Rattle.std.specs.Prelude.{◌≡◌, IfOk};
+ghost use Rattle.std.specs.Prelude.{◌≡◌, ◌∷◌, IfOk};
 ghost use Rattle.std.specs.Vec.{vec_ptr, vec_len};
 ghost use Rattle.std.specs.Option.{IsSome};
 ghost use denote.Param.Send.{IsSend};
@@ -73,6 +73,21 @@ pub(crate) fn boxed_lists(
             held_polygon_offsets,
         },
     )?)
+}
+
+// The same with offsets: 0 stands before where each ring and where each polygon stops.
+pub(crate) fn offset_lists(
+    alloc: Global,
+    polygons: Polygons<Global>,
+) -> Result<Box<PolygonLists, Global>, AllocError>
+    ensures { IfOk result (λ lists. (lists.value.held_points.items ≡ polygons.points.items)
+        × (lists.value.held_ring_offsets.items ≡ 0 ∷ polygons.ring_ends.items)
+        × (lists.value.held_polygon_offsets.items ≡ 0 ∷ polygons.polygon_ends.items)) }
+{
+    let mut polygons = polygons;
+    polygons.ring_ends.insert(0, 0)?;
+    polygons.polygon_ends.insert(0, 0)?;
+    boxed_lists(alloc, polygons)
 }
 
 // Gives back all memory of the polygons.

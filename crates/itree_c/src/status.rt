@@ -24,6 +24,13 @@ pub const MEETING: i32 = 7;
 /// What was given can't be taken: the call tells where.
 pub const FAULTY: i32 = 8;
 
+/// No point lies in a window, it comes too near to the ends of 32 bits, or two windows overlap. `itree.h` has 9 for a call that was
+/// stopped, which no call here answers.
+pub const WINDOW: i32 = 10;
+
+/// Tiles don't fit: a polygon leaves its window, or polygons at borders overlap.
+pub const UNFIT: i32 = 11;
+
 // `itree.h` has these numbers.
 const _: () = prove!(
     ANSWERED == 0
@@ -34,4 +41,6 @@ const _: () = prove!(
         && CROSSING == 6
         && MEETING == 7
         && FAULTY == 8
+        && WINDOW == 10
+        && UNFIT == 11
 );

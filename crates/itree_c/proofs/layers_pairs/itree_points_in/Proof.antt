@@ -36,7 +36,7 @@ itree_points_in_spec 𝓤 𝓛 𝓜 𝓡 wired =
     let K = triple_of 𝓛 callee.signature (callee.spec 𝓛 𝓜.mem 𝓡.returns) in
     qed 𝓛 (((‵ (flft κ0 q0) ⊛ ‵ (flft ν q') ⊛ ‵ ftrue) ⊛ ‵ (owns (types_at ended.signature.params z.0.0) z.0.3 z.0.4))
     ∷ raw ((c z.0.0 z.0.3).requires z.1) ∷ []) ∵ split ! $ move ! (1 ∷ []) $ fsplit ! $
-    -- [the allocator; the other parameters; the tokens; nothing]. One parameter after another is taken out, and stands before those out already.
+    -- [the allocator; the other parameters; the tokens; nothing]. One parameter after another is taken out, before those that are.
     handle_tells al ! a z.0.4.0 (λ h eh fits.
     move ! (1 ∷ []) $ fsplit ! $ rewrite ! 0 (λ (vs : List Val). ‵ (Points.own_val s1 vs)) are.1.0.0.0 refl $
     move ! (1 ∷ []) $ fsplit ! $ rewrite ! 0 (λ (vs : List Val). ‵ (Points.own_val s2 vs)) are.1.1.0.0.0 refl $
