@@ -9,7 +9,10 @@ MODE = "a mode is wanted; itree help lists them"
 OPERATION = "union, intersection, difference or xor is wanted"
 RULE = "evenodd, nonzero, positive or negative is wanted"
 GREATER = "a number that is at least 31 more than the one before is wanted"
-CHOICE = "--operation or --rule is wanted"
+CHOICE = "--operation, --rule or --window is wanted"
+SIDE = "a whole number from -2147483646 to 2147483645 is wanted"
+ABOVE = "a number that is greater than the one two words before is wanted"
+SIDES = "four numbers, X0 Y0 X1 Y1, are wanted behind it"
 OF_KEYS = "insert, less, leq or clear is wanted"
 OF_SETS = "insert, delete, find or before is wanted"
 OF_SEGMENTS = "insert, query or clear is wanted"
@@ -71,6 +74,24 @@ LINES = (
     ("setlist", b"find" + b" " * 100_000 + b"y", (1, 100_005, "y", NUMBER)),
 )
 
+# Words behind an overlay's `--window`, and the one that is told with what is wanted.
+IN_WINDOW = "overlay", "union", "nonzero", "--window"
+WINDOWS = (
+    ((), "--window", SIDES),
+    (("0", "0", "4"), "--window", SIDES),
+    (("x", "0", "4", "4"), "x", SIDE),
+    (("0", "", "4", "4"), "", SIDE),
+    (("0", "0", "2147483646", "4"), "2147483646", SIDE),
+    (("0", "0", "4", "2147483648"), "2147483648", SIDE),
+    (("-2147483647", "0", "4", "4"), "-2147483647", SIDE),
+    (("0", "-2147483649", "4", "4"), "-2147483649", SIDE),
+    (("0", "1", "0", "4"), "0", ABOVE),
+    (("1", "1", "-7", "1"), "-7", ABOVE),
+    (("0", "4", "4", "+4"), "+4", ABOVE),
+    (("0", "0", "4", "4", "5"), "5", NO_MORE),
+    (("0", "0", "0", "4", "--rule"), "--rule", NO_MORE),
+)
+
 # Arguments, and the one that is told with what is wanted.
 ARGUMENTS = (
     ([""], "", MODE),
@@ -106,6 +127,11 @@ ARGUMENTS = (
     (["overlay", "--rules", "evenodd"], "--rules", CHOICE),
     (["overlay", "--rule", "evenodd", "union"], "union", CHOICE),
     (["overlay", "--help"], "--help", CHOICE),
+    (["overlay", "--window", "0", "0", "4"], "--window", SIDES),
+    (["overlay", "--window=0"], "--window=0", CHOICE),
+    (["overlay", "--window", "0", "0", "4", "4", "5"], "5", CHOICE),
+    (["overlay", "--rule=evenodd", "--window", "0", "4", "4", "-4"], "-4", ABOVE),
+    *(([*IN_WINDOW, *sides], word, wanted) for sides, word, wanted in WINDOWS),
 )
 
 # Options that stand for an operation and a rule, and what they make of a square and another one, which is said twice: so there
@@ -125,6 +151,10 @@ OPTIONS = (
     (" --operation=difference", b"polygon 0 0 1 0 1 2 0 2\n"),
     (" --operation xor --operation=union", BOTH),
     (" --rule evenodd --rule nonzero", BOTH),
+    (" union nonzero --window 1 0 2 2", COMMON),
+    (" --window 1 -7 2 +9", COMMON),
+    (" --window 0 0 1 1 --rule=evenodd --window 0 0 4 4", FIRST),
+    (" --operation difference --window -2147483646 -2147483646 2147483645 2147483645 --operation union", BOTH),
 )
 
 # Streams that fail, and what is told of them.

@@ -220,9 +220,15 @@ def odd_texts(count=300):
 # ---- rings by chance
 
 
+def moved_back(window, step):
+    """The sides of the window that the words say, moved leftwards, or None where they say none."""
+    sides = list(map(int, window[1:]))
+    return [side - step * (at % 2 == 0) for at, side in enumerate(sides)] or None
+
+
 def told_problems(mode, drawings, step, told):
     """What is wrong with the replies, where each drawing lies so far from the one before it."""
-    operation, rule = mode.split()[1:]
+    _, operation, rule, *window = mode.split()
     try:
         polygons = polygons_in(told)
     except ValueError as error:
@@ -239,7 +245,8 @@ def told_problems(mode, drawings, step, told):
         middles = [((x0 + x1) * IN_ONE // 2, (y0 + y1) * IN_ONE // 2) for x0, y0, x1, y1 in made[-LOOKS // 8 :]]
         asked = drawing, its, rule, operation, points + starts + middles
         # Chains take long, so they are made for three drawings of ten; the gate looks at two builds of the program.
-        for problem in chain(problems(*asked), chain_problems(*asked) if place % 10 < 3 else ()):
+        by_chains = chain_problems(*asked) if place % 10 < 3 and not window else ()
+        for problem in chain(problems(*asked, moved_back(window, place * (step or 0))), by_chains):
             return f"{problem}: {its}, of {' / '.join(said_by(Random(0), drawing))}".encode()
     return b""
 

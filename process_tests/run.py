@@ -45,6 +45,7 @@ WHERE_LISTED = {
     "snaps": "snap",
     "nodes": "node",
     "overlays": "overlay OPERATION RULE",
+    "windows": "overlay OPERATION RULE --window X0 Y0 X1 Y1",
     "still": "overlay OPERATION RULE",
     "long_overlays": "overlay OPERATION RULE",
 }

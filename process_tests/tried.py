@@ -27,6 +27,7 @@ import small
 import snaps
 import sweeps
 import text
+import windows
 import worked
 from documents import help_text
 from processes import Beginning, Looked, Outcome, by_file
@@ -41,6 +42,7 @@ TEXTS = text.empty_texts, text.plain_lines, text.faulty_lines, text.numbers
 # Those of modes that the help may not list yet.
 OVERLAYS = overlays.worked, overlays.faulty, overlays.nested, long_overlays.few
 WHERE_LISTED = {"snap": (snaps.worked,), "node": (nodes.worked, nodes.rows_by_model), "overlay OPERATION RULE": OVERLAYS}
+WHERE_LISTED |= {"overlay OPERATION RULE --window X0 Y0 X1 Y1": (windows.worked,)}
 READ = "keytree", "setlist", "seg"
 
 CRATE = os.path.normpath(os.path.join(os.path.dirname(os.path.abspath(__file__)), "..", "crates", "itree"))

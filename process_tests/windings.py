@@ -158,10 +158,17 @@ def hole_problems(polygon):
             yield f"the hole {hole} isn't inside of {polygon[0]}"
 
 
-def point_problems(drawing, polygons, rule, operation, points):
-    """At which points the polygons wind otherwise than they are to."""
+def has(window, point):
+    """Whether a window has the point, in parts: it has those on its left and its lower side, too."""
+    left, low, right, high = (side * PARTS for side in window)
+    return left <= point[0] < right and low <= point[1] < high
+
+
+def point_problems(drawing, polygons, rule, operation, points, window=None):
+    """At which points the polygons wind otherwise than they are to: around none outside of the window, where there is one. Its
+    border breaks edges, too, so that they may be moved."""
     given = [edges_of(rings) for rings in drawing]
-    is_exact = all(map(is_along_axis, chain(*given))) or none_is_moved([*chain(*given)])
+    is_exact = all(map(is_along_axis, chain(*given))) or not window and none_is_moved([*chain(*given)])
     subject, clip = (edges_of(rings, PARTS) for rings in drawing)
     subject, clip, *made = map(Columns, (subject, clip, *(edges_of(polygon, PARTS) for polygon in polygons)))
     is_inside, operate = RULES[rule], OPERATIONS[operation]
@@ -172,8 +179,9 @@ def point_problems(drawing, polygons, rule, operation, points):
             yield f"around {where} the polygons wind {windings} times"
             continue
         its, clips = subject.beside(point), clip.beside(point)
-        if is_exact or not any(is_near(edge, point, HALF) for edge in (*its, *clips)):
-            wanted = operate(is_inside(winding(its, point)), is_inside(winding(clips, point)))
+        is_outside = window and not has(window, point)
+        if is_outside or is_exact or not any(is_near(edge, point, HALF) for edge in (*its, *clips) if not is_along_axis(edge)):
+            wanted = not is_outside and operate(is_inside(winding(its, point)), is_inside(winding(clips, point)))
             if sum(windings) != wanted:
                 yield f"around {where} the polygons wind {sum(windings)} times in place of {int(wanted)}"
 
@@ -221,10 +229,10 @@ def edge_problems(polygons):
         live.append(edge)
 
 
-def problems(drawing, polygons, rule, operation, points):
-    """What is wrong with the polygons, if anything."""
+def problems(drawing, polygons, rule, operation, points, window=None):
+    """What is wrong with the polygons, if anything; within a window, where there is one."""
     for polygon in polygons:
         yield from ring_problems(polygon)
         yield from hole_problems(polygon)
     yield from edge_problems(polygons)
-    yield from point_problems(drawing, polygons, rule, operation, points)
+    yield from point_problems(drawing, polygons, rule, operation, points, window)

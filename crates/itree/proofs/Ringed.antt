@@ -9,9 +9,13 @@ use Rattle.itree.specs.Replies.{polygon_lines, ring_line}
 use Rattle.itree.specs.RingLines.{RingLine, Subject, Clip, subject_in, clip_in, subject_of, clip_of, coordinates, Holds, HoldsSaid}
 use Rattle.itree.specs.declared.lines.rings.RingList.{RingList}
 use Rattle.itree.specs.declared.lines.rings.SaidRings.{SaidRings}
-use Rattle.noding.specs.Offsets.{AreJoined}
+use Rattle.noding.specs.Offsets.{AreJoined, offsets}
 use Rattle.overlay.proofs.GroupingLemmas.Placed.{ends-right, rings-back}
-use Rattle.overlay.specs.Rings.{AreEnds, rings_of}
+use Rattle.overlay.specs.Contours.Rings.{ring_edges}
+use Rattle.overlay.specs.Polygons.{Appends, rings_of as polygon_rings}
+use Rattle.overlay.specs.Rings.{AreEnds, HasEnds, edges_of, rings_of}
+use Rattle.overlay.specs.declared.rings.Polygons.{Polygons}
+use Rattle.overlay.specs.declared.rings.Rings.{Rings}
 use Rattle.noding.proofs.ChainLemmas.Runs.{between-more, length-between, offsets-more}
 use Rattle.plane.specs.declared.point.Point.{Point}
 
@@ -119,9 +123,35 @@ HoldsSaid-clip rings list ring more said (subject, clip) = (
 
 -- ---- rings for a call
 
-pub rings_of-joined : (lists : List (List Point)) (points : List Point) (ends : List ℕ) → AreJoined lists points ends → rings_of points 0 ends ≡ lists
+rings_of-joined : (lists : List (List Point)) (points : List Point) (ends : List ℕ) → AreJoined lists points ends → rings_of points 0 ends ≡ lists
 rings_of-joined lists points ends (are, stops) = ap₂ (λ (ps : List Point) (es : List ℕ). rings_of ps 0 es) are stops ∙ rings-back [] lists 0 refl
 
-pub AreEnds-joined : (lists : List (List Point)) (points : List Point) (ends : List ℕ) → AreJoined lists points ends → AreEnds 0 ends (length points)
+AreEnds-joined : (lists : List (List Point)) (points : List Point) (ends : List ℕ) → AreJoined lists points ends → AreEnds 0 ends (length points)
 AreEnds-joined lists points ends (are, stops) =
     subst (λ (es : List ℕ). AreEnds 0 es (length points)) (sym stops) (ends-right 0 lists (length points) (omega (arith, ap length are)))
+
+-- what a call takes of rings that are held
+module _ (rings : List (List Point)) (taken : Rings) (points : List Point) (ends : List ℕ) (same : taken.points.now ≡ points) (too : taken.ends.now ≡ ends) (held : AreJoined rings points ends) where
+  pub HasEnds-held : HasEnds taken
+  HasEnds-held = AreEnds-joined rings taken.points.now taken.ends.now (same ∙ held.0, too ∙ held.1)
+
+  pub edges-held : edges_of taken ≡ flat_map ring_edges rings
+  edges-held = ap (λ (all : List (List Point)). flat_map ring_edges all) (rings_of-joined rings taken.points.now taken.ends.now (same ∙ held.0, too ∙ held.1))
+
+-- polygons that are appended to none are all there are
+module _ {A : Type 0} (polygons : List (List (List Point))) (old new : Polygons A) (appended : Appends polygons old new) (no_points : old.points.items ≡ []) (no_rings : old.ring_ends.items ≡ []) (none : old.polygon_ends.items ≡ []) where
+  pub rings-appended : AreJoined (polygon_rings polygons) new.points.items new.ring_ends.items
+  rings-appended = (
+    appended.points_are ∙ ap (λ (none : List Point). none ++ flat_map (λ (ring : List Point). ring) (polygon_rings polygons)) no_points,
+    appended.rings_are
+        ∙ ap (λ (none : List ℕ). none ++ offsets (length old.points.items) (polygon_rings polygons)) no_rings
+        ∙ ap (λ (none : List Point). offsets (length none) (polygon_rings polygons)) no_points,
+  )
+
+  pub all-appended : AreJoined polygons (polygon_rings polygons) new.polygon_ends.items
+  all-appended = (
+    refl,
+    appended.polygons_are
+        ∙ ap (λ (none : List ℕ). none ++ offsets (length old.ring_ends.items) polygons) none
+        ∙ ap (λ (none : List ℕ). offsets (length none) polygons) no_rings,
+  )

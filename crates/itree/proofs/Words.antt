@@ -6,7 +6,7 @@ use Rattle.itree.specs.Modes.{row_of, Names, NamesRange, NamesOverlay, Chooses}
 use Rattle.itree.specs.SegLines.{SaysNoSegCommand}
 use Rattle.itree.specs.Texts.{HasFirstFaulty}
 use Rattle.itree.specs.declared.mode.Mode.{Mode}
-use Rattle.itree.specs.declared.mode.Mode.TheVariants.{KeyTree, KeyList, SetTree, SetList, Segments, Sweep, Meetings, Locate, Snap, Node, Overlay}
+use Rattle.itree.specs.declared.mode.Mode.TheVariants.{KeyTree, KeyList, SetTree, SetList, Segments, Sweep, Meetings, Locate, Snap, Node, Overlay, Tile}
 use Rattle.std.proofs.lemmas.Slice.Eq.{bytes_eq-Decides}
 use Rattle.std.specs.Option.{option_eq}
 use Rattle.std.specs.Str.{bytes_eq}
@@ -78,11 +78,30 @@ pub Names-numbers : (words : List (Bor (List ℕ))) (mode : Mode) → Names word
 Names-numbers [] mode names = absurd names.0
 Names-numbers (word ∷ words) mode names = ap suc (Chooses-length words (row_of mode).choices (row_of mode).numbers names.0.1)
 
--- so they are one word, or three
-pub Names-length : (words : List (Bor (List ℕ))) (mode : Mode) → Names words mode → (length words ≡ 1) ⊎ (length words ≡ 3)
-Names-length words (Segments min max) names = inr (Names-numbers words (Segments min max) names)
-Names-length words (Overlay operation rule) names = inr (Names-numbers words (Overlay operation rule) names)
+-- so they are one word, three or eight
+pub Names-length : (words : List (Bor (List ℕ))) (mode : Mode) → Names words mode → (length words ≡ 1) ⊎ ((length words ≡ 3) ⊎ (length words ≡ 8))
+Names-length words (Segments min max) names = inr (inl (Names-numbers words (Segments min max) names))
+Names-length words (Overlay operation rule) names = inr (inl (Names-numbers words (Overlay operation rule) names))
+Names-length words (Tile window operation rule) names = inr (inr (Names-numbers words (Tile window operation rule) names))
 Names-length words mode names = inl (Names-numbers words mode names)
+
+-- eight words, of which the first and the fourth are these
+pub eight_words : (words : List (Bor (List ℕ))) (word : Bor (List ℕ)) → length words ≡ 8 → (get_or words 0 word).now ≡ codes "overlay" → (get_or words 3 word).now ≡ codes "--window"
+    → map (λ word. word.now) words ≡ codes "overlay" ∷ (get_or words 1 word).now ∷ (get_or words 2 word).now ∷ codes "--window"
+    ∷ (get_or words 4 word).now ∷ (get_or words 5 word).now ∷ (get_or words 6 word).now ∷ (get_or words 7 word).now ∷ []
+eight_words (a ∷ b ∷ c ∷ d ∷ e ∷ f ∷ g ∷ h ∷ []) word eight first fourth =
+    ap₂ (λ (one other : List ℕ). one ∷ b.now ∷ c.now ∷ other ∷ e.now ∷ f.now ∷ g.now ∷ h.now ∷ []) first fourth
+eight_words words word eight first fourth = absurd (omega (arith, eight))
+
+-- eight words that name a mode are `overlay`, what it is chosen by, `--window` and the window's sides
+pub Names-eight : (words : List (Bor (List ℕ))) (mode : Mode) (word : Bor (List ℕ)) → length words ≡ 8 → Names words mode
+    → ((get_or words 0 word).now ≡ codes "overlay") × ((get_or words 3 word).now ≡ codes "--window")
+Names-eight [] mode word eight names = absurd names.0
+Names-eight (first ∷ []) (Tile window operation rule) word eight names = absurd names.0.1
+Names-eight (first ∷ second ∷ []) (Tile window operation rule) word eight names = absurd names.0.1.1
+Names-eight (first ∷ second ∷ third ∷ []) (Tile window operation rule) word eight names = absurd names.0.1.1.1
+Names-eight (first ∷ second ∷ third ∷ fourth ∷ words) (Tile window operation rule) word eight names = (names.0.0, names.0.1.1.1.0)
+Names-eight (first ∷ words) mode word eight names = absurd (omega (arith, eight, Names-numbers (first ∷ words) mode names))
 
 -- three words that name a mode are `seg` and the ends of its range, or `overlay` and what it is chosen by
 pub Names-three : (words : List (Bor (List ℕ))) (mode : Mode) (word : Bor (List ℕ)) → length words ≡ 3 → Names words mode
@@ -116,6 +135,9 @@ Names-faulty (word ∷ words) Locate Locate text number names too faulty = fault
 Names-faulty (word ∷ words) Snap Snap text number names too faulty = faulty
 Names-faulty (word ∷ words) Node Node text number names too faulty = faulty
 Names-faulty (word ∷ words) (Overlay operation rule) (Overlay operation' rule') text number names too faulty = faulty
+Names-faulty (word ∷ words) (Overlay operation rule) (Tile window' operation' rule') text number names too faulty = faulty
+Names-faulty (word ∷ words) (Tile window operation rule) (Overlay operation' rule') text number names too faulty = faulty
+Names-faulty (word ∷ words) (Tile window operation rule) (Tile window' operation' rule') text number names too faulty = faulty
 Names-faulty (word ∷ words) one other text number names too faulty =
     let same : (row_of one).word ≡ (row_of other).word = sym names.0.0 ∙ too.0.0 in
     absurd (omega (arith, ap length same, ap (λ (letters : List ℕ). get_or letters 0 0) same))

@@ -29,6 +29,8 @@ use Rattle.noding.specs.Local.{AreNodeChains}
 use Rattle.overlay.specs.declared.fill.rules.FillRule.{FillRule}
 use Rattle.overlay.specs.declared.fill.rules.Operation.{Operation}
 use Rattle.overlay.specs.Overlay.{IsOverlay}
+use Rattle.tiles.specs.Tile.{IsTile}
+use Rattle.tiles.specs.declared.window.Window.{Window}
 use Rattle.runs.specs.declared.keys.KeyReply.{KeyReply}
 use Rattle.runs.specs.declared.sets.SetReply.{SetReply}
 use Rattle.itree.specs.declared.set_key.SetKey.{SetKey}
@@ -124,4 +126,10 @@ pub record AnswersNode (edges : List Edge) (output : List ℕ) : Type 0 where
 pub record AnswersOverlay (operation : Operation) (rule : FillRule) (said : List RingLine) (output : List ℕ) : Type 0 where
   pub polygons : List (List (List Point))
   pub are : IsOverlay rule operation (flat_map ring_edges (subject_of said)) (flat_map ring_edges (clip_of said)) polygons
+  pub written : output ≡ flat_map polygon_lines polygons
+
+-- the polygons are what of them lies in the window, and the output is their lines
+pub record AnswersTile (window : Window) (operation : Operation) (rule : FillRule) (said : List RingLine) (output : List ℕ) : Type 0 where
+  pub polygons : List (List (List Point))
+  pub are : IsTile window rule operation (flat_map ring_edges (subject_of said)) (flat_map ring_edges (clip_of said)) polygons
   pub written : output ≡ flat_map polygon_lines polygons

@@ -41,11 +41,14 @@ wanted_text wanted.OneMore = codes "one more number is wanted behind it"
 wanted_text wanted.NoMore = codes "no further word is wanted"
 wanted_text wanted.Mode = codes "a mode is wanted; itree help lists them"
 wanted_text wanted.Greater = codes "a number that is at least 31 more than the one before is wanted"
+wanted_text wanted.Side = codes "a whole number from -2147483646 to 2147483645 is wanted"
+wanted_text wanted.Above = codes "a number that is greater than the one two words before is wanted"
+wanted_text wanted.SidesBehind = codes "four numbers, X0 Y0 X1 Y1, are wanted behind it"
 wanted_text wanted.Operation = codes "union, intersection, difference or xor is wanted"
 wanted_text wanted.OperationBehind = codes "union, intersection, difference or xor is wanted behind it"
 wanted_text wanted.Rule = codes "evenodd, nonzero, positive or negative is wanted"
 wanted_text wanted.RuleBehind = codes "evenodd, nonzero, positive or negative is wanted behind it"
-wanted_text wanted.Choice = codes "--operation or --rule is wanted"
+wanted_text wanted.Choice = codes "--operation, --rule or --window is wanted"
 
 -- the byte is printed as it is, in ASCII
 abbrev pub is_plain : ℕ → Bool

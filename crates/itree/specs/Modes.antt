@@ -1,8 +1,8 @@
 -- The modes of the program, a row each, and which arguments name them or ask for a text of the program's own.
-use Rattle.std.specs.Prelude.{◌≡◌, ◌⊎◌, ⊤, ℕ, ℤ, List, [], ◌∷◌, map, codes}
+use Rattle.std.specs.Prelude.{◌≡◌, ◌⊎◌, ⊤, ℕ, ◌^◌, ℤ, ◌+ℤ◌, ◌-ℤ◌, ◌≤ℤ◌, ◌<ℤ◌, pos, List, [], ◌∷◌, map, codes}
 use Rattle.std.specs.Borrow.{Bor}
 use Rattle.i_tree.specs.Seg.Buckets.{HasLayout}
-use Rattle.itree.specs.Answers.{AnswersKeys, AnswersSet, AnswersRange, AnswersSweep, AnswersMeetings, AnswersLocate, AnswersSnap, AnswersNode, AnswersOverlay}
+use Rattle.itree.specs.Answers.{AnswersKeys, AnswersSet, AnswersRange, AnswersSweep, AnswersMeetings, AnswersLocate, AnswersSnap, AnswersNode, AnswersOverlay, AnswersTile}
 use Rattle.itree.specs.MeetingsLines.{SaysEdge}
 use Rattle.itree.specs.Grammar.{ReadsAll}
 use Rattle.itree.specs.KeyLines.{KeyLine, SaysKeyCommand}
@@ -15,11 +15,13 @@ use Rattle.itree.specs.declared.lines.locate.LocateLine.{LocateLine}
 use Rattle.itree.specs.declared.lines.sweep.SweepLine.{SweepLine}
 use Rattle.plane.specs.declared.edge.Edge.{Edge}
 use Rattle.itree.specs.declared.mode.Mode.{Mode}
-use Rattle.itree.specs.declared.mode.Mode.TheVariants.{KeyTree, KeyList, SetTree, SetList, Segments, Sweep, Meetings, Locate, Snap, Node, Overlay}
+use Rattle.itree.specs.declared.mode.Mode.TheVariants.{KeyTree, KeyList, SetTree, SetList, Segments, Sweep, Meetings, Locate, Snap, Node, Overlay, Tile}
 use Rattle.overlay.specs.declared.fill.rules.FillRule.{FillRule}
 use Rattle.overlay.specs.declared.fill.rules.FillRule.TheVariants.{EvenOdd, NonZero, Positive, Negative}
 use Rattle.overlay.specs.declared.fill.rules.Operation.{Operation}
 use Rattle.overlay.specs.declared.fill.rules.Operation.TheVariants.{Union, Intersection, Difference, Xor}
+use Rattle.tiles.specs.Window.{CanCropTo}
+use Rattle.tiles.specs.declared.window.Window.{Window}
 
 -- A mode: the word that names it, the words behind it that choose, and the numbers behind these, which are to fit; which words of a
 -- line say which command; which output answers lines and the commands that they say; and which line of a text, and which two, tell
@@ -161,6 +163,28 @@ overlay_row operation rule = record {
   AreCrossing = λ lines first second. ⊥;
 }
 
+-- the sides of a window
+abbrev pub sides_of : Window → List ℤ
+sides_of window = window.left ∷ window.low ∷ window.right ∷ window.high ∷ []
+
+-- the same rings, and the polygons of what of it lies in the window, within which an overlay can be made
+abbrev pub tile_row : Window → Operation → FillRule → Row
+tile_row window operation rule = record {
+  word = codes "overlay";
+  choices = operation_word operation ∷ rule_word rule ∷ codes "--window" ∷ [];
+  numbers = sides_of window;
+  Fits = CanCropTo window;
+  Command = RingLine;
+  SaysCommand = SaysRing;
+  AnswersAll = λ lines. AnswersTile window operation rule;
+  IsOverlap = λ lines number. ⊥;
+  AreCrossing = λ lines first second. ⊥;
+}
+
+-- for private contracts: a window may go from the one number to the other along an axis
+abbrev pub IsSpan : ℤ → ℤ → Type 0
+IsSpan low high = (low <ℤ high) × ((pos 0 -ℤ pos (2 ^ 31)) ≤ℤ (low -ℤ pos 2)) × ((high +ℤ pos 2) <ℤ pos (2 ^ 31))
+
 -- the row of each mode
 abbrev pub row_of : Mode → Row
 row_of KeyTree = keys_row (codes "keytree")
@@ -174,8 +198,9 @@ row_of Locate = locate_row
 row_of Snap = chains_row (codes "snap") AnswersSnap
 row_of Node = chains_row (codes "node") AnswersNode
 row_of (Overlay operation rule) = overlay_row operation rule
+row_of (Tile window operation rule) = tile_row window operation rule
 
--- the numbers of the mode fit: those of segments are the ends of a range that has a layout
+-- the numbers of the mode fit: those of segments are the ends of a range that has a layout, those of an overlay a window's sides
 abbrev pub FitsItsNumbers : Mode → Type 0
 FitsItsNumbers mode = (row_of mode).Fits
 

@@ -27,7 +27,7 @@ use i_tree::status::tree::StatusTree;
 use locate::answer_locate;
 use meetings::answer_meetings;
 use node::answer_node;
-use rings::answer_rings;
+use rings::{answer_rings, answer_tile};
 use runs::{SegReply, run_keys, run_segments, run_sets};
 use snap::answer_snap;
 use std::alloc::Allocator;
@@ -113,6 +113,14 @@ pub fn answer_text<A: Allocator + Copy>(
         Mode::Overlay { operation, rule } => {
             let said = parse_rings(alloc, text)?;
             answer_rings(alloc, operation, rule, &said)
+        }
+        Mode::Tile {
+            window,
+            operation,
+            rule,
+        } => {
+            let said = parse_rings(alloc, text)?;
+            answer_tile(alloc, window, operation, rule, &said)
         }
     }
 }

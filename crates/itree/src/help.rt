@@ -53,11 +53,13 @@ itree node: as itree snap, but an edge is moved only where it comes near to wher
 a point with fractions, or near to what such an edge passes. Any other is broken at what lies on it.
   edge X0 Y0 X1 Y1                     chain X Y ..
 
-itree overlay OPERATION RULE: polygons of what OPERATION, union, intersection, difference or xor,
-makes of the inside of the subject and that of the clip, by RULE, evenodd, nonzero, positive or
-negative. Each line is a ring. A polygon has a line, polygon X Y .., its outer ring, and behind it
-one for each of its holes, hole X Y .., which run clockwise. Options do as well, in any order:
---operation OPERATION, union where it isn't there, and --rule RULE, nonzero where it isn't there.
+itree overlay OPERATION RULE, itree overlay OPERATION RULE --window X0 Y0 X1 Y1: polygons of what
+OPERATION, union, intersection, difference or xor, makes of the inside of the subject and that of
+the clip, by RULE, evenodd, nonzero, positive or negative; or what of these lies in a window, from
+X0 to X1 and from Y0 to Y1. Each line is a ring. A polygon has a line, polygon X Y .., its outer
+ring, and behind it one for each of its holes, hole X Y .., which run clockwise. Options do as
+well, in any order: --operation OPERATION, union where it isn't there, --rule RULE, nonzero where
+it isn't there, and --window.
   subject X Y ..
   clip X Y ..
 

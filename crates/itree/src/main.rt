@@ -18,7 +18,7 @@ mod version;
 
 use fault::Fault;
 use fault::tell::tell_fault;
-use options::chosen;
+use options::{Choice, Sides, chosen};
 use program::run_itree;
 use std::env;
 use std::io::{self, ErrorKind, Write};
@@ -55,11 +55,32 @@ fn run_process(rt: &HostRuntime) -> io::Result<u8> {
         .iter()
         .map(|argument| argument.as_str())
         .collect(rt.alloc())?;
-    // An overlay's options stand for its two words.
+    // An overlay's options stand for its words.
     match chosen(&words) {
-        Some((operation, rule)) => Ok(run_words(rt, &["overlay", operation, rule])),
+        Some(chosen) => Ok(run_chosen(rt, chosen)),
         None => Ok(run_words(rt, &words)),
     }
+}
+
+// Runs the program over the words of an overlay.
+fn run_chosen(rt: &HostRuntime, chosen: Choice) -> u8 {
+    let (operation, rule) = (chosen.operation, chosen.rule);
+    let Some(
+        Sides {
+            left,
+            low,
+            right,
+            high,
+        },
+    ) = chosen.window
+    else {
+        return run_words(rt, &["overlay", operation, rule]);
+    };
+    let window = "--window";
+    run_words(
+        rt,
+        &["overlay", operation, rule, window, left, low, right, high],
+    )
 }
 
 // Runs the program over these words and the process's streams.

@@ -1,14 +1,23 @@
 //! The modes of the program.
 
-ghost use Rattle.std.specs.Prelude.{◌≡◌, ◌≢◌, ◌↔◌, IfSome, IsNone, IsTrue};
+ghost use Rattle.std.specs.Prelude.{◌≡◌, ◌≢◌, ◌↔◌, ◌∷◌, [], codes, IfSome, IsNone, IsTrue};
 ghost use Rattle.i_tree.specs.Seg.Buckets.{HasLayout};
-ghost use Rattle.itree.specs.Modes.{Names, NamesMode, FitsItsNumbers, NamesRange, NamesOverlay, operation_word, rule_word};
+ghost use Rattle.itree.specs.Grammar.{ReadsAll};
+ghost use Rattle.itree.specs.Modes.{Names, NamesMode, NamedBy, FitsItsNumbers, IsSpan, NamesRange, NamesOverlay, operation_word, rule_word, sides_of};
 ghost use Rattle.overlay.specs.declared.fill.rules.FillRule.{FillRule};
 ghost use Rattle.overlay.specs.declared.fill.rules.Operation.{Operation};
+ghost use Rattle.tiles.specs.Window.{CanCropTo};
 
 use crate::lines::number;
 use i_tree::{LayoutNumber, LayoutUInt};
 use overlay::fill::{FillRule, Operation};
+use tiles::Window;
+
+/// The least number for a side of a window: 2 more than the least of all.
+pub const LEAST_SIDE: i32 = i32::MIN + 2;
+
+/// The greatest one: 2 less than the greatest of all.
+pub const GREATEST_SIDE: i32 = i32::MAX - 2;
 
 /// What the program runs its commands over.
 #[derive(Clone, Copy, Debug, PartialEq, Eq)]
@@ -41,6 +50,12 @@ pub enum Mode {
         operation: Operation,
         rule: FillRule,
     },
+    /// As in `Overlay`, but what of the polygons lies in the window, within which an overlay can be made.
+    Tile {
+        window: Window,
+        operation: Operation,
+        rule: FillRule,
+    },
 }
 
 impl Mode {
@@ -62,6 +77,16 @@ impl Mode {
             ["snap"] => Some(Mode::Snap),
             ["node"] => Some(Mode::Node),
             ["overlay", operation, rule] => overlay_by(operation, rule),
+            [
+                "overlay",
+                operation,
+                rule,
+                "--window",
+                left,
+                low,
+                right,
+                high,
+            ] => { tile_by(operation, rule, left, low, right, high) }
             _ => None,
         }
     }
@@ -88,6 +113,67 @@ fn overlay_by(operation: &str, rule: &str) -> Option<Mode>
     let operation = operation_named(operation)?;
     let rule = rule_named(rule)?;
     Some(Mode::Overlay { operation, rule })
+}
+
+// The mode of an overlay by the operation and the rule that the words name, within the window that the others are read as.
+fn tile_by(
+    operation: &str,
+    rule: &str,
+    left: &str,
+    low: &str,
+    right: &str,
+    high: &str,
+) -> Option<Mode>
+    ensures named { IfSome result (λ mode. NamedBy mode (codes "overlay" ∷ operation.now ∷ rule.now ∷ codes "--window"
+        ∷ left.now ∷ low.now ∷ right.now ∷ high.now ∷ [])) }
+    ensures unnamed { IsNone result → (mode : Mode) → ¬ (NamedBy mode (codes "overlay" ∷ operation.now ∷ rule.now
+        ∷ codes "--window" ∷ left.now ∷ low.now ∷ right.now ∷ high.now ∷ [])) }
+{
+    let operation = operation_named(operation)?;
+    let rule = rule_named(rule)?;
+    let window = window_named(left, low, right, high)?;
+    Some(Mode::Tile {
+        window,
+        operation,
+        rule,
+    })
+}
+
+// The window whose sides the words are read as, if an overlay can be made within it.
+fn window_named(left: &str, low: &str, right: &str, high: &str) -> Option<Window>
+    ensures named { IfSome result (λ window. CanCropTo window
+        × ReadsAll (left.now ∷ low.now ∷ right.now ∷ high.now ∷ []) (sides_of window)) }
+    ensures unnamed { IsNone result → (window : Window) → CanCropTo window →
+        ¬ (ReadsAll (left.now ∷ low.now ∷ right.now ∷ high.now ∷ []) (sides_of window)) }
+{
+    let left = number(left)?;
+    let low = number(low)?;
+    let right = number(right)?;
+    let high = number(high)?;
+    let window = Window {
+        left,
+        low,
+        right,
+        high,
+    };
+    if !can_crop_to(window) {
+        return None;
+    }
+    Some(window)
+}
+
+// Whether an overlay can be made within the window.
+fn can_crop_to(window: Window) -> bool
+    ensures { IsTrue result ↔ CanCropTo window }
+{
+    is_span(window.left, window.right) && is_span(window.low, window.high)
+}
+
+// Whether a window may go from the one number to the other along an axis: it has points then, and a margin.
+fn is_span(low: i32, high: i32) -> bool
+    ensures { IsTrue result ↔ IsSpan low high }
+{
+    LEAST_SIDE <= low && low < high && high <= GREATEST_SIDE
 }
 
 /// The operation that the word names.

@@ -2,77 +2,108 @@
 
 ghost use Rattle.std.specs.Prelude.{◌≡◌, ◌<◌, ◌≤◌, codes, length, get_or, IfSome};
 
-/// What an option of an overlay gives.
-#[derive(Clone, Copy, Debug, PartialEq, Eq)]
-pub enum Choice {
-    /// The operation.
-    Operation,
-    /// The rule.
-    Rule,
+/// The words for the sides of a window.
+#[derive(Clone, Copy, Debug)]
+pub struct Sides<'a> {
+    pub left: &'a str,
+    pub low: &'a str,
+    pub right: &'a str,
+    pub high: &'a str,
 }
 
-/// An option: what it gives, its value, and the place behind it.
+/// What an option of an overlay gives.
 #[derive(Clone, Copy, Debug)]
-pub struct Given<'a> {
-    pub choice: Choice,
-    pub value: &'a str,
+pub enum Given<'a> {
+    /// The operation.
+    Operation(&'a str),
+    /// The rule.
+    Rule(&'a str),
+    /// The window.
+    Window(Sides<'a>),
+}
+
+/// An option, and the place behind it.
+#[derive(Clone, Copy, Debug)]
+pub struct Placed<'a> {
+    pub given: Given<'a>,
     pub next: usize,
 }
 
-/// The operation and the rule that the options behind the word `overlay` give: `union` where none gives an operation, and
-/// `nonzero` where none gives a rule; of two that give the same the last counts. Where there is another word, `None`.
-pub fn chosen<'a>(words: &[&'a str]) -> Option<(&'a str, &'a str)> {
+/// What the options of an overlay give together.
+#[derive(Clone, Copy, Debug)]
+pub struct Choice<'a> {
+    pub operation: &'a str,
+    pub rule: &'a str,
+    pub window: Option<Sides<'a>>,
+}
+
+/// What the options behind the word `overlay` give: `union` where none gives an operation, `nonzero` where none gives a rule, and
+/// no window where none gives one; of two that give the same the last counts. Where there is another word, `None`.
+pub fn chosen<'a>(words: &[&'a str]) -> Option<Choice<'a>> {
     if *words.first()? != "overlay" {
         return None;
     }
     let mut operation = "union";
     let mut rule = "nonzero";
+    let mut window = None;
     let mut place = 1;
-    // `operation` and `rule` are what the options before `place` give.
+    // `operation`, `rule` and `window` are what the options before `place` give.
     'options: while place < words.len() {
         let option = option_at(words, place)?;
-        match option.choice {
-            Choice::Operation => operation = option.value,
-            Choice::Rule => rule = option.value,
+        match option.given {
+            Given::Operation(word) => operation = word,
+            Given::Rule(word) => rule = word,
+            Given::Window(sides) => window = Some(sides),
         }
         place = option.next;
     }
-    Some((operation, rule))
+    Some(Choice {
+        operation,
+        rule,
+        window,
+    })
 }
 
-/// The option that stands at this place: `--operation VALUE`, `--rule VALUE`, or the same as one word with `=` between the two.
-pub fn option_at<'a>(words: &[&'a str], place: usize) -> Option<Given<'a>>
+/// The option that stands at this place: `--operation VALUE`, `--rule VALUE`, or the same as one word with `=` between the two; or
+/// `--window` and four values.
+pub fn option_at<'a>(words: &[&'a str], place: usize) -> Option<Placed<'a>>
     requires { place < length words.now }
     ensures { IfSome result (λ option. (place < option.next) × (option.next ≤ length words.now)) }
 {
     let word = words[place];
     if let Some(value) = word.strip_prefix("--operation=") {
-        return Some(option_of(Choice::Operation, value, place + 1));
+        return Some(option_of(Given::Operation(value), place + 1));
     }
     if let Some(value) = word.strip_prefix("--rule=") {
-        return Some(option_of(Choice::Rule, value, place + 1));
+        return Some(option_of(Given::Rule(value), place + 1));
     }
-    let choice = choice_named(word)?;
     let value = words.get(place + 1)?;
-    Some(option_of(choice, value, place + 2))
-}
-
-// What the option of this name gives.
-fn choice_named(word: &str) -> Option<Choice> {
     match word {
-        "--operation" => Some(Choice::Operation),
-        "--rule" => Some(Choice::Rule),
+        "--operation" => Some(option_of(Given::Operation(value), place + 2)),
+        "--rule" => Some(option_of(Given::Rule(value), place + 2)),
+        "--window" => window_at(words, place),
         _ => None,
     }
 }
 
+// The window that four values behind this place give.
+fn window_at<'a>(words: &[&'a str], place: usize) -> Option<Placed<'a>>
+    requires { place < length words.now }
+    ensures { IfSome result (λ option. (place < option.next) × (option.next ≤ length words.now)) }
+{
+    let high = words.get(place + 4)?;
+    let sides = Sides {
+        left: words[place + 1],
+        low: words[place + 2],
+        right: words[place + 3],
+        high,
+    };
+    Some(option_of(Given::Window(sides), place + 5))
+}
+
 // An option.
-fn option_of(choice: Choice, value: &str, next: usize) -> Given<'_>
+fn option_of(given: Given<'_>, next: usize) -> Placed<'_>
     ensures { result.next ≡ next }
 {
-    Given {
-        choice,
-        value,
-        next,
-    }
+    Placed { given, next }
 }

@@ -24,8 +24,9 @@ use std::io::{Read, Write};
 ///
 /// `words` are the arguments without the program's name, which are to be the one word of a mode: `keytree`, `keylist`,
 /// `settree`, `setlist`, `sweep`, `meetings`, `locate`, `snap` or `node`; `seg`, `MIN` and `MAX`, the ends of a range that has a
-/// layout; `overlay`, an operation and a fill rule; or one word that asks for help, `help`, `--help` or `-h`, or for the version,
-/// `--version` or `-V`. `faults` stands for standard error, and the answer is the process's status:
+/// layout; `overlay`, an operation and a fill rule, and behind these maybe `--window` and the sides of a window; or one word that
+/// asks for help, `help`, `--help` or `-h`, or for the version, `--version` or `-V`. `faults` stands for standard error, and the
+/// answer is the process's status:
 ///
 /// - 0 where all replies, or the text asked for, were written and flushed. An insertion that was refused has a reply too.
 /// - 1 where reading, writing, flushing or memory outside the commands failed, or memory for a sweep, for edges or for

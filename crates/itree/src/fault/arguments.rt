@@ -5,7 +5,7 @@ ghost use Rattle.std.specs.Prelude.{◌≡◌, ◌<◌, length, IfSome};
 use super::wanted::Wanted;
 use crate::help::asks_for_help;
 use crate::lines::number;
-use crate::mode::{Mode, operation_named, rule_named};
+use crate::mode::{GREATEST_SIDE, LEAST_SIDE, Mode, operation_named, rule_named};
 use crate::options::option_at;
 use crate::version::asks_for_version;
 
@@ -88,10 +88,43 @@ fn faulty_choice(words: &[&str]) -> FaultyArgument
     if rule_named(rule).is_none() {
         return at(2, Wanted::Rule);
     }
-    if words.len() > 3 {
-        return at(3, Wanted::NoMore);
+    match words.get(3) {
+        Some(word) if *word == "--window" => faulty_window(words),
+        Some(_) => at(3, Wanted::NoMore),
+        None => at(2, Wanted::Rule),
     }
-    at(2, Wanted::Rule)
+}
+
+// Of arguments that begin with `overlay`, an operation, a rule and `--window`, and go on with no window.
+fn faulty_window(words: &[&str]) -> FaultyArgument
+    requires { 3 < length words.now }
+    ensures { result.place < length words.now }
+{
+    if words.len() < 8 {
+        return at(3, Wanted::SidesBehind);
+    }
+    // The words behind `--window`, up to this one, are read as sides.
+    for place in 4..8 {
+        if side(words[place]).is_none() {
+            return at(place, Wanted::Side);
+        }
+    }
+    if words.len() > 8 {
+        return at(8, Wanted::NoMore);
+    }
+    match (side(words[4]), side(words[6])) {
+        (Some(left), Some(right)) if right <= left => at(6, Wanted::Above),
+        _ => at(7, Wanted::Above),
+    }
+}
+
+// The side of a window that the word is read as.
+fn side(word: &str) -> Option<i32> {
+    let side = number(word)?;
+    if side < LEAST_SIDE || GREATEST_SIDE < side {
+        return None;
+    }
+    Some(side)
 }
 
 // Of arguments that begin with `overlay` and go on with options: the first that is none, or the last where its value is missing.
@@ -115,6 +148,7 @@ fn wanted_of(word: &str) -> Wanted {
     match word {
         "--operation" => Wanted::OperationBehind,
         "--rule" => Wanted::RuleBehind,
+        "--window" => Wanted::SidesBehind,
         _ => Wanted::Choice,
     }
 }

@@ -30,6 +30,12 @@ pub enum Wanted {
     Mode,
     /// A greater end of a range.
     Greater,
+    /// A side of a window.
+    Side,
+    /// A right side of a window that is greater than its left one, or an upper than its lower.
+    Above,
+    /// The sides of a window, behind the word.
+    SidesBehind,
     /// An operation of an overlay.
     Operation,
     /// An operation of an overlay, behind the word.
@@ -60,13 +66,16 @@ impl Wanted {
             Wanted::NoMore => "no further word is wanted",
             Wanted::Mode => "a mode is wanted; itree help lists them",
             Wanted::Greater => "a number that is at least 31 more than the one before is wanted",
+            Wanted::Side => "a whole number from -2147483646 to 2147483645 is wanted",
+            Wanted::Above => "a number that is greater than the one two words before is wanted",
+            Wanted::SidesBehind => "four numbers, X0 Y0 X1 Y1, are wanted behind it",
             Wanted::Operation => "union, intersection, difference or xor is wanted",
             Wanted::OperationBehind => {
                 "union, intersection, difference or xor is wanted behind it"
             }
             Wanted::Rule => "evenodd, nonzero, positive or negative is wanted",
             Wanted::RuleBehind => "evenodd, nonzero, positive or negative is wanted behind it",
-            Wanted::Choice => "--operation or --rule is wanted",
+            Wanted::Choice => "--operation, --rule or --window is wanted",
         }
     }
 }

@@ -186,7 +186,7 @@ fn beginning(mode: Mode) -> Wanted
         Mode::Sweep => Wanted::OfSweep,
         Mode::Meetings | Mode::Snap | Mode::Node => Wanted::OfEdges,
         Mode::Locate => Wanted::OfLocate,
-        Mode::Overlay { .. } => Wanted::OfRings,
+        Mode::Overlay { .. } | Mode::Tile { .. } => Wanted::OfRings,
     }
 }
 

@@ -5,7 +5,7 @@ use Rattle.i_tree.specs.Rb.Shape.{Shape, entries}
 use Rattle.i_tree.specs.Seg.Buckets.{IsLayout}
 use Rattle.i_tree.specs.Set.Pairs.{values}
 use Rattle.i_tree.specs.Set.SetList.{numbered}
-use Rattle.itree.specs.Answers.{AnswersKeys, AnswersSet, AnswersSegments, AnswersSweep, AnswersMeetings, AnswersLocate, AnswersSnap, AnswersNode, AnswersOverlay}
+use Rattle.itree.specs.Answers.{AnswersKeys, AnswersSet, AnswersSegments, AnswersSweep, AnswersMeetings, AnswersLocate, AnswersSnap, AnswersNode, AnswersOverlay, AnswersTile}
 use Rattle.itree.specs.Grammar.{lines_of}
 use Rattle.itree.specs.KeyLines.{KeyLine}
 use Rattle.itree.specs.SegLines.{SegLine}
@@ -13,7 +13,7 @@ use Rattle.itree.specs.Texts.{HasOverlapLine, HasCrossingLines}
 use Rattle.itree.specs.declared.lines.locate.LocateLine.{LocateLine}
 use Rattle.itree.specs.declared.lines.sweep.SweepLine.{SweepLine}
 use Rattle.itree.specs.declared.mode.Mode.{Mode}
-use Rattle.itree.specs.declared.mode.Mode.TheVariants.{KeyTree, KeyList, SetTree, SetList, Segments, Sweep, Meetings, Locate, Snap, Node, Overlay}
+use Rattle.itree.specs.declared.mode.Mode.TheVariants.{KeyTree, KeyList, SetTree, SetList, Segments, Sweep, Meetings, Locate, Snap, Node, Overlay, Tile}
 use Rattle.plane.specs.declared.edge.Edge.{Edge}
 use Rattle.itree.specs.declared.set_key.SetKey.{SetKey}
 use Rattle.itree.specs.declared.timed_key.TimedKey.{TimedKey}
@@ -102,3 +102,12 @@ returns-in_ok-said-in-Overlay-clause-answered g c =
     let rule = c.in-Overlay.rule in
     answered c.answer_rings.result (λ output. string_bytes output) (Overlay operation rule) c.args.mode c.in-Overlay.is c.args.text.now said says
     (IfOk-weaker c.answer_rings.result _ (λ output. AnswersOverlay operation rule said (string_bytes output)) (λ output answers. answers said held) c.answer_rings.ensures.answered)
+
+pub returns-in_ok-said-in-Tile-clause-answered : goal.returns-in_ok-said-in-Tile-clause-answered
+returns-in_ok-said-in-Tile-clause-answered g c =
+    let (said, says, held) = c.in_ok-said-in-Tile.ensures.said in
+    let window = c.in-Tile.window in
+    let operation = c.in-Tile.operation in
+    let rule = c.in-Tile.rule in
+    answered c.answer_tile.result (λ output. string_bytes output) (Tile window operation rule) c.args.mode c.in-Tile.is c.args.text.now said says
+    (IfOk-weaker c.answer_tile.result _ (λ output. AnswersTile window operation rule said (string_bytes output)) (λ output answers. answers said held) c.answer_tile.ensures.answered)

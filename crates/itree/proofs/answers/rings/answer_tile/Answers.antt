@@ -1,0 +1,34 @@
+use Rattle.std.proofs.Common.{◌∙◌, List, Err, ap, subst}
+use Rattle.std.specs.List.{flat_map}
+use Rattle.itree.specs.RingLines.{subject_of, clip_of}
+use Rattle.itree.proofs.Ringed.{HasEnds-held, edges-held, rings-appended, all-appended}
+use Rattle.overlay.specs.Contours.Rings.{ring_edges}
+use Rattle.plane.specs.declared.edge.Edge.{Edge}
+use Rattle.overlay.specs.Rings.{edges_of}
+use Rattle.tiles.specs.Tile.{IsTile}
+use Rattle.itree.proofs.answers.rings.answer_tile.Goals as goal
+
+pub unreachable-requires : goal.unreachable-requires
+unreachable-requires g c =
+    let (said, held) = c.requires.said in
+    let rings = c.args.rings.now in
+    c.overlay_in.ensures.lengths.0 (c.in-Err-Lengths.is ∙ ap Err c.in-Err-Lengths.field-0-is) (
+      HasEnds-held (subject_of said) c.rings-subject.result rings.subject.points.items rings.subject.ends.items c.rings-subject.ensures.points c.rings-subject.ensures.ends held.0,
+      HasEnds-held (clip_of said) c.rings-clip.result rings.clip.points.items rings.clip.ends.items c.rings-clip.ensures.points c.rings-clip.ensures.ends held.1,
+    )
+
+pub returns-in-Ok-clause-answered : goal.returns-in-Ok-clause-answered
+returns-in-Ok-clause-answered g c = λ said (subject, clip).
+    let rings = c.args.rings.now in
+    let (can, (polygons, is, appended)) = c.in-Ok.ensures.ok in
+    let of_subject = edges-held (subject_of said) c.rings-subject.result rings.subject.points.items rings.subject.ends.items c.rings-subject.ensures.points c.rings-subject.ensures.ends subject in
+    let of_clip = edges-held (clip_of said) c.rings-clip.result rings.clip.points.items rings.clip.ends.items c.rings-clip.ensures.points c.rings-clip.ensures.ends clip in
+    let made = c.new-polygons.ensures in
+    record {
+      polygons = polygons;
+      are = subst (λ (edges : List Edge). IsTile c.args.window c.args.rule c.args.operation (flat_map ring_edges (subject_of said)) edges polygons) of_clip
+          (subst (λ (edges : List Edge). IsTile c.args.window c.args.rule c.args.operation edges (edges_of c.rings-clip.result) polygons) of_subject is);
+      written = c.in_ok-polygon_text-in-Ok.ensures polygons
+          (rings-appended polygons c.new-polygons.result c.overlay_in.new.out appended made.points made.ring_ends made.polygon_ends)
+          (all-appended polygons c.new-polygons.result c.overlay_in.new.out appended made.points made.ring_ends made.polygon_ends);
+    }
