@@ -34,7 +34,7 @@ LANGUAGES = {
     "python": ("Python: `itree`", "python", lambda: wrapped.names_of_python("bindings/python/itree/__init__.py")),
 }
 PARAMETER = re.compile(r"[a-z_]\w*(?:, [a-z_]\w*)*: ")
-GEOPANDAS = "bindings/python/itree/geopandas.py"
+MODULES = {"geopandas.": "bindings/python/itree/geopandas.py", "dask.": "bindings/python/itree/dask.py"}
 WRITTEN = "*`docs/reference.py` wrote this page from {}. It is never edited by hand.*"
 
 
@@ -340,7 +340,7 @@ def language_page(language):
     )
     modules = [("", found)]
     if language == "python":
-        modules.append(("geopandas.", wrapped.names_of_python(GEOPANDAS)[1]))
+        modules += [(owner, wrapped.names_of_python(path)[1]) for owner, path in MODULES.items()]
     for owner, names in modules:
         for it in names:
             rows.append((f"`{owner}{it.name}`", named(told, it, marked, owner=owner), brief(TOLD[language](it.told[0][0]))))

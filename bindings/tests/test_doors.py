@@ -1268,7 +1268,7 @@ class Documents(unittest.TestCase):
             self.assertTrue(wanted)
 
     def test_lists(self):
-        self.assert_runs("itree", 2)
+        self.assert_runs("itree", 3)
 
     @needs_shapely
     def test_shapely(self):

@@ -33,7 +33,7 @@ from unittest import mock
 
 import itree
 import itree.geopandas
-from itree import _clip, _each, _gathered, _near, _overlays, _pieces, _points, _rings, _rows, _shapely, _shapes, _wkb
+from itree import _boxes, _clip, _each, _gathered, _near, _overlays, _pieces, _points, _rings, _rows, _shapely, _shapes, _wkb
 
 try:
     import numpy
@@ -80,7 +80,7 @@ STEP = 10**6
 def without_numpy():
     """As if the program hadn't loaded numpy."""
     with contextlib.ExitStack() as stack:
-        for module in _each, _gathered, _overlays, _rings, _rows, _shapes, _wkb:
+        for module in _boxes, _each, _gathered, _overlays, _rings, _rows, _shapes, _wkb:
             stack.enter_context(mock.patch.object(module, "numpy_where_loaded", lambda: None))
         yield
 

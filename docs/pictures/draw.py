@@ -5,7 +5,8 @@ usage: draw.py            writes them all
        draw.py --check    compares each with what it would write, and ends with 'N passed, M failed'
 
 Some stand in files of their own: `stages.py` (the way from rings to polygons, and counts in columns), `chords.py` (rings cut
-into stretches) and `sizes.py` (the crates, which it reads from crates.txt with their lines, and the rooms of i_tree).
+into stretches), `tiles.py` (windows, and tiles that are joined) and `sizes.py` (the crates, which it reads from crates.txt with
+their lines, and the rooms of i_tree).
 
 `sweep.svg` shows `sweep.lines`, with the answers that `sweep.replies` has: the process tests run the program over the one
 and compare what it prints with the other. So does `locate.svg` with `locate.lines` and `locate.replies`, and `snap.svg` with
@@ -20,6 +21,7 @@ sys.dont_write_bytecode = True
 import chords
 import sizes
 import stages
+import tiles
 from shapes import (
     BLACK,
     BLUE,
@@ -389,7 +391,7 @@ def overlay():
 PICTURES = {
     **{"layers": sizes.layers, "rooms": sizes.rooms, "slots": slots, "descent": descent, "buckets": buckets},
     **{"sweep": sweep, "locate": locate, "snap": snap, "fill": fill, "overlay": overlay},
-    **{"stages": stages.stages, "columns": stages.columns, "chords": chords.chords},
+    **{"stages": stages.stages, "columns": stages.columns, "chords": chords.chords, "tiles": tiles.tiles},
 }
 
 

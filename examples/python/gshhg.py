@@ -147,10 +147,12 @@ def land(resolution):
     for it in rings:
         if levels[it] not in LAKES:
             found[it] = [[moved(turned(ring, False), WEST * width // 360, width)] for ring in rings[it]]
+    wests = {}  # Of land with lakes, of which a continent has thousands.
     for it in rings:
         around = found.get(parents[it]) if levels[it] in LAKES else None
         if around:
             largest = max(around, key=lambda polygon: len(polygon[0]))
-            west = min(x for x, _ in largest[0])
-            largest += [moved(turned(ring, True), west, width) for ring in rings[it]]
+            if parents[it] not in wests:
+                wests[parents[it]] = min(x for x, _ in largest[0])
+            largest += [moved(turned(ring, True), wests[parents[it]], width) for ring in rings[it]]
     return [polygon for it in found.values() for polygon in it], width

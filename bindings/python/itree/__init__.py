@@ -93,6 +93,16 @@ Layers
     Where there are floats, all arguments of a call are on one grid. itree.geopandas
     has overlay, dissolve, unary_union, sjoin and clip by geopandas' signatures.
 
+Large overlays
+    `overlay`, `simplify` and `unary_union` take threads=. `overlay_in` makes a
+    tile, what of an overlay lies in a window, of what comes near that alone; and
+    `join` one answer of the tiles of `windows` side by side. itree.dask has these
+    over processes and machines.
+
+    >>> tiles = [itree.overlay_in(it, [square], [hole]) for it in [(0, 0, 4, 9), (4, 0, 9, 9)]]
+    >>> [sorted(it.outer) for it in itree.join(tiles, [(0, 0, 4, 9), (4, 0, 9, 9)])]
+    [[(0, 0), (0, 9), (9, 0), (9, 9)]]
+
 Long calls
     A call runs without Python's lock. In the main thread KeyboardInterrupt stops
     one that is long. memory_limit=, of each call but how_they_meet, is how many
@@ -158,6 +168,8 @@ from ._polygons import Polygon, Polygons
 from ._pieces import Pieces
 from ._points import points_in
 from ._rings import Rings
+from ._tiles import join, overlay_in
+from ._windows import windows
 
 __all__ = [
     "Chains",
@@ -175,6 +187,7 @@ __all__ = [
     "clip",
     "first_meeting",
     "how_they_meet",
+    "join",
     "locate",
     "make_valid",
     "meetings",
@@ -182,10 +195,12 @@ __all__ = [
     "node",
     "overlay",
     "overlay_each",
+    "overlay_in",
     "points_in",
     "simplify",
     "snap",
     "unary_union",
+    "windows",
 ]
 __version__ = _library.version
 

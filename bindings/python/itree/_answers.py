@@ -91,7 +91,7 @@ def pairs_between(edges: HeldRows, others: HeldRows, limit: int) -> memoryview:
 def numbers_of(handle: Handle) -> memoryview:
     """The numbers of a handle of pairs, which is given back with the last view of them."""
     at = handle.at
-    return _held(handle, library.itree_pairs_first(at), 2 * library.itree_pairs_count(at), "Q")
+    return view_at(handle, library.itree_pairs_first(at), 2 * library.itree_pairs_count(at), "Q")
 
 
 def chains_of(call: Callable[..., int], edges: HeldRows, limit: int) -> Tuple[memoryview, memoryview]:
@@ -102,8 +102,8 @@ def chains_of(call: Callable[..., int], edges: HeldRows, limit: int) -> Tuple[me
     kept = edges.kept(), handle
     checked(made(call, edges.at, edges.count, handle.to_write, size=edges.count, limit=limit, kept=kept), limit)
     at = handle.at
-    points = _held(handle, library.itree_chains_points(at), 2 * library.itree_chains_point_count(at), "i")
-    return points, _held(handle, library.itree_chains_offsets(at), library.itree_chains_count(at) + 1, "q")
+    points = view_at(handle, library.itree_chains_points(at), 2 * library.itree_chains_point_count(at), "i")
+    return points, view_at(handle, library.itree_chains_offsets(at), library.itree_chains_count(at) + 1, "q")
 
 
 def in_chains(points: memoryview, offsets: memoryview) -> List[List[Tuple[int, int]]]:
@@ -127,15 +127,15 @@ class Lists(NamedTuple):
 
     def numbers(self) -> memoryview:
         """The points, as flat 32-bit numbers, read-only."""
-        return _held(self.owner, self.points, 2 * self.point_count, "i").toreadonly()
+        return view_at(self.owner, self.points, 2 * self.point_count, "i").toreadonly()
 
     def ring_offsets(self) -> memoryview:
         """One more than there are rings, as signed 64-bit numbers, read-only."""
-        return _held(self.owner, self.rings, self.ring_count + 1, "q").toreadonly()
+        return view_at(self.owner, self.rings, self.ring_count + 1, "q").toreadonly()
 
     def polygon_offsets(self) -> memoryview:
         """One more than there are polygons, as signed 64-bit numbers, read-only."""
-        return _held(self.owner, self.polygons, self.polygon_count + 1, "q").toreadonly()
+        return view_at(self.owner, self.polygons, self.polygon_count + 1, "q").toreadonly()
 
     def given(self) -> Tuple[int, int, int, int]:
         """The rings as `overlay` takes them, for as long as this stays."""
@@ -188,7 +188,7 @@ def lists_of(numbers: memoryview, ring_offsets: memoryview, polygon_offsets: mem
 _TYPES = {"i": ctypes.c_int32, "q": ctypes.c_int64, "Q": ctypes.c_uint64}
 
 
-def _held(owner: Any, at: int, count: int, letter: Literal["i", "q", "Q"]) -> memoryview:
+def view_at(owner: Any, at: int, count: int, letter: Literal["i", "q", "Q"]) -> memoryview:
     """So many numbers at an address. What owns them is given back with the last view of them."""
     if count == 0:
         return memoryview(array.array(letter))

@@ -7,7 +7,7 @@ import contextlib
 import importlib
 from typing import Any, Dict, Iterator, List, NamedTuple, Sequence, Tuple
 
-from . import _each, _gathered, _layers, _near, _overlay, _shapely
+from . import _boxes, _each, _gathered, _layers, _near, _overlay, _shapely
 from ._answers import Lists
 from ._each import Groups
 from ._grid import Grid
@@ -75,7 +75,7 @@ class Overlay:
             layers = layer_of(one.geometry, "df1"), layer_of(other.geometry, "df2")
             self._grid = _layers.fitted_to(layers)
             self._held = _each.held(layers, self._grid)
-        pairs = _each.in_order(_each.pairs_of_boxes(self._held, 0))
+        pairs = _boxes.in_order(_boxes.pairs_of_boxes(self._held, 0))
         self._pairs = module("numpy").asarray(pairs).astype("int64").reshape(-1, 2)
 
     def intersection(self) -> Any:

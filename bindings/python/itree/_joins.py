@@ -5,7 +5,7 @@ from __future__ import annotations
 import array
 from typing import Any, Dict, List, Tuple
 
-from . import _each, _gathered, _layers, _near
+from . import _boxes, _each, _gathered, _layers, _near
 from ._clip import KEEPS, LineLayer, clipped
 from ._each import Groups
 from ._frames import NON_ZERO, Made, array_of, layer_of, made_of, module, only
@@ -153,7 +153,7 @@ class Clip:
 
     def _polygons_in(self) -> Made:
         numpy, shapes = module("numpy"), self._polygons.held(self._grid)
-        pairs = numpy.asarray(_each.in_order(_each.pairs_of_boxes((shapes, self._mask), 0))).astype("int64").reshape(-1, 2)
+        pairs = numpy.asarray(_boxes.in_order(_boxes.pairs_of_boxes((shapes, self._mask), 0))).astype("int64").reshape(-1, 2)
         mask, parts = _near.near(self._mask, pairs[:, 1], shapes, pairs[:, 0])
         places, counts = numpy.unique(pairs[:, 0], return_counts=True)
         groups = _each.alone(array_of(places)), Groups(array_of(parts), array_of(numpy.cumsum(counts)))

@@ -6,7 +6,7 @@ import ctypes
 import os
 
 # As itree.h has them.
-ANSWERED, REFUSED, OVERLAP, LENGTHS, CROSSING, MEETING, FAULTY, STOPPED = 0, 1, 2, 3, 6, 7, 8, 9
+ANSWERED, REFUSED, OVERLAP, LENGTHS, CROSSING, MEETING, FAULTY, STOPPED, WINDOW, UNFIT = 0, 1, 2, 3, 6, 7, 8, 9, 10, 11
 
 _address, _length = ctypes.c_void_p, ctypes.c_size_t
 _status = ctypes.c_int32
@@ -25,6 +25,7 @@ _CALLS = {
     "itree_grid_positions": (_status, [_address, _address, _length, _address, _length]),
     "itree_grid_round": (_status, [_address, _address, _length, _address, _length, _address]),
     "itree_how_they_meet": (_status, [_address, _address, _address]),
+    "itree_join": (_status, [*[_address, _length] * 5, _address]),
     "itree_limit_memory": (None, [_length]),
     "itree_locate": (_status, [_address, _length, _address, _length, _address, _length, _address, _address]),
     "itree_meetings_all": (_status, [_address, _length, _address]),
@@ -32,6 +33,7 @@ _CALLS = {
     "itree_node": (_status, [_address, _length, _address]),
     "itree_overlay": (_status, [*[_address, _length] * 4, _status, _status, _address]),
     "itree_overlay_each": (_status, [*[_address] * 4, _status, _status, _address, _length, _address]),
+    "itree_overlay_in": (_status, [_address, *[_address, _length] * 4, _status, _status, _address]),
     "itree_pairs_count": (_length, [_address]),
     "itree_pairs_first": (_address, [_address]),
     "itree_pairs_free": (None, [_address]),
@@ -82,6 +84,12 @@ class LinesOfC(ctypes.Structure):
     """itree_lines: the points of all lines, and where each line stops among them."""
 
     _fields_ = [("points", _address), ("point_count", _length), ("ends", _address), ("line_count", _length)]
+
+
+class WindowOfC(ctypes.Structure):
+    """itree_window: a rectangle with whole corners."""
+
+    _fields_ = [(side, ctypes.c_int32) for side in ("left", "low", "right", "high")]
 
 
 class PlaceOfC(ctypes.Structure):

@@ -49,6 +49,24 @@ def near(shapes: Lists, places: Any, others: Lists, other_places: Any) -> Tuple[
     return parts.lists(), found
 
 
+def near_box(numbers: Any, ends: Any, box: Sequence[int]) -> Tuple[Any, Any]:
+    """The numbers of rings' points, and where each ring stops, of which only that is left which counts near a box.
+
+    numbers: numpy's, flat. ends: signed 64-bit numbers.
+    """
+    numpy: Any = importlib.import_module("numpy")
+    points, counts = numbers.astype("int64"), numpy.diff(ends, prepend=0)
+    rings = _Rings(points[0::2], points[1::2], numpy.repeat(numpy.arange(len(counts)), counts))
+    return _flat(numpy, _near_box(numpy, rings, box))
+
+
+def _flat(numpy: Any, rings: _Rings) -> Tuple[Any, Any]:
+    """The numbers of rings' points, and where each ring with points stops among the points."""
+    points = numpy.stack([rings.xs, rings.ys], axis=1).astype("int32")
+    ends = numpy.append(numpy.flatnonzero(numpy.diff(rings.rings)) + 1, len(points))
+    return points.ravel(), ends if len(points) else ends[:0]
+
+
 def _pays(points: int, boxes: int) -> bool:
     """Whether it pays to look which of so many points lie near so many boxes."""
     return points > _MANY and points * boxes > _WORTH
@@ -110,11 +128,10 @@ class _Parts:
     def added(self, rings: _Rings) -> int:
         """The place that a shape gets."""
         numpy: Any = importlib.import_module("numpy")
-        points = numpy.stack([rings.xs, rings.ys], axis=1).astype("int32")
+        numbers, ends = _flat(numpy, rings)
         before = len(self._numbers) // 2
-        self._numbers.frombytes(points.tobytes())
-        ends = numpy.append(numpy.flatnonzero(numpy.diff(rings.rings)) + 1, len(points)) + before
-        self._rings.extend(ends.tolist() if len(points) else [])
+        self._numbers.frombytes(numbers.tobytes())
+        self._rings.extend((ends + before).tolist())
         self._shapes.append(len(self._rings) - 1)
         return len(self._shapes) - 2
 

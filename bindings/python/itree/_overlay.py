@@ -2,13 +2,15 @@
 
 from __future__ import annotations
 
-from typing import Dict, Literal, Optional, Sequence, Tuple
+from typing import Callable, Dict, Literal, Optional, Sequence, Tuple
 
-from . import _answers, _direct, _gathered
+from . import _answers, _direct, _gathered, _threads, _windows
+from ._answers import Lists
 from ._calls import limit_of
 from ._grid import Grid
 from ._polygons import Polygons
-from ._shapes import Shapes
+from ._shapes import HeldRings, Shapes
+from ._threads import Choice
 
 Rule = Literal["evenodd", "nonzero", "positive", "negative"]
 Operation = Literal["union", "intersection", "difference", "xor"]
@@ -26,6 +28,7 @@ def overlay(
     *,
     grid: Optional[Grid] = None,
     memory_limit: Optional[int] = None,
+    threads: Optional[int] = None,
 ) -> Polygons:
     """The polygons of what an operation makes of the insides of two sets of rings.
 
@@ -39,6 +42,7 @@ def overlay(
     "positive", more often; "negative", less often.
     grid: by which floats become whole numbers, as Grid.fit(subject, clip).
     memory_limit: how many bytes the call may hold at once; None: as it likes.
+    threads: by how many threads it is made of tiles; None: as a whole.
 
     A ring is a sequence of points (x, y), or a buffer of whole numbers of the
     shape (n, 2), or flat. It goes from each point to the next one, and from the
@@ -85,22 +89,34 @@ def overlay(
     The answer's crs is that of a GeoSeries, and its srid that of extended
     well-known binary, where there is one.
 
+    With threads the plane is cut into `windows`, one for each 60,000 points or
+    so and 64 at most; each thread makes one tile after the other, as `overlay_in`
+    does, and `join` makes one answer of them. So the answer is the same whatever
+    the number of threads; beside that of None it may have more points, where an
+    edge was cut. Few points are overlaid as a whole. Each thread may hold its
+    share of memory_limit.
+
     Raises ValueError where an operation or a rule is none, where two crs or two
     srids differ, where well-known binary is faulty, which is told by its shape
     and its byte, and with a grid where a coordinate isn't finite, or is off the
     grid. Raises MemoryError where memory was refused, or the call would hold more
     than memory_limit. What is raised for faulty rings is told at help(itree).
     """
-    return overlaid([(subject, "subject"), (clip, "clip")], operation, rule, grid, memory_limit)
+    return overlaid([(subject, "subject"), (clip, "clip")], operation, rule, grid, memory_limit, _way(threads))
 
 
 def simplify(
-    rings: Shapes, rule: Rule = "nonzero", *, grid: Optional[Grid] = None, memory_limit: Optional[int] = None
+    rings: Shapes,
+    rule: Rule = "nonzero",
+    *,
+    grid: Optional[Grid] = None,
+    memory_limit: Optional[int] = None,
+    threads: Optional[int] = None,
 ) -> Polygons:
     """The polygons of what is inside of rings, by a rule: `overlay` of them and nothing.
 
     rings: what `overlay` takes.
-    rule, grid, memory_limit: as those of `overlay`.
+    rule, grid, memory_limit, threads: as those of `overlay`.
 
     So of rings that cross or touch, themselves, too, polygons are made whose
     rings visit no point twice, and whose edges don't cross; that shapely calls
@@ -112,10 +128,16 @@ def simplify(
 
     Raises what `overlay` does.
     """
-    return overlaid([(rings, "rings")], "union", rule, grid, memory_limit)
+    return overlaid([(rings, "rings")], "union", rule, grid, memory_limit, _way(threads))
 
 
-def unary_union(shapes: Shapes, *, grid: Optional[Grid] = None, memory_limit: Optional[int] = None) -> Polygons:
+def unary_union(
+    shapes: Shapes,
+    *,
+    grid: Optional[Grid] = None,
+    memory_limit: Optional[int] = None,
+    threads: Optional[int] = None,
+) -> Polygons:
     """The polygons of what is inside of any of some shapes, as shapely's unary_union: `simplify` by "nonzero".
 
     >>> [sorted(it.outer) for it in unary_union([[(0, 0), (2, 0), (2, 2), (0, 2)], [(2, 0), (4, 0), (4, 2), (2, 2)]])]
@@ -123,7 +145,7 @@ def unary_union(shapes: Shapes, *, grid: Optional[Grid] = None, memory_limit: Op
 
     Raises what `overlay` does.
     """
-    return overlaid([(shapes, "shapes")], "union", "nonzero", grid, memory_limit)
+    return overlaid([(shapes, "shapes")], "union", "nonzero", grid, memory_limit, _way(threads))
 
 
 def make_valid(shape: Shapes, *, grid: Optional[Grid] = None, memory_limit: Optional[int] = None) -> Polygons:
@@ -140,29 +162,45 @@ def make_valid(shape: Shapes, *, grid: Optional[Grid] = None, memory_limit: Opti
     return overlaid([(shape, "shape")], "union", "evenodd", grid, memory_limit)
 
 
+# What makes polygons of a subject, a clip, a choice, and the grid whose units they have.
+Way = Callable[[HeldRings, HeldRings, Choice, Optional[Grid]], Lists]
+
+
+def _as_whole(subject: HeldRings, clip: HeldRings, choice: Choice, _grid: Optional[Grid]) -> Lists:
+    return _answers.polygons_of(subject, clip, *choice)
+
+
+def _way(threads: Optional[int]) -> Way:
+    """An overlay as a whole, or by threads. Raises TypeError or ValueError where the number is none."""
+    if threads is None:
+        return _as_whole
+    count = _windows.count_of(threads, "threads")
+    return lambda subject, clip, choice, _: _threads.overlaid(count, subject, clip, choice)
+
+
 def overlaid(
     named: Sequence[Tuple[Shapes, str]],
     operation: str,
     rule: str,
     grid: Optional[Grid],
     memory_limit: Optional[int] = None,
+    way: Way = _as_whole,
 ) -> Polygons:
     """`overlay` of one or two shapes, each with the name by which its faults are told."""
-    number_in(OPERATIONS, operation, "operation")
-    number_in(RULES, rule, "rule")
+    numbers = number_in(RULES, rule, "rule"), number_in(OPERATIONS, operation, "operation")
     check_grid(grid)
-    limit = limit_of(memory_limit)
+    choice = Choice(*numbers, limit_of(memory_limit))
     direct = _direct.taken(named, rule, grid)
     if direct is not None:
         grid, (subject, clip) = direct
-        return Polygons(_answers.polygons_of(subject, clip, RULES[rule], OPERATIONS[operation], limit), grid)
+        return Polygons(way(subject, clip, choice, grid), grid)
     items = _gathered.gathered(named, grid is not None, kept=False)
     crs = _gathered.one_of((it.crs for it in items), "crs")
     srid = _gathered.one_of((it.srid for it in items), "SRID") or 0
     if grid is None:
         grid = _gathered.chosen(items)
     subject, clip = _gathered.held(items, grid)
-    return Polygons(_answers.polygons_of(subject, clip, RULES[rule], OPERATIONS[operation], limit), grid, crs, srid)
+    return Polygons(way(subject, clip, choice, grid), grid, crs, srid)
 
 
 def number_in(numbers: Dict[str, int], word: str, called: str) -> int:

@@ -7,7 +7,7 @@ import itertools
 import json
 from typing import Any, Dict, Iterable, Iterator, List, NamedTuple, Optional, Sequence, Tuple
 
-from . import _answers, _each, _files, _near, _wkb
+from . import _answers, _boxes, _each, _files, _near, _wkb
 from ._answers import Lists
 from ._each import Groups
 from ._files import Answer, Part, Source
@@ -150,7 +150,7 @@ def _clips_of(task: Task, subject: Lists, clip: Lists, features: Sequence[_Group
     """The rings of the clip, and those that may concern each feature."""
     if task.operation not in _WITHIN_SUBJECT:
         return clip, itertools.repeat(range(clip.polygon_count), len(features))
-    pairs = _each.in_order(_each.pairs_of_boxes((subject, clip), 0))
+    pairs = _boxes.in_order(_boxes.pairs_of_boxes((subject, clip), 0))
     numpy = _files.numpy() if task.by is None and clip.point_count >= _MANY else None
     if numpy is not None and len(pairs):
         # Of a large ring that part alone is taken which lies near the feature.

@@ -76,7 +76,7 @@ fn all_joined<'a>(
         polygon_ends,
         rings: Rings {
             points,
-            ends: polygon_ends,
+            ends: ring_ends,
         },
     };
     match boxed_joined(alloc, tiles) {
