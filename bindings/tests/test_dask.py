@@ -190,10 +190,9 @@ class Threads(unittest.TestCase):
             [polygons.to_wkb()],
             [polygons.to_wkb(each=True)],
             listed,
-            [polygons, None and rings, []],
-            [numpy.asarray(ring) for ring in [rings.points]] and [[numpy.asarray(ring) for ring in rings]],
+            [polygons, []],
+            [[numpy.asarray(ring) for ring in rings]],
         ):
-            parts = {k: v for k, v in parts.items()} if isinstance(parts, dict) else [it for it in parts if it is not None]
             windows = itree.dask.windows(parts, 5)
             tiles = itree.dask.overlay(parts, (), "union", windows)
             self.assertEqual(told(itree.dask.join(tiles, windows).compute()), wanted)
@@ -350,7 +349,7 @@ class Workers(unittest.TestCase):
 
     def test_a_worker_is_killed(self):
         """By its process's number, in the middle of the work; dask makes again what it took with it."""
-        parts = [functools.partial(slowly, 0.1, functools.partial(some_squares, seed, 400, 20000)) for seed in range(12)]
+        parts = [functools.partial(slowly, 0.3, functools.partial(some_squares, seed, 400, 20000)) for seed in range(12)]
         wanted = told(itree.simplify(together([some_squares(seed, 400, 20000) for seed in range(12)])))
         with workers(2) as client:
             windows = itree.dask.windows(parts, 16)
@@ -359,7 +358,7 @@ class Workers(unittest.TestCase):
             before = client.run(os.getpid)
             self.assertFalse(future.done())
             os.kill(min(before.values()), signal.SIGKILL)
-            self.assertEqual(told(future.result(timeout=60)), wanted)
+            self.assertEqual(told(future.result(timeout=300)), wanted)
 
     def test_a_part_that_cannot_be_read(self):
         windows = [(0, 0, 100, 100), (100, 0, 200, 100)]
