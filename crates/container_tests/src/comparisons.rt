@@ -152,10 +152,10 @@ fn a_set_in_a_list_compares_within_the_bounds(rt: HostRuntime) {
 }
 
 // A time of a query, and how many expirations it asks for at most among a thousand keys, of which even ones expire at 8 and odd
-// ones at 4. Where some have passed, each key is tested, and each that is left is asked when it expires.
+// ones at 4. Where some have passed, each key is asked once.
 static LIVES: [(i32, u64); 8] = [
     (4, 0),
-    (5, 1500),
+    (5, 1000),
     (5, 0),
     (6, 0),
     (8, 0),

@@ -2,6 +2,7 @@
 pub mod Descents
 pub mod Insertion
 pub mod List
+pub mod Packing
 pub mod Search
 pub mod SearchPath
 pub mod Times

@@ -7,7 +7,7 @@ ghost use Rattle.i_tree.specs.Root.Change.{Without};
 ghost use Rattle.i_tree.specs.Expiring.List.{ListLeaves};
 ghost use Rattle.i_tree.specs.Expiring.Live.{IsExpired};
 
-use super::live::{Expires, earliest_expiration, is_live, keep_live};
+use super::live::{Expires, keep_live};
 use crate::list_insertion::insert_at;
 use crate::{Expiration, Refusal};
 use std::alloc::{AllocError, Allocator};
@@ -94,16 +94,18 @@ impl<X: Expires<K, E>, K: Copy, E: Expiration, V: Copy, A: Allocator + Copy> Exp
         &self.pairs
     }
 
-    /// Removes what is expired at `time`, unless the bound says that nothing is.
-    pub fn remove_expired(&mut self, time: E)
+    /// Removes what is expired at `time`, unless the bound says that nothing is. Where something is, it tells how many of those
+    /// that are left stood before the last that went: a guess, on which no answer depends.
+    pub fn remove_expired(&mut self, time: E) -> Option<usize>
         ensures kept { Without (IsExpired X.expiration E.cmp time) self.old.pairs self.new.pairs }
         ensures leaves { ListLeaves X.expiration E.cmp time self.old self.new }
     {
         if self.earliest >= time {
-            return;
+            return None;
         }
-        keep_live::<X, K, E, V, A>(&mut self.pairs, time);
-        self.earliest = earliest_expiration::<X, K, E, V>(&self.pairs);
+        let left = keep_live::<X, K, E, V, A>(&mut self.pairs, time);
+        self.earliest = left.earliest;
+        Some(left.gap)
     }
 
     /// Puts the pair at the place. A refusal changes nothing, and is for want of memory alone, never while there is room.

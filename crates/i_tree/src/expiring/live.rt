@@ -1,9 +1,10 @@
 //! Which keys are live at a time.
 
-ghost use Rattle.std.specs.Prelude.{◌≡◌, Bool, vec_capacity};
+ghost use Rattle.std.specs.Prelude.{◌≡◌, Bool, take, vec_capacity};
 ghost use Rattle.i_tree.specs.Expiring.Live.{live_pairs, NoneExpiresBefore};
 ghost use Rattle.i_tree.specs.Root.Live.{is_live};
 
+use crate::select::select;
 use crate::{Expiration, ExpiredKey, ExpiredVal};
 use std::alloc::Allocator;
 
@@ -75,24 +76,58 @@ impl<X: Expires<K, E>, K, E: Expiration> Liveness<K> for LiveAt<X, E> {
     }
 }
 
-/// Removes the pairs that are expired at `time`.
+/// What is left of pairs once those that are expired at a time are gone.
+#[derive(Clone, Copy)]
+pub struct Left<E: Expiration> {
+    /// How many pairs are left.
+    pub count: usize,
+    /// No pair that is left expires before it.
+    pub earliest: E,
+    /// How many of them stood before the last one that is gone, or all where none is.
+    pub gap: usize,
+}
+
+/// Removes the pairs that are expired at `time`, in one pass. No promise is made about the gap, on which no answer depends.
 pub fn keep_live<X: Expires<K, E>, K: Copy, E: Expiration, V: Copy, A: Allocator>(
     pairs: &mut Vec<(K, V), A>,
     time: E,
-)
+) -> Left<E>
     ensures live { pairs.new.items ≡ live_pairs X.expiration E.cmp time pairs.old.items }
     ensures capacity { vec_capacity pairs.new ≡ vec_capacity pairs.old }
+    ensures earliest { NoneExpiresBefore X.expiration E.cmp result.earliest pairs.new.items }
 {
-    pairs.retain(|pair| is_live::<X, K, E>(&pair.0, time));
+    let left = pack_live::<X, K, E, V>(pairs, time);
+    pairs.truncate(left.count);
+    left
 }
 
-/// A time before which no key of the pairs expires: the least of their expirations, if there are any.
-pub fn earliest_expiration<X: Expires<K, E>, K, E: Expiration, V>(pairs: &[(K, V)]) -> E
-    ensures { NoneExpiresBefore X.expiration E.cmp result pairs.now }
+// Moves the pairs that are live at `time` to the front, in their order. Each key is asked once when it expires.
+//
+// Which pairs are live follows no pattern that the processor could guess, so each turn goes on by selections alone.
+fn pack_live<X: Expires<K, E>, K: Copy, E: Expiration, V: Copy>(
+    pairs: &mut [(K, V)],
+    time: E,
+) -> Left<E>
+    ensures live { take result.count pairs.new ≡ live_pairs X.expiration E.cmp time pairs.old }
+    ensures earliest { NoneExpiresBefore X.expiration E.cmp result.earliest (take result.count pairs.new) }
 {
+    let mut count: usize = 0;
     let mut earliest = E::max_expiration();
-    for pair in pairs {
-        earliest = earliest.min(X::expiration(&pair.0));
+    let mut gap = pairs.len();
+    // The first `count` pairs are the live ones of those so far, none of which expires before `earliest`. Those from `place` on are
+    // as they were.
+    for place in 0..pairs.len() {
+        let pair = pairs[place];
+        let expiration = X::expiration(&pair.0);
+        let stays = expiration >= time;
+        pairs[count] = pair;
+        gap = select(stays, gap, count);
+        earliest = select(stays, earliest.min(expiration), earliest);
+        count += usize::from(stays);
     }
-    earliest
+    Left {
+        count,
+        earliest,
+        gap,
+    }
 }

@@ -20,17 +20,17 @@ returns-then-ge-clause-kept g c =
     (Without-filter (λ pair. is_live g.X.Expires.expiration g.E.Ord.cmp c.args.time pair.0) c.args.self.now.pairs)
 
 -- the pairs that went left their room
-room : (g : _) (c : goal.After-self-1 g) → length c.keep_live.new.pairs.items + (vec_capacity c.keep_live.new.pairs - vec_len c.keep_live.new.pairs) ≡ length c.args.self.now.pairs + c.args.self.now.spare
+room : (g : _) (c : goal.After-self-1 g) → length c.keep_live-left.new.pairs.items + (vec_capacity c.keep_live-left.new.pairs - vec_len c.keep_live-left.new.pairs) ≡ length c.args.self.now.pairs + c.args.self.now.spare
 room g c =
     let shorter = length-filter_le (λ pair. is_live g.X.Expires.expiration g.E.Ord.cmp c.args.time pair.0) c.self.inside.pairs.items in
     rw (← c.self.view_is)
-    (omega (arith, shorter, ap length c.keep_live.ensures.live, c.keep_live.ensures.capacity, c.self.inside.pairs.ok.0, c.self.inside.pairs.ok.1, c.keep_live.new.pairs.ok.0, c.keep_live.new.pairs.ok.1))
+    (omega (arith, shorter, ap length c.keep_live-left.ensures.live, c.keep_live-left.ensures.capacity, c.self.inside.pairs.ok.0, c.self.inside.pairs.ok.1, c.keep_live-left.new.pairs.ok.0, c.keep_live-left.new.pairs.ok.1))
 
 pub returns-clause-leaves : goal.returns-clause-leaves
 returns-clause-leaves g c =
-    record { keeps_live = rw (← c.self.view_is) c.keep_live.ensures.live; room = room g c }
+    record { keeps_live = rw (← c.self.view_is) c.keep_live-left.ensures.live; room = room g c }
 
 pub returns-clause-kept : goal.returns-clause-kept
 returns-clause-kept g c =
-    rw (c.keep_live.ensures.live, ← c.self.view_is)
+    rw (c.keep_live-left.ensures.live, ← c.self.view_is)
     (Without-filter (λ pair. is_live g.X.Expires.expiration g.E.Ord.cmp c.args.time pair.0) c.self.inside.pairs.items)
