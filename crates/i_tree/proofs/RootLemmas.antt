@@ -9,6 +9,7 @@ pub mod Members
 pub mod Monotone
 pub mod Numbers
 pub mod Orders
+pub mod Parted
 pub mod Results
 pub mod RisingKeys
 pub mod Withouts

@@ -126,3 +126,57 @@ pub fn place_by<K: Copy, V: Copy, F: Fn(K) -> Ordering>(pairs: &[(K, V)], f: F) 
     }
     Some(place)
 }
+
+// Whether `f` calls the pair Less, or there is none.
+fn is_less_or_none<K: Copy, V: Copy, F: Fn(K) -> Ordering>(pair: Option<(K, V)>, f: &F) -> bool
+    requires { IfSome pair (λ pair. F.pre f.now pair.0) }
+    ensures { result ≡ true → IfSome pair (λ pair. F.post f.now pair.0 Less) }
+{
+    match pair {
+        Some(pair) => f(pair.0) == Ordering::Less,
+        None => true,
+    }
+}
+
+// Whether `f` calls the pair Greater, or there is none.
+fn is_greater_or_none<K: Copy, V: Copy, F: Fn(K) -> Ordering>(pair: Option<(K, V)>, f: &F) -> bool
+    requires { IfSome pair (λ pair. F.pre f.now pair.0) }
+    ensures { result ≡ true → IfSome pair (λ pair. F.post f.now pair.0 Greater) }
+{
+    match pair {
+        Some(pair) => f(pair.0) == Ordering::Greater,
+        None => true,
+    }
+}
+
+// Whether `f` calls all pairs before the place Less and all behind it Greater: the pairs beside it tell.
+#[inline(always)]
+fn parts_at<K: Copy, V: Copy, F: Fn(K) -> Ordering>(pairs: &[(K, V)], place: usize, f: &F) -> bool
+    requires callable { All (λ pair. F.pre f.now pair.0) pairs.now }
+    requires within { place ≤ length pairs.now }
+    ensures { result ≡ true → ByEachOrder (F.post f.now) pairs.now (λ order.
+        All (λ pair. order pair.0 ≡ Less) (take place pairs.now)
+        × All (λ pair. order pair.0 ≡ Greater) (drop place pairs.now)) }
+{
+    let (last, next) = beside(pairs, place);
+    is_less_or_none(last, f) && is_greater_or_none(next, f)
+}
+
+/// As `place_by`, and sooner where `near` is the place: two questions tell so. Of another guess these two are all that is lost.
+#[inline(always)]
+pub fn place_near<K: Copy, V: Copy, F: Fn(K) -> Ordering>(
+    pairs: &[(K, V)],
+    near: usize,
+    f: F,
+) -> Option<usize>
+    requires { All (λ pair. F.pre f pair.0) pairs.now }
+    ensures within { IfSome result (λ place. place ≤ length pairs.now) }
+    ensures place { ByEachOrder (F.post f) pairs.now (λ order. MatchOption result (HasEqual order pairs.now)
+        (λ place. All (λ pair. order pair.0 ≡ Less) (take place pairs.now)
+        × All (λ pair. order pair.0 ≡ Greater) (drop place pairs.now))) }
+{
+    if near <= pairs.len() && parts_at(pairs, near, &f) {
+        return Some(near);
+    }
+    place_by(pairs, f)
+}

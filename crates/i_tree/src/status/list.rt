@@ -1,10 +1,16 @@
 //! `StatusList`: the status of a sweep line, in a vector sorted along it.
 
-ghost use Rattle.std.specs.Prelude.{◌≡◌, ◌≤◌, ◌+◌, [], length, IsOk, OnOk, OnErr, IfOk};
+ghost use Rattle.std.specs.Prelude.{◌≡◌, ◌≤◌, ◌<◌, ◌+◌, [], All, is_some, length, IsOk, OnOk, OnErr, IfOk};
+ghost use Rattle.i_tree.specs.Expiring.Insertion.{has_joined, TellsNeighbours};
+ghost use Rattle.i_tree.specs.Expiring.Live.{live_pairs};
+ghost use Rattle.i_tree.specs.Root.Along.{NoneEqualBy};
 ghost use Rattle.i_tree.specs.Root.Causes.{RefusedFor};
+ghost use Rattle.i_tree.specs.Root.Live.{is_live};
+ghost use Rattle.i_tree.specs.Status.Insertion.{IsNew, JoinsOrLeaves};
+ghost use Rattle.i_tree.specs.Status.StatusList.{StatusListInserts};
 
 use super::exp::StatusCollection;
-use crate::expiring::along::{beside, neighbours, place_by, value_above, value_at_most};
+use crate::expiring::along::{beside, neighbours, place_near, value_above, value_at_most};
 use crate::expiring::insertion::has_joined;
 use crate::expiring::list::ExpiringList;
 use crate::expiring::live::ByVal;
@@ -77,13 +83,51 @@ impl<K: ExpiredVal<E>, E: Expiration, V: Copy, A: Allocator + Copy> StatusList<K
     {
         self.held.pairs()
     }
+
+    /// As `insert_between` of the trait, and with a guess of the place, which it tries first: where something expires, the place
+    /// where that stood, else `near`. Two questions tell whether the guess is right. Of a wrong one these two are all that is lost.
+    ///
+    /// Afterwards `near` is the place right behind the pair, so that pairs that come one behind another find their places. No answer
+    /// depends on it.
+    pub fn insert_near<F: Fn(K) -> Ordering>(
+        &mut self,
+        time: E,
+        near: &mut usize,
+        f: F,
+        key: K,
+        val: V,
+    ) -> Result<Option<(Option<(K, V)>, Option<(K, V)>)>, Refusal>
+        requires { All (λ pair. F.pre f pair.0) (live_pairs K.expiration E.cmp time self.old.pairs) }
+        ensures cases { IfOk result (λ told.
+            IsNew (F.post f) (is_some told) (live_pairs K.expiration E.cmp time self.old.pairs)) }
+        ensures ok { IfOk result (λ told. JoinsOrLeaves (is_live K.expiration E.cmp time) (F.post f) (is_some told)
+            (key, val) self.old.pairs self.new.pairs) }
+        ensures neighbours { IfOk result
+            (TellsNeighbours (F.post f) (live_pairs K.expiration E.cmp time self.old.pairs)) }
+        ensures err { OnErr result (self.new ≡ self.old) }
+        ensures err_new { OnErr result (NoneEqualBy (F.post f) (live_pairs K.expiration E.cmp time self.old.pairs)) }
+
+        // When it is refused, and what room there is.
+        ensures with_spare { 0 < self.old.spare → IsOk result }
+        ensures refused { RefusedFor Refusal.OutOfMemory result }
+        ensures room { length self.old.pairs + self.old.spare ≤ length self.new.pairs + self.new.spare }
+        ensures inserts { StatusListInserts K.expiration E.cmp (key, val) time self.old (has_joined result) self.new }
+    {
+        *near = self.held.remove_expired(time).unwrap_or(*near);
+        let Some(place) = place_near(self.held.pairs(), *near, f) else {
+            return Ok(None);
+        };
+        let neighbours = beside(self.held.pairs(), place);
+        self.held.put(place, key, val)?;
+        *near = place.wrapping_add(1);
+        Ok(Some(neighbours))
+    }
 }
 
 impl<K: ExpiredVal<E>, E: Expiration, V: Copy, A: Allocator + Copy> StatusCollection<K, E, V>
     for StatusList<K, E, V, A> {
     ghost use Rattle.std.specs.Prelude.{⊤};
     ghost use Rattle.i_tree.specs.Expiring.List.{ListLeaves, ListClears};
-    ghost use Rattle.i_tree.specs.Status.StatusList.{StatusListInserts};
 
     ghost stored = { λ list. list.pairs };
 
@@ -123,13 +167,7 @@ impl<K: ExpiredVal<E>, E: Expiration, V: Copy, A: Allocator + Copy> StatusCollec
         key: K,
         val: V,
     ) -> Result<Option<(Option<(K, V)>, Option<(K, V)>)>, Refusal> {
-        self.held.remove_expired(time);
-        let Some(place) = place_by(self.held.pairs(), f) else {
-            return Ok(None);
-        };
-        let neighbours = beside(self.held.pairs(), place);
-        self.held.put(place, key, val)?;
-        Ok(Some(neighbours))
+        self.insert_near(time, &mut 0, f, key, val)
     }
 
     /// Removes what is expired at `time`, and answers by `f`, which is asked about what is left alone.

@@ -10,7 +10,7 @@ use Rattle.i_tree.specs.Root.Ends.{FirstFinds, LastFinds}
 use Rattle.i_tree.specs.Root.Live.{is_live}
 use Rattle.i_tree.specs.Status.Insertion.{JoinsAlong}
 use Rattle.i_tree.specs.declared.Refusal.TheVariants.{OutOfMemory}
-use Rattle.i_tree.proofs.status.list.StatusListStatusCollection.insert_between.Goals as goal
+use Rattle.i_tree.proofs.status.list.StatusList.insert_near.Goals as goal
 
 -- a live key is called Equal
 pub returns-in_default-clause-cases : goal.returns-in_default-clause-cases
@@ -31,10 +31,10 @@ stays g c =
 
 pub returns-in_err-put-clause-err : goal.returns-in_err-put-clause-err
 returns-in_err-put-clause-err g c =
-    MatchResult-from_err c.from_residual.result _ _ c.from_residual.ensures.0 (λ _. ap (λ list. list.pairs) (stays g c))
+    MatchResult-from_err c.from_residual.result _ _ c.from_residual.ensures.0 (λ _. stays g c)
 
-pub returns-in_err-put-clause-with_room : goal.returns-in_err-put-clause-with_room
-returns-in_err-put-clause-with_room g c few =
+pub returns-in_err-put-clause-with_spare : goal.returns-in_err-put-clause-with_spare
+returns-in_err-put-clause-with_spare g c few =
     absurd (omega (arith, few, ap (λ list. list.spare) c.self.view_is, had_no_spare g.K.ExpiredVal.expiration g.E.Ord.cmp c.args.time c.self.inside.held c.remove_expired.new.self c.remove_expired.ensures.leaves (full g c)))
 
 pub returns-in_err-put-clause-err_new : goal.returns-in_err-put-clause-err_new
@@ -59,7 +59,7 @@ returns-in_err-put-clause-inserts g c =
     }
 
 pub returns-in_err-put-clause-refused : goal.returns-in_err-put-clause-refused
-returns-in_err-put-clause-refused g c _ = RefusedFor-joined c.from_residual.result OutOfMemory (returns-in_err-put-clause-inserts g c).refused
+returns-in_err-put-clause-refused g c = RefusedFor-joined c.from_residual.result OutOfMemory (returns-in_err-put-clause-inserts g c).refused
 
 -- what an insertion that has room leaves: the pair has joined the live ones at its place
 pub returns-clause-cases : goal.returns-clause-cases
