@@ -34,6 +34,8 @@ pub struct GrowingStatus<K: ExpiredVal<E>, E: Expiration, V: Copy, A: Allocator 
     few: StatusList<K, E, V, A>,
     many: StatusTree<K, E, V, A>,
     are_many: bool,
+    // The place behind the pair that the list took last, which the next one tries first. No answer depends on it.
+    near: usize,
 }
 
 impl<K: ExpiredVal<E>, E: Expiration, V: Copy, A: Allocator + Copy> Model
@@ -59,6 +61,7 @@ impl<K: ExpiredVal<E>, E: Expiration, V: Copy, A: Allocator + Copy> GrowingStatu
             few: StatusList::new(alloc, 0)?,
             many: StatusTree::new(alloc, 0)?,
             are_many: false,
+            near: 0,
         })
     }
 }
@@ -108,7 +111,7 @@ impl<K: ExpiredVal<E>, E: Expiration, V: Copy, A: Allocator + Copy> StatusCollec
                 }
             }
         }
-        let told = self.few.insert_between(time, f, key, val)?;
+        let told = self.few.insert_near(time, &mut self.near, f, key, val)?;
         self.are_many = go_over_if_many(&mut self.few, &mut self.many, time, key);
         Ok(told)
     }

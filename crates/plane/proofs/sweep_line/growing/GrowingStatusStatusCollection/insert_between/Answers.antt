@@ -13,7 +13,7 @@ returns-in_err-told-clause-err_new g c =
 pub go_over_if_many-self-inside-requires-clause-live : goal.go_over_if_many-self-inside-requires-clause-live
 go_over_if_many-self-inside-requires-clause-live g c =
     passes_joined (λ pair. is_live g.K.ExpiredVal.expiration g.E.Ord.cmp c.args.time pair.0) (c.args.key, c.args.val) c.self.inside.few.pairs
-    c.insert_between-2.new.self.pairs (is_some c.in_ok-told.told) c.in_ok-told.ensures.inserts.keeps_live
+    c.insert_near.new.self.pairs (is_some c.in_ok-told.told) c.in_ok-told.ensures.inserts.keeps_live
 
 pub returns-clause-cases : goal.returns-clause-cases
 returns-clause-cases g c = rw (← c.self.view_is, c.if-self.false) c.in_ok-told.ensures.cases
@@ -21,7 +21,7 @@ returns-clause-cases g c = rw (← c.self.view_is, c.if-self.false) c.in_ok-told
 pub returns-clause-ok : goal.returns-clause-ok
 returns-clause-ok g c =
     let over = c.go_over_if_many-self-inside in
-    rw (held_by_one over.result over.new.few.pairs (items over.new.many.shape) c.insert_between-2.new.self.pairs over.ensures.gone, ← c.self.view_is, c.if-self.false)
+    rw (held_by_one over.result over.new.few.pairs (items over.new.many.shape) c.insert_near.new.self.pairs over.ensures.gone, ← c.self.view_is, c.if-self.false)
     c.in_ok-told.ensures.ok
 
 pub returns-clause-neighbours : goal.returns-clause-neighbours
