@@ -85,7 +85,8 @@ impl<K: ExpiredVal<E>, E: Expiration, V: Copy, A: Allocator + Copy> StatusList<K
     }
 
     /// As `insert_between` of the trait, and with a guess of the place, which it tries first: where something expires, the place
-    /// where that stood, else `near`. Two questions tell whether the guess is right. Of a wrong one these two are all that is lost.
+    /// where that stood, else `near`. Two questions tell whether the guess is right. Of a wrong one these two are all that is lost,
+    /// and of one past the end nothing.
     ///
     /// Afterwards `near` is the place right behind the pair, so that pairs that come one behind another find their places. No answer
     /// depends on it.
@@ -167,7 +168,7 @@ impl<K: ExpiredVal<E>, E: Expiration, V: Copy, A: Allocator + Copy> StatusCollec
         key: K,
         val: V,
     ) -> Result<Option<(Option<(K, V)>, Option<(K, V)>)>, Refusal> {
-        self.insert_near(time, &mut 0, f, key, val)
+        self.insert_near(time, &mut usize::MAX, f, key, val)
     }
 
     /// Removes what is expired at `time`, and answers by `f`, which is asked about what is left alone.
