@@ -322,19 +322,31 @@ def plate(columns, rows):
         yield [box(x + 2, y + 2, x + 10, y + 10), box(x + 3, y + 3, x + 9, y + 5), box(x + 3, y + 6, x + 9, y + 9)]
 
 
+def bars(count):
+    """The rings of polygons: long bars, one over another, with two holes each. Their long edges go over most of all holes."""
+    for at in range(count):
+        left, low = 10 * (7 * at % count), 10 * at
+        long = box(0, low, 10 * count, low + 9)
+        yield [long, box(left + 1, low + 1, left + 4, low + 4), box(left + 2, low + 5, left + 8, low + 8)]
+
+
 def nested():
-    """Cases of holes over holes and in holes: few, each of which is looked for by itself, and many, found by a sweep."""
+    """Cases of holes over holes and in holes: few and many, found by a walk along all rings, and many under long edges, which a
+    sweep finds."""
     random = Random(SEED)
-    for columns, rows in ((1, 1), (3, 7), (9, 14)):
+    plates = [
+        (f"a plate {{}} with {columns * rows} holes, and two in each island", [*plate(columns, rows)])
+        for columns, rows in ((1, 1), (3, 7), (9, 14))
+    ]
+    for name, polygons in [*plates, *((f"{count} bars {{}} with two holes each", [*bars(count)]) for count in (4, 30, 150))]:
         for how, turn in (("along the axes", list), ("on its corner", on_corner)):
-            polygons = [list(map(turn, polygon)) for polygon in plate(columns, rows)]
-            said = [line_of("subject", ring) for polygon in polygons for ring in polygon]
+            turned_ones = [list(map(turn, polygon)) for polygon in polygons]
+            said = [line_of("subject", ring) for polygon in turned_ones for ring in polygon]
             random.shuffle(said)
             told = []
-            for outer, *holes in polygons:
+            for outer, *holes in turned_ones:
                 told += [line_of("polygon", outer), *(line_of("hole", hole[::-1]) for hole in holes)]
-            name = f"a plate {how} with {columns * rows} holes, and two in each island"
-            yield answered(name, "overlay union evenodd", lines(*said), in_order(lines(*told)), Looked(in_order))
+            yield answered(name.format(how), "overlay union evenodd", lines(*said), in_order(lines(*told)), Looked(in_order))
 
 
 class InOrder(refusals.Preloaded):

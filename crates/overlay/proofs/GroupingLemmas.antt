@@ -1,6 +1,5 @@
 pub mod Bags
 pub mod Begins
-pub mod Below
 pub mod Callers
 pub mod Corners
 pub mod Edges

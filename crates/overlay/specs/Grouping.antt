@@ -1,5 +1,5 @@
 -- Rings of closed edges as polygons. For private contracts.
-use Rattle.std.specs.Prelude.{ℕ, ◌≡◌, ◌+◌, ◌*◌, ◌<◌, ◌≤◌, ◌<ℤ◌, ⊤, Bool, true, false, not, cond, ◌&&◌, List, [], ◌∷◌, ◌++◌, All, Option, Some, get_or, length, map}
+use Rattle.std.specs.Prelude.{ℕ, ◌≡◌, ◌+◌, ◌*◌, ◌<◌, ◌≤◌, ◌<ℤ◌, ⊤, Bool, true, false, not, cond, ◌&&◌, List, [], ◌∷◌, ◌++◌, All, IfSome, Option, Some, get_or, length, map}
 use Rattle.std.specs.List.{between}
 use Rattle.std.specs.List.Sorted.{IsPermutation}
 use Rattle.std.specs.Ordering.{int_eq}
@@ -11,6 +11,7 @@ use Rattle.overlay.specs.Contours.Outlines.{next_or}
 use Rattle.overlay.specs.Fill.Begins.{BeginInOrder}
 use Rattle.overlay.specs.Fill.Turned.{turned}
 use Rattle.plane.specs.Ends.{edge_between}
+use Rattle.overlay.specs.declared.grouping.holes.Hole.{Hole}
 use Rattle.overlay.specs.declared.grouping.order.PlacedRing.{PlacedRing}
 use Rattle.overlay.specs.declared.grouping.sides.Side.{Side}
 use Rattle.overlay.specs.Polygons.{begins_before}
@@ -47,9 +48,9 @@ IsRightward side = side.piece.edge.x0 <ℤ side.piece.edge.x1
 abbrev pub IsSideAmong : ℕ → Side → Type 0
 IsSideAmong count side = (side.ring < count) × IsRightward side
 
--- It goes rightwards, and belongs to the ring of this number.
-abbrev pub IsSideOf : ℕ → Side → Type 0
-IsSideOf ring side = (side.ring ≡ ring) × IsRightward side
+-- Its first side is of a ring of a number below this one, and what is found below it too. Both go rightwards.
+abbrev pub IsHoleAmong : ℕ → Hole → Type 0
+IsHoleAmong count hole = IsSideAmong count hole.first × IfSome hole.below (IsSideAmong count)
 
 -- ---- homes
 

@@ -1,75 +1,186 @@
-//! Which ring is just below the beginning of a side, by a look at each edge of each ring.
+//! Which side is just below the beginning of each hole, by a walk along all rings.
+//!
+//! The holes stand in the order in which they begin, and so do the x at which they do. Of each point on the way it is known how
+//! many holes begin left of it. From one point to the next this number passes those holes over whose beginnings the edge goes.
 
-ghost use Rattle.std.specs.Prelude.{◌≡◌, ◌≢◌, ◌<◌, ◌⊎◌, true, IfSome, Some, length};
-ghost use Rattle.overlay.specs.Grouping.{IsRightward, IsSideOf};
+ghost use Rattle.std.specs.Prelude.{◌≡◌, ◌≢◌, ◌<◌, ◌≤◌, ℕ, All, IfOk, IfSome, length};
+ghost use Rattle.overlay.specs.Grouping.{IsHoleAmong, IsRightward, IsSideAmong};
 ghost use Rattle.overlay.specs.Rings.{AreEnds};
 
+use super::holes::Hole;
 use super::sides::{Side, side_of};
 use crate::rings::ring_at;
 use plane::edge::edge_between;
 use plane::point::Point;
 use plane::sweep_line::ActiveEdge;
 use plane::sweep_line::active::compare_active;
+use std::alloc::{AllocError, Allocator};
 use std::cmp::Ordering;
 
-/// The number of the ring of the side just below where this one begins, if there is one.
-pub fn ring_below(side: Side, points: &[Point], ends: &[usize]) -> Option<usize>
-    requires right { IsRightward side }
-    requires ends { AreEnds 0 ends.now (length points.now) }
-    ensures { IfSome result (λ ring. ring < length ends.now) }
+// A walk passes so many holes for each edge at most. A hole that is passed takes some 10 ns, and a sweep 200 ns for an edge: so
+// with more of them the sweep is faster.
+const MOST_PASSED: usize = 16;
+
+/// The x at which each hole begins.
+pub fn beginnings<A: Allocator>(alloc: A, holes: &[Hole]) -> Result<Vec<i32, A>, AllocError>
+    ensures { IfOk result (λ xs. length xs.items ≡ length holes.now) }
 {
-    let mut best = None;
-    for ring in 0..ends.len() {
-        best = highest_with_ring(best, side, ring_at(points, ends, ring), ring);
+    let mut xs = Vec::with_capacity(alloc, holes.len())?;
+    for hole in holes {
+        xs.push(hole.first.piece.edge.x0)?;
     }
-    match best {
-        Some(below) => Some(below.ring),
-        None => None,
+    Ok(xs)
+}
+
+/// Whether a walk passes so few holes that it is faster than a sweep.
+pub fn passes_few(xs: &[i32], points: &[Point], ends: &[usize]) -> bool
+    requires { AreEnds 0 ends.now (length points.now) }
+{
+    let most = points.len().saturating_mul(MOST_PASSED);
+    let mut passed = 0;
+    for ring in 0..ends.len() {
+        passed = passed_with(passed, most, xs, ring_at(points, ends, ring));
+        if passed > most {
+            return false;
+        }
+    }
+    true
+}
+
+// How many holes are passed, if so many were before this ring. It stops counting where they are more than the most.
+fn passed_with(before: usize, most: usize, xs: &[i32], points: &[Point]) -> usize {
+    let Some(last) = points.last() else {
+        return before;
+    };
+    let mut passed = before;
+    let mut count = count_before(xs, last.x);
+    // So many holes begin left of the point before.
+    for point in points {
+        let next = count_from(xs, count, point.x);
+        passed = passed.saturating_add(next.abs_diff(count));
+        if passed > most {
+            return passed;
+        }
+        count = next;
+    }
+    passed
+}
+
+/// Finds the highest side of all rings below each hole.
+pub fn walk_rings(xs: &[i32], holes: &mut [Hole], points: &[Point], ends: &[usize])
+    ghost rings: { ℕ }
+    requires each { length xs.now ≡ length holes.old }
+    requires ends { AreEnds 0 ends.now (length points.now) }
+    requires rings { length ends.now ≤ rings }
+    requires holes { All (IsHoleAmong rings) holes.old }
+    ensures { All (IsHoleAmong rings) holes.new }
+{
+    for ring in 0..ends.len() {
+        walk(xs, holes, ring_at(points, ends, ring), ring);
     }
 }
 
-// Of the best side so far and those of the ring of this number, the highest one below where this side begins.
-fn highest_with_ring(best: Option<Side>, side: Side, points: &[Point], ring: usize) -> Option<Side>
-    requires right { IsRightward side }
-    requires best { IfSome best IsRightward }
-    ensures { (result ≡ best) ⊎ IfSome result (IsSideOf ring) }
+// Notes the sides of the ring of this number at the holes that they are below.
+fn walk(xs: &[i32], holes: &mut [Hole], points: &[Point], ring: usize)
+    ghost rings: { ℕ }
+    requires each { length xs.now ≡ length holes.old }
+    requires ring { ring < rings }
+    requires holes { All (IsHoleAmong rings) holes.old }
+    ensures { All (IsHoleAmong rings) holes.new }
 {
     let Some(last) = points.last() else {
-        return best;
+        return;
     };
-    let mut found = best;
     let mut from = *last;
+    let mut count = count_before(xs, from.x);
+    // So many holes begin left of `from`.
     for to in points {
-        if spans(from, *to, side.piece.edge.x0) {
-            found = highest(found, side, side_of(edge_between(from, *to), ring));
+        let next = count_from(xs, count, to.x);
+        if next != count && from.x != to.x {
+            let side = side_of(edge_between(from, *to), ring);
+            pass(holes, count.min(next), count.max(next), side);
         }
         from = *to;
+        count = next;
     }
-    found
 }
 
-// Whether the edge between the points goes over this x, and on behind it. Most edges don't, so it is two comparisons.
-fn spans(from: Point, to: Point, x: i32) -> bool
-    ensures { result ≡ true → from.x ≢ to.x }
+// Notes the side at those of the holes from the one place on, and before the other, that it is below.
+fn pass(holes: &mut [Hole], start: usize, end: usize, side: Side)
+    ghost rings: { ℕ }
+    requires side { IsSideAmong rings side }
+    requires end { end ≤ length holes.old }
+    requires holes { All (IsHoleAmong rings) holes.old }
+    ensures { All (IsHoleAmong rings) holes.new }
 {
-    (from.x <= x) != (to.x <= x)
+    for place in start..end {
+        let Hole { first, below } = holes[place];
+        if is_next_below(side, first, below) {
+            holes[place].below = Some(side);
+        }
+    }
 }
 
-// The other side, if it lies below where this side begins and above the best one so far, or else that one.
-fn highest(best: Option<Side>, side: Side, other: Side) -> Option<Side>
+// How many holes begin left of this x.
+fn count_before(xs: &[i32], x: i32) -> usize
+    ensures { result ≤ length xs.now }
+{
+    xs.partition_point(|other| *other < x)
+}
+
+// The same, step by step from how many begin left of another x.
+fn count_from(xs: &[i32], count: usize, x: i32) -> usize
+    requires { count ≤ length xs.now }
+    ensures { result ≤ length xs.now }
+{
+    if count < xs.len() && xs[count] < x {
+        return count_on(xs, count, x);
+    }
+    count_back(xs, count, x)
+}
+
+// The same, where they are as many or more.
+fn count_on(xs: &[i32], count: usize, x: i32) -> usize
+    ensures { result ≤ length xs.now }
+{
+    for place in count..xs.len() {
+        if xs[place] >= x {
+            return place;
+        }
+    }
+    xs.len()
+}
+
+// The same, where they are as many or fewer.
+fn count_back(xs: &[i32], count: usize, x: i32) -> usize
+    requires { count ≤ length xs.now }
+    ensures { result ≤ length xs.now }
+{
+    let mut left = count;
+    // The holes behind `left` don't begin left of it, up to those that were counted.
+    while left > 0 && xs[left - 1] >= x {
+        left -= 1;
+    }
+    left
+}
+
+// Whether the side is below where the hole's first side begins, and above the one found there so far.
+fn is_next_below(side: Side, first: Side, below: Option<Side>) -> bool
     requires right { IsRightward side }
-    requires other_right { IsRightward other }
-    requires best { IfSome best IsRightward }
-    ensures { (result ≡ best) ⊎ (result ≡ Some other) }
+    requires first_right { IsRightward first }
+    requires below_right { IfSome below IsRightward }
 {
-    if is_below(other, side) && is_above(other, best) {
-        return Some(other);
-    }
-    best
+    !is_above(side, first) && is_below(side, first) && is_first_or_above(side, below)
+}
+
+// Whether both ends of the side are above where the other begins. That tells most sides that aren't below it.
+fn is_above(side: Side, other: Side) -> bool {
+    let height = other.piece.edge.y0;
+    side.piece.edge.y0 > height && side.piece.edge.y1 > height
 }
 
 // Whether the side is above the best one so far, or there is none.
-fn is_above(side: Side, best: Option<Side>) -> bool
+fn is_first_or_above(side: Side, best: Option<Side>) -> bool
     requires right { IsRightward side }
     requires best { IfSome best IsRightward }
 {

@@ -1,24 +1,21 @@
 //! To which outer ring each ring belongs.
 
-ghost use Rattle.std.specs.Prelude.{◌≡◌, ◌<◌, [], true, IfErr, IfOk, length};
+ghost use Rattle.std.specs.Prelude.{◌≡◌, ◌<◌, [], true, All, IfErr, IfOk, length};
 ghost use Rattle.i_tree.specs.declared.Refusal.TheVariants.{OutOfMemory};
 ghost use Rattle.i_tree.specs.Root.Handles.{HasAllHandles};
 ghost use Rattle.overlay.specs.Fill.Sweep.{AreFillPieces};
-ghost use Rattle.overlay.specs.Grouping.{AreHomes, AreNumbered, home_of, is_outer, pieces_of};
+ghost use Rattle.overlay.specs.Grouping.{AreHomes, AreNumbered, IsHoleAmong, home_of, is_outer, pieces_of};
 ghost use Rattle.overlay.specs.Polygons.{BoundsSome};
 ghost use Rattle.overlay.specs.Rings.{AreEnds, edges_in};
 
-use super::below::ring_below;
-use super::sides::{Side, first_sides_in_order, sides_in_order};
+use super::below::{beginnings, passes_few, walk_rings};
+use super::holes::{Hole, holes_in_order};
+use super::sides::{Side, sides_in_order};
 use i_tree::Refusal;
 use i_tree::status::exp::StatusCollection;
 use plane::point::Point;
 use plane::sweep_line::{ActiveEdge, insert_beginning};
-use std::alloc::{AllocError, Allocator};
-
-// Up to so many holes each has a pass over all edges of its own. That takes some 2 ns for an edge, and the sweep more than
-// 200.
-const FEW_HOLES: usize = 64;
+use std::alloc::Allocator;
 
 /// For each ring the number of an outer ring: for a hole, that of its polygon. An outer ring is its own, whatever stands there.
 ///
@@ -44,8 +41,14 @@ where
     ensures refused { HasAllHandles C.has_handles → IfErr result (λ cause. cause ≡ OutOfMemory) }
 {
     let mut homes = vec![in alloc; outer; are_outer.len()]?;
-    if count_of_holes(are_outer) <= FEW_HOLES {
-        settle_few(alloc, points, ends, are_outer, &mut homes)?;
+    let mut holes = holes_in_order(alloc, points, ends, are_outer)?;
+    if holes.is_empty() {
+        return Ok(homes);
+    }
+    let xs = beginnings(alloc, &holes)?;
+    if passes_few(&xs, points, ends) {
+        walk_rings(&xs, &mut holes, points, ends);
+        settle_holes(&holes, are_outer, &mut homes);
         return Ok(homes);
     }
     let sides = sides_in_order(alloc, points, ends)?;
@@ -53,32 +56,18 @@ where
     Ok(homes)
 }
 
-// How many rings aren't outer ones.
-fn count_of_holes(are_outer: &[bool]) -> usize {
-    are_outer.iter().filter(|is| !**is).count()
-}
-
-// Finds the homes of holes one by one, in the order in which they begin: what is below the first side of a hole belongs to an
+// Notes the homes of holes one by one, in the order in which they begin: what is below the first side of a hole belongs to an
 // outer ring, or to a hole that begins before it.
-fn settle_few<A: Allocator>(
-    alloc: A,
-    points: &[Point],
-    ends: &[usize],
-    are_outer: &[bool],
-    homes: &mut [usize],
-) -> Result<(), AllocError>
-    requires ends { AreEnds 0 ends.now (length points.now) }
-    requires each { length are_outer.now ≡ length ends.now }
+fn settle_holes(holes: &[Hole], are_outer: &[bool], homes: &mut [usize])
+    requires holes { All (IsHoleAmong (length are_outer.now)) holes.now }
     requires homes { AreHomes are_outer.now homes.old }
     ensures { AreHomes are_outer.now homes.new }
 {
-    let sides = first_sides_in_order(alloc, points, ends, are_outer)?;
-    for side in &sides {
-        if let Some(below) = ring_below(*side, points, ends) {
-            settle_one(*side, below, are_outer, homes);
+    for hole in holes {
+        if let Some(below) = hole.below {
+            settle_one(hole.first, below.ring, are_outer, homes);
         }
     }
-    Ok(())
 }
 
 // Finds the homes of holes by a sweep. A side that runs leftwards has the polygon below it, and so the side just below it is

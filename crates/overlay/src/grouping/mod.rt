@@ -25,6 +25,7 @@ mod appending;
 mod below;
 mod directions;
 mod edges;
+mod holes;
 mod homes;
 mod order;
 mod sides;
@@ -35,8 +36,8 @@ mod sides;
 ///
 /// No ring visits a point twice. Their edges meet only at common ends, and wind once around some points, and not at all around
 /// any other. Rings that run counterclockwise are outer ones, each of a polygon of its own. The others are holes: what is just
-/// below the first edge of a hole bounds the same piece of the plane. A pass over the edges tells it for each of a few holes,
-/// and a sweep for more. That a hole lies within its polygon is tested and not proved.
+/// below the first edge of a hole bounds the same piece of the plane. A walk along all rings tells it, and a sweep where most
+/// edges go over many holes. That a hole lies within its polygon is tested and not proved.
 ///
 /// It begins with an empty status. It is refused where memory was refused, or the status refused an edge: for want of memory alone
 /// if it has handles for any number. It may have appended something then.

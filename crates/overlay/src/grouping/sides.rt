@@ -1,14 +1,13 @@
 //! The sides of rings: their edges that aren't vertical, in the order in which they begin.
 
-ghost use Rattle.std.specs.Prelude.{◌≡◌, ◌≢◌, ◌<◌, ◌++◌, ◌∷◌, [], ℕ, All, IfOk, IsPermutation, OnOk, length};
+ghost use Rattle.std.specs.Prelude.{◌≡◌, ◌≢◌, ◌<◌, ◌++◌, ◌∷◌, [], ℕ, IfOk, IsPermutation, OnOk, length};
 ghost use Rattle.overlay.specs.declared.fill.pieces.Operand.TheVariants.{Subject};
 ghost use Rattle.overlay.specs.Contours.Rings.{ring_edges};
 ghost use Rattle.overlay.specs.Fill.Begins.{BeginInOrder};
 ghost use Rattle.overlay.specs.Fill.Turned.{piece_of, turned};
-ghost use Rattle.overlay.specs.Grouping.{AreNumbered, AreSides, IsRightward, IsSideAmong, pieces_of};
+ghost use Rattle.overlay.specs.Grouping.{AreNumbered, AreSides, IsRightward, pieces_of};
 ghost use Rattle.overlay.specs.Rings.{AreEnds, edges_in};
 
-use super::directions::first_edge;
 use super::edges::edge_at;
 use crate::fill::pieces::{Operand, Piece, compare_begins, is_sloped, piece_of};
 use crate::rings::ring_at;
@@ -108,55 +107,4 @@ pub fn side_of(edge: Edge, ring: usize) -> Side
 {
     let piece = piece_of(edge, Operand::Subject);
     Side { piece, ring }
-}
-
-/// The first side of each hole, in the order in which they begin.
-pub fn first_sides_in_order<A: Allocator>(
-    alloc: A,
-    points: &[Point],
-    ends: &[usize],
-    are_outer: &[bool],
-) -> Result<Vec<Side, A>, AllocError>
-    requires ends { AreEnds 0 ends.now (length points.now) }
-    requires each { length are_outer.now ≡ length ends.now }
-    ensures { IfOk result (λ sides. All (IsSideAmong (length ends.now)) sides.items) }
-{
-    let mut sides = first_sides(alloc, points, ends, are_outer)?;
-    sort_sides(&mut sides);
-    Ok(sides)
-}
-
-// The first side of each hole, ring by ring.
-fn first_sides<A: Allocator>(
-    alloc: A,
-    points: &[Point],
-    ends: &[usize],
-    are_outer: &[bool],
-) -> Result<Vec<Side, A>, AllocError>
-    requires ends { AreEnds 0 ends.now (length points.now) }
-    requires each { length are_outer.now ≡ length ends.now }
-    ensures { IfOk result (λ sides. All (IsSideAmong (length ends.now)) sides.items) }
-{
-    let mut sides = Vec::new(alloc);
-    for ring in 0..ends.len() {
-        if are_outer[ring] {
-            continue;
-        }
-        append_first(&mut sides, ring_at(points, ends, ring), ring)?;
-    }
-    Ok(sides)
-}
-
-// Appends the side of the ring of this number that begins first.
-fn append_first<A: Allocator>(
-    sides: &mut Vec<Side, A>,
-    points: &[Point],
-    ring: usize,
-) -> Result<(), AllocError>
-    ensures { OnOk result ((count : ℕ) → ring < count → All (IsSideAmong count) sides.old.items → All (IsSideAmong count) sides.new.items) }
-{
-    if let Some(edge) = first_edge(points) {
-        sides.push(side_of(edge, ring))?;
-    }
-    Ok(())
 }

@@ -15,6 +15,6 @@ settle-requires-clause-pieces g c =
     let bounds = c.requires.bounding in
     let wide : Fits w64 (length points * 8) = search rules in
     let few = length-edges_in points ends c.requires.ends in
-    subst (λ (sides : List Side). AreFillPieces (pieces_of sides)) (sym c.deref.ensures.value)
+    subst (λ (sides : List Side). AreFillPieces (pieces_of sides)) (sym c.deref-3.ensures.value)
     (AreFillPieces-sides (edges_in points ends) (length ends) c.in_ok-sides.sides.items (λ test. rings-closed test (rings_of points 0 ends)) bounds.noded bounds.distinct c.in_ok-sides.ensures
     (omega (arith, wide, few)))
