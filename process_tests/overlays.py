@@ -339,7 +339,7 @@ def nested():
         for columns, rows in ((1, 1), (3, 7), (9, 14))
     ]
     for name, polygons in [*plates, *((f"{count} bars {{}} with two holes each", [*bars(count)]) for count in (4, 30, 150))]:
-        for how, turn in (("along the axes", list), ("on its corner", on_corner)):
+        for how, turn in (("along the axes", list), ("turned by an eighth", on_corner)):
             turned_ones = [list(map(turn, polygon)) for polygon in polygons]
             said = [line_of("subject", ring) for polygon in turned_ones for ring in polygon]
             random.shuffle(said)

@@ -164,17 +164,18 @@ fn count_back(xs: &[i32], count: usize, x: i32) -> usize
     left
 }
 
-// Whether the side is below where the hole's first side begins, and above the one found there so far.
+// Whether the side is below where the hole's first side begins, and above the one found there so far. Four comparisons tell it of
+// most sides.
 fn is_next_below(side: Side, first: Side, below: Option<Side>) -> bool
     requires right { IsRightward side }
     requires first_right { IsRightward first }
     requires below_right { IfSome below IsRightward }
 {
-    !is_above(side, first) && is_below(side, first) && is_first_or_above(side, below)
+    !is_over(side, first) && is_first_or_above(side, below) && is_below(side, first)
 }
 
-// Whether both ends of the side are above where the other begins. That tells most sides that aren't below it.
-fn is_above(side: Side, other: Side) -> bool {
+// Whether both ends of the side are above where the other begins, so that it isn't below it.
+fn is_over(side: Side, other: Side) -> bool {
     let height = other.piece.edge.y0;
     side.piece.edge.y0 > height && side.piece.edge.y1 > height
 }
@@ -185,9 +186,15 @@ fn is_first_or_above(side: Side, best: Option<Side>) -> bool
     requires best { IfSome best IsRightward }
 {
     match best {
-        Some(other) => is_below(other, side),
+        Some(other) => !is_under(side, other) && is_below(other, side),
         None => true,
     }
+}
+
+// Whether both ends of the side are no higher than the lower one of the other, so that it isn't above it.
+fn is_under(side: Side, other: Side) -> bool {
+    let height = other.piece.edge.y0.min(other.piece.edge.y1);
+    side.piece.edge.y0 <= height && side.piece.edge.y1 <= height
 }
 
 // Whether the one is below the other at the first x that both span, or just behind it.
