@@ -3,7 +3,7 @@
 //! The holes stand in the order in which they begin, and so do the x at which they do. Of each point on the way it is known how
 //! many holes begin left of it. From one point to the next this number passes those holes over whose beginnings the edge goes.
 
-ghost use Rattle.std.specs.Prelude.{◌≡◌, ◌≢◌, ◌<◌, ◌≤◌, ℕ, All, IfOk, IfSome, length};
+ghost use Rattle.std.specs.Prelude.{◌≡◌, ◌<◌, ◌≤◌, ℕ, All, IfOk, IfSome, length};
 ghost use Rattle.overlay.specs.Grouping.{IsHoleAmong, IsRightward, IsSideAmong};
 ghost use Rattle.overlay.specs.Rings.{AreEnds};
 
