@@ -1,4 +1,5 @@
 pub mod Beside
+pub mod Beyond
 pub mod Border
 pub mod Callers
 pub mod Chains

@@ -1,6 +1,6 @@
 -- How the points of a cropped ring are pushed. For private contracts.
 use Rattle.std.specs.Int.{int_max, int_min}
-use Rattle.std.specs.Prelude.{◌≤ℤ◌, ◌≡◌, ◌≢◌, ◌⊎◌, ◌++◌, ◌∷◌, [], List, get_or}
+use Rattle.std.specs.Prelude.{◌≤ℤ◌, ◌≡◌, ◌≢◌, ◌↔◌, ◌⊎◌, ◌++◌, ◌∷◌, ℤ, [], List, All, get_or}
 use Rattle.plane.specs.declared.point.Point.{Point}
 use Rattle.tiles.specs.Window.{AreBeyond}
 use Rattle.tiles.specs.declared.window.Window.{Window}
@@ -9,6 +9,13 @@ use Rattle.tiles.specs.declared.window.Window.{Window}
 pub record HasSides (window : Window) : Type 0 where
   pub across : window.left ≤ℤ window.right
   pub up : window.low ≤ℤ window.high
+
+-- The window reaches as far as the points do: none of its sides lies beyond a line that all points keep to.
+pub record IsExtent (extent : Window) (points : List Point) : Type 0 where
+  pub left : (z : ℤ) → All (λ point. z ≤ℤ point.x) points ↔ (z ≤ℤ extent.left)
+  pub low : (z : ℤ) → All (λ point. z ≤ℤ point.y) points ↔ (z ≤ℤ extent.low)
+  pub right : (z : ℤ) → All (λ point. point.x ≤ℤ z) points ↔ (extent.right ≤ℤ z)
+  pub high : (z : ℤ) → All (λ point. point.y ≤ℤ z) points ↔ (extent.high ≤ℤ z)
 
 -- The point of the window and its sides that is nearest to the point on both axes.
 abbrev pub clamped : Window → Point → Point

@@ -1,5 +1,5 @@
 -- Windows of the plane, and what lies in them.
-use Rattle.std.specs.Prelude.{◌⊎◌, pos, ◌^◌, ◌+ℤ◌, ◌-ℤ◌, ◌*ℤ◌, ◌≤ℤ◌, ◌<ℤ◌}
+use Rattle.std.specs.Prelude.{◌⊎◌, pos, ◌^◌, ◌+ℤ◌, ◌-ℤ◌, ◌*ℤ◌, ◌≤ℤ◌, ◌<ℤ◌, List, All}
 use Rattle.plane.specs.declared.point.Point.{Point}
 use Rattle.plane.specs.Meet.Edges.{RationalPoint}
 use Rattle.tiles.specs.declared.window.Window.{Window}
@@ -51,6 +51,12 @@ abbrev pub AreBeyond : Window → Point → Point → Type 0
 AreBeyond window one other =
     ((one.x <ℤ window.left) × (other.x <ℤ window.left)) ⊎ ((window.right <ℤ one.x) × (window.right <ℤ other.x))
     ⊎ ((one.y <ℤ window.low) × (other.y <ℤ window.low)) ⊎ ((window.high <ℤ one.y) × (window.high <ℤ other.y))
+
+-- All points of the ring lie beyond one side of the window, or on the line along it.
+abbrev pub LiesBeyond : Window → List Point → Type 0
+LiesBeyond window ring =
+    All (λ point. point.x ≤ℤ window.left) ring ⊎ (All (λ point. window.right ≤ℤ point.x) ring
+    ⊎ (All (λ point. point.y ≤ℤ window.low) ring ⊎ All (λ point. window.high ≤ℤ point.y) ring))
 
 -- The whole point lies in the window or on one of its sides.
 pub record IsWithin (window : Window) (point : Point) : Type 0 where

@@ -6,8 +6,9 @@ ghost use Rattle.plane.specs.Lists.{Extends};
 ghost use Rattle.tiles.specs.Crop.{IsCropped};
 ghost use Rattle.tiles.specs.declared.window.Window.{Window};
 ghost use Rattle.tiles.specs.Pushing.{GoesOn, GoesOver, HasSides, IsClosedUp, IsPushed, IsShortened};
-ghost use Rattle.tiles.specs.Window.{CanCropTo, IsFault, widened};
+ghost use Rattle.tiles.specs.Window.{CanCropTo, IsFault, LiesBeyond, widened};
 
+use crate::extent::lies_beyond;
 use crate::fault::CropFault;
 use crate::window::Window;
 use plane::point::Point;
@@ -18,7 +19,10 @@ use std::alloc::{AllocError, Allocator};
 ///
 /// An edge both ends of which lie beyond one side of the window, widened by 2, goes to its ends clamped into that. Each other edge
 /// stays as it is. Points that repeat go, and so does a point between two others along one side of the widened window. So a ring
-/// far off becomes nothing, and one that goes round the window its four corners. (No clause says that points along a side go.)
+/// that goes round the window becomes its four corners. (No clause says that points along a side go.)
+///
+/// A ring all points of which lie beyond one side of the widened window, or on the line along it, becomes nothing. It costs its
+/// reading alone.
 ///
 /// Where it is refused `out` is left as it was.
 pub fn crop<A: Allocator>(
@@ -28,10 +32,14 @@ pub fn crop<A: Allocator>(
 ) -> Result<(), CropFault>
     ensures ok { OnOk result (CanCropTo window × ((cropped : List Point) × IsCropped window ring.now cropped
         × (out.new.items ≡ out.old.items ++ cropped))) }
+    ensures gone { OnOk result (LiesBeyond (widened window) ring.now → out.new.items ≡ out.old.items) }
     ensures err { OnErr result (out.new.items ≡ out.old.items) }
     ensures fault { IfErr result (IsFault window) }
 {
     let wide = window.widened()?;
+    if lies_beyond(ring, wide) {
+        return Ok(());
+    }
     let start = out.len();
     let outcome = append_cropped(ring, wide, out);
     if outcome.is_err() {

@@ -2,6 +2,7 @@
 #![tactic(auto)]
 
 mod cropping;
+mod extent;
 mod fault;
 mod join_fault;
 mod joined;

@@ -17,7 +17,7 @@ const LEAST: i32 = i32::MIN;
 
 const MOST: i32 = i32::MAX;
 
-static ROWS: [Row; 13] = [
+static ROWS: [Row; 14] = [
     Row {
         name: "a ring in the window stays as it is",
         window: [0, 0, 10, 10],
@@ -52,6 +52,12 @@ static ROWS: [Row; 13] = [
         name: "a ring above becomes nothing",
         window: [0, 0, 10, 10],
         ring: &[(-90, 13), (90, 14), (3, 15), (4, 16)],
+        wanted: Ok(&[]),
+    },
+    Row {
+        name: "a ring far below becomes nothing, though its edges run under the window",
+        window: [0, 0, 10, 10],
+        ring: &[(-90, -2), (90, -3), (3, -70)],
         wanted: Ok(&[]),
     },
     Row {

@@ -112,7 +112,7 @@ pub(crate) fn around(windows: &[Window]) -> Window
 }
 
 // The least window that has both in it.
-fn around_both(one: Window, other: Window) -> Window
+pub(crate) fn around_both(one: Window, other: Window) -> Window
     ensures { result ≡ around_both one other }
 {
     Window {
