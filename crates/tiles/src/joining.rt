@@ -20,8 +20,9 @@ use crate::joined::gathering::append_those;
 use crate::joined::given::Tiles;
 use crate::joined::windows::around;
 use crate::near::NearRings;
+use monotone_chains::overlay;
 use overlay::fill::{Choice, FillRule, Operation};
-use overlay::{OverlayFault, Polygons, Rings, overlay};
+use overlay::{OverlayFault, Polygons, Rings};
 use std::alloc::Allocator;
 
 /// Appends the polygons of several windows as one set: borders between them are gone.
@@ -138,7 +139,7 @@ fn unite<A: Allocator + Copy>(rings: Rings, out: &mut Polygons<A>) -> Result<(),
     append_overlay(rings, nothing, choice, out)
 }
 
-// Appends an overlay, from right ends on.
+// Appends an overlay, by monotone chains, from right ends on.
 fn append_overlay<A: Allocator + Copy>(
     subject: Rings,
     clip: Rings,
