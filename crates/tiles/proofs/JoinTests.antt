@@ -1,14 +1,15 @@
 -- Tests of lists in loops, and of windows.
-use Rattle.std.proofs.Common.{Bool, true, false, ◌||◌, ◌≡◌, ◌≢◌, ◌⊎◌, inl, inr, ℕ, ℤ, ◌+◌, ◌-◌, ◌<◌, ◌≤◌, List, drop, get_or, length, take, refl, sym, subst, arith}
+use Rattle.std.proofs.Common.{Bool, true, false, ◌||◌, ◌≡◌, ◌≢◌, ◌⊎◌, inl, inr, ℕ, ℤ, ◌+◌, ◌-◌, ◌<◌, ◌≤◌, List, [], ◌∷◌, drop, get_or, length, take, refl, sym, subst, arith}
 use Rattle.std.specs.Bool.{MatchBool}
 use Rattle.std.specs.Prelude.{◌↔◌}
 use Rattle.std.specs.List.{All, AllPairs}
 use Rattle.std.specs.Ordering.{int_eq}
 use Rattle.std.proofs.lemmas.Bool.Decides.{Decides-int_eq}
 use Rattle.std.proofs.lemmas.Int.{clamps, ints}
-use Rattle.std.proofs.lemmas.List.{drop_more, length-drop, take_all}
+use Rattle.std.proofs.lemmas.List.{drop_more, length-drop, take_all, take_more}
 use Rattle.std.proofs.lemmas.List.Kept.{AllPairs-cons}
-use Rattle.std.proofs.lemmas.List.Elements.{All-more, All-weaker}
+use Rattle.std.proofs.lemmas.List.Elements.{All-head, All-more, All-nil, All-weaker}
+use Rattle.i_tree.proofs.RootLemmas.Joined.{All-behind, All-front}
 use Rattle.i_tree.proofs.RootLemmas.Lists.{AllPairs-head, AllPairs-tail}
 use Rattle.plane.specs.declared.point.Point.{Point}
 use Rattle.tiles.specs.Join.{IsIn, around_both}
@@ -39,6 +40,10 @@ module _ {X : Type 0} (R : X → X → Type 0) (xs : List X) (at : ℕ) (d : X) 
 -- those before a place that is behind all are all
 pub all-taken : {X : Type 0} (P : X → Type 0) (xs : List X) (n : ℕ) → length xs ≤ n → All P (take n xs) → All P xs
 all-taken P xs n past every = subst (All P) (take_all n xs past) every
+
+-- the first is one of them
+pub all-first : {X : Type 0} (P : X → Type 0) (xs : List X) (d : X) → (length xs ≡ 0 → ⊥) → All P xs → P (get_or xs 0 d)
+all-first P xs d some every = every 0 d (omega (arith, some))
 
 -- all behind a place are all that are left
 pub rest-taken : {X : Type 0} (xs : List X) (k : ℕ) → take (length xs - k) (drop k xs) ≡ drop k xs
@@ -129,13 +134,44 @@ module _ (whole window : Window) where
   around-other : IsIn (around_both whole window) window
   around-other = record { left = omega (arith, ints, clamps); low = omega (arith, ints, clamps); right = omega (arith, ints, clamps); high = omega (arith, ints, clamps) }
 
+  -- and what has both in it has that which is around both
+  around-least : (outer : Window) → IsIn outer whole → IsIn outer window → IsIn outer (around_both whole window)
+  around-least outer first second =
+      let left = first.left in
+      let low = first.low in
+      let right = first.right in
+      let high = first.high in
+      let left_too = second.left in
+      let low_too = second.low in
+      let right_too = second.right in
+      let high_too = second.high in
+      record {
+        left = omega (arith, ints, clamps, left, left_too);
+        low = omega (arith, ints, clamps, low, low_too);
+        right = omega (arith, ints, clamps, right, right_too);
+        high = omega (arith, ints, clamps, high, high_too);
+      }
+
+-- The window has points, and is the least one with the first one and all of these in it.
+pub record IsAround (first whole : Window) (windows : List Window) : Type 0 where
+  pub some : HasPoints whole
+  pub all : All (IsIn whole) windows
+  pub least : (outer : Window) → IsIn outer first → All (IsIn outer) windows → IsIn outer whole
+
+pub around-first : (first : Window) → HasPoints first → IsAround first first []
+around-first first some = record { some = some; all = All-nil (IsIn first); least = λ outer is _. is }
+
 -- one window more lies in what is around
-pub around-more : (whole : Window) (windows : List Window) (i : ℕ) (d : Window) → i < length windows → HasPoints whole × All (IsIn whole) (take i windows)
-    → HasPoints (around_both whole (get_or windows i d)) × All (IsIn (around_both whole (get_or windows i d))) (take (i + 1) windows)
-around-more whole windows i d inside (some, all) =
-    let next = get_or windows i d in (
-      around-points whole next some,
-      All-more (IsIn (around_both whole next)) windows i d inside
-          (All-weaker (IsIn whole) (IsIn (around_both whole next)) (λ inner is. around-whole whole next inner is) (take i windows) all)
-          (around-other whole next),
-    )
+pub around-more : (first whole : Window) (windows : List Window) (i : ℕ) (d : Window) → i < length windows → IsAround first whole (take i windows)
+    → IsAround first (around_both whole (get_or windows i d)) (take (i + 1) windows)
+around-more first whole windows i d inside is =
+    let next = get_or windows i d in record {
+      some = around-points whole next is.some;
+      all = All-more (IsIn (around_both whole next)) windows i d inside
+          (All-weaker (IsIn whole) (IsIn (around_both whole next)) (λ inner is. around-whole whole next inner is) (take i windows) is.all)
+          (around-other whole next);
+      least = λ outer has every.
+          let both = subst (All (IsIn outer)) (take_more windows i d inside) every in
+          around-least whole next outer (is.least outer has (All-front (IsIn outer) (take i windows) (next ∷ []) both))
+          (All-head (IsIn outer) next [] (All-behind (IsIn outer) (take i windows) (next ∷ []) both));
+    }

@@ -1,9 +1,10 @@
 //! Windows side by side.
 
-ghost use Rattle.std.specs.Prelude.{◌≡◌, ◌↔◌, ◌⊎◌, ◌≤ℤ◌, All, IsTrue, MatchBool, false, true};
+ghost use Rattle.std.specs.Prelude.{◌≡◌, ◌≢◌, ◌↔◌, ◌⊎◌, ◌≤ℤ◌, [], All, IsTrue, MatchBool, false, true};
 ghost use Rattle.tiles.specs.Join.{AreBeside, IsIn, around_both};
 ghost use Rattle.tiles.specs.Part.{is_at_border};
 ghost use Rattle.tiles.specs.Window.{HasPoints, IsWithin};
+ghost use Rattle.tiles.specs.declared.window.Window.{Window};
 
 use crate::window::Window;
 use plane::point::Point;
@@ -93,18 +94,33 @@ fn stands_up(window: Window, point: Point) -> bool
     point.y == window.low || point.y == window.high
 }
 
-// A window with points that has all of these in it.
+// The least window that has all of these in it, or if there are none, one with points.
 pub(crate) fn around(windows: &[Window]) -> Window
+    requires { All HasPoints windows.now }
     ensures some { HasPoints result }
     ensures all { All (IsIn result) windows.now }
+    ensures least { (outer : Window) → windows.now ≢ [] → All (IsIn outer) windows.now → IsIn outer result }
 {
-    let mut whole = Window {
-        left: 0,
-        low: 0,
-        right: 1,
-        high: 1,
-    };
-    // It has the windows so far in it.
+    if windows.is_empty() {
+        return Window {
+            left: 0,
+            low: 0,
+            right: 1,
+            high: 1,
+        };
+    }
+    around_those(windows[0], windows)
+}
+
+// The least window that has the first one and all of these in it.
+fn around_those(first: Window, windows: &[Window]) -> Window
+    requires { HasPoints first }
+    ensures some { HasPoints result }
+    ensures all { All (IsIn result) windows.now }
+    ensures least { (outer : Window) → IsIn outer first → All (IsIn outer) windows.now → IsIn outer result }
+{
+    let mut whole = first;
+    // It is the least one that has the first one and those so far in it.
     for window in windows {
         whole = around_both(whole, *window);
     }

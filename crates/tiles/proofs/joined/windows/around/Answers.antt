@@ -1,12 +1,13 @@
-use Rattle.std.proofs.Common.{arith}
-use Rattle.tiles.specs.Join.{IsIn}
-use Rattle.tiles.proofs.JoinTests.{all-taken, around-more}
+use Rattle.std.proofs.Common.{◌∙◌, sym}
+use Rattle.std.proofs.lemmas.Bool.{eqb-false}
+use Rattle.tiles.specs.Join.{IsIn, no_tile}
+use Rattle.tiles.specs.Window.{HasPoints}
+use Rattle.tiles.proofs.JoinTests.{all-first}
 use Rattle.tiles.proofs.joined.windows.around.Goals as goal
 
-pub loop-window-preserved : goal.loop-window-preserved
-loop-window-preserved c = rw c.around_both-whole.ensures (around-more c.loop-window.whole c.args.windows.now c.loop-window.window-index _ c.loop-window-test.true c.loop-window.invariant)
+pub around_those-requires : goal.around_those-requires
+around_those-requires c = all-first HasPoints c.args.windows.now no_tile.0 (eqb-false _ _ (sym c.is_empty.ensures ∙ c.if-is_empty.false)) c.requires
 
-pub returns-clause-all : goal.returns-clause-all
-returns-clause-all c =
-    let past = c.loop-window-test.false in
-    all-taken (IsIn c.loop-window.whole) c.args.windows.now c.loop-window.window-index (omega (arith, past)) c.loop-window.invariant.1
+pub returns-clause-least : goal.returns-clause-least
+returns-clause-least c = λ outer some all.
+    c.around_those.ensures.least outer (all-first (IsIn outer) c.args.windows.now no_tile.0 (eqb-false _ _ (sym c.is_empty.ensures ∙ c.if-is_empty.false)) all) all
