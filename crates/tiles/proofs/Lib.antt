@@ -20,5 +20,7 @@ pub mod JoinTests
 pub mod JoinUncrossed
 pub mod JoinWinds
 pub mod Made
+pub mod MadeUp
 pub mod Sides
+pub mod Squares
 pub mod Within

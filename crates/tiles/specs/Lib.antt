@@ -5,4 +5,5 @@ pub mod Part
 pub mod Pushing
 pub mod Seam
 pub mod Tile
+pub mod Whole
 pub mod Window

@@ -7,7 +7,7 @@ use std::alloc::{AllocError, AllocFailed};
 use std::error::Error;
 use std::fmt::{self, Display, Formatter};
 
-/// Why the polygons of windows weren't joined.
+/// Why the polygons of windows weren't joined, or why it wasn't told which window they make up.
 #[derive(Clone, Copy, Debug, PartialEq, Eq)]
 pub enum JoinFault {
     /// A ring, a polygon or the polygons of a window stop before they begin, or there are more or fewer than stop somewhere.

@@ -10,6 +10,7 @@ mod joining;
 mod near;
 mod tile;
 mod tile_fault;
+mod whole;
 mod window;
 
 pub use cropping::crop;
@@ -19,4 +20,5 @@ pub use joined::given::Tiles;
 pub use joining::join;
 pub use tile::overlay_in;
 pub use tile_fault::TileFault;
+pub use whole::whole_of;
 pub use window::Window;

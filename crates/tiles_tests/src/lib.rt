@@ -12,4 +12,6 @@ mod tiled;
 #[cfg(test)]
 mod tiled_refused;
 #[cfg(test)]
+mod whole;
+#[cfg(test)]
 mod worked;

@@ -41,7 +41,7 @@ fn are_tiles(tiles: Tiles) -> bool
 }
 
 // Whether some point lies in each window.
-fn have_points(windows: &[Window]) -> bool
+pub(crate) fn have_points(windows: &[Window]) -> bool
     ensures { IsTrue result ↔ All HasPoints windows.now }
 {
     // Some point lies in each window so far.
@@ -54,7 +54,7 @@ fn have_points(windows: &[Window]) -> bool
 }
 
 // Whether each window lies beyond a side of each other one.
-fn are_all_beside(windows: &[Window]) -> bool
+pub(crate) fn are_all_beside(windows: &[Window]) -> bool
     ensures { IsTrue result ↔ AllPairs AreBeside windows.now }
 {
     // The windows before this place do so of all behind them.
