@@ -1532,72 +1532,32 @@ struct JoinedTiles {
 
 namespace detail {
 
-/// Rings, and the least and the greatest coordinates of each. Those of a ring without points come near to nothing.
-class BoxedRings {
-public:
-    /// Throws where a ring stops before it begins, or behind the points.
-    explicit BoxedRings(const Rings &rings) : rings_(rings) {
-        std::size_t start = 0;
-        boxes_.reserve(rings.ends.size());
-        for (const auto end : rings.ends) {
-            if (end < start || end > rings.points.size()) throw_unless_answered(ITREE_LENGTHS);
-            boxes_.push_back(nothing());
-            for (auto place = start; place < end; place++) add(rings.points[place], boxes_.back());
-            start = end;
-        }
-        count_ = start;
-    }
+/// The points of all rings. Throws where a ring stops behind the points.
+inline Span<Point> points_of(const Rings &rings) {
+    const auto count = rings.ends.empty() ? 0 : rings.ends.back();
+    if (count > rings.points.size()) throw_unless_answered(ITREE_LENGTHS);
+    return {rings.points.data(), count};
+}
 
-    /// How many points the rings have.
-    [[nodiscard]] std::size_t count() const { return count_; }
-    [[nodiscard]] const Point &operator[](std::size_t place) const { return rings_.points[place]; }
-    /// Widens the box by those of all rings.
-    void add_to(Window &box) const {
-        for (const auto &it : boxes_) {
-            box = {std::min(box.left, it.left), std::min(box.low, it.low), std::max(box.right, it.right),
-                   std::max(box.high, it.high)};
+/// The box around points, or around none one with no point.
+inline Window box_of(Span<Point> one, Span<Point> other) {
+    Window box{INT32_MAX, INT32_MAX, INT32_MIN, INT32_MIN};
+    for (const auto &points : {one, other}) {
+        for (const auto &point : points) {
+            box = {std::min(box.left, point.x), std::min(box.low, point.y), std::max(box.right, point.x),
+                   std::max(box.high, point.y)};
         }
     }
-    /// The rings that come as near to the window as a call looks.
-    [[nodiscard]] OwnRings<Point> near(const Window &window) const {
-        OwnRings<Point> found;
-        std::size_t start = 0;
-        for (std::size_t ring = 0; ring < boxes_.size(); ring++) {
-            const auto end = rings_.ends[ring];
-            if (is_near(boxes_[ring], window)) {
-                found.points.insert(found.points.end(), rings_.points.begin() + start, rings_.points.begin() + end);
-                found.ends.push_back(found.points.size());
-            }
-            start = end;
-        }
-        return found;
-    }
-    /// A box with no point.
-    static Window nothing() { return {INT32_MAX, INT32_MAX, INT32_MIN, INT32_MIN}; }
-
-private:
-    static void add(const Point &point, Window &box) {
-        box = {std::min(box.left, point.x), std::min(box.low, point.y), std::max(box.right, point.x),
-               std::max(box.high, point.y)};
-    }
-    /// The window's sides are 2 or more away from the ends of 32 bits.
-    static bool is_near(const Window &box, const Window &window) {
-        return box.left <= window.right + 2 && window.left - 2 <= box.right && box.low <= window.high + 2 &&
-               window.low - 2 <= box.high;
-    }
-
-    Rings rings_;
-    std::vector<Window> boxes_;
-    std::size_t count_ = 0;
-};
+    return box;
+}
 
 /// Points of both, one of so many that there are few.
-inline std::vector<Point> sample_of(const BoxedRings &subject, const BoxedRings &clip) {
+inline std::vector<Point> sample_of(Span<Point> subject, Span<Point> clip) {
     constexpr std::size_t most = 1 << 16;
-    const auto count = subject.count() + clip.count(), step = count / most + 1;
+    const auto count = subject.size() + clip.size(), step = count / most + 1;
     std::vector<Point> sample;
     for (std::size_t place = 0; place < count; place += step) {
-        sample.push_back(place < subject.count() ? subject[place] : clip[place - subject.count()]);
+        sample.push_back(place < subject.size() ? subject[place] : clip[place - subject.size()]);
     }
     return sample;
 }
@@ -1655,7 +1615,7 @@ void work_by(std::size_t threads, const Work &work) {
 }
 
 /// A tile for each window, by so many threads at once, joined. Throws what the first of the calls that fail throws.
-inline Polygons overlay_windows(const BoxedRings &subject, const BoxedRings &clip, Operation operation, FillRule rule,
+inline Polygons overlay_windows(const Rings &subject, const Rings &clip, Operation operation, FillRule rule,
                                 const std::vector<Window> &windows, std::size_t threads) {
     std::vector<Polygons> tiles(windows.size());
     std::vector<std::exception_ptr> faults(windows.size());
@@ -1663,8 +1623,7 @@ inline Polygons overlay_windows(const BoxedRings &subject, const BoxedRings &cli
     work_by(std::min(threads, windows.size()), [&] {
         for (auto place = next++; place < windows.size(); place = next++) {
             try {
-                tiles[place] = detail::overlay_in(windows[place], subject.near(windows[place]),
-                                                  clip.near(windows[place]), operation, rule);
+                tiles[place] = detail::overlay_in(windows[place], subject, clip, operation, rule);
             } catch (...) {
                 faults[place] = std::current_exception();
                 next = windows.size();
@@ -1683,19 +1642,17 @@ inline Polygons overlay_threads(const Rings &subject, const Rings &clip, Operati
                                 std::size_t threads) {
     constexpr std::size_t points_of_window = 60000, most = 64;
     constexpr std::int32_t least_side = INT32_MIN + 2, greatest_side = INT32_MAX - 2;
-    const BoxedRings subject_rings(subject), clip_rings(clip);
-    auto all = BoxedRings::nothing();
-    subject_rings.add_to(all);
-    clip_rings.add_to(all);
-    const auto count = std::min((subject_rings.count() + clip_rings.count()) / points_of_window, most);
+    const auto subject_points = points_of(subject), clip_points = points_of(clip);
+    const auto all = box_of(subject_points, clip_points);
+    const auto count = std::min((subject_points.size() + clip_points.size()) / points_of_window, most);
     if (count < 2 || std::min(all.left, all.low) < least_side || std::max(all.right, all.high) > greatest_side) {
         return detail::overlay(subject, clip, operation, rule);
     }
     const Window around{std::max(all.left - 1, least_side), std::max(all.low - 1, least_side),
                         std::min(all.right + 1, greatest_side), std::min(all.high + 1, greatest_side)};
     if (threads == 0) threads = std::max(std::thread::hardware_concurrency(), 1u);
-    return overlay_windows(subject_rings, clip_rings, operation, rule,
-                           windows_of(around, sample_of(subject_rings, clip_rings), count), threads);
+    return overlay_windows(subject, clip, operation, rule,
+                           windows_of(around, sample_of(subject_points, clip_points), count), threads);
 }
 
 }  // namespace detail

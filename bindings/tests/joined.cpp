@@ -103,10 +103,10 @@ PointRings random_rectangles(std::mt19937 &random, std::size_t count, std::int32
 itree::Polygons by_windows(const PointRings &subject, const PointRings &clip, Operation operation, FillRule rule,
                            std::size_t count, std::size_t threads) {
     const auto subject_rings = itree::detail::rings_of(subject), clip_rings = itree::detail::rings_of(clip);
-    const itree::detail::BoxedRings boxed_subject(subject_rings), boxed_clip(clip_rings);
-    const auto windows =
-        itree::detail::windows_of({-1, -1, 100, 90}, itree::detail::sample_of(boxed_subject, boxed_clip), count);
-    return itree::detail::overlay_windows(boxed_subject, boxed_clip, operation, rule, windows, threads);
+    const auto sample =
+        itree::detail::sample_of(itree::detail::points_of(subject_rings), itree::detail::points_of(clip_rings));
+    const auto windows = itree::detail::windows_of({-1, -1, 100, 90}, sample, count);
+    return itree::detail::overlay_windows(subject_rings, clip_rings, operation, rule, windows, threads);
 }
 
 void checks_windows() {

@@ -155,11 +155,10 @@ def overlaid(threads: int, subject: HeldRings, clip: HeldRings, choice: Choice) 
     windows = _windows_of((subject, clip))
     if len(windows) < 2 or not all(map(_windows.fits, windows)):
         return _answers.polygons_of(subject, clip, *choice)
-    sides = [Near(it, windows) for it in (subject, clip)]
     each = choice._replace(limit=choice.limit and max(1, choice.limit // threads))
 
     def tile(place: int) -> Lists:
-        return tile_of(windows[place], sides[0].rings(place), sides[1].rings(place), each)
+        return tile_of(windows[place], subject, clip, each)
 
     status, polygons = joined(_by_threads(tile, len(windows), threads), windows, choice.limit)
     if status:

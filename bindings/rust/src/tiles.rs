@@ -226,90 +226,31 @@ pub fn join(tiles: &[Tile<'_>]) -> Result<Polygons, TileFault> {
     tile_of(status, handle)
 }
 
-/// A box with no point.
-const NOTHING: Window = Window {
-    left: i32::MAX,
-    low: i32::MAX,
-    right: i32::MIN,
-    high: i32::MIN,
-};
-
-impl Window {
-    /// The box around both boxes.
-    fn with(self, other: Window) -> Window {
-        Window {
-            left: self.left.min(other.left),
-            low: self.low.min(other.low),
-            right: self.right.max(other.right),
-            high: self.high.max(other.high),
-        }
-    }
-
-    /// Whether the box comes as near to the window as a call looks. The sides of the window are 2 or more away from the ends of
-    /// 32 bits.
-    fn is_near(self, window: Window) -> bool {
-        self.left <= window.right + 2
-            && window.left - 2 <= self.right
-            && self.low <= window.high + 2
-            && window.low - 2 <= self.high
-    }
+/// The points of all rings.
+fn points_of<'a>(rings: Rings<'a>) -> Result<&'a [Point], TileFault> {
+    let count = rings.ends.last().copied().unwrap_or_default();
+    rings.points.get(..count).ok_or(TileFault::Lengths)
 }
 
-/// The box of a point.
-fn box_of(point: &Point) -> Window {
-    Window {
-        left: point.x,
-        low: point.y,
-        right: point.x,
-        high: point.y,
-    }
-}
-
-/// Rings, and the box of each. That of a ring without points comes near to nothing.
-struct BoxedRings<'a> {
-    rings: Rings<'a>,
-    boxes: Vec<Window>,
-}
-
-impl<'a> BoxedRings<'a> {
-    fn new(rings: Rings<'a>) -> Result<BoxedRings<'a>, TileFault> {
-        let mut boxes = Vec::new();
-        boxes.try_reserve_exact(rings.ends.len())?;
-        let mut start = 0;
-        for end in rings.ends {
-            let ring = rings.points.get(start..*end).ok_or(TileFault::Lengths)?;
-            boxes.push(ring.iter().map(box_of).fold(NOTHING, Window::with));
-            start = *end;
-        }
-        Ok(BoxedRings { rings, boxes })
-    }
-
-    /// The points of all rings.
-    fn points(&self) -> &'a [Point] {
-        &self.rings.points[..self.rings.ends.last().copied().unwrap_or_default()]
-    }
-
-    /// The rings that come near to the window, as copies.
-    fn near(&self, window: Window) -> Result<(Vec<Point>, Vec<usize>), TileFault> {
-        let (mut points, mut ends) = (Vec::new(), Vec::new());
-        let mut start = 0;
-        for (end, it) in self.rings.ends.iter().zip(&self.boxes) {
-            if it.is_near(window) {
-                points.try_reserve(end - start)?;
-                points.extend_from_slice(&self.rings.points[start..*end]);
-                ends.try_reserve(1)?;
-                ends.push(points.len());
-            }
-            start = *end;
-        }
-        Ok((points, ends))
-    }
+/// The box of points, or of none one with no point.
+fn box_of<'a>(points: impl Iterator<Item = &'a Point>) -> Window {
+    let nothing = Window {
+        left: i32::MAX,
+        low: i32::MAX,
+        right: i32::MIN,
+        high: i32::MIN,
+    };
+    points.fold(nothing, |all, point| Window {
+        left: all.left.min(point.x),
+        low: all.low.min(point.y),
+        right: all.right.max(point.x),
+        high: all.high.max(point.y),
+    })
 }
 
 /// Points of both, one of so many that there are few.
-fn sample_of(subject: &BoxedRings<'_>, clip: &BoxedRings<'_>) -> Result<Vec<Point>, TileFault> {
+fn sample_of(one: &[Point], other: &[Point]) -> Result<Vec<Point>, TileFault> {
     const MOST: usize = 1 << 16;
-    let (one, other) = (subject.points(), clip.points());
     let step = (one.len() + other.len()) / MOST + 1;
     let mut sample = Vec::new();
     sample.try_reserve_exact(MOST)?;
@@ -357,8 +298,8 @@ fn windows_of(around: Window, mut sample: Vec<Point>, count: usize) -> Vec<Windo
 
 /// An overlay by windows.
 struct ByWindows<'a> {
-    subject: BoxedRings<'a>,
-    clip: BoxedRings<'a>,
+    subject: Rings<'a>,
+    clip: Rings<'a>,
     operation: Operation,
     rule: FillRule,
     windows: Vec<Window>,
@@ -367,18 +308,7 @@ struct ByWindows<'a> {
 impl ByWindows<'_> {
     /// The tile of the window at this place.
     fn tile(&self, place: usize) -> Result<Polygons, TileFault> {
-        let window = self.windows[place];
-        let (subject, subject_ends) = self.subject.near(window)?;
-        let (clip, clip_ends) = self.clip.near(window)?;
-        let subject = Rings {
-            points: &subject,
-            ends: &subject_ends,
-        };
-        let clip = Rings {
-            points: &clip,
-            ends: &clip_ends,
-        };
-        overlay_in(window, subject, clip, self.operation, self.rule)
+        overlay_in(self.windows[place], self.subject, self.clip, self.operation, self.rule)
     }
 
     /// The tiles that a thread makes: each that no other one has begun, until there is none left, or there was a fault.
@@ -445,11 +375,9 @@ pub fn overlay_threads(
     const MOST: usize = 64;
     const LEAST_SIDE: i32 = i32::MIN + 2;
     const GREATEST_SIDE: i32 = i32::MAX - 2;
-    let (boxed_subject, boxed_clip) = (BoxedRings::new(subject)?, BoxedRings::new(clip)?);
-    let all = boxed_subject.boxes.iter().chain(&boxed_clip.boxes).copied();
-    let all = all.fold(NOTHING, Window::with);
-    let count = (boxed_subject.points().len() + boxed_clip.points().len()) / POINTS_OF_WINDOW;
-    let count = count.min(MOST);
+    let (subject_points, clip_points) = (points_of(subject)?, points_of(clip)?);
+    let all = box_of(subject_points.iter().chain(clip_points));
+    let count = MOST.min((subject_points.len() + clip_points.len()) / POINTS_OF_WINDOW);
     if count < 2 || all.left.min(all.low) < LEAST_SIDE || all.right.max(all.high) > GREATEST_SIDE {
         return Ok(overlay_rings(subject, clip, operation, rule)?);
     }
@@ -460,9 +388,9 @@ pub fn overlay_threads(
         high: GREATEST_SIDE.min(all.high + 1),
     };
     let by_windows = ByWindows {
-        windows: windows_of(around, sample_of(&boxed_subject, &boxed_clip)?, count),
-        subject: boxed_subject,
-        clip: boxed_clip,
+        windows: windows_of(around, sample_of(subject_points, clip_points)?, count),
+        subject,
+        clip,
         operation,
         rule,
     };
