@@ -27,7 +27,7 @@ ROOM = "docs/reference"
 NOT_FOR_CALLERS = re.compile(r"\w+_tests|test_kit|uses")
 PRODUCTS = [crate for crate in crates() if not NOT_FOR_CALLERS.fullmatch(crate)]
 # Methods of classes of Python that other modules of the package call.
-INTERNAL = set("binary_of_each given has_floats lists_of_each numbers of_c round_into rounded row".split())
+INTERNAL = set("binary_of_each given has_floats lists_of_each numbers of_c positions round_into rounded row".split())
 LANGUAGES = {
     "c": ("C: `itree.h`", "c", lambda: wrapped.names_of_c("bindings/c/itree.h")),
     "cpp": ("C++: `itree.hpp`", "cpp", lambda: wrapped.names_of_cpp("bindings/cpp/itree.hpp")),

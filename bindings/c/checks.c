@@ -32,6 +32,8 @@ int32_t proved_itree_overlay_in(const struct itree_window *window, const struct 
                                 size_t subject_count, const size_t *subject_ends, size_t subject_rings,
                                 const struct itree_point *clip, size_t clip_count, const size_t *clip_ends,
                                 size_t clip_rings, int32_t rule, int32_t operation, struct itree_polygons **polygons);
+int32_t proved_itree_crop(const struct itree_window *window, const struct itree_point *points, size_t point_count,
+                          const size_t *ring_ends, size_t ring_count, struct itree_chains **cropped);
 int32_t proved_itree_join(const struct itree_window *windows, size_t window_count, const size_t *tile_ends,
                           size_t tile_count, const size_t *polygon_ends, size_t polygon_count, const size_t *ring_ends,
                           size_t ring_count, const struct itree_point *points, size_t point_count,
@@ -254,6 +256,17 @@ int32_t itree_overlay_in(const struct itree_window *window, const struct itree_p
                                               slice(subject_ends, subject_rings), subject_rings,
                                               slice(clip, clip_count), clip_count, slice(clip_ends, clip_rings),
                                               clip_rings, rule, operation, polygons));
+}
+
+int32_t itree_crop(const struct itree_window *window, const struct itree_point *points, size_t point_count,
+                   const size_t *ring_ends, size_t ring_count, struct itree_chains **cropped) {
+    if (!can_hold(window, 1, OF(struct itree_window)) || !can_be_rings(points, point_count, ring_ends, ring_count) ||
+        !can_hold(cropped, 1, OF(struct itree_chains *))) {
+        return ITREE_POINTER;
+    }
+    limits_begin();
+    return limits_end(proved_itree_crop(window, slice(points, point_count), point_count, slice(ring_ends, ring_count),
+                                        ring_count, cropped));
 }
 
 int32_t itree_join(const struct itree_window *windows, size_t window_count, const size_t *tile_ends, size_t tile_count,

@@ -198,7 +198,7 @@ int32_t itree_snap(const struct itree_edge *edges, size_t edge_count, struct itr
  * does, and *chains is as there. */
 int32_t itree_node(const struct itree_edge *edges, size_t edge_count, struct itree_chains **chains);
 
-/* How many chains there are: as many as there were edges; 0 at NULL. */
+/* How many chains there are: as many as there were edges, or rings; 0 at NULL. */
 size_t itree_chains_count(const struct itree_chains *chains);
 
 /* How many points all chains have together; 0 at NULL. */
@@ -310,6 +310,23 @@ int32_t itree_overlay_in(const struct itree_window *window, const struct itree_p
                          const size_t *subject_ends, size_t subject_rings, const struct itree_point *clip,
                          size_t clip_count, const size_t *clip_ends, size_t clip_rings, int32_t rule, int32_t operation,
                          struct itree_polygons **polygons);
+
+/* Writes a handle of what rings become for a window: a chain for each ring, in their order, of the ring's points without the
+ * first once more; an empty one where the ring lies far off. The rings are given as to itree_overlay.
+ *
+ * Around each point of the window a ring winds as often as before, and its edges that come within half a unit of such a point, on
+ * both axes, are edges of it before. Each point is one of the ring before, or lies in the window widened by 2 or on its sides. So
+ * itree_overlay_in of the window promises of these rings what it does of those given: who makes its tile needs no more of them.
+ * The call returns
+ *   ITREE_ANSWERED  and *cropped is the caller's, also where there are no rings;
+ *   ITREE_REFUSED   and *cropped is NULL;
+ *   ITREE_POINTER   exactly where a pointer is faulty, and *cropped stays as it was;
+ *   ITREE_LENGTHS   exactly where none is, and a ring stops before it begins or behind the points: *cropped is NULL;
+ *   ITREE_WINDOW    exactly where all that is well, and no point lies in the window, or a side of it is less than 2 away from
+ *                   what 32 bits hold: *cropped is NULL.
+ * window and cropped may not be NULL. What *cropped was before isn't looked at. */
+int32_t itree_crop(const struct itree_window *window, const struct itree_point *points, size_t point_count,
+                   const size_t *ring_ends, size_t ring_count, struct itree_chains **cropped);
 
 /* Writes a handle of the polygons of the tiles of several windows, as one set: borders between the windows are gone, nothing is
  * moved, and polygons that come to no border are as they were. The polygons of each window are as itree_overlay_in writes them, and

@@ -326,7 +326,7 @@ private:
 /// A chain of points, which stand one behind the other in memory that is its `Chains`'.
 using Chain = Span<Point>;
 
-/// Chains of points, one for each edge, in memory that is theirs. They are moved, and not copied. Any number of threads
+/// Chains of points, one for each edge, or for each ring, in memory that is theirs. They are moved, and not copied. Any number of threads
 /// may read them.
 class Chains {
 public:
@@ -352,10 +352,10 @@ public:
         return *this;
     }
 
-    /// How many chains there are: as many as there were edges.
+    /// How many chains there are: as many as there were edges, or rings.
     [[nodiscard]] std::size_t size() const noexcept { return count_; }
     [[nodiscard]] bool empty() const noexcept { return count_ == 0; }
-    /// The chain at a place below `size()`: that of the edge at this place.
+    /// The chain at a place below `size()`: that of the edge, or of the ring, at this place.
     [[nodiscard]] Chain operator[](std::size_t place) const noexcept { return *Iterator(points_, offsets_ + place); }
     [[nodiscard]] Iterator begin() const noexcept { return {points_, offsets_}; }
     [[nodiscard]] Iterator end() const noexcept { return {points_, offsets_ + count_}; }
@@ -1200,6 +1200,39 @@ template <typename Subject = detail::InBraces<Position>, typename Clip = detail:
     const auto subject_rings = detail::rings_on(grid, subject);
     const auto clip_rings = detail::rings_on(grid, clip);
     return detail::overlay_in(window, subject_rings, clip_rings, operation, rule);
+}
+
+namespace detail {
+
+inline Chains crop(const Window &window, const Rings &rings) {
+    ::itree_chains *handle = nullptr;
+    throw_unless_answered(
+        ::itree_crop(&window, rings.points.data(), rings.points.size(), rings.ends.data(), rings.ends.size(), &handle));
+    return Chains(handle);
+}
+
+}  // namespace detail
+
+/// What each ring becomes for a window, in their order, without its first point once more: nothing where it lies far off. What
+/// that is is said at `itree_crop` of itree.h. `overlay_in` of the window promises of these rings what it does of those given: so
+/// who makes its tile needs no more of them.
+///
+///     const auto near = itree::crop({0, 0, 50, 100}, fields);
+///     send(near.points(), near.offsets());
+///
+/// `Rings{near.points(), {near.offsets().begin() + 1, near.size()}}` are the rings again. It takes rings as `overlay` does, and
+/// throws what `overlay_in` does.
+template <typename Items = detail::InBraces<Point>>
+[[nodiscard]] Chains crop(const Window &window, const Items &rings) {
+    const auto all = detail::rings_of(rings);
+    return detail::crop(window, all);
+}
+
+/// The same of positions, which are first rounded to the grid. The window is one of the grid's points, and so are the answers.
+template <typename Items = detail::InBraces<Position>>
+[[nodiscard]] Chains crop(const Window &window, const Items &rings, const Grid &grid) {
+    const auto all = detail::rings_on(grid, rings);
+    return detail::crop(window, all);
 }
 
 /// The polygons of what is inside of the rings: the union of them with nothing. So of rings that cross themselves

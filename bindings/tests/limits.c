@@ -104,6 +104,7 @@ static int32_t call(int which) {
     case 14: status = itree_node(edges, MANY, &chains); break;
     case 15: status = itree_overlay_in(&window, points, MANY, &end, 1, points, MANY, &end, 1, 1, 0, &polygons); break;
     case 16: status = itree_join(&window, 1, &one, 1, &one, 1, &three, 1, corners, 3, &polygons); break;
+    case 17: status = itree_crop(&window, points, MANY, &end, 1, &chains); break;
     }
     const int has_handle = pairs != NULL || chains != NULL || polygons != NULL;
     itree_pairs_free(pairs);
@@ -112,7 +113,7 @@ static int32_t call(int which) {
     return has_handle == (status == ITREE_ANSWERED) ? status : -1;
 }
 
-enum { EACH = 9, CALLS = 17 };
+enum { EACH = 9, CALLS = 18 };
 
 static void checks_memory(void) {
     for (int which = 0; which < CALLS; which++) {

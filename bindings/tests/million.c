@@ -103,6 +103,14 @@ static void many_shapes(void) {
                        itree_polygons_points(polygons, NULL) == MANY);
     itree_polygons_free(polygons);
     check("parents", itree_polygon_parents(&shapes, parents, SQUARES) == ITREE_ANSWERED && parents[0] == SIZE_MAX);
+    const struct itree_window all = {0, 0, SIDE * APART, SIDE * APART}, column = {0, 0, 4, SIDE * APART};
+    struct itree_chains *chains = NULL;
+    check("cropped", itree_crop(&all, corners, MANY, ends, SQUARES, &chains) == ITREE_ANSWERED &&
+                         itree_chains_point_count(chains) == MANY);
+    itree_chains_free(chains);
+    check("most far off", itree_crop(&column, corners, MANY, ends, SQUARES, &chains) == ITREE_ANSWERED &&
+                              itree_chains_count(chains) == SQUARES && itree_chains_point_count(chains) == 4 * SIDE);
+    itree_chains_free(chains);
 }
 
 /* A polygon of a million points to well-known binary and back. */

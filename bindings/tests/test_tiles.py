@@ -1,5 +1,6 @@
-"""Overlays within windows from Python, what joins them, and overlays by threads: at hand-made rings, at faults, with each
-request for memory refused in turn; and by chance beside winding numbers in whole numbers, as process_tests has them.
+"""Overlays within windows from Python, what they need of rings, what joins them, and overlays by threads: at hand-made rings,
+at faults, with each request for memory refused in turn; and by chance beside winding numbers in whole numbers, as
+process_tests has them.
 
 usage: test_tiles.py [--many[=COUNT]] [--seed=SEED] [words of unittest]
 
@@ -8,6 +9,7 @@ skipped where they aren't there. By chance it tries 1,000 sets of windows; --man
 and --many=COUNT so many. --seed=SEED tries others.
 """
 
+import array
 import contextlib
 import ctypes
 import doctest
@@ -159,10 +161,15 @@ def case_problems(seed):
     windows = [window for column in columns for window in column]
     tiles = [itree.overlay_in(window, *drawing, operation, rule) for window in windows]
     joined = itree.join(tiles, windows)
+    cropped = [[itree.crop(window, rings) for rings in drawing] for window in windows]
     points = drawings.looks(numbers, drawing) + places_around(numbers, windows)
     found = [*tile_problems(drawing, rule, operation, windows, tiles, joined, points), *shape_problems(windows, tiles, joined)]
     if told(in_steps(numbers, columns, rule, operation, drawing)) != told(joined):
         found.append("joined by columns they are others")
+    if any(
+        told(itree.overlay_in(it, *sides, operation, rule)) != told(tile) for it, sides, tile in zip(windows, cropped, tiles)
+    ):
+        found.append("of cropped rings they are others")
     what = f"{rule} {operation} of {' / '.join(drawings.said_by(numbers, drawing))} in {windows}, by the seed {seed}"
     return [f"{it}: {what}" for it in found], len(tiles), len(points)
 
@@ -252,6 +259,68 @@ class Tiles(unittest.TestCase):
         self.assertEqual(told(itree.join(nothing, [(0, 0, 1, 1), (1, 0, 2, 1)])), [])
 
 
+class Crop(unittest.TestCase):
+    AROUND, FAR, IN = (
+        [(-50, -50), (50, -50), (50, 50), (-50, 50)],
+        [(70, 70), (80, 70), (80, 80)],
+        [(1, 1), (3, 1), (3, 3), (1, 1)],
+    )
+    CORNERS = [[-2, -2], [6, -2], [6, 6], [-2, 6]]
+
+    def listed(self, rings):
+        return [ring.tolist() for ring in rings]
+
+    def test_a_ring_for_each(self):
+        cropped = itree.crop((0, 0, 4, 4), [self.AROUND, self.FAR, self.IN])
+        self.assertEqual(self.listed(cropped), [self.CORNERS, [], [[1, 1], [3, 1], [3, 3]]])
+        self.assertEqual((type(cropped), cropped.ring_offsets.tolist()), (itree.Rings, [0, 4, 4, 7]))
+        again = pickle.loads(pickle.dumps(cropped))
+        for rings in cropped, again, itree.crop((0, 0, 4, 4), cropped):
+            self.assertEqual(told(itree.overlay_in((0, 0, 4, 4), rings, [])), [[[(0, 0), (4, 0), (4, 4), (0, 4)]]])
+        self.assertEqual(self.listed(itree.crop((0, 0, 4, 4), [])), [])
+        self.assertEqual(self.listed(itree.crop((0, 0, 4, 4), [self.FAR, []])), [[], []])
+
+    def test_what_is_taken(self):
+        polygons = itree.simplify([self.AROUND, self.FAR])
+        for shapes in (
+            polygons,
+            polygons.to_wkb(),
+            [polygons.__geo_interface__],
+            rings_of([self.AROUND, self.FAR]),
+            [array.array("i", [it for point in ring for it in point]) for ring in (self.AROUND, self.FAR)],
+        ):
+            cropped = self.listed(itree.crop((0, 0, 4, 4), shapes))
+            self.assertEqual(sorted(map(sorted, cropped)), [[], sorted(self.CORNERS)])
+
+    def test_floats(self):
+        grid = itree.Grid(unit=0.25)
+        quarter = [(x / 4, y / 4) for x, y in self.AROUND]
+        for given in {"grid": grid}, {}:
+            shape = {"type": "Polygon", "coordinates": [quarter + quarter[:1]]}
+            cropped = itree.crop((0.0, 0.0, 1.0, 1.0), [shape], **given)
+            self.assertTrue(cropped.has_floats)
+        cropped = itree.crop((0.0, 0.0, 1.0, 1.0), [quarter], grid=grid)
+        self.assertEqual(self.listed(cropped), [[[-0.5, -0.5], [1.5, -0.5], [1.5, 1.5], [-0.5, 1.5]]])
+        tile = itree.overlay_in((0.0, 0.0, 1.0, 1.0), cropped, [], grid=grid)
+        self.assertEqual(told(tile), [[[(0.0, 0.0), (1.0, 0.0), (1.0, 1.0), (0.0, 1.0)]]])
+
+    def test_faults(self):
+        for window, rings, error, said in (
+            ((4, 0, 4, 4), [self.IN], ValueError, r"window: \(4, 0, 4, 4\) has no points"),
+            ((0, 0, 4, MOST), [self.IN], ValueError, r"window: \(.*: a side lies nearer than 2 to the ends of 32 bits"),
+            ((0, 0, 4, 4), [[(0, 0, 1)]], ValueError, "rings, ring 0, row 0: 3 numbers, 2 are wanted"),
+            ((0, 0, 4, 4), 7, TypeError, "rings: int"),
+        ):
+            with self.subTest(said=said), self.assertRaisesRegex(error, f"^{said}"):
+                itree.crop(window, rings)
+        rings = rings_of([self.IN])
+        rings.ring_offsets[1] = 9
+        with self.assertRaisesRegex(ValueError, "^the offsets of rings: one stops before it begins, or behind the points$"):
+            itree.crop((0, 0, 4, 4), rings)
+        with self.assertRaisesRegex(MemoryError, "memory_limit, 10 bytes"):
+            itree.crop((0, 0, 4, 4), [self.IN], memory_limit=10)
+
+
 class Faults(unittest.TestCase):
     def test_windows(self):
         for window, error, said in (
@@ -322,6 +391,9 @@ class Faults(unittest.TestCase):
             requests, polygons = self.refusals(call)
             self.assertEqual(told(polygons), told(call()))
             self.assertGreater(requests, 3)
+        requests, cropped = self.refusals(lambda: itree.crop(windows[0], [BIG, SMALL]))
+        self.assertEqual([ring.tolist() for ring in cropped][0], [[0, 0], [4, 0], [4, 4], [0, 4]])
+        self.assertGreater(requests, 2)
         with self.assertRaisesRegex(MemoryError, "memory_limit, 100 bytes"):
             itree.overlay_in(windows[0], [BIG], [SMALL], memory_limit=100)
         with self.assertRaisesRegex(MemoryError, "memory_limit, 100 bytes"):

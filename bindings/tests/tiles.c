@@ -1,6 +1,8 @@
-/* Overlays within a window from C beside a plain model, at faults, and with each request for memory refused in turn. */
+/* Overlays within a window from C beside a plain model, and rings that are cropped to one: at faults, and with each request for
+ * memory refused in turn. */
 #include <itree.h>
 #include <stdio.h>
+#include <string.h>
 
 #include "counted.h"
 #include "plain_overlay.h"
@@ -205,8 +207,62 @@ static void checks_refused_tiles(void) {
     itree_polygons_free(polygons);
 }
 
+/* A ring around the window, one far off, and one in it, with its first point once more. */
+static const struct itree_point around_far_in[] = {{-50, -50}, {50, -50}, {50, 50}, {-50, 50}, {70, 70}, {80, 70},
+                                                   {80, 80},   {1, 1},    {3, 1},   {3, 3},    {1, 1}};
+static const size_t three_rings[] = {4, 7, 11};
+static const struct itree_window small = {0, 0, 4, 4};
+
+static void checks_cropped(void) {
+    const struct itree_point wanted[] = {{-2, -2}, {6, -2}, {6, 6}, {-2, 6}, {1, 1}, {3, 1}, {3, 3}};
+    const size_t offsets[] = {0, 4, 4, 7};
+    struct itree_chains *cropped = NULL;
+    check("rings cropped", itree_crop(&small, around_far_in, 11, three_rings, 3, &cropped) == ITREE_ANSWERED);
+    check("a chain for each", itree_chains_count(cropped) == 3 && itree_chains_point_count(cropped) == 7);
+    check("as by hand", !memcmp(itree_chains_points(cropped), wanted, sizeof wanted) &&
+                            !memcmp(itree_chains_offsets(cropped), offsets, sizeof offsets));
+    itree_chains_free(cropped);
+    check("no rings", itree_crop(&small, NULL, 0, NULL, 0, &cropped) == ITREE_ANSWERED && cropped != NULL);
+    check("no chains", itree_chains_count(cropped) == 0 && itree_chains_offsets(cropped)[0] == 0);
+    itree_chains_free(cropped);
+}
+
+/* Whether a call writes null, and answers this. */
+static int crops(const struct itree_window *window, const size_t *ends, size_t count, int32_t wanted) {
+    struct itree_chains *cropped = (void *)&cropped;
+    return itree_crop(window, around_far_in, 11, ends, count, &cropped) == wanted && cropped == NULL;
+}
+
+static void checks_faults_of_cropped(void) {
+    const struct itree_window none = {4, 0, 4, 4}, far = {0, 0, 4, INT32_MAX - 1};
+    const size_t behind[] = {4, 12}, falling[] = {4, 3};
+    uint64_t words[8] = {0};
+    struct itree_chains *cropped = (void *)words;
+    check("a ring behind the points", crops(&small, behind, 2, ITREE_LENGTHS));
+    check("one that stops before it begins", crops(&none, falling, 2, ITREE_LENGTHS));
+    check("a window without points", crops(&none, three_rings, 3, ITREE_WINDOW));
+    check("one too far off, and no ring", crops(&far, NULL, 0, ITREE_WINDOW));
+    check("no window to crop to", itree_crop(NULL, around_far_in, 11, three_rings, 3, &cropped) == ITREE_POINTER);
+    check("no points to crop", itree_crop(&small, NULL, 11, three_rings, 3, &cropped) == ITREE_POINTER);
+    check("no ends of these", itree_crop(&small, around_far_in, 11, NULL, 3, &cropped) == ITREE_POINTER);
+    check("the handle of chains stays as it was there", cropped == (void *)words);
+    check("no handle for these", itree_crop(&small, around_far_in, 11, three_rings, 3, NULL) == ITREE_POINTER);
+    size_t requests = 0;
+    int32_t status = ITREE_REFUSED;
+    for (; status == ITREE_REFUSED; requests++) {
+        refuse_after(requests);
+        status = itree_crop(&small, around_far_in, 11, three_rings, 3, &cropped);
+        refuse_after(SIZE_MAX);
+        check("refused, and there is no handle", (status == ITREE_REFUSED) == (cropped == NULL));
+    }
+    check("with all granted rings are cropped", requests > 3 && status == ITREE_ANSWERED);
+    itree_chains_free(cropped);
+}
+
 int main(void) {
     checks_two_windows();
+    checks_cropped();
+    checks_faults_of_cropped();
     checks_tiles();
     checks_faulty_windows();
     checks_faulty_pointers();

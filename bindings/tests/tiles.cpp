@@ -1,4 +1,4 @@
-// Overlays within a window from C++ beside a plain model, at faults, and with refused memory.
+// Overlays within a window from C++ beside a plain model, and rings that are cropped to one: at faults, and with refused memory.
 #include <itree.hpp>
 #include <random>
 
@@ -70,6 +70,35 @@ void checks_faults() {
     check("refused memory is thrown for a tile", requests > 4);
 }
 
+void checks_cropped() {
+    const PointRings rings{{{-50, -50}, {50, -50}, {50, 50}, {-50, 50}}, {{70, 70}, {80, 70}, {80, 80}}};
+    const itree::Window window{0, 0, 4, 4};
+    const auto cropped = itree::crop(window, rings);
+    const std::vector<itree::Point> corners{{-2, -2}, {6, -2}, {6, 6}, {-2, 6}};
+    check("a ring around a window has its corners, widened",
+          cropped.size() == 2 && std::equal(corners.begin(), corners.end(), cropped[0].begin(), cropped[0].end()));
+    check("and one far off nothing", cropped[1].empty());
+    const itree::Rings again{cropped.points(), {cropped.offsets().begin() + 1, cropped.size()}};
+    check("they are rings again", is_ring(itree::overlay_in(window, again, {}, Operation::union_, FillRule::non_zero),
+                                          {{0, 0}, {4, 0}, {4, 4}, {0, 4}}));
+    const auto grid = itree::Grid({0, 0, -2});
+    const auto rounded = itree::crop(window, {{{0.25, 0.25}, {0.75, 0.25}, {0.25, 0.5}}}, grid);
+    const std::vector<itree::Point> inner{{1, 1}, {3, 1}, {1, 2}};
+    check("a ring within a window of a grid stays",
+          std::equal(inner.begin(), inner.end(), rounded[0].begin(), rounded[0].end()));
+    check("a window without points to crop to", thrown<itree::WindowFault>([&] {
+                                                    return itree::crop({4, 0, 4, 4}, rings);
+                                                }) != "");
+    const std::size_t falling[] = {3, 2};
+    check("faulty rings to crop", thrown<std::invalid_argument>([&] {
+                                      return itree::crop(window, itree::Rings{rings[0], falling});
+                                  }) == "a ring stops before it begins, or behind the points");
+    refuse_after(0);
+    check("refused memory is thrown for these",
+          thrown<std::bad_alloc>([&] { return itree::crop(window, again); }) != "");
+    refuse_after(SIZE_MAX);
+}
+
 /// Rectangles by chance, which go either way.
 PointRings random_rectangles(std::mt19937 &random) {
     const auto number = [&] { return static_cast<std::int32_t>(random() % 8); };
@@ -110,6 +139,7 @@ void checks_tiles() {
 int main() {
     checks_windows();
     checks_faults();
+    checks_cropped();
     checks_tiles();
     return told();
 }

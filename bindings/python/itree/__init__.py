@@ -95,9 +95,9 @@ Layers
 
 Large overlays
     `overlay`, `simplify` and `unary_union` take threads=. `overlay_in` makes a
-    tile, what of an overlay lies in a window, of what comes near that alone; and
-    `join` one answer of the tiles of `windows` side by side. itree.dask has these
-    over processes and machines.
+    tile, what of an overlay lies in a window, of what comes near that alone,
+    which `crop` tells; and `join` one answer of the tiles of `windows` side by
+    side. itree.dask has these over processes and machines.
 
     >>> tiles = [itree.overlay_in(it, [square], [hole]) for it in [(0, 0, 4, 9), (4, 0, 9, 9)]]
     >>> [sorted(it.outer) for it in itree.join(tiles, [(0, 0, 4, 9), (4, 0, 9, 9)])]
@@ -168,7 +168,7 @@ from ._polygons import Polygon, Polygons
 from ._pieces import Pieces
 from ._points import points_in
 from ._rings import Rings
-from ._tiles import join, overlay_in
+from ._tiles import crop, join, overlay_in
 from ._windows import windows
 
 __all__ = [
@@ -185,6 +185,7 @@ __all__ = [
     "below",
     "candidate_pairs",
     "clip",
+    "crop",
     "first_meeting",
     "how_they_meet",
     "join",

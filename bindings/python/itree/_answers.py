@@ -101,6 +101,11 @@ def chains_of(call: Callable[..., int], edges: HeldRows, limit: int) -> Tuple[me
     handle = Handle(library.itree_chains_free)
     kept = edges.kept(), handle
     checked(made(call, edges.at, edges.count, handle.to_write, size=edges.count, limit=limit, kept=kept), limit)
+    return chains_in(handle)
+
+
+def chains_in(handle: Handle) -> Tuple[memoryview, memoryview]:
+    """The points and the offsets of a handle of chains, which is given back with the last view of them."""
     at = handle.at
     points = view_at(handle, library.itree_chains_points(at), 2 * library.itree_chains_point_count(at), "i")
     return points, view_at(handle, library.itree_chains_offsets(at), library.itree_chains_count(at) + 1, "q")

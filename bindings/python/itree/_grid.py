@@ -10,6 +10,7 @@ from typing import Any, Callable, List, Optional, Tuple
 
 from . import _shapes
 from ._library import FAULTY, GridOfC, checked, library
+from ._memory import address_of
 from ._rows import _GREATEST, _LEAST
 
 _BITS_OF_FLOAT = 53
@@ -123,6 +124,13 @@ class Grid:
             off = next(number for axis, number in enumerate(pair) if not self._holds(number, axis))
             raise ValueError(f"{row_of(place)}: {off} is off the grid, which is {self}")
         checked(status)
+
+    def positions(self, numbers: memoryview) -> array.array[float]:
+        """Coordinates of points that are told in units from the origin, flat, as those are."""
+        room, count = array.array("d", [0.0]) * len(numbers), len(numbers) // 2
+        at = address_of(numbers)
+        checked(library.itree_grid_positions(ctypes.byref(self.of_c()), at, count, room.buffer_info()[0], count))
+        return room
 
     def of_c(self) -> GridOfC:
         """As the library takes it."""

@@ -20,6 +20,7 @@ _CALLS = {
     "itree_chains_point_count": (_length, [_address]),
     "itree_chains_points": (_address, [_address]),
     "itree_clip_lines": (_status, [_address, *[_address, _length] * 2, _status, _status, _address]),
+    "itree_crop": (_status, [_address, *[_address, _length] * 2, _address]),
     "itree_first_meeting": (_status, [_address, _length, _address, _address]),
     "itree_grid_fit": (_status, [_address, _length, _address, _address]),
     "itree_grid_positions": (_status, [_address, _address, _length, _address, _length]),

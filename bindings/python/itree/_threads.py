@@ -3,24 +3,20 @@
 from __future__ import annotations
 
 import array
-import bisect
 import ctypes
 import itertools
-from typing import Any, Callable, List, NamedTuple, Optional, Sequence, Tuple
+from typing import Callable, List, NamedTuple, Sequence, Tuple
 
-from . import _answers, _boxes, _near, _windows
-from ._answers import Handle, Lists, lists_of, view_at
+from . import _answers, _windows
+from ._answers import Handle, Lists
 from ._calls import made
 from ._library import UNFIT, WINDOW, WindowOfC, library
-from ._memory import address_of, numpy_where_loaded
-from ._rings import Rings
-from ._shapes import HeldRings, held_rings
-from ._windows import MARGIN, Units
+from ._memory import numpy_where_loaded
+from ._shapes import HeldRings
+from ._windows import Units
 
 # Of edges: a window has so many, and there are at most so many windows.
 _EDGES, _MOST = 60_000, 64
-# Of points in a ring: of one with more only that is sent elsewhere which counts.
-_LONG = 200
 
 
 class Choice(NamedTuple):
@@ -42,6 +38,18 @@ def tile_of(window: Units, subject: HeldRings, clip: HeldRings, choice: Choice) 
     status = made(library.itree_overlay_in, *words, size=size, limit=choice.limit, kept=kept)
     _answers.check_rings(status, choice.limit)
     return _answers.lists_in(handle)
+
+
+def cropped(window: Units, rings: HeldRings, limit: int) -> Tuple[memoryview, memoryview]:
+    """What each ring becomes for a window: the points, as flat 32-bit numbers, and the offsets, where the library wrote them.
+
+    Raises ValueError where a ring stops before it begins, or behind the points.
+    """
+    handle, of_c = Handle(library.itree_chains_free), WindowOfC(*window)
+    words = ctypes.byref(of_c), *rings.given, handle.to_write
+    status = made(library.itree_crop, *words, size=rings.given[1], limit=limit, kept=(of_c, rings, handle))
+    _answers.check_rings(status, limit)
+    return _answers.chains_in(handle)
 
 
 def joined(tiles: Sequence[Lists], windows: Sequence[Units], limit: int) -> Tuple[int, Lists]:
@@ -70,81 +78,6 @@ def append_ends(ends: array.array[int], offsets: memoryview, before: int) -> Non
         ends.frombytes((numpy.asarray(offsets)[1:] + before).tobytes())
     else:
         ends.extend(it + before for it in offsets[1:])
-
-
-class Near:
-    """Of rings those that come near each of some windows, by their boxes."""
-
-    def __init__(self, rings: HeldRings, windows: Sequence[Units]) -> None:
-        at, count, ends, many = rings.given
-        self._rings, self._windows = rings, windows
-        self._offsets = array.array("q", [0])
-        self._offsets.frombytes(ctypes.string_at(ends, 8 * many) if many else b"")
-        self._points = view_at(rings.kept, at, 2 * count, "i").cast("B")
-        each = array.array("q", range(many + 1))
-        shapes = Lists((rings, each), at, count, ends - 8, many, each.buffer_info()[0], many)
-        self._pairs = _boxes.in_order(_boxes.pairs_of_boxes((_as_shapes(windows), shapes), 0))
-        firsts: Any = self._pairs[0::2]
-        self._stops = [bisect.bisect_left(firsts, place) for place in range(len(windows) + 1)]
-
-    def rings(self, place: int) -> HeldRings:
-        """Those near the window at a place."""
-        some = self._near(place)
-        if len(some) == len(self._offsets) - 1:
-            return self._rings
-        numpy = numpy_where_loaded()
-        if numpy is not None and len(some):
-            points, ends = self._taken(numpy, numpy.asarray(some).astype("int64"))
-            at = address_of(memoryview(points)), len(points) // 2, address_of(memoryview(ends)), len(ends)
-            return HeldRings(at, (points, ends))
-        numbers, stops = array.array("i"), array.array("Q")
-        for ring in some:
-            numbers.frombytes(self._points[8 * self._offsets[ring] : 8 * self._offsets[ring + 1]])
-            stops.append(len(numbers) // 2)
-        return held_rings(numbers, stops)
-
-    def copied(self, place: int) -> Optional[Rings]:
-        """The same in memory of their own, but of long rings that alone which counts near the window; or None of nothing."""
-        some, numpy = self._near(place), numpy_where_loaded()
-        if not len(some):
-            return None
-        if numpy is None:
-            held = self.rings(place)
-            points, count, ends, rings = held.given
-            numbers, offsets = array.array("i"), array.array("q", [0])
-            numbers.frombytes(ctypes.string_at(points, 8 * count))
-            offsets.frombytes(ctypes.string_at(ends, 8 * rings))
-            return Rings(numbers, offsets)
-        places = numpy.asarray(some).astype("int64")
-        is_long = numpy.diff(numpy.asarray(self._offsets))[places] > _LONG
-        left, low, right, high = self._windows[place]
-        box = left - MARGIN, low - MARGIN, right + MARGIN, high + MARGIN
-        short, ends = self._taken(numpy, places[~is_long])
-        near, stops = _near.near_box(*self._taken(numpy, places[is_long]), box)
-        offsets = numpy.concatenate([[0], ends, stops + len(short) // 2]).astype("int64")
-        return Rings(numpy.concatenate([short, near]), offsets) if len(offsets) > 1 else None
-
-    def _near(self, place: int) -> memoryview:
-        """The places of the rings near the window at a place."""
-        return self._pairs[2 * self._stops[place] + 1 : 2 * self._stops[place + 1] : 2]
-
-    def _taken(self, numpy: Any, some: Any) -> Tuple[Any, Any]:
-        """The numbers of the rings at some places, and where each stops among the points."""
-        offsets = numpy.asarray(self._offsets)
-        starts, counts = offsets[some], offsets[some + 1] - offsets[some]
-        ends = numpy.cumsum(counts)
-        places = numpy.repeat(starts - (ends - counts), counts) + numpy.arange(counts.sum())
-        # A point is taken as one number of 64 bits.
-        return numpy.frombuffer(self._points, "int64").take(places).view("int32"), ends
-
-
-def _as_shapes(windows: Sequence[Units]) -> Lists:
-    """The windows, and what lies around them, each as two corners."""
-    points = array.array("i")
-    for left, low, right, high in windows:
-        points.extend((left - MARGIN, low - MARGIN, right + MARGIN, high + MARGIN))
-    each, ends = (array.array("q", range(0, width * len(windows) + 1, width)) for width in (1, 2))
-    return lists_of(*map(memoryview, (points, ends, each)))
 
 
 def overlaid(threads: int, subject: HeldRings, clip: HeldRings, choice: Choice) -> Lists:

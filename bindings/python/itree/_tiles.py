@@ -1,4 +1,4 @@
-"""overlay_in and join: an overlay within a window, and one answer of those of several windows."""
+"""overlay_in, crop and join: an overlay within a window, what it needs of rings, and one answer of those of several windows."""
 
 from __future__ import annotations
 
@@ -9,8 +9,9 @@ from ._answers import Lists
 from ._calls import limit_of
 from ._grid import Grid
 from ._library import UNFIT, WINDOW
-from ._overlay import Operation, Rule, overlaid
+from ._overlay import Operation, Rule, check_grid, overlaid
 from ._polygons import Polygons
+from ._rings import Rings
 from ._shapes import HeldRings, Shapes
 from ._threads import Choice
 from ._windows import Units, WindowLike
@@ -31,7 +32,7 @@ def overlay_in(
     window: (minx, miny, maxx, maxy), as shapely's bounds: whole numbers, or
     where there is a grid floats, which are rounded to it.
     subject, clip, operation, rule, grid, memory_limit: as those of `overlay`.
-    Rings that don't come near the window may be left out.
+    They may be what `crop` makes of them for the window.
 
     >>> square, other = [(0, 0), (2, 0), (2, 2), (0, 2)], [(1, 1), (3, 1), (3, 3), (1, 3)]
     >>> [sorted(it.outer) for it in overlay_in((0, 0, 2, 1), [square], [other])]
@@ -53,6 +54,45 @@ def overlay_in(
         return _threads.tile_of(_windows.in_units(window, grid, "window"), subject, clip, choice)
 
     return overlaid([(subject, "subject"), (clip, "clip")], operation, rule, grid, memory_limit, tile)
+
+
+def crop(
+    window: WindowLike,
+    rings: Shapes,
+    *,
+    grid: Optional[Grid] = None,
+    memory_limit: Optional[int] = None,
+) -> Rings:
+    """What rings become for a window, one for each, in their order: who makes its tile needs no more of them.
+
+    window: (minx, miny, maxx, maxy), as that of `overlay_in`.
+    rings: what `overlay` takes. Those of shapes stand one behind the other, outer
+    ones counterclockwise, and holes clockwise.
+    grid, memory_limit: as those of `overlay`.
+
+    >>> around, far = [(-50, -50), (50, -50), (50, 50), (-50, 50)], [(70, 70), (80, 70), (80, 80)]
+    >>> [ring.tolist() for ring in crop((0, 0, 4, 4), [around, far])]
+    [[[-2, -2], [6, -2], [6, 6], [-2, 6]], []]
+
+    A ring winds around each point of the window as before, and its edges that
+    come within half a unit of such a point are edges of it before. Other parts
+    of it are drawn up to 2 units beside the window, so few points are left of
+    what lies there. `overlay_in` of the window promises of these rings what it
+    does of those given.
+
+    The answer is `Rings`: whole numbers, or where there is a grid floats. Where
+    there are floats give each call the same grid.
+
+    Raises what `overlay_in` does.
+    """
+    check_grid(grid)
+    limit = limit_of(memory_limit)
+    items = _gathered.gathered([(rings, "rings")], grid is not None, kept=False)
+    if grid is None:
+        grid = _gathered.chosen(items)
+    held = items[0].held(grid)
+    numbers, offsets = _threads.cropped(_windows.in_units(window, grid, "window"), held, limit)
+    return Rings(numbers if grid is None else grid.positions(numbers), offsets)
 
 
 def join(tiles: Iterable[Polygons], windows: Iterable[WindowLike], *, memory_limit: Optional[int] = None) -> Polygons:

@@ -33,7 +33,7 @@ pub use layers::{
     Border, Groups, Layer, LayerBuf, LayerFault, Lines, Overlays, OverlaysIter, Pieces, Side,
 };
 pub use limits::{limited_to, memory_peak, stopped_by};
-pub use tiles::{join, overlay_in, overlay_threads, Tile, TileFault, Window};
+pub use tiles::{crop, join, overlay_in, overlay_threads, Tile, TileFault, Window};
 pub use wkb::{read_wkb, wkb_corners, wkb_srid, Shapes, WkbFault, WkbFaultKind};
 
 mod grid;
@@ -302,7 +302,7 @@ impl<'a> IntoIterator for &'a Pairs {
     }
 }
 
-/// Chains of points, one for each edge, where the library wrote them. They are given back where this is dropped.
+/// Chains of points, one for each edge, or for each ring, where the library wrote them. They are given back where this is dropped.
 pub struct Chains {
     handle: NonNull<calls::Handle>,
     points: *const Point,
@@ -316,7 +316,7 @@ unsafe impl Send for Chains {}
 unsafe impl Sync for Chains {}
 
 impl Chains {
-    /// How many chains there are: as many as there were edges.
+    /// How many chains there are: as many as there were edges, or rings.
     pub fn len(&self) -> usize {
         self.count
     }
@@ -326,7 +326,7 @@ impl Chains {
         self.count == 0
     }
 
-    /// The chain of the edge at this place. Panics where there is none.
+    /// The chain of the edge, or of the ring, at this place. Panics where there is none.
     pub fn chain(&self, place: usize) -> &[Point] {
         assert!(
             place < self.count,
@@ -337,7 +337,7 @@ impl Chains {
         &self.points()[offsets[place]..offsets[place + 1]]
     }
 
-    /// The chains, in the order of their edges.
+    /// The chains, in the order of their edges, or rings.
     pub fn iter(&self) -> impl ExactSizeIterator<Item = &[Point]> {
         let points = self.points();
         self.offsets().windows(2).map(move |it| &points[it[0]..it[1]])
@@ -808,6 +808,15 @@ mod calls {
             rule: i32,
             operation: i32,
             polygons: *mut *mut Handle,
+        ) -> i32;
+
+        pub fn itree_crop(
+            window: *const Window,
+            points: *const Point,
+            point_count: usize,
+            ring_ends: *const usize,
+            ring_count: usize,
+            cropped: *mut *mut Handle,
         ) -> i32;
 
         pub fn itree_join(

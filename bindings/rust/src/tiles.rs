@@ -1,8 +1,8 @@
 //! Overlays within windows, and by threads.
 
 use crate::{
-    answered, calls, overlay_rings, polygons_of, FillRule, Layer, Operation, OverlayFault, Point, Polygons, Rings,
-    REFUSED,
+    answered, calls, chains_of, overlay_rings, polygons_of, Chains, FillRule, Layer, Operation, OverlayFault, Point,
+    Polygons, Refused, Rings, REFUSED,
 };
 use std::collections::TryReserveError;
 use std::error::Error;
@@ -61,6 +61,12 @@ impl Error for TileFault {}
 
 impl From<TryReserveError> for TileFault {
     fn from(_refused: TryReserveError) -> TileFault {
+        TileFault::Refused
+    }
+}
+
+impl From<Refused> for TileFault {
+    fn from(_refused: Refused) -> TileFault {
         TileFault::Refused
     }
 }
@@ -124,14 +130,54 @@ pub fn overlay_in(
 
 /// The polygons of a handle that a call wrote, where it answered.
 fn tile_of(status: i32, handle: *mut calls::Handle) -> Result<Polygons, TileFault> {
+    fault_of(status)?;
+    Ok(answered(status, handle).map(polygons_of)?)
+}
+
+/// What a status tells that isn't memory.
+fn fault_of(status: i32) -> Result<(), TileFault> {
     match status {
         calls::LENGTHS => Err(TileFault::Lengths),
         calls::WINDOW => Err(TileFault::Window),
         calls::UNFIT => Err(TileFault::Unfit),
-        _ => answered(status, handle)
-            .map(polygons_of)
-            .map_err(|_| TileFault::Refused),
+        _ => Ok(()),
     }
+}
+
+/// What each ring becomes for a window, in their order, without its first point once more: nothing where it lies far off.
+///
+/// Around each point of the window a ring winds as often as before, and its edges that come within half a unit of such a point, on
+/// both axes, are edges of it before. Each point is one of the ring before, or lies in the window widened by 2 or on its sides.
+/// So `overlay_in` of the window promises of these rings what it does of those given: who makes its tile needs no more of them.
+///
+/// `TileFault` comes as that of `overlay_in`.
+///
+/// ```
+/// use itree::{crop, Point, Rings, Window};
+///
+/// let points = [(-50, -50), (50, -50), (50, 50), (-50, 50), (70, 70), (80, 70), (80, 80)].map(Point::from);
+/// let rings = Rings { points: &points, ends: &[4, 7] };
+/// let cropped = crop(Window { left: 0, low: 0, right: 4, high: 4 }, rings).unwrap();
+/// assert_eq!(cropped.chain(0), [(-2, -2), (6, -2), (6, 6), (-2, 6)].map(Point::from));
+/// assert!(cropped.chain(1).is_empty());
+/// let again = Rings { points: cropped.points(), ends: &cropped.offsets()[1..] };
+/// assert_eq!(again.ends, [4, 4]);
+/// ```
+pub fn crop(window: Window, rings: Rings<'_>) -> Result<Chains, TileFault> {
+    let mut handle = ptr::null_mut();
+    // SAFETY: as in `overlay_in`.
+    let status = unsafe {
+        calls::itree_crop(
+            &window,
+            rings.points.as_ptr(),
+            rings.points.len(),
+            rings.ends.as_ptr(),
+            rings.ends.len(),
+            &mut handle,
+        )
+    };
+    fault_of(status)?;
+    Ok(chains_of(status, handle)?)
 }
 
 /// A window, and the polygons of it, as `overlay_in` makes them.

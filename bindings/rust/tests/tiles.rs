@@ -1,6 +1,6 @@
 //! Overlays within windows beside those of the plane, at faults, and with each request for memory refused in turn.
 
-use itree::{overlay_in, FillRule, Operation, Point, Polygons, Rings, TileFault, Window};
+use itree::{crop, overlay_in, FillRule, Operation, Point, Polygons, Rings, TileFault, Window};
 use refuse::granted;
 
 mod refuse;
@@ -99,6 +99,43 @@ fn tells_faulty_windows_and_rings() {
     ] {
         assert_eq!(fault.to_string(), text);
     }
+}
+
+#[test]
+fn crops_rings() {
+    let points: Vec<Point> = [
+        rectangle(-50, -50, 50, 50),
+        rectangle(70, 70, 80, 80),
+        rectangle(1, 1, 3, 2),
+    ]
+    .concat();
+    let rings = Rings {
+        points: &points,
+        ends: &[4, 8, 12],
+    };
+    let part = window(0, 0, 4, 4);
+    let cropped = crop(part, rings).unwrap();
+    let wanted = [&rectangle(-2, -2, 6, 6)[..], &[], &rectangle(1, 1, 3, 2)];
+    assert!(cropped.iter().eq(wanted));
+    let again = Rings {
+        points: cropped.points(),
+        ends: &cropped.offsets()[1..],
+    };
+    let tile = |rings| overlay_in(part, rings, Rings::default(), Operation::Union, FillRule::EvenOdd).unwrap();
+    assert_eq!(twice_area(&tile(again)), 2 * 14);
+    assert_eq!(twice_area(&tile(again)), twice_area(&tile(rings)));
+    assert_eq!(crop(window(4, 0, 4, 4), rings).unwrap_err(), TileFault::Window);
+    let faulty = Rings {
+        points: &points,
+        ends: &[4, 13],
+    };
+    assert_eq!(crop(window(4, 0, 4, 4), faulty).unwrap_err(), TileFault::Lengths);
+    let mut requests = 0;
+    while let Err(fault) = granted(requests, || crop(part, rings)) {
+        assert_eq!(fault, TileFault::Refused);
+        requests += 1;
+    }
+    assert!(requests > 2, "{requests} requests");
 }
 
 #[test]

@@ -1,3 +1,4 @@
+pub mod CropLemmas
 pub mod GroupedMade
 pub mod HandleFrees
 pub mod HandleLemmas

@@ -1,10 +1,13 @@
 -- What the calls over windows answer, of rings that C hands over.
-use Rattle.std.specs.Prelude.{◌≡◌, ◌⊎◌, ◌↔◌, ℕ, ℤ, List, Option, Some, None, length}
-use Rattle.overlay.specs.Rings.{AreEnds}
+use Rattle.std.specs.List.{AllZip, flat_map}
+use Rattle.std.specs.Prelude.{◌≡◌, ◌⊎◌, ◌↔◌, ◌∷◌, ℕ, ℤ, List, Option, Some, None, length}
+use Rattle.noding.specs.Offsets.{offsets}
+use Rattle.overlay.specs.Rings.{AreEnds, rings_of}
 use Rattle.overlay.specs.declared.fill.rules.FillRule.{FillRule}
 use Rattle.overlay.specs.declared.fill.rules.Operation.{Operation}
 use Rattle.plane.specs.declared.edge.Edge.{Edge}
 use Rattle.plane.specs.declared.point.Point.{Point}
+use Rattle.tiles.specs.Crop.{IsCropped}
 use Rattle.tiles.specs.Join.{CanJoin, IsJoinFault, IsJoined, tiles_of}
 use Rattle.tiles.specs.Tile.{IsTile}
 use Rattle.tiles.specs.Window.{CanCropTo}
@@ -14,6 +17,7 @@ use Rattle.tiles.specs.declared.window.Window.{Window}
 use Rattle.itree_c.specs.Choices.{number_of_rule, number_of_operation, AreChoices}
 use Rattle.itree_c.specs.Layers.{AreHeld}
 use Rattle.itree_c.specs.Overlay.{edges_of}
+use Rattle.itree_c.specs.declared.chains.Chains.{Chains}
 use Rattle.itree_c.specs.declared.polygon_lists.PolygonLists.{PolygonLists}
 use Rattle.itree_c.specs.declared.status.TheConstants.{ANSWERED, REFUSED, LENGTHS, CHOICE, WINDOW, UNFIT}
 
@@ -43,6 +47,31 @@ AnswersTile window subject subject_ends clip clip_ends rule operation status mad
     × ((status ≡ CHOICE) ↔ ¬ (AreChoices rule operation))
     × ((status ≡ LENGTHS) ↔ (AreChoices rule operation × ¬ (HaveEnds subject subject_ends clip clip_ends)))
     × ((status ≡ WINDOW) ↔ (AreChoices rule operation × HaveEnds subject subject_ends clip clip_ends × ¬ (CanCropTo window)))
+
+-- ---- rings cropped
+
+-- the points are those of what each ring becomes for the window, one after the other, and the offsets are 0 and where each stops
+abbrev pub AreCropped : Window → List (List Point) → List Point → List ℕ → Type 0
+AreCropped window rings points stops =
+    (cropped : List (List Point)) × AllZip (IsCropped window) rings cropped
+    × (points ≡ flat_map (λ ring. ring) cropped) × (stops ≡ 0 ∷ offsets 0 cropped)
+
+-- the chains held are these
+abbrev pub AreAllCropped : Window → List (List Point) → Chains → Type 0
+AreAllCropped window rings held = AreCropped window rings held.held_points.items held.held_offsets.items
+
+-- at ANSWERED there is what each ring becomes; at each other status there is nothing
+abbrev pub HoldsCrop : Window → List Point → List ℕ → ℤ → Option Chains → Type 0
+HoldsCrop window points ends status (Some held) = (status ≡ ANSWERED) × AreAllCropped window (rings_of points 0 ends) held
+HoldsCrop window points ends status None = (status ≡ REFUSED) ⊎ (status ≡ LENGTHS) ⊎ (status ≡ WINDOW)
+
+-- a call holds what its status says; that is LENGTHS exactly where a ring stops before it begins or behind the points, and WINDOW
+-- exactly where none does, and no ring can be cropped to the window
+abbrev pub AnswersCrop : Window → List Point → List ℕ → ℤ → Option Chains → Type 0
+AnswersCrop window points ends status made =
+    HoldsCrop window points ends status made
+    × ((status ≡ LENGTHS) ↔ ¬ (AreEnds 0 ends (length points)))
+    × ((status ≡ WINDOW) ↔ (AreEnds 0 ends (length points) × ¬ (CanCropTo window)))
 
 -- ---- tiles joined
 
