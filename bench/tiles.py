@@ -3,7 +3,7 @@
 
 Two inputs, intersected: stars, 1,000,000 edges of both sides together, and the world's land (GSHHG, resolution i or another
 one) with cells of 10 degrees. Of each are told, in a process of its own each: one call; the tiles of 16 windows, one after the
-other; how long it takes to read the rings from well-known binary, and to pick those near each window; the join; threads;
+other; how long it takes to read the rings from well-known binary, and to crop them to each window; the join; threads;
 Dask's workers, which read parts from files; and shapely by the same windows under the same Dask, where both sides are
 united before. Seconds are by the clock, and those of the processor stand beside them; MB is the most memory that the process
 took more than before. `off` is how far the area differs from that of one call, of it. --quick has a tenth of the stars and
@@ -37,7 +37,7 @@ import shapely.ops
 
 import itree
 import itree.dask
-from itree import _shapes, _threads, _windows
+from itree import _shapes, _windows
 
 WINDOWS = 16
 OPERATION = "intersection"
@@ -128,14 +128,13 @@ def by_one_call(sides, threads=None):
     return area_of(itree.overlay(*sides, OPERATION, threads=threads))
 
 
-def near_each(sides, windows):
-    """For each window the rings near it of both sides."""
-    near = [_threads.Near(_shapes.HeldRings(it.given(), it), windows) for it in sides]
-    return [[it.copied(place) or [] for it in near] for place in range(len(windows))]
+def cropped(sides, windows):
+    """For each window what the rings of both sides become."""
+    return [[itree.crop(window, it) for it in sides] for window in windows]
 
 
 def tiles_of(sides, windows):
-    return [itree.overlay_in(window, *near, OPERATION) for window, near in zip(windows, near_each(sides, windows))]
+    return [itree.overlay_in(window, *sides, OPERATION) for window in windows]
 
 
 def read(path):
@@ -200,7 +199,7 @@ def measured(name, sides, holes):
     table.measure("16 tiles, one after the other", lambda: sum(map(area_of, tiles_of(sides, windows))))
     binary = [itree.simplify(it).to_wkb() for it in sides]
     table.measure("reading both sides, united, from well-known binary", lambda: itree.windows(binary, 1) and None)
-    table.measure("picking the rings near each window", lambda: near_each(sides, windows) and None)
+    table.measure("cropping the rings to each window", lambda: cropped(sides, windows) and None)
     tiles = tiles_of(sides, windows)
     table.measure("joining the tiles", lambda: area_of(itree.join(tiles, windows)))
     for count in COUNTS:

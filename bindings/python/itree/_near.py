@@ -49,17 +49,6 @@ def near(shapes: Lists, places: Any, others: Lists, other_places: Any) -> Tuple[
     return parts.lists(), found
 
 
-def near_box(numbers: Any, ends: Any, box: Sequence[int]) -> Tuple[Any, Any]:
-    """The numbers of rings' points, and where each ring stops, of which only that is left which counts near a box.
-
-    numbers: numpy's, flat. ends: signed 64-bit numbers.
-    """
-    numpy: Any = importlib.import_module("numpy")
-    points, counts = numbers.astype("int64"), numpy.diff(ends, prepend=0)
-    rings = _Rings(points[0::2], points[1::2], numpy.repeat(numpy.arange(len(counts)), counts))
-    return _flat(numpy, _near_box(numpy, rings, box))
-
-
 def _flat(numpy: Any, rings: _Rings) -> Tuple[Any, Any]:
     """The numbers of rings' points, and where each ring with points stops among the points."""
     points = numpy.stack([rings.xs, rings.ys], axis=1).astype("int32")

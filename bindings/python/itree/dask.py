@@ -6,8 +6,8 @@
     dry = itree.dask.join(tiles, windows).compute()
 
 What is overlaid comes in parts, none of which any machine holds but the one that reads it. Of each part that is kept
-which comes near a window; each window is overlaid by itself, by `itree.overlay_in`; `join` makes one answer of the tiles,
-where one machine can hold it.
+which `itree.crop` leaves for a window; each window is overlaid by itself, by `itree.overlay_in`; `join` makes one answer
+of the tiles, where one machine can hold it.
 
 Parts are a sequence, a dict of them by their names, or what has `to_delayed`, as a Bag and dask-geopandas' frames. A part
 is what `itree.overlay` takes: well-known binary, shapely's objects, Rings, Polygons, a GeoDataFrame and so on; or dask's
@@ -31,7 +31,7 @@ from ._overlay import OPERATIONS, RULES, Operation, Rule, check_grid, number_in
 from ._polygons import Polygons
 from ._rings import Rings
 from ._shapes import NOTHING, HeldRings, held_rings
-from ._threads import Choice, Near
+from ._threads import Choice
 from ._windows import Sampled, Units, Window, WindowLike
 
 __all__ = ["join", "overlay", "windows"]
@@ -215,8 +215,15 @@ def _picked(
     bounds = _windows.sampled(held, 1).bounds
     if box is not None and bounds is not None and not _lies_in(bounds, box):
         raise ValueError(f"{name} leaves the box that was told of it")
-    near = Near(held, [windows[place] for place in places])
-    return [None if it is None else _Piece(it, crs, srid) for it in map(near.copied, range(len(places)))]
+    cropped = [None if bounds is None or not _meet(windows[it], bounds) else _cropped(windows[it], held) for it in places]
+    return [None if it is None else _Piece(it, crs, srid) for it in cropped]
+
+
+def _cropped(window: Units, held: HeldRings) -> Optional[Rings]:
+    """What rings become for a window, without those of which nothing is left; None where nothing is left of any."""
+    numbers, offsets = _threads.cropped(window, held, 0)
+    ends = array.array("q", dict.fromkeys(offsets))
+    return Rings(numbers, ends) if len(numbers) else None
 
 
 def _lies_in(inner: Units, outer: Units) -> bool:
