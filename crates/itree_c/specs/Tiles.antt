@@ -1,6 +1,6 @@
 -- What the calls over windows answer, of rings that C hands over.
 use Rattle.std.specs.List.{AllZip, flat_map}
-use Rattle.std.specs.Prelude.{◌≡◌, ◌⊎◌, ◌↔◌, ◌∷◌, ℕ, ℤ, List, Option, Some, None, length}
+use Rattle.std.specs.Prelude.{◌≡◌, ◌⊎◌, ◌↔◌, ◌∷◌, ℕ, ℤ, List, [], Option, Some, None, length}
 use Rattle.noding.specs.Offsets.{offsets}
 use Rattle.overlay.specs.Rings.{AreEnds, rings_of}
 use Rattle.overlay.specs.declared.fill.rules.FillRule.{FillRule}
@@ -10,7 +10,7 @@ use Rattle.plane.specs.declared.point.Point.{Point}
 use Rattle.tiles.specs.Crop.{IsCropped}
 use Rattle.tiles.specs.Join.{CanJoin, IsJoinFault, IsJoined, tiles_of}
 use Rattle.tiles.specs.Tile.{IsTile}
-use Rattle.tiles.specs.Window.{CanCropTo}
+use Rattle.tiles.specs.Window.{CanCropTo, LiesBeyond, widened}
 use Rattle.tiles.specs.declared.join_fault.JoinFault.TheVariants.{Lengths, Empty, Overlap, Outside, Covered, OutOfMemory}
 use Rattle.tiles.specs.declared.joined.given.Tiles.{Tiles}
 use Rattle.tiles.specs.declared.window.Window.{Window}
@@ -50,10 +50,15 @@ AnswersTile window subject subject_ends clip clip_ends rule operation status mad
 
 -- ---- rings cropped
 
+-- the ring becomes this for the window: nothing, where all of its points lie beyond one side of the widened window, or on the
+-- line along it
+abbrev pub Becomes : Window → List Point → List Point → Type 0
+Becomes window ring cropped = IsCropped window ring cropped × (LiesBeyond (widened window) ring → cropped ≡ [])
+
 -- the points are those of what each ring becomes for the window, one after the other, and the offsets are 0 and where each stops
 abbrev pub AreCropped : Window → List (List Point) → List Point → List ℕ → Type 0
 AreCropped window rings points stops =
-    (cropped : List (List Point)) × AllZip (IsCropped window) rings cropped
+    (cropped : List (List Point)) × AllZip (Becomes window) rings cropped
     × (points ≡ flat_map (λ ring. ring) cropped) × (stops ≡ 0 ∷ offsets 0 cropped)
 
 -- the chains held are these

@@ -20,7 +20,7 @@ use std::alloc::Global;
 use tiles::{CropFault, TileFault, Window, crop};
 
 /// Writes a handle of what each ring becomes for the window, or null: a chain for each ring, in their order, without its first
-/// point once more, and an empty one where the ring lies far off.
+/// point once more; an empty one where all of its points lie beyond one side of the window, widened by 2, or on the line along it.
 ///
 /// The status is `ANSWERED` (0), and then the caller owns the handle and gives it to `itree_chains_free` once; or
 /// `REFUSED` (1) where memory was refused, `LENGTHS` (3) where a ring stops before it begins or behind the points, `WINDOW` (10)
