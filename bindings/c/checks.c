@@ -34,6 +34,8 @@ int32_t proved_itree_overlay_in(const struct itree_window *window, const struct 
                                 size_t clip_rings, int32_t rule, int32_t operation, struct itree_polygons **polygons);
 int32_t proved_itree_crop(const struct itree_window *window, const struct itree_point *points, size_t point_count,
                           const size_t *ring_ends, size_t ring_count, struct itree_chains **cropped);
+int32_t proved_itree_whole_window(const struct itree_window *windows, size_t window_count, struct itree_window *whole,
+                                  int32_t *found);
 int32_t proved_itree_join(const struct itree_window *windows, size_t window_count, const size_t *tile_ends,
                           size_t tile_count, const size_t *polygon_ends, size_t polygon_count, const size_t *ring_ends,
                           size_t ring_count, const struct itree_point *points, size_t point_count,
@@ -267,6 +269,15 @@ int32_t itree_crop(const struct itree_window *window, const struct itree_point *
     limits_begin();
     return limits_end(proved_itree_crop(window, slice(points, point_count), point_count, slice(ring_ends, ring_count),
                                         ring_count, cropped));
+}
+
+int32_t itree_whole_window(const struct itree_window *windows, size_t window_count, struct itree_window *whole,
+                           int32_t *found) {
+    if (!can_hold(windows, window_count, OF(struct itree_window)) || !can_hold(whole, 1, OF(struct itree_window)) ||
+        !can_hold(found, 1, OF(int32_t))) {
+        return ITREE_POINTER;
+    }
+    return proved_itree_whole_window(slice(windows, window_count), window_count, whole, found);
 }
 
 int32_t itree_join(const struct itree_window *windows, size_t window_count, const size_t *tile_ends, size_t tile_count,

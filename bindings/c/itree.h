@@ -311,8 +311,9 @@ int32_t itree_overlay_in(const struct itree_window *window, const struct itree_p
                          size_t clip_count, const size_t *clip_ends, size_t clip_rings, int32_t rule, int32_t operation,
                          struct itree_polygons **polygons);
 
-/* Writes a handle of what rings become for a window: a chain for each ring, in their order, of the ring's points without the
- * first once more; an empty one where the ring lies far off. The rings are given as to itree_overlay.
+/* Writes a handle of what rings become for a window: a chain for each ring, in their order, without its first point once more; an
+ * empty one where all points of the ring lie beyond one side of the window, widened by 2, or on the line along it. The rings are
+ * given as to itree_overlay.
  *
  * Around each point of the window a ring winds as often as before, and its edges that come within half a unit of such a point, on
  * both axes, are edges of it before. Each point is one of the ring before, or lies in the window widened by 2 or on its sides. So
@@ -327,6 +328,16 @@ int32_t itree_overlay_in(const struct itree_window *window, const struct itree_p
  * window and cropped may not be NULL. What *cropped was before isn't looked at. */
 int32_t itree_crop(const struct itree_window *window, const struct itree_point *points, size_t point_count,
                    const size_t *ring_ends, size_t ring_count, struct itree_chains **cropped);
+
+/* Writes the window that several make up without a gap, where there is one: it has each point of theirs, and no other. So one
+ * tells that windows leave no gap. The call returns
+ *   ITREE_ANSWERED  and *found is 1 and *whole is the window; or *found is 0, and there is no such window, as the windows leave
+ *                   a gap, or there are none: *whole stays as it was;
+ *   ITREE_POINTER   exactly where a pointer is faulty;
+ *   ITREE_WINDOW    exactly where none is, and no point lies in one of the windows, or two of them have one in common.
+ * Where it isn't ITREE_ANSWERED nothing is written. whole and found may not be NULL. It takes no memory. */
+int32_t itree_whole_window(const struct itree_window *windows, size_t window_count, struct itree_window *whole,
+                           int32_t *found);
 
 /* Writes a handle of the polygons of the tiles of several windows, as one set: borders between the windows are gone, nothing is
  * moved, and polygons that come to no border are as they were. The polygons of each window are as itree_overlay_in writes them, and

@@ -1213,8 +1213,8 @@ inline Chains crop(const Window &window, const Rings &rings) {
 
 }  // namespace detail
 
-/// What each ring becomes for a window, in their order, without its first point once more: nothing where it lies far off. What
-/// that is is said at `itree_crop` of itree.h. `overlay_in` of the window promises of these rings what it does of those given: so
+/// What each ring becomes for a window, in their order, without its first point once more, as is said at `itree_crop` of itree.h:
+/// nothing where it lies far off. `overlay_in` of the window promises of these rings what it does of those given: so
 /// who makes its tile needs no more of them.
 ///
 ///     const auto near = itree::crop({0, 0, 50, 100}, fields);
@@ -1561,6 +1561,16 @@ struct JoinedTiles {
                                                all.ring_ends.data(), all.ring_ends.size(), all.points.data(),
                                                all.points.size(), &handle));
     return Polygons(handle);
+}
+
+/// The window that several make up without a gap: it has each point of theirs, and no other. Nothing where they leave a gap, or
+/// there are none. Throws `WindowFault` where no point lies in a window, or two windows overlap.
+[[nodiscard]] inline std::optional<Window> whole_window(Span<Window> windows) {
+    Window whole{};
+    std::int32_t found = 0;
+    detail::throw_unless_answered(::itree_whole_window(windows.data(), windows.size(), &whole, &found));
+    if (found == 0) return std::nullopt;
+    return whole;
 }
 
 namespace detail {

@@ -171,6 +171,11 @@ static void checks_joined(void) {
     check("tiles of rectangles are joined, as the plain model", ok);
 }
 
+static int is_window(const struct itree_window *window, const struct itree_window *wanted) {
+    return window->left == wanted->left && window->low == wanted->low && window->right == wanted->right &&
+           window->high == wanted->high;
+}
+
 static void checks_faulty_pointers(void) {
     const struct itree_point it[] = {{0, 0}, {9, 0}, {0, 9}};
     const struct itree_window window = {0, 0, 9, 9};
@@ -266,7 +271,32 @@ static void checks_refused_tiles(void) {
     itree_polygons_free(polygons);
 }
 
+static void checks_whole_window(void) {
+    const struct itree_window windows[] = {{0, 0, 5, 9}, {5, 4, 9, 9}, {5, 0, 9, 4}, {9, 0, 10, 8}},
+                              before = {1, 2, 3, 4};
+    const struct itree_window overlapping[] = {{0, 0, 5, 9}, {4, 0, 9, 9}}, empty[] = {{0, 0, 0, 9}};
+    struct itree_window whole = before;
+    int32_t found = 7;
+    uint64_t words[4] = {0};
+    check("windows that overlap make up none", itree_whole_window(overlapping, 2, &whole, &found) == ITREE_WINDOW);
+    check("nor do windows without points", itree_whole_window(empty, 1, &whole, &found) == ITREE_WINDOW);
+    check("windows nowhere", itree_whole_window(NULL, 1, &whole, &found) == ITREE_POINTER &&
+                                 itree_whole_window((void *)((char *)words + 1), 1, &whole, &found) == ITREE_POINTER);
+    check("no room for a window or for whether there is one",
+          itree_whole_window(windows, 1, NULL, &found) == ITREE_POINTER &&
+              itree_whole_window(windows, 1, &whole, NULL) == ITREE_POINTER);
+    check("nothing is written there", found == 7 && is_window(&whole, &before));
+    check("three that make up one", itree_whole_window(windows, 3, &whole, &found) == ITREE_ANSWERED && found == 1 &&
+                                        is_window(&whole, &(struct itree_window){0, 0, 9, 9}));
+    whole = before;
+    check("and a gap", itree_whole_window(windows, 4, &whole, &found) == ITREE_ANSWERED && found == 0);
+    found = 1;
+    check("no windows", itree_whole_window(NULL, 0, &whole, &found) == ITREE_ANSWERED && found == 0);
+    check("of which none is written", is_window(&whole, &before));
+}
+
 int main(void) {
+    checks_whole_window();
     checks_a_seam();
     checks_joined();
     checks_faulty_pointers();

@@ -255,6 +255,13 @@ void checks_threads() {
           }) == "a ring stops before it begins, or behind the points");
 }
 
+void checks_whole_window() {
+    const itree::Window left{0, 0, 5, 9}, right{5, 0, 9, 9};
+    check("two windows make up one", itree::whole_window({left, right}) == itree::Window{0, 0, 9, 9});
+    check("and a gap none", !itree::whole_window({left, {6, 0, 9, 9}}) && !itree::whole_window({}));
+    check("windows that overlap", thrown<itree::WindowFault>([&] { return itree::whole_window({left, left}); }) != "");
+}
+
 void checks_refused() {
     const PointRings field{{{0, 0}, {9, 0}, {9, 9}, {0, 9}}};
     const itree::Window left{-1, -1, 5, 10}, right{5, -1, 10, 10};
@@ -277,6 +284,7 @@ void checks_refused() {
 
 int main() {
     checks_join();
+    checks_whole_window();
     checks_unfit();
     checks_windows();
     checks_slanted();

@@ -259,6 +259,34 @@ class Tiles(unittest.TestCase):
         self.assertEqual(told(itree.join(nothing, [(0, 0, 1, 1), (1, 0, 2, 1)])), [])
 
 
+class WholeWindow(unittest.TestCase):
+    def test_what_they_make_up(self):
+        for windows, wanted in (
+            ([(0, 0, 5, 9)], (0, 0, 5, 9)),
+            ([(5, 0, 9, 4), (0, 0, 5, 9), (5, 4, 9, 9)], (0, 0, 9, 9)),
+            ([(0, 0, 5, 9), (5, 0, 9, 8)], None),
+            ([(0, 0, 5, 9), (6, 0, 9, 9)], None),
+            (
+                [(LEAST + 2, LEAST + 2, 0, MOST - 2), (0, LEAST + 2, MOST - 2, MOST - 2)],
+                (LEAST + 2, LEAST + 2, MOST - 2, MOST - 2),
+            ),
+            ([], None),
+        ):
+            self.assertEqual(itree.whole_window(iter(windows)), wanted)
+        self.assertEqual(itree.whole_window(itree.windows([(x, x * x % 97) for x in range(97)], 9)), (0, 0, 96, 96))
+        grid = itree.Grid(unit=0.25)
+        self.assertEqual(itree.whole_window([(0.0, 0, 0.5, 1), (0.5, 0, 1, 1)], grid=grid), (0.0, 0.0, 1.0, 1.0))
+
+    def test_faults(self):
+        for windows, said in (
+            ([(0, 0, 5, 9), (4, 0, 9, 9)], "windows: those at 0 and 1 overlap"),
+            ([(0, 0, 5, 9), (5, 0, 5, 9)], r"windows, place 1: \(5, 0, 5, 9\) has no points"),
+            ([(0.5, 0, 5, 9)], "windows, place 0: 0.5; whole numbers are wanted, or a grid"),
+        ):
+            with self.subTest(said=said), self.assertRaisesRegex(ValueError, f"^{said}"):
+                itree.whole_window(windows)
+
+
 class Crop(unittest.TestCase):
     AROUND, FAR, IN = (
         [(-50, -50), (50, -50), (50, 50), (-50, 50)],

@@ -168,7 +168,7 @@ from ._polygons import Polygon, Polygons
 from ._pieces import Pieces
 from ._points import points_in
 from ._rings import Rings
-from ._tiles import crop, join, overlay_in
+from ._tiles import crop, join, overlay_in, whole_window
 from ._windows import windows
 
 __all__ = [
@@ -201,6 +201,7 @@ __all__ = [
     "simplify",
     "snap",
     "unary_union",
+    "whole_window",
     "windows",
 ]
 __version__ = _library.version

@@ -46,6 +46,7 @@ _CALLS = {
     "itree_polygons_ring_offsets": (_length, [_address, _address]),
     "itree_snap": (_status, [_address, _length, _address]),
     "itree_stop_flag": (None, [_address]),
+    "itree_whole_window": (_status, [_address, _length, _address, _address]),
     "itree_wkb_corners": (_status, [_address, _length, _address, _length, _address, _length, _address, _address]),
     "itree_wkb_read": (_status, [_address, _length, _address, _length, _address, _address, _address]),
     "itree_wkb_srid": (_status, [_address, _length, _address]),

@@ -5,12 +5,12 @@ from __future__ import annotations
 import array
 import ctypes
 import itertools
-from typing import Callable, List, NamedTuple, Sequence, Tuple
+from typing import Callable, List, NamedTuple, Optional, Sequence, Tuple
 
 from . import _answers, _windows
 from ._answers import Handle, Lists
 from ._calls import made
-from ._library import UNFIT, WINDOW, WindowOfC, library
+from ._library import UNFIT, WINDOW, WindowOfC, checked, library
 from ._memory import numpy_where_loaded
 from ._shapes import HeldRings
 from ._windows import Units
@@ -69,6 +69,16 @@ def joined(tiles: Sequence[Lists], windows: Sequence[Units], limit: int) -> Tupl
     if status not in (WINDOW, UNFIT):
         _answers.check_rings(status, limit)
     return status, _answers.lists_in(handle)
+
+
+def whole_of(windows: Sequence[Units]) -> Tuple[int, Optional[Units]]:
+    """The status, and the window that some make up without a gap, or None."""
+    of_c, whole, found = (WindowOfC * len(windows))(*(WindowOfC(*it) for it in windows)), WindowOfC(), ctypes.c_int32()
+    words = ctypes.addressof(of_c), len(windows), ctypes.byref(whole), ctypes.byref(found)
+    status = library.itree_whole_window(*words)
+    if status != WINDOW:
+        checked(status)
+    return status, (whole.left, whole.low, whole.right, whole.high) if found.value else None
 
 
 def append_ends(ends: array.array[int], offsets: memoryview, before: int) -> None:

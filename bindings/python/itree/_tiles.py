@@ -1,4 +1,5 @@
-"""overlay_in, crop and join: an overlay within a window, what it needs of rings, and one answer of those of several windows."""
+"""overlay_in, crop, join and whole_window: an overlay within a window, what it needs of rings, one answer of those of several
+windows, and the window that these make up."""
 
 from __future__ import annotations
 
@@ -14,7 +15,7 @@ from ._polygons import Polygons
 from ._rings import Rings
 from ._shapes import HeldRings, Shapes
 from ._threads import Choice
-from ._windows import Units, WindowLike
+from ._windows import Units, Window, WindowLike
 
 
 def overlay_in(
@@ -77,8 +78,9 @@ def crop(
     A ring winds around each point of the window as before, and its edges that
     come within half a unit of such a point are edges of it before. Other parts
     of it are drawn up to 2 units beside the window, so few points are left of
-    what lies there. `overlay_in` of the window promises of these rings what it
-    does of those given.
+    what lies there, and none of a ring that lies beyond one side of that.
+    `overlay_in` of the window promises of these rings what it does of those
+    given.
 
     The answer is `Rings`: whole numbers, or where there is a grid floats. Where
     there are floats give each call the same grid.
@@ -133,6 +135,28 @@ def join(tiles: Iterable[Polygons], windows: Iterable[WindowLike], *, memory_lim
     if status == UNFIT:
         raise ValueError(_unfit(lists, units))
     return Polygons(polygons, grid, crs, srid)
+
+
+def whole_window(windows: Iterable[WindowLike], *, grid: Optional[Grid] = None) -> Optional[Window]:
+    """The window that several make up without a gap, or None where they leave a gap, or there are none.
+
+    windows: each as that of `overlay_in`, of floats where there is a grid.
+    grid: as that of `overlay_in`.
+
+    >>> whole_window([(0, 0, 5, 9), (5, 0, 9, 9)])
+    (0, 0, 9, 9)
+    >>> whole_window([(0, 0, 5, 9), (5, 1, 9, 9)]) is None
+    True
+
+    Raises ValueError where a window has no points, or two windows overlap.
+    """
+    check_grid(grid)
+    asked = enumerate(_rows._iterated(windows, "windows", "windows"))
+    units = [_windows.in_units(it, grid, f"windows, place {place}") for place, it in asked]
+    status, whole = _threads.whole_of(units)
+    if status == WINDOW:
+        raise ValueError(_overlap(units))
+    return None if whole is None else _windows.of_units(whole, grid)
 
 
 def _listed(tiles: Any) -> List[Polygons]:

@@ -33,7 +33,7 @@ pub use layers::{
     Border, Groups, Layer, LayerBuf, LayerFault, Lines, Overlays, OverlaysIter, Pieces, Side,
 };
 pub use limits::{limited_to, memory_peak, stopped_by};
-pub use tiles::{crop, join, overlay_in, overlay_threads, Tile, TileFault, Window};
+pub use tiles::{crop, join, overlay_in, overlay_threads, whole_window, Tile, TileFault, Window};
 pub use wkb::{read_wkb, wkb_corners, wkb_srid, Shapes, WkbFault, WkbFaultKind};
 
 mod grid;
@@ -817,6 +817,13 @@ mod calls {
             ring_ends: *const usize,
             ring_count: usize,
             cropped: *mut *mut Handle,
+        ) -> i32;
+
+        pub fn itree_whole_window(
+            windows: *const Window,
+            window_count: usize,
+            whole: *mut Window,
+            found: *mut i32,
         ) -> i32;
 
         pub fn itree_join(

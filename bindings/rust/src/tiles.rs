@@ -144,7 +144,8 @@ fn fault_of(status: i32) -> Result<(), TileFault> {
     }
 }
 
-/// What each ring becomes for a window, in their order, without its first point once more: nothing where it lies far off.
+/// What each ring becomes for a window, in their order, without its first point once more; nothing where all of its points lie
+/// beyond one side of the window, widened by 2, or on the line along it.
 ///
 /// Around each point of the window a ring winds as often as before, and its edges that come within half a unit of such a point, on
 /// both axes, are edges of it before. Each point is one of the ring before, or lies in the window widened by 2 or on its sides.
@@ -270,6 +271,26 @@ pub fn join(tiles: &[Tile<'_>]) -> Result<Polygons, TileFault> {
         )
     };
     tile_of(status, handle)
+}
+
+/// The window that several make up without a gap: it has each point of theirs, and no other. `None` where they leave a gap, or there
+/// are none.
+///
+/// `TileFault::Window` comes where no point lies in a window, or two windows overlap.
+///
+/// ```
+/// use itree::{whole_window, Window};
+///
+/// let (left, right) = (Window { left: 0, low: 0, right: 5, high: 9 }, Window { left: 5, low: 0, right: 9, high: 9 });
+/// assert_eq!(whole_window(&[left, right]), Ok(Some(Window { left: 0, low: 0, right: 9, high: 9 })));
+/// assert_eq!(whole_window(&[left, Window { low: 1, ..right }]), Ok(None));
+/// ```
+pub fn whole_window(windows: &[Window]) -> Result<Option<Window>, TileFault> {
+    let (mut whole, mut found) = (Window::default(), 0);
+    // SAFETY: the pointer and the length are those of a slice, and the others are of values of this call.
+    let status = unsafe { calls::itree_whole_window(windows.as_ptr(), windows.len(), &mut whole, &mut found) };
+    fault_of(status)?;
+    Ok((found != 0).then_some(whole))
 }
 
 /// The points of all rings.

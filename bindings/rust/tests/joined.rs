@@ -1,8 +1,8 @@
 //! Tiles joined, and overlays by threads, beside those of one call.
 
 use itree::{
-    join, limited_to, overlay_in, overlay_rings, overlay_threads, FillRule, Layer, Operation, Point, Polygons, Rings,
-    Tile, TileFault, Window,
+    join, limited_to, overlay_in, overlay_rings, overlay_threads, whole_window, FillRule, Layer, Operation, Point,
+    Polygons, Rings, Tile, TileFault, Window,
 };
 use refuse::granted;
 
@@ -69,6 +69,18 @@ fn joins_a_field_with_its_pond() {
         assert!(requests > 4, "{requests} requests");
     }
     assert!(join(&[]).unwrap().is_empty());
+}
+
+#[test]
+fn tells_what_windows_make_up() {
+    let (left, right) = (window(0, 0, 5, 9), window(5, 0, 9, 9));
+    assert_eq!(whole_window(&[right, left]), Ok(Some(window(0, 0, 9, 9))));
+    for gap in [&[left, window(6, 0, 9, 9)][..], &[left, window(5, 0, 9, 8)], &[]] {
+        assert_eq!(whole_window(gap), Ok(None));
+    }
+    for faulty in [[left, left], [left, window(5, 0, 5, 9)]] {
+        assert_eq!(whole_window(&faulty), Err(TileFault::Window));
+    }
 }
 
 #[test]

@@ -1,6 +1,6 @@
 -- What the calls over windows answer, of rings that C hands over.
 use Rattle.std.specs.List.{AllZip, flat_map}
-use Rattle.std.specs.Prelude.{◌≡◌, ◌⊎◌, ◌↔◌, ◌∷◌, ℕ, ℤ, List, [], Option, Some, None, length}
+use Rattle.std.specs.Prelude.{◌≡◌, ◌⊎◌, ◌↔◌, ◌∷◌, ℕ, pos, ℤ, List, [], Option, Some, None, length}
 use Rattle.noding.specs.Offsets.{offsets}
 use Rattle.overlay.specs.Rings.{AreEnds, rings_of}
 use Rattle.overlay.specs.declared.fill.rules.FillRule.{FillRule}
@@ -10,6 +10,7 @@ use Rattle.plane.specs.declared.point.Point.{Point}
 use Rattle.tiles.specs.Crop.{IsCropped}
 use Rattle.tiles.specs.Join.{CanJoin, IsJoinFault, IsJoined, tiles_of}
 use Rattle.tiles.specs.Tile.{IsTile}
+use Rattle.tiles.specs.Whole.{IsWhole}
 use Rattle.tiles.specs.Window.{CanCropTo, LiesBeyond, widened}
 use Rattle.tiles.specs.declared.join_fault.JoinFault.TheVariants.{Lengths, Empty, Overlap, Outside, Covered, OutOfMemory}
 use Rattle.tiles.specs.declared.joined.given.Tiles.{Tiles}
@@ -77,6 +78,14 @@ AnswersCrop window points ends status made =
     HoldsCrop window points ends status made
     × ((status ≡ LENGTHS) ↔ ¬ (AreEnds 0 ends (length points)))
     × ((status ≡ WINDOW) ↔ (AreEnds 0 ends (length points) × ¬ (CanCropTo window)))
+
+-- ---- the window that several make up
+
+-- whether there is one is told, and then it is written
+abbrev pub WritesWhole : List Window → ℤ → Window → Window → Type 0
+WritesWhole windows found before after =
+    ((found ≡ pos 1) × IsWhole after windows)
+    ⊎ ((found ≡ pos 0) × ((whole : Window) → ¬ (IsWhole whole windows)) × (after ≡ before))
 
 -- ---- tiles joined
 

@@ -32,3 +32,4 @@ pub mod shapes_written;
 pub mod snapped;
 pub mod status;
 pub mod tiled;
+pub mod whole;
