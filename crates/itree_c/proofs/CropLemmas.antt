@@ -1,6 +1,6 @@
 -- Lemmas of rings that are cropped one after the other.
 use Rattle.std.proofs.Common.{◌≡◌, ◌≤◌, ◌<◌, ◌+◌, ◌++◌, ◌∷◌, [], ℕ, List, ap, arith, get_or, length, refl, subst, suc, sym, take, ◌∙◌}
-use Rattle.std.specs.List.{AllZip, flat_map}
+use Rattle.std.specs.List.{AllZip}
 use Rattle.std.proofs.lemmas.List.{length-append}
 use Rattle.std.proofs.lemmas.List.Elements.{AllZip-push}
 use Rattle.noding.specs.Offsets.{offsets}
