@@ -11,8 +11,8 @@ use tiles::{Window, whole_of};
 
 /// Writes the window that these make up without a gap, where there is one, and whether there is: 1 or 0.
 ///
-/// The status is `ANSWERED` (0), or `WINDOW` (10) where a window has no points, or two have a common point: then nothing is written.
-/// It takes no memory. Which window they make up is said at `whole_of` of `tiles`.
+/// The status is `ANSWERED` (0), or `WINDOW` (10) where a window has no points, or two have a common point: then nothing is
+/// written. It takes no memory. Which window they make up is said at `whole_of` of `tiles`.
 #[unsafe(no_mangle)]
 pub extern "C" fn itree_whole_window(windows: &[Window], whole: &mut Window, found: &mut i32) -> i32
     ensures answered { result ≡ ANSWERED → WritesWhole windows.now found.new whole.old whole.new }

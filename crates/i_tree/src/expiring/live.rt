@@ -42,7 +42,7 @@ impl<K: ExpiredVal<E>, E: Expiration> Expires<K, E> for ByVal {
     }
 }
 
-/// Whether the key is live at `time`: the one rule, which all else goes by.
+/// Whether the key is live at `time`: the one rule. `pack_live` goes by it too, and asks a key once for its expiration.
 pub fn is_live<X: Expires<K, E>, K, E: Expiration>(key: &K, time: E) -> bool
     ensures { result ≡ is_live X.expiration E.cmp time key.now }
 {

@@ -85,11 +85,11 @@ impl<K: ExpiredVal<E>, E: Expiration, V: Copy, A: Allocator + Copy> StatusList<K
     }
 
     /// As `insert_between` of the trait, and with a guess of the place, which it tries first: where something expires, the place
-    /// where that stood, else `near`. Two questions tell whether the guess is right. Of a wrong one these two are all that is lost,
-    /// and of one past the end nothing.
+    /// where that stood, else `near`. Two questions tell whether the guess is right. Of a wrong one these two are all that is
+    /// lost, and of one past the end nothing.
     ///
-    /// Afterwards `near` is the place right behind the pair, so that pairs that come one behind another find their places. No answer
-    /// depends on it.
+    /// Afterwards `near` is the place right behind the pair, so that pairs that come one behind another find their places. No
+    /// answer depends on it.
     pub fn insert_near<F: Fn(K) -> Ordering>(
         &mut self,
         time: E,
