@@ -23,6 +23,7 @@ public:
             subject_ = united(subject_);
             clip_ = united(clip_);
         }
+        if (found_) GEOSGeom_destroy_r(geos_, found_);
         found_ = there(overlaid());
     }
 

@@ -6,14 +6,8 @@
 #include <numeric>
 #include <random>
 
-namespace {
-
-/// All coordinates lie between this number and its negative.
-constexpr double range = 536'000'000;
-
 itree_point rounded(double x, double y) { return {std::int32_t(std::lround(x)), std::int32_t(std::lround(y))}; }
 
-/// Stars of ten points around centres anywhere in a square, each of which meets some others.
 Shape stars(std::size_t size, unsigned seed) {
     constexpr std::size_t corners = 10;
     std::mt19937 numbers(seed);
@@ -33,11 +27,14 @@ Shape stars(std::size_t size, unsigned seed) {
     return found;
 }
 
+namespace {
+
 Polygon square(std::int32_t x, std::int32_t y, std::int32_t side) {
     return {{{x, y}, {x + side, y}, {x + side, y + side}, {x, y + side}}};
 }
 
-/// The squares of one colour of a board with so many in a row and in a column. They touch at their corners.
+}  // namespace
+
 Shape board(std::int32_t x, std::int32_t y, std::int32_t side, std::int32_t columns, std::int32_t rows) {
     Shape found;
     for (std::int32_t place = 0; place < columns * rows; place++) {
@@ -47,7 +44,6 @@ Shape board(std::int32_t x, std::int32_t y, std::int32_t side, std::int32_t colu
     return found;
 }
 
-/// A circle with two hundred waves.
 Shape wavy(std::size_t size, double x, double y) {
     constexpr double radius = 0.9 * range, height = 0.05, waves = 200;
     Ring ring;
@@ -58,6 +54,8 @@ Shape wavy(std::size_t size, double x, double y) {
     }
     return {{ring}};
 }
+
+namespace {
 
 Input united_stars(std::size_t size) { return {"overlay: stars, union", stars(size, 7), {}, Operation::either, false}; }
 

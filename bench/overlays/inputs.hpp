@@ -4,6 +4,20 @@
 
 #include "shapes.hpp"
 
+/// All coordinates lie between this number and its negative.
+constexpr double range = 536'000'000;
+
+itree_point rounded(double x, double y);
+
+/// Stars of ten points around centres anywhere in a square, each of which meets some others.
+Shape stars(std::size_t size, unsigned seed);
+
+/// The squares of one colour of a board with so many in a row and in a column. They touch at their corners.
+Shape board(std::int32_t x, std::int32_t y, std::int32_t side, std::int32_t columns, std::int32_t rows);
+
+/// A circle with two hundred waves.
+Shape wavy(std::size_t size, double x, double y);
+
 /// How many edges the input has.
 std::size_t size_of(const Input &input);
 

@@ -45,7 +45,7 @@ public:
                                           subject.ends.size(), clip.points.data(), clip.points.size(), clip.ends.data(),
                                           clip.ends.size(), ITREE_NON_ZERO, operation, &polygons_);
         if (status != ITREE_ANSWERED) throw std::runtime_error("status " + std::to_string(status));
-        itree_polygons_points(polygons_, &points_);
+        point_count_ = itree_polygons_points(polygons_, &points_);
         ring_count_ = itree_polygons_ring_offsets(polygons_, &rings_) - 1;
     }
     ~Found() { itree_polygons_free(polygons_); }
@@ -63,6 +63,8 @@ public:
         return double(twice) / 2;
     }
 
+    std::size_t points() const { return point_count_; }
+
     Shape shape() const {
         const std::size_t *ends = nullptr;
         const std::size_t count = itree_polygons_polygon_offsets(polygons_, &ends);
@@ -79,7 +81,7 @@ private:
     itree_polygons *polygons_ = nullptr;
     const itree_point *points_ = nullptr;
     const std::size_t *rings_ = nullptr;
-    std::size_t ring_count_ = 0;
+    std::size_t point_count_ = 0, ring_count_ = 0;
 };
 
 class ByItree : public Overlay {
@@ -89,6 +91,7 @@ public:
 
     void run() override { found_ = std::make_unique<Found>(subject_, clip_, operation_); }
     double area() const override { return found_->area(); }
+    std::size_t points() const override { return found_->points(); }
 
 private:
     Rings subject_, clip_;

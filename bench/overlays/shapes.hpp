@@ -35,6 +35,8 @@ public:
     virtual ~Overlay() = default;
     virtual void run() = 0;
     virtual double area() const = 0;
+    /// How many points the answer has. Ours alone says it.
+    virtual std::size_t points() const { return 0; }
 };
 
 template <typename Sided>
