@@ -6,6 +6,10 @@ from html import escape
 WIDTH, HEIGHT, LEFT, RIGHT, TOP, BOTTOM = 620, 360, 70, 150, 40, 50
 INK, SOFT = "#222222", "#bbbbbb"
 COLOURS = ["#1f5fa8", "#c0392b", "#2e7d4f", "#8e44ad", "#b9770e", "#16857f", "#5d6d7e"]
+# Strokes of the first sides, of as many behind them, and so on.
+DASHES = ["none", "7 3", "2 3"]
+# With more sides than colours, the labels stand one below the other at the right, with so much room, and a bit of the line.
+WIDE, SAMPLE = 240, 30
 
 
 def text(x, y, words, anchor="middle", size=13, fill=INK):
@@ -32,34 +36,51 @@ def apart(heights, least=16):
     return moved
 
 
-def drawn(title, points):
-    """An SVG of points (n, side, seconds), a line for each side."""
+def traced(places, colour, dashes, has_dots):
+    """A line through places, and dots on them."""
+    through = " ".join(f"{x:.1f},{y:.1f}" for x, y in places)
+    dashed = "" if dashes == "none" else f' stroke-dasharray="{dashes}"'
+    yield f'<polyline points="{through}" fill="none" stroke="{colour}" stroke-width="2"{dashed}/>'
+    for x, y in places if has_dots else ():
+        yield f'<circle cx="{x:.1f}" cy="{y:.1f}" r="3" fill="{colour}"/>'
+
+
+def strokes(sides, plain):
+    """The colour and the dashes of each side."""
+    styles = iter((colour, dashes) for dashes in DASHES for colour in COLOURS)
+    return {side: (INK, "none") if side in plain else next(styles) for side in sides}
+
+
+def drawn(title, points, across_name="n", plain=()):
+    """An SVG of points (n, side, seconds), a line for each side. Those of plain are lines without dots."""
     across, up = powers([n for n, _, _ in points]), powers([seconds for _, _, seconds in points])
+    sides = list(dict.fromkeys(side for _, side, _ in points))
+    is_many = len(sides) > len(COLOURS)
+    right, height = WIDTH - (WIDE if is_many else RIGHT), max(HEIGHT, TOP + BOTTOM + 20 * len(sides))
 
     def x_of(n):
-        return LEFT + (math.log10(n) - across[0]) / (across[-1] - across[0]) * (WIDTH - LEFT - RIGHT)
+        return LEFT + (math.log10(n) - across[0]) / (across[-1] - across[0]) * (right - LEFT)
 
     def y_of(seconds):
-        return HEIGHT - BOTTOM - (math.log10(seconds) - up[0]) / (up[-1] - up[0]) * (HEIGHT - TOP - BOTTOM)
+        return height - BOTTOM - (math.log10(seconds) - up[0]) / (up[-1] - up[0]) * (height - TOP - BOTTOM)
 
     parts = [text(WIDTH / 2, 24, title, size=15)]
     for power in across:
         x = x_of(10**power)
-        parts += [line(x, TOP, x, HEIGHT - BOTTOM), text(x, HEIGHT - BOTTOM + 20, f"{10**power:,}")]
+        parts += [line(x, TOP, x, height - BOTTOM), text(x, height - BOTTOM + 20, f"{10**power:,}")]
     for power in up:
         y = y_of(10.0**power)
-        parts += [line(LEFT, y, WIDTH - RIGHT, y), text(LEFT - 8, y + 4, f"{10.0**power:g} s", "end")]
-    sides = list(dict.fromkeys(side for _, side, _ in points))
-    ends = {side: y_of(max((n, seconds) for n, it, seconds in points if it == side)[1]) for side in sides}
-    labels = apart(ends)
-    for side, colour in zip(sides, COLOURS):
+        parts += [line(LEFT, y, right, y), text(LEFT - 8, y + 4, f"{10.0**power:g} s", "end")]
+    labels = apart({side: y_of(max((n, seconds) for n, it, seconds in points if it == side)[1]) for side in sides})
+    for side, (colour, dashes) in strokes(sides, plain).items():
         found = sorted((n, seconds) for n, it, seconds in points if it == side)
-        places = " ".join(f"{x_of(n):.1f},{y_of(seconds):.1f}" for n, seconds in found)
-        parts.append(f'<polyline points="{places}" fill="none" stroke="{colour}" stroke-width="2"/>')
-        for n, seconds in found:
-            parts.append(f'<circle cx="{x_of(n):.1f}" cy="{y_of(seconds):.1f}" r="3" fill="{colour}"/>')
-        parts.append(text(x_of(found[-1][0]) + 10, labels[side] + 4, side, "start", fill=colour))
-    parts.append(text((LEFT + WIDTH - RIGHT) / 2, HEIGHT - 8, "n"))
+        places = [(x_of(n), y_of(seconds)) for n, seconds in found]
+        parts += traced(places, colour, dashes, side not in plain)
+        x = right + SAMPLE if is_many else places[-1][0]
+        if is_many:
+            parts += traced([(right + 8, labels[side]), (x + 2, labels[side])], colour, dashes, False)
+        parts.append(text(x + 10, labels[side] + 4, side, "start", fill=colour))
+    parts.append(text((LEFT + right) / 2, height - 8, across_name))
     body = "\n".join(parts)
-    head = f'<svg xmlns="http://www.w3.org/2000/svg" viewBox="0 0 {WIDTH} {HEIGHT}" font-family="sans-serif">'
-    return f'{head}\n<rect width="{WIDTH}" height="{HEIGHT}" fill="#ffffff"/>\n{body}\n</svg>\n'
+    head = f'<svg xmlns="http://www.w3.org/2000/svg" viewBox="0 0 {WIDTH} {height}" font-family="sans-serif">'
+    return f'{head}\n<rect width="{WIDTH}" height="{height}" fill="#ffffff"/>\n{body}\n</svg>\n'
