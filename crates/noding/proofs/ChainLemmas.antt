@@ -3,6 +3,7 @@ pub mod Beside
 pub mod Close
 pub mod Crossed
 pub mod Crossings
+pub mod Distinct
 pub mod Ends
 pub mod Gains
 pub mod Kept

@@ -3,6 +3,7 @@ pub mod Chains
 pub mod Close
 pub mod Crossing
 pub mod Crossings
+pub mod Distinct
 pub mod Gains
 pub mod Local
 pub mod Meeting

@@ -22,6 +22,7 @@ mod chains;
 mod close;
 mod crossing;
 mod crossings;
+mod distinct;
 mod local;
 mod moved;
 mod passing;

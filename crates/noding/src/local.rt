@@ -12,6 +12,7 @@ ghost use Rattle.noding.specs.Stops.{AppendsIfKept, AreKept, AreNodeStops, IsBef
 use crate::chains::append_chains;
 use crate::close::close_pairs;
 use crate::crossings::crossings_of_pairs;
+use crate::distinct::{distinct_of, stops_of_each};
 use crate::moved::{is_kept, lies_on, moved_edges};
 use crate::stops::{Stop, stops_of_pairs};
 use i_tree::Refusal;
@@ -54,6 +55,19 @@ pub fn nodes_in_order<A: Allocator + Copy>(
     alloc: A,
     edges: &[Edge],
 ) -> Result<Vec<Stop, A>, Refusal>
+    ensures ok { IfOk result (λ stops. AreNodeStops edges.now stops.items) }
+    ensures refused { IfErr result (λ cause. cause ≡ OutOfMemory) }
+{
+    let Some(distinct) = distinct_of(alloc, edges)? else {
+        return nodes_of_edges(alloc, edges);
+    };
+    let nodes = nodes_of_edges(alloc, &distinct.edges)?;
+    let copies = stops_of_each(alloc, &distinct, &nodes)?;
+    Ok(copies)
+}
+
+// The same, where each edge is looked at as often as it stands there.
+fn nodes_of_edges<A: Allocator + Copy>(alloc: A, edges: &[Edge]) -> Result<Vec<Stop, A>, Refusal>
     ensures ok { IfOk result (λ stops. AreNodeStops edges.now stops.items) }
     ensures refused { IfErr result (λ cause. cause ≡ OutOfMemory) }
 {

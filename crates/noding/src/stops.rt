@@ -10,6 +10,7 @@ ghost use Rattle.noding.specs.Stops.{AreStops, IsStopAlong, IsStopAmong, IsStopA
 
 use crate::close::{close_pairs, pairs_passed};
 use crate::crossings::{Crossing, crossings_of_pairs, is_end_of_one, points_inside};
+use crate::distinct::{distinct_of, stops_of_each};
 use crate::passing::passes_inside;
 use event_queue::buckets::sort_in_buckets;
 use i_tree::Refusal;
@@ -31,10 +32,25 @@ pub struct Stop {
 /// What an edge passes lies in its box. So the pairs of edges that come close tell the stops at ends of edges, and which
 /// edges cross. An edge may pass a crossing of two others that it comes close to neither of: where some edges cross, and not
 /// all run along the axes, the crossings are sought among all edges.
+///
+/// Where edges stand there often each is looked at once, and its copies have its stops.
 pub fn stops_in_order<A: Allocator + Copy>(
     alloc: A,
     edges: &[Edge],
 ) -> Result<Vec<Stop, A>, Refusal>
+    ensures ok { IfOk result (λ stops. AreStops edges.now stops.items) }
+    ensures refused { IfErr result (λ cause. cause ≡ OutOfMemory) }
+{
+    let Some(distinct) = distinct_of(alloc, edges)? else {
+        return stops_of_edges(alloc, edges);
+    };
+    let stops = stops_of_edges(alloc, &distinct.edges)?;
+    let copies = stops_of_each(alloc, &distinct, &stops)?;
+    Ok(copies)
+}
+
+// The same, where each edge is looked at as often as it stands there.
+fn stops_of_edges<A: Allocator + Copy>(alloc: A, edges: &[Edge]) -> Result<Vec<Stop, A>, Refusal>
     ensures ok { IfOk result (λ stops. AreStops edges.now stops.items) }
     ensures refused { IfErr result (λ cause. cause ≡ OutOfMemory) }
 {
