@@ -315,6 +315,10 @@ RUN = (
 # Edges of a cell of 20 by 20, which no edge of another cell reaches.
 CELL = ((0, 0, 18, 11), (18, 2, 0, 18), (9, 0, 9, 9), (0, 5, 18, 6), (7, 4, 7, 4))
 
+# Rings of which many copies stand together. The first two cross at points with fractions.
+SQUARE, TURNED = ((0, 0), (9, 0), (9, 9), (0, 9)), ((4, -3), (13, 5), (5, 12), (-3, 4))
+TRIANGLE = (0, 0), (7, 2), (3, 9)
+
 # So many sets stand in a text where they are kept apart.
 TOGETHER = 500
 
@@ -472,6 +476,31 @@ def crowds():
             yield snapped(f"30 edges {where}, {turn}", lines(*map(line_of, edges)), edges)
 
 
+def round_of(ring):
+    return [one + other for one, other in zip(ring, ring[1:] + ring[:1])]
+
+
+def copied():
+    """Names and lists of edges that stand there many times: such edges are noded once."""
+    random = Random(SEED)
+    square, turned, triangle = map(round_of, (SQUARE, TURNED, TRIANGLE))
+    back = [edge[2:] + edge[:2] for edge in triangle]
+    mixed = [near(random, 15) + near(random, 15) for _ in range(40)]
+    mixed += mixed[:4] * 25
+    random.shuffle(mixed)
+    yield "a square, 16 times", square * 16
+    yield "a square, 100 times", square * 100
+    yield "two squares that cross, 40 times", (square + turned) * 40
+    yield "a triangle there and back, 60 times", (triangle + back) * 60
+    yield "some edges 26 times among others", mixed
+
+
+def copies(mode, chains_of):
+    """The cases of these."""
+    for name, edges in copied():
+        yield answered(name, mode, lines(*map(line_of, edges)), lines(*map(reply, chains_of(edges))))
+
+
 def in_cells(count):
     """So many edges in cells of their own, in an order by chance, and their replies."""
     found = chains(CELL)
@@ -497,7 +526,7 @@ def memory():
 
 
 PARTS = (
-    *(worked, rows_by_model, odd_texts, wrong_rules, crowds, many, memory),
+    *(worked, rows_by_model, odd_texts, wrong_rules, crowds, partial(copies, "snap", chains_apart), many, memory),
     *(partial(part, [PLAIN]) for part in (empty_texts, plain_lines, line_numbers, streams.each_mode)),
     *(partial(by_chance, "snap", chains_apart, *kind[:4], seed) for kind in KINDS for seed in range(kind[4])),
 )

@@ -1,6 +1,7 @@
 -- Lemmas on how chains are made: which edges come close, what crossings round to, the stops of edges, and the runs of stops that are chains.
 pub mod Beside
 pub mod Close
+pub mod Copies
 pub mod Crossed
 pub mod Crossings
 pub mod Distinct

@@ -2,7 +2,7 @@ use Rattle.std.proofs.Common.{◌≡◌, ◌+◌, ◌++◌, ◌∷◌, [], List,
 use Rattle.std.proofs.Math.Seq.{get_or-append_seam}
 use Rattle.noding.specs.Distinct.{AreStarts}
 use Rattle.noding.specs.Stops.{AreAt}
-use Rattle.noding.proofs.ChainLemmas.Distinct.{starts-first, starts-more}
+use Rattle.noding.proofs.ChainLemmas.Copies.{starts-first, starts-more}
 use Rattle.noding.proofs.distinct.starts_of.Goals as goal
 
 pub loop-place-init : goal.loop-place-init

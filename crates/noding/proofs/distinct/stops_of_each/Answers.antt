@@ -4,7 +4,7 @@ use Rattle.std.proofs.lemmas.Grind.{get_or_default_zero}
 use Rattle.noding.specs.Distinct.{AreCopied, AreStarts, at_place}
 use Rattle.noding.specs.Offsets.{between}
 use Rattle.noding.specs.declared.stops.Stop.{Stop}
-use Rattle.noding.proofs.ChainLemmas.Distinct.{copied-next, copied-none, like-below, like-rising}
+use Rattle.noding.proofs.ChainLemmas.Copies.{copied-next, copied-none, like-below, like-rising}
 use Rattle.noding.proofs.distinct.stops_of_each.Goals as goal
 
 pub loop-place-init : goal.loop-place-init

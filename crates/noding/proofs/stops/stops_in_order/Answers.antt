@@ -4,7 +4,8 @@ use Rattle.plane.specs.declared.edge.Edge.{Edge}
 use Rattle.noding.specs.Distinct.{AreCopied}
 use Rattle.noding.specs.Stops.{AreStops, IsBefore}
 use Rattle.noding.specs.declared.stops.Stop.{Stop}
-use Rattle.noding.proofs.ChainLemmas.Distinct.{AreStops-copied, likes-within}
+use Rattle.noding.proofs.ChainLemmas.Copies.{AreStops-copied}
+use Rattle.noding.proofs.ChainLemmas.Distinct.{likes-within}
 use Rattle.noding.proofs.stops.stops_in_order.Goals as goal
 
 pub stops_of_each-requires-clause-within : goal.stops_of_each-requires-clause-within
