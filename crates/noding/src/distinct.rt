@@ -10,20 +10,18 @@ use plane::edge::Edge;
 use std::alloc::{AllocError, Allocator};
 use std::cmp::Ordering;
 
-// Fewer edges than these are noded as they stand: nothing is won by looking for copies among them.
+// Fewer edges than these are noded as they stand: looking for copies among them would cost more than it saves.
 const FEW: usize = 64;
 
-// A sample has this many edges, or more where there are many edges.
-const LEAST_SAMPLE: usize = 64;
+// A sample has so many times the square root of how many edges there are. Where copies make as many pairs as there are edges,
+// which is as much work as the noding, it has four pairs of copies on average.
+const ROOTS_A_SAMPLE: usize = 2;
 
-// It has one of so many edges, so that it costs little beside the noding.
-const EDGES_A_SAMPLE: usize = 64;
-
-// The steps between its places, which spread them over all edges in no order that edges come in.
-const SPREAD: u64 = 0x9E37_79B9_7F4A_7C15;
-
-// Where the sample has so many copies it is taken that edges stand there often.
+// Where a sample has so many copies it is taken that edges stand there often.
 const ENOUGH_COPIES: usize = 3;
+
+// A factor that mixes the bits of a number.
+const MIXING: u64 = 0x9E37_79B9_7F4A_7C15;
 
 /// The distinct edges of a list, and for each of its places the place of its like among them.
 #[derive(Drop)]
@@ -85,16 +83,26 @@ fn is_copy(one: Placed, other: Placed) -> bool {
 fn sample_of<A: Allocator>(alloc: A, edges: &[Edge]) -> Result<Vec<Placed, A>, AllocError>
     requires { 0 < length edges.now }
 {
-    let size = LEAST_SAMPLE.max(edges.len() / EDGES_A_SAMPLE);
+    let size = ROOTS_A_SAMPLE * edges.len().isqrt();
     let mut sample = Vec::with_capacity(alloc, size)?;
     for index in 0..size {
-        let place = (index as u64).wrapping_mul(SPREAD) as usize % edges.len();
+        let place = place_by_chance(index, edges.len());
         sample.push(Placed {
             edge: edges[place],
             place,
         })?;
     }
     Ok(sample)
+}
+
+// One of so many places, for this number of a sample. Places at even steps would miss copies that stand at other steps, or in runs.
+fn place_by_chance(index: usize, count: usize) -> usize
+    requires { 0 < count }
+    ensures { result < count }
+{
+    let number = (index as u64).wrapping_mul(MIXING);
+    let mixed = (number ^ (number >> 32)).wrapping_mul(MIXING);
+    (mixed >> 32) as usize % count
 }
 
 // The edges with their places, so that copies stand side by side.
@@ -146,7 +154,8 @@ fn place_among<A: Allocator>(edge: Edge, distinct: &mut Vec<Edge, A>) -> Result<
     Ok(place)
 }
 
-/// The stops of all edges, where these are those of the distinct ones: for each edge in turn those of its like, at its own place.
+/// The stops of all edges, where these are those of the distinct ones: for each edge in turn those of its like, at its own
+/// place.
 pub fn stops_of_each<A: Allocator + Copy>(
     alloc: A,
     distinct: &Distinct<A>,
