@@ -486,13 +486,13 @@ def copied():
     square, turned, triangle = map(round_of, (SQUARE, TURNED, TRIANGLE))
     back = [edge[2:] + edge[:2] for edge in triangle]
     mixed = [near(random, 15) + near(random, 15) for _ in range(40)]
-    mixed += mixed[:4] * 25
+    mixed += mixed[:4] * 60
     random.shuffle(mixed)
     yield "a square, 16 times", square * 16
     yield "a square, 100 times", square * 100
     yield "two squares that cross, 40 times", (square + turned) * 40
     yield "a triangle there and back, 60 times", (triangle + back) * 60
-    yield "some edges 26 times among others", mixed
+    yield "some edges 61 times among others", mixed
 
 
 def copies(mode, chains_of):

@@ -13,8 +13,11 @@ use std::cmp::Ordering;
 // Fewer edges than these are noded as they stand: looking for copies among them would cost more than it saves.
 const FEW: usize = 64;
 
-// A sample has so many times the square root of how many edges there are. Where copies make as many pairs as there are edges,
-// which is as much work as the noding, it has four pairs of copies on average.
+// One of so many edges is in a sample, so that it costs a hundredth of the noding.
+const EDGES_A_SAMPLE: usize = 16;
+
+// Of many edges a sample has no more than so many times their square root. Where copies make as many pairs as there are edges it
+// has four pairs of copies then, on average; where they make a few of all pairs joining them saves too little.
 const ROOTS_A_SAMPLE: usize = 2;
 
 // Where a sample has so many copies it is taken that edges stand there often.
@@ -83,7 +86,8 @@ fn is_copy(one: Placed, other: Placed) -> bool {
 fn sample_of<A: Allocator>(alloc: A, edges: &[Edge]) -> Result<Vec<Placed, A>, AllocError>
     requires { 0 < length edges.now }
 {
-    let size = ROOTS_A_SAMPLE * edges.len().isqrt();
+    let most = ROOTS_A_SAMPLE * edges.len().isqrt();
+    let size = most.min(edges.len() / EDGES_A_SAMPLE);
     let mut sample = Vec::with_capacity(alloc, size)?;
     for index in 0..size {
         let place = place_by_chance(index, edges.len());
