@@ -16,8 +16,8 @@ const FEW: usize = 64;
 // One of so many edges is in a sample, so that it costs a hundredth of the noding.
 const EDGES_A_SAMPLE: usize = 16;
 
-// Of many edges a sample has no more than so many times their square root. Where copies make as many pairs as there are edges it
-// has four pairs of copies then, on average; where they make a few of all pairs joining them saves too little.
+// Of many edges a sample has no more than so many times their square root. Where copies make as many pairs as there are edges
+// it has four pairs of copies then, on average. Copies that make far fewer cost little, and joining them would save little.
 const ROOTS_A_SAMPLE: usize = 2;
 
 // Where a sample has so many copies it is taken that edges stand there often.
