@@ -1,4 +1,4 @@
-use Rattle.std.proofs.Common.{◌≡◌, ◌<◌, [], pos, List, ℕ, length, get_or, subst, sym, arith}
+use Rattle.std.proofs.Common.{◌≡◌, pos, List, length, subst, sym, arith}
 use Rattle.plane.specs.declared.edge.Edge.{Edge}
 use Rattle.noding.specs.declared.distinct.Placed.{Placed}
 use Rattle.noding.proofs.ChainLemmas.Distinct.{AreLikes, likes-all, likes-more, likes-none, placed-within}

@@ -1,4 +1,4 @@
-use Rattle.std.proofs.Common.{◌+◌, List, [], pos, subst, sym}
+use Rattle.std.proofs.Common.{◌+◌, List, pos, subst, sym}
 use Rattle.plane.specs.declared.edge.Edge.{Edge}
 use Rattle.noding.specs.declared.distinct.Placed.{Placed}
 use Rattle.noding.proofs.ChainLemmas.Distinct.{ArePlacedUpto, placed-all, placed-more, placed-none}
