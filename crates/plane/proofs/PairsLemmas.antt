@@ -1,6 +1,7 @@
 -- Lemmas on the sweep that tells all pairs of items that meet.
 pub mod Bags
 pub mod Between
+pub mod Compared
 pub mod Complete
 pub mod Extends
 pub mod Few
@@ -13,6 +14,7 @@ pub mod Parts
 pub mod Points
 pub mod Served
 pub mod Serving
+pub mod Sorted
 pub mod Status
 pub mod Strips
 pub mod Told

@@ -1,4 +1,6 @@
+pub mod Columns
 pub mod Ends
+pub mod Gains
 pub mod Lines
 pub mod Lists
 pub mod Locate

@@ -1,4 +1,5 @@
 pub mod Boxes
+pub mod Columns
 pub mod Crosses
 pub mod Edges
 pub mod Kinds

@@ -4,6 +4,7 @@
 //! The candidates come from the containers of `i_tree`, and each is tested in whole numbers. Nothing is rounded.
 #![tactic(auto)]
 
+pub mod columns;
 pub mod edge;
 pub mod locate;
 pub mod meet;

@@ -2,6 +2,10 @@
 #![tactic(auto)]
 
 #[cfg(test)]
+mod budgets;
+#[cfg(test)]
+mod columns;
+#[cfg(test)]
 mod edges;
 #[cfg(test)]
 mod located;

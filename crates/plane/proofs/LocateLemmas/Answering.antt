@@ -20,7 +20,8 @@ use Rattle.event_queue.specs.Queue.{StandsAt, Precedes}
 use Rattle.plane.specs.Locate.Events.{CoversSome, answering_of, IsQueue}
 use Rattle.plane.specs.Locate.Serving.{IsPlaceUnder, place_of}
 use Rattle.plane.specs.SweepLine.Active.{Entry, cmp_to_point, live_entries, IsExpiredAt}
-use Rattle.plane.proofs.LocateLemmas.Begun.{begin_of, end_of, IsBegun, HasEnded, turned, IsBegun-more, IsBegun-before}
+use Rattle.plane.specs.SweepLine.Begun.{begin_of, end_of, IsBegun, HasEnded}
+use Rattle.plane.proofs.LocateLemmas.Begun.{turned, IsBegun-more, IsBegun-before}
 use Rattle.event_queue.proofs.QueueLemmas.Done.{begin-precedes, done_earlier, upto-precedes, precedes, done_before, one_more}
 use Rattle.plane.proofs.LocateLemmas.Events.{answers_of, is_beginning}
 use Rattle.plane.proofs.SweepLineLemmas.Later.{live-without}

@@ -24,7 +24,8 @@ use Rattle.plane.specs.SweepLine.Active.{Entry, cmp_active, is_live_at, live_ent
 use Rattle.plane.proofs.SweepLineLemmas.Adjacent.{All-joined}
 use Rattle.plane.proofs.SweepLineLemmas.Advance.{advance}
 use Rattle.plane.proofs.SweepLineLemmas.Begins.{begin_kept}
-use Rattle.plane.proofs.LocateLemmas.Begun.{begin_of, end_of, IsOneOf, IsBegun, HasEnded, same_active, edge_at, is_one_of, begin_is, IsBegun-more, IsCrossing-among}
+use Rattle.plane.specs.SweepLine.Begun.{begin_of, end_of, IsOneOf, IsBegun, HasEnded}
+use Rattle.plane.proofs.LocateLemmas.Begun.{same_active, edge_at, is_one_of, begin_is, IsBegun-more, IsCrossing-among}
 use Rattle.event_queue.proofs.QueueLemmas.Done.{done_earlier, upto-precedes, precedes, one_more}
 use Rattle.plane.proofs.LocateLemmas.Events.{begins_of}
 use Rattle.plane.proofs.SweepLineLemmas.Later.{around_more, live-without, Without-append}

@@ -1,6 +1,6 @@
 -- Edges of the sweep whose begin is done, and whether their end is.
 use Rattle.std.proofs.Common.{◌≡◌, ◌≢◌, ℕ, ◌≤◌, ◌<ℤ◌, List, [], ◌∷◌, ◌++◌, Some, get_or, sym, ap, ◌∙◌, subst, ⊎_elim, arith}
-use Rattle.std.specs.List.{All, Contains, slice_get}
+use Rattle.std.specs.List.{All, slice_get}
 use Rattle.std.specs.declared.cmp.Ordering.TheVariants.{Less, Greater}
 use Rattle.std.proofs.lemmas.Bool.{cases_lt}
 use Rattle.std.proofs.lemmas.List.{get_or_default}
@@ -8,7 +8,7 @@ use Rattle.std.proofs.lemmas.List.Elements.{All-contains, Contains-append_left}
 use Rattle.plane.specs.declared.edge.Edge.{Edge}
 use Rattle.plane.specs.declared.point.Point.{Point}
 use Rattle.event_queue.specs.declared.Event.{Event}
-use Rattle.event_queue.specs.declared.Task.TheVariants.{End, Begin}
+use Rattle.event_queue.specs.declared.Task.TheVariants.{Begin}
 use Rattle.plane.specs.declared.sweep_line.active.ActiveEdge.{ActiveEdge}
 use Rattle.plane.specs.SweepLine.Crossings.{Cross, IsCrossing}
 use Rattle.plane.specs.SweepLine.Heights.{rightwards}
@@ -16,6 +16,7 @@ use Rattle.event_queue.specs.Queue.{StandsAt}
 use Rattle.plane.specs.Locate.Events.{CoversSome, ending_of, beginning_of, IsEventOf}
 use Rattle.plane.specs.Locate.Serving.{ArePlacesOfCrossing, HaveCrossing}
 use Rattle.plane.specs.SweepLine.Active.{Entry, cmp_active}
+use Rattle.plane.specs.SweepLine.Begun.{begin_at, end_at, begin_of, end_of, IsOneOf, IsBegun}
 use Rattle.event_queue.proofs.QueueLemmas.Done.{done_earlier}
 use Rattle.event_queue.proofs.QueueLemmas.Places.{one_item, slice_get-stands}
 use Rattle.plane.proofs.LocateLemmas.Events.{is_beginning, is_ending}
@@ -23,35 +24,6 @@ use Rattle.plane.proofs.SweepLineLemmas.Exchanged.{greater_from_less}
 use Rattle.plane.proofs.SweepLineLemmas.Rightwards.{rightwards-same}
 use Rattle.plane.proofs.SweepLineLemmas.Turned.{Cross-turned, uncrossed_itself}
 use Rattle.plane.proofs.SweepLineLemmas.Uncrossed.{Cross-exchanged}
-
--- the events at which an edge that goes to the right begins and ends
-abbrev pub begin_at : ℕ → Edge → Event
-begin_at place edge = record { x = edge.x0; task = Begin; place = place }
-
-abbrev pub end_at : ℕ → Edge → Event
-end_at place edge = record { x = edge.x1; task = End; place = place }
-
-abbrev pub begin_of : ActiveEdge → Event
-begin_of active = begin_at active.place active.edge
-
-abbrev pub end_of : ActiveEdge → Event
-end_of active = end_at active.place active.edge
-
--- It is one of the edges, turned to the right.
-pub record IsOneOf (edges : List Edge) (active : ActiveEdge) : Type 0 where
-  pub edge : Edge
-  pub stands : StandsAt edges active.place edge
-  pub same : active.edge ≡ rightwards edge
-  pub onwards : active.edge.x0 <ℤ active.edge.x1
-
--- It is one of the edges, and its begin is done.
-pub record IsBegun (edges : List Edge) (done : List Event) (active : ActiveEdge) : Type 0 where
-  pub one : IsOneOf edges active
-  pub begun : Contains done (begin_of active)
-
--- its end is done
-abbrev pub HasEnded : List Event → ActiveEdge → Type 0
-HasEnded done active = Contains done (end_of active)
 
 -- ---- the edges
 

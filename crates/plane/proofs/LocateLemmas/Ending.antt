@@ -24,7 +24,8 @@ use Rattle.plane.specs.Locate.Serving.{HaveCrossing}
 use Rattle.plane.specs.SweepLine.Active.{Entry, cmp_active, cmp_to_ending, is_live_at, live_entries, IsExpiredAt, NotCross}
 use Rattle.plane.proofs.SweepLineLemmas.Adjacent.{All-left_out, AllPairs-before, AllPairs-after}
 use Rattle.plane.proofs.SweepLineLemmas.Advance.{advance}
-use Rattle.plane.proofs.LocateLemmas.Begun.{begin_of, end_of, IsOneOf, IsBegun, HasEnded, same_active, edge_at, is_one_of, end_is, IsBegun-more, IsBegun-before, begin_known, never_before_itself, IsCrossing-among}
+use Rattle.plane.specs.SweepLine.Begun.{begin_of, end_of, IsOneOf, IsBegun, HasEnded}
+use Rattle.plane.proofs.LocateLemmas.Begun.{same_active, edge_at, is_one_of, end_is, IsBegun-more, IsBegun-before, begin_known, never_before_itself, IsCrossing-among}
 use Rattle.event_queue.proofs.QueueLemmas.Done.{never_both, precedes, done_before, one_more}
 use Rattle.plane.proofs.LocateLemmas.Events.{ends_of}
 use Rattle.plane.proofs.SweepLineLemmas.Ends.{end_monotone, end_uncrossed, end_kept}

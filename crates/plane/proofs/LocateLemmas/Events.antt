@@ -19,7 +19,7 @@ not_less : (a b : ℤ) → b ≤ℤ a → lt_z a b ≡ false
 not_less a b upto = grind (arith, ints)
 
 -- where the edge covers something it has the x
-covering : (edge : Edge) (x : ℤ) → CoversSome edge → if_covering edge x ≡ Some x
+pub covering : (edge : Edge) (x : ℤ) → CoversSome edge → if_covering edge x ≡ Some x
 covering edge x some = rw (less (rightwards edge).x0 (rightwards edge).x1 some) refl
 
 -- and else none
@@ -28,7 +28,7 @@ covers edge x y is =
     by_lt_z (rightwards edge).x0 (rightwards edge).x1 (λ some. some)
     (λ narrow. let none : None ≡ Some y = sym (rw (not_less (rightwards edge).x0 (rightwards edge).x1 narrow) refl) ∙ is in cc)
 
-same_x : (edge : Edge) (x y : ℤ) → if_covering edge x ≡ Some y → x ≡ y
+pub same_x : (edge : Edge) (x y : ℤ) → if_covering edge x ≡ Some y → x ≡ y
 same_x edge x y is = let both : Some x ≡ Some y = sym (covering edge x (covers edge x y is)) ∙ is in cc
 
 module _ (edges : List Edge) (points : List Point) where

@@ -19,7 +19,8 @@ use Rattle.event_queue.proofs.QueueLemmas.Answers.{Answered, Answered-none, Answ
 use Rattle.event_queue.proofs.QueueLemmas.Places.{StandsAt-read}
 use Rattle.plane.proofs.SweepLineLemmas.Adjacent.{All-at}
 use Rattle.plane.proofs.LocateLemmas.Events.{is_answering, is_beginning, is_ending}
-use Rattle.plane.proofs.LocateLemmas.Begun.{end_of, IsOneOf, IsBegun, HasEnded, end_known}
+use Rattle.plane.specs.SweepLine.Begun.{end_of, IsOneOf, IsBegun, HasEnded}
+use Rattle.plane.proofs.LocateLemmas.Begun.{end_known}
 use Rattle.event_queue.proofs.QueueLemmas.Done.{done_before, end-precedes, none_behind}
 use Rattle.plane.specs.SweepLine.Line.{IsLineAt, AllLiveAt}
 use Rattle.plane.proofs.SweepLineLemmas.Live.{live_entries-all}

@@ -166,11 +166,11 @@ end_on_line one other along =
     identity (times (from other.x0 one.x1) (from other.y0 other.y1)) (times (from other.y0 one.y1) (from other.x0 other.x1)) (omega (arith, of_one, parallel))
 
 -- where a number lies to a range
-place : (z low high : ℤ) → ((low ≤ℤ z) × (z ≤ℤ high)) ⊎ ((z <ℤ low) ⊎ (high <ℤ z))
+pub place : (z low high : ℤ) → ((low ≤ℤ z) × (z ≤ℤ high)) ⊎ ((z <ℤ low) ⊎ (high <ℤ z))
 place z low high = by_lt_z z low (λ below. inr (inl below)) (λ above. by_lt_z high z (λ beyond. inr (inr beyond)) (λ upto. inl (above, upto)))
 
 -- where both ends of a range lie outside another that it meets, it surrounds that
-surrounded : (start end other_start other_end : ℤ) → (other_start <ℤ int_min start end) ⊎ (int_max start end <ℤ other_start) → (other_end <ℤ int_min start end) ⊎ (int_max start end <ℤ other_end) → RangesMeet start end other_start other_end → (other_start ≢ other_end) × (int_min other_start other_end ≤ℤ start) × (start ≤ℤ int_max other_start other_end)
+pub surrounded : (start end other_start other_end : ℤ) → (other_start <ℤ int_min start end) ⊎ (int_max start end <ℤ other_start) → (other_end <ℤ int_min start end) ⊎ (int_max start end <ℤ other_end) → RangesMeet start end other_start other_end → (other_start ≢ other_end) × (int_min other_start other_end ≤ℤ start) × (start ≤ℤ int_max other_start other_end)
 surrounded start end other_start other_end first second meet = omega (arith, ints, clamps)
 
 -- edges on one line whose boxes meet, the one of which isn't vertical, meet
@@ -217,7 +217,7 @@ meets_along_way one other (inl apart) along = meets_along_x one other apart alon
 meets_along_way one other (inr apart) along = meet-flipped one other (meets_along_x (flipped one) (flipped other) apart (along-flipped one other along))
 
 -- an edge goes somewhere, or it is a point
-goes : (edge : Edge) → ((edge.x0 ≢ edge.x1) ⊎ (edge.y0 ≢ edge.y1)) ⊎ ((edge.x0 ≡ edge.x1) × (edge.y0 ≡ edge.y1))
+pub goes : (edge : Edge) → ((edge.x0 ≢ edge.x1) ⊎ (edge.y0 ≢ edge.y1)) ⊎ ((edge.x0 ≡ edge.x1) × (edge.y0 ≡ edge.y1))
 goes edge = elim (same_or_apart edge.x0 edge.x1) [
   | inl same ↦ elim (same_or_apart edge.y0 edge.y1) [
     | inl level ↦ inr (same, level)

@@ -256,7 +256,7 @@ two-flipped one other (first, second, of_first, of_second, apart) =
     (over first, over second, (of-flipped one first of_first.0, of-flipped other first of_first.1), (of-flipped one second of_second.0, of-flipped other second of_second.1), different-flipped first second apart)
 
 -- parallel edges that meet lie along one line
-along-of_meet : (one other : Edge) → Meet one other → whole one other ≡ pos 0 → Along one other
+pub along-of_meet : (one other : Edge) → Meet one other → whole one other ≡ pos 0 → Along one other
 along-of_meet one other meet parallel =
     let parts = parts_of_meet one other meet in
     record {

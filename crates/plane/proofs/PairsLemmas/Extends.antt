@@ -1,7 +1,11 @@
 -- Lists that grow at their end, and what holds whatever a call answered.
 use Rattle.std.proofs.Common.{List, [], ◌++◌, append-nil, append_assoc, Result, Ok, Err, sym, ap, ◌∙◌}
-use Rattle.std.specs.Result.{OnErr}
+use Rattle.std.specs.Result.{OnOk, OnErr}
 use Rattle.plane.specs.Lists.{Extends}
+
+pub OnOk-always : {T E : Type 0} (r : Result T E) (P : Type 0) → P → OnOk r P
+OnOk-always (Ok x) P holds = holds
+OnOk-always (Err e) P holds = tt
 
 pub OnErr-always : {T E : Type 0} (r : Result T E) (P : Type 0) → P → OnErr r P
 OnErr-always (Ok x) P holds = tt

@@ -83,7 +83,7 @@ cmp-from_start edge point =
 -- ---- two edges, where one of them begins or ends
 
 -- an edge's height at its ends
-at_begin : (edge : Edge) → height_by_run edge edge.x0 ≡ (edge.y0 *ℤ run edge)
+pub at_begin : (edge : Edge) → height_by_run edge edge.x0 ≡ (edge.y0 *ℤ run edge)
 at_begin edge =
     identity (plus (times (number edge.y0) (minus (number edge.x1) (number edge.x0))) (times (number edge.y1) (minus (number edge.x0) (number edge.x0))))
     (times (number edge.y0) (minus (number edge.x1) (number edge.x0)))
@@ -99,7 +99,7 @@ turned : (y m n : ℤ) → ((y *ℤ m) *ℤ n) ≡ ((y *ℤ n) *ℤ m)
 turned y m n = identity (times (times (number y) (number m)) (number n)) (times (times (number y) (number n)) (number m)) (omega arith)
 
 -- how the one's height stands to the other's where the other has a point, if it goes to the right, is told by that point
-at_point : (one other : Edge) (point : Point) (x y : ℤ) (r : Ordering) → other.x0 <ℤ other.x1 → height_by_run other x ≡ (y *ℤ run other) → point.x ≡ x → point.y ≡ y
+pub at_point : (one other : Edge) (point : Point) (x y : ℤ) (r : Ordering) → other.x0 <ℤ other.x1 → height_by_run other x ≡ (y *ℤ run other) → point.x ≡ x → point.y ≡ y
     → r ≡ int_cmp (height_by_run one point.x) (point.y *ℤ run one) → r ≡ int_cmp (height_by_runs one other x) (height_by_runs other one x)
 at_point one other point x y r onwards height x_is y_is told =
     told

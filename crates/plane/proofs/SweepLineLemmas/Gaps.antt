@@ -39,6 +39,15 @@ gap-linear one other x =
     ∙ ap (λ h. (((rise other *ℤ x) +ℤ base other) *ℤ run one) -ℤ (h *ℤ run other)) (height-linear one x)
     ∙ difference-linear (rise one) (base one) (run one) (rise other) (base other) (run other) x
 
+rising : (p q l r : ℤ) → ((p *ℤ r) +ℤ q) ≡ (((p *ℤ l) +ℤ q) +ℤ (p *ℤ (r -ℤ l)))
+rising p q l r =
+    identity (plus (times (number p) (number r)) (number q)) (plus (plus (times (number p) (number l)) (number q)) (times (number p) (minus (number r) (number l)))) (omega arith)
+
+-- how far it rises from one x to another
+pub gap-rising : (one other : Edge) (l r : ℤ) → gap one other r ≡ (gap one other l +ℤ (slope one other *ℤ (r -ℤ l)))
+gap-rising one other l r =
+    gap-linear one other r ∙ rising (slope one other) (start one other) l r ∙ ap (λ g. g +ℤ (slope one other *ℤ (r -ℤ l))) (sym (gap-linear one other l))
+
 -- a linear function between two x's is a mean of what it is there
 mean : (p q l x r : ℤ) → ((r -ℤ l) *ℤ ((p *ℤ x) +ℤ q)) ≡ (((r -ℤ x) *ℤ ((p *ℤ l) +ℤ q)) +ℤ ((x -ℤ l) *ℤ ((p *ℤ r) +ℤ q)))
 mean p q l x r =

@@ -13,7 +13,7 @@ use Rattle.plane.specs.SweepLine.Crossings.{IsBelowAt, Cross}
 use Rattle.plane.specs.SweepLine.Active.{then_cmp, common_start, cmp_active}
 use Rattle.plane.proofs.MeetLemmas.Identities.{number, plus, minus, times, identity}
 use Rattle.plane.proofs.SweepLineLemmas.Rightwards.{rightwards-same}
-use Rattle.plane.proofs.SweepLineLemmas.Gaps.{gap, slope, start, gap-linear, product_above, quotient_above, upto_between}
+use Rattle.plane.proofs.SweepLineLemmas.Gaps.{gap, slope, start, gap-linear, gap-rising, product_above, quotient_above, upto_between}
 
 -- ---- one after another
 
@@ -67,10 +67,6 @@ stands_cases one other before =
 
 -- ---- to the end of a stretch
 
-rising : (p q l r : ℤ) → ((p *ℤ r) +ℤ q) ≡ (((p *ℤ l) +ℤ q) +ℤ (p *ℤ (r -ℤ l)))
-rising p q l r =
-    identity (plus (times (number p) (number r)) (number q)) (plus (plus (times (number p) (number l)) (number q)) (times (number p) (minus (number r) (number l)))) (omega arith)
-
 -- what is as high as another at an x and not above it one later isn't steeper
 level_next : (p q x : ℤ) → ((p *ℤ (x +ℤ pos 1)) +ℤ q) ≡ (((p *ℤ x) +ℤ q) +ℤ p)
 level_next p q x =
@@ -86,8 +82,7 @@ not_steeper one other x level upto =
 pub level_upto : (one other : Edge) (l r : ℤ) → l ≤ℤ r → height_by_runs one other l ≡ height_by_runs other one l → rise_by_run one other ≤ℤ rise_by_run other one → IsUpto one other r
 level_upto one other l r onwards level steeper =
     let more = product_above (slope one other) (r -ℤ l) (omega (arith, ints, steeper)) (omega (arith, ints, onwards)) in
-    let here : gap one other r ≡ (gap one other l +ℤ (slope one other *ℤ (r -ℤ l))) =
-    gap-linear one other r ∙ rising (slope one other) (start one other) l r ∙ ap (λ g. g +ℤ (slope one other *ℤ (r -ℤ l))) (sym (gap-linear one other l)) in
+    let here = gap-rising one other l r in
     omega (arith, ints, more, here, level)
 
 -- an edge that stands before another isn't above it at the first common x

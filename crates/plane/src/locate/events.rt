@@ -28,7 +28,7 @@ pub fn events_of<A: Allocator>(
 }
 
 /// Where the edge ends, if it covers something.
-fn end_x(edge: Edge) -> Option<i32>
+pub(crate) fn end_x(edge: Edge) -> Option<i32>
     ensures { result ≡ end_x edge }
 {
     let right = turn_rightwards(edge);
@@ -40,7 +40,7 @@ fn end_x(edge: Edge) -> Option<i32>
 }
 
 /// Where the edge begins, if it covers something.
-fn begin_x(edge: Edge) -> Option<i32>
+pub(crate) fn begin_x(edge: Edge) -> Option<i32>
     ensures { result ≡ begin_x edge }
 {
     let right = turn_rightwards(edge);

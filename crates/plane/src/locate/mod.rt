@@ -17,7 +17,7 @@ use i_tree::status::exp::StatusCollection;
 use std::alloc::Allocator;
 use sweep::serve_all;
 
-mod events;
+pub(crate) mod events;
 pub mod fault;
 mod read_ahead;
 mod sweep;

@@ -5,13 +5,16 @@ ghost use Rattle.i_tree.specs.declared.Refusal.TheVariants.{OutOfMemory};
 ghost use Rattle.plane.specs.Meet.Meetings.{AreMeetings, AreMeetingsBetween, MeetAt};
 
 use crate::edge::Edge;
-use crate::pairs::{first_pair, pairs_among, pairs_between};
+use crate::pairs::{Budget, first_pair, pairs_between, pairs_within_budget};
+use by_columns::meetings_by_columns;
 pub use exact::meet;
 use i_tree::Refusal;
 pub use kinds::{Meeting, has_point, how_they_meet};
 use std::alloc::Allocator;
 
 mod boxes;
+mod by_columns;
+mod common_ends;
 mod exact;
 mod kinds;
 
@@ -19,6 +22,10 @@ mod kinds;
 ///
 /// Edges meet where they share a point, as `meet` says, and nothing is rounded. It is refused for want of memory alone,
 /// and leaves `out` as it was then. The memory is that of `out`'s allocator.
+///
+/// It is a sweep over the boxes of the edges. Where this takes more tests than edges mostly need, as of long edges that lie
+/// slanted beside each other, it goes by columns instead: so for n edges that meet in k pairs it takes O((n + k) log (n + k))
+/// steps, whatever their shape.
 pub fn meetings<A: Allocator + Copy>(
     edges: &[Edge],
     out: &mut Vec<(usize, usize), A>,
@@ -30,7 +37,27 @@ pub fn meetings<A: Allocator + Copy>(
     ensures err { OnErr result (out.new.items ≡ out.old.items) }
     ensures refused { IfErr result (λ cause. cause ≡ OutOfMemory) }
 {
-    pairs_among(edges, out)
+    if pairs_within_budget(edges, Budget::for_items(edges.len()), out)? {
+        return Ok(());
+    }
+    append_by_columns(edges, out)
+}
+
+// As `meetings`, by columns.
+fn append_by_columns<A: Allocator + Copy>(
+    edges: &[Edge],
+    out: &mut Vec<(usize, usize), A>,
+) -> Result<(), Refusal>
+    ensures ok { OnOk result ((pairs : List (ℕ × ℕ))
+        × (out.new.items ≡ out.old.items ++ pairs) × AreMeetings edges.now pairs) }
+    ensures within { OnOk result (All (λ pair. (pair.0 < pair.1) × (pair.1 < length edges.now))
+        (drop (length out.old.items) out.new.items)) }
+    ensures err { OnErr result (out.new.items ≡ out.old.items) }
+    ensures refused { IfErr result (λ cause. cause ≡ OutOfMemory) }
+{
+    let pairs = meetings_by_columns(*out.allocator(), edges)?;
+    out.extend_from_slice(&pairs)?;
+    Ok(())
 }
 
 /// Appends each pair of places `(i, j)` where the edge at i of the first list meets that at j of the second one, once.

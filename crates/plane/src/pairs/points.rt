@@ -1,6 +1,6 @@
 //! Pairs of items and of points.
 
-ghost use Rattle.std.specs.Prelude.{◌≡◌, ◌⊎◌, ◌++◌, ◌<◌, ◌≤◌, ◌+◌, ◌<ℤ◌, ◌≤ℤ◌, ℕ, List, All, AllPairs, MatchBool, Some, drop, length, slice_get, OnOk, OnErr, IfErr, IfOk};
+ghost use Rattle.std.specs.Prelude.{◌≡◌, ◌⊎◌, ◌++◌, ◌<◌, ◌≤◌, ◌+◌, ◌-◌, ◌^◌, ◌<ℤ◌, ◌≤ℤ◌, ℕ, true, List, All, AllPairs, MatchBool, Some, drop, length, slice_get, OnOk, OnErr, IfErr, IfOk};
 ghost use Rattle.i_tree.specs.declared.Refusal.TheVariants.{OutOfMemory};
 ghost use Rattle.plane.specs.Pairs.Bounds.{IsPoint, MeetInBoxesAcross};
 ghost use Rattle.plane.specs.Pairs.Pairs.{ArePairsBetween, PairBetween};
@@ -8,6 +8,8 @@ ghost use Rattle.plane.specs.Pairs.Parts.{NotBehind};
 ghost use Rattle.plane.specs.Pairs.Points.{ArePointsOf, AreRows, AreStarts, BeginAs, Gains, IsFirstFrom, IsStart, MeetsAt, MeetsPart};
 ghost use Rattle.plane.specs.Lists.{Extends};
 
+use super::budget::Budget;
+use super::few::{append_pairs_with_few, are_few_points};
 use super::items::{Boxed, Meets};
 use super::parts::{Part, parts};
 use super::rows::rows_for;
@@ -20,7 +22,8 @@ use std::alloc::{AllocError, Allocator};
 /// It is refused for want of memory alone, and leaves `out` as it was then. The memory is that of `out`'s allocator.
 ///
 /// It is `pairs_between` for a second list of points, most often in less time: heights are cut into rows, the points are
-/// sorted by row and x, and each item looks at the points of its rows from its left side to its right one.
+/// sorted by row and x, and each item looks at the points of its rows from its left side to its right one. With few points
+/// each item is compared with all.
 pub fn pairs_with_points<X: Meets<Y>, Y: Boxed, A: Allocator + Copy>(
     items: &[X],
     points: &[Y],
@@ -35,12 +38,39 @@ pub fn pairs_with_points<X: Meets<Y>, Y: Boxed, A: Allocator + Copy>(
     ensures err { OnErr result (out.new.items ≡ out.old.items) }
     ensures refused { IfErr result (λ cause. cause ≡ OutOfMemory) }
 {
+    pairs_with_points_within_budget(items, points, Budget::unlimited(), out)?;
+    Ok(())
+}
+
+/// As `pairs_with_points`, but it gives up once it has tested more often than the budget allows, and answers whether all pairs
+/// are there. Where it gave up, `out` is as it was.
+///
+/// It tests an item with the points of its rows from its left side to its right one, and each row that it reaches counts as a
+/// test too. Tests are counted behind each item, so those of the last one may be more than the budget allows. Into which rows
+/// heights are cut tells how many tests are made, and so when it gives up is open.
+pub fn pairs_with_points_within_budget<X: Meets<Y>, Y: Boxed, A: Allocator + Copy>(
+    items: &[X],
+    points: &[Y],
+    budget: Budget,
+    out: &mut Vec<(usize, usize), A>,
+) -> Result<bool, Refusal>
+    requires boxed { MeetInBoxesAcross X.bounds Y.bounds X.Meeting }
+    requires points { All (λ point. IsPoint (Y.bounds point)) points.now }
+    ensures ok { IfOk result (λ are_all. MatchBool are_all ((pairs : List (ℕ × ℕ))
+        × (out.new.items ≡ out.old.items ++ pairs) × ArePairsBetween X.Meeting items.now points.now pairs)
+        (out.new.items ≡ out.old.items)) }
+    ensures within { OnOk result (All (λ pair. (pair.0 < length items.now) × (pair.1 < length points.now))
+        (drop (length out.old.items) out.new.items)) }
+    ensures unlimited { budget.tests ≡ 2 ^ 64 - 1 → IfOk result (λ are_all. are_all ≡ true) }
+    ensures err { OnErr result (out.new.items ≡ out.old.items) }
+    ensures refused { IfErr result (λ cause. cause ≡ OutOfMemory) }
+{
     if points.is_empty() {
-        return Ok(());
+        return Ok(true);
     }
     let start = out.len();
-    let outcome = append_all(items, points, out);
-    if outcome.is_err() {
+    let outcome = append_all(items, points, budget, out);
+    if !matches!(outcome, Ok(true)) {
         out.truncate(start);
     }
     outcome
@@ -57,18 +87,26 @@ struct PointRows<'a, Y> {
     ordered: &'a [Y],
 }
 
-// As `pairs_with_points`, but where it is refused, it may have appended some pairs.
+// As `pairs_with_points_within_budget`, but where it gives up or is refused, it may have appended some pairs.
 fn append_all<X: Meets<Y>, Y: Boxed, A: Allocator + Copy>(
     items: &[X],
     points: &[Y],
+    budget: Budget,
     out: &mut Vec<(usize, usize), A>,
-) -> Result<(), Refusal>
+) -> Result<bool, Refusal>
     requires boxed { MeetInBoxesAcross X.bounds Y.bounds X.Meeting }
     requires points { All (λ point. IsPoint (Y.bounds point)) points.now }
-    ensures ok { OnOk result (Gains (PairBetween X.Meeting items.now points.now) out.old.items out.new.items) }
+    ensures ok { IfOk result (λ is_done. MatchBool is_done
+        (Gains (PairBetween X.Meeting items.now points.now) out.old.items out.new.items)
+        (Extends out.old.items out.new.items)) }
+    ensures unlimited { budget.tests ≡ 2 ^ 64 - 1 → IfOk result (λ is_done. is_done ≡ true) }
     ensures err { OnErr result (Extends out.old.items out.new.items) }
     ensures refused { IfErr result (λ cause. cause ≡ OutOfMemory) }
 {
+    if are_few_points(points) {
+        append_pairs_with_few(items, points, out)?;
+        return Ok(true);
+    }
     let alloc = *out.allocator();
     let rows = rows_for(items, points);
     let parts = parts(alloc, points, rows)?;
@@ -81,10 +119,16 @@ fn append_all<X: Meets<Y>, Y: Boxed, A: Allocator + Copy>(
         starts: &starts,
         ordered: &ordered,
     };
+    let start = out.len();
+    let mut tests = 0usize;
     for place in 0..items.len() {
-        append_of_item(items[place], place, &table, out)?;
+        let asked = append_of_item(items[place], place, &table, out)?;
+        tests = tests.saturating_add(asked);
+        if budget.is_spent(tests, out.len() - start) {
+            return Ok(false);
+        }
     }
-    Ok(())
+    Ok(true)
 }
 
 // The points of the parts, in the order of these.
@@ -147,13 +191,13 @@ fn start_of(starts: &[usize], parts: &[Part], row: usize) -> usize
     }
 }
 
-// Appends the pairs of the item at a place, row by row.
+// Appends the pairs of the item at a place, row by row. It answers how many points it was tested with and rows it reaches.
 fn append_of_item<X: Meets<Y>, Y: Boxed, A: Allocator>(
     item: X,
     place: usize,
     table: &PointRows<'_, Y>,
     out: &mut Vec<(usize, usize), A>,
-) -> Result<(), AllocError>
+) -> Result<usize, AllocError>
     requires boxed { MeetInBoxesAcross X.bounds Y.bounds X.Meeting }
     requires rows { AreRows Y.bounds table.now.rows table.now.points.now table.now.parts.now table.now.starts.now
         table.now.ordered.now }
@@ -165,21 +209,23 @@ fn append_of_item<X: Meets<Y>, Y: Boxed, A: Allocator>(
     let rows = table.rows;
     let first = rows.strip_at(bounds.low.max(rows.base)) as usize;
     let last = rows.strip_at(bounds.high.max(rows.base)) as usize;
+    let end = table.starts.len().min(last + 1);
+    let mut tests = end.saturating_sub(first);
     // The pairs with the points of the rows so far stand there.
-    for row in first..table.starts.len().min(last + 1) {
-        append_in_row(item, place, table, row, out)?;
+    for row in first..end {
+        tests = tests.saturating_add(append_in_row(item, place, table, row, out)?);
     }
-    Ok(())
+    Ok(tests)
 }
 
-// Appends the pairs of the item at a place with the points of a row.
+// Appends the pairs of the item at a place with the points of a row. It answers how many of these it was tested with.
 fn append_in_row<X: Meets<Y>, Y: Boxed, A: Allocator>(
     item: X,
     place: usize,
     table: &PointRows<'_, Y>,
     row: usize,
     out: &mut Vec<(usize, usize), A>,
-) -> Result<(), AllocError>
+) -> Result<usize, AllocError>
     requires boxed { MeetInBoxesAcross X.bounds Y.bounds X.Meeting }
     requires rows { AreRows Y.bounds table.now.rows table.now.points.now table.now.parts.now table.now.starts.now
         table.now.ordered.now }
@@ -191,15 +237,16 @@ fn append_in_row<X: Meets<Y>, Y: Boxed, A: Allocator>(
 {
     let bounds = item.bounds();
     let from = first_from(table.parts, table.starts, table.ordered, row, bounds.left);
+    let end = start_of(table.starts, table.parts, row + 1);
     // The pairs with the points of the row so far stand there. What stands in it before `from` lies left of the item.
-    for next in from..start_of(table.starts, table.parts, row + 1) {
+    for next in from..end {
         let point = table.ordered[next];
         if is_past(point, bounds.right) {
-            return Ok(());
+            return Ok(next - from);
         }
         append_if_met(item, place, point, &table.parts[next], out)?;
     }
-    Ok(())
+    Ok(end.saturating_sub(from))
 }
 
 // Appends the pair of the item and the point of the part where they meet.

@@ -1,6 +1,6 @@
 //! The sweep from left to right in each strip, over the items that are live at an x.
 
-ghost use Rattle.std.specs.Prelude.{◌≡◌, ◌≢◌, ◌⊎◌, ◌≤ℤ◌, true, [], All, MatchBool, OnOk, OnErr, IfErr};
+ghost use Rattle.std.specs.Prelude.{◌≡◌, ◌≢◌, ◌⊎◌, ◌-◌, ◌^◌, ◌≤ℤ◌, true, [], All, MatchBool, OnOk, OnErr, IfErr, IfOk};
 ghost use Rattle.std.specs.Ordering.{int_cmp};
 ghost use Rattle.std.specs.declared.option.Option.TheVariants.{Some};
 ghost use Rattle.i_tree.specs.declared.Refusal.TheVariants.{OutOfMemory};
@@ -13,6 +13,7 @@ ghost use Rattle.plane.specs.Pairs.Strips.{Reaches, IsOverStrip, range_in};
 ghost use Rattle.plane.specs.Lists.{Extends};
 ghost use Rattle.plane.specs.Pairs.Sweep.{IsTold, GainsPair, GainsPairs, Asks, Serves};
 
+use super::budget::Budget;
 use super::items::{Boxed, Meets};
 use super::live::Live;
 use super::parts::Part;
@@ -37,38 +38,48 @@ impl<T: Boxed> ExpiredVal<i32> for Placed<T> {
     }
 }
 
-/// Appends the pairs of places whose items meet. It stops behind an item where it has more than `most`.
+/// Appends the pairs of places whose items meet. It stops behind an item where it has more than `most`, and gives up behind
+/// one where it has tested more often than the budget allows: it answers whether it came to an end before that.
 pub fn append_pairs<T: Meets<T>, A: Allocator + Copy>(
     items: &[T],
     most: usize,
+    budget: Budget,
     strips: Strips,
     parts: &[Part],
     out: &mut Vec<(usize, usize), A>,
-) -> Result<(), Refusal>
+) -> Result<bool, Refusal>
     requires boxed { MeetInBoxes T.bounds T.Meeting }
     requires base { All (λ item. strips.base ≤ℤ (T.bounds item).low) items.now }
     requires parts { AreParts T.bounds strips items.now parts.now }
-    ensures ok { OnOk result (GainsAll T.Meeting items.now most out.old.items out.new.items) }
+    ensures ok { IfOk result (λ is_done. MatchBool is_done
+        (GainsAll T.Meeting items.now most out.old.items out.new.items) (Extends out.old.items out.new.items)) }
+    ensures unlimited { budget.tests ≡ 2 ^ 64 - 1 → IfOk result (λ is_done. is_done ≡ true) }
     ensures err { OnErr result (Extends out.old.items out.new.items) }
     ensures refused { IfErr result (λ cause. cause ≡ OutOfMemory) }
 {
-    let limit = out.len().saturating_add(most);
+    let start = out.len();
+    let limit = start.saturating_add(most);
     let alloc = *out.allocator();
     let mut live = Live::new(alloc, strips)?;
     let mut strip = 0;
     let mut ahead = ReadAhead::new(alloc);
+    let mut tests = 0usize;
     // The pairs that the parts so far tell stand there; the items of those in the strip are live, but for some that have ended.
     for (next, part) in parts.iter().enumerate() {
         enter(&mut live, strip, part.strip);
         strip = part.strip;
         let place = part.place;
         let item = ahead.at(items, parts, next)?;
-        serve(strips, strip, Placed { item, place }, &mut live, out)?;
+        let asked = serve(strips, strip, Placed { item, place }, &mut live, out)?;
         if out.len() > limit {
-            return Ok(());
+            return Ok(true);
+        }
+        tests = tests.saturating_add(asked);
+        if budget.is_spent(tests, out.len() - start) {
+            return Ok(false);
         }
     }
-    Ok(())
+    Ok(true)
 }
 
 // Goes on from one strip to the next one, or stays in the same.
@@ -83,14 +94,14 @@ fn enter<T: Boxed, A: Allocator + Copy>(live: &mut Live<T, A>, strip: u32, next:
     }
 }
 
-// Appends the pairs of the item with those before it in the strip, and puts it among them.
+// Appends the pairs of the item with those before it in the strip, and puts it among them. It answers how many it was tested with.
 fn serve<T: Meets<T>, A: Allocator + Copy>(
     strips: Strips,
     strip: u32,
     placed: Placed<T>,
     live: &mut Live<T, A>,
     out: &mut Vec<(usize, usize), A>,
-) -> Result<(), Refusal>
+) -> Result<usize, Refusal>
     requires boxed { MeetInBoxes T.bounds T.Meeting }
     requires base { strips.base ≤ℤ (T.bounds placed.item).low }
     requires reaches { Reaches strips (T.bounds placed.item) strip }
@@ -107,11 +118,12 @@ fn serve<T: Meets<T>, A: Allocator + Copy>(
     ensures buckets { live.new.tree.buckets ≡ live.old.tree.buckets }
 {
     let range = strips.range_in(strip, placed.item.bounds());
-    ask(strips, strip, placed, range, live, out)?;
-    live.join(strips, strip, placed, range)
+    let asked = ask(strips, strip, placed, range, live, out)?;
+    live.join(strips, strip, placed, range)?;
+    Ok(asked)
 }
 
-// Appends the pairs of the item with those before it in the strip, over its range there.
+// Appends the pairs of the item with those before it in the strip, over its range there. It answers how many it was tested with.
 fn ask<T: Meets<T>, A: Allocator + Copy>(
     strips: Strips,
     strip: u32,
@@ -119,7 +131,7 @@ fn ask<T: Meets<T>, A: Allocator + Copy>(
     range: SegRange<u32>,
     live: &mut Live<T, A>,
     out: &mut Vec<(usize, usize), A>,
-) -> Result<(), Refusal>
+) -> Result<usize, Refusal>
     requires boxed { MeetInBoxes T.bounds T.Meeting }
     requires base { strips.base ≤ℤ (T.bounds placed.item).low }
     requires reaches { Reaches strips (T.bounds placed.item) strip }
@@ -142,7 +154,7 @@ fn ask<T: Meets<T>, A: Allocator + Copy>(
     live.tree
         .collect_by_range(range, placed.item.bounds().left, &mut live.near)?;
     append_told(strips, strip, placed, &live.near, out)?;
-    Ok(())
+    Ok(live.near.len())
 }
 
 // The same where few are live: all of them are gone over, but for those that have expired, which leave.
@@ -152,7 +164,7 @@ fn ask_few<T: Meets<T>, A: Allocator + Copy>(
     placed: Placed<T>,
     live: &mut Live<T, A>,
     out: &mut Vec<(usize, usize), A>,
-) -> Result<(), Refusal>
+) -> Result<usize, Refusal>
     requires boxed { MeetInBoxes T.bounds T.Meeting }
     requires base { strips.base ≤ℤ (T.bounds placed.item).low }
     requires few { live.old.is_few ≡ true }
@@ -166,7 +178,7 @@ fn ask_few<T: Meets<T>, A: Allocator + Copy>(
 {
     live.drop_expired(placed.item.bounds().left);
     append_told(strips, strip, placed, &live.few, out)?;
-    Ok(())
+    Ok(live.few.len())
 }
 
 // Appends the pairs of the item with those of the others that it meets, where this strip is the one to tell them.

@@ -1,10 +1,11 @@
 use Rattle.std.proofs.Common.{◌≡◌, ◌-◌, length, length-append, ap, arith}
+use Rattle.std.proofs.lemmas.Bool.{MatchBool-at_true}
 use Rattle.plane.proofs.PairsLemmas.Upto.{told_upto}
 use Rattle.plane.proofs.pairs.pairs_upto.Goals as goal
 
 pub returns-clause-ok : goal.returns-clause-ok
 returns-clause-ok g c =
-    let (pairs, is, told) = c.in_ok-gain_pairs.ensures.ok in
+    let (pairs, is, told) = MatchBool-at_true _ _ (c.in_ok-gain_pairs.ensures.unlimited c.unlimited.ensures) c.in_ok-gain_pairs.ensures.ok in
     let start = c.len-start.ensures in
     let end = c.len.ensures in
     let size = ap length is in

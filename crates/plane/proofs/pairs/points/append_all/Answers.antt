@@ -13,10 +13,16 @@ parts-requires-clause-few g c = ReachFew-points g.Y.Boxed.bounds c.rows_for-rows
 pub loop-place-init : goal.loop-place-init
 loop-place-init g c = Gains-none (λ i j. (i < 0) × PairBetween g.X.Meets.Meeting c.args.items.now c.args.points.now i j) c.args.out.now.items (λ i j (below, _). omega (arith, below))
 
-pub returns-in_err-append_of_item-clause-err : goal.returns-in_err-append_of_item-clause-err
-returns-in_err-append_of_item-clause-err g c =
+pub returns-in_err-asked-clause-err : goal.returns-in_err-asked-clause-err
+returns-in_err-asked-clause-err g c =
     let (pairs, is, _) = c.loop-place.invariant in
-    OnErr-always _ _ (Extends-trans c.args.out.now.items c.loop-place.out.items c.append_of_item.new.out.items (pairs, is) (c.in_err-append_of_item.ensures).err)
+    OnErr-always _ _ (Extends-trans c.args.out.now.items c.loop-place.out.items c.append_of_item.new.out.items (pairs, is) (c.in_err-asked.ensures).err)
+
+pub returns-then-is_spent-clause-ok : goal.returns-then-is_spent-clause-ok
+returns-then-is_spent-clause-ok g c =
+    let (pairs, is, _) = c.loop-place.invariant in
+    let (more, gained, _) = c.in_ok-asked.ensures.ok in
+    Extends-trans c.args.out.now.items c.loop-place.out.items c.append_of_item.new.out.items (pairs, is) (more, gained)
 
 pub loop-place-preserved : goal.loop-place-preserved
 loop-place-preserved g c =
@@ -28,7 +34,7 @@ loop-place-preserved g c =
     let stands = slice_get-get_or items place item c.loop-place-test.true ∙ ap (λ (one : g.row.X.Denot). Some one) (sym c.index-items-place.is) in
     Gains-then (λ i j. (i < place) × PairBetween Meeting items points i j) (λ i j. (i ≡ place) × MeetsAt (Meeting item) points j) (λ i j. (i < place + 1) × PairBetween Meeting items points i j)
     (λ i j (below, _) (is, _). omega (arith, below, is)) (items_more Meeting items points place item stands)
-    c.args.out.now.items c.loop-place.out.items c.append_of_item.new.out.items c.loop-place.invariant (c.in_ok-append_of_item.ensures).ok
+    c.args.out.now.items c.loop-place.out.items c.append_of_item.new.out.items c.loop-place.invariant (c.in_ok-asked.ensures).ok
 
 pub returns-clause-ok : goal.returns-clause-ok
 returns-clause-ok g c =

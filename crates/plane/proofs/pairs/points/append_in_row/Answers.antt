@@ -39,7 +39,7 @@ returns-then-is_past-clause-ok g c =
     let right_fits : SFits w32 c.bounds-bounds.result.right = search rules in
     let right : to_z w32 (of_z w32 c.bounds-bounds.result.right) ≡ box.right = to_z-of_z w32 c.bounds-bounds.result.right right_fits ∙ ap (λ (bounds : Bounds). bounds.right) c.bounds-bounds.ensures in
     let test = c.loop-next-test.true in
-    let ends = c.start_of-next-end.ensures.within in
+    let ends = c.start_of-end.ensures.within in
     let many = c.requires.rows.are_ordered.many in
     let inside : next < length parts = omega (arith, test, ends) in
     let point = get_or c.args.table.now.ordered.now next c.index-table-next.result in
@@ -53,7 +53,7 @@ returns-then-is_past-clause-ok g c =
 pub bounds-table-next : goal.bounds-table-next
 bounds-table-next g c =
     let test = c.loop-next-test.true in
-    let ends = c.start_of-next-end.ensures.within in
+    let ends = c.start_of-end.ensures.within in
     let many = c.requires.rows.are_ordered.many in
     omega (arith, test, ends, many)
 
@@ -79,7 +79,7 @@ loop-next-preserved g c =
     let next = c.loop-next.next in
     let part = get_or parts next nothing in
     let test = c.loop-next-test.true in
-    let ends = c.start_of-next-end.ensures in
+    let ends = c.start_of-end.ensures in
     let within = ends.within in
     let inside : next < length parts = omega (arith, test, within) in
     let listed = slice_get-get_or parts next nothing inside in
@@ -108,5 +108,5 @@ returns-clause-ok g c =
     let first = subst (λ (left : ℤ). IsFirstFrom parts row left from) left c.first_from-from.ensures in
     let next = c.loop-next.next in
     Gains-same (λ i j. (i ≡ c.args.place) × MeetsPart Meeting points parts (λ at part. (at < next) × (part.strip ≡ row)) j) (λ i j. (i ≡ c.args.place) × MeetsPart Meeting points parts (λ _ part. part.strip ≡ row) j)
-    (told_all g.Y.Boxed.bounds points c.requires.rows.are_points c.args.table.now.rows parts c.requires.rows.are_parts Meeting box (c.requires.boxed.near c.args.item) c.args.place row from first c.start_of-next-end.result next c.start_of-next-end.ensures c.loop-next-test.false)
+    (told_all g.Y.Boxed.bounds points c.requires.rows.are_points c.args.table.now.rows parts c.requires.rows.are_parts Meeting box (c.requires.boxed.near c.args.item) c.args.place row from first c.start_of-end.result next c.start_of-end.ensures c.loop-next-test.false)
     c.args.out.now.items c.loop-next.out.items c.loop-next.invariant

@@ -54,5 +54,5 @@ returns-clause-ok g c =
     let last = (simp to_z-of_z at c.strip_at-last.ensures.value) ∙ ap (strip_at c.args.table.now.rows) greater in
     let end = c.loop-row-test.false in
     Gains-same (λ i j. (i ≡ c.args.place) × MeetsPart Meeting points parts (λ _ part. part.strip < row) j) (λ i j. (i ≡ c.args.place) × MeetsAt Meeting points j)
-    (rows_all g.Y.Boxed.bounds points c.requires.rows.are_points c.args.table.now.rows parts c.requires.rows.are_parts Meeting box (c.requires.boxed.near c.args.item) c.args.place c.requires.rows.base c.args.table.now.starts.now c.requires.rows.are_starts row (omega (arith, last, end, c.min-row-end.ensures)))
+    (rows_all g.Y.Boxed.bounds points c.requires.rows.are_points c.args.table.now.rows parts c.requires.rows.are_parts Meeting box (c.requires.boxed.near c.args.item) c.args.place c.requires.rows.base c.args.table.now.starts.now c.requires.rows.are_starts row (omega (arith, last, end, c.min-end.ensures)))
     c.args.out.now.items c.loop-row.out.items c.loop-row.invariant

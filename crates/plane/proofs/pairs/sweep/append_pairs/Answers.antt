@@ -56,27 +56,33 @@ loop-next-preserved g c = (
       (λ same. stays g.T.Boxed.bounds c.args.strips c.loop-next.strip (get_or c.args.parts.now c.loop-next.next nothing).strip c.loop-next.live c.enter.new.live same (c.enter.ensures.stays same))
       (λ differs. members-empty g.T.Boxed.bounds c.args.strips (get_or c.args.parts.now c.loop-next.next nothing).strip c.enter.new.live (c.enter.ensures.few differs) (c.enter.ensures.empty differs))
       (λ differs. latest-few g.T.Boxed.bounds c.args.strips (get_or c.args.parts.now c.loop-next.next nothing).strip c.enter.new.live (c.enter.ensures.few differs)) c.enter.ensures.buckets
-      (held g.T.Boxed.bounds c.args.strips (get_or c.args.parts.now c.loop-next.next nothing).strip c.serve.new.live) c.in_ok-item.item c.serve.new.out.items (c.in_ok-item.ensures.value nothing) c.serve.ensures.buckets c.serve.ensures.latest (c.in_ok-serve.ensures).ok,
+      (held g.T.Boxed.bounds c.args.strips (get_or c.args.parts.now c.loop-next.next nothing).strip c.serve.new.live) c.in_ok-item.item c.serve.new.out.items (c.in_ok-item.ensures.value nothing) c.serve.ensures.buckets c.serve.ensures.latest (c.in_ok-asked.ensures).ok,
   c.in_ok-item.ensures.ahead,
 )
 
-pub returns-in_err-serve-clause-err : goal.returns-in_err-serve-clause-err
-returns-in_err-serve-clause-err g c =
+pub returns-in_err-asked-clause-err : goal.returns-in_err-asked-clause-err
+returns-in_err-asked-clause-err g c =
     let served = c.loop-next.invariant.0 in
-    OnErr-always c.from_residual-in_err-serve.result _ (Extends-trans c.args.out.now.items c.loop-next.out.items c.serve.new.out.items (served.pairs, served.gained) (c.in_err-serve.ensures).err)
+    OnErr-always c.from_residual-in_err-asked.result _ (Extends-trans c.args.out.now.items c.loop-next.out.items c.serve.new.out.items (served.pairs, served.gained) (c.in_err-asked.ensures).err)
 
 pub returns-then-len-limit-clause-ok : goal.returns-then-len-limit-clause-ok
 returns-then-len-limit-clause-ok g c =
-    let start = c.len.ensures in
+    let start = c.len-start.ensures in
     let limit = c.saturating_add-limit.ensures in
-    let length_now = c.len-in-loop-next.ensures in
+    let length_now = c.len.ensures in
     let longer = c.if-len-limit.true in
     Served-enough c.requires.boxed c.args.strips c.args.items.now c.args.parts.now (c.loop-next.next + 1) (get_or c.args.parts.now c.loop-next.next nothing).strip (held g.T.Boxed.bounds c.args.strips (get_or c.args.parts.now c.loop-next.next nothing).strip c.serve.new.live) c.args.most c.args.out.now.items c.serve.new.out.items (omega (arith, start, limit, length_now, longer))
     (Served-more c.requires.boxed c.args.strips c.args.items.now c.args.parts.now c.requires.base c.requires.parts c.loop-next.next nothing c.loop-next-test.true c.loop-next.strip (held g.T.Boxed.bounds c.args.strips c.loop-next.strip c.loop-next.live) (held g.T.Boxed.bounds c.args.strips (get_or c.args.parts.now c.loop-next.next nothing).strip c.enter.new.live) c.args.out.now.items c.loop-next.out.items c.loop-next.invariant.0
     (λ same. stays g.T.Boxed.bounds c.args.strips c.loop-next.strip (get_or c.args.parts.now c.loop-next.next nothing).strip c.loop-next.live c.enter.new.live same (c.enter.ensures.stays same))
     (λ differs. members-empty g.T.Boxed.bounds c.args.strips (get_or c.args.parts.now c.loop-next.next nothing).strip c.enter.new.live (c.enter.ensures.few differs) (c.enter.ensures.empty differs))
     (λ differs. latest-few g.T.Boxed.bounds c.args.strips (get_or c.args.parts.now c.loop-next.next nothing).strip c.enter.new.live (c.enter.ensures.few differs)) c.enter.ensures.buckets
-    (held g.T.Boxed.bounds c.args.strips (get_or c.args.parts.now c.loop-next.next nothing).strip c.serve.new.live) c.in_ok-item.item c.serve.new.out.items (c.in_ok-item.ensures.value nothing) c.serve.ensures.buckets c.serve.ensures.latest (c.in_ok-serve.ensures).ok)
+    (held g.T.Boxed.bounds c.args.strips (get_or c.args.parts.now c.loop-next.next nothing).strip c.serve.new.live) c.in_ok-item.item c.serve.new.out.items (c.in_ok-item.ensures.value nothing) c.serve.ensures.buckets c.serve.ensures.latest (c.in_ok-asked.ensures).ok)
+
+pub returns-then-is_spent-clause-ok : goal.returns-then-is_spent-clause-ok
+returns-then-is_spent-clause-ok g c =
+    let served = c.loop-next.invariant.0 in
+    let gained = (c.in_ok-asked.ensures).ok.asks.gains in
+    Extends-trans c.args.out.now.items c.loop-next.out.items c.serve.new.out.items (served.pairs, served.gained) (gained.0, gained.1)
 
 pub returns-clause-ok : goal.returns-clause-ok
 returns-clause-ok g c =

@@ -12,4 +12,4 @@ join-requires-clause-within g c = λ k d within.
     let old = (held bounds c.args.strips c.args.strip c.args.live.now).members in
     let new = (held bounds c.args.strips c.args.strip c.ask.new.live).members in
     All-contains (λ (member : Member (Placed g.row.T.Denot)). IsIn bounds c.args.strips c.args.strip member.value) old (get_or new k d) c.requires.within
-    (kept-within bounds (bounds c.args.placed.item).left old new ((c.in_ok-ask.ensures).ok).keeps (get_or new k d) (Contains-get_or new k d within))
+    (kept-within bounds (bounds c.args.placed.item).left old new ((c.in_ok-asked.ensures).ok).keeps (get_or new k d) (Contains-get_or new k d within))

@@ -1,0 +1,21 @@
+-- Lemmas of the sweep by columns.
+pub mod Exchanges
+pub mod FirstAbove
+pub mod Lines
+pub mod Moments
+pub mod StatusDescent
+pub mod StatusEntries
+pub mod StatusExchange
+pub mod StatusHandles
+pub mod StatusInsertion
+pub mod StatusRemoval
+pub mod StatusWalk
+pub mod SweepAsk
+pub mod SweepBegin
+pub mod SweepEnd
+pub mod SweepEvents
+pub mod SweepExchange
+pub mod SweepLists
+pub mod SweepLooks
+pub mod SweepServed
+pub mod SweepTimes

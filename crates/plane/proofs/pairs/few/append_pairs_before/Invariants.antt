@@ -1,0 +1,8 @@
+use Rattle.std.proofs.Common.{◌≡◌, ◌<◌}
+use Rattle.plane.specs.Pairs.Pairs.{PairAt}
+use Rattle.plane.specs.Pairs.Points.{Gains}
+use Rattle.plane.proofs.pairs.few.append_pairs_before.Given as goal
+
+-- the pairs with the items so far
+abbrev pub invariant-loop-first : goal.invariant-loop-first
+invariant-loop-first g l = Gains (λ i j. (i < l.first) × (j ≡ l.fn.second) × PairAt g.T.Meets.Meeting l.items i j) l.fn.out.items l.out.items

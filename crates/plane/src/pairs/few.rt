@@ -1,0 +1,138 @@
+//! Pairs of few items: each is compared with all others, which is sooner done than a sweep is set up.
+
+ghost use Rattle.std.specs.Prelude.{◌≡◌, ◌<◌, MatchBool, OnOk, OnErr, length};
+ghost use Rattle.plane.specs.Lists.{Extends};
+ghost use Rattle.plane.specs.Pairs.Bounds.{MeetInBoxes};
+ghost use Rattle.plane.specs.Pairs.Pairs.{PairAt, PairBetween};
+ghost use Rattle.plane.specs.Pairs.Points.{Gains, MeetsAt};
+
+use super::boxes::boxes_meet;
+use super::items::{Boxed, Meets};
+use std::alloc::{AllocError, Allocator};
+
+// So many items are few. A comparison of two boxes takes about a twentieth of what a sweep takes for each item.
+const FEW_ITEMS: usize = 32;
+
+// So many points are few. An item that looks for points in rows takes as long as one that is compared with so many.
+const FEW_POINTS: usize = 8;
+
+/// Whether the items are so few that a comparison of all of them finds their pairs soonest.
+pub fn are_few<T>(items: &[T]) -> bool {
+    items.len() <= FEW_ITEMS
+}
+
+/// Whether the points are so few that items are soonest compared with all of them.
+pub fn are_few_points<T>(points: &[T]) -> bool {
+    points.len() <= FEW_POINTS
+}
+
+/// Appends the pairs of places whose items meet, the lesser place first.
+pub fn append_pairs_of_few<T: Meets<T>, A: Allocator>(
+    items: &[T],
+    out: &mut Vec<(usize, usize), A>,
+) -> Result<(), AllocError>
+    requires { MeetInBoxes T.bounds T.Meeting }
+    ensures ok { OnOk result (Gains (PairAt T.Meeting items.now) out.old.items out.new.items) }
+    ensures err { OnErr result (Extends out.old.items out.new.items) }
+{
+    // The pairs of the items so far stand there.
+    for second in 0..items.len() {
+        append_pairs_before(items, second, out)?;
+    }
+    Ok(())
+}
+
+// Appends the pairs of the item at the place with those before it.
+fn append_pairs_before<T: Meets<T>, A: Allocator>(
+    items: &[T],
+    second: usize,
+    out: &mut Vec<(usize, usize), A>,
+) -> Result<(), AllocError>
+    requires boxed { MeetInBoxes T.bounds T.Meeting }
+    requires inside { second < length items.now }
+    ensures ok { OnOk result (Gains (λ i j. (j ≡ second) × PairAt T.Meeting items.now i j) out.old.items out.new.items) }
+    ensures err { OnErr result (Extends out.old.items out.new.items) }
+{
+    let item = items[second];
+    // The pairs with the items so far stand there.
+    for first in 0..second {
+        append_if_they_meet(items[first], first, item, second, out)?;
+    }
+    Ok(())
+}
+
+// Appends the pair of the places of the two items where these meet.
+fn append_if_they_meet<T: Meets<T>, A: Allocator>(
+    one: T,
+    first: usize,
+    other: T,
+    second: usize,
+    out: &mut Vec<(usize, usize), A>,
+) -> Result<(), AllocError>
+    requires { MeetInBoxes T.bounds T.Meeting }
+    ensures ok { OnOk result (Gains (λ i j. (i ≡ first) × (j ≡ second) × T.Meeting one other) out.old.items out.new.items) }
+    ensures err { OnErr result (out.new.items ≡ out.old.items) }
+{
+    if they_meet(one, other) {
+        out.push((first, second))?;
+    }
+    Ok(())
+}
+
+// Whether the items meet. Most often their boxes don't, which is sooner told.
+fn they_meet<T: Meets<T>>(one: T, other: T) -> bool
+    requires { MeetInBoxes T.bounds T.Meeting }
+    ensures { MatchBool result (T.Meeting one other) (¬ (T.Meeting one other)) }
+{
+    boxes_meet(one.bounds(), other.bounds()) && one.meets(other)
+}
+
+/// Appends the pairs of places where the item meets the point.
+pub fn append_pairs_with_few<X: Meets<Y>, Y: Boxed, A: Allocator>(
+    items: &[X],
+    points: &[Y],
+    out: &mut Vec<(usize, usize), A>,
+) -> Result<(), AllocError>
+    ensures ok { OnOk result (Gains (PairBetween X.Meeting items.now points.now) out.old.items out.new.items) }
+    ensures err { OnErr result (Extends out.old.items out.new.items) }
+{
+    // The pairs of the items so far stand there.
+    for place in 0..items.len() {
+        append_pairs_of_item(items[place], place, points, out)?;
+    }
+    Ok(())
+}
+
+// Appends the pairs of the item at a place with the points that it meets.
+fn append_pairs_of_item<X: Meets<Y>, Y: Boxed, A: Allocator>(
+    item: X,
+    place: usize,
+    points: &[Y],
+    out: &mut Vec<(usize, usize), A>,
+) -> Result<(), AllocError>
+    ensures ok { OnOk result (Gains (λ i j. (i ≡ place) × MeetsAt (X.Meeting item) points.now j) out.old.items out.new.items) }
+    ensures err { OnErr result (Extends out.old.items out.new.items) }
+{
+    // The pairs with the points so far stand there.
+    for other in 0..points.len() {
+        append_if_it_meets(item, place, points[other], other, out)?;
+    }
+    Ok(())
+}
+
+// Appends the pair of the places of the item and of the point where the item meets it.
+fn append_if_it_meets<X: Meets<Y>, Y: Boxed, A: Allocator>(
+    item: X,
+    place: usize,
+    point: Y,
+    other: usize,
+    out: &mut Vec<(usize, usize), A>,
+) -> Result<(), AllocError>
+    ensures ok { OnOk result (Gains (λ i j. (i ≡ place) × (j ≡ other) × X.Meeting item point) out.old.items out.new.items) }
+    ensures err { OnErr result (out.new.items ≡ out.old.items) }
+{
+    if item.meets(point) {
+        out.push((place, other))?;
+    }
+    Ok(())
+}
