@@ -1,12 +1,12 @@
 -- Lemmas on how chains are made: which edges come close, what crossings round to, the stops of edges, and the runs of stops that are chains.
 pub mod Beside
+pub mod Between
 pub mod Close
 pub mod Copies
 pub mod Crossed
 pub mod Crossings
 pub mod Distinct
 pub mod Ends
-pub mod Gains
 pub mod Kept
 pub mod Local
 pub mod Moving

@@ -1,3 +1,4 @@
 pub mod Callers
 pub mod ChainLemmas
+pub mod ColumnLemmas
 pub mod SnapLemmas

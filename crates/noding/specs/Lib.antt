@@ -1,10 +1,10 @@
 -- Definitions of snap rounding: what a point rounds to, the chains that edges become, and what holds of these.
 pub mod Chains
 pub mod Close
+pub mod Columns
 pub mod Crossing
 pub mod Crossings
 pub mod Distinct
-pub mod Gains
 pub mod Local
 pub mod Meeting
 pub mod Moving

@@ -8,7 +8,7 @@ use Rattle.plane.specs.Meet.Kinds.{HasPoint}
 use Rattle.noding.specs.Chains.{IsEnd, IsHot, Passes}
 use Rattle.noding.specs.Close.{PassesInside}
 use Rattle.noding.specs.Crossings.{CrossInside, IsCrossingOf}
-use Rattle.noding.specs.Gains.{IsOfSome}
+use Rattle.plane.specs.Gains.{IsOfSome}
 use Rattle.noding.specs.Local.{IsNode}
 use Rattle.noding.specs.Offsets.{between}
 use Rattle.plane.specs.Ends.{start_of, end_of}

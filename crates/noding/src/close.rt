@@ -1,18 +1,19 @@
 //! Which edges come close to each other, and which points they pass: what the sweep for pairs asks of edges.
 
 ghost use Rattle.std.specs.Bool.{OnTrue};
-ghost use Rattle.std.specs.Prelude.{◌≡◌, ◌⊎◌, ◌<◌, true, All, IfErr, IfOk, IsTrue, MatchBool, length, map};
+ghost use Rattle.std.specs.Prelude.{◌≡◌, ◌⊎◌, ◌<◌, true, All, IfErr, IfOk, IfSome, IsTrue, MatchBool, length, map};
 ghost use Rattle.i_tree.specs.declared.Refusal.TheVariants.{OutOfMemory};
 ghost use Rattle.plane.specs.Meet.Boxes.{bounds_of};
 ghost use Rattle.plane.specs.Pairs.Pairs.{ArePairs, ArePairsBetween};
 ghost use Rattle.noding.specs.Close.{ComeClose, HaveOnePoint, HoldsEnd, PassesEnd, PassesPoint, ShareEnd, item_of};
 
+use crate::columns::passing::pairs_passed_by_columns;
 use crate::passing::{is_end, is_in_box, may_pass_inside, passes_inside};
 use i_tree::Refusal;
 use plane::edge::{Edge, margin_of};
 use plane::meet::meet;
 use plane::pairs::items::{Bounds, Boxed, Meets};
-use plane::pairs::{pairs_among, pairs_with_points};
+use plane::pairs::{Budget, pairs_with_points_within_budget, pairs_within_budget};
 use plane::point::Point;
 use plane::vectors::{cross_product, vector_along};
 use std::alloc::{AllocError, Allocator};
@@ -48,22 +49,26 @@ impl Meets<Point> for CloseEdge {
     }
 }
 
-/// The pairs of places `(i, j)` of edges that come close, i below j, each once.
+/// The pairs of places `(i, j)` of edges that come close, i below j, each once; or nothing where the sweep over their boxes takes
+/// more tests than edges mostly need. Then edges are noded by columns.
 pub fn close_pairs<A: Allocator + Copy>(
     alloc: A,
     edges: &[Edge],
-) -> Result<Vec<(usize, usize), A>, Refusal>
-    ensures ok { IfOk result (λ pairs. ArePairs ComeClose edges.now pairs.items) }
-    ensures within { IfOk result (λ pairs. All (λ pair. (pair.0 < length edges.now) × (pair.1 < length edges.now)) pairs.items) }
+) -> Result<Option<Vec<(usize, usize), A>>, Refusal>
+    ensures ok { IfOk result (λ found. IfSome found (λ pairs. ArePairs ComeClose edges.now pairs.items)) }
+    ensures within { IfOk result (λ found. IfSome found (λ pairs.
+        All (λ pair. (pair.0 < length edges.now) × (pair.1 < length edges.now)) pairs.items)) }
     ensures refused { IfErr result (λ cause. cause ≡ OutOfMemory) }
 {
     let items = items_of(alloc, edges)?;
     let mut pairs = Vec::new(alloc);
-    pairs_among(&items, &mut pairs)?;
-    Ok(pairs)
+    let are_all = pairs_within_budget(&items, Budget::for_items(edges.len()), &mut pairs)?;
+    Ok(are_all.then_some(pairs))
 }
 
 /// The pairs of places `(i, j)` where the edge at i passes the point at j between its ends, each once.
+///
+/// They are sought by the boxes of the edges, and where that takes more tests than edges mostly need, by columns.
 pub fn pairs_passed<A: Allocator + Copy>(
     alloc: A,
     edges: &[Edge],
@@ -73,10 +78,33 @@ pub fn pairs_passed<A: Allocator + Copy>(
     ensures within { IfOk result (λ pairs. All (λ pair. (pair.0 < length edges.now) × (pair.1 < length points.now)) pairs.items) }
     ensures refused { IfErr result (λ cause. cause ≡ OutOfMemory) }
 {
+    if let Some(pairs) = pairs_passed_within(alloc, edges, points)? {
+        return Ok(pairs);
+    }
+    pairs_passed_by_columns(alloc, edges, points)
+}
+
+// The same, or nothing where the search by boxes takes more tests than edges mostly need.
+fn pairs_passed_within<A: Allocator + Copy>(
+    alloc: A,
+    edges: &[Edge],
+    points: &[Point],
+) -> Result<Option<Vec<(usize, usize), A>>, Refusal>
+    ensures ok { IfOk result (λ found. IfSome found (λ pairs.
+        ArePairsBetween PassesPoint edges.now points.now pairs.items)) }
+    ensures within { IfOk result (λ found. IfSome found (λ pairs.
+        All (λ pair. (pair.0 < length edges.now) × (pair.1 < length points.now)) pairs.items)) }
+    ensures refused { IfErr result (λ cause. cause ≡ OutOfMemory) }
+{
     let items = items_of(alloc, edges)?;
     let mut pairs = Vec::new(alloc);
-    pairs_with_points(&items, points, &mut pairs)?;
-    Ok(pairs)
+    let are_all = pairs_with_points_within_budget(
+        &items,
+        points,
+        Budget::for_items(edges.len()),
+        &mut pairs,
+    )?;
+    Ok(are_all.then_some(pairs))
 }
 
 fn items_of<A: Allocator>(alloc: A, edges: &[Edge]) -> Result<Vec<CloseEdge, A>, AllocError>

@@ -3,7 +3,7 @@
 ghost use Rattle.std.specs.Prelude.{◌≡◌, ◌⊎◌, ◌<◌, All, length, IfOk, MatchBool, OnOk};
 ghost use Rattle.noding.specs.Chains.{IsEnd};
 ghost use Rattle.noding.specs.Crossings.{AreCrossed, ArePointsInside, IsCrossedAt, IsPointInside};
-ghost use Rattle.noding.specs.Gains.{GainsThese, IsOfSome};
+ghost use Rattle.plane.specs.Gains.{GainsThese, HaveSame, IsOfSome};
 ghost use Rattle.plane.specs.declared.point.Point.{Point};
 
 use crate::crossing::crossing;
@@ -68,13 +68,21 @@ pub fn points_inside<A: Allocator + Copy>(
 {
     let mut points = Vec::new(alloc);
     push_points_inside(edges, crossings, &mut points)?;
+    sort_points(&mut points)?;
+    Ok(points)
+}
+
+/// Puts points in order, each once.
+pub fn sort_points<A: Allocator + Copy>(points: &mut Vec<Point, A>) -> Result<(), AllocError>
+    ensures { OnOk result (HaveSame points.old.items points.new.items) }
+{
     sort_in_buckets(
-        &mut points,
+        points,
         |point| number_at(point.x, point.y),
         |one: &Point, other: &Point| -> Ordering { one.cmp(other) },
     )?;
     points.dedup();
-    Ok(points)
+    Ok(())
 }
 
 // Appends the points of these crossings, but for ends of the two edges.

@@ -5,6 +5,7 @@ ghost use Rattle.noding.specs.Distinct.{AppendsUnlessLast, AreCopied, AreDistinc
 ghost use Rattle.noding.specs.Offsets.{between};
 ghost use Rattle.noding.specs.Stops.{AreAt, IsBefore};
 
+use crate::sample::{place_by_chance, sample_size};
 use crate::stops::Stop;
 use plane::edge::Edge;
 use std::alloc::{AllocError, Allocator};
@@ -13,18 +14,8 @@ use std::cmp::Ordering;
 // Fewer edges than these are noded as they stand: looking for copies among them would cost more than it saves.
 const FEW: usize = 64;
 
-// One of so many edges is in a sample, so that it costs a hundredth of the noding.
-const EDGES_A_SAMPLE: usize = 16;
-
-// Of many edges a sample has no more than so many times their square root. Where copies make as many pairs as there are edges
-// it has four pairs of copies then, on average. Copies that make far fewer cost little, and joining them would save little.
-const ROOTS_A_SAMPLE: usize = 2;
-
 // Where a sample has so many copies it is taken that edges stand there often.
 const ENOUGH_COPIES: usize = 3;
-
-// A factor that mixes the bits of a number.
-const MIXING: u64 = 0x9E37_79B9_7F4A_7C15;
 
 /// The distinct edges of a list, and for each of its places the place of its like among them.
 #[derive(Drop)]
@@ -86,8 +77,7 @@ fn is_copy(one: Placed, other: Placed) -> bool {
 fn sample_of<A: Allocator>(alloc: A, edges: &[Edge]) -> Result<Vec<Placed, A>, AllocError>
     requires { 0 < length edges.now }
 {
-    let most = ROOTS_A_SAMPLE * edges.len().isqrt();
-    let size = most.min(edges.len() / EDGES_A_SAMPLE);
+    let size = sample_size(edges.len());
     let mut sample = Vec::with_capacity(alloc, size)?;
     for index in 0..size {
         let place = place_by_chance(index, edges.len());
@@ -97,16 +87,6 @@ fn sample_of<A: Allocator>(alloc: A, edges: &[Edge]) -> Result<Vec<Placed, A>, A
         })?;
     }
     Ok(sample)
-}
-
-// One of so many places, for this number of a sample. Places at even steps would miss copies that stand at other steps, or in runs.
-fn place_by_chance(index: usize, count: usize) -> usize
-    requires { 0 < count }
-    ensures { result < count }
-{
-    let number = (index as u64).wrapping_mul(MIXING);
-    let mixed = (number ^ (number >> 32)).wrapping_mul(MIXING);
-    (mixed >> 32) as usize % count
 }
 
 // The edges with their places, so that copies stand side by side.

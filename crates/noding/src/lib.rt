@@ -20,6 +20,7 @@ use stops::stops_in_order;
 
 mod chains;
 mod close;
+mod columns;
 mod crossing;
 mod crossings;
 mod distinct;
@@ -27,6 +28,7 @@ mod local;
 mod moved;
 mod passing;
 pub mod pieces;
+pub mod sample;
 pub mod stops;
 
 pub use local::{node, nodes_in_order};

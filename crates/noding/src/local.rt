@@ -5,13 +5,16 @@ ghost use Rattle.std.specs.List.{flat_map};
 ghost use Rattle.std.specs.Prelude.{◌≡◌, ◌<◌, ◌++◌, List, All, AllPairs, IfErr, IfOk, MatchBool, OnErr, OnOk, length};
 ghost use Rattle.i_tree.specs.declared.Refusal.TheVariants.{OutOfMemory};
 ghost use Rattle.plane.specs.declared.point.Point.{Point};
+ghost use Rattle.noding.specs.Crossings.{AreAllCrossed};
 ghost use Rattle.noding.specs.Local.{AreNodeChains};
 ghost use Rattle.noding.specs.Offsets.{offsets};
-ghost use Rattle.noding.specs.Stops.{AppendsIfKept, AreKept, AreNodeStops, IsBefore, LiesOnItsEdge};
+ghost use Rattle.noding.specs.Stops.{AppendsIfKept, AreKept, AreNodeStops, AreStops, IsBefore, LiesOnItsEdge};
 
 use crate::chains::append_chains;
 use crate::close::close_pairs;
-use crate::crossings::crossings_of_pairs;
+use crate::columns::crossings::crossings_by_columns;
+use crate::columns::stops::stops_by_columns;
+use crate::crossings::{Crossing, crossings_of_pairs};
 use crate::distinct::{distinct_of, stops_of_each};
 use crate::moved::{is_kept, lies_on, moved_edges};
 use crate::stops::{Stop, stops_of_pairs};
@@ -71,14 +74,42 @@ fn nodes_of_edges<A: Allocator + Copy>(alloc: A, edges: &[Edge]) -> Result<Vec<S
     ensures ok { IfOk result (λ stops. AreNodeStops edges.now stops.items) }
     ensures refused { IfErr result (λ cause. cause ≡ OutOfMemory) }
 {
-    let pairs = close_pairs(alloc, edges)?;
+    let Some(pairs) = close_pairs(alloc, edges)? else {
+        return nodes_by_columns(alloc, edges);
+    };
     let crossings = crossings_of_pairs(alloc, edges, &pairs)?;
     let stops = stops_of_pairs(alloc, edges, &pairs, &crossings)?;
+    let nodes = nodes_of_stops(alloc, edges, &crossings, stops)?;
+    Ok(nodes)
+}
+
+// The same by a sweep over columns.
+fn nodes_by_columns<A: Allocator + Copy>(alloc: A, edges: &[Edge]) -> Result<Vec<Stop, A>, Refusal>
+    ensures ok { IfOk result (λ stops. AreNodeStops edges.now stops.items) }
+    ensures refused { IfErr result (λ cause. cause ≡ OutOfMemory) }
+{
+    let crossings = crossings_by_columns(alloc, edges)?;
+    let stops = stops_by_columns(alloc, edges, &crossings)?;
+    let nodes = nodes_of_stops(alloc, edges, &crossings, stops)?;
+    Ok(nodes)
+}
+
+// The stops at nodes, where these are the crossings of the edges, and all stops.
+fn nodes_of_stops<A: Allocator + Copy>(
+    alloc: A,
+    edges: &[Edge],
+    crossings: &[Crossing],
+    stops: Vec<Stop, A>,
+) -> Result<Vec<Stop, A>, AllocError>
+    requires crossed { AreAllCrossed edges.now crossings.now }
+    requires stops { AreStops edges.now stops.items }
+    ensures { IfOk result (λ nodes. AreNodeStops edges.now nodes.items) }
+{
     // Where all stops lie on their edges they are nodes, whatever is moved.
     if lie_on_edges(edges, &stops) {
         return Ok(stops);
     }
-    let moved = moved_edges(alloc, edges, &crossings, &stops)?;
+    let moved = moved_edges(alloc, edges, crossings, &stops)?;
     let nodes = nodes_of(alloc, edges, &stops, &moved)?;
     Ok(nodes)
 }

@@ -1,16 +1,14 @@
 //! Which edges a noding moves that moves only what it must.
 
 ghost use Rattle.std.specs.List.Sorted.{IsPartitionPoint, IsPermutation};
-ghost use Rattle.std.specs.Prelude.{◌≡◌, ◌≤◌, ◌⊎◌, ◌<◌, ℕ, List, Some, All, IfOk, MatchBool, OnOk, length, slice_get};
+ghost use Rattle.std.specs.Prelude.{◌≡◌, ◌≤◌, ◌⊎◌, ◌<◌, List, Some, All, IfOk, MatchBool, OnOk, length, slice_get};
 ghost use Rattle.plane.specs.Lists.{Extends};
 ghost use Rattle.plane.specs.Meet.Kinds.{HasPoint};
-ghost use Rattle.plane.specs.Pairs.Pairs.{ArePairs};
 ghost use Rattle.plane.specs.declared.edge.Edge.{Edge};
 ghost use Rattle.plane.specs.declared.point.Point.{Point};
 ghost use Rattle.noding.specs.Chains.{AreChains, Passes};
-ghost use Rattle.noding.specs.Close.{ComeClose};
-ghost use Rattle.noding.specs.Crossings.{AreCrossed, IsCrossed};
-ghost use Rattle.noding.specs.Gains.{GainsThese, IsOfSome};
+ghost use Rattle.noding.specs.Crossings.{AreAllCrossed, IsCrossed};
+ghost use Rattle.plane.specs.Gains.{GainsThese, IsOfSome};
 ghost use Rattle.noding.specs.Local.{AreFirst, AreMoved, IsPointBeside, Moves};
 ghost use Rattle.noding.specs.Moving.{AppendsUnlessKept, AreFlagged, AreFound, AreInOrder, AreSpread, AreVisits, IsInRange, IsMovedAt, IsNumberOf, IsPlaceOf, chain_of};
 ghost use Rattle.noding.specs.Offsets.{AreJoined, between};
@@ -42,7 +40,7 @@ struct Visit {
     place: usize,
 }
 
-/// Whether each edge is moved, where these are the crossings of the pairs of edges that come close, and all stops.
+/// Whether each edge is moved, where these are the crossings of the edges, and all stops.
 ///
 /// What two edges round to that cross at a point with fractions flags those of the two on which it doesn't lie. Most often no
 /// other edge is moved: then all stops of edges that aren't flagged lie on them, and nothing is left to do.
@@ -52,7 +50,7 @@ pub fn moved_edges<A: Allocator + Copy>(
     crossings: &[Crossing],
     stops: &[Stop],
 ) -> Result<Vec<bool, A>, AllocError>
-    requires crossed { (pairs : List (ℕ × ℕ)) × ArePairs ComeClose edges.now pairs × AreCrossed edges.now pairs crossings.now }
+    requires crossed { AreAllCrossed edges.now crossings.now }
     requires stops { AreStops edges.now stops.now }
     ensures { IfOk result (λ moved. AreMoved edges.now moved.items) }
 {

@@ -1,14 +1,16 @@
 //! The stops of edges: which hot points each passes between its ends, in the order along it.
 
-ghost use Rattle.std.specs.Prelude.{◌≡◌, ◌<◌, ℕ, List, All, length, IfErr, IfOk, OnOk};
+ghost use Rattle.std.specs.Prelude.{◌≡◌, ◌<◌, ℕ, List, All, AllPairs, length, IfErr, IfOk, OnOk};
 ghost use Rattle.i_tree.specs.declared.Refusal.TheVariants.{OutOfMemory};
 ghost use Rattle.plane.specs.Pairs.Pairs.{ArePairs};
 ghost use Rattle.noding.specs.Close.{ComeClose};
 ghost use Rattle.noding.specs.Crossings.{AreCrossed};
-ghost use Rattle.noding.specs.Gains.{GainsThese, IsOfSome};
-ghost use Rattle.noding.specs.Stops.{AreStops, IsStopAlong, IsStopAmong, IsStopAt, IsStopAtCrossing, IsStopAtEnd, IsStopCrossed, IsStopOfBoth, IsStopOfPair, point_of, stop_of, reflected};
+ghost use Rattle.plane.specs.Gains.{GainsThese, HaveSame, IsOfSome};
+ghost use Rattle.noding.specs.Stops.{AreStops, IsBefore, IsStopAlong, IsStopAmong, IsStopAt, IsStopAtCrossing, IsStopAtEnd, IsStopCrossed, IsStopOfBoth, IsStopOfPair, point_of, stop_of, reflected};
 
 use crate::close::{close_pairs, pairs_passed};
+use crate::columns::crossings::crossings_by_columns;
+use crate::columns::stops::stops_by_columns;
 use crate::crossings::{Crossing, crossings_of_pairs, is_end_of_one, points_inside};
 use crate::distinct::{distinct_of, stops_of_each};
 use crate::passing::passes_inside;
@@ -54,9 +56,23 @@ fn stops_of_edges<A: Allocator + Copy>(alloc: A, edges: &[Edge]) -> Result<Vec<S
     ensures ok { IfOk result (λ stops. AreStops edges.now stops.items) }
     ensures refused { IfErr result (λ cause. cause ≡ OutOfMemory) }
 {
-    let pairs = close_pairs(alloc, edges)?;
+    let Some(pairs) = close_pairs(alloc, edges)? else {
+        return stops_of_edges_by_columns(alloc, edges);
+    };
     let crossings = crossings_of_pairs(alloc, edges, &pairs)?;
     stops_of_pairs(alloc, edges, &pairs, &crossings)
+}
+
+// The same by a sweep over columns.
+fn stops_of_edges_by_columns<A: Allocator + Copy>(
+    alloc: A,
+    edges: &[Edge],
+) -> Result<Vec<Stop, A>, Refusal>
+    ensures ok { IfOk result (λ stops. AreStops edges.now stops.items) }
+    ensures refused { IfErr result (λ cause. cause ≡ OutOfMemory) }
+{
+    let crossings = crossings_by_columns(alloc, edges)?;
+    stops_by_columns(alloc, edges, &crossings)
 }
 
 /// The same, where these pairs of edges come close, and have these crossings.
@@ -75,13 +91,20 @@ pub(crate) fn stops_of_pairs<A: Allocator + Copy>(
     let mut stops = Vec::new(alloc);
     push_stops_at_ends(edges, pairs, &mut stops)?;
     push_stops_at_crossings(edges, crossings, &mut stops)?;
-    sort_in_buckets(
-        &mut stops,
-        number_of,
-        |one: &Stop, other: &Stop| -> Ordering { one.cmp(other) },
-    )?;
-    stops.dedup();
+    sort_stops(&mut stops)?;
     Ok(stops)
+}
+
+/// Puts stops in order, each once.
+pub(crate) fn sort_stops<A: Allocator + Copy>(stops: &mut Vec<Stop, A>) -> Result<(), AllocError>
+    ensures same { OnOk result (HaveSame stops.old.items stops.new.items) }
+    ensures in_order { OnOk result (AllPairs IsBefore stops.new.items) }
+{
+    sort_in_buckets(stops, number_of, |one: &Stop, other: &Stop| -> Ordering {
+        one.cmp(other)
+    })?;
+    stops.dedup();
+    Ok(())
 }
 
 // A number by which stops are nearly in order: the edge's place, and behind it how far the stop is along it.
@@ -210,8 +233,8 @@ fn push_stops_at_points<A: Allocator + Copy>(
     Ok(())
 }
 
-// Appends the stop of each pair of an edge and a point.
-fn push_stops<A: Allocator>(
+/// Appends the stop of each pair of an edge and a point.
+pub(crate) fn push_stops<A: Allocator>(
     edges: &[Edge],
     points: &[Point],
     passes: &[(usize, usize)],

@@ -1,9 +1,9 @@
 -- Edges that come close: they do whichever is named first, and their boxes meet then.
-use Rattle.std.proofs.Common.{◌≡◌, ◌⊎◌, inl, inr, ℕ, zero, suc, ◌<◌, ℤ, ◌≤ℤ◌, Bool, true, false, ◌||◌, List, [], ◌∷◌, Some, get_or, length, map, refl, ap, ◌∙◌, subst, ⊎_elim, arith}
-use Rattle.std.specs.Bool.{MatchBool}
+use Rattle.std.proofs.Common.{◌≡◌, ◌⊎◌, inl, inr, ℕ, zero, suc, ◌<◌, ℤ, ◌≤ℤ◌, Bool, true, false, ◌||◌, List, [], ◌∷◌, ◌++◌, Some, get_or, length, map, refl, ap, sym, ◌∙◌, subst, ⊎_elim, arith}
+use Rattle.std.specs.Bool.{MatchBool, then_some}
 use Rattle.std.specs.Int.{int_min, int_max}
 use Rattle.std.specs.List.{All, slice_get}
-use Rattle.std.specs.Option.{option_map}
+use Rattle.std.specs.Option.{IfSome, option_map}
 use Rattle.std.proofs.lemmas.Int.{clamps, ints}
 use Rattle.std.proofs.lemmas.List.Elements.{Contains-get_or}
 use Rattle.std.proofs.lemmas.Option.{same_Some, slice_get-map, slice_get_within}
@@ -112,6 +112,24 @@ ArePassed-of_items edges points pairs are = record {
     λ pair. (are.exact i j).1 (record { one = item_of pair.one; other = pair.other; first = item_at edges i pair.one pair.first; second = pair.second; meet = pair.meet }),
   );
 }
+
+-- The pairs that a list without any gains are those of edges, and of edges and points.
+pub ArePairs-gained : (edges : List Edge) (items : List CloseEdge) (before after : List (ℕ × ℕ)) → items ≡ map item_of edges → before ≡ []
+    → (pairs : List (ℕ × ℕ)) × (after ≡ before ++ pairs) × ArePairs (λ (it other : CloseEdge). ComeClose it.edge other.edge) items pairs → ArePairs ComeClose edges after
+ArePairs-gained edges items before after of none (pairs, is, are) =
+    subst (ArePairs ComeClose edges) (sym (is ∙ ap (λ (list : List (ℕ × ℕ)). list ++ pairs) none))
+    (ArePairs-of_items edges pairs (subst (λ (items : List CloseEdge). ArePairs (λ (it other : CloseEdge). ComeClose it.edge other.edge) items pairs) of are))
+
+pub ArePassed-gained : (edges : List Edge) (points : List Point) (items : List CloseEdge) (before after : List (ℕ × ℕ)) → items ≡ map item_of edges → before ≡ []
+    → (pairs : List (ℕ × ℕ)) × (after ≡ before ++ pairs) × ArePairsBetween (λ (it : CloseEdge) (point : Point). PassesPoint it.edge point) items points pairs → ArePairsBetween PassesPoint edges points after
+ArePassed-gained edges points items before after of none (pairs, is, are) =
+    subst (ArePairsBetween PassesPoint edges points) (sym (is ∙ ap (λ (list : List (ℕ × ℕ)). list ++ pairs) none))
+    (ArePassed-of_items edges points pairs (subst (λ (items : List CloseEdge). ArePairsBetween (λ (it : CloseEdge) (point : Point). PassesPoint it.edge point) items points pairs) of are))
+
+-- what a call answers where it tells so is what holds of it then
+pub IfSome-told : {T : Type 0} (told : Bool) (value : T) (P : T → Type 0) (Told Else : Type 0) → (Told → P value) → MatchBool told Told Else → IfSome (then_some told value) P
+IfSome-told true value P Told Else holds is = holds is
+IfSome-told false value P Told Else holds is = tt
 
 pub ArePassed-within : (edges : List Edge) (points : List Point) (pairs : List (ℕ × ℕ)) → ArePairsBetween PassesPoint edges points pairs → All (λ pair. (pair.0 < length edges) × (pair.1 < length points)) pairs
 ArePassed-within edges points pairs are k d within =

@@ -9,14 +9,14 @@ use Rattle.plane.specs.Pairs.Pairs.{ArePairs}
 use Rattle.noding.specs.Chains.{CrossAt, IsEnd}
 use Rattle.noding.specs.Close.{ComeClose, PassesInside}
 use Rattle.noding.specs.Crossings.{AreCrossed, AreCrossings, CrossInside, IsCrossingOf}
-use Rattle.noding.specs.Gains.{GainsThese, IsOfSome}
+use Rattle.plane.specs.Gains.{GainsThese, IsOfSome}
 use Rattle.noding.specs.Stops.{IsStopAmong, IsStopAtCrossing, IsStopCrossed, IsStopOfBoth, IsStopOfCrossing, stop_of}
 use Rattle.plane.specs.Lines.{IsAlongAxis}
 use Rattle.plane.specs.declared.point.Point.{Point}
 use Rattle.noding.specs.declared.crossings.Crossing.{Crossing}
 use Rattle.noding.specs.declared.stops.Stop.{Stop}
 use Rattle.noding.proofs.ChainLemmas.Crossings.{CrossInside-exchanged, crossed-at, crossed-pair, crossing-pair, pair-crossed}
-use Rattle.noding.proofs.ChainLemmas.Gains.{gains-join, gains-one, gains-same, held-at}
+use Rattle.plane.proofs.GainsLemmas.{gains-join, gains-one, gains-same, held-at}
 use Rattle.noding.proofs.SnapLemmas.Crossing.{CrossAt-itself}
 use Rattle.noding.proofs.SnapLemmas.Axes.{CrossAt-axes}
 

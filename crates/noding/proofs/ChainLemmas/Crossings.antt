@@ -1,8 +1,6 @@
 -- Which points are hot: ends of edges, and crossings of edges that come close.
-use Rattle.std.proofs.Common.{◌≡◌, ◌⊎◌, inl, inr, ℕ, ◌<◌, ℤ, Bool, List, [], ◌∷◌, ◌++◌, Some, get_or, length, refl, sym, ap, ◌∙◌, subst, ⊎_elim, arith}
-use Rattle.std.specs.List.{All, Contains, dedup, slice_get}
-use Rattle.std.specs.List.Sorted.{IsPermutation}
-use Rattle.std.specs.Ordering.{eq_by_cmp}
+use Rattle.std.proofs.Common.{◌≡◌, ◌⊎◌, inl, inr, ℕ, ◌<◌, ℤ, List, [], ◌∷◌, ◌++◌, Some, get_or, length, refl, sym, ap, ◌∙◌, subst, ⊎_elim, arith}
+use Rattle.std.specs.List.{All, Contains, slice_get}
 use Rattle.std.proofs.lemmas.Bool.{cases_eq, cases_lt}
 use Rattle.std.proofs.lemmas.List.Elements.{Contains-get_or}
 use Rattle.std.proofs.lemmas.Option.{same_Some, slice_get_within}
@@ -12,14 +10,12 @@ use Rattle.plane.specs.Pairs.Pairs.{ArePairs}
 use Rattle.noding.specs.Chains.{AreNotParallel, CrossAt, IsEnd, IsHot}
 use Rattle.noding.specs.Close.{ComeClose, ShareEnd}
 use Rattle.noding.specs.Crossings.{AreCrossed, AreCrossings, ArePointsInside, CrossInside, IsCrossed, IsCrossedAt, IsCrossingOf, IsPointInside}
-use Rattle.noding.specs.Gains.{GainsThese, IsOfSome}
-use Rattle.plane.specs.contracts.point.PointOrd.TheImpl.{ghosts as point_order}
-use Rattle.plane.specs.contracts.point.PointOrd.TheImpl.Laws.{total-law as point_total}
+use Rattle.plane.specs.Gains.{GainsThese, HaveSame, IsOfSome}
 use Rattle.plane.specs.declared.point.Point.{Point}
 use Rattle.noding.specs.declared.crossings.Crossing.{Crossing}
-use Rattle.plane.proofs.PointLemmas.{point-same, whole_point}
+use Rattle.plane.proofs.PointLemmas.{whole_point}
 use Rattle.noding.proofs.ChainLemmas.Ends.{end_or_not}
-use Rattle.noding.proofs.ChainLemmas.Gains.{Contains-sorted, gained-all, gains-none, gains-only, held-at, place-of}
+use Rattle.plane.proofs.GainsLemmas.{gained-all, gains-none, gains-only, held-at, place-of}
 use Rattle.noding.proofs.SnapLemmas.Along.{from_at, to_at}
 use Rattle.noding.proofs.SnapLemmas.Crossing.{CrossAt-exchanged, CrossAt-itself, CrossAt-unique}
 use Rattle.noding.proofs.SnapLemmas.Rounding.{RoundsTo-itself, whole}
@@ -127,11 +123,10 @@ module _ (edges : List Edge) (crossing : Crossing) (one other : Edge) (first : s
       let other_is : other ≡ at.other = same_Some _ _ (sym second ∙ at.second) in
       at.none (subst (λ (e : Edge). IsEnd e crossing.point.x crossing.point.y ⊎ IsEnd at.other crossing.point.x crossing.point.y) one_is (subst (λ (e : Edge). IsEnd one crossing.point.x crossing.point.y ⊎ IsEnd e crossing.point.x crossing.point.y) other_is end)))
 
--- the points that are found, sorted and each once
-pub ArePointsInside-sorted : (edges : List Edge) (crossings : List Crossing) (same : Point → Point → Bool) → ((a b : Point) → same a b ≡ eq_by_cmp point_order.cmp a b) → (found sorted : List Point)
-    → GainsThese (IsOfSome (IsPointInside edges) crossings) [] found → IsPermutation found sorted → ArePointsInside edges crossings (dedup same sorted)
-ArePointsInside-sorted edges crossings same ties found sorted gains moved point =
-    let kept = Contains-sorted point_total point-same ties found sorted moved point in
+-- the points that are found, in order and each once
+pub ArePointsInside-sorted : (edges : List Edge) (crossings : List Crossing) (found sorted : List Point) → GainsThese (IsOfSome (IsPointInside edges) crossings) [] found → HaveSame found sorted → ArePointsInside edges crossings sorted
+ArePointsInside-sorted edges crossings found sorted gains same point =
+    let kept = same point in
     let all = gained-all (IsOfSome (IsPointInside edges) crossings) found gains point in (λ held. all.0 (kept.0 held), λ is. kept.1 (all.1 is))
 
 -- ---- which edges cross

@@ -12,7 +12,7 @@ use Rattle.i_tree.proofs.RbLemmas.Slots.Growth.{slice_get-append_kept}
 use Rattle.plane.specs.declared.edge.Edge.{Edge}
 use Rattle.noding.specs.Distinct.{AppendsUnlessLast, AreDistinct, ArePlaced}
 use Rattle.noding.specs.declared.distinct.Placed.{Placed}
-use Rattle.noding.proofs.ChainLemmas.Gains.{held-at, place-of}
+use Rattle.plane.proofs.GainsLemmas.{held-at, place-of}
 
 -- ---- edges with their places
 

@@ -1,25 +1,20 @@
 -- Edges that cross at points with fractions, as they are found.
-use Rattle.std.proofs.Common.{arith, pos, ◌≡◌, ◌↔◌, ◌++◌, ◌∷◌, ◌<◌, [], ℕ, ℤ, Bool, true, false, List, Some, inl, inr, refl, sym, subst, ap, ◌∙◌}
+use Rattle.std.proofs.Common.{arith, pos, ◌≡◌, ◌++◌, ◌∷◌, [], ℤ, Bool, true, false, List, Some, refl, sym, subst, ◌∙◌}
 use Rattle.std.specs.Bool.{MatchBool}
-use Rattle.std.specs.List.{Contains, slice_get}
-use Rattle.std.proofs.lemmas.Bool.{cases_eq, cases_lt}
+use Rattle.std.specs.List.{slice_get}
 use Rattle.std.proofs.lemmas.Option.{same_Some}
 use Rattle.plane.specs.declared.edge.Edge.{Edge}
 use Rattle.plane.specs.declared.point.Point.{Point}
 use Rattle.noding.specs.declared.crossings.Crossing.{Crossing}
 use Rattle.plane.specs.Meet.Kinds.{HasPoint}
-use Rattle.plane.specs.Pairs.Pairs.{ArePairs}
 use Rattle.plane.proofs.MeetLemmas.Identities.{identity, number, times}
 use Rattle.noding.specs.Chains.{CrossAt, IsEnd}
-use Rattle.noding.specs.Close.{ComeClose, ShareEnd}
-use Rattle.noding.specs.Crossings.{AreCrossed}
-use Rattle.noding.specs.Gains.{GainsThese, IsOfSome}
-use Rattle.noding.specs.Local.{AreFirst, CrossBeside, CrossBesideAt, IsPointBeside, MovesInRound}
-use Rattle.noding.proofs.ChainLemmas.Crossings.{crossed-pair, end-of_edge, pair-crossed}
-use Rattle.noding.proofs.ChainLemmas.Gains.{gains-none, gains-only, held-at, place-of}
-use Rattle.noding.proofs.SnapLemmas.Crossing.{CrossAt-exchanged, CrossAt-itself, CrossAt-unique}
-use Rattle.noding.proofs.SnapLemmas.Rounding.{RoundsTo-itself, whole}
-use Rattle.noding.proofs.SnapLemmas.Along.{point_at}
+use Rattle.plane.specs.Gains.{GainsThese}
+use Rattle.noding.specs.Local.{CrossBeside, IsPointBeside}
+use Rattle.noding.proofs.ChainLemmas.Crossings.{end-of_edge}
+use Rattle.plane.proofs.GainsLemmas.{gains-none, gains-only}
+use Rattle.noding.proofs.SnapLemmas.Crossing.{CrossAt-exchanged, CrossAt-unique}
+use Rattle.noding.proofs.SnapLemmas.Rounding.{whole}
 use Rattle.noding.proofs.SnapLemmas.Local.{common_whole}
 
 -- what two tests say of both, where the first holds, and where it doesn't
@@ -64,7 +59,7 @@ module _ (edges : List Edge) (crossing : Crossing) (one other : Edge) (first : s
       beside_whole at.one at.other crossing.point.x crossing.point.y (subst (λ (e : Edge). HasPoint e crossing.point.x crossing.point.y) one_is on)
       (subst (λ (e : Edge). HasPoint e crossing.point.x crossing.point.y) other_is other_on) at.cross)
 
--- ---- edges that cross beside a whole point are at a pair that comes close
+-- ---- whichever is named first, and ends
 
 pub CrossBeside-exchanged : (one other : Edge) (x y : ℤ) → CrossBeside one other x y → CrossBeside other one x y
 CrossBeside-exchanged one other x y (slanted, (point, of_one, of_other, rounds, beside)) =
@@ -73,59 +68,3 @@ CrossBeside-exchanged one other x y (slanted, (point, of_one, of_other, rounds, 
 -- an edge has its ends
 pub has_end : (edge : Edge) (x y : ℤ) → IsEnd edge x y → HasPoint edge x y
 has_end edge x y end = (whole x y, end-of_edge edge x y end, record { x_is = identity (number x) (times (number (pos 1)) (number x)) (omega arith); y_is = identity (number y) (times (number (pos 1)) (number y)) (omega arith) })
-
-no_shared : (one other : Edge) (x y : ℤ) → CrossBeside one other x y → ¬ (ShareEnd one other)
-no_shared one other x y cross (end_x, end_y, of_one, of_other) =
-    no_beside-whole one other end_x end_y
-    (cross.0, (whole end_x end_y, end-of_edge one end_x end_y of_one, end-of_edge other end_x end_y of_other, RoundsTo-itself end_x end_y))
-    (has_end one end_x end_y of_one, has_end other end_x end_y of_other) (point_at x y) cross
-
-module _ (edges : List Edge) (pairs : List (ℕ × ℕ)) (close : ArePairs ComeClose edges pairs) where
-  paired : (i j : ℕ) (one other : Edge) (point : Point) → i < j → slice_get edges i ≡ Some one → slice_get edges j ≡ Some other → CrossBeside one other point.x point.y → IsOfSome (CrossBesideAt edges) pairs point
-  paired i j one other point below first second cross =
-      let (slanted, (at, of_one, of_other, rounds, beside)) = cross in (
-        (i, j),
-        (close.exact i j).1 (record { one = one; other = other; rising = below; first = first; second = second; meet = inl (no_shared one other point.x point.y cross, (at, of_one, of_other)) }),
-        record { one = one; other = other; first = first; second = second; cross = cross },
-      )
-
-  beside-paired : (point : Point) → MovesInRound edges 0 point.x point.y → IsOfSome (CrossBesideAt edges) pairs point
-  beside-paired point (one, other, of_one, of_other, cross) =
-      let (i, first) = place-of edges one of_one in
-      let (j, second) = place-of edges other of_other in
-      elim (cases_lt i j) [
-        | inl below ↦ paired i j one other point below first second cross
-        | inr upto ↦ elim (cases_eq i j) [
-          | inl same ↦
-              let one_is : one ≡ other = same_Some _ _ (sym first ∙ ap (slice_get edges) same ∙ second) in
-              absurd (CrossAt-itself other point.x point.y (subst (λ (e : Edge). CrossAt e other point.x point.y) one_is (CrossAt-beside one other point.x point.y cross)))
-          | inr differs ↦ paired j i other one point (omega (arith, upto, differs)) second first (CrossBeside-exchanged one other point.x point.y cross)
-        ]
-      ]
-
-  beside-first : (point : Point) → IsOfSome (CrossBesideAt edges) pairs point → MovesInRound edges 0 point.x point.y
-  beside-first point ((i, j), held, is) = (is.one, is.other, held-at edges i is.one is.first, held-at edges j is.other is.second, is.cross)
-
-  -- so these tell the points that move edges in the first round
-  AreFirst-paired : (points : List Point) → ((point : Point) → Contains points point ↔ IsOfSome (CrossBesideAt edges) pairs point) → AreFirst edges points
-  AreFirst-paired points told point = (λ held. beside-first point ((told point).0 held), λ moves. (told point).1 (beside-paired point moves))
-
-  module _ (crossings : List Crossing) (crossed : AreCrossed edges pairs crossings) where
-    point_paired : (point : Point) → IsOfSome (IsPointBeside edges) crossings point → IsOfSome (CrossBesideAt edges) pairs point
-    point_paired point (crossing, held, at) =
-        let (among, is) = crossed-pair edges pairs crossings crossed crossing held in (
-          (crossing.one, crossing.other),
-          among,
-          record { one = at.one; other = at.other; first = at.first; second = at.second; cross = subst (λ (p : Point). CrossBeside at.one at.other p.x p.y) (sym at.is) at.cross },
-        )
-
-    paired_point : (point : Point) → IsOfSome (CrossBesideAt edges) pairs point → IsOfSome (IsPointBeside edges) crossings point
-    paired_point point (pair, held, at) = (
-      record { one = pair.0; other = pair.1; point = point },
-      pair-crossed edges pairs crossings crossed pair at.one at.other point held at.first at.second (CrossAt-beside at.one at.other point.x point.y at.cross),
-      record { one = at.one; other = at.other; first = at.first; second = at.second; cross = at.cross; is = refl },
-    )
-
-    -- as the points of their crossings do
-    pub AreFirst-crossed : (points : List Point) → ((point : Point) → Contains points point ↔ IsOfSome (IsPointBeside edges) crossings point) → AreFirst edges points
-    AreFirst-crossed points told = AreFirst-paired points (λ point. (λ held. point_paired point ((told point).0 held), λ is. (told point).1 (paired_point point is)))

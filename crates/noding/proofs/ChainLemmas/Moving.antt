@@ -10,11 +10,11 @@ use Rattle.std.proofs.lemmas.List.Elements.{Contains-append_left, Contains-push,
 use Rattle.std.proofs.lemmas.List.Sums.{sum_by-set}
 use Rattle.plane.specs.Lists.{Extends}
 use Rattle.plane.specs.declared.point.Point.{Point}
-use Rattle.noding.specs.Gains.{GainsThese, IsOfSome}
+use Rattle.plane.specs.Gains.{GainsThese, IsOfSome}
 use Rattle.noding.specs.Moving.{AreFlagged, AreSpread, IsInRange, IsMovedAt, IsMovedFrom, IsNumberOf, IsPlaceOf, chain_of}
 use Rattle.noding.specs.Offsets.{AreJoined, between}
 use Rattle.noding.specs.declared.moved.Visit.{Visit}
-use Rattle.noding.proofs.ChainLemmas.Gains.{gains-none, gains-same}
+use Rattle.plane.proofs.GainsLemmas.{gains-none, gains-same}
 use Rattle.noding.proofs.ChainLemmas.Offsets.{joined, offset-at}
 use Rattle.noding.proofs.ChainLemmas.Standing.{IsNext-at, length-offsets}
 use Rattle.noding.proofs.ChainLemmas.Runs.{between-at, length-between}

@@ -15,7 +15,7 @@ use Rattle.noding.specs.Stops.{AreAt, AreNodeStops, AreRuns, AreStops, AreStopsO
 pub use Rattle.noding.specs.Stops.{Split}
 use Rattle.noding.specs.declared.stops.Stop.{Stop}
 use Rattle.noding.proofs.ChainLemmas.Ends.{IsAlong-ends}
-use Rattle.noding.proofs.ChainLemmas.Gains.{held-at}
+use Rattle.plane.proofs.GainsLemmas.{held-at}
 use Rattle.noding.proofs.ChainLemmas.Stops.{differ-before, point-of_stop, upto-before}
 use Rattle.noding.proofs.SnapLemmas.Along.{Passes-end, Passes-start}
 use Rattle.noding.proofs.SnapLemmas.Local.{ends_on}

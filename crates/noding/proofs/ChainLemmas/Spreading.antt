@@ -14,12 +14,12 @@ use Rattle.plane.specs.declared.edge.Edge.{Edge}
 use Rattle.plane.specs.declared.point.Point.{Point}
 use Rattle.plane.specs.Meet.Kinds.{HasPoint}
 use Rattle.noding.specs.Chains.{AreChains, IsChain, IsHot, Passes}
-use Rattle.noding.specs.Gains.{GainsThese, IsOfSome}
+use Rattle.plane.specs.Gains.{GainsThese, IsOfSome}
 use Rattle.noding.specs.Local.{AreFirst, AreMoved, IsMoved, Moves, PassesBeside}
 use Rattle.noding.specs.Moving.{AreFlagged, AreFound, AreVisits, IsInRange, IsMovedAt, IsMovedPlace, IsNumberOf, IsVisit, chain_of}
 use Rattle.noding.specs.Offsets.{AreJoined}
 use Rattle.noding.specs.declared.moved.Visit.{Visit}
-use Rattle.noding.proofs.ChainLemmas.Gains.{held-at, place-of}
+use Rattle.plane.proofs.GainsLemmas.{held-at, place-of}
 use Rattle.noding.proofs.ChainLemmas.Moving.{Contains-extended, chain-is}
 use Rattle.noding.proofs.ChainLemmas.Standing.{length-offsets}
 use Rattle.noding.proofs.ChainLemmas.Zips.{AllZip-at, AllZip-length, AllZip-places}

@@ -1,13 +1,10 @@
 -- The stops of edges at hot points, once they are sorted.
 use Rattle.std.proofs.Common.{◌≡◌, ◌≢◌, ◌⊎◌, ◌↔◌, inl, inr, ℕ, ℤ, pos, ◌-ℤ◌, ◌≤ℤ◌, Bool, true, false, cond, List, [], ◌∷◌, ◌++◌, Some, get_or, refl, sym, ap, ap₂, ◌∙◌, subst, ⊎_elim, arith}
 use Rattle.std.specs.Int.Signed.{lt_z}
-use Rattle.std.specs.List.{Contains, dedup, slice_get}
-use Rattle.std.specs.List.Sorted.{IsPermutation, IsSorted}
-use Rattle.std.specs.Ordering.{eq_by_cmp}
+use Rattle.std.specs.List.{AllPairs, Contains, slice_get}
 use Rattle.std.proofs.lemmas.Bool.{cases_eq, cases_lt}
 use Rattle.std.proofs.lemmas.Int.{ints}
 use Rattle.std.proofs.lemmas.List.Elements.{Contains-get_or}
-use Rattle.std.proofs.lemmas.List.Kept.{IsStrictlySortedBy-dedup}
 use Rattle.std.proofs.lemmas.Option.{same_Some}
 use Rattle.plane.specs.declared.edge.Edge.{Edge}
 use Rattle.plane.specs.declared.point.Point.{Point}
@@ -15,14 +12,12 @@ use Rattle.plane.specs.Pairs.Pairs.{ArePairs, ArePairsBetween}
 use Rattle.noding.specs.Chains.{IsEnd, IsHot, Passes, Upto, UptoOn}
 use Rattle.noding.specs.Close.{ComeClose, PassesEnd, PassesInside, PassesPoint}
 use Rattle.plane.proofs.PointLemmas.{whole_point}
-use Rattle.noding.specs.Gains.{GainsThese, IsOfSome}
+use Rattle.noding.specs.Crossings.{AreHot}
+use Rattle.plane.specs.Gains.{GainsThese, HaveSame, IsOfSome}
 use Rattle.noding.specs.Stops.{AreStops, IsBefore, IsStopAlong, IsStopAmong, IsStopAt, IsStopAtEnd, IsStopCrossed, IsStopOf, IsStopOfPair, point_of, stop_of, reflected}
-use Rattle.noding.specs.contracts.stops.StopOrd.TheImpl.{ghosts as stop_order}
-use Rattle.noding.specs.contracts.stops.StopOrd.TheImpl.Laws.{total-law as stop_total}
 use Rattle.noding.specs.declared.stops.Stop.{Stop}
 use Rattle.noding.proofs.ChainLemmas.Crossings.{crossing-hot, hot_cases}
-use Rattle.noding.proofs.ChainLemmas.Gains.{Contains-sorted, gains-join, gains-only, gains-same, held-at, place-of}
-use Rattle.noding.proofs.ChainLemmas.Order.{stop-same, stops-in_order}
+use Rattle.plane.proofs.GainsLemmas.{gains-join, gains-only, gains-same, held-at, place-of}
 use Rattle.noding.proofs.SnapLemmas.Along.{Passes-ordered}
 
 -- ---- along an edge
@@ -131,6 +126,30 @@ IsStop-at_end : (edges : List Edge) (other : Edge) (place : ℕ) (edge : Edge) (
 IsStop-at_end edges other place edge stop held stands (inl along) = IsStop-along edges place edge other.x0 other.y0 stop stands (inl (other, held, inl (refl, refl))) along
 IsStop-at_end edges other place edge stop held stands (inr along) = IsStop-along edges place edge other.x1 other.y1 stop stands (inl (other, held, inr (refl, refl))) along
 
+-- stops of which each is one, and that have each one, are the edges' stops once they are in order and each is left once
+AreStops-told : (edges : List Edge) (stops sorted : List Stop) → ((place : ℕ) (edge : Edge) (x y : ℤ) → slice_get edges place ≡ Some edge → IsHot edges x y → PassesInside edge x y → Contains stops (stop_of place edge x y))
+    → ((stop : Stop) → Contains stops stop → IsStop edges stop) → HaveSame stops sorted → AllPairs IsBefore sorted → AreStops edges sorted
+AreStops-told edges stops sorted each of same in_order = record {
+  each = λ place edge x y stands node passes. (same (stop_of place edge x y)).1 (each place edge x y stands node.0 passes);
+  of = λ k d within. of (get_or sorted k d) ((same (get_or sorted k d)).0 (Contains-get_or sorted k d within));
+  in_order = in_order;
+}
+
+-- so those at all hot points are
+pub AreStops-hot : (edges : List Edge) (points : List Point) (stops sorted : List Stop) → AreHot edges points → ((stop : Stop) → Contains stops stop ↔ IsStopAmong edges points stop) → HaveSame stops sorted → AllPairs IsBefore sorted → AreStops edges sorted
+AreStops-hot edges points stops sorted hot told =
+    AreStops-told edges stops sorted
+    (λ place edge x y stands is passes.
+    (told (stop_of place edge x y)).1 (record {
+      place = place;
+      edge = edge;
+      point = whole_point x y;
+      stands = stands;
+      held = (hot (whole_point x y)).1 is;
+      along = (passes, refl);
+    }))
+    (λ stop held. let at = (told stop).0 held in IsStop-along edges at.place at.edge at.point.x at.point.y stop at.stands ((hot at.point).0 at.held) at.along)
+
 module _ (edges : List Edge) (pairs : List (ℕ × ℕ)) (close : ArePairs ComeClose edges pairs) where
   -- where an edge passes an end of another one the two are at a pair that comes close
   end_told : (place i : ℕ) (edge other : Edge) (x y : ℤ) → slice_get edges place ≡ Some edge → slice_get edges i ≡ Some other → IsEnd other x y → PassesInside edge x y
@@ -187,17 +206,9 @@ module _ (edges : List Edge) (pairs : List (ℕ × ℕ)) (close : ArePairs ComeC
         (λ at. IsStop-along edges at.place at.edge at.point.x at.point.y stop at.stands (crossing-hot edges pairs close at.point at.crossed) at.along)
         ((told stop).0 held)
 
-    -- so, once they are sorted and each is left once, they are the edges' stops in order
-    pub AreStops-sorted : (same : Stop → Stop → Bool) → ((a b : Stop) → same a b ≡ eq_by_cmp stop_order.cmp a b) → (sorted : List Stop) → IsPermutation stops sorted → IsSorted stop_order.cmp sorted
-        → AreStops edges (dedup same sorted)
-    AreStops-sorted same ties sorted moved rising = record {
-      each = λ place edge x y stands node passes. (kept (stop_of place edge x y)).1 (listed place edge x y stands node.0 passes);
-      of = λ k d within. all_stops (get_or (dedup same sorted) k d) ((kept (get_or (dedup same sorted) k d)).0 (Contains-get_or (dedup same sorted) k d within));
-      in_order = stops-in_order (dedup same sorted) (IsStrictlySortedBy-dedup stop_total ties sorted rising);
-    }
-      where
-        kept : (stop : Stop) → Contains (dedup same sorted) stop ↔ Contains stops stop
-        kept = Contains-sorted stop_total stop-same ties stops sorted moved
+    -- so, once they are in order and each is left once, they are the edges' stops
+    pub AreStops-sorted : (sorted : List Stop) → HaveSame stops sorted → AllPairs IsBefore sorted → AreStops edges sorted
+    AreStops-sorted sorted = AreStops-told edges stops sorted listed all_stops
 
 -- ---- what is gained
 

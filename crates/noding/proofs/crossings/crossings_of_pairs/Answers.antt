@@ -1,9 +1,9 @@
 use Rattle.std.proofs.Common.{[], List, pos, subst, sym}
 use Rattle.plane.specs.declared.edge.Edge.{Edge}
 use Rattle.noding.specs.Crossings.{IsCrossedAt}
-use Rattle.noding.specs.Gains.{GainsThese, IsOfSome}
+use Rattle.plane.specs.Gains.{GainsThese, IsOfSome}
 use Rattle.noding.specs.declared.crossings.Crossing.{Crossing}
-use Rattle.noding.proofs.ChainLemmas.Gains.{gained-all, upto-all, upto-first, upto-next}
+use Rattle.plane.proofs.GainsLemmas.{gained-all, upto-all, upto-first, upto-next}
 use Rattle.noding.proofs.crossings.crossings_of_pairs.Goals as goal
 
 pub loop-pair-init : goal.loop-pair-init

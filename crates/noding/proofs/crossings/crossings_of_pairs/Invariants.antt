@@ -1,6 +1,6 @@
 use Rattle.std.proofs.Common.{[], take}
 use Rattle.noding.specs.Crossings.{IsCrossedAt}
-use Rattle.noding.specs.Gains.{GainsThese, IsOfSome}
+use Rattle.plane.specs.Gains.{GainsThese, IsOfSome}
 use Rattle.noding.proofs.crossings.crossings_of_pairs.Given as goal
 
 -- the crossings of the pairs so far

@@ -1,6 +1,6 @@
 use Rattle.std.proofs.Common.{take}
 use Rattle.noding.specs.Crossings.{IsPointInside}
-use Rattle.noding.specs.Gains.{GainsThese, IsOfSome}
+use Rattle.plane.specs.Gains.{GainsThese, IsOfSome}
 use Rattle.noding.proofs.crossings.push_points_inside.Given as goal
 
 -- the points of the crossings so far

@@ -1,7 +1,7 @@
 use Rattle.std.proofs.Common.{◌≡◌, false, true, get_or, sym, ◌∙◌, subst}
 use Rattle.std.proofs.lemmas.List.{get_or_default}
-use Rattle.noding.specs.Gains.{GainsThese}
-use Rattle.noding.proofs.ChainLemmas.Gains.{gains-one}
+use Rattle.plane.specs.Gains.{GainsThese}
+use Rattle.plane.proofs.GainsLemmas.{gains-one}
 use Rattle.noding.proofs.ChainLemmas.Moving.{flagged-more, gains-flagged}
 use Rattle.noding.proofs.moved.flag.Goals as goal
 

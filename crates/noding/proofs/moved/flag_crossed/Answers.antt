@@ -1,8 +1,8 @@
 use Rattle.std.proofs.Common.{[], pos}
-use Rattle.noding.specs.Gains.{IsOfSome}
+use Rattle.plane.specs.Gains.{IsOfSome}
 use Rattle.noding.specs.Local.{IsPointBeside}
 use Rattle.noding.specs.declared.crossings.Crossing.{Crossing}
-use Rattle.noding.proofs.ChainLemmas.Gains.{gains-all, gains-next, gains-none, none_of}
+use Rattle.plane.proofs.GainsLemmas.{gains-all, gains-next, gains-none, none_of}
 use Rattle.noding.proofs.moved.flag_crossed.Goals as goal
 
 pub loop-crossing-init : goal.loop-crossing-init

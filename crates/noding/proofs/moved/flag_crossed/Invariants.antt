@@ -1,5 +1,5 @@
 use Rattle.std.proofs.Common.{take}
-use Rattle.noding.specs.Gains.{GainsThese, IsOfSome}
+use Rattle.plane.specs.Gains.{GainsThese, IsOfSome}
 use Rattle.noding.specs.Local.{IsPointBeside}
 use Rattle.noding.specs.Moving.{AreFound}
 use Rattle.noding.proofs.moved.flag_crossed.Given as goal

@@ -8,7 +8,7 @@ use Rattle.noding.specs.Crossings.{IsCrossed}
 use Rattle.noding.specs.Local.{CrossBeside, Moves}
 use Rattle.noding.specs.declared.crossings.Crossing.{Crossing}
 use Rattle.noding.proofs.ChainLemmas.Crossings.{crossed-at}
-use Rattle.noding.proofs.ChainLemmas.Gains.{held-at}
+use Rattle.plane.proofs.GainsLemmas.{held-at}
 use Rattle.noding.proofs.ChainLemmas.Local.{CrossBeside-of, gains-beside, gains-on_both}
 use Rattle.noding.proofs.moved.flag_crossing.Goals as goal
 

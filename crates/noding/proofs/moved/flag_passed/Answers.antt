@@ -4,7 +4,7 @@ use Rattle.std.proofs.lemmas.List.Elements.{Contains-get_or}
 use Rattle.std.proofs.lemmas.Option.{slice_get_within}
 use Rattle.plane.specs.declared.edge.Edge.{Edge}
 use Rattle.plane.specs.declared.point.Point.{Point}
-use Rattle.noding.specs.Gains.{GainsThese, IsOfSome}
+use Rattle.plane.specs.Gains.{GainsThese, IsOfSome}
 use Rattle.noding.specs.Moving.{AreSpread, IsMovedAt, chain_of}
 use Rattle.noding.proofs.ChainLemmas.Spreading.{AreMoved-found, found-first, found-next, lent-back, same_count}
 use Rattle.noding.proofs.ChainLemmas.Visits.{visits-within}

@@ -1,5 +1,5 @@
 use Rattle.std.proofs.Common.{List, subst, arith}
-use Rattle.noding.specs.Gains.{GainsThese, IsOfSome}
+use Rattle.plane.specs.Gains.{GainsThese, IsOfSome}
 use Rattle.noding.specs.Moving.{IsPlaceOf}
 use Rattle.noding.specs.declared.moved.Visit.{Visit}
 use Rattle.noding.proofs.ChainLemmas.Moving.{gains-at, gains-nowhere, gains-spread, spread-more}

@@ -1,9 +1,9 @@
 use Rattle.std.proofs.Common.{◌∙◌, [], pos, refl}
 use Rattle.plane.proofs.PairsLemmas.Extends.{Extends-same, Extends-trans}
 use Rattle.plane.specs.declared.point.Point.{Point}
-use Rattle.noding.specs.Gains.{IsOfSome}
+use Rattle.plane.specs.Gains.{IsOfSome}
 use Rattle.noding.specs.Moving.{IsMovedAt}
-use Rattle.noding.proofs.ChainLemmas.Gains.{gains-all, gains-next, gains-none, none_of}
+use Rattle.plane.proofs.GainsLemmas.{gains-all, gains-next, gains-none, none_of}
 use Rattle.noding.proofs.moved.move_at_all.Goals as goal
 
 pub loop-point-init : goal.loop-point-init

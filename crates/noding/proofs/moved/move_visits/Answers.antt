@@ -1,9 +1,9 @@
 use Rattle.std.proofs.Common.{[], pos, refl, ◌∙◌}
 use Rattle.plane.proofs.PairsLemmas.Extends.{Extends-same, Extends-trans}
-use Rattle.noding.specs.Gains.{IsOfSome}
+use Rattle.plane.specs.Gains.{IsOfSome}
 use Rattle.noding.specs.Moving.{IsPlaceOf}
 use Rattle.noding.specs.declared.moved.Visit.{Visit}
-use Rattle.noding.proofs.ChainLemmas.Gains.{gains-all, gains-next, gains-none, none_of}
+use Rattle.plane.proofs.GainsLemmas.{gains-all, gains-next, gains-none, none_of}
 use Rattle.noding.proofs.moved.move_visits.Goals as goal
 
 pub loop-visit-init : goal.loop-visit-init

@@ -1,6 +1,6 @@
 use Rattle.std.proofs.Common.{◌≡◌, length, take}
 use Rattle.plane.specs.Lists.{Extends}
-use Rattle.noding.specs.Gains.{GainsThese, IsOfSome}
+use Rattle.plane.specs.Gains.{GainsThese, IsOfSome}
 use Rattle.noding.specs.Moving.{AreFlagged, IsPlaceOf}
 use Rattle.noding.proofs.moved.move_visits.Given as goal
 

@@ -1,7 +1,7 @@
 use Rattle.std.proofs.Common.{rules, w32, FitsSigned}
 use Rattle.std.proofs.lemmas.Int.{to_z-of_z}
 use Rattle.noding.specs.Stops.{IsStopAlong}
-use Rattle.noding.proofs.ChainLemmas.Gains.{gains-join}
+use Rattle.plane.proofs.GainsLemmas.{gains-join}
 use Rattle.noding.proofs.stops.push_ends_of.Goals as goal
 
 pub returns : goal.returns

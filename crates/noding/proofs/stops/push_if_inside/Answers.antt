@@ -3,7 +3,7 @@ use Rattle.std.proofs.lemmas.Int.{to_z-of_z}
 use Rattle.noding.specs.Close.{PassesInside}
 use Rattle.noding.specs.Stops.{IsStopAlong, stop_of}
 use Rattle.noding.specs.declared.stops.Stop.{Stop}
-use Rattle.noding.proofs.ChainLemmas.Gains.{gains-none}
+use Rattle.plane.proofs.GainsLemmas.{gains-none}
 use Rattle.noding.proofs.ChainLemmas.Stops.{gains-stop}
 use Rattle.noding.proofs.stops.push_if_inside.Goals as goal
 

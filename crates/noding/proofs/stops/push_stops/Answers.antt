@@ -4,7 +4,7 @@ use Rattle.plane.specs.declared.edge.Edge.{Edge}
 use Rattle.plane.specs.declared.point.Point.{Point}
 use Rattle.noding.specs.Stops.{IsStopAt, stop_of}
 use Rattle.noding.specs.declared.stops.Stop.{Stop}
-use Rattle.noding.proofs.ChainLemmas.Gains.{upto-all, upto-first, upto-next}
+use Rattle.plane.proofs.GainsLemmas.{upto-all, upto-first, upto-next}
 use Rattle.noding.proofs.ChainLemmas.Stops.{gains-at}
 use Rattle.noding.proofs.stops.push_stops.Goals as goal
 

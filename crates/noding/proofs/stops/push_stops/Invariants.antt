@@ -1,5 +1,5 @@
 use Rattle.std.proofs.Common.{take}
-use Rattle.noding.specs.Gains.{GainsThese, IsOfSome}
+use Rattle.plane.specs.Gains.{GainsThese, IsOfSome}
 use Rattle.noding.specs.Stops.{IsStopAt}
 use Rattle.noding.proofs.stops.push_stops.Given as goal
 

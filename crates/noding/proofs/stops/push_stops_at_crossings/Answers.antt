@@ -1,5 +1,5 @@
 use Rattle.std.proofs.Common.{List, subst}
-use Rattle.noding.specs.Gains.{GainsThese}
+use Rattle.plane.specs.Gains.{GainsThese}
 use Rattle.noding.specs.Stops.{IsStopAmong}
 use Rattle.plane.specs.declared.point.Point.{Point}
 use Rattle.noding.proofs.ChainLemmas.Crossed.{gains-along_axes, gains-at_crossings, gains-paired}

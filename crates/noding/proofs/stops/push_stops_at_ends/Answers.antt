@@ -1,7 +1,7 @@
 use Rattle.std.proofs.Common.{pos, get_or}
 use Rattle.plane.specs.declared.edge.Edge.{Edge}
 use Rattle.noding.specs.Stops.{IsStopOfPair}
-use Rattle.noding.proofs.ChainLemmas.Gains.{upto-all, upto-first, upto-next}
+use Rattle.plane.proofs.GainsLemmas.{upto-all, upto-first, upto-next}
 use Rattle.noding.proofs.ChainLemmas.Stops.{gains-of_pair}
 use Rattle.noding.proofs.stops.push_stops_at_ends.Goals as goal
 

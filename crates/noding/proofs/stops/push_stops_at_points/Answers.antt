@@ -1,5 +1,5 @@
 use Rattle.std.proofs.Common.{ℕ, List, subst}
-use Rattle.noding.specs.Gains.{GainsThese, IsOfSome}
+use Rattle.plane.specs.Gains.{GainsThese, IsOfSome}
 use Rattle.noding.specs.Stops.{IsStopAt}
 use Rattle.noding.proofs.ChainLemmas.Stops.{gains-among}
 use Rattle.noding.proofs.stops.push_stops_at_points.Goals as goal

@@ -3,7 +3,7 @@ use Rattle.std.proofs.lemmas.Int.{to_z-of_z}
 use Rattle.noding.specs.Stops.{IsStopOfBoth, stop_of}
 use Rattle.noding.specs.declared.stops.Stop.{Stop}
 use Rattle.noding.proofs.ChainLemmas.Crossed.{gains-both}
-use Rattle.noding.proofs.ChainLemmas.Gains.{gains-none}
+use Rattle.plane.proofs.GainsLemmas.{gains-none}
 use Rattle.noding.proofs.stops.push_stops_of_both.Goals as goal
 
 pub returns-then-is_end_of_one : goal.returns-then-is_end_of_one

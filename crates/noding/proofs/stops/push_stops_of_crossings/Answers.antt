@@ -1,11 +1,11 @@
 use Rattle.std.proofs.Common.{[], pos, get_or}
 use Rattle.std.proofs.lemmas.Option.{slice_get-get_or}
 use Rattle.plane.specs.declared.edge.Edge.{Edge}
-use Rattle.noding.specs.Gains.{IsOfSome}
+use Rattle.plane.specs.Gains.{IsOfSome}
 use Rattle.noding.specs.Stops.{IsStopAtCrossing}
 use Rattle.noding.specs.declared.crossings.Crossing.{Crossing}
 use Rattle.noding.proofs.ChainLemmas.Crossed.{gains-of_both}
-use Rattle.noding.proofs.ChainLemmas.Gains.{gains-all, gains-next, gains-none, none_of}
+use Rattle.plane.proofs.GainsLemmas.{gains-all, gains-next, gains-none, none_of}
 use Rattle.noding.proofs.stops.push_stops_of_crossings.Goals as goal
 
 pub loop-crossing-init : goal.loop-crossing-init

@@ -1,14 +1,9 @@
-use Rattle.std.proofs.Common.{◌⊎◌, List, [], sym, subst, rules}
-use Rattle.std.specs.Ordering.{is_lt}
-use Rattle.std.proofs.lemmas.List.Filters.{dedup_is}
-use Rattle.std.proofs.lemmas.List.Sorted.{answers_always, ranks_by}
-use Rattle.noding.specs.Gains.{GainsThese, IsOfSome}
-use Rattle.noding.specs.Stops.{AreStops, IsStopCrossed, IsStopOfPair}
-use Rattle.noding.specs.contracts.stops.StopOrd.TheImpl.{ghosts as stop_order}
-use Rattle.noding.specs.contracts.stops.StopOrd.TheImpl.Laws.{matches_eq-law, total-law as stop_total}
+use Rattle.std.proofs.Common.{◌⊎◌, List, [], subst}
+use Rattle.plane.specs.Gains.{GainsThese, IsOfSome}
+use Rattle.noding.specs.Stops.{IsStopCrossed, IsStopOfPair}
 use Rattle.noding.specs.declared.stops.Stop.{Stop}
 use Rattle.noding.proofs.ChainLemmas.Crossings.{within-crossed}
-use Rattle.noding.proofs.ChainLemmas.Gains.{gained-all, gains-join}
+use Rattle.plane.proofs.GainsLemmas.{gained-all, gains-join}
 use Rattle.noding.proofs.ChainLemmas.Stops.{AreStops-sorted}
 use Rattle.noding.proofs.stops.stops_of_pairs.Goals as goal
 
@@ -26,7 +21,6 @@ returns-clause-ok g c =
     c.in_ok-push_stops_at_ends.ensures in
     let at_crossings = c.in_ok-push_stops_at_crossings.ensures.ok pairs c.requires.close c.requires.crossed in
     let told = gains-join (IsOfSome (IsStopOfPair edges) pairs) (IsStopCrossed edges pairs) [] ended all at_ends at_crossings in
-    subst (AreStops edges) (sym (dedup_is _ _ _ c.dedup.ensures.filtered))
-    (AreStops-sorted edges pairs c.requires.close all
+    AreStops-sorted edges pairs c.requires.close all
     (gained-all (λ stop. IsOfSome (IsStopOfPair edges) pairs stop ⊎ IsStopCrossed edges pairs stop) all told)
-    _ matches_eq-law c.sort_in_buckets.new.items.items c.sort_in_buckets.ensures.permutation (c.in_ok-sort_in_buckets.ensures.sorted (λ a b. is_lt (stop_order.cmp a b)) (ranks_by stop_total (λ it. it)) (answers_always _ _ _ (λ f a r f' called. search rules))))
+    c.sort_stops.new.stops.items c.in_ok-sort_stops.ensures.same c.in_ok-sort_stops.ensures.in_order

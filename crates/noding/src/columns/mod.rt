@@ -1,0 +1,7 @@
+//! What sweeps by whole columns find of edges, in n log n whatever their shape: which cross, which points they pass, and their
+//! stops.
+
+pub mod crossings;
+pub mod hot_points;
+pub mod passing;
+pub mod stops;
