@@ -22,6 +22,7 @@ use walk::append_rings;
 mod bends;
 mod cutting;
 mod ends;
+mod fans;
 mod order;
 mod turns;
 mod walk;

@@ -12,7 +12,7 @@ ghost use Rattle.noding.specs.Windings.{IsClosed};
 
 use super::cutting::cut_loop;
 use super::ends::{corners_of_ends, next_from};
-use super::turns::leftmost;
+use super::fans::{Fans, fans_of, next_edge};
 use plane::edge::{Edge, end_of, start_of};
 use plane::point::Point;
 use std::alloc::{AllocError, Allocator};
@@ -38,6 +38,7 @@ pub fn append_rings<A: Allocator + Copy>(
     let mut walk = Walk {
         used,
         marks,
+        fans: fans_of(alloc, sorted)?,
         stack: Vec::new(alloc),
         corner: 0,
     };
@@ -50,6 +51,7 @@ pub fn append_rings<A: Allocator + Copy>(
 struct Walk<A: Allocator> {
     used: Vec<bool, A>,
     marks: Vec<usize, A>,
+    fans: Fans<A>,
     stack: Vec<usize, A>,
     corner: usize,
 }
@@ -139,7 +141,7 @@ fn walk_from<A: Allocator>(
         if from != at {
             back = from;
         }
-        next = leftmost(sorted, &walk.used, back, at, walk.corner);
+        next = next_edge(sorted, &walk.used, &mut walk.fans, back, at, walk.corner);
     }
     Ok(())
 }

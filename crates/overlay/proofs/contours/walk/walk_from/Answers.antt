@@ -11,7 +11,7 @@ use Rattle.overlay.specs.Contours.Turns.{Leaves, NoneLeaves}
 use Rattle.overlay.specs.Contours.Walks.{IsMarked, Keeps, path, unwalked}
 use Rattle.overlay.proofs.ContourLemmas.Order.{corner-from}
 use Rattle.overlay.proofs.ContourLemmas.Rings.{AreAppended-more, AreAppended-none}
-use Rattle.overlay.proofs.ContourLemmas.Walks.{IsMarked-more, Keeps-set, Keeps-trans, begun-more, corner-of_end, leaves-leftmost, step-edges, step-rings, unwalked-fewer, walk-ends, walking-begins}
+use Rattle.overlay.proofs.ContourLemmas.Walks.{IsMarked-more, Keeps-set, Keeps-trans, begun-more, corner-of_end, step-edges, step-rings, unwalked-fewer, walk-ends, walking-begins}
 use Rattle.overlay.proofs.contours.walk.walk_from.Goals as goal
 
 pub loop-next-init : goal.loop-next-init
@@ -47,8 +47,8 @@ cut_loop-requires-clause-at g c =
     let leaves = MatchOption-at_some (NoneLeaves sorted c.loop-next.walk.used.items (point_at sorted c.loop-next.walk.corner)) (λ place. Leaves sorted c.loop-next.walk.used.items (point_at sorted c.loop-next.walk.corner) place) c.in-Some.place c.in-Some.is walking.leaves in
     subst (IsCorner sorted) (sym c.in_ok-go_along.ensures.corner) (corner-of_end sorted c.requires.closed c.requires.order c.in-Some.place leaves.inside _ refl _ (c.requires.corners.each c.in-Some.place leaves.inside)).1
 
-pub leftmost-next-requires-clause-first : goal.leftmost-next-requires-clause-first
-leftmost-next-requires-clause-first g c =
+pub next_edge-next-requires-clause-first : goal.next_edge-next-requires-clause-first
+next_edge-next-requires-clause-first g c =
     let walking = c.loop-next.invariant.1 in
     let sorted = c.args.sorted.now in
     let leaves = MatchOption-at_some (NoneLeaves sorted c.loop-next.walk.used.items (point_at sorted c.loop-next.walk.corner)) (λ place. Leaves sorted c.loop-next.walk.used.items (point_at sorted c.loop-next.walk.corner) place) c.in-Some.place c.in-Some.is walking.leaves in
@@ -99,9 +99,9 @@ loop-next-preserved g c =
         off = off;
         keeps = subst (λ (list : List Bool). Keeps c.args.walk.now.used.items list) (sym noted) (Keeps-trans c.args.walk.now.used.items used (set used place true) walking.keeps (Keeps-set used place));
         size = ap (λ (list : List Bool). length list) noted ∙ length-set used place true ∙ size;
-        leaves = subst (λ (list : List Bool). MatchOption c.leftmost-next.result (NoneLeaves sorted list (point_at sorted next)) (λ it. Leaves sorted list (point_at sorted next) it)) c.deref-in-Some.ensures.value
-            (subst (λ (point : Point). MatchOption c.leftmost-next.result (NoneLeaves sorted c.deref-in-Some.result.now point) (λ it. Leaves sorted c.deref-in-Some.result.now point it)) (sym same)
-            (leaves-leftmost sorted c.deref-in-Some.result.now c.if-ne.back at c.leftmost-next.result c.leftmost-next.ensures));
+        leaves = subst (λ (list : List Bool). MatchOption c.next_edge-next.result (NoneLeaves sorted list (point_at sorted next)) (λ it. Leaves sorted list (point_at sorted next) it)) c.deref-in-Some.ensures.value
+            (subst (λ (point : Point). MatchOption c.next_edge-next.result (NoneLeaves sorted c.deref-in-Some.result.now point) (λ it. Leaves sorted c.deref-in-Some.result.now point it)) (sym same)
+            c.next_edge-next.ensures);
         begun = inl (subst (λ (list : List Bool). get_or list c.args.first true ≡ true) (sym noted) (begun-more used c.args.first place c.loop-next.next in_used c.in-Some.is walking.begun));
       },
     )
