@@ -4,6 +4,8 @@ pub mod Contours
 pub mod Faults
 pub mod Fill
 pub mod Grouping
+pub mod Joined
+pub mod Lines
 pub mod Overlay
 pub mod Polygons
 pub mod Rings

@@ -1,5 +1,5 @@
 -- From the pieces of closed edges to the edges that bound the result, and to rings.
-use Rattle.std.proofs.Common.{◌≡◌, ◌≢◌, ◌⊎◌, ◌++◌, ◌+◌, ◌<◌, ◌^◌, length, inl, inr, Bool, true, false, ℤ, pos, List, ap, ap₂, sym, subst, ◌∙◌, refl}
+use Rattle.std.proofs.Common.{◌≡◌, ◌≢◌, ◌⊎◌, ◌++◌, inl, inr, Bool, true, false, ℤ, pos, List, ap, ap₂, sym, subst, ◌∙◌, refl}
 use Rattle.std.specs.List.{All, Contains, flat_map}
 use Rattle.std.proofs.lemmas.Grind.{flat_map-append}
 use Rattle.std.proofs.lemmas.List.Elements.{All-contains, All-contains_itself, All-weaker, Contains-append_left, Contains-append_right}
@@ -11,14 +11,13 @@ use Rattle.plane.specs.Ends.{end_of, start_of}
 use Rattle.plane.specs.Meet.Edges.{RationalPoint}
 use Rattle.plane.proofs.PairsLemmas.Bags.{AllPairs-permutation}
 use Rattle.overlay.specs.declared.fill.pieces.Piece.{Piece}
-use Rattle.overlay.specs.declared.fill.pieces.Operand.TheVariants.{Subject, Clip}
 use Rattle.overlay.specs.declared.fill.rules.FillRule.{FillRule}
 use Rattle.overlay.specs.declared.fill.rules.Operation.{Operation}
 use Rattle.overlay.specs.Boundary.{AreBroken, BoundsResult, IsBoundary, IsPiece, WindsAsBroken, result_at}
 use Rattle.overlay.specs.Contours.Rings.{AreContours, ring_edges}
 use Rattle.overlay.specs.Fill.Filled.{AreNoded, HaveSameEnds, IsFilled}
 use Rattle.overlay.specs.Fill.Rules.{is_result}
-use Rattle.overlay.specs.Fill.Turned.{AreUnjoined, turned}
+use Rattle.overlay.specs.Fill.Turned.{AreUnjoined, StandFor}
 use Rattle.noding.specs.Chains.{IsHot}
 use Rattle.noding.specs.Local.{IsExactAt}
 use Rattle.noding.specs.Windings.{pieces, winding, IsClosed, count}
@@ -48,14 +47,13 @@ module _ (subject clip broken broken_clip : List Edge) (are : AreBroken subject 
   pub clip-closed : IsClosed clip → IsClosed broken_clip
   clip-closed closed = subst IsClosed (sym are.clip_is) (noded-closed all clip are.clip_chains (Contains-append_right subject clip) are.clip_are closed)
 
-  -- so their pieces that aren't vertical can be filled
-  pub broken-unjoined : IsClosed subject → IsClosed clip → (unjoined : List Piece) → unjoined ≡ turned Subject broken ++ turned Clip broken_clip → length broken + length broken_clip < 2 ^ 63 → AreUnjoined broken broken_clip unjoined
-  broken-unjoined closed clip_too unjoined is few = record {
+  -- so what stands for them can be filled
+  pub broken-unjoined : IsClosed subject → IsClosed clip → (unjoined : List Piece) → StandFor broken broken_clip unjoined → AreUnjoined broken broken_clip unjoined
+  broken-unjoined closed clip_too unjoined stand = record {
     closed = broken-closed closed;
     clip_closed = clip-closed clip_too;
     noded = broken-noded;
-    are = is;
-    countable = few;
+    stand = stand;
   }
 
   -- they wind as the edges do, where each edge isn't moved, or runs along an axis, or isn't near

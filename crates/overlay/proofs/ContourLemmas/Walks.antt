@@ -10,7 +10,7 @@ use Rattle.std.proofs.lemmas.Option.{same_Some}
 use Rattle.plane.specs.declared.edge.Edge.{Edge}
 use Rattle.plane.specs.declared.point.Point.{Point}
 use Rattle.overlay.specs.Contours.Rings.{ring_edges}
-use Rattle.overlay.specs.Contours.Turns.{IsLeftmost, Leaves, NoneLeaves}
+use Rattle.overlay.specs.Contours.Turns.{Leaves, NoneLeaves}
 use Rattle.overlay.specs.Contours.Order.{AreInOrder, IsCorner, IsFirstFrom, edge_at, point_at}
 use Rattle.overlay.specs.Contours.Walks.{IsMarked, IsOff, Keeps, path, unwalked}
 use Rattle.plane.specs.Ends.{edge_between, end_of, start_of}
@@ -175,12 +175,6 @@ begun-more used first place next inside is (inl was) = Keeps-set used place firs
 begun-more used first place next inside is (inr same) =
     let one : place ≡ first = same_Some place first (sym is ∙ same) in
     subst (λ (k : ℕ). get_or (set used place true) k true ≡ true) one (get_or-set_same used place true true inside)
-
--- the edge that leaves the point is left, if it is the leftmost
-pub leaves-leftmost : (sorted : List Edge) (used : List Bool) (back at : Point) (next : Option ℕ) → MatchOption next (NoneLeaves sorted used at) (λ place. IsLeftmost sorted used back at place)
-    → MatchOption next (NoneLeaves sorted used at) (λ place. Leaves sorted used at place)
-leaves-leftmost sorted used back at None none = none
-leaves-leftmost sorted used back at (Some place) is = is.leaves
 
 -- ---- where a walk ends
 

@@ -1,5 +1,5 @@
 -- What a caller of the fill wants of its pieces, in a caller's words.
-use Rattle.std.proofs.Common.{◌≡◌, ◌≢◌, ◌⊎◌, ◌++◌, Bool, true, false, List, length, ℤ, pos, ◌*ℤ◌, ◌≤ℤ◌, ◌<ℤ◌, ap, ap₂, arith, sym, subst, ◌∙◌}
+use Rattle.std.proofs.Common.{◌≡◌, ◌≢◌, ◌⊎◌, ◌++◌, Bool, true, false, List, ℤ, pos, ◌*ℤ◌, ◌≤ℤ◌, ◌<ℤ◌, ap, ap₂, arith, sym, subst, ◌∙◌, ℕ}
 use Rattle.std.specs.Int.{int_max}
 use Rattle.std.specs.List.{Contains}
 use Rattle.std.proofs.lemmas.Int.{ints, clamps}
@@ -16,6 +16,7 @@ use Rattle.overlay.specs.declared.fill.rules.Operation.{Operation}
 use Rattle.overlay.specs.Fill.Counts.{Counts, is_over, is_lower_on, counts_below, counts_above, kept_edges}
 use Rattle.overlay.specs.Fill.Filled.{AreNoded, AreDistinct}
 use Rattle.overlay.specs.Fill.Pieces.{ArePieces}
+use Rattle.overlay.specs.Fill.Sweep.{WeighUpto}
 use Rattle.overlay.specs.Fill.Rules.{is_result}
 use Rattle.plane.specs.Ends.{reversed}
 use Rattle.noding.specs.Windings.{winding, IsClosed, count}
@@ -93,11 +94,11 @@ module _ (subject clip : List Edge) (closed : IsClosed subject) (clip_closed : I
       → counts_below subject clip g ≡ record { subject = pos 0; clip = pos 0 }
   counts-first g lowest = next.counts-first subject clip closed clip_closed noded pieces are g lowest
 
-  -- Counts below and above a piece are no further from 0 than there are edges.
-  pub counts-small : (g : Piece) → Contains pieces g
-      → IsWithin (length subject) (counts_below subject clip g).subject × IsWithin (length subject) (counts_above subject clip g).subject
-      × IsWithin (length clip) (counts_below subject clip g).clip × IsWithin (length clip) (counts_above subject clip g).clip
-  counts-small g among = small.counts-small subject clip pieces are g among
+  -- Counts below and above a piece are no further from 0 than what pieces weigh, whichever of them are asked for.
+  pub counts-small : (most : ℕ) → WeighUpto most pieces → (g : Piece) → Contains pieces g
+      → IsWithin most (counts_below subject clip g).subject × IsWithin most (counts_above subject clip g).subject
+      × IsWithin most (counts_below subject clip g).clip × IsWithin most (counts_above subject clip g).clip
+  counts-small most weigh g among = small.counts-small subject clip pieces are g most weigh among
 
   -- ---- the edges kept
 

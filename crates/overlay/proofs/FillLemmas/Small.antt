@@ -1,5 +1,5 @@
--- Counts are no further from 0 than there are edges.
-use Rattle.std.proofs.Common.{◌≡◌, ◌≢◌, ℕ, suc, ℤ, pos, negsuc, ◌+ℤ◌, Bool, true, false, cond, ◌&&◌, List, [], ◌∷◌, length, refl, ap, arith, sym, subst, ◌∙◌}
+-- Counts are no further from 0 than what pieces weigh, whichever of them are asked for.
+use Rattle.std.proofs.Common.{◌≡◌, ◌≢◌, ℕ, suc, ℤ, pos, negsuc, ◌+ℤ◌, Bool, true, false, cond, ◌&&◌, ◌||◌, List, [], ◌∷◌, length, refl, ap, arith, sym, subst, ◌∙◌}
 use Rattle.std.specs.Int.Signed.{lt_z}
 use Rattle.std.specs.List.{Contains}
 use Rattle.std.specs.Ordering.{int_eq}
@@ -11,11 +11,13 @@ use Rattle.plane.specs.SweepLine.Heights.{rightwards}
 use Rattle.overlay.specs.declared.fill.pieces.Piece.{Piece}
 use Rattle.overlay.specs.Fill.Counts.{is_over, is_lower_on, below_on, counts_below, counts_above}
 use Rattle.overlay.specs.Fill.Pieces.{total, weight, AreJoined, ArePieces}
+use Rattle.overlay.specs.Fill.Sweep.{WeighUpto}
+use Rattle.overlay.specs.Fill.Turned.{asked}
 use Rattle.overlay.proofs.FillLemmas.Next.{total-but}
 use Rattle.overlay.proofs.FillLemmas.Order.{lower-irrefl}
 use Rattle.overlay.proofs.FillLemmas.Premises.{All-among}
 use Rattle.overlay.proofs.FillLemmas.Tests.{int_eq-true}
-use Rattle.overlay.proofs.FillLemmas.Totals.{total-sum, total-none}
+use Rattle.overlay.proofs.FillLemmas.Totals.{total-none, total-same, total-sum}
 use Rattle.noding.proofs.SnapLemmas.Hobby.Ends.{edges-same}
 use Rattle.plane.specs.Meet.Crosses.{IsWithin}
 
@@ -33,12 +35,12 @@ more_bounds n a b first second =
     }
 
 -- so a sum lies between minus the number of terms and this number
-total-bounds : {X : Type 0} (f : X → ℤ) (xs : List X) → ((x : X) → IsWithin 1 (f x)) → IsWithin (length xs) (total f xs)
+pub total-bounds : {X : Type 0} (f : X → ℤ) (xs : List X) → ((x : X) → IsWithin 1 (f x)) → IsWithin (length xs) (total f xs)
 total-bounds f [] each = record { from = omega (arith, ints); upto = omega (arith, ints) }
 total-bounds f (x ∷ xs) each = more_bounds (length xs) (f x) (total f xs) (each x) (total-bounds f xs each)
 
 -- weights, and parts of them, lie between -1 and 1
-unit_zero : IsWithin 1 (pos 0)
+pub unit_zero : IsWithin 1 (pos 0)
 unit_zero = record { from = omega (arith, ints); upto = omega (arith, ints) }
 
 -- a weight is 1, -1 or 0
@@ -50,7 +52,7 @@ unit_weight edge = by (lt_z edge.x0 edge.x1) (lt_z edge.x1 edge.x0)
     by false true = record { from = omega (arith, ints); upto = omega (arith, ints) }
     by false false = unit_zero
 
-unit_part : (t : Bool) (w : ℤ) → IsWithin 1 w → IsWithin 1 (cond t w (pos 0))
+pub unit_part : (t : Bool) (w : ℤ) → IsWithin 1 w → IsWithin 1 (cond t w (pos 0))
 unit_part true w is = is
 unit_part false w is = unit_zero
 
@@ -61,12 +63,12 @@ no_more w = omega (arith, ints)
 no_less : (w : ℤ) → (pos 0 +ℤ w) ≡ w
 no_less w = omega (arith, ints)
 
--- one of two parts, where both are never taken
-unit_parts : (s t : Bool) (w : ℤ) → IsWithin 1 w → (s ≡ true → t ≡ true → ⊥) → IsWithin 1 (cond s w (pos 0) +ℤ cond t w (pos 0))
-unit_parts true true w is never = absurd (never refl refl)
-unit_parts true false w is never = subst (IsWithin 1) (sym (no_more w)) is
-unit_parts false true w is never = subst (IsWithin 1) (sym (no_less w)) is
-unit_parts false false w is never = unit_zero
+-- of two parts of which both are never taken
+one_of : (s t : Bool) (w : ℤ) → (s ≡ true → t ≡ true → ⊥) → (cond s w (pos 0) +ℤ cond t w (pos 0)) ≡ cond (s || t) w (pos 0)
+one_of true true w never = absurd (never refl refl)
+one_of true false w never = no_more w
+one_of false true w never = no_less w
+one_of false false w never = refl
 
 -- ---- whether two edges are one
 
@@ -96,10 +98,6 @@ module _ (subject clip : List Edge) (pieces : List Piece) (are : ArePieces subje
   abbrev of_g : Edge → ℤ
   of_g edge = cond (same_edge (rightwards edge) g.edge) (weight edge) (pos 0)
 
-  -- what is below it is small
-  small-below : (edges : List Edge) → IsWithin (length edges) (total below edges)
-  small-below edges = total-bounds below edges (λ edge. unit_part (is_over g.edge.x0 (rightwards edge) && is_lower_on g.edge.x0 (rightwards edge) g.edge) (weight edge) (unit_weight edge))
-
   -- g weighs what the edges with its edge do
   weight-of : (edges : List Edge) (weigh : Piece → ℤ) → AreJoined edges weigh pieces → Contains pieces g → total of_g edges ≡ weigh g
   weight-of edges weigh joined among =
@@ -125,19 +123,28 @@ module _ (subject clip : List Edge) (pieces : List Piece) (are : ArePieces subje
       never true none some = cc
       never false none some = cc
 
-  -- and so is what is above it
-  small-above : (edges : List Edge) (weigh : Piece → ℤ) → AreJoined edges weigh pieces → Contains pieces g → IsWithin (length edges) (total below edges +ℤ weigh g)
-  small-above edges weigh joined among =
-      subst (IsWithin (length edges)) (total-sum below of_g edges ∙ ap (λ z. total below edges +ℤ z) (weight-of edges weigh joined among))
-      (total-bounds (λ edge. below edge +ℤ of_g edge) edges
-      (λ edge. unit_parts (is_over g.edge.x0 (rightwards edge) && is_lower_on g.edge.x0 (rightwards edge) g.edge) (same_edge (rightwards edge) g.edge) (weight edge) (unit_weight edge) (apart edge)))
+  -- what is below it or has its edge
+  abbrev upto_g : Edge → Bool
+  upto_g edge = (is_over g.edge.x0 edge && is_lower_on g.edge.x0 edge g.edge) || same_edge edge g.edge
 
-  pub counts-small : Contains pieces g
-      → IsWithin (length subject) (counts_below subject clip g).subject × IsWithin (length subject) (counts_above subject clip g).subject
-      × IsWithin (length clip) (counts_below subject clip g).clip × IsWithin (length clip) (counts_above subject clip g).clip
-  counts-small among = (
-    small-below subject,
-    small-above subject (λ piece. piece.subject) are.joined among,
-    small-below clip,
-    small-above clip (λ piece. piece.clip) are.clip_joined among,
+  -- what is above it is what the pieces below it and it weigh
+  above-is : (edges : List Edge) (weigh : Piece → ℤ) → AreJoined edges weigh pieces → Contains pieces g → (total below edges +ℤ weigh g) ≡ total (asked upto_g weigh) pieces
+  above-is edges weigh joined among =
+      ap (λ z. total below edges +ℤ z) (sym (weight-of edges weigh joined among)) ∙ sym (total-sum below of_g edges)
+      ∙ total-same (λ edge. below edge +ℤ of_g edge) (λ edge. cond (upto_g (rightwards edge)) (weight edge) (pos 0)) edges
+      (All-among (λ edge. (below edge +ℤ of_g edge) ≡ cond (upto_g (rightwards edge)) (weight edge) (pos 0)) edges
+      (λ edge inside. one_of (is_over g.edge.x0 (rightwards edge) && is_lower_on g.edge.x0 (rightwards edge) g.edge) (same_edge (rightwards edge) g.edge) (weight edge) (apart edge)))
+      ∙ joined upto_g
+
+  pub counts-small : (most : ℕ) → WeighUpto most pieces → Contains pieces g
+      → IsWithin most (counts_below subject clip g).subject × IsWithin most (counts_above subject clip g).subject
+      × IsWithin most (counts_below subject clip g).clip × IsWithin most (counts_above subject clip g).clip
+  counts-small most small among = (
+    subst (IsWithin most) (sym (are.joined lower_g)) (small lower_g).0,
+    subst (IsWithin most) (sym (above-is subject (λ piece. piece.subject) are.joined among)) (small upto_g).0,
+    subst (IsWithin most) (sym (are.clip_joined lower_g)) (small lower_g).1,
+    subst (IsWithin most) (sym (above-is clip (λ piece. piece.clip) are.clip_joined among)) (small upto_g).1,
   )
+    where
+      lower_g : Edge → Bool
+      lower_g edge = is_over g.edge.x0 edge && is_lower_on g.edge.x0 edge g.edge

@@ -1,12 +1,12 @@
 -- The sides of rings as the pieces of a fill.
-use Rattle.std.proofs.Common.{◌≡◌, ◌≢◌, ◌<◌, ◌^◌, ◌≤◌, ◌++◌, [], ◌∷◌, ℕ, Bool, true, false, cond, List, length, get_or, refl, sym, subst, ◌∙◌, append-nil, arith}
+use Rattle.std.proofs.Common.{◌≡◌, ◌≢◌, ◌<◌, ◌*◌, ◌^◌, ◌≤◌, ◌++◌, [], ◌∷◌, ℕ, Bool, true, false, cond, List, length, get_or, refl, sym, subst, ◌∙◌, append-nil, arith}
 use Rattle.std.specs.List.{All, AllPairs, Contains}
 use Rattle.std.specs.List.Sorted.{IsPermutation}
 use Rattle.std.specs.Ordering.{int_eq}
-use Rattle.std.proofs.lemmas.Int.{ints}
+use Rattle.std.proofs.Math.Nat.{mul-le-mul_left}
 use Rattle.std.proofs.lemmas.List.Elements.{All-contains, All-contains_itself, All-weaker}
 use Rattle.std.proofs.lemmas.List.Kept.{AllPairs-cons}
-use Rattle.std.proofs.lemmas.List.Sorted.{IsPermutation-refl}
+use Rattle.std.proofs.lemmas.List.Sorted.{IsPermutation-refl, length_permutation}
 use Rattle.i_tree.proofs.RootLemmas.Lists.{AllPairs-head, AllPairs-tail}
 use Rattle.plane.specs.declared.edge.Edge.{Edge}
 use Rattle.plane.proofs.PairsLemmas.Bags.{AllPairs-permutation}
@@ -15,10 +15,11 @@ use Rattle.overlay.specs.declared.fill.pieces.Operand.TheVariants.{Subject}
 use Rattle.overlay.specs.Fill.Filled.{AreDistinct, AreNoded, HaveSameEnds}
 use Rattle.overlay.specs.Fill.Begins.{BeginInOrder}
 use Rattle.overlay.specs.Fill.Sweep.{AreFillPieces}
-use Rattle.overlay.specs.Fill.Turned.{AreJoinOf, AreTurned, IsSmall, piece_of, turned}
+use Rattle.overlay.specs.Fill.Turned.{AreJoinOf, AreTurned, StandFor, piece_of, turned}
 use Rattle.noding.specs.Windings.{IsClosed}
 use Rattle.overlay.proofs.KeptLemmas.First.{turned-same}
-use Rattle.overlay.proofs.PieceLemmas.Made.{AreTurned-all, IsTurned, joined-pieces, turned-units}
+use Rattle.overlay.proofs.PieceLemmas.Joined.{small-wider}
+use Rattle.overlay.proofs.PieceLemmas.Made.{AreTurned-all, IsTurned, joined-pieces, joined-weigh, stand-turned, turned-length}
 use Rattle.overlay.specs.Grouping.{AreSides, pieces_of}
 use Rattle.overlay.specs.declared.grouping.sides.Side.{Side}
 
@@ -48,23 +49,18 @@ distinct-pieces (edge ∷ edges) distinct =
 
 -- ---- as pieces of a fill
 
-wider : (most more : ℕ) → most ≤ more → (piece : Piece) → IsSmall most piece → IsSmall more piece
-wider most more upto piece small =
-    let a = small.from in
-    let b = small.upto in
-    let c = small.clip_from in
-    let d = small.clip_upto in
-    record { from = omega (arith, ints, upto, a); upto = omega (arith, ints, upto, b); clip_from = omega (arith, ints, upto, c); clip_upto = omega (arith, ints, upto, d) }
+some : (most n : ℕ) → 0 < n → most ≤ most * n
+some most n more = let step : most * 1 ≤ most * n = mul-le-mul_left most (omega (arith, more)) in omega (arith, step)
 
-join-none : (pieces : List Piece) → BeginInOrder pieces → AllPairs Differ pieces → All (IsSmall 1) pieces → AreJoinOf pieces pieces
-join-none pieces order distinct units = record {
+join-none : (pieces : List Piece) → BeginInOrder pieces → AllPairs Differ pieces → AreJoinOf pieces pieces
+join-none pieces order distinct = record {
   subject = λ test. refl;
   clip = λ test. refl;
   of = All-weaker (Contains pieces) (λ piece. (other : Piece) × Contains pieces other × (other.edge ≡ piece.edge)) (λ piece held. (piece, held, refl)) pieces (All-contains_itself pieces);
   order = order;
   distinct = distinct;
   few = omega arith;
-  small = λ k d within. wider 1 (length pieces) (omega (arith, within)) (get_or pieces k d) (units k d within);
+  small = λ most are k d within. small-wider most (most * length pieces) (get_or pieces k d) (some most (length pieces) (omega (arith, within))) (are k d within);
 }
 
 differ-exchanged : (one other : Piece) → Differ one other → Differ other one
@@ -77,11 +73,21 @@ AreFillPieces-sides edges count sides closed noded distinct of countable = recor
   closed = closed;
   clip_closed = λ test. refl;
   noded = subst AreNoded (sym (append-nil edges)) noded;
-  are = joined-pieces edges [] (pieces_of sides) (pieces_of sides) turned_all
-      (join-none (pieces_of sides) of.order (AllPairs-permutation Differ differ-exchanged (turned Subject edges) (pieces_of sides) of.pieces (distinct-pieces edges distinct)) (turned-units (edges ++ []) (pieces_of sides) (AreTurned-all edges [] (pieces_of sides) turned_all)));
+  are = joined-pieces edges [] (pieces_of sides) (pieces_of sides) stand alone;
   order = of.order;
-  countable = omega (arith, countable);
+  most = stand.most * length (pieces_of sides);
+  weigh = joined-weigh stand.most (pieces_of sides) (pieces_of sides) stand.small alone;
+  countable = stand.countable;
 }
   where
     turned_all : AreTurned edges [] (pieces_of sides)
     turned_all = subst (λ (list : List Piece). IsPermutation list (pieces_of sides)) (sym (append-nil (turned Subject edges))) of.pieces
+
+    few : length (pieces_of sides) < 2 ^ 63
+    few = let same = length_permutation (turned Subject edges) (pieces_of sides) of.pieces in let most = turned-length Subject edges in omega (arith, same, most, countable)
+
+    stand : StandFor edges [] (pieces_of sides)
+    stand = stand-turned edges [] (pieces_of sides) turned_all few
+
+    alone : AreJoinOf (pieces_of sides) (pieces_of sides)
+    alone = join-none (pieces_of sides) of.order (AllPairs-permutation Differ differ-exchanged (turned Subject edges) (pieces_of sides) of.pieces (distinct-pieces edges distinct))

@@ -68,7 +68,7 @@ module _ (inside : Counts → Bool) (pieces : List Piece) (fill : AreFillPieces 
     where
       fit : Fits (below_of pieces piece) piece
       fit =
-          let small = counts-small fill.subject fill.clip fill.closed fill.clip_closed fill.noded pieces fill.are piece (held pieces fill k within) in
+          let small = counts-small fill.subject fill.clip fill.closed fill.clip_closed fill.noded pieces fill.are fill.most fill.weigh piece (held pieces fill k within) in
           let subject = ap (λ (c : Counts). c.subject) (above-edges pieces fill piece) in
           let clip = ap (λ (c : Counts). c.clip) (above-edges pieces fill piece) in
           let countable = fill.countable in

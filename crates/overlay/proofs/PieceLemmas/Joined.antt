@@ -1,10 +1,11 @@
 -- Pieces of one edge that stand one after another, joined one by one.
-use Rattle.std.proofs.Common.{◌≡◌, ◌≢◌, ◌<◌, ◌≤◌, ◌+◌, ◌-◌, ◌++◌, [], ◌∷◌, inl, inr, Bool, true, false, cond, ℕ, ℤ, pos, ◌+ℤ◌, List, length, take, drop, get_or, refl, ap, ap₂, sym, subst, suc, zero, ◌∙◌, ◌^◌, arith}
+use Rattle.std.proofs.Common.{◌≡◌, ◌≢◌, ◌<◌, ◌≤◌, ◌+◌, ◌-◌, ◌++◌, [], ◌∷◌, inl, inr, Bool, true, false, cond, ℕ, ℤ, pos, ◌+ℤ◌, List, length, take, drop, get_or, ◌*◌, refl, ap, ap₂, sym, subst, suc, zero, ◌∙◌, ◌^◌, arith}
 use Rattle.std.specs.List.{All, AllPairs, Contains, slice_set}
 use Rattle.std.proofs.Math.Seq.{set-append_seam}
+use Rattle.std.proofs.Math.Nat.{mul-le-mul_left}
 use Rattle.std.proofs.lemmas.Bool.{cases_lt}
 use Rattle.std.proofs.lemmas.Int.{ints}
-use Rattle.std.proofs.lemmas.List.{drop-drop, get_or_default, get_or-drop, take_all, take_more, length-append, length-take-le, get_or-take}
+use Rattle.std.proofs.lemmas.List.{drop-drop, get_or_default, get_or-drop, take-append-drop, take_all, take_more, length-append, length-take-le, get_or-take}
 use Rattle.std.proofs.lemmas.List.Elements.{All-append, Contains-get_or, Contains-append_left, Contains-push}
 use Rattle.i_tree.proofs.RootLemmas.Joined.{All-front, AllPairs-front, AllPairs-across, AllPairs-append}
 use Rattle.plane.specs.declared.edge.Edge.{Edge}
@@ -58,126 +59,141 @@ both false a b = refl
 moved : (a b c d : ℤ) → a ≡ (b +ℤ c) → (a +ℤ d) ≡ (b +ℤ (c +ℤ d))
 moved a b c d is = omega (arith, ints, is)
 
+pub small-wider : (n m : ℕ) (one : Piece) → n ≤ m → IsSmall n one → IsSmall m one
+small-wider n m one more is =
+    let a = is.from in
+    let b = is.upto in
+    let c = is.clip_from in
+    let d = is.clip_upto in
+    record { from = omega (arith, ints, more, a); upto = omega (arith, ints, more, b); clip_from = omega (arith, ints, more, c); clip_upto = omega (arith, ints, more, d) }
+
 module _ (done : List Piece) (piece : Piece)
     (upto : All (λ other. BeginsUpto other.edge piece.edge) done)
     (apart : (other : Piece) → Contains done other → BeginsUpto other.edge piece.edge → BeginsUpto piece.edge other.edge → other.edge ≡ piece.edge)
-    (small : IsSmall 1 piece) where
-  abbrev all : List Piece
-  all = done ++ piece ∷ []
+  where
+    abbrev all : List Piece
+    all = done ++ piece ∷ []
 
-  wider : (joined : List Piece) → All (λ one. (other : Piece) × Contains done other × (other.edge ≡ one.edge)) joined → All (λ one. (other : Piece) × Contains all other × (other.edge ≡ one.edge)) joined
-  wider joined of k d within = let (other, inside, is) = of k d within in (other, Contains-append_left done (piece ∷ []) other inside, is)
+    wider : (joined : List Piece) → All (λ one. (other : Piece) × Contains done other × (other.edge ≡ one.edge)) joined → All (λ one. (other : Piece) × Contains all other × (other.edge ≡ one.edge)) joined
+    wider joined of k d within = let (other, inside, is) = of k d within in (other, Contains-append_left done (piece ∷ []) other inside, is)
 
-  small-wider : (n m : ℕ) (one : Piece) → n ≤ m → IsSmall n one → IsSmall m one
-  small-wider n m one more is =
-      let a = is.from in
-      let b = is.upto in
-      let c = is.clip_from in
-      let d = is.clip_upto in
-      record { from = omega (arith, ints, more, a); upto = omega (arith, ints, more, b); clip_from = omega (arith, ints, more, c); clip_upto = omega (arith, ints, more, d) }
+    all-length : length all ≡ length done + 1
+    all-length = length-append done (piece ∷ [])
 
-  all-length : length all ≡ length done + 1
-  all-length = length-append done (piece ∷ [])
+    all_times : (most : ℕ) → most * length all ≡ most * length done + most
+    all_times most = let n = ap (λ (k : ℕ). most * k) all-length in omega (arith, n)
 
-  all_small : (joined : List Piece) → All (IsSmall (length done)) joined → All (IsSmall (length all)) joined
-  all_small joined are k d within = small-wider (length done) (length all) (get_or joined k d) (let n = all-length in omega (arith, n)) (are k d within)
+    all_small : (most : ℕ) (joined : List Piece) → All (IsSmall (most * length done)) joined → All (IsSmall (most * length all)) joined
+    all_small most joined are k d within = small-wider (most * length done) (most * length all) (get_or joined k d) (let n = all_times most in omega (arith, n)) (are k d within)
 
-  -- a piece that has been joined doesn't begin behind the new one
-  before : (joined : List Piece) → AreJoinOf done joined → All (λ one. BeginsUpto one.edge piece.edge) joined
-  before joined is k d within =
-      let (other, (i, inside, at), same) = is.of k d within in
-      subst (λ (edge : Edge). BeginsUpto edge piece.edge) (ap (λ (p : Piece). p.edge) at ∙ same) (upto i other inside)
+    -- those that are done, and the new one
+    done_small : (most : ℕ) → All (IsSmall most) all → All (IsSmall most) done
+    done_small most are = All-front (IsSmall most) done (piece ∷ []) are
 
-  alone : (P : Piece → Type 0) (one : Piece) → P one → All P (one ∷ [])
-  alone P one is zero d within = is
-  alone P one is (suc k) d within = absurd (omega (arith, within))
+    new_small : (most : ℕ) → All (IsSmall most) all → IsSmall most piece
+    new_small most are = let (k, within, at) = Contains-push done piece in subst (IsSmall most) at (are k piece within)
 
-  single : (R : Piece → Piece → Type 0) (one : Piece) → AllPairs R (one ∷ [])
-  single R one i j d less within = absurd (omega (arith, less, within))
+    -- a piece that has been joined doesn't begin behind the new one
+    before : (joined : List Piece) → AreJoinOf done joined → All (λ one. BeginsUpto one.edge piece.edge) joined
+    before joined is k d within =
+        let (other, (i, inside, at), same) = is.of k d within in
+        subst (λ (edge : Edge). BeginsUpto edge piece.edge) (ap (λ (p : Piece). p.edge) at ∙ same) (upto i other inside)
 
-  -- behind the others
-  pushed : (joined : List Piece) → AreJoinOf done joined → ¬ (EndIn joined piece.edge) → AreJoinOf all (joined ++ piece ∷ [])
-  pushed joined is differs = record {
-    subject = λ test. total-more (asked test (λ p. p.subject)) done piece ∙ ap (λ (z : ℤ). z +ℤ asked test (λ p. p.subject) piece) (is.subject test) ∙ sym (total-more (asked test (λ p. p.subject)) joined piece);
-    clip = λ test. total-more (asked test (λ p. p.clip)) done piece ∙ ap (λ (z : ℤ). z +ℤ asked test (λ p. p.clip) piece) (is.clip test) ∙ sym (total-more (asked test (λ p. p.clip)) joined piece);
-    of = All-append (λ one. (other : Piece) × Contains all other × (other.edge ≡ one.edge)) joined (piece ∷ []) (wider joined is.of) (alone (λ one. (other : Piece) × Contains all other × (other.edge ≡ one.edge)) piece (piece, Contains-push done piece, refl));
-    order = AllPairs-append (λ one other. BeginsUpto one.edge other.edge) joined (piece ∷ []) is.order (single (λ one other. BeginsUpto one.edge other.edge) piece) (λ k d within. alone (λ other. BeginsUpto (get_or joined k d).edge other.edge) piece (before joined is k d within));
-    distinct = AllPairs-append (λ one other. one.edge ≢ other.edge) joined (piece ∷ []) is.distinct (single (λ one other. one.edge ≢ other.edge) piece) (λ k d within. alone (λ other. (get_or joined k d).edge ≢ other.edge) piece (differ k d within));
-    few = (let n = all-length in let m = length-append joined (piece ∷ []) in let f = is.few in omega (arith, n, m, f));
-    small = All-append (IsSmall (length all)) joined (piece ∷ []) (all_small joined is.small) (alone (IsSmall (length all)) piece (small-wider 1 (length all) piece (let n = all-length in omega (arith, n)) small));
-  }
-    where
-      end_differs : (d : Piece) → 0 < length joined → (get_or joined (length joined - 1) d).edge ≢ piece.edge
-      end_differs d some same = differs (some, λ e. ap (λ (p : Piece). p.edge) (get_or_default joined (length joined - 1) e d (omega (arith, some))) ∙ same)
+    alone : (P : Piece → Type 0) (one : Piece) → P one → All P (one ∷ [])
+    alone P one is zero d within = is
+    alone P one is (suc k) d within = absurd (omega (arith, within))
 
-      -- one before the last that is of the new one's edge begins as the last does
-      differ : (k : ℕ) (d : Piece) → k < length joined → (get_or joined k d).edge ≢ piece.edge
-      differ k d within same = elim (cases_lt (k + 1) (length joined)) [
-        | inl more ↦
-            let n = length joined - 1 in
-            let inside : n < length joined = omega (arith, within) in
-            let upto_last : BeginsUpto (get_or joined k d).edge (get_or joined n d).edge = is.order k n d (omega (arith, more)) inside in
-            let back : BeginsUpto piece.edge (get_or joined n d).edge = subst (λ (edge : Edge). BeginsUpto edge (get_or joined n d).edge) same upto_last in
-            let (other, held, of) = is.of n d inside in
-            end_differs d (omega (arith, within)) (sym of ∙ apart other held
-            (subst (λ (edge : Edge). BeginsUpto edge piece.edge) (sym of) (before joined is n d inside))
-            (subst (λ (edge : Edge). BeginsUpto piece.edge edge) (sym of) back))
-        | inr most ↦
-            let is_last : k ≡ length joined - 1 = omega (arith, most, within) in
-            end_differs d (omega (arith, within)) (ap (λ (n : ℕ). (get_or joined n d).edge) (sym is_last) ∙ same)
-      ]
+    single : (R : Piece → Piece → Type 0) (one : Piece) → AllPairs R (one ∷ [])
+    single R one i j d less within = absurd (omega (arith, less, within))
 
-  -- to the last of the others
-  merged : (front : List Piece) (last : Piece) → AreJoinOf done (front ++ last ∷ []) → last.edge ≡ piece.edge → AreJoinOf all (front ++ sum_of last piece ∷ [])
-  merged front last is same = record {
-    subject = λ test. sums test (λ p. p.subject) (both (test last.edge) last.subject piece.subject) (is.subject test);
-    clip = λ test. sums test (λ p. p.clip) (both (test last.edge) last.clip piece.clip) (is.clip test);
-    of = changed (λ one. (other : Piece) × Contains all other × (other.edge ≡ one.edge)) (wider (front ++ last ∷ []) is.of) (λ held. held);
-    order = paired (λ one other. BeginsUpto one.edge other.edge) is.order (λ one held. held);
-    distinct = paired (λ one other. one.edge ≢ other.edge) is.distinct (λ one held. held);
-    few = (let n = all-length in let m = length-append front (last ∷ []) in let k = length-append front (sum_of last piece ∷ []) in let f = is.few in omega (arith, n, m, k, f));
-    small = All-append (IsSmall (length all)) front (sum_of last piece ∷ []) (All-front (IsSmall (length all)) front (last ∷ []) (all_small (front ++ last ∷ []) is.small)) (alone (IsSmall (length all)) (sum_of last piece) grown);
-  }
-    where
-      sums : (test : Edge → Bool) (weigh : Piece → ℤ) → asked test weigh (sum_of last piece) ≡ (cond (test last.edge) (weigh last) (pos 0) +ℤ cond (test last.edge) (weigh piece) (pos 0))
-          → total (asked test weigh) done ≡ total (asked test weigh) (front ++ last ∷ []) → total (asked test weigh) all ≡ total (asked test weigh) (front ++ sum_of last piece ∷ [])
-      sums test weigh parts so_far =
-          total-more (asked test weigh) done piece
-          ∙ moved (total (asked test weigh) done) (total (asked test weigh) front) (asked test weigh last) (asked test weigh piece) (so_far ∙ total-more (asked test weigh) front last)
-          ∙ ap (λ (z : ℤ). total (asked test weigh) front +ℤ z) (ap (λ (edge : Edge). asked test weigh last +ℤ cond (test edge) (weigh piece) (pos 0)) (sym same) ∙ sym parts)
-          ∙ sym (total-more (asked test weigh) front (sum_of last piece))
+    -- behind the others
+    pushed : (joined : List Piece) → AreJoinOf done joined → ¬ (EndIn joined piece.edge) → AreJoinOf all (joined ++ piece ∷ [])
+    pushed joined is differs = record {
+      subject = λ test. total-more (asked test (λ p. p.subject)) done piece ∙ ap (λ (z : ℤ). z +ℤ asked test (λ p. p.subject) piece) (is.subject test) ∙ sym (total-more (asked test (λ p. p.subject)) joined piece);
+      clip = λ test. total-more (asked test (λ p. p.clip)) done piece ∙ ap (λ (z : ℤ). z +ℤ asked test (λ p. p.clip) piece) (is.clip test) ∙ sym (total-more (asked test (λ p. p.clip)) joined piece);
+      of = All-append (λ one. (other : Piece) × Contains all other × (other.edge ≡ one.edge)) joined (piece ∷ []) (wider joined is.of) (alone (λ one. (other : Piece) × Contains all other × (other.edge ≡ one.edge)) piece (piece, Contains-push done piece, refl));
+      order = AllPairs-append (λ one other. BeginsUpto one.edge other.edge) joined (piece ∷ []) is.order (single (λ one other. BeginsUpto one.edge other.edge) piece) (λ k d within. alone (λ other. BeginsUpto (get_or joined k d).edge other.edge) piece (before joined is k d within));
+      distinct = AllPairs-append (λ one other. one.edge ≢ other.edge) joined (piece ∷ []) is.distinct (single (λ one other. one.edge ≢ other.edge) piece) (λ k d within. alone (λ other. (get_or joined k d).edge ≢ other.edge) piece (differ k d within));
+      few = (let n = all-length in let m = length-append joined (piece ∷ []) in let f = is.few in omega (arith, n, m, f));
+      small = λ most are.
+          All-append (IsSmall (most * length all)) joined (piece ∷ []) (all_small most joined (is.small most (done_small most are)))
+          (alone (IsSmall (most * length all)) piece (small-wider most (most * length all) piece (let n = all_times most in omega (arith, n)) (new_small most are)));
+    }
+      where
+        end_differs : (d : Piece) → 0 < length joined → (get_or joined (length joined - 1) d).edge ≢ piece.edge
+        end_differs d some same = differs (some, λ e. ap (λ (p : Piece). p.edge) (get_or_default joined (length joined - 1) e d (omega (arith, some))) ∙ same)
 
-      changed : (P : Piece → Type 0) → All P (front ++ last ∷ []) → (P last → P (sum_of last piece)) → All P (front ++ sum_of last piece ∷ [])
-      changed P are keeps = All-append P front (sum_of last piece ∷ []) (All-front P front (last ∷ []) are) (alone P (sum_of last piece) (keeps (at_end P are)))
-        where
-          at_end : (P : Piece → Type 0) → All P (front ++ last ∷ []) → P last
-          at_end P are = let (k, within, at) = Contains-push front last in subst P at (are k last within)
+        -- one before the last that is of the new one's edge begins as the last does
+        differ : (k : ℕ) (d : Piece) → k < length joined → (get_or joined k d).edge ≢ piece.edge
+        differ k d within same = elim (cases_lt (k + 1) (length joined)) [
+          | inl more ↦
+              let n = length joined - 1 in
+              let inside : n < length joined = omega (arith, within) in
+              let upto_last : BeginsUpto (get_or joined k d).edge (get_or joined n d).edge = is.order k n d (omega (arith, more)) inside in
+              let back : BeginsUpto piece.edge (get_or joined n d).edge = subst (λ (edge : Edge). BeginsUpto edge (get_or joined n d).edge) same upto_last in
+              let (other, held, of) = is.of n d inside in
+              end_differs d (omega (arith, within)) (sym of ∙ apart other held
+              (subst (λ (edge : Edge). BeginsUpto edge piece.edge) (sym of) (before joined is n d inside))
+              (subst (λ (edge : Edge). BeginsUpto piece.edge edge) (sym of) back))
+          | inr most ↦
+              let is_last : k ≡ length joined - 1 = omega (arith, most, within) in
+              end_differs d (omega (arith, within)) (ap (λ (n : ℕ). (get_or joined n d).edge) (sym is_last) ∙ same)
+        ]
 
-      paired : (R : Piece → Piece → Type 0) → AllPairs R (front ++ last ∷ []) → ((one : Piece) → R one last → R one (sum_of last piece)) → AllPairs R (front ++ sum_of last piece ∷ [])
-      paired R are keeps =
-          AllPairs-append R front (sum_of last piece ∷ []) (AllPairs-front R front (last ∷ []) are) (single R (sum_of last piece))
-          (λ k d within. alone (R (get_or front k d)) (sum_of last piece) (keeps (get_or front k d) (AllPairs-across R front (last ∷ []) are k d within 0 last (omega arith))))
+    -- to the last of the others
+    merged : (front : List Piece) (last : Piece) → AreJoinOf done (front ++ last ∷ []) → last.edge ≡ piece.edge → AreJoinOf all (front ++ sum_of last piece ∷ [])
+    merged front last is same = record {
+      subject = λ test. sums test (λ p. p.subject) (both (test last.edge) last.subject piece.subject) (is.subject test);
+      clip = λ test. sums test (λ p. p.clip) (both (test last.edge) last.clip piece.clip) (is.clip test);
+      of = changed (λ one. (other : Piece) × Contains all other × (other.edge ≡ one.edge)) (wider (front ++ last ∷ []) is.of) (λ held. held);
+      order = paired (λ one other. BeginsUpto one.edge other.edge) is.order (λ one held. held);
+      distinct = paired (λ one other. one.edge ≢ other.edge) is.distinct (λ one held. held);
+      few = (let n = all-length in let m = length-append front (last ∷ []) in let k = length-append front (sum_of last piece ∷ []) in let f = is.few in omega (arith, n, m, k, f));
+      small = λ most are.
+          All-append (IsSmall (most * length all)) front (sum_of last piece ∷ []) (All-front (IsSmall (most * length all)) front (last ∷ []) (all_small most (front ++ last ∷ []) (is.small most (done_small most are))))
+          (alone (IsSmall (most * length all)) (sum_of last piece) (grown most are));
+    }
+      where
+        sums : (test : Edge → Bool) (weigh : Piece → ℤ) → asked test weigh (sum_of last piece) ≡ (cond (test last.edge) (weigh last) (pos 0) +ℤ cond (test last.edge) (weigh piece) (pos 0))
+            → total (asked test weigh) done ≡ total (asked test weigh) (front ++ last ∷ []) → total (asked test weigh) all ≡ total (asked test weigh) (front ++ sum_of last piece ∷ [])
+        sums test weigh parts so_far =
+            total-more (asked test weigh) done piece
+            ∙ moved (total (asked test weigh) done) (total (asked test weigh) front) (asked test weigh last) (asked test weigh piece) (so_far ∙ total-more (asked test weigh) front last)
+            ∙ ap (λ (z : ℤ). total (asked test weigh) front +ℤ z) (ap (λ (edge : Edge). asked test weigh last +ℤ cond (test edge) (weigh piece) (pos 0)) (sym same) ∙ sym parts)
+            ∙ sym (total-more (asked test weigh) front (sum_of last piece))
 
-      grown : IsSmall (length all) (sum_of last piece)
-      grown =
-          let (k, within, at) = Contains-push front last in
-          let was = subst (IsSmall (length done)) at (is.small k last within) in
-          let a = was.from in
-          let b = was.upto in
-          let c = was.clip_from in
-          let d = was.clip_upto in
-          let e = small.from in
-          let f = small.upto in
-          let g = small.clip_from in
-          let h = small.clip_upto in
-          let n = all-length in
-          record { from = omega (arith, ints, n, a, e); upto = omega (arith, ints, n, b, f); clip_from = omega (arith, ints, n, c, g); clip_upto = omega (arith, ints, n, d, h) }
+        changed : (P : Piece → Type 0) → All P (front ++ last ∷ []) → (P last → P (sum_of last piece)) → All P (front ++ sum_of last piece ∷ [])
+        changed P are keeps = All-append P front (sum_of last piece ∷ []) (All-front P front (last ∷ []) are) (alone P (sum_of last piece) (keeps (at_end P are)))
+          where
+            at_end : (P : Piece → Type 0) → All P (front ++ last ∷ []) → P last
+            at_end P are = let (k, within, at) = Contains-push front last in subst P at (are k last within)
 
-  pub join-more : (joined after : List Piece) → AreJoinOf done joined → Adds piece joined after → AreJoinOf all after
-  join-more joined after is (inr (differs, at)) = subst (AreJoinOf all) (sym at) (pushed joined is differs)
-  join-more joined after is (inl ((some, same), at)) =
-      subst (AreJoinOf all) (sym (at ∙ set_last joined piece some (sum_of (get_or joined (length joined - 1) piece) piece)))
-      (merged (take (length joined - 1) joined) (get_or joined (length joined - 1) piece) (subst (AreJoinOf done) (split_last joined piece some) is) (same piece))
+        paired : (R : Piece → Piece → Type 0) → AllPairs R (front ++ last ∷ []) → ((one : Piece) → R one last → R one (sum_of last piece)) → AllPairs R (front ++ sum_of last piece ∷ [])
+        paired R are keeps =
+            AllPairs-append R front (sum_of last piece ∷ []) (AllPairs-front R front (last ∷ []) are) (single R (sum_of last piece))
+            (λ k d within. alone (R (get_or front k d)) (sum_of last piece) (keeps (get_or front k d) (AllPairs-across R front (last ∷ []) are k d within 0 last (omega arith))))
+
+        grown : (most : ℕ) → All (IsSmall most) all → IsSmall (most * length all) (sum_of last piece)
+        grown most are =
+            let (k, within, at) = Contains-push front last in
+            let was = subst (IsSmall (most * length done)) at (is.small most (done_small most are) k last within) in
+            let small = new_small most are in
+            let a = was.from in
+            let b = was.upto in
+            let c = was.clip_from in
+            let d = was.clip_upto in
+            let e = small.from in
+            let f = small.upto in
+            let g = small.clip_from in
+            let h = small.clip_upto in
+            let n = all_times most in
+            record { from = omega (arith, ints, n, a, e); upto = omega (arith, ints, n, b, f); clip_from = omega (arith, ints, n, c, g); clip_upto = omega (arith, ints, n, d, h) }
+
+    pub join-more : (joined after : List Piece) → AreJoinOf done joined → Adds piece joined after → AreJoinOf all after
+    join-more joined after is (inr (differs, at)) = subst (AreJoinOf all) (sym at) (pushed joined is differs)
+    join-more joined after is (inl ((some, same), at)) =
+        subst (AreJoinOf all) (sym (at ∙ set_last joined piece some (sum_of (get_or joined (length joined - 1) piece) piece)))
+        (merged (take (length joined - 1) joined) (get_or joined (length joined - 1) piece) (subst (AreJoinOf done) (split_last joined piece some) is) (same piece))
 
 -- what stands before a piece of a list in order
 module _ (pieces : List Piece) where
@@ -211,33 +227,36 @@ module _ (pieces now : List Piece) (place kept : ℕ) (is : AreJoinedUpto pieces
   stood : piece ≡ get_or pieces place piece
   stood = at ∙ same-at now pieces place is.rest piece
 
-  unit : All (IsSmall 1) pieces → IsSmall 1 piece
-  unit units = subst (IsSmall 1) (sym stood) (units place piece inside)
+  unit : (most : ℕ) → All (IsSmall most) pieces → IsSmall most piece
+  unit most small = subst (IsSmall most) (sym stood) (small place piece inside)
 
   -- so few small pieces can be added up
-  pub fit-next : All (IsSmall 1) pieces → length pieces < 2 ^ 63 → All (λ last. Fit last piece) (take kept now)
-  fit-next units few k d within =
-      let last = is.joined.small k d within in
+  pub fit-next : (most : ℕ) → All (IsSmall most) pieces → most * length pieces < 2 ^ 63 → All (λ last. Fit last piece) (take kept now)
+  fit-next most small few k d within =
+      let taken = All-front (IsSmall most) (take place pieces) (drop place pieces) (subst (All (IsSmall most)) (sym (take-append-drop place pieces)) small) in
+      let last = is.joined.small most taken k d within in
       let a = last.from in
       let b = last.upto in
       let e = last.clip_from in
       let f = last.clip_upto in
-      let g = (unit units).from in
-      let h = (unit units).upto in
-      let i = (unit units).clip_from in
-      let j = (unit units).clip_upto in
-      let size = length-take-le place pieces (omega (arith, inside)) in
-      record { from = omega (arith, ints, few, inside, size, a, g); below = omega (arith, ints, few, inside, size, b, h); clip_from = omega (arith, ints, few, inside, size, e, i); clip_below = omega (arith, ints, few, inside, size, f, j) }
+      let g = (unit most small).from in
+      let h = (unit most small).upto in
+      let i = (unit most small).clip_from in
+      let j = (unit most small).clip_upto in
+      let size = ap (λ (n : ℕ). most * n) (length-take-le place pieces (omega (arith, inside))) in
+      let upto : most * (place + 1) ≤ most * length pieces = mul-le-mul_left most (omega (arith, inside)) in
+      let sum : most * length (take place pieces) + most ≤ most * length pieces = omega (arith, upto, size) in
+      record { from = omega (arith, ints, few, sum, a, g); below = omega (arith, ints, few, sum, b, h); clip_from = omega (arith, ints, few, sum, e, i); clip_below = omega (arith, ints, few, sum, f, j) }
 
-  pub joined-next : BeginInOrder pieces → BeginApart pieces → All (IsSmall 1) pieces
+  pub joined-next : BeginInOrder pieces → BeginApart pieces
       → (after : List Piece) (next : ℕ) → length after ≡ length now → Adds piece (take kept now) (take next after) → next ≤ kept + 1 → drop (kept + 1) after ≡ drop (kept + 1) now → AreJoinedUpto pieces after (place + 1) next
-  joined-next order apart units after next size adds most rest = record {
+  joined-next order apart after next size adds most rest = record {
     few = (let few = is.few in omega (arith, few, most));
     same = size ∙ is.same;
     joined = subst (λ (done : List Piece). AreJoinOf done (take next after)) (ap (λ (one : Piece). take place pieces ++ one ∷ []) stood ∙ sym (take_more pieces place piece inside))
         (join-more (take place pieces) piece
         (subst (λ (one : Piece). All (λ other. BeginsUpto other.edge one.edge) (take place pieces)) (sym stood) (before-next pieces order place piece inside))
         (subst (λ (one : Piece). (other : Piece) → Contains (take place pieces) other → BeginsUpto other.edge one.edge → BeginsUpto one.edge other.edge → other.edge ≡ one.edge) (sym stood) (apart-next pieces apart place piece inside))
-        (unit units) (take kept now) (take next after) is.joined adds);
+        (take kept now) (take next after) is.joined adds);
     rest = (let few = is.few in same-behind after now (kept + 1) rest (place + 1) (omega (arith, few)) ∙ same-behind now pieces place is.rest (place + 1) (omega arith));
   }

@@ -1,16 +1,17 @@
 -- From the edges of the subject and of the clip to their pieces.
-use Rattle.std.proofs.Common.{◌≡◌, ◌≢◌, ◌≤◌, ◌+◌, ◌++◌, [], ◌∷◌, inl, inr, Bool, true, false, cond, ◌&&◌, ℤ, pos, ◌+ℤ◌, ◌*ℤ◌, ◌≤ℤ◌, ◌<ℤ◌, List, length, get_or, refl, ap, ap₂, sym, subst, ◌∙◌, arith}
+use Rattle.std.proofs.Common.{◌≡◌, ◌≢◌, ◌≤◌, ◌<◌, ◌+◌, ◌*◌, ◌^◌, ◌++◌, ℕ, suc, [], ◌∷◌, inl, inr, Bool, true, false, cond, ◌&&◌, ℤ, pos, ◌+ℤ◌, ◌*ℤ◌, ◌≤ℤ◌, ◌<ℤ◌, List, length, get_or, refl, ap, ap₂, sym, subst, ◌∙◌, arith}
 use Rattle.std.specs.Bool.{MatchBool}
 use Rattle.std.specs.List.{All, Contains}
-use Rattle.std.specs.List.Sorted.{IsSortedBy}
+use Rattle.std.specs.List.Sorted.{IsPermutation, IsSortedBy}
 use Rattle.std.specs.Int.Signed.{lt_z}
 use Rattle.std.specs.Ordering.{int_eq}
 use Rattle.std.proofs.lemmas.Int.{ints, clamps, by_lt_z}
 use Rattle.std.proofs.lemmas.List.{length-append}
-use Rattle.std.proofs.lemmas.List.Elements.{All-append, All-cons, All-contains, All-nil, All-weaker, Contains-append_left, Contains-append_right}
-use Rattle.std.proofs.lemmas.List.Sorted.{All-permutation, sorted_far}
+use Rattle.std.proofs.lemmas.List.Elements.{All-append, All-cons, All-contains, All-head, All-nil, All-tail, All-weaker, Contains-append_left, Contains-append_right}
+use Rattle.std.proofs.lemmas.List.Sorted.{All-permutation, IsPermutation-refl, length_permutation, sorted_far}
 use Rattle.i_tree.proofs.RootLemmas.Lists.{Contains-here, Contains-there}
 use Rattle.plane.specs.declared.edge.Edge.{Edge}
+use Rattle.plane.specs.Meet.Crosses.{IsWithin}
 use Rattle.plane.specs.SweepLine.Heights.{run, rise, rightwards}
 use Rattle.plane.proofs.SweepLineLemmas.Rightwards.{rightwards-left, rightwards-right}
 use Rattle.overlay.specs.declared.fill.pieces.Piece.{Piece}
@@ -20,7 +21,9 @@ use Rattle.overlay.specs.Fill.Begins.{steps, BeginsUpto, BeginInOrder}
 use Rattle.overlay.specs.Fill.Counts.{is_lower_on}
 use Rattle.overlay.specs.Fill.Filled.{AreNoded}
 use Rattle.overlay.specs.Fill.Pieces.{ArePieces, total, weight}
-use Rattle.overlay.specs.Fill.Turned.{AreJoinOf, AreTurned, BeginApart, IsSmall, asked, piece_of, turned}
+use Rattle.overlay.specs.Fill.Sweep.{WeighUpto}
+use Rattle.overlay.specs.Fill.Turned.{AreJoinOf, AreTurned, AreUnjoined, BeginApart, IsSmall, StandFor, asked, piece_of, turned}
+use Rattle.noding.specs.Windings.{IsClosed}
 use Rattle.overlay.proofs.FillLemmas.Level.{MeetOnly}
 use Rattle.overlay.proofs.FillLemmas.Order.{lower-asym, start-lower}
 use Rattle.overlay.proofs.FillLemmas.Small.{unit_weight}
@@ -185,18 +188,49 @@ alike one other meet some some_too (inr (level, inr (even, flat))) (inr (same, i
         never : false ≡ true → ⊥
         never h = cc
 
-pub turned-apart : (subject clip : List Edge) (pieces : List Piece) → AreNoded (subject ++ clip) → All (IsTurned (subject ++ clip)) pieces → BeginApart pieces
-turned-apart subject clip pieces noded are one other first second upto back =
-    let of = All-contains (IsTurned (subject ++ clip)) pieces one are first in
-    let of_other = All-contains (IsTurned (subject ++ clip)) pieces other are second in
-    let meet : MeetOnly of.edge of_other.edge = λ point a b. noded of.edge of_other.edge point of.among of_other.among a b in
-    let turned_meet = MeetOnly-rightwards of.edge of_other.edge meet in
-    let both_meet : MeetOnly (rightwards of.edge) (rightwards of_other.edge) =
-    MeetOnly-exchanged (rightwards of_other.edge) (rightwards of.edge) (MeetOnly-rightwards of_other.edge (rightwards of.edge) (MeetOnly-exchanged (rightwards of.edge) of_other.edge turned_meet)) in
-    alike one.edge other.edge (subst (λ (e : Edge). MeetOnly e other.edge) of.is (subst (λ (e : Edge). MeetOnly (rightwards of.edge) e) of_other.is both_meet)) of.onwards of_other.onwards upto back
+pub stand-apart : (subject clip : List Edge) (pieces : List Piece) → AreNoded (subject ++ clip) → StandFor subject clip pieces → BeginApart pieces
+stand-apart subject clip pieces noded stand one other first second upto back =
+    let (edge, among, is) = All-contains Of pieces one stand.of first in
+    let (edge', among', is') = All-contains Of pieces other stand.of second in
+    let meet : MeetOnly edge edge' = λ point a b. noded edge edge' point among among' a b in
+    let turned_meet = MeetOnly-rightwards edge edge' meet in
+    let both_meet : MeetOnly (rightwards edge) (rightwards edge') =
+    MeetOnly-exchanged (rightwards edge') (rightwards edge) (MeetOnly-rightwards edge' (rightwards edge) (MeetOnly-exchanged (rightwards edge) edge' turned_meet)) in
+    alike one.edge other.edge (subst (λ (e : Edge). MeetOnly e other.edge) is (subst (λ (e : Edge). MeetOnly (rightwards edge) e) is' both_meet)) (All-contains Onwards pieces one stand.onwards first) (All-contains Onwards pieces other stand.onwards second) upto back
+  where
+    Of : Piece → Type 0
+    Of piece = (edge : Edge) × Contains (subject ++ clip) edge × (rightwards edge ≡ piece.edge)
+
+    Onwards : Piece → Type 0
+    Onwards piece = piece.edge.x0 <ℤ piece.edge.x1
 
 pub turned-units : (edges : List Edge) (pieces : List Piece) → All (IsTurned edges) pieces → All (IsSmall 1) pieces
 turned-units edges pieces are = All-weaker (IsTurned edges) (IsSmall 1) (λ piece is. is.small) pieces are
+
+-- edges turned stand for themselves
+pub stand-turned : (subject clip : List Edge) (pieces : List Piece) → AreTurned subject clip pieces → length pieces < 2 ^ 63 → StandFor subject clip pieces
+stand-turned subject clip pieces turned few =
+    let all = AreTurned-all subject clip pieces turned in record {
+      onwards = All-weaker (IsTurned (subject ++ clip)) (λ piece. piece.edge.x0 <ℤ piece.edge.x1) (λ piece is. is.onwards) pieces all;
+      of = All-weaker (IsTurned (subject ++ clip)) (λ piece. (edge : Edge) × Contains (subject ++ clip) edge × (rightwards edge ≡ piece.edge)) (λ piece is. (is.edge, is.among, is.is)) pieces all;
+      joined = λ test. turned-subject test subject clip pieces turned;
+      clip_joined = λ test. turned-clip test subject clip pieces turned;
+      most = 1;
+      small = turned-units (subject ++ clip) pieces all;
+      countable = omega (arith, few);
+    }
+
+-- in another order
+pub stand-permutation : (subject clip : List Edge) (pieces sorted : List Piece) → IsPermutation pieces sorted → StandFor subject clip pieces → StandFor subject clip sorted
+stand-permutation subject clip pieces sorted moved stand = record {
+  onwards = All-permutation (λ piece. piece.edge.x0 <ℤ piece.edge.x1) pieces sorted moved stand.onwards;
+  of = All-permutation (λ piece. (edge : Edge) × Contains (subject ++ clip) edge × (rightwards edge ≡ piece.edge)) pieces sorted moved stand.of;
+  joined = λ test. stand.joined test ∙ sym (total-permutation (asked test (λ p. p.subject)) pieces sorted moved);
+  clip_joined = λ test. stand.clip_joined test ∙ sym (total-permutation (asked test (λ p. p.clip)) pieces sorted moved);
+  most = stand.most;
+  small = All-permutation (IsSmall stand.most) pieces sorted moved stand.small;
+  countable = subst (λ (n : ℕ). stand.most * n < 2 ^ 63) (sym (length_permutation pieces sorted moved)) stand.countable;
+}
 
 -- sorted by how they begin, they begin in order
 pub sorted-order : (pieces : List Piece) → IsSortedBy begins_before pieces → BeginInOrder pieces
@@ -204,7 +238,7 @@ sorted-order pieces up i j d less within = not_before (get_or pieces j d) (get_o
 
 -- ---- joined
 
-turned-length : (operand : Operand) (edges : List Edge) → length (turned operand edges) ≤ length edges
+pub turned-length : (operand : Operand) (edges : List Edge) → length (turned operand edges) ≤ length edges
 turned-length operand [] = omega arith
 turned-length operand (edge ∷ edges) = by (int_eq edge.x0 edge.x1) (turned-length operand edges)
   where
@@ -220,15 +254,52 @@ turned-few subject clip pieces are =
     let second = turned-length Clip clip in
     omega (arith, all, sum, first, second)
 
-pub joined-pieces : (subject clip : List Edge) (pieces joined : List Piece) → AreTurned subject clip pieces → AreJoinOf pieces joined → ArePieces subject clip joined
-joined-pieces subject clip pieces joined turned join =
-    let all = AreTurned-all subject clip pieces turned in record {
-      onwards = λ k d within. (let (other, held, is) = join.of k d within in subst (λ (e : Edge). e.x0 <ℤ e.x1) is (All-contains (IsTurned (subject ++ clip)) pieces other all held).onwards);
-      of = λ k d within. (
-          let (other, held, is) = join.of k d within in
-          let of = All-contains (IsTurned (subject ++ clip)) pieces other all held in
-          (of.edge, of.among, of.is ∙ is));
-      distinct = join.distinct;
-      joined = λ test. turned-subject test subject clip pieces turned ∙ join.subject test;
-      clip_joined = λ test. turned-clip test subject clip pieces turned ∙ join.clip test;
-    }
+-- the edges of both, closed and noded, as they are turned
+pub unjoined-turned : (subject clip : List Edge) (pieces : List Piece) → IsClosed subject → IsClosed clip → AreNoded (subject ++ clip) → pieces ≡ turned Subject subject ++ turned Clip clip → length subject + length clip < 2 ^ 63
+    → AreUnjoined subject clip pieces
+unjoined-turned subject clip pieces closed clip_closed noded are few = record {
+  closed = closed;
+  clip_closed = clip_closed;
+  noded = noded;
+  stand = stand-turned subject clip pieces (subst (λ (list : List Piece). IsPermutation list pieces) are (IsPermutation-refl pieces)) (let most = turned-few subject clip pieces are in omega (arith, most, few));
+}
+
+pub joined-pieces : (subject clip : List Edge) (pieces joined : List Piece) → StandFor subject clip pieces → AreJoinOf pieces joined → ArePieces subject clip joined
+joined-pieces subject clip pieces joined stand join = record {
+  onwards = λ k d within. (let (other, held, is) = join.of k d within in subst (λ (e : Edge). e.x0 <ℤ e.x1) is (All-contains (λ piece. piece.edge.x0 <ℤ piece.edge.x1) pieces other stand.onwards held));
+  of = λ k d within. (
+      let (other, held, is) = join.of k d within in
+      let (edge, among, same) = All-contains (λ piece. (edge : Edge) × Contains (subject ++ clip) edge × (rightwards edge ≡ piece.edge)) pieces other stand.of held in
+      (edge, among, same ∙ is));
+  distinct = join.distinct;
+  joined = λ test. stand.joined test ∙ join.subject test;
+  clip_joined = λ test. stand.clip_joined test ∙ join.clip test;
+}
+
+-- ---- how much they weigh
+
+within-more : (most n : ℕ) (a b : ℤ) → IsWithin most a → IsWithin (most * n) b → IsWithin (most * suc n) (a +ℤ b)
+within-more most n a b first second =
+    let from = first.from in
+    let upto = first.upto in
+    let from_too = second.from in
+    let upto_too = second.upto in
+    let step : most * suc n ≡ most * n + most = omega arith in
+    record { from = omega (arith, ints, from, from_too, step); upto = omega (arith, ints, upto, upto_too, step) }
+
+total-within : {X : Type 0} (most : ℕ) (f : X → ℤ) (xs : List X) → All (λ x. IsWithin most (f x)) xs → IsWithin (most * length xs) (total f xs)
+total-within most f [] each = record { from = omega (arith, ints); upto = omega (arith, ints) }
+total-within most f (x ∷ xs) each = within-more most (length xs) (f x) (total f xs) (All-head (λ x. IsWithin most (f x)) x xs each) (total-within most f xs (All-tail (λ x. IsWithin most (f x)) x xs each))
+
+part-within : (most : ℕ) (t : Bool) (a : ℤ) → IsWithin most a → IsWithin most (cond t a (pos 0))
+part-within most true a is = is
+part-within most false a is = record { from = omega (arith, ints); upto = omega (arith, ints) }
+
+-- whichever of small pieces are asked for, they weigh no more than as many as they are
+pub joined-weigh : (most : ℕ) (pieces joined : List Piece) → All (IsSmall most) pieces → AreJoinOf pieces joined → WeighUpto (most * length pieces) joined
+joined-weigh most pieces joined small join test = (
+  subst (IsWithin (most * length pieces)) (join.subject test)
+      (total-within most (asked test (λ p. p.subject)) pieces (All-weaker (IsSmall most) (λ p. IsWithin most (asked test (λ q. q.subject) p)) (λ p is. part-within most (test p.edge) p.subject (record { from = is.from; upto = is.upto })) pieces small)),
+  subst (IsWithin (most * length pieces)) (join.clip test)
+      (total-within most (asked test (λ p. p.clip)) pieces (All-weaker (IsSmall most) (λ p. IsWithin most (asked test (λ q. q.clip) p)) (λ p is. part-within most (test p.edge) p.clip (record { from = is.clip_from; upto = is.clip_upto })) pieces small)),
+)

@@ -1,6 +1,7 @@
 -- The sweep of a fill: the counts below and above pieces that begin in turn, and which are kept.
-use Rattle.std.specs.Prelude.{◌++◌, ◌+◌, ◌^◌, ◌<◌, Bool, ◌&&◌, ℤ, pos, ◌+ℤ◌, ◌-ℤ◌, ◌≤ℤ◌, ◌<ℤ◌, List, [], ◌∷◌, Option, Some, None, get_or, length}
+use Rattle.std.specs.Prelude.{◌++◌, ◌^◌, ◌<◌, ℕ, Bool, ◌&&◌, ℤ, pos, ◌+ℤ◌, ◌-ℤ◌, ◌≤ℤ◌, ◌<ℤ◌, List, [], ◌∷◌, Option, Some, None, get_or}
 use Rattle.plane.specs.declared.edge.Edge.{Edge}
+use Rattle.plane.specs.Meet.Crosses.{IsWithin}
 use Rattle.plane.specs.SweepLine.Active.{Entry}
 use Rattle.overlay.specs.declared.fill.counts.Counts.{Counts}
 use Rattle.overlay.specs.declared.fill.pieces.Piece.{Piece}
@@ -37,6 +38,11 @@ abbrev pub kept_of : (Counts → Bool) → List Piece → List Piece → List Ed
 kept_of inside all [] = []
 kept_of inside all (piece ∷ pieces) = kept_edge (inside (below_of all piece)) (inside (plus (below_of all piece) piece)) piece.edge (kept_of inside all pieces)
 
+-- Whichever of the pieces are asked for, they weigh at most so much, either way.
+abbrev pub WeighUpto : ℕ → List Piece → Type 0
+WeighUpto most pieces =
+    (test : Edge → Bool) → IsWithin most (total (asked test (λ piece. piece.subject)) pieces) × IsWithin most (total (asked test (λ piece. piece.clip)) pieces)
+
 -- The pieces of closed and noded edges, in the order in which they begin.
 pub record AreFillPieces (pieces : List Piece) : Type 0 where
   pub subject : List Edge
@@ -46,7 +52,9 @@ pub record AreFillPieces (pieces : List Piece) : Type 0 where
   pub noded : AreNoded (subject ++ clip)
   pub are : ArePieces subject clip pieces
   pub order : BeginInOrder pieces
-  pub countable : length subject + length clip < 2 ^ 63
+  pub most : ℕ
+  pub weigh : WeighUpto most pieces
+  pub countable : most < 2 ^ 63
 
 abbrev pub nothing : Counts
 nothing = record { subject = pos 0; clip = pos 0 }

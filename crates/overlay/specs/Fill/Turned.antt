@@ -1,5 +1,5 @@
 -- Edges as pieces of their own, and pieces of one edge joined.
-use Rattle.std.specs.Prelude.{◌≡◌, ◌≢◌, ◌⊎◌, ◌++◌, ◌+◌, ◌≤◌, ℕ, Bool, cond, List, [], ◌∷◌, All, AllPairs, Contains, length, get_or, slice_set, ◌-◌, ◌<◌, ℤ, pos, ◌+ℤ◌, ◌-ℤ◌, ◌≤ℤ◌, ◌<ℤ◌, ◌^◌}
+use Rattle.std.specs.Prelude.{◌≡◌, ◌≢◌, ◌⊎◌, ◌++◌, ◌≤◌, ℕ, Bool, cond, List, [], ◌∷◌, All, AllPairs, Contains, length, get_or, slice_set, ◌-◌, ◌<◌, ℤ, pos, ◌+ℤ◌, ◌-ℤ◌, ◌≤ℤ◌, ◌<ℤ◌, ◌*◌, ◌^◌}
 use Rattle.std.specs.Ordering.{int_eq}
 use Rattle.std.specs.List.Sorted.{IsPermutation}
 use Rattle.plane.specs.declared.edge.Edge.{Edge}
@@ -9,7 +9,7 @@ use Rattle.overlay.specs.declared.fill.pieces.Operand.{Operand}
 use Rattle.overlay.specs.declared.fill.pieces.Operand.TheVariants.{Subject, Clip}
 use Rattle.overlay.specs.Fill.Begins.{BeginsUpto}
 use Rattle.overlay.specs.Fill.Filled.{AreNoded}
-use Rattle.overlay.specs.Fill.Pieces.{total, weight}
+use Rattle.overlay.specs.Fill.Pieces.{AreJoined, total, weight}
 use Rattle.noding.specs.Windings.{IsClosed}
 
 -- The edge alone as a piece.
@@ -26,20 +26,31 @@ turned operand (edge ∷ edges) = cond (int_eq edge.x0 edge.x1) (turned operand 
 abbrev pub AreTurned : List Edge → List Edge → List Piece → Type 0
 AreTurned subject clip pieces = IsPermutation (turned Subject subject ++ turned Clip clip) pieces
 
--- The pieces of closed and noded edges before they are sorted and joined: those of the subject, and then those of the clip.
-pub record AreUnjoined (subject clip : List Edge) (pieces : List Piece) : Type 0 where
-  pub closed : IsClosed subject
-  pub clip_closed : IsClosed clip
-  pub noded : AreNoded (subject ++ clip)
-  pub are : pieces ≡ turned Subject subject ++ turned Clip clip
-  pub countable : length subject + length clip < 2 ^ 63
-
 -- The piece weighs at most so much, either way.
 pub record IsSmall (most : ℕ) (piece : Piece) : Type 0 where
   pub from : (pos 0 -ℤ pos most) ≤ℤ piece.subject
   pub upto : piece.subject ≤ℤ pos most
   pub clip_from : (pos 0 -ℤ pos most) ≤ℤ piece.clip
   pub clip_upto : piece.clip ≤ℤ pos most
+
+-- The pieces stand for the edges of both that aren't vertical: each goes rightwards and is one of these edges, one way or the
+-- other, and together they weigh the same, whichever edges are asked for. They are so small and so few that sums of them are
+-- numbers of 64 bits. Several may be of one edge.
+pub record StandFor (subject clip : List Edge) (pieces : List Piece) : Type 0 where
+  pub onwards : All (λ piece. piece.edge.x0 <ℤ piece.edge.x1) pieces
+  pub of : All (λ piece. (edge : Edge) × Contains (subject ++ clip) edge × (rightwards edge ≡ piece.edge)) pieces
+  pub joined : AreJoined subject (λ piece. piece.subject) pieces
+  pub clip_joined : AreJoined clip (λ piece. piece.clip) pieces
+  pub most : ℕ
+  pub small : All (IsSmall most) pieces
+  pub countable : most * length pieces < 2 ^ 63
+
+-- The pieces of closed and noded edges before they are sorted and joined.
+pub record AreUnjoined (subject clip : List Edge) (pieces : List Piece) : Type 0 where
+  pub closed : IsClosed subject
+  pub clip_closed : IsClosed clip
+  pub noded : AreNoded (subject ++ clip)
+  pub stand : StandFor subject clip pieces
 
 -- Two pieces of one edge as one.
 abbrev pub sum_of : Piece → Piece → Piece
@@ -79,4 +90,4 @@ pub record AreJoinOf (pieces joined : List Piece) : Type 0 where
   pub order : AllPairs (λ one other. BeginsUpto one.edge other.edge) joined
   pub distinct : AllPairs (λ one other. one.edge ≢ other.edge) joined
   pub few : length joined ≤ length pieces
-  pub small : All (IsSmall (length pieces)) joined
+  pub small : (most : ℕ) → All (IsSmall most) pieces → All (IsSmall (most * length pieces)) joined

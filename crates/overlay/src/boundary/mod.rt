@@ -12,13 +12,16 @@ use crate::contours::contours_in_place;
 use crate::fill::{Choice, fill_pieces};
 use i_tree::Refusal;
 use i_tree::status::exp::StatusCollection;
-use pieces::broken_pieces;
+use pieces::standing_pieces;
 use plane::edge::Edge;
 use plane::point::Point;
 use plane::sweep_line::ActiveEdge;
 use std::alloc::Allocator;
 
 pub mod broken;
+mod joined;
+mod lines;
+mod overlaps;
 pub mod pieces;
 
 /// Appends rings that bound what the operation makes of the inside of the subject and that of the clip to `points`, one after
@@ -26,7 +29,7 @@ pub mod pieces;
 ///
 /// The first `count` of the edges are the subject's, and the others the clip's. Both are closed, as those of rings are; they may
 /// cross, touch, lie along one another, and stand there more than once. They are broken where they meet, and moved only where they
-/// must be (`broken_pieces`), which of the pieces bound the result is told by their winding numbers (`fill_pieces`), and these become
+/// must be (`standing_pieces`), which of the pieces bound the result is told by their winding numbers (`fill_pieces`), and these become
 /// rings (`contours_in_place`).
 ///
 /// The rings have the result on their left. None visits a point twice, and no two of their edges cross, or share more than an
@@ -88,7 +91,7 @@ where
     ensures refused { HasAllHandles C.has_handles → IfErr result (λ cause. cause ≡ OutOfMemory) }
     ensures empty { C.stored status.new ≡ [] }
 {
-    let pieces = broken_pieces(alloc, edges, count)?;
+    let pieces = standing_pieces(alloc, edges, count)?;
     // Of vertical edges there are no pieces, but some are among those of the boundary.
     let mut bounding = Vec::with_capacity(alloc, pieces.capacity())?;
     fill_pieces(pieces, choice, status, &mut bounding)?;

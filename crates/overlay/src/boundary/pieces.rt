@@ -1,19 +1,21 @@
 //! From the stops of edges to the pieces of a fill, with no list of chains or of broken edges between.
 
-ghost use Rattle.std.specs.Prelude.{◌≡◌, ◌∷◌, ◌++◌, ◌+◌, ◌≤◌, ◌<◌, ◌^◌, [], List, IfErr, IfOk, OnOk, drop, length, map, take};
+ghost use Rattle.std.specs.Prelude.{◌≡◌, ◌∷◌, ◌++◌, ◌+◌, ◌*◌, ◌≤◌, ◌<◌, ◌^◌, [], List, IfErr, IfOk, OnOk, drop, length, map, take};
 ghost use Rattle.std.specs.List.{flat_map};
 ghost use Rattle.i_tree.specs.declared.Refusal.TheVariants.{OutOfMemory};
 ghost use Rattle.plane.specs.declared.edge.Edge.{Edge};
 ghost use Rattle.plane.specs.declared.point.Point.{Point};
 ghost use Rattle.overlay.specs.declared.fill.pieces.Operand.TheVariants.{Subject, Clip};
 ghost use Rattle.overlay.specs.Boundary.{AreBroken, GoesOnToEnd, chain_pieces};
-ghost use Rattle.overlay.specs.Fill.Turned.{turned};
+ghost use Rattle.overlay.specs.Fill.Turned.{StandFor, turned};
+ghost use Rattle.overlay.specs.Joined.{weighed, weighed_pieces};
 ghost use Rattle.noding.specs.Local.{AreNodeChains};
 ghost use Rattle.plane.specs.Ends.{edge_between, end_of, start_of};
 ghost use Rattle.noding.specs.Offsets.{between};
 ghost use Rattle.noding.specs.Stops.{AreAt, AreNodeStops, GoesToEnd, point_of};
 ghost use Rattle.noding.specs.Windings.{pieces};
 
+use super::joined::joined_edges;
 use crate::fill::pieces::{Operand, Piece, is_sloped, piece_of, room_for};
 use i_tree::Refusal;
 use noding::nodes_in_order;
@@ -21,6 +23,99 @@ use noding::stops::{Stop, point_of};
 use plane::edge::{Edge, edge_between, end_of, start_of};
 use plane::point::Point;
 use std::alloc::{AllocError, Allocator};
+
+/// What stands for the pieces of the subject's edges and of the clip's, which are broken together where they meet, and moved only
+/// where they must be, as `broken` does it: those that aren't vertical, turned rightwards. The first `count` of the edges are the
+/// subject's.
+///
+/// Where many edges are equal, or overlap along a line along an axis, they are joined before they are broken (`joined_edges`), so
+/// that there are no more pieces than the edges that are left have. No list of chains or of broken edges is made. It is refused for
+/// want of memory alone.
+pub fn standing_pieces<A: Allocator + Copy>(
+    alloc: A,
+    edges: &[Edge],
+    count: usize,
+) -> Result<Vec<Piece, A>, Refusal>
+    requires { count ≤ length edges.now }
+    ensures ok { IfOk result (λ out. (broken broken_clip : List Edge)
+        × AreBroken (take count edges.now) (drop count edges.now) broken broken_clip
+        × StandFor broken broken_clip out.items) }
+    ensures refused { IfErr result (λ cause. cause ≡ OutOfMemory) }
+{
+    match joined_edges(alloc, edges, count)? {
+        Some(stretches) => pieces_of_stretches(alloc, &stretches, edges.len()),
+        None => broken_pieces(alloc, edges, count),
+    }
+}
+
+// The pieces of stretches that are broken together, with the weights of these. It is refused, too, if they are so many that weights
+// of at most so much may have a sum of more than 63 bits.
+fn pieces_of_stretches<A: Allocator + Copy>(
+    alloc: A,
+    stretches: &[Piece],
+    most: usize,
+) -> Result<Vec<Piece, A>, Refusal>
+    ensures ok { IfOk result (λ out. (chains : List (List Point))
+        × AreNodeChains (map (λ stretch. stretch.edge) stretches.now) chains
+        × (out.items ≡ weighed_pieces stretches.now chains)
+        × (most * length out.items < 2 ^ 63)) }
+    ensures refused { IfErr result (λ cause. cause ≡ OutOfMemory) }
+{
+    let edges = edges_of(alloc, stretches)?;
+    let stops = nodes_in_order(alloc, &edges)?;
+    let mut out = Vec::with_capacity(alloc, room_for(&edges, &stops)?)?;
+    append_weighed(stretches, &stops, &mut out)?;
+    countable(most, out.len())?;
+    Ok(out)
+}
+
+// The edges of the stretches.
+fn edges_of<A: Allocator>(alloc: A, stretches: &[Piece]) -> Result<Vec<Edge, A>, AllocError>
+    ensures { IfOk result (λ edges. edges.items ≡ map (λ stretch. stretch.edge) stretches.now) }
+{
+    stretches.iter().map(|stretch| stretch.edge).collect(alloc)
+}
+
+// Nothing, where so many weights of at most so much have a sum of 63 bits.
+fn countable(most: usize, count: usize) -> Result<(), AllocError>
+    ensures { OnOk result (most * count < 2 ^ 63) }
+{
+    if most.saturating_mul(count) > i64::MAX as usize {
+        return Err(AllocError);
+    }
+    Ok(())
+}
+
+// Appends the pieces of the chain of each stretch in turn, with its weights.
+fn append_weighed<A: Allocator>(
+    stretches: &[Piece],
+    stops: &[Stop],
+    out: &mut Vec<Piece, A>,
+) -> Result<(), AllocError>
+    requires { AreNodeStops (map (λ stretch. stretch.edge) stretches.now) stops.now }
+    ensures { OnOk result ((chains : List (List Point))
+        × AreNodeChains (map (λ stretch. stretch.edge) stretches.now) chains
+        × (out.new.items ≡ out.old.items ++ weighed_pieces stretches.now chains)) }
+{
+    let mut next = 0;
+    // The stretches so far have their pieces, and the stops before `next` are theirs.
+    for (place, stretch) in stretches.iter().enumerate() {
+        let first = out.len();
+        next = append_pieces_of(stretch.edge, place, Operand::Subject, stops, next, out)?;
+        weigh(&mut out[first..], *stretch);
+    }
+    Ok(())
+}
+
+// Gives the pieces the weights of the stretch that they are of.
+fn weigh(pieces: &mut [Piece], stretch: Piece)
+    ensures { pieces.new ≡ map (weighed stretch) pieces.old }
+{
+    for piece in pieces.iter_mut() {
+        piece.subject = stretch.subject;
+        piece.clip = stretch.clip;
+    }
+}
 
 /// The pieces of the subject's edges and then of the clip's, which are broken together where they meet, and moved only where they
 /// must be, as `broken` does it: those that aren't vertical, turned rightwards. The first `count` of the edges are the subject's.

@@ -70,7 +70,7 @@ where
 }
 
 /// As `fill`, of the pieces of subject and clip in a list that is no longer needed: they are sorted and joined in it. So
-/// `boundary` fills what `broken_pieces` made.
+/// `boundary` fills what `standing_pieces` made.
 pub fn fill_pieces<C, A>(
     pieces: Vec<Piece, A>,
     choice: Choice,

@@ -1,11 +1,12 @@
 //! The pieces of a fill: edges that aren't vertical, turned rightwards, those with the same ends joined.
 
-ghost use Rattle.std.specs.Prelude.{◌≡◌, ◌≢◌, ◌++◌, ◌+◌, ◌≤◌, ◌<◌, ◌^◌, ◌+ℤ◌, ◌-ℤ◌, ◌≤ℤ◌, ◌<ℤ◌, pos, All, List, drop, length, take, IfOk, MatchBool, OnOk};
+ghost use Rattle.std.specs.Prelude.{◌≡◌, ◌≢◌, ◌++◌, ◌+◌, ◌≤◌, ◌<◌, ◌*◌, ◌^◌, ℕ, ◌+ℤ◌, ◌-ℤ◌, ◌≤ℤ◌, ◌<ℤ◌, pos, All, List, drop, length, take, IfOk, MatchBool, OnOk};
 ghost use Rattle.plane.specs.declared.edge.Edge.{Edge};
 ghost use Rattle.plane.specs.SweepLine.Heights.{rise};
 ghost use Rattle.overlay.specs.Fill.Begins.{cmp_begins, steps, BeginInOrder};
 ghost use Rattle.overlay.specs.declared.fill.pieces.Operand.TheVariants.{Subject, Clip};
 ghost use Rattle.overlay.specs.Fill.Pieces.{ArePieces, weight};
+ghost use Rattle.overlay.specs.Fill.Sweep.{WeighUpto};
 ghost use Rattle.overlay.specs.Fill.Turned.{Adds, AreJoinOf, AreUnjoined, BeginApart, EndIn, Fit, IsSmall, piece_of, sum_of, turned};
 
 use event_queue::buckets::sort_in_buckets;
@@ -53,6 +54,8 @@ pub(crate) fn join_in_order<A: Allocator + Copy>(
     requires { (subject clip : List Edge) × AreUnjoined subject clip pieces.old.items }
     ensures pieces { OnOk result ((subject clip : List Edge) → AreUnjoined subject clip pieces.old.items
         → ArePieces subject clip pieces.new.items) }
+    ensures weigh { OnOk result ((most : ℕ) → All (IsSmall most) pieces.old.items
+        → WeighUpto (most * length pieces.old.items) pieces.new.items) }
     ensures order { OnOk result (BeginInOrder pieces.new.items) }
     ensures few { OnOk result (length pieces.new.items ≤ length pieces.old.items) }
 {
@@ -164,8 +167,7 @@ fn steps(edge: Edge) -> i64
 fn join<A: Allocator>(pieces: &mut Vec<Piece, A>)
     requires order { BeginInOrder pieces.old.items }
     requires apart { BeginApart pieces.old.items }
-    requires units { All (IsSmall 1) pieces.old.items }
-    requires few { length pieces.old.items < 2 ^ 63 }
+    requires countable { (most : ℕ) × All (IsSmall most) pieces.old.items × (most * length pieces.old.items < 2 ^ 63) }
     ensures { AreJoinOf pieces.old.items pieces.new.items }
 {
     let mut kept = 0;

@@ -1,4 +1,5 @@
-use Rattle.std.proofs.Common.{◌≡◌, ◌++◌, ℕ, List, length, drop, ap, ap₂, sym, subst, ◌∙◌, append_assoc, arith}
+use Rattle.std.proofs.Common.{◌≡◌, ◌++◌, ℕ, List, length, drop, ap, ap₂, sym, subst, ◌∙◌, ◌*◌, append_assoc, arith}
+use Rattle.std.specs.List.{All}
 use Rattle.std.proofs.Math.Seq.{drop-append_seam}
 use Rattle.plane.specs.declared.edge.Edge.{Edge}
 use Rattle.overlay.specs.declared.fill.pieces.Piece.{Piece}
@@ -6,15 +7,15 @@ use Rattle.overlay.specs.declared.fill.rules.Choice.{Choice}
 use Rattle.overlay.specs.Fill.Rules.{is_result}
 use Rattle.overlay.specs.Fill.Begins.{BeginInOrder}
 use Rattle.overlay.specs.Fill.Pieces.{ArePieces}
-use Rattle.overlay.specs.Fill.Sweep.{AreFillPieces, kept_of}
-use Rattle.overlay.specs.Fill.Turned.{AreUnjoined}
+use Rattle.overlay.specs.Fill.Sweep.{AreFillPieces, WeighUpto, kept_of}
+use Rattle.overlay.specs.Fill.Turned.{AreUnjoined, IsSmall}
 use Rattle.overlay.specs.Fill.Verticals.{AreVerticalsOf, BoundRegion}
 use Rattle.overlay.proofs.KeptLemmas.Region.{kept-filled, kept-region}
 use Rattle.overlay.proofs.fill.append_filled.Goals as goal
 
 -- the pieces that were joined are those of a fill
-fill-pieces : (subject clip : List Edge) (pieces joined : List Piece) → AreUnjoined subject clip pieces → ArePieces subject clip joined → BeginInOrder joined → AreFillPieces joined
-fill-pieces subject clip pieces joined unjoined are order = record {
+fill-pieces : (subject clip : List Edge) (pieces joined : List Piece) → AreUnjoined subject clip pieces → ArePieces subject clip joined → ((most : ℕ) → All (IsSmall most) pieces → WeighUpto (most * length pieces) joined) → BeginInOrder joined → AreFillPieces joined
+fill-pieces subject clip pieces joined unjoined are weigh order = record {
   subject = subject;
   clip = clip;
   closed = unjoined.closed;
@@ -22,7 +23,9 @@ fill-pieces subject clip pieces joined unjoined are order = record {
   noded = unjoined.noded;
   are = are;
   order = order;
-  countable = unjoined.countable;
+  most = unjoined.stand.most * length pieces;
+  weigh = weigh unjoined.stand.most unjoined.stand.small;
+  countable = unjoined.stand.countable;
 }
 
 abbrev kept : Choice → List Piece → List Edge
@@ -36,12 +39,19 @@ module _ (choice : Choice) (items list : List Piece) (same : list ≡ items) (be
   gained : drop first out ≡ kept choice items
   gained = ap₂ (λ (n : ℕ) (edges : List Edge). drop n edges) size all ∙ drop-append_seam before (kept choice items)
 
+pub append_kept-requires-clause-pieces : goal.append_kept-requires-clause-pieces
+append_kept-requires-clause-pieces g c =
+    let (subject, clip, unjoined) = c.requires.unjoined in
+    let items = c.join_in_order.new.pieces.items in
+    let ensured = c.in_ok-join_in_order.ensures in
+    subst AreFillPieces (sym c.deref.ensures.value) (fill-pieces subject clip c.args.pieces.items items unjoined (ensured.pieces subject clip unjoined) ensured.weigh ensured.order)
+
 pub append_verticals-requires-clause-bound : goal.append_verticals-requires-clause-bound
 append_verticals-requires-clause-bound g c =
     let (subject, clip, unjoined) = c.requires.unjoined in
     let choice = c.args.choice in
     let items = c.join_in_order.new.pieces.items in
-    let fill = fill-pieces subject clip c.args.pieces.items items unjoined (c.in_ok-join_in_order.ensures.pieces subject clip unjoined) c.in_ok-join_in_order.ensures.order in
+    let fill = fill-pieces subject clip c.args.pieces.items items unjoined (c.in_ok-join_in_order.ensures.pieces subject clip unjoined) c.in_ok-join_in_order.ensures.weigh c.in_ok-join_in_order.ensures.order in
     let size : c.len-first.result ≡ length c.args.out.now.items = (let told = c.len-first.ensures in omega (arith, told)) in
     subst BoundRegion (sym (gained choice items c.deref.result.now c.deref.ensures.value c.args.out.now.items c.append_kept.new.out.items c.in_ok-append_kept.ensures.ok c.len-first.result size))
     (kept-region choice.rule choice.operation items fill)
@@ -56,7 +66,7 @@ returns-clause-ok g c = λ subject clip unjoined.
     let before = c.args.out.now.items in
     let out = c.append_kept.new.out.items in
     let told = c.in_ok-append_kept.ensures.ok in
-    let fill = fill-pieces subject clip c.args.pieces.items items unjoined (c.in_ok-join_in_order.ensures.pieces subject clip unjoined) c.in_ok-join_in_order.ensures.order in
+    let fill = fill-pieces subject clip c.args.pieces.items items unjoined (c.in_ok-join_in_order.ensures.pieces subject clip unjoined) c.in_ok-join_in_order.ensures.weigh c.in_ok-join_in_order.ensures.order in
     let size : c.len-first.result ≡ length before = (let told = c.len-first.ensures in omega (arith, told)) in
     let (verticals, more, closes) = c.in_ok-append_verticals.ensures.ok in (
       kept choice items ++ verticals,

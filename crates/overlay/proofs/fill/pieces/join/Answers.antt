@@ -12,7 +12,7 @@ add-kept-requires-clause-fit g c =
     let piece = c.index-piece.result.now in
     subst (λ (list : List Piece). All (λ last. Fit last piece) (take c.loop-place.kept list)) (sym c.deref_mut.ensures.value)
     (fit-next pieces c.loop-place.pieces.items c.loop-place.place c.loop-place.kept c.loop-place.invariant (omega (arith, c.loop-place-test.true, c.len-place-end.ensures))
-    piece c.index-piece.ensures c.requires.units c.requires.few)
+    piece c.index-piece.ensures c.requires.countable.0 c.requires.countable.1 c.requires.countable.2)
 
 pub loop-place-preserved : goal.loop-place-preserved
 loop-place-preserved g c =
@@ -24,6 +24,6 @@ loop-place-preserved g c =
     let held = c.deref_mut.ensures.value in
     rw (take_at after _ c.loop-place.pieces.len (c.add-kept.auto.pieces ∙ c.deref_mut.ensures.len))
     (joined-next pieces now c.loop-place.place kept c.loop-place.invariant (omega (arith, c.loop-place-test.true, c.len-place-end.ensures))
-    piece c.index-piece.ensures c.requires.order c.requires.apart c.requires.units after c.add-kept.result (c.add-kept.auto.pieces ∙ ap length held)
+    piece c.index-piece.ensures c.requires.order c.requires.apart after c.add-kept.result (c.add-kept.auto.pieces ∙ ap length held)
     (subst (λ (list : List Piece). Adds piece (take kept list) (take c.add-kept.result after)) held c.add-kept.ensures.adds)
     c.add-kept.ensures.few (c.add-kept.ensures.rest ∙ ap (λ (list : List Piece). drop (kept + 1) list) held))
