@@ -7,7 +7,7 @@ ghost use denote.Param.Send.{IsSend};
 
 use crate::raw::Raw;
 use overlay::{Point, Polygons};
-use std::alloc::{AllocError, Global};
+use std::alloc::{AllocError, Allocator, Global};
 
 /// The points of polygons, one ring behind the other, at which places among them each ring begins and stops, and at which
 /// places among the rings each polygon does; and where the first of each lies. C reads them there.
@@ -88,6 +88,35 @@ pub(crate) fn offset_lists(
     polygons.ring_ends.insert(0, 0)?;
     polygons.polygon_ends.insert(0, 0)?;
     boxed_lists(alloc, polygons)
+}
+
+// The same of polygons whose lists stand elsewhere, which are copied.
+pub(crate) fn copied_lists<A: Allocator>(
+    alloc: Global,
+    polygons: &Polygons<A>,
+) -> Result<Box<PolygonLists, Global>, AllocError>
+    ensures { IfOk result (λ lists. (lists.value.held_points.items ≡ polygons.now.points.items)
+        × (lists.value.held_ring_offsets.items ≡ 0 ∷ polygons.now.ring_ends.items)
+        × (lists.value.held_polygon_offsets.items ≡ 0 ∷ polygons.now.polygon_ends.items)) }
+{
+    boxed_lists(
+        alloc,
+        Polygons {
+            points: Vec::from_slice(alloc, &polygons.points)?,
+            ring_ends: offsets_of(alloc, &polygons.ring_ends)?,
+            polygon_ends: offsets_of(alloc, &polygons.polygon_ends)?,
+        },
+    )
+}
+
+// 0, and then the ends.
+fn offsets_of(alloc: Global, ends: &[usize]) -> Result<Vec<usize, Global>, AllocError>
+    ensures { IfOk result (λ offsets. offsets.items ≡ 0 ∷ ends.now) }
+{
+    let mut offsets = Vec::with_capacity(alloc, ends.len().saturating_add(1))?;
+    offsets.push(0)?;
+    offsets.extend_from_slice(ends)?;
+    Ok(offsets)
 }
 
 // Gives back all memory of the polygons.
