@@ -309,6 +309,28 @@ def box(left, low, right, high):
     return [(left, low), (right, low), (right, high), (left, high)]
 
 
+def corners(random, count):
+    """Cases of triangles that touch in a corner: as rings, as one ring that comes there again and again, and as holes."""
+    side = [(count, y) for y in range(-count, count)]
+    around = [*side, *((-y, x) for x, y in side), *((-x, -y) for x, y in side), *((y, -x) for x, y in side)]
+    triangles = [[(0, 0), *around[4 * at : 4 * at + 2]] for at in range(2 * count)]
+    random.shuffle(triangles)
+    plain = in_order(lines(*(line_of("polygon", ring) for ring in triangles)))
+    mode, name = "overlay union nonzero", f"{len(triangles)} triangles round a point"
+    yield answered(name, mode, lines(*(line_of("clip", ring) for ring in triangles)), plain, Looked(in_order))
+    ring = line_of("subject", list(chain.from_iterable(triangles)))
+    yield answered(f"{name} as one ring", mode, lines(ring), plain, Looked(in_order))
+    large = box(-2 * count, -2 * count, 2 * count, 2 * count)
+    holed = lines(line_of("polygon", large), *(line_of("hole", hole[::-1]) for hole in triangles))
+    said = lines(line_of("subject", large), ring.replace("subject", "clip"))
+    yield answered(f"{name} as holes", "overlay difference nonzero", said, in_order(holed), Looked(in_order))
+
+
+def round_points():
+    """Cases of few triangles and of many round a point."""
+    return chain.from_iterable(corners(Random(SEED), count) for count in (1, 5, 33, 70, 300))
+
+
 def on_corner(ring):
     """The ring turned by an eighth, and larger."""
     return [(x - y, x + y) for x, y in ring]
@@ -366,6 +388,6 @@ def memory():
 
 
 PARTS = (
-    *(worked, faulty, texts, odd_texts, many, points, nested, memory, partial(streams.each_mode, [PLAIN])),
+    *(worked, faulty, texts, odd_texts, many, points, round_points, nested, memory, partial(streams.each_mode, [PLAIN])),
     *(partial(by_chance, mode, seed) for seed, mode in enumerate(MODES)),
 )

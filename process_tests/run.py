@@ -42,6 +42,7 @@ GROUPS = (
 
 # Modules whose cases run where the help of each program lists their mode.
 WHERE_LISTED = {
+    "crossings": "crossings",
     "snaps": "snap",
     "nodes": "node",
     "overlays": "overlay OPERATION RULE",

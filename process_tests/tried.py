@@ -15,6 +15,7 @@ from functools import partial
 sys.dont_write_bytecode = True
 
 import arguments
+import crossings
 import meetings
 import messages
 import nodes
@@ -41,7 +42,8 @@ PARTS = (
 TEXTS = text.empty_texts, text.plain_lines, text.faulty_lines, text.numbers
 # Those of modes that the help may not list yet.
 OVERLAYS = overlays.worked, overlays.faulty, overlays.nested, long_overlays.few
-WHERE_LISTED = {"snap": (snaps.worked,), "node": (nodes.worked, nodes.rows_by_model), "overlay OPERATION RULE": OVERLAYS}
+WHERE_LISTED = {"crossings": (crossings.worked,), "snap": (snaps.worked,), "node": (nodes.worked, nodes.rows_by_model)}
+WHERE_LISTED |= {"overlay OPERATION RULE": OVERLAYS}
 WHERE_LISTED |= {"overlay OPERATION RULE --window X0 Y0 X1 Y1": (windows.worked,)}
 READ = "keytree", "setlist", "seg"
 

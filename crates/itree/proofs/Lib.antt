@@ -3,6 +3,7 @@ pub mod Asked
 pub mod Chained
 pub mod CommandLines
 pub mod Counting
+pub mod Crossings
 pub mod Faults
 pub mod FaultyWords
 pub mod Located

@@ -1,5 +1,5 @@
 -- Pairs of edges that meet, in order, and what they tell at each place.
-use Rattle.std.proofs.Common.{◌≡◌, ◌==◌, ◌&&◌, ◌<◌, ◌⊎◌, ℕ, zero, suc, Bool, true, false, cond, List, [], ◌∷◌, ◌++◌, Option, Some, None, length, get_or, replicate, refl, sym, ap, ◌∙◌, subst, inl, inr, ⊎_elim, arith}
+use Rattle.std.proofs.Common.{◌≡◌, ◌≢◌, ◌==◌, ◌&&◌, ◌<◌, ◌≤◌, ◌⊎◌, ◌↔◌, ℕ, zero, suc, Bool, true, false, cond, List, [], ◌∷◌, ◌++◌, Option, Some, None, length, get_or, replicate, refl, sym, ap, ◌∙◌, subst, inl, inr, ⊎_elim, arith}
 use Rattle.std.proofs.lemmas.Option.{same_Some}
 use Rattle.std.specs.Bool.{Decides}
 use Rattle.std.specs.List.{All, AllPairs, Contains, slice_get, cons_option}
@@ -45,21 +45,30 @@ pair_eq-flips : (p q : ℕ × ℕ) → pair_eq p q ≡ pair_eq q p
 pair_eq-flips p q =
     same_test (pair_eq p q) (pair_eq q p) (λ passes. (pair_eq-tells q p).1 (sym ((pair_eq-tells p q).0 passes))) (λ passes. (pair_eq-tells p q).1 (sym ((pair_eq-tells q p).0 passes)))
 
+-- pairs that are each there once are so in another order
+pub once-permuted : (pairs moved : List (ℕ × ℕ)) → IsPermutation pairs moved → AllPairs (λ pair later. pair ≢ later) pairs → AllPairs (λ pair later. pair ≢ later) moved
+once-permuted pairs moved same once = AllPairs-from_IsDistinct pair_eq-tells moved (IsDistinct-IsPermutation pair_eq pair_eq-flips pairs moved same (IsDistinct-from_AllPairs pair_eq-tells pairs once))
+
+-- and where they are those of a relation they still are
+pub exact-permuted : (R : ℕ → ℕ → Type 0) (pairs moved : List (ℕ × ℕ)) → IsPermutation pairs moved → ((i j : ℕ) → Contains pairs (i, j) ↔ R i j) → (i j : ℕ) → Contains moved (i, j) ↔ R i j
+exact-permuted R pairs moved same exact i j =
+    (λ stands. (exact i j).0 (Contains-permutation moved pairs (i, j) (IsPermutation-sym pairs moved same) stands), λ holds. Contains-permutation pairs moved (i, j) same ((exact i j).1 holds))
+
 -- the meetings in another order are the meetings
 pub AreMeetings-permuted : (edges : List Edge) (pairs moved : List (ℕ × ℕ)) → IsPermutation pairs moved → AreMeetings edges pairs → AreMeetings edges moved
 AreMeetings-permuted edges pairs moved same are = record {
-  once = AllPairs-from_IsDistinct pair_eq-tells moved (IsDistinct-IsPermutation pair_eq pair_eq-flips pairs moved same (IsDistinct-from_AllPairs pair_eq-tells pairs are.once));
-  exact = λ i j. (λ stands. (are.exact i j).0 (Contains-permutation moved pairs (i, j) (IsPermutation-sym pairs moved same) stands), λ meet. Contains-permutation pairs moved (i, j) same ((are.exact i j).1 meet));
+  once = once-permuted pairs moved same are.once;
+  exact = exact-permuted (MeetAt edges) pairs moved same are.exact;
 }
 
 -- of two pairs with one later place, the first has the lower earlier place
 abbrev Rises : List (ℕ × ℕ) → Type 0
 Rises pairs = AllPairs (λ pair other. pair.1 ≡ other.1 → pair.0 < other.0) pairs
 
-ordered-rise : (edges : List Edge) (pairs : List (ℕ × ℕ)) → AreOrderedMeetings edges pairs → Rises pairs
-ordered-rise edges pairs ordered i j d below within same =
-    ⊎_elim (λ level. absurd (ordered.meetings.once i j d below within (one_pair (get_or pairs i d) (get_or pairs j d) level same))) (λ less. less)
-    (eq-or-lt_of_le (ordered.rising i j d below within))
+ordered-rise : (pairs : List (ℕ × ℕ)) → AllPairs (λ pair later. pair ≢ later) pairs → AllPairs (λ pair later. pair.0 ≤ later.0) pairs → Rises pairs
+ordered-rise pairs once rising i j d below within same =
+    ⊎_elim (λ level. absurd (once i j d below within (one_pair (get_or pairs i d) (get_or pairs j d) level same))) (λ less. less)
+    (eq-or-lt_of_le (rising i j d below within))
 
 -- ---- what pairs tell at a place
 
@@ -135,16 +144,25 @@ module _ (numbers : List ℕ) (place : ℕ) where
         told_next (number_told numbers place pair) (told numbers pairs place) (λ number is. above pair pairs number rises is)
         (told-rises pairs (λ i j d below within. rises (suc i) (suc j) d (omega (arith, below)) (omega (arith, within))))
 
+-- pairs in order tell rising numbers, where all numbers rise
+pub told-ordered : (numbers : List ℕ) (place : ℕ) (pairs : List (ℕ × ℕ)) → AllPairs (λ number later. number < later) numbers → AllPairs (λ pair later. pair ≢ later) pairs → AllPairs (λ pair later. pair.0 ≤ later.0) pairs
+    → AllPairs (λ number later. number < later) (told numbers pairs place)
+told-ordered numbers place pairs rise once rising = told-rises numbers place rise pairs (ordered-rise pairs once rising)
+
+-- and where they are those of a relation, they tell the numbers at what stands in it to the place
+pub told-exact : (R : ℕ → ℕ → Type 0) (numbers : List ℕ) (place : ℕ) (pairs : List (ℕ × ℕ)) → ((i j : ℕ) → Contains pairs (i, j) ↔ R i j)
+    → (number : ℕ) → Contains (told numbers pairs place) number ↔ ((i : ℕ) × R i place × (slice_get numbers i ≡ Some number))
+told-exact R numbers place pairs exact number = (
+  λ stands. let (pair, among, here, is) = told-by numbers place pairs number stands in (pair.0, subst (R pair.0) here ((exact pair.0 pair.1).0 among), is),
+  λ (i, holds, is). told-each numbers place pairs (i, place) number ((exact i place).1 holds) refl is,
+)
+
 -- ---- the replies to edges
 
 met_lines : (lines : List (List ℕ)) (edges : List Edge) (pairs : List (ℕ × ℕ)) (place : ℕ) → AreOrderedMeetings edges pairs → AreMetLines lines edges place (told (command_lines lines) pairs place)
 met_lines lines edges pairs place ordered = record {
-  rising = told-rises (command_lines lines) place (command_lines-rise lines) pairs (ordered-rise edges pairs ordered);
-  exact = λ number. (
-    λ stands. let (pair, among, here, is) = told-by (command_lines lines) place pairs number stands in
-        (pair.0, subst (MeetAt edges pair.0) here ((ordered.meetings.exact pair.0 pair.1).0 among), is),
-    λ (earlier, meet, is). told-each (command_lines lines) place pairs (earlier, place) number ((ordered.meetings.exact earlier place).1 meet) refl is,
-  );
+  rising = told-ordered (command_lines lines) place pairs (command_lines-rise lines) ordered.meetings.once ordered.rising;
+  exact = told-exact (MeetAt edges) (command_lines lines) place pairs ordered.meetings.exact;
 }
 
 -- the lines of replies, wherever their lists are kept

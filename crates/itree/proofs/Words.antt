@@ -6,7 +6,7 @@ use Rattle.itree.specs.Modes.{row_of, Names, NamesRange, NamesOverlay, Chooses}
 use Rattle.itree.specs.SegLines.{SaysNoSegCommand}
 use Rattle.itree.specs.Texts.{HasFirstFaulty}
 use Rattle.itree.specs.declared.mode.Mode.{Mode}
-use Rattle.itree.specs.declared.mode.Mode.TheVariants.{KeyTree, KeyList, SetTree, SetList, Segments, Sweep, Meetings, Locate, Snap, Node, Overlay, Tile}
+use Rattle.itree.specs.declared.mode.Mode.TheVariants.{KeyTree, KeyList, SetTree, SetList, Segments, Sweep, Meetings, Locate, Crossings, Snap, Node, Overlay, Tile}
 use Rattle.std.proofs.lemmas.Slice.Eq.{bytes_eq-Decides}
 use Rattle.std.specs.Option.{option_eq}
 use Rattle.std.specs.Str.{bytes_eq}
@@ -132,6 +132,7 @@ Names-faulty (word ∷ words) (Segments min max) (Segments low high) text number
 Names-faulty (word ∷ words) Sweep Sweep text number names too faulty = faulty
 Names-faulty (word ∷ words) Meetings Meetings text number names too faulty = faulty
 Names-faulty (word ∷ words) Locate Locate text number names too faulty = faulty
+Names-faulty (word ∷ words) Crossings Crossings text number names too faulty = faulty
 Names-faulty (word ∷ words) Snap Snap text number names too faulty = faulty
 Names-faulty (word ∷ words) Node Node text number names too faulty = faulty
 Names-faulty (word ∷ words) (Overlay operation rule) (Overlay operation' rule') text number names too faulty = faulty

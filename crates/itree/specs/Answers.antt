@@ -6,10 +6,11 @@ use Rattle.std.specs.Ordering.{int_cmp}
 use Rattle.std.specs.declared.cmp.Ordering.{Ordering}
 use Rattle.i_tree.specs.Seg.Buckets.{Buckets, IsLayout}
 use Rattle.itree.specs.MeetingsLines.{AreMetLines}
+use Rattle.itree.specs.CrossingsLines.{AreToldLines}
 use Rattle.itree.specs.KeyLines.{KeyLine}
 use Rattle.runs.specs.KeyMachine as keys
 use Rattle.itree.specs.LocateLines.{IsLineBelow, edges_of, points_of as points_among}
-use Rattle.itree.specs.Replies.{key_reply_words, seg_reply_words, set_reply_words, height_words, met_words, edge_words, chain_words, polygon_lines, reply_lines}
+use Rattle.itree.specs.Replies.{key_reply_words, seg_reply_words, set_reply_words, height_words, met_words, crossing_lines, edge_words, chain_words, polygon_lines, reply_lines}
 use Rattle.itree.specs.RingLines.{RingLine, subject_of, clip_of}
 use Rattle.itree.specs.SegLines.{SegLine}
 use Rattle.runs.specs.SegMachine as segments
@@ -18,6 +19,7 @@ use Rattle.itree.specs.SetLines.{SetLine}
 use Rattle.runs.specs.SetMachine as sets
 use Rattle.horizontal.specs.Heights.{IsHeightBelow, NoneCollide}
 use Rattle.itree.specs.SweepLines.{segments_of, points_of}
+use Rattle.itree.specs.declared.lines.crossings.CrossingsLine.{CrossingsLine}
 use Rattle.itree.specs.declared.lines.locate.LocateLine.{LocateLine}
 use Rattle.itree.specs.declared.lines.sweep.SweepLine.{SweepLine}
 use Rattle.plane.specs.SweepLine.Crossings.{NoneCross}
@@ -108,6 +110,14 @@ pub record AnswersLocate (lines : List (List ℕ)) (said : List LocateLine) (out
   pub apart : NoneCross (edges_of said)
   pub below : AllZip (IsLineBelow lines said) (points_among said) replies
   pub written : output ≡ reply_lines edge_words replies
+
+-- each edge and each range has one reply, which lists the lines of the earlier edges that cross the edge, or of the edges that
+-- reach the range; and the output is the lines of these replies
+pub record AnswersCrossings (lines : List (List ℕ)) (said : List CrossingsLine) (output : List ℕ) : Type 0 where
+  pub replies : List (List ℕ)
+  pub one_each : length replies ≡ length said
+  pub told : (place : ℕ) (numbers : List ℕ) → slice_get replies place ≡ Some numbers → AreToldLines lines said place numbers
+  pub written : output ≡ crossing_lines said replies
 
 -- the chains are those of the edges, each at its edge's place, and the output is their lines
 pub record AnswersSnap (edges : List Edge) (output : List ℕ) : Type 0 where

@@ -1,4 +1,5 @@
 pub mod Answers
+pub mod CrossingsLines
 pub mod Faults
 pub mod Grammar
 pub mod KeyLines

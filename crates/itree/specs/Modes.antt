@@ -2,8 +2,9 @@
 use Rattle.std.specs.Prelude.{◌≡◌, ◌⊎◌, ⊤, ℕ, ◌^◌, ℤ, ◌+ℤ◌, ◌-ℤ◌, ◌≤ℤ◌, ◌<ℤ◌, pos, List, [], ◌∷◌, map, codes}
 use Rattle.std.specs.Borrow.{Bor}
 use Rattle.i_tree.specs.Seg.Buckets.{HasLayout}
-use Rattle.itree.specs.Answers.{AnswersKeys, AnswersSet, AnswersRange, AnswersSweep, AnswersMeetings, AnswersLocate, AnswersSnap, AnswersNode, AnswersOverlay, AnswersTile}
+use Rattle.itree.specs.Answers.{AnswersKeys, AnswersSet, AnswersRange, AnswersSweep, AnswersMeetings, AnswersLocate, AnswersCrossings, AnswersSnap, AnswersNode, AnswersOverlay, AnswersTile}
 use Rattle.itree.specs.MeetingsLines.{SaysEdge}
+use Rattle.itree.specs.CrossingsLines.{SaysCrossingsLine}
 use Rattle.itree.specs.Grammar.{ReadsAll}
 use Rattle.itree.specs.KeyLines.{KeyLine, SaysKeyCommand}
 use Rattle.itree.specs.LocateLines.{SaysLocateLine, AreCrossingLines}
@@ -11,11 +12,12 @@ use Rattle.itree.specs.RingLines.{RingLine, SaysRing}
 use Rattle.itree.specs.SegLines.{SegLine, SaysSegCommand}
 use Rattle.itree.specs.SetLines.{SetLine, SaysSetCommand}
 use Rattle.itree.specs.SweepLines.{SaysSweepLine, IsOverlapLine}
+use Rattle.itree.specs.declared.lines.crossings.CrossingsLine.{CrossingsLine}
 use Rattle.itree.specs.declared.lines.locate.LocateLine.{LocateLine}
 use Rattle.itree.specs.declared.lines.sweep.SweepLine.{SweepLine}
 use Rattle.plane.specs.declared.edge.Edge.{Edge}
 use Rattle.itree.specs.declared.mode.Mode.{Mode}
-use Rattle.itree.specs.declared.mode.Mode.TheVariants.{KeyTree, KeyList, SetTree, SetList, Segments, Sweep, Meetings, Locate, Snap, Node, Overlay, Tile}
+use Rattle.itree.specs.declared.mode.Mode.TheVariants.{KeyTree, KeyList, SetTree, SetList, Segments, Sweep, Meetings, Locate, Crossings, Snap, Node, Overlay, Tile}
 use Rattle.overlay.specs.declared.fill.rules.FillRule.{FillRule}
 use Rattle.overlay.specs.declared.fill.rules.FillRule.TheVariants.{EvenOdd, NonZero, Positive, Negative}
 use Rattle.overlay.specs.declared.fill.rules.Operation.{Operation}
@@ -121,6 +123,20 @@ locate_row = record {
   AreCrossing = AreCrossingLines;
 }
 
+-- edges of the plane and ranges, beside the edges
+abbrev pub crossings_row : Row
+crossings_row = record {
+  word = codes "crossings";
+  choices = [];
+  numbers = [];
+  Fits = ⊤;
+  Command = CrossingsLine;
+  SaysCommand = SaysCrossingsLine;
+  AnswersAll = AnswersCrossings;
+  IsOverlap = λ lines number. ⊥;
+  AreCrossing = λ lines first second. ⊥;
+}
+
 -- edges of the plane, each over its chain
 abbrev pub chains_row : List ℕ → (List Edge → List ℕ → Type 0) → Row
 chains_row word AnswersThese = record {
@@ -195,6 +211,7 @@ row_of (Segments min max) = segments_row min max
 row_of Sweep = sweep_row
 row_of Meetings = meetings_row
 row_of Locate = locate_row
+row_of Crossings = crossings_row
 row_of Snap = chains_row (codes "snap") AnswersSnap
 row_of Node = chains_row (codes "node") AnswersNode
 row_of (Overlay operation rule) = overlay_row operation rule

@@ -7,6 +7,8 @@ use Rattle.runs.specs.declared.keys.KeyReply.{KeyReply}
 use Rattle.runs.specs.declared.keys.KeyReply.TheVariants as key_reply
 use Rattle.runs.specs.declared.sets.SetReply.{SetReply}
 use Rattle.runs.specs.declared.sets.SetReply.TheVariants as set_reply
+use Rattle.itree.specs.declared.lines.crossings.CrossingsLine.{CrossingsLine}
+use Rattle.itree.specs.declared.lines.crossings.CrossingsLine.TheVariants as crossings_line
 use Rattle.itree.specs.declared.set_key.SetKey.{SetKey}
 use Rattle.itree.specs.declared.timed_val.TimedVal.{TimedVal}
 use Rattle.plane.specs.declared.point.Point.{Point}
@@ -48,9 +50,24 @@ abbrev pub height_words : Option ℤ → List ℕ
 height_words (Some y) = codes "below " ++ signed_decimal y
 height_words None = codes "none"
 
+-- a name, and numbers behind it
+abbrev pub number_words : List ℕ → List ℕ → List ℕ
+number_words name numbers = name ++ flat_map (λ number. codes " " ++ decimal number) numbers
+
 -- the words of the reply to an edge: the numbers of the lines that say the earlier edges which it meets
 abbrev pub met_words : List ℕ → List ℕ
-met_words numbers = codes "meets" ++ flat_map (λ number. codes " " ++ decimal number) numbers
+met_words numbers = number_words (codes "meets") numbers
+
+-- the word of the reply to an edge, which tells the earlier edges that cross it; and to a range, which tells the edges that reach it
+abbrev pub crossing_word : CrossingsLine → List ℕ
+crossing_word (crossings_line.Edge edge) = codes "crosses"
+crossing_word (crossings_line.Range range) = codes "reached"
+
+-- the lines of the replies that list these numbers, a list for each line that is said
+abbrev pub crossing_lines : List CrossingsLine → List (List ℕ) → List ℕ
+crossing_lines [] lists = []
+crossing_lines (line ∷ said) [] = []
+crossing_lines (line ∷ said) (numbers ∷ lists) = (number_words (crossing_word line) numbers ++ 10 ∷ []) ++ crossing_lines said lists
 
 -- the words of the reply to a point among edges: the number of the line that says the edge below it, if there is one
 abbrev pub edge_words : Option ℕ → List ℕ

@@ -1,6 +1,8 @@
--- How pairs of edges that meet, edges below points, and the chains of edges are told to the replies.
-use Rattle.std.specs.Prelude.{◌≡◌, ◌==◌, ◌<◌, ◌≤◌, ℕ, if◌then◌else◌, List, Option, Some, None, AllPairs, length, map, slice_get}
+-- How pairs of edges that meet or cross, edges below points, and the chains of edges are told to the replies.
+use Rattle.std.specs.Prelude.{◌≡◌, ◌≢◌, ◌==◌, ◌↔◌, ◌<◌, ◌≤◌, ℕ, if◌then◌else◌, List, Option, Some, None, AllPairs, Contains, length, map, slice_get}
 use Rattle.std.specs.List.{filter_map}
+use Rattle.itree.specs.CrossingsLines.{IsToldTo}
+use Rattle.itree.specs.declared.lines.crossings.CrossingsLine.{CrossingsLine}
 use Rattle.itree.specs.declared.lines.meetings.MetLines.{MetLines}
 use Rattle.plane.specs.Meet.Meetings.{AreMeetings}
 use Rattle.plane.specs.declared.edge.Edge.{Edge}
@@ -25,6 +27,13 @@ pub record AreTold (numbers : List ℕ) (pairs : List (ℕ × ℕ)) (count : ℕ
 -- the pairs are the meetings of the edges, and their earlier places never fall
 pub record AreOrderedMeetings (edges : List Edge) (pairs : List (ℕ × ℕ)) : Type 0 where
   pub meetings : AreMeetings edges pairs
+  pub rising : AllPairs (λ pair later. pair.0 ≤ later.0) pairs
+
+-- The pairs are those of places of lines of which the reply to the second tells the first, each once, and their first places
+-- never fall.
+pub record AreOrderedCrossings (said : List CrossingsLine) (pairs : List (ℕ × ℕ)) : Type 0 where
+  pub once : AllPairs (λ pair later. pair ≢ later) pairs
+  pub exact : (told place : ℕ) → Contains pairs (told, place) ↔ IsToldTo said told place
   pub rising : AllPairs (λ pair later. pair.0 ≤ later.0) pairs
 
 -- the number at a place, where there are both

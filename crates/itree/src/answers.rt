@@ -15,6 +15,7 @@ use crate::mode::Mode;
 use crate::set_key::SetKey;
 use crate::timed_key::TimedKey;
 use crate::timed_val::TimedVal;
+use crossings::answer_crossings;
 use i_tree::key::exp::KeyExpCollection;
 use i_tree::key::list::KeyExpList;
 use i_tree::key::tree::KeyExpTree;
@@ -34,6 +35,7 @@ use std::alloc::Allocator;
 use std::cmp::Ordering;
 use sweep::answer_sweep;
 
+mod crossings;
 mod locate;
 mod meetings;
 mod node;
@@ -101,6 +103,10 @@ pub fn answer_text<A: Allocator + Copy>(
             let said = parse_commands(alloc, text)?;
             let mut status = StatusTree::new(alloc, 0)?;
             answer_locate(alloc, &mut status, text, &said)
+        }
+        Mode::Crossings => {
+            let said = parse_commands(alloc, text)?;
+            answer_crossings(alloc, text, &said)
         }
         Mode::Snap => {
             let edges = parse_commands(alloc, text)?;

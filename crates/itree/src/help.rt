@@ -45,6 +45,12 @@ edge covers the X from its lesser end up to its greater, which it doesn't cover.
   edge X0 Y0 X1 Y1
   point X Y                            edge LINE | none
 
+itree crossings: for each edge the lines of the earlier edges that cross it, going from below it to
+above it or back; for each range the lines of the edges that at the column X are from LOW to HIGH
+high, rising. An edge covers the X as above. An upright edge or a point crosses and reaches nothing.
+  edge X0 Y0 X1 Y1                     crosses LINE ..
+  range X LOW HIGH                     reached LINE ..
+
 itree snap: for each edge between two points of the plane the points of the grid over which it goes
 where edges are broken where they meet, from its beginning to its end. No two then cross.
   edge X0 Y0 X1 Y1                     chain X Y ..

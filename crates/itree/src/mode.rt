@@ -41,6 +41,8 @@ pub enum Mode {
     Meetings,
     /// Points among edges of the plane, and which edge lies straight below each.
     Locate,
+    /// Edges of the plane, which of them cross, and which reach ranges of heights.
+    Crossings,
     /// Edges of the plane, and over which points of the grid each goes where they are broken.
     Snap,
     /// As in `Snap`, but where edges are moved only where they must be.
@@ -74,6 +76,7 @@ impl Mode {
             ["sweep"] => Some(Mode::Sweep),
             ["meetings"] => Some(Mode::Meetings),
             ["locate"] => Some(Mode::Locate),
+            ["crossings"] => Some(Mode::Crossings),
             ["snap"] => Some(Mode::Snap),
             ["node"] => Some(Mode::Node),
             ["overlay", operation, rule] => overlay_by(operation, rule),

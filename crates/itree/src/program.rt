@@ -17,16 +17,16 @@ use crate::version::{VERSION, asks_for_version};
 use std::alloc::Allocator;
 use std::io::{Read, Write};
 
-/// Runs the program: reads all of `input`, and writes one reply line for each command or edge to `output`. In a sweep, and
-/// among edges and points, each point has one, and a segment or an edge has none; and of rings, each ring of the polygons has
-/// one that they make. Where the words ask for help it reads nothing, and writes `HELP`; where they ask for the version,
+/// Runs the program: reads all of `input`, and writes one reply line for each command, edge or range to `output`. In a sweep,
+/// and among edges and points, each point has one, and a segment or an edge has none; and of rings, each ring of the polygons
+/// has one that they make. Where the words ask for help it reads nothing, and writes `HELP`; where they ask for the version,
 /// `VERSION`.
 ///
 /// `words` are the arguments without the program's name, which are to be the one word of a mode: `keytree`, `keylist`,
-/// `settree`, `setlist`, `sweep`, `meetings`, `locate`, `snap` or `node`; `seg`, `MIN` and `MAX`, the ends of a range that has a
-/// layout; `overlay`, an operation and a fill rule, and behind these maybe `--window` and the sides of a window; or one word that
-/// asks for help, `help`, `--help` or `-h`, or for the version, `--version` or `-V`. `faults` stands for standard error, and the
-/// answer is the process's status:
+/// `settree`, `setlist`, `sweep`, `meetings`, `locate`, `crossings`, `snap` or `node`; `seg`, `MIN` and `MAX`, the ends of a range
+/// that has a layout; `overlay`, an operation and a fill rule, and behind these maybe `--window` and the sides of a window; or one
+/// word that asks for help, `help`, `--help` or `-h`, or for the version, `--version` or `-V`. `faults` stands for standard error,
+/// and the answer is the process's status:
 ///
 /// - 0 where all replies, or the text asked for, were written and flushed. An insertion that was refused has a reply too.
 /// - 1 where reading, writing, flushing or memory outside the commands failed, or memory for a sweep, for edges or for

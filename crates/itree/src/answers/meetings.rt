@@ -43,8 +43,8 @@ fn ordered_meetings<A: Allocator + Copy>(
     Ok(pairs)
 }
 
-// So many replies that list no line.
-fn unmet<A: Allocator + Copy>(alloc: A, count: usize) -> Result<Vec<MetLines<A>, A>, AllocError>
+/// So many replies that list no line.
+pub fn unmet<A: Allocator + Copy>(alloc: A, count: usize) -> Result<Vec<MetLines<A>, A>, AllocError>
     ensures { IfOk result (λ replies. lists_of replies.items ≡ replicate count []) }
 {
     let mut replies = Vec::new(alloc);
@@ -55,8 +55,8 @@ fn unmet<A: Allocator + Copy>(alloc: A, count: usize) -> Result<Vec<MetLines<A>,
     Ok(replies)
 }
 
-// Adds to the reply at each pair's later place the number at its earlier place.
-fn tell<A: Allocator>(
+/// Adds to the reply at each pair's later place the number at its earlier place.
+pub fn tell<A: Allocator>(
     replies: &mut [MetLines<A>],
     pairs: &[(usize, usize)],
     numbers: &[usize],

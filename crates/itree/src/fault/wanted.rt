@@ -18,6 +18,8 @@ pub enum Wanted {
     OfEdges,
     /// A word that begins a line of edges and points.
     OfLocate,
+    /// A word that begins a line of edges and ranges.
+    OfCrossings,
     /// A word that begins a line of rings.
     OfRings,
     /// A number.
@@ -60,6 +62,7 @@ impl Wanted {
             Wanted::OfSweep => "segment or point is wanted",
             Wanted::OfEdges => "edge is wanted",
             Wanted::OfLocate => "edge or point is wanted",
+            Wanted::OfCrossings => "edge or range is wanted",
             Wanted::OfRings => "subject or clip is wanted",
             Wanted::Number => "a whole number from -2147483648 to 2147483647 is wanted",
             Wanted::OneMore => "one more number is wanted behind it",

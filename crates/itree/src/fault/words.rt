@@ -186,6 +186,7 @@ fn beginning(mode: Mode) -> Wanted
         Mode::Sweep => Wanted::OfSweep,
         Mode::Meetings | Mode::Snap | Mode::Node => Wanted::OfEdges,
         Mode::Locate => Wanted::OfLocate,
+        Mode::Crossings => Wanted::OfCrossings,
         Mode::Overlay { .. } | Mode::Tile { .. } => Wanted::OfRings,
     }
 }
@@ -200,6 +201,7 @@ fn numbers_behind(mode: Mode, name: &[u8]) -> Option<Numbers> {
         Wanted::OfSweep => of_sweep(name),
         Wanted::OfEdges => of_edges(name),
         Wanted::OfLocate => of_locate(name),
+        Wanted::OfCrossings => of_crossings(name),
         _ => of_rings(name),
     }
 }
@@ -258,6 +260,15 @@ fn of_locate(name: &str) -> Option<Numbers> {
     match name {
         "edge" => Some(Numbers::Count(4)),
         "point" => Some(Numbers::Count(2)),
+        _ => None,
+    }
+}
+
+// Those of edges and ranges.
+fn of_crossings(name: &str) -> Option<Numbers> {
+    match name {
+        "edge" => Some(Numbers::Count(4)),
+        "range" => Some(Numbers::Count(3)),
         _ => None,
     }
 }

@@ -1,8 +1,8 @@
 //! The lines of edges, and the replies to them.
 
-ghost use Rattle.std.specs.Prelude.{◌∷◌, codes, map, IfSome, IsNone};
+ghost use Rattle.std.specs.Prelude.{◌≡◌, ◌∷◌, ◌++◌, codes, map, IfSome, IsNone, OnOk, string_bytes};
 ghost use Rattle.itree.specs.MeetingsLines.{SaysEdge, SaysNoEdge};
-ghost use Rattle.itree.specs.Replies.{met_words};
+ghost use Rattle.itree.specs.Replies.{met_words, number_words};
 
 use super::{LineCommand, LineReply, number, three_numbers};
 use plane::edge::Edge;
@@ -42,10 +42,21 @@ impl<B: Allocator> LineReply for MetLines<B> {
     ghost words = { λ reply. met_words reply.numbers.items };
 
     fn push_words<A: Allocator>(&self, text: &mut String<A>) -> Result<(), AllocError> {
-        text.push_str("meets")?;
-        for number in &self.numbers {
-            write!(text, " {number}")?;
-        }
-        Ok(())
+        push_numbers(text, "meets", &self.numbers)
     }
+}
+
+/// Appends the name, and the numbers, each after one space.
+pub fn push_numbers<A: Allocator>(
+    text: &mut String<A>,
+    name: &str,
+    numbers: &[usize],
+) -> Result<(), AllocError>
+    ensures { OnOk result (string_bytes text.new ≡ string_bytes text.old ++ number_words name.now numbers.now) }
+{
+    text.push_str(name)?;
+    for number in numbers {
+        write!(text, " {number}")?;
+    }
+    Ok(())
 }

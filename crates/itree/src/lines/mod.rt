@@ -13,6 +13,7 @@ use crate::fault::Fault;
 use std::alloc::{AllocError, Allocator};
 use std::str;
 
+mod crossings;
 mod keys;
 mod locate;
 mod meetings;
@@ -23,6 +24,7 @@ mod sets;
 mod snap;
 mod sweep;
 
+pub use crossings::{CrossingsLine, crossings_text};
 pub use keys::KeyLine;
 pub use locate::LocateLine;
 pub use meetings::MetLines;

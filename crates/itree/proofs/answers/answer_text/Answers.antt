@@ -5,15 +5,16 @@ use Rattle.i_tree.specs.Rb.Shape.{Shape, entries}
 use Rattle.i_tree.specs.Seg.Buckets.{IsLayout}
 use Rattle.i_tree.specs.Set.Pairs.{values}
 use Rattle.i_tree.specs.Set.SetList.{numbered}
-use Rattle.itree.specs.Answers.{AnswersKeys, AnswersSet, AnswersSegments, AnswersSweep, AnswersMeetings, AnswersLocate, AnswersSnap, AnswersNode, AnswersOverlay, AnswersTile}
+use Rattle.itree.specs.Answers.{AnswersKeys, AnswersSet, AnswersSegments, AnswersSweep, AnswersMeetings, AnswersLocate, AnswersCrossings, AnswersSnap, AnswersNode, AnswersOverlay, AnswersTile}
 use Rattle.itree.specs.Grammar.{lines_of}
 use Rattle.itree.specs.KeyLines.{KeyLine}
 use Rattle.itree.specs.SegLines.{SegLine}
 use Rattle.itree.specs.Texts.{HasOverlapLine, HasCrossingLines}
+use Rattle.itree.specs.declared.lines.crossings.CrossingsLine.{CrossingsLine}
 use Rattle.itree.specs.declared.lines.locate.LocateLine.{LocateLine}
 use Rattle.itree.specs.declared.lines.sweep.SweepLine.{SweepLine}
 use Rattle.itree.specs.declared.mode.Mode.{Mode}
-use Rattle.itree.specs.declared.mode.Mode.TheVariants.{KeyTree, KeyList, SetTree, SetList, Segments, Sweep, Meetings, Locate, Snap, Node, Overlay, Tile}
+use Rattle.itree.specs.declared.mode.Mode.TheVariants.{KeyTree, KeyList, SetTree, SetList, Segments, Sweep, Meetings, Locate, Crossings, Snap, Node, Overlay, Tile}
 use Rattle.plane.specs.declared.edge.Edge.{Edge}
 use Rattle.itree.specs.declared.set_key.SetKey.{SetKey}
 use Rattle.itree.specs.declared.timed_key.TimedKey.{TimedKey}
@@ -82,6 +83,12 @@ returns-in_ok-status-in-Locate-clause-answered g c =
 pub returns-in_ok-status-in-Locate-clause-crossing : goal.returns-in_ok-status-in-Locate-clause-crossing
 returns-in_ok-status-in-Locate-clause-crossing g c = λ first second is.
     subst (λ (mode : Mode). HasCrossingLines mode c.args.text.now first second) (sym c.in-Locate.is) (c.answer_locate.ensures.crossing first second is)
+
+pub returns-in_ok-said-in-Crossings-clause-answered : goal.returns-in_ok-said-in-Crossings-clause-answered
+returns-in_ok-said-in-Crossings-clause-answered g c =
+    let parsed = c.in_ok-said-in-Crossings in
+    answered c.answer_crossings.result (λ output. string_bytes output) Crossings c.args.mode c.in-Crossings.is c.args.text.now parsed.said.items parsed.ensures.said
+    (subst (λ (said : List CrossingsLine). IfOk c.answer_crossings.result (λ output. AnswersCrossings (lines_of c.args.text.now) said (string_bytes output))) c.deref-in-Crossings.ensures.value c.answer_crossings.ensures.answered)
 
 pub returns-in_ok-edges-in-Snap-clause-answered : goal.returns-in_ok-edges-in-Snap-clause-answered
 returns-in_ok-edges-in-Snap-clause-answered g c =
