@@ -42,7 +42,7 @@ mod limits;
 mod tiles;
 mod wkb;
 
-/// The version of the library, as `"0.4.0"`.
+/// The version of the library, as `"0.5.0"`.
 pub fn version() -> &'static str {
     // SAFETY: the library answers a text that ends with 0 and stays.
     unsafe { CStr::from_ptr(calls::itree_version()) }
