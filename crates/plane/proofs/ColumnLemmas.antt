@@ -1,4 +1,5 @@
 -- Lemmas of the sweep by columns.
+pub mod Comparing
 pub mod Exchanges
 pub mod FirstAbove
 pub mod Lines
@@ -18,4 +19,5 @@ pub mod SweepExchange
 pub mod SweepLists
 pub mod SweepLooks
 pub mod SweepServed
+pub mod SweepSizes
 pub mod SweepTimes

@@ -3,4 +3,5 @@ pub mod Asked
 pub mod Descent
 pub mod Moments
 pub mod Status
+pub mod Steps
 pub mod Sweep

@@ -2,7 +2,8 @@
 
 use crate::edges::{Ends, edge, edges_of};
 use i_tree::Refusal;
-use plane::columns::{Asked, find_by_columns};
+use i_tree::steps::Uncounted;
+use plane::columns::{Asked, find_by_columns, find_by_columns_counted};
 use plane::edge::Edge;
 use std::alloc::Global;
 use std::test::Fail;
@@ -83,7 +84,7 @@ fn asked_of(alloc: Global, rows: &[[i32; 3]]) -> Result<Vec<Asked>, Fail> {
 fn is_found(alloc: Global, row: &Row) -> Result<bool, Fail> {
     let edges = edges_of(alloc, row.edges)?;
     let asked = asked_of(alloc, row.asked)?;
-    let mut found = find_by_columns(alloc, &edges, &asked)?;
+    let mut found = find_by_columns_counted(alloc, &mut Uncounted, &edges, &asked)?;
     found.crossed.sort_unstable();
     found.met.sort_unstable();
     Ok(found.crossed.as_slice() == row.crossed && found.met.as_slice() == row.met)

@@ -1,5 +1,5 @@
 -- A descent of the status: what it has passed, and that it parts the edges where it ends.
-use Rattle.std.proofs.Common.{◌≡◌, ◌≢◌, ℤ, ◌<ℤ◌, ◌≤ℤ◌, Ordering, Less, Equal, Greater, ℕ, Bool, true, List, [], ◌∷◌, ◌++◌, refl, sym, ap, ◌∙◌, subst, inl, inr, arith, length, length-append}
+use Rattle.std.proofs.Common.{◌≡◌, ◌≢◌, ℤ, ◌<ℤ◌, ◌≤ℤ◌, Ordering, Less, Equal, Greater, ℕ, Bool, true, false, List, [], ◌∷◌, ◌++◌, refl, sym, ap, ◌∙◌, subst, inl, inr, arith, length, length-append}
 use Rattle.std.specs.List.{All}
 use Rattle.std.specs.Ordering.{int_cmp, is_le}
 use Rattle.std.proofs.lemmas.Cmp.{int_ranked}
@@ -9,8 +9,8 @@ use Rattle.std.proofs.lemmas.List.{map-append}
 use Rattle.std.proofs.lemmas.List.Elements.{All-head, All-tail}
 use Rattle.i_tree.proofs.RootLemmas.Joined.{All-behind}
 use Rattle.std.proofs.lemmas.Bool.{ne_eqb}
-use Rattle.i_tree.proofs.RbLemmas.SearchPath.Descent.{IsPath, IsTop, goes_right}
-use Rattle.i_tree.specs.declared.rb.links.Side.TheVariants.{Right}
+use Rattle.i_tree.proofs.RbLemmas.SearchPath.Descent.{IsPath, IsTop, goes_left, goes_right}
+use Rattle.i_tree.specs.declared.rb.links.Side.TheVariants.{Left, Right}
 use Rattle.i_tree.specs.declared.rb.place.Place.{Place}
 use Rattle.i_tree.specs.declared.rb.place.Place.TheVariants.{Below}
 use Rattle.i_tree.proofs.RbLemmas.Shape.Subtrees.{last_handle-append}
@@ -57,6 +57,24 @@ goes_on_right sought tree here some item subtrees right on_right place last way 
       of = (way.at.live some, sym on_right.is, (front, item, refl));
       before = inr (front, (here, item), refl, (found_is, stands));
       after = way.after;
+    })
+
+-- to the subtree on the left of an entry whose edge doesn't stand in front
+pub goes_on_left : (sought : Sought) (tree : Shape ActiveEdge) (here : ℕ) → here ≢ EMPTY_REF → (item : ActiveEdge)
+    → (subtrees : entries (subtree_at here tree) ≡ entries (left_at here tree) ++ (here, item) ∷ entries (right_at here tree))
+    → (left : ℕ) → IsTop tree (left_at here tree) left → (place : Place) (last : ℕ) → IsPath (FindsInFront sought) (BeginsBehind sought) EMPTY_REF tree here place last
+    → ¬ (StandsInFront sought item) → (passed : Bool) → passed ≡ false → (found : ℕ) → found ≡ last → IsPath (FindsInFront sought) (BeginsBehind sought) EMPTY_REF tree left (place_below here passed) found
+goes_on_left sought tree here some item subtrees left on_left place last way fails passed is_so found found_is =
+    let is : place_below here passed ≡ Below here Left = ap (place_below here) is_so ∙ rw (ne_eqb here EMPTY_REF some) refl in
+    let P : Place → Type 0 = λ place. IsPath (FindsInFront sought) (BeginsBehind sought) EMPTY_REF tree left place found in
+    subst P (sym is)
+    (record {
+      front = way.front;
+      back = (here, item) ∷ (entries (right_at here tree) ++ way.back);
+      at = goes_left tree here item subtrees way.at left on_left.live on_left.is;
+      of = (way.at.live some, sym on_left.is, (item, entries (right_at here tree) ++ way.back, refl));
+      before = subst (LastFinds (FindsInFront sought) EMPTY_REF way.front) (sym found_is) way.before;
+      after = fails;
     })
 
 -- A list is parted by a test into those that pass and those that don't. Where the last of some pass, and the first of the rest

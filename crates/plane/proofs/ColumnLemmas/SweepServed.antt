@@ -7,7 +7,7 @@ use Rattle.std.proofs.lemmas.List.Elements.{All-contains, All-nil, All-weaker, C
 use Rattle.i_tree.proofs.RootLemmas.Joined.{AllPairs-nil}
 use Rattle.event_queue.specs.Queue.{Precedes, StandsAt, event_at}
 use Rattle.event_queue.specs.declared.Event.{Event}
-use Rattle.event_queue.specs.declared.Task.TheVariants.{End, Answer}
+use Rattle.event_queue.specs.declared.Task.TheVariants.{End, Begin, Answer}
 use Rattle.event_queue.proofs.QueueLemmas.Done.{done_earlier, one_more}
 use Rattle.event_queue.proofs.QueueLemmas.Places.{slice_get-stands}
 use Rattle.plane.specs.declared.edge.Edge.{Edge}
@@ -35,6 +35,14 @@ pub record IsServed (edges : List Edge) (asked : List Asked) (events : List Even
   pub before : (event : Event) → k < length events → event ≡ get_or events k event → from ≤ℤ moment_of event
   pub swept : IsSwept edges (take k events) from line exchanges told
   pub are_met : AreMet edges asked (take k events) met
+
+-- what ends isn't answered
+pub end_differs : End ≡ Answer → ⊥
+end_differs both = cc
+
+-- and what begins neither
+pub begin_differs : Begin ≡ Answer → ⊥
+begin_differs both = cc
 
 -- ---- before the first event
 

@@ -1,5 +1,5 @@
 -- Pairs of few items, each compared with all others.
-use Rattle.std.proofs.Common.{◌≡◌, ◌↔◌, ◌⊎◌, inl, inr, ℕ, ◌+◌, ◌<◌, ◌≤◌, List, Some, length, sym, ap, ◌∙◌, subst, subst₂, arith}
+use Rattle.std.proofs.Common.{◌≡◌, ◌↔◌, ◌⊎◌, inl, inr, ℕ, ◌+◌, ◌<◌, ◌≤◌, List, Some, length, sym, ap, ◌∙◌, subst, arith}
 use Rattle.std.specs.List.{slice_get}
 use Rattle.std.proofs.lemmas.Bool.{cases_lt}
 use Rattle.std.proofs.lemmas.Option.{same_Some, slice_get_within}
@@ -27,24 +27,16 @@ module _ {X : Type 0} (Meeting : X → X → Type 0) (items : List X) (second : 
   second_all all i j = (λ pair. (let inside = slice_get_within items j pair.other pair.second in omega (arith, inside, all), pair), λ (_, pair). pair)
 
   -- one more item before it
-  pub first_more : (first : ℕ) (one other : X) → first < second → slice_get items first ≡ Some one → slice_get items second ≡ Some other
-      → (i j : ℕ) → ((i < first + 1) × (j ≡ second) × PairAt Meeting items i j) ↔ (((i < first) × (j ≡ second) × PairAt Meeting items i j) ⊎ ((i ≡ first) × (j ≡ second) × Meeting one other))
-  first_more first one other rising stands stands' i j = (
+  pub first_more : (first : ℕ)
+      → (i j : ℕ) → ((i < first + 1) × (j ≡ second) × PairAt Meeting items i j) ↔ (((i < first) × (j ≡ second) × PairAt Meeting items i j) ⊎ ((i ≡ first) × (j ≡ second) × PairAt Meeting items i j))
+  first_more first i j = (
     λ (below, at, pair). elim (cases_lt i first) [
       | inl before ↦ inl (before, at, pair)
-      | inr upto ↦
-          let is : i ≡ first = omega (arith, below, upto) in
-          let same : pair.one ≡ one = same_Some pair.one one (sym pair.first ∙ ap (slice_get items) is ∙ stands) in
-          let same' : pair.other ≡ other = same_Some pair.other other (sym pair.second ∙ ap (slice_get items) at ∙ stands') in
-          inr (is, at, subst₂ Meeting same same' pair.meet)
+      | inr upto ↦ inr (omega (arith, below, upto), at, pair)
     ],
     λ told. elim told [
       | inl (before, at, pair) ↦ (omega (arith, before), at, pair)
-      | inr (is, at, meet) ↦ (
-        omega (arith, is),
-        at,
-        record { one = one; other = other; rising = omega (arith, is, at, rising); first = ap (slice_get items) is ∙ stands; second = ap (slice_get items) at ∙ stands'; meet = meet },
-      )
+      | inr (is, at, pair) ↦ (omega (arith, is), at, pair)
     ],
   )
 

@@ -1,9 +1,10 @@
 //! Descents of the status, each to the place behind all edges that stand in front of what is sought.
 
-ghost use Rattle.std.specs.Prelude.{◌≡◌, ◌<ℤ◌, List, All, MatchBool};
+ghost use Rattle.std.specs.Prelude.{◌≡◌, ◌<ℤ◌, List, All, MatchBool, length};
 ghost use Rattle.i_tree.specs.Rb.Balance.{IsCore};
 ghost use Rattle.i_tree.specs.Rb.Items.{items_of};
 ghost use Rattle.i_tree.specs.Rb.Shape.{entries};
+ghost use Rattle.i_tree.specs.Root.Descent.{Searches};
 ghost use Rattle.plane.specs.declared.sweep_line.active.ActiveEdge.{ActiveEdge};
 ghost use Rattle.plane.specs.Columns.Asked.{IsBelowAsked};
 ghost use Rattle.plane.specs.Columns.Descent.{DescendsTo, GoesRight, IsPartedBy, IsUptoAsked, StandsInFront};
@@ -16,6 +17,7 @@ use crate::sweep_line::ActiveEdge;
 use crate::sweep_line::heights::compare_to_point;
 use i_tree::EMPTY_REF;
 use i_tree::rb::RbTree;
+use i_tree::steps::Counter;
 use std::alloc::Allocator;
 
 /// What is sought along the line: where an edge goes that begins, or the first edge that isn't below what is asked.
@@ -34,13 +36,19 @@ pub struct DescentEnd {
     pub on_right: bool,
 }
 
-/// Goes down to the place behind all edges that stand in front of what is sought.
-pub fn descend<A: Allocator + Copy>(tree: &RbTree<ActiveEdge, A>, sought: Sought) -> DescentEnd
+/// Goes down to the place behind all edges that stand in front of what is sought. It compares each edge on its way once, and counts
+/// that.
+pub fn descend<A: Allocator + Copy, C: Counter>(
+    tree: &RbTree<ActiveEdge, A>,
+    steps: &mut C,
+    sought: Sought,
+) -> DescentEnd
     requires right { All (λ other. other.edge.x0 <ℤ other.edge.x1) (items_of (entries tree.now.shape)) }
     requires sought_right { GoesRight sought }
     requires parted { (front : List ActiveEdge) × (back : List ActiveEdge)
         × IsPartedBy sought (items_of (entries tree.now.shape)) front back }
     ensures end { DescendsTo sought tree.now.shape result }
+    ensures steps { Searches C.made steps.old steps.new (length (entries tree.now.shape)) 0 0 }
     ensures core { IsCore tree.now.shape }
 {
     let mut last = EMPTY_REF;
@@ -49,6 +57,7 @@ pub fn descend<A: Allocator + Copy>(tree: &RbTree<ActiveEdge, A>, sought: Sought
     let mut here = tree.root();
     // `last` is that of the last edge in front of the subtree at `here`, and the first behind that doesn't stand in front.
     while here != EMPTY_REF {
+        steps.add_comparison();
         above = here;
         on_right = stands_in_front(*tree.item(here), sought);
         if on_right {

@@ -3,11 +3,13 @@
 ghost use Rattle.std.specs.Prelude.{◌≡◌, ◌<◌, All, length, IfErr, IfOk};
 ghost use Rattle.i_tree.specs.declared.Refusal.TheVariants.{OutOfMemory};
 ghost use Rattle.plane.specs.Columns.Asked.{Reaches};
+ghost use Rattle.plane.specs.Columns.Steps.{FindsComparing};
 ghost use Rattle.plane.specs.Pairs.Pairs.{ArePairs, ArePairsBetween};
 ghost use Rattle.plane.specs.SweepLine.Crossings.{Cross};
 
 use crate::edge::Edge;
 use i_tree::Refusal;
+use i_tree::steps::{Counter, Uncounted};
 use std::alloc::Allocator;
 use sweep::serve_all;
 
@@ -60,5 +62,31 @@ pub fn find_by_columns<A: Allocator + Copy>(
         All (λ pair. (pair.0 < length edges.now) × (pair.1 < length asked.now)) found.met.items) }
     ensures refused { IfErr result (λ cause. cause ≡ OutOfMemory) }
 {
-    serve_all(alloc, edges, asked)
+    serve_all(alloc, &mut Uncounted, edges, asked)
+}
+
+/// As `find_by_columns`, with its comparisons of edges counted: each on a way down the active edges, each of two neighbours, and
+/// each of an edge with what is asked.
+///
+/// For n edges that cross in k pairs, and m that are asked and reached r times, there are 2 n + m events at most. Each takes one
+/// way down, of two comparisons for each level of the active edges, and two comparisons more. Besides there are 2 k of neighbours,
+/// and r. An exchange is put down by a comparison, so that there are no more of them. How events and exchanges are kept in order
+/// isn't counted.
+pub fn find_by_columns_counted<A: Allocator + Copy, C: Counter>(
+    alloc: A,
+    steps: &mut C,
+    edges: &[Edge],
+    asked: &[Asked],
+) -> Result<Found<A>, Refusal>
+    ensures crossed { IfOk result (λ found. ArePairs Cross edges.now found.crossed.items) }
+    ensures met { IfOk result (λ found. ArePairsBetween Reaches edges.now asked.now found.met.items) }
+    ensures crossed_within { IfOk result (λ found.
+        All (λ pair. (pair.0 < length edges.now) × (pair.1 < length edges.now)) found.crossed.items) }
+    ensures met_within { IfOk result (λ found.
+        All (λ pair. (pair.0 < length edges.now) × (pair.1 < length asked.now)) found.met.items) }
+    ensures steps { IfOk result (λ found.
+        FindsComparing C.made steps.old steps.new edges.now asked.now found.crossed.items found.met.items) }
+    ensures refused { IfErr result (λ cause. cause ≡ OutOfMemory) }
+{
+    serve_all(alloc, steps, edges, asked)
 }

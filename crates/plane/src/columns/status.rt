@@ -7,6 +7,7 @@ ghost use Rattle.i_tree.specs.Rb.Place.{IsPlaceBetween, place_below};
 ghost use Rattle.i_tree.specs.Rb.Shape.{IsHandle, entries, first_handle, last_handle};
 ghost use Rattle.i_tree.specs.declared.Refusal.TheVariants.{OutOfMemory};
 ghost use Rattle.plane.specs.declared.sweep_line.active.ActiveEdge.{ActiveEdge};
+ghost use Rattle.plane.specs.Columns.Steps.{AppendsComparing, Compares};
 ghost use Rattle.plane.specs.Columns.Status.{AreNext, BeginsWith, EndsWith, ExchangesNext, GainsMet, IsAmong, IsExchange, IsFirstWithin, IsOfLine, IsSplitAt, IsSplitByAsked, JoinsLine, LeavesLine};
 ghost use Rattle.plane.specs.Lists.{Extends};
 
@@ -14,7 +15,7 @@ use super::Asked;
 use super::descent::{DescentEnd, Sought, descend, is_upto_asked};
 use crate::sweep_line::ActiveEdge;
 use i_tree::rb::RbTree;
-use i_tree::steps::Uncounted;
+use i_tree::steps::{Counter, Uncounted};
 use i_tree::{EMPTY_REF, Refusal};
 use std::alloc::{AllocError, Allocator};
 use std::marker::Model;
@@ -70,8 +71,9 @@ impl<A: Allocator + Copy> ExchangeStatus<A> {
 
     /// Puts an edge that begins where it stands, and tells the two between which that is. It is refused for want of memory alone,
     /// among which is that of a handle, and changes nothing then.
-    pub fn insert(
+    pub fn insert<C: Counter>(
         &mut self,
+        steps: &mut C,
         beginning: ActiveEdge,
     ) -> Result<(Option<ActiveEdge>, Option<ActiveEdge>), Refusal>
         requires right { All (λ other. other.edge.x0 <ℤ other.edge.x1) self.old.edges }
@@ -82,9 +84,10 @@ impl<A: Allocator + Copy> ExchangeStatus<A> {
         ensures joins { IfOk result (JoinsLine beginning self.old.edges self.new.edges) }
         ensures err { OnErr result (self.new ≡ self.old) }
         ensures refused { IfErr result (λ cause. cause ≡ OutOfMemory) }
+        ensures steps { Compares C.made steps.old steps.new (length self.old.edges) 1 0 }
         ensures places { self.new.places ≡ self.old.places }
     {
-        let end = descend(&self.tree, Sought::Beginning(beginning));
+        let end = descend(&self.tree, steps, Sought::Beginning(beginning));
         let handle = put(&mut self.tree, end, beginning)?;
         self.handles[beginning.place] = handle;
         Ok(edges_beside(&self.tree, handle))
@@ -128,8 +131,9 @@ impl<A: Allocator + Copy> ExchangeStatus<A> {
     }
 
     /// Appends the pair of each edge that is within what is asked and of this place, from the lowest on.
-    pub fn append_within(
+    pub fn append_within<C: Counter>(
         &self,
+        steps: &mut C,
         asked: Asked,
         place: usize,
         met: &mut Vec<(usize, usize), A>,
@@ -139,11 +143,12 @@ impl<A: Allocator + Copy> ExchangeStatus<A> {
             × IsSplitByAsked asked self.now.edges front within back }
         ensures ok { OnOk result ((front : List ActiveEdge) × (within : List ActiveEdge) × (back : List ActiveEdge)
             × IsSplitByAsked asked self.now.edges front within back × GainsMet within place met.old.items met.new.items) }
+        ensures steps { OnOk result (AppendsComparing C.made steps.old steps.new (length self.now.edges) 1 met.old.items met.new.items) }
         ensures err { OnErr result (Extends met.old.items met.new.items) }
     {
-        let end = descend(&self.tree, Sought::Within(asked));
+        let end = descend(&self.tree, steps, Sought::Within(asked));
         let first = handle_behind(&self.tree, end.last);
-        append_from(&self.tree, first, asked, place, met)
+        append_from(&self.tree, steps, first, asked, place, met)
     }
 }
 
@@ -241,8 +246,9 @@ fn handle_behind<A: Allocator + Copy>(tree: &RbTree<ActiveEdge, A>, last: u32) -
 }
 
 /// Appends the pair of each edge from the handle on that is within what is asked, and of this place.
-fn append_from<A: Allocator + Copy>(
+fn append_from<A: Allocator + Copy, C: Counter>(
     tree: &RbTree<ActiveEdge, A>,
+    steps: &mut C,
     first: u32,
     asked: Asked,
     place: usize,
@@ -253,12 +259,14 @@ fn append_from<A: Allocator + Copy>(
     ensures ok { OnOk result ((front : List ActiveEdge) × (within : List ActiveEdge) × (back : List ActiveEdge)
         × IsSplitByAsked asked (items_of (entries tree.now.shape)) front within back
         × GainsMet within place met.old.items met.new.items) }
+    ensures steps { OnOk result (AppendsComparing C.made steps.old steps.new 0 0 met.old.items met.new.items) }
     ensures err { OnErr result (Extends met.old.items met.new.items) }
 {
     let mut here = first;
     // The edges in front of `here` that are within have been appended.
     while here != EMPTY_REF {
         let active = *tree.item(here);
+        steps.add_comparison();
         if !is_upto_asked(active.edge, asked) {
             return Ok(());
         }

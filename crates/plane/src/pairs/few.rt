@@ -1,17 +1,17 @@
 //! Pairs of few items: each is compared with all others, which is sooner done than a sweep is set up.
 
-ghost use Rattle.std.specs.Prelude.{◌≡◌, ◌<◌, MatchBool, OnOk, OnErr, length};
+ghost use Rattle.std.specs.Prelude.{◌≡◌, ◌<◌, IfOk, MatchBool, OnOk, OnErr, length, map};
 ghost use Rattle.plane.specs.Lists.{Extends};
 ghost use Rattle.plane.specs.Pairs.Bounds.{MeetInBoxes};
 ghost use Rattle.plane.specs.Pairs.Pairs.{PairAt, PairBetween};
 ghost use Rattle.plane.specs.Pairs.Points.{Gains, MeetsAt};
 
 use super::boxes::boxes_meet;
-use super::items::{Boxed, Meets};
+use super::items::{Bounds, Boxed, Meets};
 use std::alloc::{AllocError, Allocator};
 
-// So many items are few. A comparison of two boxes takes about a twentieth of what a sweep takes for each item.
-const FEW_ITEMS: usize = 32;
+// So many items are few. A comparison of two boxes takes about a fiftieth of what a sweep takes for each item.
+const FEW_ITEMS: usize = 64;
 
 // So many points are few. An item that looks for points in rows takes as long as one that is compared with so many.
 const FEW_POINTS: usize = 8;
@@ -27,7 +27,7 @@ pub fn are_few_points<T>(points: &[T]) -> bool {
 }
 
 /// Appends the pairs of places whose items meet, the lesser place first.
-pub fn append_pairs_of_few<T: Meets<T>, A: Allocator>(
+pub fn append_pairs_of_few<T: Meets<T>, A: Allocator + Copy>(
     items: &[T],
     out: &mut Vec<(usize, usize), A>,
 ) -> Result<(), AllocError>
@@ -35,56 +35,71 @@ pub fn append_pairs_of_few<T: Meets<T>, A: Allocator>(
     ensures ok { OnOk result (Gains (PairAt T.Meeting items.now) out.old.items out.new.items) }
     ensures err { OnErr result (Extends out.old.items out.new.items) }
 {
+    let boxes = boxes_of(*out.allocator(), items)?;
     // The pairs of the items so far stand there.
     for second in 0..items.len() {
-        append_pairs_before(items, second, out)?;
+        append_pairs_before(items, &boxes, second, out)?;
     }
     Ok(())
+}
+
+// The boxes of the items, in their order, so that each is made once.
+fn boxes_of<T: Boxed, A: Allocator>(alloc: A, items: &[T]) -> Result<Vec<Bounds, A>, AllocError>
+    ensures { IfOk result (λ boxes. boxes.items ≡ map T.bounds items.now) }
+{
+    items.iter().map(|item| item.bounds()).collect(alloc)
 }
 
 // Appends the pairs of the item at the place with those before it.
 fn append_pairs_before<T: Meets<T>, A: Allocator>(
     items: &[T],
+    boxes: &[Bounds],
     second: usize,
     out: &mut Vec<(usize, usize), A>,
 ) -> Result<(), AllocError>
     requires boxed { MeetInBoxes T.bounds T.Meeting }
+    requires boxes { boxes.now ≡ map T.bounds items.now }
     requires inside { second < length items.now }
     ensures ok { OnOk result (Gains (λ i j. (j ≡ second) × PairAt T.Meeting items.now i j) out.old.items out.new.items) }
     ensures err { OnErr result (Extends out.old.items out.new.items) }
 {
-    let item = items[second];
     // The pairs with the items so far stand there.
     for first in 0..second {
-        append_if_they_meet(items[first], first, item, second, out)?;
+        append_if_they_meet(items, boxes, first, second, out)?;
     }
     Ok(())
 }
 
-// Appends the pair of the places of the two items where these meet.
+// Appends the pair of these places where their items meet.
 fn append_if_they_meet<T: Meets<T>, A: Allocator>(
-    one: T,
+    items: &[T],
+    boxes: &[Bounds],
     first: usize,
-    other: T,
     second: usize,
     out: &mut Vec<(usize, usize), A>,
 ) -> Result<(), AllocError>
-    requires { MeetInBoxes T.bounds T.Meeting }
-    ensures ok { OnOk result (Gains (λ i j. (i ≡ first) × (j ≡ second) × T.Meeting one other) out.old.items out.new.items) }
+    requires boxed { MeetInBoxes T.bounds T.Meeting }
+    requires boxes { boxes.now ≡ map T.bounds items.now }
+    requires rising { first < second }
+    requires inside { second < length items.now }
+    ensures ok { OnOk result (Gains (λ i j. (i ≡ first) × (j ≡ second) × PairAt T.Meeting items.now i j) out.old.items out.new.items) }
     ensures err { OnErr result (out.new.items ≡ out.old.items) }
 {
-    if they_meet(one, other) {
+    if they_meet(items, boxes, first, second) {
         out.push((first, second))?;
     }
     Ok(())
 }
 
-// Whether the items meet. Most often their boxes don't, which is sooner told.
-fn they_meet<T: Meets<T>>(one: T, other: T) -> bool
-    requires { MeetInBoxes T.bounds T.Meeting }
-    ensures { MatchBool result (T.Meeting one other) (¬ (T.Meeting one other)) }
+// Whether the items at these places meet. Most often their boxes don't, which is sooner told.
+fn they_meet<T: Meets<T>>(items: &[T], boxes: &[Bounds], first: usize, second: usize) -> bool
+    requires boxed { MeetInBoxes T.bounds T.Meeting }
+    requires boxes { boxes.now ≡ map T.bounds items.now }
+    requires rising { first < second }
+    requires inside { second < length items.now }
+    ensures { let met = PairAt T.Meeting items.now first second in MatchBool result met (¬ met) }
 {
-    boxes_meet(one.bounds(), other.bounds()) && one.meets(other)
+    boxes_meet(boxes[first], boxes[second]) && items[first].meets(items[second])
 }
 
 /// Appends the pairs of places where the item meets the point.

@@ -60,9 +60,10 @@ pub fn pairs_among<T: Meets<T>, A: Allocator + Copy>(
 /// As `pairs_among`, but it gives up once it has tested more often than the budget allows, and answers whether all pairs are
 /// there. Where it gave up, `out` is as it was.
 ///
-/// It tests each pair of items that are live at once and lie near each other. Where these are many though few meet, another way
-/// takes less time. The sweep counts them behind each item, so the last item's tests may be more than the budget allows. Into
-/// which strips heights are cut tells how many tests are made, and so when it gives up is open.
+/// It tests each pair of items that are live at once and whose heights meet. Where these are many though few meet, another way
+/// takes less time. To look at a pair whose heights don't meet counts as an eighth of a test. The sweep counts them behind each
+/// item, so the last item's tests may be more than the budget allows; and it gives up at less, where the first items take so many
+/// that all will be too many. Into which strips heights are cut tells how many tests are made, and so when it gives up is open.
 pub fn pairs_within_budget<T: Meets<T>, A: Allocator + Copy>(
     items: &[T],
     budget: Budget,

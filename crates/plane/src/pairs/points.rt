@@ -8,7 +8,7 @@ ghost use Rattle.plane.specs.Pairs.Parts.{NotBehind};
 ghost use Rattle.plane.specs.Pairs.Points.{ArePointsOf, AreRows, AreStarts, BeginAs, Gains, IsFirstFrom, IsStart, MeetsAt, MeetsPart};
 ghost use Rattle.plane.specs.Lists.{Extends};
 
-use super::budget::Budget;
+use super::budget::{Budget, LOOKS_PER_TEST};
 use super::few::{append_pairs_with_few, are_few_points};
 use super::items::{Boxed, Meets};
 use super::parts::{Part, parts};
@@ -45,9 +45,9 @@ pub fn pairs_with_points<X: Meets<Y>, Y: Boxed, A: Allocator + Copy>(
 /// As `pairs_with_points`, but it gives up once it has tested more often than the budget allows, and answers whether all pairs
 /// are there. Where it gave up, `out` is as it was.
 ///
-/// It tests an item with the points of its rows from its left side to its right one, and each row that it reaches counts as a
-/// test too. Tests are counted behind each item, so those of the last one may be more than the budget allows. Into which rows
-/// heights are cut tells how many tests are made, and so when it gives up is open.
+/// It looks at the points of an item's rows from its left side to its right one, and each row that it reaches counts as a look too.
+/// Eight looks count as a test. They are counted behind each item, so those of the last one may be more than the budget allows.
+/// Into which rows heights are cut tells how many there are, and so when it gives up is open.
 pub fn pairs_with_points_within_budget<X: Meets<Y>, Y: Boxed, A: Allocator + Copy>(
     items: &[X],
     points: &[Y],
@@ -120,11 +120,11 @@ fn append_all<X: Meets<Y>, Y: Boxed, A: Allocator + Copy>(
         ordered: &ordered,
     };
     let start = out.len();
-    let mut tests = 0usize;
+    let mut looks = 0usize;
     for place in 0..items.len() {
         let asked = append_of_item(items[place], place, &table, out)?;
-        tests = tests.saturating_add(asked);
-        if budget.is_spent(tests, out.len() - start) {
+        looks = looks.saturating_add(asked);
+        if budget.is_spent(looks / LOOKS_PER_TEST, out.len() - start) {
             return Ok(false);
         }
     }

@@ -1,6 +1,8 @@
 //! The sweep from left to right in each strip, over the items that are live at an x.
 
-ghost use Rattle.std.specs.Prelude.{◌≡◌, ◌≢◌, ◌⊎◌, ◌-◌, ◌^◌, ◌≤ℤ◌, true, [], All, MatchBool, OnOk, OnErr, IfErr, IfOk};
+ghost use Rattle.std.specs.Bool.{OnTrue};
+ghost use Rattle.std.specs.Int.{int_max};
+ghost use Rattle.std.specs.Prelude.{◌≡◌, ◌≢◌, ◌⊎◌, ◌-◌, ◌^◌, ◌≤ℤ◌, true, false, [], All, MatchBool, OnOk, OnErr, IfErr, IfOk};
 ghost use Rattle.std.specs.Ordering.{int_cmp};
 ghost use Rattle.std.specs.declared.option.Option.TheVariants.{Some};
 ghost use Rattle.i_tree.specs.declared.Refusal.TheVariants.{OutOfMemory};
@@ -9,11 +11,11 @@ ghost use Rattle.plane.specs.Pairs.Bounds.{MeetInBoxes};
 ghost use Rattle.plane.specs.Pairs.Live.{IsIn, held};
 ghost use Rattle.plane.specs.Pairs.Pairs.{GainsAll};
 ghost use Rattle.plane.specs.Pairs.Parts.{AreParts};
-ghost use Rattle.plane.specs.Pairs.Strips.{Reaches, IsOverStrip, range_in};
+ghost use Rattle.plane.specs.Pairs.Strips.{Reaches, IsOverStrip, range_in, strip_at};
 ghost use Rattle.plane.specs.Lists.{Extends};
 ghost use Rattle.plane.specs.Pairs.Sweep.{IsTold, GainsPair, GainsPairs, Asks, Serves};
 
-use super::budget::Budget;
+use super::budget::{Budget, LOOKS_PER_TEST};
 use super::items::{Boxed, Meets};
 use super::live::Live;
 use super::parts::Part;
@@ -63,7 +65,8 @@ pub fn append_pairs<T: Meets<T>, A: Allocator + Copy>(
     let mut live = Live::new(alloc, strips)?;
     let mut strip = 0;
     let mut ahead = ReadAhead::new(alloc);
-    let mut tests = 0usize;
+    let pace = budget.at_pace(parts.len());
+    let mut looks = 0usize;
     // The pairs that the parts so far tell stand there; the items of those in the strip are live, but for some that have ended.
     for (next, part) in parts.iter().enumerate() {
         enter(&mut live, strip, part.strip);
@@ -74,8 +77,8 @@ pub fn append_pairs<T: Meets<T>, A: Allocator + Copy>(
         if out.len() > limit {
             return Ok(true);
         }
-        tests = tests.saturating_add(asked);
-        if budget.is_spent(tests, out.len() - start) {
+        looks = looks.saturating_add(asked);
+        if pace.is_passed(looks, next, out.len() - start) {
             return Ok(false);
         }
     }
@@ -94,7 +97,7 @@ fn enter<T: Boxed, A: Allocator + Copy>(live: &mut Live<T, A>, strip: u32, next:
     }
 }
 
-// Appends the pairs of the item with those before it in the strip, and puts it among them. It answers how many it was tested with.
+// Appends the pairs of the item with those before it in the strip, and puts it among them. It answers how many looks that took.
 fn serve<T: Meets<T>, A: Allocator + Copy>(
     strips: Strips,
     strip: u32,
@@ -123,7 +126,7 @@ fn serve<T: Meets<T>, A: Allocator + Copy>(
     Ok(asked)
 }
 
-// Appends the pairs of the item with those before it in the strip, over its range there. It answers how many it was tested with.
+// Appends the pairs of the item with those before it in the strip, over its range there. It answers how many looks that took.
 fn ask<T: Meets<T>, A: Allocator + Copy>(
     strips: Strips,
     strip: u32,
@@ -153,8 +156,7 @@ fn ask<T: Meets<T>, A: Allocator + Copy>(
     live.near.clear();
     live.tree
         .collect_by_range(range, placed.item.bounds().left, &mut live.near)?;
-    append_told(strips, strip, placed, &live.near, out)?;
-    Ok(live.near.len())
+    Ok(append_told(strips, strip, placed, &live.near, out)?)
 }
 
 // The same where few are live: all of them are gone over, but for those that have expired, which leave.
@@ -177,62 +179,69 @@ fn ask_few<T: Meets<T>, A: Allocator + Copy>(
     ensures tree { live.new.tree ≡ live.old.tree }
 {
     live.drop_expired(placed.item.bounds().left);
-    append_told(strips, strip, placed, &live.few, out)?;
-    Ok(live.few.len())
+    Ok(append_told(strips, strip, placed, &live.few, out)?)
 }
 
-// Appends the pairs of the item with those of the others that it meets, where this strip is the one to tell them.
+// Appends the pairs of the item with those of the others that it meets, where this strip is the one to tell them. It answers how
+// many looks that took: one at each, and those that a test counts.
 fn append_told<T: Meets<T>, A: Allocator>(
     strips: Strips,
     strip: u32,
     placed: Placed<T>,
     others: &[Placed<T>],
     out: &mut Vec<(usize, usize), A>,
-) -> Result<(), AllocError>
+) -> Result<usize, AllocError>
     requires boxed { MeetInBoxes T.bounds T.Meeting }
     requires base { strips.base ≤ℤ (T.bounds placed.item).low }
     ensures ok { OnOk result (GainsPairs T.bounds T.Meeting strips strip placed others.now
         out.old.items out.new.items) }
     ensures err { OnErr result (Extends out.old.items out.new.items) }
 {
+    let mut looks = others.len();
     for other in others {
-        append_if_told(strips, strip, placed, *other, out)?;
+        looks = looks.saturating_add(append_if_told(strips, strip, placed, *other, out)?);
     }
-    Ok(())
+    Ok(looks)
 }
 
-// Appends the pair of the two items where they are told in this strip.
+// Appends the pair of the two items where they are told in this strip. It answers how many looks a test took, or 0 where none was
+// made.
 fn append_if_told<T: Meets<T>, A: Allocator>(
     strips: Strips,
     strip: u32,
     placed: Placed<T>,
     other: Placed<T>,
     out: &mut Vec<(usize, usize), A>,
-) -> Result<(), AllocError>
+) -> Result<usize, AllocError>
     requires boxed { MeetInBoxes T.bounds T.Meeting }
     requires base { strips.base ≤ℤ (T.bounds placed.item).low }
     ensures ok { OnOk result (GainsPair T.bounds T.Meeting strips strip placed other
         out.old.items out.new.items) }
     ensures err { OnErr result (out.new.items ≡ out.old.items) }
 {
-    if is_told(strips, strip, placed.item, other.item) {
+    if !may_be_told(strips, strip, placed.item, other.item) {
+        return Ok(0);
+    }
+    if placed.item.meets(other.item) {
         let first = placed.place.min(other.place);
         let second = placed.place.max(other.place);
         out.push((first, second))?;
     }
-    Ok(())
+    Ok(LOOKS_PER_TEST)
 }
 
-// Whether the items meet, and the greater of their lower sides lies in the strip. Items that meet have heights that do.
-fn is_told<T: Meets<T>>(strips: Strips, strip: u32, one: T, other: T) -> bool
+// Whether the heights of the items meet, and the greater of their lower sides lies in the strip. Items that meet have heights that
+// do.
+fn may_be_told<T: Meets<T>>(strips: Strips, strip: u32, one: T, other: T) -> bool
     requires boxed { MeetInBoxes T.bounds T.Meeting }
     requires base { strips.base ≤ℤ (T.bounds one).low }
-    ensures { let told = IsTold T.bounds T.Meeting strips strip one other in MatchBool result told (¬ told) }
+    ensures here { OnTrue result (strip_at strips (int_max (T.bounds one).low (T.bounds other).low) ≡ strip) }
+    ensures apart { result ≡ false → ¬ (IsTold T.bounds T.Meeting strips strip one other) }
 {
     let first = one.bounds();
     let second = other.bounds();
     let low = first.low.max(second.low);
     let high = first.high.min(second.high);
     // Both comparisons are made, since a branch between them would be guessed wrongly often.
-    (low <= high) & (strips.strip_at(low) == strip) && one.meets(other)
+    (low <= high) & (strips.strip_at(low) == strip)
 }

@@ -1,5 +1,4 @@
-use Rattle.std.proofs.Common.{◌≡◌, ◌<◌, ◌+◌, Some, ap, sym, ◌∙◌, arith}
-use Rattle.std.proofs.lemmas.Option.{slice_get-get_or}
+use Rattle.std.proofs.Common.{◌≡◌, ◌<◌, ◌+◌, ◌∙◌, arith}
 use Rattle.plane.specs.Pairs.Pairs.{PairAt}
 use Rattle.plane.proofs.PairsLemmas.Compared.{first_more, first_all}
 use Rattle.plane.proofs.PairsLemmas.Extends.{OnErr-always}
@@ -20,14 +19,8 @@ loop-first-preserved g c =
     let Meeting = g.T.Meets.Meeting in
     let second = c.args.second in
     let first = c.loop-first.first in
-    let rising = c.loop-first-test.true in
-    let inside = c.requires.inside in
-    let one = c.index-items-first.result in
-    let other = c.index-items-second.result in
-    let stands = slice_get-get_or items first one (omega (arith, rising, inside)) ∙ ap (λ (it : g.row.T.Denot). Some it) (sym c.index-items-first.is) in
-    let stands' = slice_get-get_or items second other inside ∙ ap (λ (it : g.row.T.Denot). Some it) (sym c.index-items-second.is) in
-    Gains-then (λ i j. (i < first) × (j ≡ second) × PairAt Meeting items i j) (λ i j. (i ≡ first) × (j ≡ second) × Meeting one other) (λ i j. (i < first + 1) × (j ≡ second) × PairAt Meeting items i j)
-    (λ i j (below, _, _) (is, _, _). omega (arith, below, is)) (first_more Meeting items second first one other rising stands stands')
+    Gains-then (λ i j. (i < first) × (j ≡ second) × PairAt Meeting items i j) (λ i j. (i ≡ first) × (j ≡ second) × PairAt Meeting items i j) (λ i j. (i < first + 1) × (j ≡ second) × PairAt Meeting items i j)
+    (λ i j (below, _, _) (is, _, _). omega (arith, below, is)) (first_more Meeting items second first)
     c.args.out.now.items c.loop-first.out.items c.append_if_they_meet.new.out.items c.loop-first.invariant (c.in_ok-append_if_they_meet.ensures).ok
 
 pub returns-clause-ok : goal.returns-clause-ok

@@ -78,8 +78,8 @@ returns-then-len-limit-clause-ok g c =
     (λ differs. latest-few g.T.Boxed.bounds c.args.strips (get_or c.args.parts.now c.loop-next.next nothing).strip c.enter.new.live (c.enter.ensures.few differs)) c.enter.ensures.buckets
     (held g.T.Boxed.bounds c.args.strips (get_or c.args.parts.now c.loop-next.next nothing).strip c.serve.new.live) c.in_ok-item.item c.serve.new.out.items (c.in_ok-item.ensures.value nothing) c.serve.ensures.buckets c.serve.ensures.latest (c.in_ok-asked.ensures).ok)
 
-pub returns-then-is_spent-clause-ok : goal.returns-then-is_spent-clause-ok
-returns-then-is_spent-clause-ok g c =
+pub returns-then-is_passed-clause-ok : goal.returns-then-is_passed-clause-ok
+returns-then-is_passed-clause-ok g c =
     let served = c.loop-next.invariant.0 in
     let gained = (c.in_ok-asked.ensures).ok.asks.gains in
     Extends-trans c.args.out.now.items c.loop-next.out.items c.serve.new.out.items (served.pairs, served.gained) (gained.0, gained.1)

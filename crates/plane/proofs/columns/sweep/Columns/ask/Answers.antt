@@ -7,8 +7,8 @@ append_within-requires-clause-split g c =
     let (edges, asked, done, next, stands, sorted) = c.requires.sorted in
     split_asked edges asked done c.args.event next c.requires.task c.args.self.now.status c.args.self.now.exchanges c.args.self.now.crossed.items sorted c.args.what stands
 
-pub returns : goal.returns
-returns g c =
+pub returns-clause-met : goal.returns-clause-met
+returns-clause-met g c =
     on_ok_weaker c.append_within.result
     (λ (front, within, back, split, gains) edges asked done next stands sorted met.
     AreMet-asked edges asked done c.args.event next c.requires.task c.args.self.now.status c.args.self.now.exchanges c.args.self.now.crossed.items sorted c.args.what stands

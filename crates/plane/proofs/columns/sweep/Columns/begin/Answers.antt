@@ -1,6 +1,7 @@
-use Rattle.std.proofs.Common.{◌≡◌, rules, SFits, w64}
+use Rattle.std.proofs.Common.{◌≡◌, length, rules, SFits, w64}
 use Rattle.std.proofs.lemmas.Int.{to_z-of_z}
 use Rattle.plane.proofs.ColumnLemmas.SweepBegin.{IsSwept-begun, absent, can_look_begun_above, can_look_begun_below, split_line}
+use Rattle.plane.proofs.ColumnLemmas.Comparing.{Compares-more}
 use Rattle.plane.proofs.columns.sweep.Columns.begin.Goals as goal
 
 pub insert-requires-clause-split : goal.insert-requires-clause-split
@@ -42,3 +43,13 @@ returns-clause-swept g c =
     rw (status, told)
     (IsSwept-begun edges asked done c.args.event next c.requires.task c.args.self.now.status c.args.self.now.exchanges c.args.self.now.crossed.items sorted c.args.beginning one c.requires.place
     c.insert.new.self (c.in_ok-below.below, c.in_ok-below.above) c.in_ok-below.ensures.joins c.look.new.self.exchanges c.look-2.new.self.exchanges looks looks_too c.in_ok-below.ensures.places)
+
+pub returns-clause-steps : goal.returns-clause-steps
+returns-clause-steps g c =
+    let law = g.met.C.Counter.law in
+    let active = length c.args.self.now.status.edges in
+    let first = Compares-more law c.args.steps.now c.insert.new.steps c.look.new.steps active 1 0 1 c.insert.ensures.steps c.look.ensures.steps in
+    Compares-more law c.args.steps.now c.look.new.steps c.look-2.new.steps active 1 1 1 first c.look-2.ensures.steps
+
+pub returns-clause-crossed : goal.returns-clause-crossed
+returns-clause-crossed g c = cc (c.in_ok-look-2.ensures.crossed, c.in_ok-look.ensures.crossed)

@@ -18,8 +18,8 @@ look-requires g c =
     (can_look_ended edges asked done c.args.event next c.requires.task c.args.self.now.status c.args.self.now.exchanges c.args.self.now.crossed.items sorted
     c.remove-below.new.self c.remove-below.result c.remove-below.ensures.leaves))
 
-pub returns : goal.returns
-returns g c =
+pub returns-clause-swept : goal.returns-clause-swept
+returns-clause-swept g c =
     let fits : SFits w64 c.moment_of.result = search rules in
     let told : c.look.new.self.crossed.items ≡ c.args.self.now.crossed.items = cc (c.look.ensures.crossed) in
     on_ok_weaker c.look.result
@@ -28,3 +28,6 @@ returns g c =
     (IsSwept-ended edges asked done c.args.event next c.requires.task c.args.self.now.status c.args.self.now.exchanges c.args.self.now.crossed.items sorted
     c.remove-below.new.self c.remove-below.result c.remove-below.ensures.leaves c.look.new.self.exchanges looks c.remove-below.ensures.places))
     (rw c.moment_of.ensures at (simp to_z-of_z at c.look.ensures.looks))
+
+pub returns-clause-crossed : goal.returns-clause-crossed
+returns-clause-crossed g c = cc (c.look.ensures.crossed)

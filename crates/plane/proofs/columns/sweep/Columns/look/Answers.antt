@@ -1,5 +1,6 @@
 use Rattle.std.proofs.Common.{rules, SFits, w64, inl, inr, refl}
 use Rattle.std.proofs.lemmas.Int.{to_z-of_z}
+use Rattle.plane.proofs.ColumnLemmas.Comparing.{Compares-none}
 use Rattle.plane.proofs.columns.sweep.Columns.look.Goals as goal
 
 pub first_above-requires-clause-steeper : goal.first_above-requires-clause-steeper
@@ -21,3 +22,9 @@ returns-in_default-first_above-clause-looks g c =
     let fits : SFits w64 c.args.from = search rules in
     let never = simp to_z-of_z at c.in_default-first_above.ensures in
     rw (c.in-Some-Some.is-0, c.in-Some-Some.is-1) (inl (refl, never))
+
+pub returns-in_default-clause-steps : goal.returns-in_default-clause-steps
+returns-in_default-clause-steps g c = Compares-none g.met.C.Counter.law c.args.steps.now 0 0 1
+
+pub returns-in_default-2-clause-steps : goal.returns-in_default-2-clause-steps
+returns-in_default-2-clause-steps g c = Compares-none g.met.C.Counter.law c.args.steps.now 0 0 1
