@@ -1,5 +1,6 @@
 -- Lemmas of snap rounding.
 pub mod Along
+pub mod Apart
 pub mod Axes
 pub mod Beside
 pub mod Clear

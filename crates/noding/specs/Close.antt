@@ -1,5 +1,5 @@
 -- Edges that come close to each other. For private contracts.
-use Rattle.std.specs.Prelude.{◌≡◌, ◌⊎◌, ℤ}
+use Rattle.std.specs.Prelude.{◌≡◌, ◌⊎◌, ℤ, pos, ◌+ℤ◌, ◌-ℤ◌, ◌<ℤ◌}
 use Rattle.plane.specs.declared.edge.Edge.{Edge}
 use Rattle.plane.specs.declared.point.Point.{Point}
 use Rattle.plane.specs.declared.pairs.items.Bounds.{Bounds}
@@ -50,6 +50,11 @@ abbrev pub HaveOnePoint : Bounds → Bounds → Type 0
 HaveOnePoint first second =
     (x y other_x other_y : ℤ) → BoundsMeet first (at_point x y) → BoundsMeet second (at_point x y) → BoundsMeet first (at_point other_x other_y) → BoundsMeet second (at_point other_x other_y)
     → (x ≡ other_x) × (y ≡ other_y)
+
+-- Two heights over a line lie on the same side of it, and both beyond half this margin.
+abbrev pub LieBeyond : ℤ → ℤ → ℤ → Type 0
+LieBeyond start end margin =
+    ((margin <ℤ (start +ℤ start)) × (margin <ℤ (end +ℤ end))) ⊎ (((start +ℤ start) <ℤ (pos 0 -ℤ margin)) × ((end +ℤ end) <ℤ (pos 0 -ℤ margin)))
 
 -- The edge as an item.
 abbrev pub item_of : Edge → CloseEdge

@@ -7,7 +7,7 @@ use Rattle.plane.specs.declared.point.Point.{Point}
 use Rattle.plane.specs.Meet.Kinds.{HasPoint}
 use Rattle.noding.specs.Chains.{IsEnd, IsHot, Passes}
 use Rattle.noding.specs.Close.{PassesInside}
-use Rattle.noding.specs.Crossings.{CrossInside, IsCrossingOf}
+use Rattle.noding.specs.Crossings.{CrossInside, IsCrossingOf, IsPointInside}
 use Rattle.plane.specs.Gains.{IsOfSome}
 use Rattle.noding.specs.Local.{IsNode}
 use Rattle.noding.specs.Offsets.{between}
@@ -99,6 +99,29 @@ pub record IsStopAmong (edges : List Edge) (points : List Point) (stop : Stop) :
   pub stands : slice_get edges place ≡ Some edge
   pub held : Contains points point
   pub along : IsStopAlong place edge point.x point.y stop
+
+-- It is one of the edge at this place of the list, at the point.
+pub record IsStopOn (edges : List Edge) (point : Point) (place : ℕ) (stop : Stop) : Type 0 where
+  pub edge : Edge
+  pub stands : slice_get edges place ≡ Some edge
+  pub along : IsStopAlong place edge point.x point.y stop
+
+-- It is one of so many edges, the first ones of the list.
+abbrev pub IsStopUpto : List Edge → Point → ℕ → Stop → Type 0
+IsStopUpto edges point count stop = (place : ℕ) × (place < count) × IsStopOn edges point place stop
+
+-- It is one of some edge, at the crossing's point, which is an end of neither of its two edges.
+abbrev pub IsStopThere : List Edge → Crossing → Stop → Type 0
+IsStopThere edges crossing stop = IsPointInside edges crossing crossing.point × IsStopUpto edges crossing.point (length edges) stop
+
+-- One of the crossing's two edges is at this place.
+abbrev pub IsOfCrossing : ℕ → Crossing → Type 0
+IsOfCrossing place crossing = (place ≡ crossing.one) ⊎ (place ≡ crossing.other)
+
+-- They pass its point between their ends.
+abbrev pub PassedByBoth : List Edge → Crossing → Type 0
+PassedByBoth edges crossing =
+    (place : ℕ) (edge : Edge) → slice_get edges place ≡ Some edge → IsOfCrossing place crossing → PassesInside edge crossing.point.x crossing.point.y
 
 -- The one stop comes before the other: at an edge before, or before it along the same edge.
 abbrev pub IsBefore : Stop → Stop → Type 0

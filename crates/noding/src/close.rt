@@ -1,11 +1,12 @@
 //! Which edges come close to each other, and which points they pass: what the sweep for pairs asks of edges.
 
 ghost use Rattle.std.specs.Bool.{OnTrue};
-ghost use Rattle.std.specs.Prelude.{◌≡◌, ◌⊎◌, ◌<◌, true, All, IfErr, IfOk, IfSome, IsTrue, MatchBool, length, map};
+ghost use Rattle.std.specs.Prelude.{◌≡◌, ◌⊎◌, ◌<◌, ◌^◌, true, All, IfErr, IfOk, IfSome, IsTrue, MatchBool, length, map};
 ghost use Rattle.i_tree.specs.declared.Refusal.TheVariants.{OutOfMemory};
 ghost use Rattle.plane.specs.Meet.Boxes.{bounds_of};
 ghost use Rattle.plane.specs.Pairs.Pairs.{ArePairs, ArePairsBetween};
-ghost use Rattle.noding.specs.Close.{ComeClose, HaveOnePoint, HoldsEnd, PassesEnd, PassesPoint, ShareEnd, item_of};
+ghost use Rattle.plane.specs.Meet.Crosses.{IsWithin};
+ghost use Rattle.noding.specs.Close.{ComeClose, HaveOnePoint, HoldsEnd, LieBeyond, PassesEnd, PassesPoint, ShareEnd, item_of};
 
 use crate::columns::passing::pairs_passed_by_columns;
 use crate::passing::{is_end, is_in_box, may_pass_inside, passes_inside};
@@ -15,7 +16,7 @@ use plane::meet::meet;
 use plane::pairs::items::{Bounds, Boxed, Meets};
 use plane::pairs::{Budget, pairs_with_points_within_budget, pairs_within_budget};
 use plane::point::Point;
-use plane::vectors::{cross_product, vector_along};
+use plane::vectors::{cross_product, vector_along, vector_between_starts};
 use std::alloc::{AllocError, Allocator};
 
 /// An edge as an item that meets those that come close to it, and the points that it passes between its ends. Of edges by
@@ -123,7 +124,44 @@ fn come_close(one: Edge, other: Edge) -> bool
     if share_end(one, other) {
         return pass_beside(one, other);
     }
-    meet(one, other) || one_passes_end(one, other)
+    if meet(one, other) {
+        return true;
+    }
+    if lie_apart(one, other) {
+        return false;
+    }
+    one_passes_end(one, other)
+}
+
+// Whether one of the edges lies so far to one side of the other's line that neither passes an end of the other one. Most edges
+// whose boxes meet and that don't meet themselves lie so.
+#[inline(always)]
+fn lie_apart(one: Edge, other: Edge) -> bool
+    ensures { result ≡ true → ¬ (PassesEnd one other ⊎ PassesEnd other one) }
+{
+    let one_way = vector_along(one);
+    let other_way = vector_along(other);
+    let between = vector_between_starts(one, other);
+    let whole = cross_product(one_way, other_way);
+    let first = cross_product(between, other_way);
+    if lie_beyond(first, first - whole, margin_of(other)) {
+        return true;
+    }
+    let second = cross_product(between, one_way);
+    lie_beyond(second, second - whole, margin_of(one))
+}
+
+// Whether two heights over a line lie on the same side of it, and both beyond half its margin. All comparisons are made, since a
+// branch between them would be guessed wrongly often.
+fn lie_beyond(start: i128, end: i128, margin: i128) -> bool
+    requires start { IsWithin (2 ^ 67) start }
+    requires end { IsWithin (2 ^ 67) end }
+    requires margin { IsWithin (2 ^ 33) margin }
+    ensures { result ≡ true → LieBeyond start end margin }
+{
+    let above = (margin < start + start) & (margin < end + end);
+    let below = (start + start + margin < 0) & (end + end + margin < 0);
+    above | below
 }
 
 // Of edges that share an end, whether one of them passes an end of the other between its own ends. Most often their boxes have
@@ -170,8 +208,8 @@ fn share_end(one: Edge, other: Edge) -> bool
     is_end(one, other.x0, other.y0) || is_end(one, other.x1, other.y1)
 }
 
-// Whether one of the edges passes an end of the other between its own ends.
-#[inline(always)]
+// Whether one of the edges passes an end of the other between its own ends. It is asked seldom.
+#[inline(never)]
 fn one_passes_end(one: Edge, other: Edge) -> bool
     ensures { let passes = PassesEnd one other ⊎ PassesEnd other one in MatchBool result passes (¬ passes) }
 {

@@ -1,12 +1,12 @@
 //! The stops of edges: which hot points each passes between its ends, in the order along it.
 
-ghost use Rattle.std.specs.Prelude.{◌≡◌, ◌<◌, ℕ, List, All, AllPairs, length, IfErr, IfOk, OnOk};
+ghost use Rattle.std.specs.Prelude.{◌≡◌, ◌<◌, ℕ, List, All, AllPairs, MatchBool, length, IfErr, IfOk, OnOk};
 ghost use Rattle.i_tree.specs.declared.Refusal.TheVariants.{OutOfMemory};
 ghost use Rattle.plane.specs.Pairs.Pairs.{ArePairs};
-ghost use Rattle.noding.specs.Close.{ComeClose};
-ghost use Rattle.noding.specs.Crossings.{AreCrossed};
+ghost use Rattle.noding.specs.Close.{ComeClose, PassesInside};
+ghost use Rattle.noding.specs.Crossings.{AreCrossed, IsCrossed};
 ghost use Rattle.plane.specs.Gains.{GainsThese, HaveSame, IsOfSome};
-ghost use Rattle.noding.specs.Stops.{AreStops, IsBefore, IsStopAlong, IsStopAmong, IsStopAt, IsStopAtCrossing, IsStopAtEnd, IsStopCrossed, IsStopOfBoth, IsStopOfPair, point_of, stop_of, reflected};
+ghost use Rattle.noding.specs.Stops.{AreStops, IsBefore, IsStopAlong, IsStopAmong, IsStopAt, IsStopAtCrossing, IsStopAtEnd, IsOfCrossing, IsStopCrossed, IsStopOfBoth, IsStopOfPair, IsStopThere, IsStopUpto, PassedByBoth, point_of, stop_of, reflected};
 
 use crate::close::{close_pairs, pairs_passed};
 use crate::columns::crossings::crossings_by_columns;
@@ -20,6 +20,9 @@ use plane::edge::{Edge, run_along_axes};
 use plane::point::Point;
 use std::alloc::{AllocError, Allocator};
 use std::cmp::Ordering;
+
+// So few tests of an edge with a crossing are sooner made than the points of crossings are put in order and sought by rows.
+const FEW_TESTS: usize = 1024;
 
 /// A hot point that an edge passes, and none of its ends: the edge's place among all, and how far the point is along it on each axis.
 #[derive(Clone, Copy, Debug, PartialEq, Eq, PartialOrd, Ord)]
@@ -169,7 +172,8 @@ fn push_stops_at_crossings<A: Allocator + Copy>(
     crossings: &[Crossing],
     stops: &mut Vec<Stop, A>,
 ) -> Result<(), Refusal>
-    requires { All (λ crossing. (crossing.one < length edges.now) × (crossing.other < length edges.now)) crossings.now }
+    requires within { All (λ crossing. (crossing.one < length edges.now) × (crossing.other < length edges.now)) crossings.now }
+    requires each { All (IsCrossed edges.now) crossings.now }
     ensures ok { OnOk result ((pairs : List (ℕ × ℕ)) → ArePairs ComeClose edges.now pairs → AreCrossed edges.now pairs crossings.now →
         GainsThese (IsStopCrossed edges.now pairs) stops.old.items stops.new.items) }
     ensures refused { IfErr result (λ cause. cause ≡ OutOfMemory) }
@@ -178,9 +182,96 @@ fn push_stops_at_crossings<A: Allocator + Copy>(
         push_stops_of_crossings(edges, crossings, stops)?;
         return Ok(());
     }
+    if edges.len().saturating_mul(crossings.len()) <= FEW_TESTS {
+        push_stops_at_few(edges, crossings, stops)?;
+        return Ok(());
+    }
     let points = points_inside(*stops.allocator(), edges, crossings)?;
     push_stops_at_points(edges, &points, stops)?;
     Ok(())
+}
+
+// Appends the stops of all edges at the points of these crossings, each edge asked about each of them.
+fn push_stops_at_few<A: Allocator>(
+    edges: &[Edge],
+    crossings: &[Crossing],
+    stops: &mut Vec<Stop, A>,
+) -> Result<(), AllocError>
+    requires within { All (λ crossing. (crossing.one < length edges.now) × (crossing.other < length edges.now)) crossings.now }
+    requires each { All (IsCrossed edges.now) crossings.now }
+    ensures { OnOk result (GainsThese (IsOfSome (IsStopThere edges.now) crossings.now) stops.old.items stops.new.items) }
+{
+    for crossing in crossings {
+        push_stops_there(edges, *crossing, stops)?;
+    }
+    Ok(())
+}
+
+// Appends the stops of all edges at the crossing's point, if that is no end of its two edges.
+fn push_stops_there<A: Allocator>(
+    edges: &[Edge],
+    crossing: Crossing,
+    stops: &mut Vec<Stop, A>,
+) -> Result<(), AllocError>
+    requires within { (crossing.one < length edges.now) × (crossing.other < length edges.now) }
+    requires is { IsCrossed edges.now crossing }
+    ensures { OnOk result (GainsThese (IsStopThere edges.now crossing) stops.old.items stops.new.items) }
+{
+    if is_end_of_one(edges[crossing.one], edges[crossing.other], crossing.point) {
+        return Ok(());
+    }
+    push_stops_of_all(edges, crossing, stops)?;
+    Ok(())
+}
+
+// Appends the stops of all edges at the crossing's point. Its two edges pass it.
+fn push_stops_of_all<A: Allocator>(
+    edges: &[Edge],
+    crossing: Crossing,
+    stops: &mut Vec<Stop, A>,
+) -> Result<(), AllocError>
+    requires { PassedByBoth edges.now crossing }
+    ensures { OnOk result (GainsThese (IsStopUpto edges.now crossing.point (length edges.now)) stops.old.items stops.new.items) }
+{
+    // The stops of the edges so far stand there.
+    for place in 0..edges.len() {
+        push_if_passed(place, edges[place], crossing, stops)?;
+    }
+    Ok(())
+}
+
+// Appends the stop of the edge, which is at this place, at the crossing's point, if it passes that between its ends.
+fn push_if_passed<A: Allocator>(
+    place: usize,
+    edge: Edge,
+    crossing: Crossing,
+    stops: &mut Vec<Stop, A>,
+) -> Result<(), AllocError>
+    requires { IsOfCrossing place crossing → PassesInside edge crossing.point.x crossing.point.y }
+    ensures { OnOk result (GainsThese (IsStopAlong place edge crossing.point.x crossing.point.y) stops.old.items stops.new.items) }
+{
+    if passes_crossing(place, edge, crossing) {
+        stops.push(stop_of(place, edge, crossing.point.x, crossing.point.y))?;
+    }
+    Ok(())
+}
+
+// Whether the edge, which is at this place, passes the crossing's point between its ends. The crossing's own edges aren't asked.
+fn passes_crossing(place: usize, edge: Edge, crossing: Crossing) -> bool
+    requires { IsOfCrossing place crossing → PassesInside edge crossing.point.x crossing.point.y }
+    ensures { let passes = PassesInside edge crossing.point.x crossing.point.y in MatchBool result passes (¬ passes) }
+{
+    if is_of_crossing(place, crossing) {
+        return true;
+    }
+    passes_inside(edge, crossing.point.x, crossing.point.y)
+}
+
+// Whether one of the crossing's two edges is at this place.
+fn is_of_crossing(place: usize, crossing: Crossing) -> bool
+    ensures { MatchBool result (IsOfCrossing place crossing) (¬ (IsOfCrossing place crossing)) }
+{
+    place == crossing.one || place == crossing.other
 }
 
 // Appends the stops of the two edges of each crossing at its point.

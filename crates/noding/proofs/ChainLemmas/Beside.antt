@@ -64,6 +64,10 @@ unmet_tested one other false true none same is = inr is
 unmet_tested one other false false none same neither = ⊎_elim (λ apart. none apart.1) neither
 unmet_tested one other true r is same passes = absurd (cc)
 
+-- but not where neither passes an end of the other
+pub unmet : (one other : Edge) → ¬ (Meet one other) → ¬ (PassesEnd one other ⊎ PassesEnd other one) → ¬ (ComeClose one other)
+unmet one other none neither = ⊎_elim (λ apart. none apart.1) neither
+
 -- two comparisons of which both are made
 pub OnTrue-both : (first second : Bool) {P : Type 0} → (first ≡ true → second ≡ true → P) → OnTrue (first && second) P
 OnTrue-both true true holds = holds refl refl

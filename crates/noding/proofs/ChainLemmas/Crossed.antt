@@ -28,10 +28,10 @@ gains-at_crossings edges pairs points before after crossings =
     (λ stop at. record { place = at.place; edge = at.edge; point = at.point; stands = at.stands; held = (crossings at.point).1 at.crossed; along = at.along })
 
 -- two edges that cross pass the crossing
-passes-first : (one other : Edge) (point : Point) → CrossInside one other point → PassesInside one point.x point.y
+pub passes-first : (one other : Edge) (point : Point) → CrossInside one other point → PassesInside one point.x point.y
 passes-first one other point ((slanted, (at, of_one, of_other, rounds)), none) = ((at, of_one, rounds), λ end. none (inl end))
 
-passes-second : (one other : Edge) (point : Point) → CrossInside one other point → PassesInside other point.x point.y
+pub passes-second : (one other : Edge) (point : Point) → CrossInside one other point → PassesInside other point.x point.y
 passes-second one other point ((slanted, (at, of_one, of_other, rounds)), none) = ((at, of_other, rounds), λ end. none (inr end))
 
 -- the stops of both, where the point is no end

@@ -86,7 +86,8 @@ module _ (edges : List Edge) (pairs : List (ℕ × ℕ)) (crossings : List Cross
   pair-crossed pair one other point held first second cross =
       (crossed (record { one = pair.0; other = pair.1; point = point })).1 (pair, held, (refl, record { one = one; other = other; first = first; second = second; cross = cross }))
 
-  point_paired : (point : Point) → IsOfSome (IsPointInside edges) crossings point → IsOfSome (IsCrossingOf edges) pairs point
+  -- a crossing's point inside is where the edges at some pair cross
+  pub point_paired : (point : Point) → IsOfSome (IsPointInside edges) crossings point → IsOfSome (IsCrossingOf edges) pairs point
   point_paired point (crossing, held, at) =
       let (among, is) = crossed-pair crossing held in
       let cross : CrossInside at.one at.other crossing.point = (crossed-at edges crossing at.one at.other at.first at.second is, at.none) in (
@@ -95,7 +96,8 @@ module _ (edges : List Edge) (pairs : List (ℕ × ℕ)) (crossings : List Cross
         record { one = at.one; other = at.other; first = at.first; second = at.second; cross = subst (CrossInside at.one at.other) (sym at.is) cross },
       )
 
-  paired_point : (point : Point) → IsOfSome (IsCrossingOf edges) pairs point → IsOfSome (IsPointInside edges) crossings point
+  -- and the other way round
+  pub paired_point : (point : Point) → IsOfSome (IsCrossingOf edges) pairs point → IsOfSome (IsPointInside edges) crossings point
   paired_point point (pair, held, at) = (
     record { one = pair.0; other = pair.1; point = point },
     pair-crossed pair at.one at.other point held at.first at.second at.cross.0,

@@ -26,7 +26,7 @@ across x0 y0 x1 y1 =
     identity (plus (times back (number x1)) (times run (number y1))) (plus (times back (number x0)) (times run (number y0))) (omega arith)
 
 -- and so in the other one
-turned : (u v x y : ℤ) → (((pos 0 -ℤ u) *ℤ x) +ℤ ((pos 0 -ℤ v) *ℤ y)) ≡ pos 0 -ℤ ((u *ℤ x) +ℤ (v *ℤ y))
+pub turned : (u v x y : ℤ) → (((pos 0 -ℤ u) *ℤ x) +ℤ ((pos 0 -ℤ v) *ℤ y)) ≡ pos 0 -ℤ ((u *ℤ x) +ℤ (v *ℤ y))
 turned u v x y =
     identity (plus (times (minus (n_of 0) (number u)) (number x)) (times (minus (n_of 0) (number v)) (number y))) (minus (n_of 0) (plus (times (number u) (number x)) (times (number v) (number y)))) (omega arith)
 

@@ -2,13 +2,16 @@ use Rattle.std.proofs.Common.{◌⊎◌, List, [], subst}
 use Rattle.plane.specs.Gains.{GainsThese, IsOfSome}
 use Rattle.noding.specs.Stops.{IsStopCrossed, IsStopOfPair}
 use Rattle.noding.specs.declared.stops.Stop.{Stop}
-use Rattle.noding.proofs.ChainLemmas.Crossings.{within-crossed}
+use Rattle.noding.proofs.ChainLemmas.Crossings.{each-crossed, within-crossed}
 use Rattle.plane.proofs.GainsLemmas.{gained-all, gains-join}
 use Rattle.noding.proofs.ChainLemmas.Stops.{AreStops-sorted}
 use Rattle.noding.proofs.stops.stops_of_pairs.Goals as goal
 
-pub push_stops_at_crossings-requires : goal.push_stops_at_crossings-requires
-push_stops_at_crossings-requires g c = within-crossed c.args.edges.now c.args.pairs.now c.args.crossings.now c.requires.crossed
+pub push_stops_at_crossings-requires-clause-each : goal.push_stops_at_crossings-requires-clause-each
+push_stops_at_crossings-requires-clause-each g c = each-crossed c.args.edges.now c.args.pairs.now c.args.crossings.now c.requires.crossed
+
+pub push_stops_at_crossings-requires-clause-within : goal.push_stops_at_crossings-requires-clause-within
+push_stops_at_crossings-requires-clause-within g c = within-crossed c.args.edges.now c.args.pairs.now c.args.crossings.now c.requires.crossed
 
 pub returns-clause-ok : goal.returns-clause-ok
 returns-clause-ok g c =
