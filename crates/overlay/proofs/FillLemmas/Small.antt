@@ -73,18 +73,18 @@ one_of false false w never = refl
 -- ---- whether two edges are one
 
 -- by all coordinates
-abbrev same_edge : Edge → Edge → Bool
+abbrev pub same_edge : Edge → Edge → Bool
 same_edge one other = int_eq one.x0 other.x0 && (int_eq one.y0 other.y0 && (int_eq one.x1 other.x1 && int_eq one.y1 other.y1))
 
 -- the test tells edges that are one
-same_is : (one other : Edge) → same_edge one other ≡ true → one ≡ other
+pub same_is : (one other : Edge) → same_edge one other ≡ true → one ≡ other
 same_is one other e =
     let first = and_parts (int_eq one.x0 other.x0) (int_eq one.y0 other.y0 && (int_eq one.x1 other.x1 && int_eq one.y1 other.y1)) e in
     let second = and_parts (int_eq one.y0 other.y0) (int_eq one.x1 other.x1 && int_eq one.y1 other.y1) first.1 in
     let third = and_parts (int_eq one.x1 other.x1) (int_eq one.y1 other.y1) second.1 in
     edges-same one other ((Decides-int_eq one.x0 other.x0).0 first.0) ((Decides-int_eq one.y0 other.y0).0 second.0) ((Decides-int_eq one.x1 other.x1).0 third.0) ((Decides-int_eq one.y1 other.y1).0 third.1)
 
-same_itself : (edge : Edge) → same_edge edge edge ≡ true
+pub same_itself : (edge : Edge) → same_edge edge edge ≡ true
 same_itself edge = rw (int_eq-true edge.x0 edge.x0 refl, int_eq-true edge.y0 edge.y0 refl, int_eq-true edge.x1 edge.x1 refl, int_eq-true edge.y1 edge.y1 refl) refl
 
 -- ---- the counts

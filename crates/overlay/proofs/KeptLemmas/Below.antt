@@ -1,5 +1,5 @@
 -- What is below a piece that begins: what is above the last one before it in the status, or nothing.
-use Rattle.std.proofs.Common.{◌≡◌, ◌≢◌, ◌⊎◌, ◌<◌, ◌+◌, ◌++◌, ◌∷◌, inl, inr, Bool, true, false, cond, ℕ, ℤ, pos, ◌+ℤ◌, ◌*ℤ◌, ◌≤ℤ◌, ◌<ℤ◌, List, Option, Some, None, length, get_or, refl, ap, ap₂, sym, subst, ◌∙◌, arith}
+use Rattle.std.proofs.Common.{◌≡◌, ◌≢◌, ◌⊎◌, ◌<◌, ◌+◌, ◌++◌, ◌∷◌, inl, inr, Bool, true, false, cond, ℕ, ℤ, pos, ◌+ℤ◌, ◌≤ℤ◌, ◌<ℤ◌, List, Option, Some, None, length, get_or, refl, ap, ap₂, sym, subst, ◌∙◌, arith}
 use Rattle.std.specs.List.{All, Contains}
 use Rattle.std.specs.declared.cmp.Ordering.{Ordering}
 use Rattle.std.specs.declared.cmp.Ordering.TheVariants.{Less, Equal, Greater}
@@ -14,19 +14,18 @@ use Rattle.i_tree.proofs.RootLemmas.Withouts.{filter-without}
 use Rattle.plane.specs.declared.edge.Edge.{Edge}
 use Rattle.plane.specs.declared.sweep_line.active.ActiveEdge.{ActiveEdge}
 use Rattle.plane.specs.SweepLine.Active.{Entry, IsExpiredAt, cmp_active, is_live_at, live_entries}
-use Rattle.plane.specs.SweepLine.Heights.{IsUpto, height_by_runs, rise, rise_by_run, run}
+use Rattle.plane.specs.SweepLine.Heights.{IsUpto, height_by_runs}
 use Rattle.plane.specs.SweepLine.Line.{IsSortedAt, JoinsAt}
 use Rattle.plane.proofs.SweepLineLemmas.Adjacent.{AllPairs-before, AllPairs-after}
 use Rattle.plane.proofs.SweepLineLemmas.Later.{around_cases}
 use Rattle.plane.proofs.SweepLineLemmas.Live.{is_live_at-before, before-is_live_at}
 use Rattle.overlay.specs.declared.fill.pieces.Piece.{Piece}
-use Rattle.overlay.specs.Fill.Begins.{BeginsUpto, steps}
 use Rattle.overlay.specs.Fill.Counts.{Counts, is_over, is_lower_on, counts_below, counts_above}
-use Rattle.overlay.specs.Fill.Sweep.{AreFillPieces, above_or, below_of, is_below_on, no_piece, nothing, plus}
-use Rattle.overlay.proofs.FillLemmas.Callers.{apart, counts-first, counts-next, lower-asym, lower-irrefl, start-lower}
+use Rattle.overlay.specs.Fill.Sweep.{AreFillPieces, Fits, above_or, below_of, is_below_on, no_piece, nothing, plus}
+use Rattle.overlay.proofs.FillLemmas.Callers.{apart, counts-first, counts-next, counts-small, lower-irrefl}
 use Rattle.overlay.proofs.FillLemmas.Tests.{lt_false, over_is, over_true}
-use Rattle.overlay.proofs.KeptLemmas.Begun.{HasBegun, IsEntryOf, begins_upto, entry_at, goes_on, held, joined-each, piece_at, x_order}
-use Rattle.overlay.proofs.PieceLemmas.Made.{steps-run}
+use Rattle.overlay.proofs.KeptLemmas.Begun.{HasBegun, IsEntryOf, entry_at, goes_on, held, joined-each, piece_at, x_order}
+use Rattle.overlay.proofs.KeptLemmas.Upto.{later-above}
 
 -- ---- counts over the pieces are those over the edges
 
@@ -39,6 +38,20 @@ module _ (pieces : List Piece) (fill : AreFillPieces pieces) where
 
   pub above-edges : (g : Piece) → plus (below_of pieces g) g ≡ counts_above fill.subject fill.clip g
   above-edges g = ap (λ (counts : Counts). plus counts g) (below-edges g)
+
+  -- the counts above a piece are numbers of 64 bits
+  pub below-fits : (k : ℕ) → k < length pieces → Fits (below_of pieces (piece_at pieces k)) (piece_at pieces k)
+  below-fits k within =
+      let piece = piece_at pieces k in
+      let small = counts-small fill.subject fill.clip fill.closed fill.clip_closed fill.noded pieces fill.are fill.most fill.weigh piece (held pieces fill k within) in
+      let subject = ap (λ (c : Counts). c.subject) (above-edges piece) in
+      let clip = ap (λ (c : Counts). c.clip) (above-edges piece) in
+      let countable = fill.countable in
+      let a = small.1.from in
+      let b = small.1.upto in
+      let c = small.3.from in
+      let d = small.3.upto in
+      record { from = omega (arith, ints, subject, countable, a); below = omega (arith, ints, subject, countable, b); clip_from = omega (arith, ints, clip, countable, c); clip_below = omega (arith, ints, clip, countable, d) }
 
 -- ---- lower, or not
 
@@ -114,26 +127,6 @@ module _ (pieces : List Piece) (fill : AreFillPieces pieces) (k : ℕ) (within :
   g_held : Contains pieces g
   g_held = held pieces fill k within
 
-  -- one that begins later isn't lower
-  later : (j : ℕ) → k < j → j < length pieces → is_over start (piece_at pieces j).edge ≡ true → is_lower_on start (piece_at pieces j).edge g.edge ≡ false
-  later j behind inside over = by (begins_upto pieces fill k j behind inside)
-    where
-      by : BeginsUpto g.edge (piece_at pieces j).edge → is_lower_on start (piece_at pieces j).edge g.edge ≡ false
-      by (inl less) = let span = over_is start (piece_at pieces j).edge over in absurd (omega (arith, ints, less, span.0))
-      by (inr (same, rest)) =
-          lower-asym start g (piece_at pieces j)
-          (start-lower fill.subject fill.clip fill.closed fill.clip_closed fill.noded pieces fill.are g (piece_at pieces j) g_held (held pieces fill j inside) (differ k j behind inside) same (slope rest))
-        where
-          slope : (g.edge.y0 <ℤ (piece_at pieces j).edge.y0) ⊎ (g.edge.y0 ≡ (piece_at pieces j).edge.y0) × ((rise g.edge *ℤ steps (piece_at pieces j).edge) ≤ℤ (rise (piece_at pieces j).edge *ℤ steps g.edge))
-              → (g.edge.y0 <ℤ (piece_at pieces j).edge.y0) ⊎ ((g.edge.y0 ≡ (piece_at pieces j).edge.y0) × (rise_by_run g.edge (piece_at pieces j).edge ≤ℤ rise_by_run (piece_at pieces j).edge g.edge))
-          slope (inl less) = inl less
-          slope (inr (even, flat)) =
-              inr (
-                even,
-                subst (λ (z : ℤ). (rise g.edge *ℤ z) ≤ℤ (rise (piece_at pieces j).edge *ℤ run g.edge)) (steps-run (piece_at pieces j).edge (goes_on pieces fill j inside))
-                    (subst (λ (z : ℤ). (rise g.edge *ℤ steps (piece_at pieces j).edge) ≤ℤ (rise (piece_at pieces j).edge *ℤ z)) (steps-run g.edge (goes_on pieces fill k within)) flat),
-              )
-
   -- an earlier one that is over the start stands in the status, and where it is lower it stands before
   stands : (j : ℕ) → j < k → is_over start (piece_at pieces j).edge ≡ true → is_lower_on start (piece_at pieces j).edge g.edge ≡ true → Contains (live joins.front) (entry_at pieces j)
   stands j less over lower =
@@ -161,7 +154,7 @@ module _ (pieces : List Piece) (fill : AreFillPieces pieces) (k : ℕ) (within :
       elim (cases_lt j k) [
         | inl less ↦ (j, less, here, stands j less over_j lower_j)
         | inr most ↦ elim (cases_lt k j) [
-          | inl behind ↦ absurd (never_both (is_lower_on start (piece_at pieces j).edge g.edge) lower_j (later j behind inside over_j))
+          | inl behind ↦ absurd (never_both (is_lower_on start (piece_at pieces j).edge g.edge) lower_j (later-above pieces fill k within j behind inside over_j))
           | inr upto_k ↦
               let level : j ≡ k = omega (arith, most, upto_k) in
               absurd (never_both (is_lower_on start g.edge g.edge) (subst (λ (n : ℕ). is_lower_on start (piece_at pieces n).edge g.edge ≡ true) level lower_j) (lower-irrefl start g))

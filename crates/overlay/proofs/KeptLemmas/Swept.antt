@@ -11,9 +11,8 @@ use Rattle.plane.specs.SweepLine.Line.{IsSortedAt, JoinsAt, NoneCrossAmong}
 use Rattle.overlay.specs.declared.fill.pieces.Piece.{Piece}
 use Rattle.overlay.specs.Fill.Counts.{Counts, kept_edge}
 use Rattle.overlay.specs.Fill.Sweep.{AreFillPieces, Fits, above_or, below_of, kept_of, no_piece, nothing, plus}
-use Rattle.overlay.proofs.FillLemmas.Callers.{counts-small}
-use Rattle.overlay.proofs.KeptLemmas.Begun.{HasBegun, HasBegun-more, HasBegun-none, held, piece_at, x_order}
-use Rattle.overlay.proofs.KeptLemmas.Below.{NotAbove, above-edges, found-below}
+use Rattle.overlay.proofs.KeptLemmas.Begun.{HasBegun, HasBegun-more, HasBegun-none, piece_at, x_order}
+use Rattle.overlay.proofs.KeptLemmas.Below.{NotAbove, below-fits, found-below}
 
 -- The first k pieces have begun: what is above each is noted by its place, and of them the ones that bound the result are kept.
 pub record HasSwept (inside : Counts → Bool) (pieces : List Piece) (k : ℕ) (stored : List Entry) (above : List Counts) (before out : List Edge) : Type 0 where
@@ -42,7 +41,8 @@ by_kept true false edge front rest = refl
 by_kept false true edge front rest = refl
 by_kept false false edge front rest = refl
 
-kept_of-more : (inside : Counts → Bool) (all done : List Piece) (piece : Piece)
+-- one piece more, and what is kept of it
+pub kept_of-more : (inside : Counts → Bool) (all done : List Piece) (piece : Piece)
     → kept_of inside all (done ++ piece ∷ []) ≡ kept_of inside all done ++ kept_edge (inside (below_of all piece)) (inside (plus (below_of all piece) piece)) piece.edge []
 kept_of-more inside all [] piece = refl
 kept_of-more inside all (first ∷ done) piece =
@@ -64,19 +64,7 @@ module _ (inside : Counts → Bool) (pieces : List Piece) (fill : AreFillPieces 
 
   -- the counts above a piece are numbers of 64 bits
   pub sums-fit : (counts : Counts) → counts ≡ below_of pieces piece → Fits counts piece
-  sums-fit counts is = subst (λ (c : Counts). Fits c piece) (sym is) fit
-    where
-      fit : Fits (below_of pieces piece) piece
-      fit =
-          let small = counts-small fill.subject fill.clip fill.closed fill.clip_closed fill.noded pieces fill.are fill.most fill.weigh piece (held pieces fill k within) in
-          let subject = ap (λ (c : Counts). c.subject) (above-edges pieces fill piece) in
-          let clip = ap (λ (c : Counts). c.clip) (above-edges pieces fill piece) in
-          let countable = fill.countable in
-          let a = small.1.from in
-          let b = small.1.upto in
-          let c = small.3.from in
-          let d = small.3.upto in
-          record { from = omega (arith, ints, subject, countable, a); below = omega (arith, ints, subject, countable, b); clip_from = omega (arith, ints, clip, countable, c); clip_below = omega (arith, ints, clip, countable, d) }
+  sums-fit counts is = subst (λ (c : Counts). Fits c piece) (sym is) (below-fits pieces fill k within)
 
   module _ (after : List Entry) (counts : Counts) (begins : Begins piece k stored after above counts) where
     begun_more : HasBegun pieces (k + 1) piece.edge.x0 after

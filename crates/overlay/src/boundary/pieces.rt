@@ -173,7 +173,30 @@ fn operand_at(place: usize, count: usize) -> Operand
 
 // Appends the pieces of the chain of the edge at this place: from its start over the points of its stops, from the first one of
 // them on, to its end. It answers where the stops end.
+#[inline]
 fn append_pieces_of<A: Allocator>(
+    edge: Edge,
+    place: usize,
+    operand: Operand,
+    stops: &[Stop],
+    first: usize,
+    out: &mut Vec<Piece, A>,
+) -> Result<usize, AllocError>
+    requires { first ≤ length stops.now }
+    ensures { IfOk result (λ end. AreAt place first end stops.now × ((chain : List Point)
+        × GoesToEnd edge (start_of edge ∷ map (point_of edge) (between first end stops.now)) chain
+        × (out.new.items ≡ out.old.items ++ turned operand (pieces chain)))) }
+{
+    if first < stops.len() && stops[first].place == place {
+        return append_broken(edge, place, operand, stops, first, out);
+    }
+    push_last_piece(edge, start_of(edge), operand, out)?;
+    Ok(first)
+}
+
+// As `append_pieces_of`, which calls it where there is a stop. Most edges have none, and are soon done.
+#[inline(never)]
+fn append_broken<A: Allocator>(
     edge: Edge,
     place: usize,
     operand: Operand,

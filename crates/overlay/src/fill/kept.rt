@@ -8,25 +8,55 @@ ghost use Rattle.i_tree.specs.Root.Causes.{RefusedFor};
 ghost use Rattle.i_tree.specs.Root.Handles.{HasHandlesFor};
 ghost use Rattle.plane.specs.SweepLine.Active.{Entry, cmp_active, live_entries};
 ghost use Rattle.plane.specs.SweepLine.Line.{BeganBefore, IsSortedAt, JoinsAt, NoneCrossAmong};
-ghost use Rattle.overlay.specs.Fill.Counts.{kept_edge};
 ghost use Rattle.overlay.specs.Fill.Rules.{is_result};
-ghost use Rattle.overlay.specs.Fill.Sweep.{AreFillPieces, Fits, above_or, kept_of, plus};
+ghost use Rattle.overlay.specs.Fill.Sweep.{AreFillPieces, above_or, kept_of};
 ghost use Rattle.plane.specs.Lists.{Extends};
 
-use super::counts::{Counts, is_result};
-use super::pieces::{Piece, sum};
+use super::counts::{Counts, is_result, keep, plus};
+use super::few::append_by_comparing;
+use super::pieces::Piece;
 use super::rules::Choice;
 use i_tree::Refusal;
 use i_tree::status::exp::StatusCollection;
-use plane::edge::{Edge, reverse};
+use plane::edge::Edge;
 use plane::sweep_line::{ActiveEdge, insert_beginning};
-use std::alloc::{AllocError, Allocator};
+use std::alloc::Allocator;
+
+// With no more pieces than these, each is compared with those before it, which is quicker than a status even where all go on.
+const FEW_PIECES: usize = 128;
 
 /// Appends the edges kept of these pieces: those that have the result on one of their sides alone, so that it is on the left.
 ///
-/// The pieces begin in turn. What is below one is what is above the one before it in the status, and `above` has that by its
-/// place. It is refused for want of memory alone where the status has room or handles for as many as there are pieces.
+/// The pieces begin in turn. It is refused for want of memory alone where the status has room or handles for as many as there are
+/// pieces.
 pub fn append_kept<C, A>(
+    status: &mut C,
+    pieces: &[Piece],
+    choice: Choice,
+    out: &mut Vec<Edge, A>,
+) -> Result<(), Refusal>
+where
+    C: StatusCollection<ActiveEdge, i64, ()>,
+    A: Allocator + Copy,
+    requires empty { C.stored status.old ≡ [] }
+    requires pieces { AreFillPieces pieces.now }
+    ensures ok { OnOk result (out.new.items ≡ out.old.items
+        ++ kept_of (λ counts. is_result choice.rule choice.operation counts.subject counts.clip) pieces.now pieces.now) }
+    ensures err { OnErr result (Extends out.old.items out.new.items) }
+    ensures refused { length pieces.now ≤ C.room status.old → IfErr result (λ cause. cause ≡ OutOfMemory) }
+    ensures handles { HasHandlesFor C.has_handles (length pieces.now) → IfErr result (λ cause. cause ≡ OutOfMemory) }
+{
+    if pieces.len() <= FEW_PIECES {
+        append_by_comparing(pieces, choice, out)?;
+        return Ok(());
+    }
+    append_by_status(status, pieces, choice, out)
+}
+
+// As `append_kept`, with the status.
+//
+// What is below a piece is what is above the one before it in the status, and `above` has that by its place.
+fn append_by_status<C, A>(
     status: &mut C,
     pieces: &[Piece],
     choice: Choice,
@@ -92,33 +122,4 @@ fn begin<C: StatusCollection<ActiveEdge, i64, ()>>(
             clip: 0,
         }),
     }
-}
-
-// What is above the piece, where this is below it.
-fn plus(below: Counts, piece: Piece) -> Counts
-    requires { Fits below piece }
-    ensures { result ≡ plus below piece }
-{
-    Counts {
-        subject: sum(below.subject, piece.subject),
-        clip: sum(below.clip, piece.clip),
-    }
-}
-
-// Appends the edge of a piece that has the result on one side alone: with it on its left.
-fn keep<A: Allocator>(
-    out: &mut Vec<Edge, A>,
-    edge: Edge,
-    is_below: bool,
-    is_above: bool,
-) -> Result<(), AllocError>
-    ensures ok { OnOk result (out.new.items ≡ out.old.items ++ kept_edge is_below is_above edge []) }
-    ensures err { OnErr result (out.new.items ≡ out.old.items) }
-{
-    if is_below == is_above {
-        return Ok(());
-    }
-    let bounding = if is_above { edge } else { reverse(edge) };
-    out.push(bounding)?;
-    Ok(())
 }

@@ -20,6 +20,7 @@ use std::alloc::Allocator;
 use verticals::append_verticals;
 
 mod counts;
+mod few;
 mod kept;
 pub mod pieces;
 pub mod rules;
@@ -39,8 +40,9 @@ mod verticals;
 /// there are edges refuses none: then it is for want of memory alone. So it is where the status has handles for as many. What the
 /// status holds is removed before and after, in every case. The memory is that of `out`.
 ///
-/// For n edges it compares O(n log n) times, and the status is asked once for each two ends between which edges go. The counts
-/// along a sweep line are those of Weiler and Atherton, and of Vatti; the sweep is our own.
+/// For n edges it compares O(n log n) times, and the status is asked once for each two ends between which edges go. Where these are
+/// few, each is compared with those that began before it, and the status isn't asked. The counts along a sweep line are those of
+/// Weiler and Atherton, and of Vatti; the sweep is our own.
 pub fn fill<C, A>(
     subject: &[Edge],
     clip: &[Edge],

@@ -6,7 +6,7 @@ use Rattle.overlay.specs.Fill.Rules.{is_result}
 use Rattle.overlay.specs.Fill.Sweep.{above_or, kept_of}
 use Rattle.overlay.proofs.KeptLemmas.Begun.{begin-last, begin-places, piece_at}
 use Rattle.overlay.proofs.KeptLemmas.Swept.{Begins, HasSwept, HasSwept-more, HasSwept-none, counts-below, sums-fit}
-use Rattle.overlay.proofs.fill.kept.append_kept.Goals as goal
+use Rattle.overlay.proofs.fill.kept.append_by_status.Goals as goal
 
 pub loop-place-init : goal.loop-place-init
 loop-place-init g c =

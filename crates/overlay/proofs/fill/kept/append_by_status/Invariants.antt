@@ -1,7 +1,7 @@
 use Rattle.std.proofs.Common.{◌≤◌}
 use Rattle.overlay.specs.Fill.Rules.{is_result}
 use Rattle.overlay.proofs.KeptLemmas.Swept.{HasSwept}
-use Rattle.overlay.proofs.fill.kept.append_kept.Given as goal
+use Rattle.overlay.proofs.fill.kept.append_by_status.Given as goal
 
 -- how far the sweep has come; the status has no less room
 abbrev pub invariant-loop-place : goal.invariant-loop-place

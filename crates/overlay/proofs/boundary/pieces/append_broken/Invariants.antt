@@ -6,7 +6,7 @@ use Rattle.noding.specs.Offsets.{between}
 use Rattle.noding.specs.Stops.{point_of}
 use Rattle.noding.specs.Windings.{pieces}
 use Rattle.noding.specs.declared.stops.Stop.{Stop}
-use Rattle.overlay.proofs.boundary.pieces.append_pieces_of.Given as goal
+use Rattle.overlay.proofs.boundary.pieces.append_broken.Given as goal
 
 -- the stops so far are the edge's, the last one's point is the one to go on from, and the pieces upto it are appended
 abbrev pub invariant-loop-next : goal.invariant-loop-next

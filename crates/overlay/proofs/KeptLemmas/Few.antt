@@ -1,0 +1,161 @@
+-- The sweep of few pieces: what is below one that begins, counted over those that have begun.
+use Rattle.std.proofs.Common.{◌≡◌, ◌<◌, ◌≤◌, ◌+◌, ◌-◌, ◌^◌, ◌++◌, [], ◌∷◌, Bool, true, false, cond, ◌&&◌, ℕ, ℤ, pos, ◌+ℤ◌, ◌≤ℤ◌, List, length, take, drop, get_or, refl, ap, ap₂, sym, subst, ◌∙◌, arith, length-drop, append_assoc}
+use Rattle.std.specs.List.{All}
+use Rattle.std.proofs.lemmas.Int.{ints, by_lt_z}
+use Rattle.std.proofs.lemmas.List.{get_or-drop, get_or-take, get_or_default, length-take-le, take-append-drop, take-append-le, take_more}
+use Rattle.plane.specs.declared.edge.Edge.{Edge}
+use Rattle.plane.specs.declared.point.Point.{Point}
+use Rattle.overlay.specs.declared.fill.pieces.Piece.{Piece}
+use Rattle.overlay.specs.Fill.Counts.{Counts, is_over, is_lower_on, kept_edge}
+use Rattle.overlay.specs.Fill.Few.{counts_upto, is_upto}
+use Rattle.overlay.specs.Fill.Pieces.{total}
+use Rattle.overlay.specs.Fill.Sweep.{AreFillPieces, Fits, WeighUpto, below_of, is_below_on, kept_of, no_piece, plus}
+use Rattle.overlay.specs.Fill.Turned.{asked}
+use Rattle.overlay.proofs.FillLemmas.Callers.{lower-irrefl}
+use Rattle.overlay.proofs.FillLemmas.Totals.{total-append, total-more, total-none, total-same}
+use Rattle.overlay.proofs.KeptLemmas.Begun.{piece_at, x_order}
+use Rattle.overlay.proofs.KeptLemmas.Swept.{kept_of-more}
+use Rattle.overlay.proofs.KeptLemmas.Upto.{later-above, start_at, upto-ended, upto-lower}
+
+no_less : (a b c : ℤ) → a ≡ pos 0 → b ≡ c → (a +ℤ b) ≡ c
+no_less a b c none is = omega (arith, ints, none, is)
+
+no_more : (a b : ℤ) → b ≡ pos 0 → a ≡ (a +ℤ b)
+no_more a b none = omega (arith, ints, none)
+
+-- ---- the counts, piece by piece
+
+counts_of : ℤ → ℤ → Counts
+counts_of a b = record { subject = a; clip = b }
+
+-- Those at the front that have ended weigh nothing.
+pub live-counted : (point : Point) (pieces : List Piece) (ended : ℕ) → All (λ p. p.edge.x1 ≤ℤ point.x) (take ended pieces) → counts_upto point (drop ended pieces) ≡ counts_upto point pieces
+unfolding counts_of
+live-counted point pieces ended late = ap₂ counts_of (live (λ p. p.subject)) (live (λ p. p.clip))
+  where
+    live : (weigh : Piece → ℤ) → total (asked (is_upto point) weigh) (drop ended pieces) ≡ total (asked (is_upto point) weigh) pieces
+    live weigh =
+        sym (no_less (total (asked (is_upto point) weigh) (take ended pieces)) (total (asked (is_upto point) weigh) (drop ended pieces)) (total (asked (is_upto point) weigh) (drop ended pieces))
+        (total-none (asked (is_upto point) weigh) (take ended pieces) (λ i d within. let p = get_or (take ended pieces) i d in ap (λ t. cond t (weigh p) (pos 0)) (upto-ended point p.edge (late i d within)))) refl)
+        ∙ sym (total-append (asked (is_upto point) weigh) (take ended pieces) (drop ended pieces))
+        ∙ ap (total (asked (is_upto point) weigh)) (take-append-drop ended pieces)
+
+-- One piece more.
+module _ (point : Point) (pieces : List Piece) (n : ℕ) (d : Piece) (within : n < length pieces) where
+  abbrev piece : Piece
+  piece = get_or pieces n d
+
+  more : (weigh : Piece → ℤ) → total (asked (is_upto point) weigh) (take (n + 1) pieces) ≡ (total (asked (is_upto point) weigh) (take n pieces) +ℤ asked (is_upto point) weigh piece)
+  more weigh = ap (total (asked (is_upto point) weigh)) (take_more pieces n d within) ∙ total-more (asked (is_upto point) weigh) (take n pieces) piece
+
+  taken : (weigh : Piece → ℤ) → is_upto point piece.edge ≡ true → (total (asked (is_upto point) weigh) (take n pieces) +ℤ weigh piece) ≡ total (asked (is_upto point) weigh) (take (n + 1) pieces)
+  taken weigh is = sym (more weigh ∙ ap (λ t. total (asked (is_upto point) weigh) (take n pieces) +ℤ cond t (weigh piece) (pos 0)) is)
+
+  left : (weigh : Piece → ℤ) → is_upto point piece.edge ≡ false → total (asked (is_upto point) weigh) (take n pieces) ≡ total (asked (is_upto point) weigh) (take (n + 1) pieces)
+  left weigh is =
+      no_more (total (asked (is_upto point) weigh) (take n pieces)) (asked (is_upto point) weigh piece) (ap (λ t. cond t (weigh piece) (pos 0)) is)
+      ∙ sym (more weigh)
+
+  pub counts-more : is_upto point piece.edge ≡ true → plus (counts_upto point (take n pieces)) piece ≡ counts_upto point (take (n + 1) pieces)
+  unfolding counts_of
+  counts-more is = ap₂ counts_of (taken (λ p. p.subject) is) (taken (λ p. p.clip) is)
+
+  pub counts-same : is_upto point piece.edge ≡ false → counts_upto point (take n pieces) ≡ counts_upto point (take (n + 1) pieces)
+  unfolding counts_of
+  counts-same is = ap₂ counts_of (left (λ p. p.subject) is) (left (λ p. p.clip) is)
+
+  pub counts-fit : (most : ℕ) → most < 2 ^ 63 → WeighUpto most (take (n + 1) pieces) → is_upto point piece.edge ≡ true → Fits (counts_upto point (take n pieces)) piece
+  counts-fit most countable weigh is =
+      let within_most = weigh (is_upto point) in
+      let subject = taken (λ p. p.subject) is in
+      let clip = taken (λ p. p.clip) is in
+      let a = within_most.0.from in
+      let b = within_most.0.upto in
+      let c = within_most.1.from in
+      let e = within_most.1.upto in
+      record { from = omega (arith, ints, subject, countable, a); below = omega (arith, ints, subject, countable, b); clip_from = omega (arith, ints, clip, countable, c); clip_below = omega (arith, ints, clip, countable, e) }
+
+-- ---- the pieces of a fill
+
+module _ (pieces : List Piece) (fill : AreFillPieces pieces) (k : ℕ) (within : k < length pieces) where
+  abbrev g : Piece
+  g = piece_at pieces k
+
+  abbrev start : Point
+  start = start_at pieces fill k within
+
+  begun_at : (j : ℕ) (d : Piece) → j < k → get_or (take k pieces) j d ≡ piece_at pieces j
+  begun_at j d less = get_or-take k pieces j d less ∙ sym (get_or_default pieces j no_piece d (omega (arith, less, within)))
+
+  begun_size : length (take k pieces) ≡ k
+  begun_size = length-take-le k pieces (omega (arith, within))
+
+  -- each of the first ones has begun
+  pub begun-from : (ended : ℕ) → All (λ p. p.edge.x0 ≤ℤ g.edge.x0) (drop ended (take k pieces))
+  begun-from ended i d inside =
+      let size = begun_size in
+      let rest = length-drop ended (take k pieces) in
+      let less : ended + i < k = omega (arith, size, rest, inside) in
+      subst (λ (p : Piece). p.edge.x0 ≤ℤ g.edge.x0) (sym (get_or-drop ended (take k pieces) i d ∙ begun_at (ended + i) d less)) (x_order pieces fill (ended + i) k less within)
+
+  -- of the others none is lower where it begins
+  not_lower : (j : ℕ) → k ≤ j → j < length pieces → is_below_on g.edge.x0 g.edge (piece_at pieces j).edge ≡ false
+  not_lower j from inside = by_lt_z (pos k) (pos j) (λ less. later (omega (arith, ints, less))) (λ upto. here (omega (arith, ints, upto, from)))
+    where
+      neither : (s t : Bool) → (s ≡ true → t ≡ false) → (s && t) ≡ false
+      neither true t is = is refl
+      neither false t is = refl
+
+      later : k < j → is_below_on g.edge.x0 g.edge (piece_at pieces j).edge ≡ false
+      later less = neither (is_over g.edge.x0 (piece_at pieces j).edge) (is_lower_on g.edge.x0 (piece_at pieces j).edge g.edge) (later-above pieces fill k within j less inside)
+
+      here : k ≡ j → is_below_on g.edge.x0 g.edge (piece_at pieces j).edge ≡ false
+      here same =
+          subst (λ (n : ℕ). is_below_on g.edge.x0 g.edge (piece_at pieces n).edge ≡ false) same
+          (neither (is_over g.edge.x0 g.edge) (is_lower_on g.edge.x0 g.edge g.edge) (λ over. lower-irrefl g.edge.x0 g))
+
+  counted : (weigh : Piece → ℤ) → total (asked (is_upto start) weigh) (take k pieces) ≡ total (asked (is_below_on g.edge.x0 g.edge) weigh) pieces
+  counted weigh =
+      total-same (asked (is_upto start) weigh) below (take k pieces) earlier
+      ∙ no_more (total below (take k pieces)) (total below (drop k pieces)) (total-none below (drop k pieces) others)
+      ∙ sym (total-append below (take k pieces) (drop k pieces))
+      ∙ ap (total below) (take-append-drop k pieces)
+    where
+      below : Piece → ℤ
+      below = asked (is_below_on g.edge.x0 g.edge) weigh
+
+      earlier : All (λ p. asked (is_upto start) weigh p ≡ below p) (take k pieces)
+      earlier j d inside =
+          let size = begun_size in
+          let less : j < k = omega (arith, size, inside) in
+          subst (λ (p : Piece). asked (is_upto start) weigh p ≡ below p) (sym (begun_at j d less))
+          (ap (λ t. cond t (weigh (piece_at pieces j)) (pos 0)) (upto-lower pieces fill k within j less))
+
+      others : All (λ p. below p ≡ pos 0) (drop k pieces)
+      others i d inside =
+          let rest = length-drop k pieces in
+          let at : k + i < length pieces = omega (arith, rest, inside) in
+          subst (λ (p : Piece). below p ≡ pos 0) (sym (get_or-drop k pieces i d ∙ sym (get_or_default pieces (k + i) no_piece d at)))
+          (ap (λ t. cond t (weigh (piece_at pieces (k + i))) (pos 0)) (not_lower (k + i) (omega arith) at))
+
+  -- So what is below a piece is what those before it weigh that haven't ended and aren't above its start.
+  pub below-counted : (ended : ℕ) → All (λ p. p.edge.x1 ≤ℤ g.edge.x0) (take ended (take k pieces)) → counts_upto start (drop ended (take k pieces)) ≡ below_of pieces g
+  unfolding counts_of
+  below-counted ended late = live-counted start (take k pieces) ended late ∙ ap₂ counts_of (counted (λ p. p.subject)) (counted (λ p. p.clip))
+
+  -- Those that have ended have so where the next one begins.
+  pub ended-more : (ended : ℕ) → ended ≤ length (take k pieces) → All (λ p. p.edge.x1 ≤ℤ g.edge.x0) (take ended (take k pieces)) → k + 1 < length pieces → All (λ p. p.edge.x1 ≤ℤ (piece_at pieces (k + 1)).edge.x0) (take ended (take (k + 1) pieces))
+  ended-more ended few late more =
+      subst (All (λ p. p.edge.x1 ≤ℤ (piece_at pieces (k + 1)).edge.x0)) (sym (ap (take ended) (take_more pieces k no_piece within) ∙ take-append-le ended (take k pieces) (g ∷ []) few))
+      (λ i d inside. let upto = late i d inside in let order = x_order pieces fill k (k + 1) (omega arith) more in omega (arith, ints, upto, order))
+
+  -- What is kept of it stands behind what is kept of those before.
+  pub kept-more : (inside : Counts → Bool) (before out outcome : List Edge) (counts : Counts) → counts ≡ below_of pieces g → out ≡ before ++ kept_of inside pieces (take k pieces)
+      → outcome ≡ out ++ kept_edge (inside counts) (inside (plus counts g)) g.edge [] → outcome ≡ before ++ kept_of inside pieces (take (k + 1) pieces)
+  kept-more inside before out outcome counts is had kept =
+      kept
+      ∙ ap (λ (c : Counts). out ++ kept_edge (inside c) (inside (plus c g)) g.edge []) is
+      ∙ ap (λ (list : List Edge). list ++ kept_edge (inside (below_of pieces g)) (inside (plus (below_of pieces g) g)) g.edge []) had
+      ∙ append_assoc before (kept_of inside pieces (take k pieces)) (kept_edge (inside (below_of pieces g)) (inside (plus (below_of pieces g) g)) g.edge [])
+      ∙ ap (λ (list : List Edge). before ++ list) (sym (kept_of-more inside pieces (take k pieces) g))
+      ∙ ap (λ (done : List Piece). before ++ kept_of inside pieces done) (sym (take_more pieces k no_piece within))
