@@ -1,0 +1,7 @@
+pub mod CoverLemmas
+pub mod OffsetLemmas
+pub mod PieceLemmas
+pub mod RawLemmas
+pub mod ShapeLemmas
+pub mod SideLemmas
+pub mod WoundLemmas

@@ -1,0 +1,20 @@
+-- Why there is no Minkowski sum.
+use Rattle.std.specs.Prelude.{ℕ, ⊤, List, All, codes}
+use Rattle.plane.specs.declared.edge.Edge.{Edge}
+use Rattle.offset.specs.Raw.{IsIn32Bits}
+use Rattle.offset.specs.declared.fault.MinkowskiFault.{MinkowskiFault}
+use Rattle.offset.specs.declared.fault.MinkowskiFault.TheVariants.{Lengths, Shape, Range, OutOfMemory}
+
+-- Why these edges weren't made: not all of their ends are points of 32 bits, or memory was refused.
+abbrev pub IsRawFault : List Edge → MinkowskiFault → Type 0
+IsRawFault raw Lengths = ⊥
+IsRawFault raw Shape = ⊥
+IsRawFault raw Range = ¬ (All IsIn32Bits raw)
+IsRawFault raw OutOfMemory = ⊤
+
+-- what a fault prints
+abbrev pub fault_text : MinkowskiFault → List ℕ
+fault_text Lengths = codes "a ring stops before it begins, or behind the points"
+fault_text Shape = codes "the shape isn't convex around the origin"
+fault_text Range = codes "a corner of the curve around the sum is no point of 32 bits"
+fault_text OutOfMemory = codes "memory was refused"

@@ -1,0 +1,6 @@
+-- Definitions of offsets: shapes, sums with them, and the curve around such a sum.
+pub mod Faults
+pub mod Minkowski
+pub mod Raw
+pub mod Shape
+pub mod Sum

@@ -1,0 +1,64 @@
+-- What a Minkowski sum of edges and a shape is: polygons around the points of it.
+use Rattle.std.specs.List.{flat_map}
+use Rattle.std.specs.Prelude.{◌≡◌, ◌⊎◌, ◌≤◌, [], ⊤, List, All, length, pos}
+use Rattle.plane.specs.declared.edge.Edge.{Edge}
+use Rattle.plane.specs.declared.point.Point.{Point}
+use Rattle.plane.specs.Meet.Edges.{RationalPoint}
+use Rattle.noding.specs.Local.{IsExactAt}
+use Rattle.noding.specs.Windings.{winding}
+use Rattle.overlay.specs.declared.fill.rules.FillRule.{FillRule}
+use Rattle.overlay.specs.declared.fill.rules.FillRule.TheVariants.{NonZero}
+use Rattle.overlay.specs.declared.fill.rules.Operation.TheVariants.{Union}
+use Rattle.overlay.specs.Boundary.{IsBoundary, WindsAsBroken, result_at}
+use Rattle.overlay.specs.Contours.Rings.{IsRing, real_edges, ring_edges}
+use Rattle.overlay.specs.Overlay.{polygon_edges}
+use Rattle.overlay.specs.Polygons.{HasSignedArea, IsPolygon, rings_of}
+use Rattle.offset.specs.Raw.{GoesThrough, IsIn32Bits, raw_edges}
+use Rattle.offset.specs.Sum.{IsOfSum}
+use Rattle.offset.specs.declared.fault.MinkowskiFault.{MinkowskiFault}
+use Rattle.offset.specs.declared.fault.MinkowskiFault.TheVariants.{Lengths, Shape, Range, OutOfMemory}
+
+-- Polygons around what closed edges wind around. Their rings visit no point twice, and have three points at least; outer ones run
+-- counterclockwise, with an area above 0, and holes clockwise, with one below 0. At every point they wind once where the pieces
+-- wind that the edges are broken into, and else not at all: so as the edges do, if each edge isn't moved among all, or runs along
+-- an axis, or isn't near the point.
+pub record IsWound (edges : List Edge) (polygons : List (List (List Point))) : Type 0 where
+  pub each : All IsRing (rings_of polygons)
+  pub three_points : All (λ ring. 3 ≤ length ring) (rings_of polygons)
+  pub directed : All IsPolygon polygons
+  pub areas : All HasSignedArea (rings_of polygons)
+  pub everywhere : WindsAsBroken NonZero Union edges [] (polygon_edges polygons)
+  pub once : (point : RationalPoint) → (winding (polygon_edges polygons) point ≡ pos 0) ⊎ (winding (polygon_edges polygons) point ≡ pos 1)
+  pub exact : (point : RationalPoint) → All (IsExactAt edges point) edges → winding (polygon_edges polygons) point ≡ result_at NonZero Union edges [] point
+
+-- Polygons around the points of the sum of what the edges wind around and the shape. Their rings visit no point twice, and have
+-- three points at least; outer ones run counterclockwise, with an area above 0, and holes clockwise, with one below 0. They wind
+-- once around a point or not at all: once around each point of the sum, and not at all around any other, if each edge of the raw
+-- curve isn't moved among all of it, or runs along an axis, or isn't near the point, and none goes through it.
+pub record IsMinkowski (corners : List Point) (edges raw : List Edge) (polygons : List (List (List Point))) : Type 0 where
+  pub each : All IsRing (rings_of polygons)
+  pub three_points : All (λ ring. 3 ≤ length ring) (rings_of polygons)
+  pub directed : All IsPolygon polygons
+  pub areas : All HasSignedArea (rings_of polygons)
+  pub once : (point : RationalPoint) → (winding (polygon_edges polygons) point ≡ pos 0) ⊎ (winding (polygon_edges polygons) point ≡ pos 1)
+  pub exact : (point : RationalPoint) → All (λ edge. ¬ (GoesThrough edge point)) raw → All (IsExactAt raw point) raw
+      → (IsOfSum edges corners point × (winding (polygon_edges polygons) point ≡ pos 1))
+      ⊎ ((¬ (IsOfSum edges corners point)) × (winding (polygon_edges polygons) point ≡ pos 0))
+
+-- The polygons are what the inside of edges, by the rule, becomes when it grows by the shape.
+pub record IsGrown (rule : FillRule) (edges : List Edge) (corners : List Point) (polygons : List (List (List Point))) : Type 0 where
+  -- rings that bound the inside
+  pub rings : List (List Point)
+  pub bounds : IsBoundary rule Union (real_edges edges) [] rings
+  -- they wind around the points of it, if each edge isn't moved among all, or runs along an axis, or isn't near the point
+  pub inside : (point : RationalPoint) → All (IsExactAt edges point) edges → winding (flat_map ring_edges rings) point ≡ result_at rule Union edges [] point
+  -- the polygons are around what the raw curve of these rings winds around, and that is their sum with the shape
+  pub wound : IsWound (raw_edges corners rings) polygons
+  pub sum : IsMinkowski corners (flat_map ring_edges rings) (raw_edges corners rings) polygons
+
+-- Why the raw curve wasn't made: a corner of it is no point of 32 bits, or memory was refused.
+abbrev pub IsSumFault : FillRule → List Edge → List Point → MinkowskiFault → Type 0
+IsSumFault rule edges corners Lengths = ⊥
+IsSumFault rule edges corners Shape = ⊥
+IsSumFault rule edges corners Range = (rings : List (List Point)) × IsBoundary rule Union (real_edges edges) [] rings × (¬ (All IsIn32Bits (raw_edges corners rings)))
+IsSumFault rule edges corners OutOfMemory = ⊤

@@ -1,0 +1,137 @@
+//! The raw curve around the sum of rings and a shape.
+
+ghost use Rattle.std.specs.Prelude.{◌≡◌, ◌<◌, ◌++◌, ◌∷◌, [], IfErr, IfOk, OnOk, filter, map};
+ghost use Rattle.plane.specs.Ends.{edge_between, end_of};
+ghost use Rattle.offset.specs.declared.fault.MinkowskiFault.TheVariants.{Range};
+ghost use Rattle.offset.specs.Faults.{IsRawFault};
+ghost use Rattle.offset.specs.Raw.{IsPointIn32Bits, fan, furthest, is_furthest, is_of_fan, joint, moved, moved_edge, raw_of_ring, raw_of_two, ways};
+ghost use Rattle.offset.specs.Shape.{sides};
+
+use crate::fault::MinkowskiFault;
+use crate::shape::{next_place, side_at, turn};
+use plane::edge::{Edge, edge_between, end_of, start_of};
+use plane::point::Point;
+use std::alloc::Allocator;
+
+/// Appends the raw curve of the ring: each edge moved, and what joins it with the next one.
+pub fn append_raw_of_ring<A: Allocator>(
+    corners: &[Point],
+    ring: &[Point],
+    edges: &mut Vec<Edge, A>,
+) -> Result<(), MinkowskiFault>
+    ensures ok { OnOk result (edges.new.items ≡ edges.old.items ++ raw_of_ring corners.now ring.now) }
+    ensures fault { IfErr result (IsRawFault (raw_of_ring corners.now ring.now)) }
+{
+    for index in 0..ring.len() {
+        let edge = side_at(ring, index);
+        let next = side_at(ring, next_place(index, ring.len()));
+        append_raw_of_two(corners, edge, next, edges)?;
+    }
+    Ok(())
+}
+
+// Appends that of an edge and the next one.
+fn append_raw_of_two<A: Allocator>(
+    corners: &[Point],
+    edge: Edge,
+    next: Edge,
+    edges: &mut Vec<Edge, A>,
+) -> Result<(), MinkowskiFault>
+    ensures ok { OnOk result (edges.new.items ≡ edges.old.items ++ raw_of_two corners.now (edge, next)) }
+    ensures fault { IfErr result (IsRawFault (raw_of_two corners.now (edge, next))) }
+{
+    push_moved(furthest(corners, edge), edge, edges)?;
+    if turn(edge, next) > 0 {
+        append_fan(corners, edge, next, edges)
+    } else {
+        append_ways(corners, edge, next, edges)
+    }
+}
+
+// Appends the sides between the furthest corners of the edges, around the point between these.
+fn append_fan<A: Allocator>(
+    corners: &[Point],
+    edge: Edge,
+    next: Edge,
+    edges: &mut Vec<Edge, A>,
+) -> Result<(), MinkowskiFault>
+    ensures ok { OnOk result (edges.new.items ≡ edges.old.items ++ map (moved_edge (end_of edge)) (fan corners.now edge next)) }
+    ensures fault { IfErr result (IsRawFault (map (moved_edge (end_of edge)) (fan corners.now edge next))) }
+{
+    for index in 0..corners.len() {
+        let side = side_at(corners, index);
+        if is_of_fan(edge, next, side) {
+            push_moved(end_of(edge), side, edges)?;
+        }
+    }
+    Ok(())
+}
+
+// Appends the ways to the point between the edges, and from it.
+fn append_ways<A: Allocator>(
+    corners: &[Point],
+    edge: Edge,
+    next: Edge,
+    edges: &mut Vec<Edge, A>,
+) -> Result<(), MinkowskiFault>
+    ensures ok { OnOk result (edges.new.items ≡ edges.old.items ++ ways corners.now edge next) }
+    ensures fault { IfErr result (IsRawFault (ways corners.now edge next)) }
+{
+    let at = end_of(edge);
+    edges.push(edge_between(moved(furthest(corners, edge), at)?, at))?;
+    edges.push(edge_between(at, moved(furthest(corners, next), at)?))?;
+    Ok(())
+}
+
+// The corner that lies furthest to the right of the edge, the first of two.
+fn furthest(corners: &[Point], edge: Edge) -> Point
+    ensures { result ≡ furthest corners.now edge }
+{
+    for index in 0..corners.len() {
+        let next = next_place(index, corners.len());
+        if is_furthest(edge, side_at(corners, index), side_at(corners, next)) {
+            return corners[next];
+        }
+    }
+    Point { x: 0, y: 0 }
+}
+
+// Whether the corner between the sides is.
+fn is_furthest(edge: Edge, side: Edge, next: Edge) -> bool
+    ensures { result ≡ is_furthest edge (side, next) }
+{
+    turn(edge, side) < 0 && 0 <= turn(edge, next)
+}
+
+// Whether the side lies between the furthest corners of the edges.
+fn is_of_fan(edge: Edge, next: Edge, side: Edge) -> bool
+    ensures { result ≡ is_of_fan edge next side }
+{
+    0 <= turn(edge, side) && turn(next, side) < 0
+}
+
+// Pushes the edge, moved.
+fn push_moved<A: Allocator>(
+    by: Point,
+    edge: Edge,
+    edges: &mut Vec<Edge, A>,
+) -> Result<(), MinkowskiFault>
+    ensures ok { OnOk result (edges.new.items ≡ edges.old.items ++ moved_edge by edge ∷ []) }
+    ensures fault { IfErr result (IsRawFault (moved_edge by edge ∷ [])) }
+{
+    let from = moved(by, start_of(edge))?;
+    let to = moved(by, end_of(edge))?;
+    edges.push(edge_between(from, to))?;
+    Ok(())
+}
+
+// The point, moved by another one.
+fn moved(by: Point, point: Point) -> Result<Point, MinkowskiFault>
+    ensures ok { IfOk result (λ told. told ≡ moved by point) }
+    ensures fault { IfErr result (λ fault. (fault ≡ Range) × (¬ (IsPointIn32Bits (moved by point)))) }
+{
+    match (by.x.checked_add(point.x), by.y.checked_add(point.y)) {
+        (Some(x), Some(y)) => Ok(Point { x, y }),
+        _ => Err(MinkowskiFault::Range),
+    }
+}

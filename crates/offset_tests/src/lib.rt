@@ -1,0 +1,5 @@
+//! For tests alone: worked examples of the public calls of `offset`.
+#![tactic(auto)]
+
+#[cfg(test)]
+mod worked;
