@@ -202,7 +202,7 @@ void checks_pairs() {
           std::async(std::launch::async, [it = std::move(pairs)] { return it.size(); }).get() == 1);
     // A few edges are compared with one another, which takes next to no memory.
     std::vector<itree::Edge> many;
-    for (std::int32_t place = 0; place < 40; place++) many.push_back({0, place, 9, place + 1});
+    for (std::int32_t place = 0; place < 100; place++) many.push_back({0, place, 9, place + 1});
     std::size_t requests = 0;
     for (bool refused = true; refused; requests++) {
         refuse_after(requests);

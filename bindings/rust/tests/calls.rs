@@ -238,7 +238,7 @@ fn is_refused_pairs_of_two_lists_where_memory_is() {
     assert!(requests > 4, "{requests} requests");
     assert_eq!(meetings_between(&edges, &others).unwrap().len(), 600);
     // A few edges are compared with one another, which takes no memory.
-    let many: Vec<Edge> = (0..40).map(level).collect();
+    let many: Vec<Edge> = (0..100).map(level).collect();
     let mut requests = 0;
     while granted(requests, || first_meeting(&many)) == Err(Refused) {
         requests += 1;
