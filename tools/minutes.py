@@ -116,7 +116,8 @@ def run(file, name, command):
     used = resource.getrusage(resource.RUSAGE_CHILDREN)
     whole, parts = (used.ru_utime + used.ru_stime) / 60, sampler.minutes()
     other = whole - sum(sum(crates.values()) for crates in parts.values())
-    row = {"name": name, "processor": whole, "wall": (time.monotonic() - began) / 60, "parts": parts, "other": other}
+    ended = time.monotonic()
+    row = {"name": name, "processor": whole, "began": began / 60, "ended": ended / 60, "parts": parts, "other": other}
     with open(file, "a", encoding="utf-8") as it:
         print(json.dumps(row), file=it)
     return status if status >= 0 else 128 - status
@@ -144,10 +145,12 @@ def table(file):
         rows = [json.loads(text) for text in it]
     yield f"{'minutes':<32}{'processor':>12}{'wall':>10}"
     for row in rows:
-        yield line(row["name"], row["processor"], row["wall"])
+        yield line(row["name"], row["processor"], row["ended"] - row["began"])
         yield from part_lines(row["parts"], row["other"])
-    whole = (sum(row[key] for row in rows) for key in ("processor", "wall"))
-    yield f"{line('in all', *whole)} on {len(os.sched_getaffinity(0))} processors"
+    # Some of them ran side by side.
+    wall = max(row["ended"] for row in rows) - min(row["began"] for row in rows)
+    whole = sum(row["processor"] for row in rows)
+    yield f"{line('in all', whole, wall)} on {len(os.sched_getaffinity(0))} processors"
 
 
 def main(words):
