@@ -5,17 +5,21 @@ import pathlib
 import re
 import shutil
 import subprocess
+import threading
 
 TOP = pathlib.Path(__file__).resolve().parent.parent
 COUNTS = re.compile(r"^(\d+) passed, (\d+) failed$", re.M)
 
 _passed, _failed, _left_out = 0, 0, []
+# Some tests are run side by side, and counted one by one.
+_counting = threading.Lock()
 
 
 def count(what, good, bad=0):
     global _passed, _failed
-    _passed, _failed = _passed + good, _failed + bad
-    print(f"{what}: {good} passed, {bad} failed", flush=True)
+    with _counting:
+        _passed, _failed = _passed + good, _failed + bad
+        print(f"{what}: {good} passed, {bad} failed", flush=True)
 
 
 def run(words, at, **env):

@@ -1075,6 +1075,8 @@ class Stopped(unittest.TestCase):
         answers = []
 
         def handle(*_):
+            # On a slow machine the next signal may come before this one is answered.
+            signal.setitimer(signal.ITIMER_REAL, 0)
             answers.append(len(itree.simplify([random_points(300)])))
 
         ring, found, until = random_points(1500), [], time.monotonic() + 60
