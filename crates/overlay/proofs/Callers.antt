@@ -20,6 +20,9 @@ use Rattle.overlay.specs.declared.rings.Rings.{Rings}
 -- 0 where it runs counterclockwise, and else below 0.
 pub use Rattle.overlay.proofs.AreaLemmas.Directed.{area-directed}
 pub use Rattle.overlay.proofs.AreaLemmas.Rings.{boundary-signed}
+-- It winds once around each point or not at all, to the left where it runs counterclockwise, else to the right.
+pub use Rattle.overlay.proofs.WindsLemmas.Once.{winds-directed}
+pub use Rattle.overlay.proofs.WindsLemmas.Rings.{boundary-once}
 -- Of the polygons of an overlay and edges along an axis that were among those given, no two cross at a point with fractions: so an
 -- overlay of these polygons with such edges is exact at every point, by `exact-everywhere`.
 pub use Rattle.overlay.proofs.UncrossedLemmas.Crossing.{none-cross}

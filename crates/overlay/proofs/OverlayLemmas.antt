@@ -26,9 +26,10 @@ use Rattle.overlay.specs.Overlay.{IsOverlay, polygon_edges}
 use Rattle.overlay.proofs.GroupingLemmas.Corners.{rings-corners}
 use Rattle.overlay.proofs.GroupingLemmas.Grouped.{map-joined}
 use Rattle.overlay.proofs.GroupingLemmas.Outlined.{outlines-run, polygons-outlined}
-use Rattle.overlay.specs.Polygons.{BoundsSome, HasSignedArea, IsPolygon, rings_of}
+use Rattle.overlay.specs.Polygons.{BoundsSome, HasSignedArea, IsPolygon, WindsOnce, rings_of}
 use Rattle.overlay.specs.Rings.{has_two_ends, real_edges}
 use Rattle.overlay.proofs.RingLemmas.{winding-real}
+use Rattle.overlay.proofs.WindsLemmas.Rings.{boundary-once, outlines-once}
 
 -- edges that bound a result bound something
 pub bounds-some : (rule : FillRule) (operation : Operation) (subject clip edges : List Edge) → BoundsResult rule operation subject clip edges → HasSloped edges → BoundsSome edges
@@ -94,6 +95,7 @@ polygons-overlay rule operation subject clip edges whole bounds directed are =
           (rings-corners (flat_map ring_edges (rings_of whole)) boundary.bounds.noded boundary.bounds.two_ends (rings_of whole) are.each (λ edge among. among) boundary.bounds.distinct);
       directed = polygons-outlined whole alike directed;
       areas = subst (All HasSignedArea) (sym (map-joined outline whole)) (outlines-signed (rings_of whole) alike (boundary-signed rule operation (real_edges subject) (real_edges clip) (rings_of whole) boundary));
+      winds = subst (All WindsOnce) (sym (map-joined outline whole)) (outlines-once (rings_of whole) alike (boundary-once rule operation (real_edges subject) (real_edges clip) (rings_of whole) boundary));
       everywhere = everywhere;
       once = winds-once rule operation (real_edges subject) (real_edges clip) (polygon_edges polygons) everywhere;
       exact = exact-real subject clip rule operation (polygon_edges polygons) everywhere;

@@ -12,23 +12,24 @@ use Rattle.overlay.specs.Contours.Rings.{IsRing, real_edges, ring_edges}
 use Rattle.noding.specs.Chains.{IsHot}
 use Rattle.noding.specs.Local.{IsExactAt}
 use Rattle.noding.specs.Windings.{winding}
-use Rattle.overlay.specs.Polygons.{HasSignedArea, IsPolygon, rings_of}
+use Rattle.overlay.specs.Polygons.{HasSignedArea, IsPolygon, WindsOnce, rings_of}
 
 -- The edges of all rings of polygons.
 abbrev pub polygon_edges : List (List (List Point)) → List Edge
 polygon_edges polygons = flat_map ring_edges (rings_of polygons)
 
 -- Polygons around the points of the result. Their rings visit no point twice, and have three points at least; outer ones run
--- counterclockwise, with an area above 0, and holes clockwise, with one below 0. At every point they wind as the result of the
--- pieces that the edges of subject and clip are broken into, those from a point to itself left out. So they wind once around a
--- point or not at all, and as the result of subject and clip if each edge given isn't moved among all, or runs along an axis, or
--- isn't near the point. Where no two edges cross at a point with fractions none is moved. Each point of the polygons is an end of
--- an edge given, or what two of them cross at, rounded.
+-- counterclockwise, with an area above 0, and holes clockwise, with one below 0. Each ring by itself winds once around a point or
+-- not at all. At every point all of them wind as the result of the pieces that the edges of subject and clip are broken into, those
+-- from a point to itself left out. So they wind once around a point or not at all, and as the result of subject and clip if each
+-- edge given isn't moved among all, or runs along an axis, or isn't near the point. Where no two edges cross at a point with
+-- fractions none is moved. Each point of the polygons is an end of an edge given, or what two of them cross at, rounded.
 pub record IsOverlay (rule : FillRule) (operation : Operation) (subject clip : List Edge) (polygons : List (List (List Point))) : Type 0 where
   pub each : All IsRing (rings_of polygons)
   pub three_points : All (λ ring. 3 ≤ length ring) (rings_of polygons)
   pub directed : All IsPolygon polygons
   pub areas : All HasSignedArea (rings_of polygons)
+  pub winds : All WindsOnce (rings_of polygons)
   pub everywhere : WindsAsBroken rule operation (real_edges subject) (real_edges clip) (polygon_edges polygons)
   pub once : (point : RationalPoint) → (winding (polygon_edges polygons) point ≡ pos 0) ⊎ (winding (polygon_edges polygons) point ≡ pos 1)
   pub exact : (point : RationalPoint) → All (IsExactAt (subject ++ clip) point) (subject ++ clip) → winding (polygon_edges polygons) point ≡ result_at rule operation subject clip point

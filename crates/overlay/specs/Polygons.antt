@@ -1,5 +1,5 @@
 -- Polygons: an outer ring that runs counterclockwise, and holes that run clockwise.
-use Rattle.std.specs.Prelude.{ℕ, ◌≡◌, ◌⊎◌, pos, ◌++◌, Bool, true, false, ◌&&◌, not, cond, List, [], ◌∷◌, All, Option, Some, None, length, ◌<ℤ◌}
+use Rattle.std.specs.Prelude.{ℕ, ◌≡◌, ◌⊎◌, pos, negsuc, ◌++◌, Bool, true, false, ◌&&◌, not, cond, List, [], ◌∷◌, All, Option, Some, None, length, ◌<ℤ◌}
 use Rattle.std.specs.List.{flat_map}
 use Rattle.std.specs.Int.Signed.{lt_z}
 use Rattle.std.specs.Ordering.{int_eq, is_lt}
@@ -38,6 +38,12 @@ is_counterclockwise ring = runs_rightwards (first_sloped None (ring_edges ring))
 -- The area of a ring, as `twice_area` tells it, is above 0 where it runs counterclockwise, and below 0 where it doesn't.
 abbrev pub HasSignedArea : List Point → Type 0
 HasSignedArea ring = (is_counterclockwise ring ≡ true → pos 0 <ℤ twice_area ring) × (is_counterclockwise ring ≡ false → twice_area ring <ℤ pos 0)
+
+-- A ring winds around each point once or not at all: to the left where it runs counterclockwise, else to the right.
+abbrev pub WindsOnce : List Point → Type 0
+WindsOnce ring =
+    (point : RationalPoint) → (is_counterclockwise ring ≡ true → (winding (ring_edges ring) point ≡ pos 0) ⊎ (winding (ring_edges ring) point ≡ pos 1))
+    × (is_counterclockwise ring ≡ false → (winding (ring_edges ring) point ≡ pos 0) ⊎ (winding (ring_edges ring) point ≡ negsuc 0))
 
 -- An outer ring that runs counterclockwise, and behind it its holes, which don't.
 pub record IsPolygon (rings : List (List Point)) : Type 0 where

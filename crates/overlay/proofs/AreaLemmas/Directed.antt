@@ -17,7 +17,7 @@ use Rattle.overlay.specs.Fill.Filled.{AreDistinct, AreNoded}
 use Rattle.overlay.specs.Polygons.{first_sloped, is_counterclockwise}
 use Rattle.overlay.proofs.AreaLemmas.Around.{one-left}
 use Rattle.overlay.proofs.AreaLemmas.First.{left-leftwards, left-rightwards}
-use Rattle.overlay.proofs.AreaLemmas.Left.{on_left}
+use Rattle.overlay.proofs.AreaLemmas.Left.{HaveOnLeft, on_left}
 use Rattle.overlay.proofs.AreaLemmas.Sheared.{AreDistinct-sheared, AreNoded-sheared, IsRing-sheared, ring_edges-sheared, sheared, sheared_edge, total-sheared}
 use Rattle.overlay.proofs.AreaLemmas.Slanted.{slanted-runs, slanted-sloped}
 use Rattle.overlay.proofs.AreaLemmas.Slices.{area-above, area-below}
@@ -103,23 +103,41 @@ module _ (ring : List Point) (is : IsRing ring) (noded : AreNoded (ring_edges ri
   runs : is_counterclockwise ring ≡ lt_z begins.0.x0 begins.0.x1
   runs = slanted-runs edges two_ends n b wide low some noded distinct closed begins.0 begins.1
 
+  -- that number is 1 where the ring runs counterclockwise
+  pub left-once : is_counterclockwise ring ≡ true → HaveOnLeft (pos 1) (map (sheared_edge n) (ring_edges ring))
+  left-once counterclockwise =
+      let first = begins.0 in record {
+        closed = closed;
+        noded = noded-too;
+        distinct = distinct-too;
+        sloped = all-sloped;
+        left = all-left (pos 1) first begins.1.among (left-rightwards slanted noded-too sloped first begins.1 (sym runs ∙ counterclockwise));
+      }
+
+  -- and else 0
+  pub left-none : is_counterclockwise ring ≡ false → HaveOnLeft (pos 0) (map (sheared_edge n) (ring_edges ring))
+  left-none clockwise =
+      let first = begins.0 in record {
+        closed = closed;
+        noded = noded-too;
+        distinct = distinct-too;
+        sloped = all-sloped;
+        left = all-left (pos 0) first begins.1.among (left-leftwards slanted noded-too sloped first begins.1 (sym runs ∙ clockwise));
+      }
+
   -- so the area is above 0 there
   above-where : is_counterclockwise ring ≡ true → pos 0 <ℤ twice_area ring
   above-where counterclockwise =
-      let first = begins.0 in
-      let left = left-rightwards slanted noded-too sloped first begins.1 (sym runs ∙ counterclockwise) in
       above-of n (twice_area ring)
       (subst (λ z. pos 0 <ℤ z) (total-sheared n edges)
-      (area-above slanted closed noded-too distinct-too all-sloped first begins.1.among (all-left (pos 1) first begins.1.among left)))
+      (area-above slanted closed noded-too distinct-too all-sloped begins.0 begins.1.among (let have = left-once counterclockwise in have.left)))
 
   -- and below 0 where it doesn't
   below-where : is_counterclockwise ring ≡ false → twice_area ring <ℤ pos 0
   below-where clockwise =
-      let first = begins.0 in
-      let left = left-leftwards slanted noded-too sloped first begins.1 (sym runs ∙ clockwise) in
       below-of n (twice_area ring)
       (subst (λ z. z <ℤ pos 0) (total-sheared n edges)
-      (area-below slanted closed noded-too distinct-too all-sloped first begins.1.among (all-left (pos 0) first begins.1.among left)))
+      (area-below slanted closed noded-too distinct-too all-sloped begins.0 begins.1.among (let have = left-none clockwise in have.left)))
 
 -- The area of a ring is above 0 where it runs counterclockwise, and else below 0.
 pub area-directed : (ring : List Point) → IsRing ring → AreNoded (ring_edges ring) → AreDistinct (ring_edges ring) → All (λ edge. start_of edge ≢ end_of edge) (ring_edges ring)

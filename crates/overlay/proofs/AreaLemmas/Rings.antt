@@ -16,20 +16,26 @@ use Rattle.overlay.specs.declared.fill.rules.Operation.{Operation}
 use Rattle.overlay.proofs.AreaLemmas.Directed.{area-directed}
 use Rattle.overlay.proofs.ContourLemmas.Bends.{area-outline}
 
--- Of rings whose edges meet only at common ends each runs as its area says.
-pub rings-signed : (rings : List (List Point)) → All IsRing rings → AreNoded (flat_map ring_edges rings) → AreDistinct (flat_map ring_edges rings) → All (λ edge. start_of edge ≢ end_of edge) (flat_map ring_edges rings)
-    → All HasSignedArea rings
-rings-signed [] are noded distinct real = All-nil HasSignedArea
-rings-signed (ring ∷ rings) are noded distinct real =
+-- What holds of a ring that visits no point twice, whose edges meet only at common ends, are distinct and no points, holds of each
+-- of rings whose edges do all together.
+pub each-ring : (P : List Point → Type 0) → ((ring : List Point) → IsRing ring → AreNoded (ring_edges ring) → AreDistinct (ring_edges ring) → All (λ edge. start_of edge ≢ end_of edge) (ring_edges ring) → P ring)
+    → (rings : List (List Point)) → All IsRing rings → AreNoded (flat_map ring_edges rings) → AreDistinct (flat_map ring_edges rings) → All (λ edge. start_of edge ≢ end_of edge) (flat_map ring_edges rings) → All P rings
+each-ring P holds [] are noded distinct real = All-nil P
+each-ring P holds (ring ∷ rings) are noded distinct real =
     let Differ : Edge → Edge → Type 0 = λ one other. ¬ (HaveSameEnds one other) in
     let IsReal : Edge → Type 0 = λ edge. start_of edge ≢ end_of edge in
     let first = ring_edges ring in
     let rest = flat_map ring_edges rings in
-    All-cons HasSignedArea ring rings
-    (area-directed ring (All-head IsRing ring rings are) (λ one other point held held_too. noded one other point (Contains-append_left first rest one held) (Contains-append_left first rest other held_too))
+    All-cons P ring rings
+    (holds ring (All-head IsRing ring rings are) (λ one other point held held_too. noded one other point (Contains-append_left first rest one held) (Contains-append_left first rest other held_too))
     (AllPairs-front Differ first rest distinct) (All-front IsReal first rest real))
-    (rings-signed rings (All-tail IsRing ring rings are) (λ one other point held held_too. noded one other point (Contains-append_right first rest one held) (Contains-append_right first rest other held_too))
+    (each-ring P holds rings (All-tail IsRing ring rings are) (λ one other point held held_too. noded one other point (Contains-append_right first rest one held) (Contains-append_right first rest other held_too))
     (AllPairs-behind Differ first rest distinct) (All-behind IsReal first rest real))
+
+-- So of such rings each runs as its area says.
+pub rings-signed : (rings : List (List Point)) → All IsRing rings → AreNoded (flat_map ring_edges rings) → AreDistinct (flat_map ring_edges rings) → All (λ edge. start_of edge ≢ end_of edge) (flat_map ring_edges rings)
+    → All HasSignedArea rings
+rings-signed = each-ring HasSignedArea area-directed
 
 -- So do the rings that bound a result.
 pub boundary-signed : (rule : FillRule) (operation : Operation) (subject clip : List Edge) (rings : List (List Point)) → IsBoundary rule operation subject clip rings → All HasSignedArea rings

@@ -25,12 +25,12 @@ pub record IsLow (b : ℕ) (edge : Edge) : Type 0 where
 -- ---- some b for all edges
 
 -- a number lies within some bound
-bound : (z : ℤ) → (m : ℕ) × IsWithin m z
+pub bound : (z : ℤ) → (m : ℕ) × IsWithin m z
 bound (pos m) = (m, record { from = omega (arith, ints); upto = omega (arith, ints) })
 bound (negsuc m) = (suc m, record { from = omega (arith, ints); upto = omega (arith, ints) })
 
 -- and within a wider one
-wider : (m k : ℕ) (z : ℤ) → m ≤ k → IsWithin m z → IsWithin k z
+pub wider : (m k : ℕ) (z : ℤ) → m ≤ k → IsWithin m z → IsWithin k z
 wider m k z more is =
     let from = is.from in
     let upto = is.upto in record {
