@@ -23,6 +23,10 @@ pub use Rattle.overlay.proofs.AreaLemmas.Rings.{boundary-signed}
 -- It winds once around each point or not at all, to the left where it runs counterclockwise, else to the right.
 pub use Rattle.overlay.proofs.WindsLemmas.Once.{winds-directed}
 pub use Rattle.overlay.proofs.WindsLemmas.Rings.{boundary-once}
+-- Of polygons that wind once around a point or not at all each does by itself, where the edge just below a leftwards one is of the
+-- same polygon.
+pub use Rattle.overlay.proofs.WindsLemmas.Each.{IsNextBelow}
+pub use Rattle.overlay.proofs.WindsLemmas.Polygons.{KeepTogether, each-once}
 -- Of the polygons of an overlay and edges along an axis that were among those given, no two cross at a point with fractions: so an
 -- overlay of these polygons with such edges is exact at every point, by `exact-everywhere`.
 pub use Rattle.overlay.proofs.UncrossedLemmas.Crossing.{none-cross}

@@ -1,5 +1,8 @@
 -- Lemmas of how often rings wind around points.
+pub mod Each
 pub mod Left
 pub mod Moved
 pub mod Once
+pub mod Paired
+pub mod Polygons
 pub mod Rings
