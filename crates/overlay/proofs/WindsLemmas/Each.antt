@@ -1,11 +1,10 @@
 -- Edges that wind once around a point or not at all: some of them do by themselves, where each leftwards edge is one of these exactly
 -- if the edge just below it is.
-use Rattle.std.proofs.Common.{◌≡◌, ◌≢◌, ◌⊎◌, inl, inr, ℕ, ◌+◌, ◌*◌, ◌<◌, ℤ, pos, negsuc, ◌+ℤ◌, ◌-ℤ◌, ◌*ℤ◌, ◌≤ℤ◌, ◌<ℤ◌, Bool, true, false, not, ◌&&◌, cond, List, get_or, refl, ap, ap₂, sym, subst, ◌∙◌, arith}
+use Rattle.std.proofs.Common.{◌≡◌, ◌⊎◌, inl, inr, ℕ, ◌+◌, ◌*◌, ◌<◌, ℤ, pos, negsuc, ◌+ℤ◌, ◌*ℤ◌, ◌≤ℤ◌, ◌<ℤ◌, Bool, true, false, not, ◌&&◌, cond, List, get_or, refl, ap, ap₂, sym, subst, ◌∙◌, arith}
 use Rattle.std.specs.Int.{int_div_euclid}
 use Rattle.std.specs.Int.Signed.{lt_z}
 use Rattle.std.specs.List.{All, AllPairs, Contains, filter}
 use Rattle.std.specs.Prelude.{int_le, int_lt}
-use Rattle.std.proofs.Math.Nat.{mul-pos}
 use Rattle.std.proofs.lemmas.Int.{by_lt_z, ints}
 use Rattle.std.proofs.lemmas.List.Kept.{AllPairs-filter}
 use Rattle.i_tree.proofs.RootLemmas.Lists.{Contains-filter}
@@ -16,12 +15,12 @@ use Rattle.plane.specs.SweepLine.Heights.{height_by_run, height_by_runs, rightwa
 use Rattle.plane.proofs.MeetLemmas.Identities.{identity, minus, number, plus, scaled, times}
 use Rattle.noding.specs.Windings.{winding}
 use Rattle.noding.proofs.SnapLemmas.Counted.{height_at, is_counted}
-use Rattle.noding.proofs.SnapLemmas.Numbers.{Natural, n_of, natural}
+use Rattle.noding.proofs.SnapLemmas.Numbers.{n_of, natural}
 use Rattle.noding.proofs.SnapLemmas.Rounding.{Floor, floor_is}
 use Rattle.overlay.specs.Fill.Counts.{is_lower_on, is_over}
 use Rattle.overlay.specs.Fill.Filled.{AreDistinct, AreNoded, HaveSameEnds}
 use Rattle.overlay.specs.Fill.Pieces.{total, weight}
-use Rattle.overlay.proofs.FillLemmas.Kept.{same-exchanged, same-rightwards, same-trans}
+use Rattle.overlay.proofs.FillLemmas.Kept.{same-rightwards}
 use Rattle.overlay.proofs.FillLemmas.Level.{MeetOnly}
 use Rattle.overlay.proofs.FillLemmas.Order.{lower-apart, lower-asym, lower-irrefl, lower-trans, middle, twofold}
 use Rattle.overlay.proofs.FillLemmas.Premises.{All-among}
@@ -33,7 +32,7 @@ use Rattle.overlay.proofs.FillLemmas.Under.{lower_under, under_over}
 use Rattle.overlay.proofs.FillLemmas.Weights.{weight-left, weight-none, weight-right}
 use Rattle.overlay.proofs.FillLemmas.Wound.{winding-total}
 use Rattle.overlay.proofs.KeptLemmas.First.{turned-meet, turned-same}
-use Rattle.overlay.proofs.WindsLemmas.Paired.{IsJustBelow, IsOneOrNone, IsUnit, marked, paired, upto}
+use Rattle.overlay.proofs.WindsLemmas.Paired.{IsJustBelow, IsOneOrNone, IsUnit, paired, upto}
 
 -- Over the stretch from x to x + 1 the one is just below the other: both are over it, the one is lower, and none of the edges is
 -- between.

@@ -1,5 +1,5 @@
 -- A ring that visits no point twice, and whose edges meet only at common ends, winds around each point once or not at all.
-use Rattle.std.proofs.Common.{◌≡◌, ◌≢◌, ◌⊎◌, inl, inr, ℕ, suc, ◌+◌, ◌<◌, ℤ, pos, negsuc, ◌-ℤ◌, ◌*ℤ◌, ◌≤ℤ◌, ◌<ℤ◌, true, false, List, map, refl, subst, ◌∙◌, arith}
+use Rattle.std.proofs.Common.{◌≡◌, ◌≢◌, ◌⊎◌, inl, inr, ℕ, suc, ◌+◌, ◌<◌, ℤ, pos, negsuc, ◌-ℤ◌, ◌*ℤ◌, List, map, refl, ◌∙◌, arith}
 use Rattle.std.specs.List.{All, Contains}
 use Rattle.std.proofs.lemmas.Int.{ints}
 use Rattle.std.proofs.lemmas.List.Elements.{All-contains}
@@ -13,7 +13,7 @@ use Rattle.noding.specs.Windings.{is_under, winding}
 use Rattle.noding.proofs.SnapLemmas.Numbers.{n_of}
 use Rattle.overlay.specs.Contours.Rings.{IsRing, ring_edges}
 use Rattle.overlay.specs.Fill.Filled.{AreDistinct, AreNoded}
-use Rattle.overlay.specs.Polygons.{WindsOnce, is_counterclockwise}
+use Rattle.overlay.specs.Polygons.{WindsOnce}
 use Rattle.overlay.proofs.AreaLemmas.Directed.{left-none, left-once}
 use Rattle.overlay.proofs.AreaLemmas.Left.{HaveOnLeft}
 use Rattle.overlay.proofs.AreaLemmas.Sheared.{sheared_edge}

@@ -1,6 +1,6 @@
 -- Weighted things in a strict order, of which those from the lowest up to any weigh 1 or 0: each opens or closes. Where each that
 -- closes is marked as the one just below it is, the marked ones weigh 1 or 0 too.
-use Rattle.std.proofs.Common.{◌≡◌, ◌⊎◌, inl, inr, zero, suc, ℤ, pos, negsuc, ◌+ℤ◌, Bool, true, false, cond, List, [], ◌∷◌, get_or, refl, ap, ap₂, sym, subst, ◌∙◌, arith}
+use Rattle.std.proofs.Common.{◌≡◌, ◌⊎◌, inl, inr, zero, suc, ℤ, pos, negsuc, ◌+ℤ◌, Bool, true, false, cond, List, [], ◌∷◌, get_or, refl, ap, sym, subst, ◌∙◌, arith}
 use Rattle.std.specs.List.{All, AllPairs, Contains}
 use Rattle.std.specs.Prelude.{⊤}
 use Rattle.std.proofs.lemmas.Int.{ints}
@@ -8,7 +8,6 @@ use Rattle.std.proofs.lemmas.List.Elements.{All-contains, All-contains_itself, A
 use Rattle.i_tree.proofs.RootLemmas.Lists.{AllPairs-head, AllPairs-tail, Contains-here, Contains-there}
 use Rattle.noding.specs.Windings.{count}
 use Rattle.overlay.specs.Fill.Pieces.{total}
-use Rattle.overlay.proofs.FillLemmas.Premises.{All-among}
 use Rattle.overlay.proofs.FillLemmas.Ranked.{All-sorted, Differ, Rises, Rises-sorted, insert, sort, total-sort}
 use Rattle.overlay.proofs.FillLemmas.Totals.{total-none}
 

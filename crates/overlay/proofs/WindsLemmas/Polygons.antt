@@ -1,6 +1,6 @@
 -- Of polygons that wind once around a point or not at all, each does by itself, where the edge just below a leftwards one is of the
 -- same polygon.
-use Rattle.std.proofs.Common.{◌≡◌, ◌≢◌, ◌⊎◌, inl, inr, ◌++◌, zero, suc, ℤ, pos, ◌<ℤ◌, Bool, true, false, ◌&&◌, ◌||◌, cond, List, [], ◌∷◌, refl, ap, ap₂, sym, subst, ◌∙◌, arith}
+use Rattle.std.proofs.Common.{◌≡◌, ◌⊎◌, inl, inr, ◌++◌, zero, suc, ℤ, pos, ◌<ℤ◌, Bool, true, false, ◌&&◌, ◌||◌, cond, List, [], ◌∷◌, refl, ap, ap₂, sym, subst, ◌∙◌, arith}
 use Rattle.std.specs.Ordering.{int_eq}
 use Rattle.std.specs.List.{All, Contains, filter, flat_map}
 use Rattle.std.proofs.lemmas.Bool.{and_parts}
@@ -21,7 +21,7 @@ use Rattle.overlay.specs.Overlay.{polygon_edges}
 use Rattle.overlay.specs.Polygons.{rings_of}
 use Rattle.overlay.proofs.FillLemmas.Premises.{All-among}
 use Rattle.overlay.proofs.FillLemmas.Tests.{int_eq-true}
-use Rattle.overlay.proofs.WindsLemmas.Each.{AreTogether, IsNextBelow, winds-own}
+use Rattle.overlay.proofs.WindsLemmas.Each.{IsNextBelow, winds-own}
 use Rattle.overlay.proofs.WindsLemmas.Paired.{IsOneOrNone}
 
 -- A leftwards edge is one of these exactly if the edge just below it is, over each stretch.
