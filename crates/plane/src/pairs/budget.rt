@@ -13,7 +13,7 @@ const TESTS_PER_PAIR: usize = 16;
 pub(super) const LOOKS_PER_TEST: usize = 8;
 
 // So large a share of all tests, as its divisor, may be made ahead of an even pace.
-const AHEAD: usize = 4;
+const AHEAD: usize = 8;
 
 /// How many tests a search for pairs may take: so many in all, and so many more for each pair that is found.
 ///
