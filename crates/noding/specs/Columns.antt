@@ -1,3 +1,4 @@
--- Definitions of what sweeps by columns find of edges: what is asked about upright ones, and which points they pass.
+-- Definitions of what sweeps by columns find of edges: what is asked about upright ones and ends, and which points they pass.
+pub mod Ends
 pub mod Passing
 pub mod Uprights

@@ -12,7 +12,9 @@ ghost use Rattle.noding.specs.Stops.{AppendsIfKept, AreKept, AreNodeStops, AreSt
 
 use crate::chains::append_chains;
 use crate::close::close_pairs;
-use crate::columns::crossings::crossings_by_columns;
+use crate::columns::crossings::{CrossingsAndPoints, crossings_and_points};
+use crate::columns::ends::{are_at_ends, nodes_at_ends};
+use crate::columns::hot_points::ends_in_order;
 use crate::columns::stops::stops_by_columns;
 use crate::crossings::{Crossing, crossings_of_pairs};
 use crate::distinct::{distinct_of, stops_of_each};
@@ -83,12 +85,16 @@ fn nodes_of_edges<A: Allocator + Copy>(alloc: A, edges: &[Edge]) -> Result<Vec<S
     Ok(nodes)
 }
 
-// The same by a sweep over columns.
+// The same by a sweep over columns. It tells which ends lie on edges, too: where no edges cross but at ends, nothing else is a node.
 fn nodes_by_columns<A: Allocator + Copy>(alloc: A, edges: &[Edge]) -> Result<Vec<Stop, A>, Refusal>
     ensures ok { IfOk result (λ stops. AreNodeStops edges.now stops.items) }
     ensures refused { IfErr result (λ cause. cause ≡ OutOfMemory) }
 {
-    let crossings = crossings_by_columns(alloc, edges)?;
+    let ends = ends_in_order(alloc, edges)?;
+    let CrossingsAndPoints { crossings, on } = crossings_and_points(alloc, edges, &ends)?;
+    if are_at_ends(edges, &crossings) {
+        return nodes_at_ends(alloc, edges, &crossings, &ends, &on);
+    }
     let stops = stops_by_columns(alloc, edges, &crossings)?;
     let nodes = nodes_of_stops(alloc, edges, &crossings, stops)?;
     Ok(nodes)

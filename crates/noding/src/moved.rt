@@ -145,8 +145,8 @@ fn flag<A: Allocator>(place: usize, moved: &mut Moved<A>) -> Result<(), AllocErr
     Ok(())
 }
 
-// Whether the point lies on both edges.
-fn lie_on(one: Edge, other: Edge, point: Point) -> bool
+/// Whether the point lies on both edges.
+pub(crate) fn lie_on(one: Edge, other: Edge, point: Point) -> bool
     ensures { let both = HasPoint one point.x point.y × HasPoint other point.x point.y in MatchBool result both (¬ both) }
 {
     has_point(one, point.x, point.y) && has_point(other, point.x, point.y)

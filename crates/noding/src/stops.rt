@@ -341,8 +341,8 @@ pub(crate) fn push_stops<A: Allocator>(
     Ok(())
 }
 
-// The stop of the edge, which is at this place, at the whole point (x, y).
-fn stop_of(place: usize, edge: Edge, x: i32, y: i32) -> Stop
+/// The stop of the edge, which is at this place, at the whole point (x, y).
+pub(crate) fn stop_of(place: usize, edge: Edge, x: i32, y: i32) -> Stop
     ensures { result ≡ stop_of place edge x y }
 {
     Stop {

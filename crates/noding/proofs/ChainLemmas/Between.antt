@@ -91,7 +91,7 @@ HaveAllCrossed-close edges pairs close =
 -- ---- ends
 
 -- a point that is whole rounds to itself
-RoundsTo-at : (point : RationalPoint) (x y : ℤ) → IsAt point x y → RoundsTo point x y
+pub RoundsTo-at : (point : RationalPoint) (x y : ℤ) → IsAt point x y → RoundsTo point x y
 RoundsTo-at point x y at = record {
   along_x = subst (λ (p : ℤ). RoundsOn point.n p x) (sym at.x_is) (RoundsOn-whole point.n x point.positive);
   along_y = subst (λ (p : ℤ). RoundsOn point.n p y) (sym at.y_is) (RoundsOn-whole point.n y point.positive);

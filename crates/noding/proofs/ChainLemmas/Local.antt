@@ -34,7 +34,7 @@ CrossBeside-of one other x y (slanted, (point, of_one, of_other, rounds)) none =
 CrossAt-beside : (one other : Edge) (x y : ℤ) → CrossBeside one other x y → CrossAt one other x y
 CrossAt-beside one other x y (slanted, (point, of_one, of_other, rounds, beside)) = (slanted, (point, of_one, of_other, rounds))
 
-beside_whole : (one other : Edge) (x y : ℤ) → HasPoint one x y → HasPoint other x y → ¬ (CrossBeside one other x y)
+pub beside_whole : (one other : Edge) (x y : ℤ) → HasPoint one x y → HasPoint other x y → ¬ (CrossBeside one other x y)
 beside_whole one other x y on other_on (slanted, (point, of_one, of_other, rounds, beside)) = beside (common_whole one other point x y slanted of_one of_other on other_on)
 
 -- those that cross at one that does cross beside none

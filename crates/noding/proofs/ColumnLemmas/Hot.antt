@@ -24,7 +24,7 @@ end_or_between one other x y (slanted, (point, of_one, of_other, rounds)) =
 
 module _ (edges : List Edge) (crossings : List Crossing) (crossed : AreAllCrossed edges crossings) where
   -- a hot point is an end of an edge, or the point of a crossing
-  from_hot : (point : Point) → IsHot edges point.x point.y → IsOfSome IsEndOf edges point ⊎ IsOfSome IsPointOf crossings point
+  pub from_hot : (point : Point) → IsHot edges point.x point.y → IsOfSome IsEndOf edges point ⊎ IsOfSome IsPointOf crossings point
   from_hot point (inl end) = inl end
   from_hot point (inr (one, other, of_one, of_other, cross)) =
       elim (end_or_between one other point.x point.y cross) [

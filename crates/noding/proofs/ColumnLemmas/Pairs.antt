@@ -11,7 +11,7 @@ use Rattle.plane.specs.declared.edge.Edge.{Edge}
 use Rattle.plane.specs.declared.columns.Asked.{Asked}
 use Rattle.plane.specs.Columns.Asked.{Reaches}
 use Rattle.plane.specs.Meet.Crosses.{cross}
-use Rattle.plane.specs.Pairs.Pairs.{ArePairs, ArePairsBetween}
+use Rattle.plane.specs.Pairs.Pairs.{ArePairs, PairBetween}
 use Rattle.plane.specs.SweepLine.Crossings.{Cross}
 use Rattle.plane.proofs.MeetLemmas.Along.{same_or_apart}
 use Rattle.plane.proofs.MeetLemmas.Identities.{identity, minus, number, times}
@@ -44,7 +44,7 @@ upright_tall one other same slanted level =
     ∙ identity (minus (times (n_of 0) (minus (number other.y1) (number other.y0))) (times (n_of 0) (minus (number other.x1) (number other.x0)))) (n_of 0) (omega arith))
 
 module _ (edges : List Edge) (places : List ℕ) (asked : List Asked) (crossed met pairs : List (ℕ × ℕ)) (are : AreAsked edges places asked) (gains : GainsThese (IsOfSome (IsPairAbout places) met) crossed pairs) where
-  module _ (all_crossed : ArePairs Cross edges crossed) (all_met : ArePairsBetween Reaches edges asked met) where
+  module _ (all_crossed : ArePairs Cross edges crossed) (all_met : (i k : ℕ) → PairBetween Reaches edges asked i k → Contains met (i, k)) where
     -- neither is upright
     told_crossed : (i j : ℕ) (one other : Edge) (x y : ℤ) → one.x0 ≢ one.x1 → other.x0 ≢ other.x1 → i < j → slice_get edges i ≡ Some one → slice_get edges j ≡ Some other → CrossBetweenEnds one other x y → Contains pairs (i, j)
     told_crossed i j one other x y wide other_wide below first second (slanted, (point, of_one, of_other, rounds, none)) =
@@ -71,7 +71,7 @@ module _ (edges : List Edge) (places : List ℕ) (asked : List Asked) (crossed m
     told_met i j one other x y same wide first second (slanted, (point, of_one, of_other, rounds, none)) =
         let about = are.all i one first (same, upright_tall one other same slanted) in
         let found : Contains met (j, about.at) =
-        (all_met.exact j about.at).1 (record {
+        all_met j about.at (record {
           one = other;
           other = asked_about one;
           first = second;

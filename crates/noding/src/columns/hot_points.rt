@@ -1,6 +1,7 @@
 //! The hot points of edges, as a list.
 
 ghost use Rattle.std.specs.Prelude.{◌≡◌, IfOk, OnOk};
+ghost use Rattle.noding.specs.Columns.Ends.{AreEnds};
 ghost use Rattle.noding.specs.Crossings.{AreAllCrossed, AreHot, IsEndOf, IsPointOf};
 ghost use Rattle.plane.specs.Gains.{GainsThese, IsOfSome};
 
@@ -22,6 +23,19 @@ pub fn hot_points<A: Allocator + Copy>(
     let mut points = Vec::new(alloc);
     push_ends(edges, &mut points)?;
     push_points(crossings, &mut points)?;
+    sort_points(&mut points)?;
+    Ok(points)
+}
+
+/// The ends of the edges in order, each once. Memory that is refused is the only error.
+pub fn ends_in_order<A: Allocator + Copy>(
+    alloc: A,
+    edges: &[Edge],
+) -> Result<Vec<Point, A>, AllocError>
+    ensures { IfOk result (λ points. AreEnds edges.now points.items) }
+{
+    let mut points = Vec::new(alloc);
+    push_ends(edges, &mut points)?;
     sort_points(&mut points)?;
     Ok(points)
 }

@@ -2,6 +2,7 @@
 //! stops.
 
 pub mod crossings;
+pub mod ends;
 pub mod hot_points;
 pub mod passing;
 pub mod stops;

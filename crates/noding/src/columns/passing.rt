@@ -39,8 +39,8 @@ pub fn pairs_passed_by_columns<A: Allocator + Copy>(
     Ok(pairs)
 }
 
-// Appends the pairs of the steep edges, or those of the others.
-fn append_passed<A: Allocator + Copy>(
+/// Appends the pairs of the steep edges, or those of the others.
+pub(super) fn append_passed<A: Allocator + Copy>(
     alloc: A,
     steep: bool,
     edges: &[Edge],

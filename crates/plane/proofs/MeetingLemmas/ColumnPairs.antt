@@ -22,7 +22,7 @@ use Rattle.plane.proofs.MeetingLemmas.Columns.{Found, told-meeting}
 
 -- ---- what is asked, and the edge that it is about
 
-slice_get-behind : {X : Type 0} (xs ys : List X) (n i : ℕ) (x : X) → n ≡ length xs → slice_get ys i ≡ Some x → slice_get (xs ++ ys) (n + i) ≡ Some x
+pub slice_get-behind : {X : Type 0} (xs ys : List X) (n i : ℕ) (x : X) → n ≡ length xs → slice_get ys i ≡ Some x → slice_get (xs ++ ys) (n + i) ≡ Some x
 slice_get-behind xs ys n i x size is =
     let inside = slice_get_within ys i x is in
     let both = length-append xs ys in
@@ -47,7 +47,7 @@ about-within count place inside = by (nat_lt place count) refl
     by true is = ltb-true place count (sym is)
     by false is = omega (arith, inside)
 
-mapped_at : {X Y : Type 0} (f : X → Y) (xs : List X) (i : ℕ) (x : X) → slice_get xs i ≡ Some x → slice_get (map f xs) i ≡ Some (f x)
+pub mapped_at : {X Y : Type 0} (f : X → Y) (xs : List X) (i : ℕ) (x : X) → slice_get xs i ≡ Some x → slice_get (map f xs) i ≡ Some (f x)
 mapped_at f xs i x is = let there = slice_get-map f xs i in let same = is in cc
 
 module _ (edges : List Edge) (asked : List Asked) (crossed met pairs : List (ℕ × ℕ)) (asked_is : asked ≡ map asked_first edges ++ map asked_last edges) (gains : GainsThese (IsOfSome (IsPairAbout (length edges)) met) crossed pairs) where
