@@ -14,6 +14,7 @@ pub mod Moving
 pub mod Offsets
 pub mod Order
 pub mod Runs
+pub mod Sections
 pub mod Spreading
 pub mod Standing
 pub mod Stops

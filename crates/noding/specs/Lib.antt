@@ -11,6 +11,7 @@ pub mod Moving
 pub mod Near
 pub mod Offsets
 pub mod Rounding
+pub mod Sections
 pub mod Stops
 pub mod Tests
 pub mod Windings

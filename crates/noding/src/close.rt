@@ -1,26 +1,23 @@
-//! Which edges come close to each other, and which points they pass: what the sweep for pairs asks of edges.
+//! Which edges come close to each other: what the sweep for pairs asks of edges.
 
 ghost use Rattle.std.specs.Bool.{OnTrue};
 ghost use Rattle.std.specs.Prelude.{◌≡◌, ◌⊎◌, ◌<◌, ◌^◌, true, All, IfErr, IfOk, IfSome, IsTrue, MatchBool, length, map};
 ghost use Rattle.i_tree.specs.declared.Refusal.TheVariants.{OutOfMemory};
 ghost use Rattle.plane.specs.Meet.Boxes.{bounds_of};
-ghost use Rattle.plane.specs.Pairs.Pairs.{ArePairs, ArePairsBetween};
+ghost use Rattle.plane.specs.Pairs.Pairs.{ArePairs};
 ghost use Rattle.plane.specs.Meet.Crosses.{IsWithin};
-ghost use Rattle.noding.specs.Close.{ComeClose, HaveOnePoint, HoldsEnd, LieBeyond, PassesEnd, PassesPoint, ShareEnd, item_of};
+ghost use Rattle.noding.specs.Close.{ComeClose, HaveOnePoint, HoldsEnd, LieBeyond, PassesEnd, ShareEnd, item_of};
 
-use crate::columns::passing::pairs_passed_by_columns;
 use crate::passing::{is_end, is_in_box, may_pass_inside, passes_inside};
 use i_tree::Refusal;
 use plane::edge::{Edge, margin_of};
 use plane::meet::meet;
 use plane::pairs::items::{Bounds, Boxed, Meets};
-use plane::pairs::{Budget, pairs_with_points_within_budget, pairs_within_budget};
-use plane::point::Point;
+use plane::pairs::{Budget, pairs_within_budget};
 use plane::vectors::{cross_product, vector_along, vector_between_starts};
 use std::alloc::{AllocError, Allocator};
 
-/// An edge as an item that meets those that come close to it, and the points that it passes between its ends. Of edges by
-/// themselves the sweep asks which share a point.
+/// An edge as an item that meets those that come close to it. Of edges by themselves the sweep asks which share a point.
 #[derive(Clone, Copy)]
 pub struct CloseEdge {
     pub edge: Edge,
@@ -42,14 +39,6 @@ impl Meets<CloseEdge> for CloseEdge {
     }
 }
 
-impl Meets<Point> for CloseEdge {
-    ghost Meeting = { λ it point. PassesPoint it.edge point };
-
-    fn meets(self, other: Point) -> bool {
-        passes_inside(self.edge, other.x, other.y)
-    }
-}
-
 /// The pairs of places `(i, j)` of edges that come close, i below j, each once; or nothing where the sweep over their boxes takes
 /// more tests than edges mostly need. Then edges are noded by columns.
 pub fn close_pairs<A: Allocator + Copy>(
@@ -64,47 +53,6 @@ pub fn close_pairs<A: Allocator + Copy>(
     let items = items_of(alloc, edges)?;
     let mut pairs = Vec::new(alloc);
     let are_all = pairs_within_budget(&items, Budget::for_items(edges.len()), &mut pairs)?;
-    Ok(are_all.then_some(pairs))
-}
-
-/// The pairs of places `(i, j)` where the edge at i passes the point at j between its ends, each once.
-///
-/// They are sought by the boxes of the edges, and where that takes more tests than edges mostly need, by columns.
-pub fn pairs_passed<A: Allocator + Copy>(
-    alloc: A,
-    edges: &[Edge],
-    points: &[Point],
-) -> Result<Vec<(usize, usize), A>, Refusal>
-    ensures ok { IfOk result (λ pairs. ArePairsBetween PassesPoint edges.now points.now pairs.items) }
-    ensures within { IfOk result (λ pairs. All (λ pair. (pair.0 < length edges.now) × (pair.1 < length points.now)) pairs.items) }
-    ensures refused { IfErr result (λ cause. cause ≡ OutOfMemory) }
-{
-    if let Some(pairs) = pairs_passed_within(alloc, edges, points)? {
-        return Ok(pairs);
-    }
-    pairs_passed_by_columns(alloc, edges, points)
-}
-
-// The same, or nothing where the search by boxes takes more tests than edges mostly need.
-fn pairs_passed_within<A: Allocator + Copy>(
-    alloc: A,
-    edges: &[Edge],
-    points: &[Point],
-) -> Result<Option<Vec<(usize, usize), A>>, Refusal>
-    ensures ok { IfOk result (λ found. IfSome found (λ pairs.
-        ArePairsBetween PassesPoint edges.now points.now pairs.items)) }
-    ensures within { IfOk result (λ found. IfSome found (λ pairs.
-        All (λ pair. (pair.0 < length edges.now) × (pair.1 < length points.now)) pairs.items)) }
-    ensures refused { IfErr result (λ cause. cause ≡ OutOfMemory) }
-{
-    let items = items_of(alloc, edges)?;
-    let mut pairs = Vec::new(alloc);
-    let are_all = pairs_with_points_within_budget(
-        &items,
-        points,
-        Budget::for_items(edges.len()),
-        &mut pairs,
-    )?;
     Ok(are_all.then_some(pairs))
 }
 

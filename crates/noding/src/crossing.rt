@@ -69,7 +69,7 @@ fn round_on_axis(from: i32, to: i32, other_from: i32, other_to: i32, all: i128, 
 }
 
 /// The number that lies `first` of `all` parts of the way from the one to the other, rounded.
-fn round_mean(from: i32, to: i32, all: i128, first: i128) -> i32
+pub fn round_mean(from: i32, to: i32, all: i128, first: i128) -> i32
     requires some { pos 0 <ℤ all }
     requires upto { all ≤ℤ pos (2 ^ 66) }
     requires first_from { pos 0 ≤ℤ first }

@@ -29,6 +29,7 @@ mod moved;
 mod passing;
 pub mod pieces;
 pub mod sample;
+mod sections;
 pub mod stops;
 
 pub use local::{node, nodes_in_order};

@@ -6,14 +6,17 @@ ghost use Rattle.plane.specs.Pairs.Pairs.{ArePairs};
 ghost use Rattle.noding.specs.Close.{ComeClose, PassesInside};
 ghost use Rattle.noding.specs.Crossings.{AreCrossed, IsCrossed};
 ghost use Rattle.plane.specs.Gains.{GainsThese, HaveSame, IsOfSome};
+ghost use Rattle.noding.specs.Sections.{IsStopIn};
 ghost use Rattle.noding.specs.Stops.{AreStops, IsBefore, IsStopAlong, IsStopAmong, IsStopAt, IsStopAtCrossing, IsStopAtEnd, IsOfCrossing, IsStopCrossed, IsStopOfBoth, IsStopOfPair, IsStopThere, IsStopUpto, PassedByBoth, point_of, stop_of, reflected};
 
-use crate::close::{close_pairs, pairs_passed};
+use crate::close::close_pairs;
 use crate::columns::crossings::crossings_by_columns;
+use crate::columns::passing::pairs_passed_by_columns;
 use crate::columns::stops::stops_by_columns;
 use crate::crossings::{Crossing, crossings_of_pairs, is_end_of_one, points_inside};
 use crate::distinct::{distinct_of, stops_of_each};
 use crate::passing::passes_inside;
+use crate::sections::{Section, pairs_passed_here, sections_of};
 use event_queue::buckets::sort_in_buckets;
 use i_tree::Refusal;
 use plane::edge::{Edge, run_along_axes};
@@ -307,7 +310,8 @@ fn push_stops_of_both<A: Allocator>(
     Ok(())
 }
 
-// Appends the stops of all edges at these points.
+// Appends the stops of all edges at these points. They are sought in the sections of edges, and where that takes more tests than
+// edges mostly need, by columns.
 fn push_stops_at_points<A: Allocator + Copy>(
     edges: &[Edge],
     points: &[Point],
@@ -319,8 +323,32 @@ fn push_stops_at_points<A: Allocator + Copy>(
     if points.is_empty() {
         return Ok(());
     }
-    let passes = pairs_passed(*stops.allocator(), edges, points)?;
-    push_stops(edges, points, &passes, stops)?;
+    let alloc = *stops.allocator();
+    let sections = sections_of(alloc, edges, points)?;
+    let Some(passes) = pairs_passed_here(alloc, &sections, points)? else {
+        let passes = pairs_passed_by_columns(alloc, edges, points)?;
+        push_stops(edges, points, &passes, stops)?;
+        return Ok(());
+    };
+    push_stops_here(&sections, points, &passes, stops)?;
+    Ok(())
+}
+
+// Appends the stop of each pair of a section and a point.
+fn push_stops_here<A: Allocator>(
+    sections: &[Section],
+    points: &[Point],
+    passes: &[(usize, usize)],
+    stops: &mut Vec<Stop, A>,
+) -> Result<(), AllocError>
+    requires { All (λ pair. (pair.0 < length sections.now) × (pair.1 < length points.now)) passes.now }
+    ensures { OnOk result (GainsThese (IsOfSome (IsStopIn sections.now points.now) passes.now) stops.old.items stops.new.items) }
+{
+    for pair in passes {
+        let section = sections[pair.0];
+        let point = points[pair.1];
+        stops.push(stop_of(section.place, section.edge, point.x, point.y))?;
+    }
     Ok(())
 }
 

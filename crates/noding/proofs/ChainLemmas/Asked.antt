@@ -1,5 +1,5 @@
 -- The stops of all edges at few crossings, each edge asked about each of them.
-use Rattle.std.proofs.Common.{◌≡◌, ◌⊎◌, inl, inr, ℕ, ◌+◌, ◌<◌, ◌≤◌, List, Some, length, refl, sym, ap, ◌∙◌, subst, ⊎_elim, arith}
+use Rattle.std.proofs.Common.{◌≡◌, ◌⊎◌, inl, inr, ℕ, ◌+◌, ◌≤◌, List, Some, length, refl, sym, ap, ◌∙◌, subst, ⊎_elim, arith}
 use Rattle.std.specs.List.{slice_get}
 use Rattle.std.proofs.lemmas.Bool.{cases_lt}
 use Rattle.std.proofs.lemmas.Option.{same_Some, slice_get_within}
@@ -9,7 +9,7 @@ use Rattle.plane.specs.Gains.{GainsThese, IsOfSome}
 use Rattle.noding.specs.Chains.{IsEnd}
 use Rattle.noding.specs.Close.{PassesInside}
 use Rattle.noding.specs.Crossings.{AreCrossed, CrossInside, IsCrossed, IsPointInside}
-use Rattle.noding.specs.Stops.{IsOfCrossing, IsStopAlong, IsStopCrossed, IsStopOn, IsStopThere, IsStopUpto, PassedByBoth}
+use Rattle.noding.specs.Stops.{IsStopAlong, IsStopCrossed, IsStopOn, IsStopThere, IsStopUpto, PassedByBoth}
 use Rattle.noding.specs.declared.crossings.Crossing.{Crossing}
 use Rattle.noding.specs.declared.stops.Stop.{Stop}
 use Rattle.noding.proofs.ChainLemmas.Crossed.{passes-first, passes-second}

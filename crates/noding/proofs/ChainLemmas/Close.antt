@@ -8,13 +8,12 @@ use Rattle.std.proofs.lemmas.Int.{clamps, ints}
 use Rattle.std.proofs.lemmas.List.Elements.{Contains-get_or}
 use Rattle.std.proofs.lemmas.Option.{same_Some, slice_get-map, slice_get_within}
 use Rattle.plane.specs.declared.edge.Edge.{Edge}
-use Rattle.plane.specs.declared.point.Point.{Point}
 use Rattle.plane.specs.Meet.Boxes.{bounds_of}
 use Rattle.plane.specs.Pairs.Bounds.{BoundsMeet, MeetInBoxes}
 use Rattle.plane.specs.Pairs.Pairs.{ArePairs, ArePairsBetween, PairAt}
 use Rattle.plane.proofs.MeetLemmas.Boxes.{meet-in_boxes, meet_comm}
 use Rattle.noding.specs.Chains.{IsEnd}
-use Rattle.noding.specs.Close.{ComeClose, HoldsEnd, MeetApart, PassesEnd, PassesInside, PassesPoint, ShareEnd, item_of}
+use Rattle.noding.specs.Close.{ComeClose, HoldsEnd, MeetApart, PassesEnd, PassesInside, ShareEnd, item_of}
 use Rattle.noding.specs.declared.close.CloseEdge.{CloseEdge}
 use Rattle.noding.proofs.SnapLemmas.Along.{Passes-in_box}
 
@@ -102,40 +101,29 @@ ArePairs-of_items edges pairs are = record {
       meet = pair.meet;
     }
 
--- so are pairs of an item and a point
-pub ArePassed-of_items : (edges : List Edge) (points : List Point) (pairs : List (ℕ × ℕ)) → ArePairsBetween (λ (it : CloseEdge) (point : Point). PassesPoint it.edge point) (map item_of edges) points pairs
-    → ArePairsBetween PassesPoint edges points pairs
-ArePassed-of_items edges points pairs are = record {
-  once = are.once;
-  exact = λ i j. (
-    λ held. (let pair = (are.exact i j).0 held in record { one = pair.one.edge; other = pair.other; first = edge_at edges i pair.one pair.first; second = pair.second; meet = pair.meet }),
-    λ pair. (are.exact i j).1 (record { one = item_of pair.one; other = pair.other; first = item_at edges i pair.one pair.first; second = pair.second; meet = pair.meet }),
-  );
-}
-
--- The pairs that a list without any gains are those of edges, and of edges and points.
+-- The pairs that a list without any gains are those of edges, or of items and others.
 pub ArePairs-gained : (edges : List Edge) (items : List CloseEdge) (before after : List (ℕ × ℕ)) → items ≡ map item_of edges → before ≡ []
     → (pairs : List (ℕ × ℕ)) × (after ≡ before ++ pairs) × ArePairs (λ (it other : CloseEdge). ComeClose it.edge other.edge) items pairs → ArePairs ComeClose edges after
 ArePairs-gained edges items before after of none (pairs, is, are) =
     subst (ArePairs ComeClose edges) (sym (is ∙ ap (λ (list : List (ℕ × ℕ)). list ++ pairs) none))
     (ArePairs-of_items edges pairs (subst (λ (items : List CloseEdge). ArePairs (λ (it other : CloseEdge). ComeClose it.edge other.edge) items pairs) of are))
 
-pub ArePassed-gained : (edges : List Edge) (points : List Point) (items : List CloseEdge) (before after : List (ℕ × ℕ)) → items ≡ map item_of edges → before ≡ []
-    → (pairs : List (ℕ × ℕ)) × (after ≡ before ++ pairs) × ArePairsBetween (λ (it : CloseEdge) (point : Point). PassesPoint it.edge point) items points pairs → ArePairsBetween PassesPoint edges points after
-ArePassed-gained edges points items before after of none (pairs, is, are) =
-    subst (ArePairsBetween PassesPoint edges points) (sym (is ∙ ap (λ (list : List (ℕ × ℕ)). list ++ pairs) none))
-    (ArePassed-of_items edges points pairs (subst (λ (items : List CloseEdge). ArePairsBetween (λ (it : CloseEdge) (point : Point). PassesPoint it.edge point) items points pairs) of are))
+pub ArePairsBetween-gained : {X Y : Type 0} (Meeting : X → Y → Type 0) (items : List X) (others : List Y) (before after : List (ℕ × ℕ)) → before ≡ []
+    → (pairs : List (ℕ × ℕ)) × (after ≡ before ++ pairs) × ArePairsBetween Meeting items others pairs → ArePairsBetween Meeting items others after
+ArePairsBetween-gained Meeting items others before after none (pairs, is, are) =
+    subst (ArePairsBetween Meeting items others) (sym (is ∙ ap (λ (list : List (ℕ × ℕ)). list ++ pairs) none)) are
 
 -- what a call answers where it tells so is what holds of it then
 pub IfSome-told : {T : Type 0} (told : Bool) (value : T) (P : T → Type 0) (Told Else : Type 0) → (Told → P value) → MatchBool told Told Else → IfSome (then_some told value) P
 IfSome-told true value P Told Else holds is = holds is
 IfSome-told false value P Told Else holds is = tt
 
-pub ArePassed-within : (edges : List Edge) (points : List Point) (pairs : List (ℕ × ℕ)) → ArePairsBetween PassesPoint edges points pairs → All (λ pair. (pair.0 < length edges) × (pair.1 < length points)) pairs
-ArePassed-within edges points pairs are k d within =
+pub ArePairsBetween-within : {X Y : Type 0} (Meeting : X → Y → Type 0) (items : List X) (others : List Y) (pairs : List (ℕ × ℕ)) → ArePairsBetween Meeting items others pairs
+    → All (λ pair. (pair.0 < length items) × (pair.1 < length others)) pairs
+ArePairsBetween-within Meeting items others pairs are k d within =
     let pair = get_or pairs k d in
     let is = (are.exact pair.0 pair.1).0 (Contains-get_or pairs k d within) in
-    (slice_get_within edges pair.0 is.one is.first, slice_get_within points pair.1 is.other is.second)
+    (slice_get_within items pair.0 is.one is.first, slice_get_within others pair.1 is.other is.second)
 
 -- and their places are places of edges
 pub ArePairs-within : (edges : List Edge) (pairs : List (ℕ × ℕ)) → ArePairs ComeClose edges pairs → All (λ pair. (pair.0 < length edges) × (pair.1 < length edges)) pairs

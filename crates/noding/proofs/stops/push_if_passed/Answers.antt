@@ -1,6 +1,5 @@
 use Rattle.std.proofs.Common.{◌≡◌, ◌++◌, ◌∷◌, [], rules, w32, FitsSigned, ap, ◌∙◌}
 use Rattle.std.proofs.lemmas.Int.{to_z-of_z}
-use Rattle.noding.specs.Close.{PassesInside}
 use Rattle.noding.specs.Stops.{IsStopAlong, stop_of}
 use Rattle.noding.specs.declared.stops.Stop.{Stop}
 use Rattle.plane.proofs.GainsLemmas.{gains-none}

@@ -1,7 +1,7 @@
 use Rattle.std.proofs.Common.{◌≡◌, ◌∙◌, ◌++◌, ℕ, List, ap, subst, sym}
 use Rattle.plane.specs.Pairs.Pairs.{ArePairsBetween}
 use Rattle.noding.specs.Close.{PassesPoint}
-use Rattle.noding.proofs.ChainLemmas.Close.{ArePassed-within}
+use Rattle.noding.proofs.ChainLemmas.Close.{ArePairsBetween-within}
 use Rattle.noding.proofs.ColumnLemmas.PassingPairs.{ArePassed-joined}
 use Rattle.noding.proofs.columns.passing.pairs_passed_by_columns.Goals as goal
 
@@ -16,4 +16,4 @@ returns-clause-ok g c =
     subst (ArePairsBetween PassesPoint edges points) (sym listed) (ArePassed-joined edges points flat steep are others)
 
 pub returns-clause-within : goal.returns-clause-within
-returns-clause-within g c = ArePassed-within c.args.edges.now c.args.points.now c.append_passed-2.new.pairs.items (returns-clause-ok g c)
+returns-clause-within g c = ArePairsBetween-within PassesPoint c.args.edges.now c.args.points.now c.append_passed-2.new.pairs.items (returns-clause-ok g c)
