@@ -1,4 +1,6 @@
+pub mod CircleLemmas
 pub mod CoverLemmas
+pub mod DiamondLemmas
 pub mod OffsetLemmas
 pub mod PieceLemmas
 pub mod RawLemmas

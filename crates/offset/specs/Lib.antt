@@ -1,4 +1,6 @@
 -- Definitions of offsets: shapes, sums with them, and the curve around such a sum.
+pub mod Circle
+pub mod CircleFaults
 pub mod Faults
 pub mod Minkowski
 pub mod Raw

@@ -2,4 +2,6 @@
 #![tactic(auto)]
 
 #[cfg(test)]
+mod rounded;
+#[cfg(test)]
 mod worked;
