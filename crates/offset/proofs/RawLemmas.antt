@@ -10,11 +10,13 @@ use Rattle.std.proofs.lemmas.List.Concat.{flat_map-cons}
 use Rattle.std.proofs.lemmas.List.Elements.{All-head, filter_more}
 use Rattle.i_tree.proofs.RootLemmas.Joined.{All-behind, All-front}
 use Rattle.plane.specs.declared.edge.Edge.{Edge}
-use Rattle.plane.specs.Ends.{end_of, start_of}
+use Rattle.plane.specs.declared.point.Point.{Point}
+use Rattle.plane.specs.Ends.{edge_between, end_of, start_of}
+use Rattle.overlay.specs.Contours.Rings.{has_two_ends}
 use Rattle.offset.specs.declared.fault.MinkowskiFault.{MinkowskiFault}
 use Rattle.offset.specs.declared.fault.MinkowskiFault.TheVariants.{Lengths, Shape, Range, OutOfMemory}
 use Rattle.offset.specs.Faults.{IsRawFault}
-use Rattle.offset.specs.Raw.{IsIn32Bits, IsPointIn32Bits}
+use Rattle.offset.specs.Raw.{IsIn32Bits, IsPointIn32Bits, furthest, ways, ways_by}
 
 -- The first item that passes a test is the first that the filter keeps.
 pub first-kept : {X : Type 0} (test : X → Bool) (xs : List X) (index : ℕ) (d e : X) → index < length xs → filter test (take index xs) ≡ [] → test (get_or xs index d) ≡ true → get_or (filter test xs) 0 e ≡ get_or xs index d
@@ -115,3 +117,26 @@ passes-lt a b below = grind (arith, ints)
 
 pub fails-lt : (a b : ℤ) → b ≤ℤ a → int_lt a b ≡ false
 fails-lt a b above = grind (arith, ints)
+
+-- ---- the ways at a corner
+
+-- the test is that of the furthest corners
+tested : (corners : List Point) (edge next : Edge) (from to : Point) (t : Bool) → from ≡ furthest corners edge → to ≡ furthest corners next → t ≡ has_two_ends (edge_between from to)
+    → has_two_ends (edge_between (furthest corners edge) (furthest corners next)) ≡ t
+tested corners edge next from to t is_from is_to test =
+    ap (λ (p : Point). has_two_ends (edge_between p (furthest corners next))) (sym is_from) ∙ ap (λ (p : Point). has_two_ends (edge_between from p)) (sym is_to) ∙ sym test
+
+-- They are those by the furthest corners where these are two,
+pub ways-apart : (corners : List Point) (edge next : Edge) (from to at : Point) (t : Bool) → from ≡ furthest corners edge → to ≡ furthest corners next → at ≡ end_of edge → t ≡ has_two_ends (edge_between from to) → t ≡ true
+    → ways_by from to at ≡ ways corners edge next
+ways-apart corners edge next from to at t is_from is_to is_at test passes =
+    ap (λ (p : Point). ways_by p to at) is_from
+    ∙ ap (λ (p : Point). ways_by (furthest corners edge) p at) is_to
+    ∙ ap (λ (p : Point). ways_by (furthest corners edge) (furthest corners next) p) is_at
+    ∙ sym (ap (λ (u : Bool). cond u (ways_by (furthest corners edge) (furthest corners next) (end_of edge)) []) (tested corners edge next from to t is_from is_to test ∙ passes))
+
+-- and none where they are one.
+pub ways-none : (corners : List Point) (edge next : Edge) (from to : Point) (t : Bool) → from ≡ furthest corners edge → to ≡ furthest corners next → t ≡ has_two_ends (edge_between from to) → t ≡ false
+    → ways corners edge next ≡ []
+ways-none corners edge next from to t is_from is_to test fails =
+    ap (λ (u : Bool). cond u (ways_by (furthest corners edge) (furthest corners next) (end_of edge)) []) (tested corners edge next from to t is_from is_to test ∙ fails)

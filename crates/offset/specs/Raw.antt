@@ -1,13 +1,13 @@
 -- The raw curve around the sum of rings and a shape: each edge moved by the shape's corner that lies furthest to the right of it,
 -- and what joins these at the ends of edges.
 use Rattle.std.specs.List.{flat_map}
-use Rattle.std.specs.Prelude.{Bool, cond, ◌&&◌, ℤ, pos, ◌+ℤ◌, ◌-ℤ◌, ◌≤ℤ◌, ◌<ℤ◌, ◌^◌, int_le, int_lt, List, [], ◌∷◌, filter, get_or, map}
+use Rattle.std.specs.Prelude.{Bool, cond, ◌&&◌, pos, ◌+ℤ◌, ◌-ℤ◌, ◌≤ℤ◌, ◌<ℤ◌, ◌^◌, int_le, int_lt, List, [], ◌∷◌, filter, get_or, map}
 use Rattle.plane.specs.declared.edge.Edge.{Edge}
 use Rattle.plane.specs.declared.point.Point.{Point}
 use Rattle.plane.specs.Ends.{edge_between, end_of, start_of}
 use Rattle.plane.specs.Meet.Edges.{IsOf, RationalPoint}
 use Rattle.plane.specs.Meet.Kinds.{AreSame}
-use Rattle.overlay.specs.Contours.Rings.{ring_edges}
+use Rattle.overlay.specs.Contours.Rings.{has_two_ends, ring_edges}
 use Rattle.offset.specs.Shape.{neighbours, sides, turn}
 
 -- The point moved by another one, and the edge.
@@ -40,11 +40,15 @@ is_of_fan edge next side = int_le (pos 0) (turn edge side) && int_lt (turn next 
 abbrev pub fan : List Point → Edge → Edge → List Edge
 fan corners edge next = filter (is_of_fan edge next) (sides corners)
 
+-- The ways to a point from where one corner moves it, and on to where another one does.
+abbrev pub ways_by : Point → Point → Point → List Edge
+ways_by from to at = edge_between (moved from at) at ∷ edge_between at (moved to at) ∷ []
+
 -- The ways from the edge's end, moved by its furthest corner, to the point that was not moved, and on to it moved by that of the
--- next.
+-- next. Where this is the same corner there are none, as they would go there and back.
 abbrev pub ways : List Point → Edge → Edge → List Edge
 ways corners edge next =
-    edge_between (moved (furthest corners edge) (end_of edge)) (end_of edge) ∷ edge_between (end_of edge) (moved (furthest corners next) (end_of edge)) ∷ []
+    cond (has_two_ends (edge_between (furthest corners edge) (furthest corners next))) (ways_by (furthest corners edge) (furthest corners next) (end_of edge)) []
 
 -- What joins an edge that was moved with the next one, at the point between them: where they turn left the sides between their
 -- furthest corners, else the ways to the point and on.

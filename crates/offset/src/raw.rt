@@ -2,9 +2,10 @@
 
 ghost use Rattle.std.specs.Prelude.{◌≡◌, ◌<◌, ◌++◌, ◌∷◌, [], IfErr, IfOk, OnOk, filter, map};
 ghost use Rattle.plane.specs.Ends.{edge_between, end_of};
+ghost use Rattle.overlay.specs.Contours.Rings.{has_two_ends};
 ghost use Rattle.offset.specs.declared.fault.MinkowskiFault.TheVariants.{Range};
 ghost use Rattle.offset.specs.Faults.{IsRawFault};
-ghost use Rattle.offset.specs.Raw.{IsPointIn32Bits, fan, furthest, is_furthest, is_of_fan, joint, moved, moved_edge, raw_of_ring, raw_of_two, ways};
+ghost use Rattle.offset.specs.Raw.{IsPointIn32Bits, fan, furthest, is_furthest, is_of_fan, joint, moved, moved_edge, raw_of_ring, raw_of_two, ways, ways_by};
 ghost use Rattle.offset.specs.Shape.{sides};
 
 use crate::fault::MinkowskiFault;
@@ -67,7 +68,7 @@ fn append_fan<A: Allocator>(
     Ok(())
 }
 
-// Appends the ways to the point between the edges, and from it.
+// Appends the ways to the point between the edges, and from it, if these go to different corners.
 fn append_ways<A: Allocator>(
     corners: &[Point],
     edge: Edge,
@@ -77,10 +78,35 @@ fn append_ways<A: Allocator>(
     ensures ok { OnOk result (edges.new.items ≡ edges.old.items ++ ways corners.now edge next) }
     ensures fault { IfErr result (IsRawFault (ways corners.now edge next)) }
 {
-    let at = end_of(edge);
-    edges.push(edge_between(moved(furthest(corners, edge), at)?, at))?;
-    edges.push(edge_between(at, moved(furthest(corners, next), at)?))?;
+    let from = furthest(corners, edge);
+    let to = furthest(corners, next);
+    if differ(from, to) {
+        append_ways_by(from, to, end_of(edge), edges)
+    } else {
+        Ok(())
+    }
+}
+
+// Appends the ways to the point from where the one corner moves it, and on to where the other one does.
+fn append_ways_by<A: Allocator>(
+    from: Point,
+    to: Point,
+    at: Point,
+    edges: &mut Vec<Edge, A>,
+) -> Result<(), MinkowskiFault>
+    ensures ok { OnOk result (edges.new.items ≡ edges.old.items ++ ways_by from to at) }
+    ensures fault { IfErr result (IsRawFault (ways_by from to at)) }
+{
+    edges.push(edge_between(moved(from, at)?, at))?;
+    edges.push(edge_between(at, moved(to, at)?))?;
     Ok(())
+}
+
+// Whether these are two points.
+fn differ(one: Point, other: Point) -> bool
+    ensures { result ≡ has_two_ends (edge_between one other) }
+{
+    one.x != other.x || one.y != other.y
 }
 
 // The corner that lies furthest to the right of the edge, the first of two.

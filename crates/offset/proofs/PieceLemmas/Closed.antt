@@ -7,8 +7,8 @@ use Rattle.std.proofs.lemmas.List.Elements.{All-contains}
 use Rattle.std.proofs.lemmas.List.Sums.{sum_by-cons}
 use Rattle.plane.specs.declared.edge.Edge.{Edge}
 use Rattle.plane.specs.declared.point.Point.{Point}
-use Rattle.plane.specs.Ends.{end_of, start_of}
-use Rattle.overlay.specs.Contours.Rings.{ring_edges}
+use Rattle.plane.specs.Ends.{edge_between, end_of, start_of}
+use Rattle.overlay.specs.Contours.Rings.{has_two_ends, ring_edges}
 use Rattle.overlay.specs.Fill.Pieces.{total}
 use Rattle.noding.specs.Windings.{IsClosed, count}
 use Rattle.offset.specs.Shape.{IsConvexAroundOrigin, neighbours, turn}
@@ -17,7 +17,7 @@ use Rattle.overlay.proofs.FillLemmas.Premises.{All-among}
 use Rattle.overlay.proofs.FillLemmas.Totals.{total-append, total-difference, total-same}
 use Rattle.i_tree.proofs.RootLemmas.Joined.{All-behind, All-front}
 use Rattle.offset.proofs.PieceLemmas.Convex.{fan-gains}
-use Rattle.offset.proofs.PieceLemmas.Parts.{moved-exchanged, total-flat, total-map}
+use Rattle.offset.proofs.PieceLemmas.Parts.{moved-exchanged, one-corner, total-flat, total-map}
 use Rattle.offset.proofs.PieceLemmas.Rounds.{IsJoined, neighbours-held, ring-joined, total-firsts, total-seconds}
 
 -- how many pass a test, as a sum
@@ -54,7 +54,14 @@ module _ (corners : List Point) (convex : IsConvexAroundOrigin corners) (give : 
           total-map gain (moved_edge at) (fan corners edge next)
           ∙ fan-gains corners convex to edge next proper next_proper (omega (arith, ints, is))
           ∙ ap₂ (λ (c d : Point). give c -ℤ give d) (moved-exchanged at (furthest corners next)) (moved-exchanged at (furthest corners edge))
-      by false is = omega (arith, ints)
+      by false is = around (has_two_ends (edge_between (furthest corners edge) (furthest corners next))) refl
+        where
+          around : (u : Bool) → has_two_ends (edge_between (furthest corners edge) (furthest corners next)) ≡ u
+              → total gain (cond u (edge_between (moved (furthest corners edge) at) at ∷ edge_between at (moved (furthest corners next) at) ∷ []) []) ≡ (give (moved (furthest corners next) at) -ℤ give (moved (furthest corners edge) at))
+          around true apart = omega (arith, ints)
+          around false one =
+              let same = ap (λ (c : Point). give (moved c at)) (one-corner (furthest corners edge) (furthest corners next) one) in
+              omega (arith, ints, same)
 
   two-gains : (two : Edge × Edge) → start_of two.0 ≢ end_of two.0 → start_of two.1 ≢ end_of two.1 → IsJoined two → total gain (raw_of_two corners two) ≡ (begun two.1 -ℤ begun two.0)
   two-gains two proper next_proper joined =

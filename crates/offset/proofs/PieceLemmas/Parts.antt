@@ -10,11 +10,12 @@ use Rattle.plane.specs.Ends.{edge_between, end_of, reversed, start_of}
 use Rattle.plane.specs.Meet.Crosses.{cross}
 use Rattle.plane.specs.Meet.Edges.{RationalPoint}
 use Rattle.overlay.specs.Areas.{swept}
-use Rattle.overlay.specs.Contours.Rings.{ring_edges}
+use Rattle.overlay.specs.Contours.Rings.{has_two_ends, ring_edges}
+use Rattle.overlay.proofs.ContourLemmas.RealEdges.{points-same}
 use Rattle.overlay.specs.Fill.Pieces.{total}
 use Rattle.noding.specs.Windings.{winding}
 use Rattle.offset.specs.Shape.{IsConvexAroundOrigin, neighbours, sides, turn}
-use Rattle.offset.specs.Raw.{fan, furthest, is_of_fan, joint, moved, moved_edge, raw_edges, raw_of_ring, raw_of_two}
+use Rattle.offset.specs.Raw.{fan, furthest, is_of_fan, joint, moved, moved_edge, raw_edges, raw_of_ring, raw_of_two, ways}
 use Rattle.plane.proofs.MeetLemmas.Identities.{identity, minus, number, times}
 use Rattle.overlay.proofs.FillLemmas.Premises.{All-among}
 use Rattle.overlay.proofs.FillLemmas.Totals.{total-append, total-difference, total-same, total-sum}
@@ -95,6 +96,15 @@ moved-exchanged by point = ap₂ (λ (a b : ℤ). at a b) (commutes by.x point.x
     commutes : (a b : ℤ) → (a +ℤ b) ≡ (b +ℤ a)
     commutes a b = omega (arith, ints)
 
+-- Points between which no edge has two ends are one.
+pub one-corner : (one other : Point) → has_two_ends (edge_between one other) ≡ false → one ≡ other
+one-corner one other none =
+    let (x, y) = points-same (edge_between one other) none in
+    ap₂ (λ (a b : ℤ). at a b) x y
+  where
+    at : ℤ → ℤ → Point
+    at a b = record { x = a; y = b }
+
 module _ (corners : List Point) (convex : IsConvexAroundOrigin corners) where
   -- The corner furthest to the right of an edge does lie to the right of it.
   pub furthest-beside : (edge : Edge) → start_of edge ≢ end_of edge → pos 0 <ℤ cross (furthest corners edge).x (furthest corners edge).y (edge.x1 -ℤ edge.x0) (edge.y1 -ℤ edge.y0)
@@ -161,11 +171,20 @@ module _ (corners : List Point) (convex : IsConvexAroundOrigin corners) where
             let there = ap (λ (c : Point). passed_by (edge_between at c) point) (moved-exchanged (furthest corners next) at) in
             omega (arith, ints, back, there)
 
+        -- where they are one corner it is neither there nor back
+        around : (u : Bool) → has_two_ends (edge_between (furthest corners edge) (furthest corners next)) ≡ u
+            → all_passed (cond u (edge_between (moved (furthest corners edge) at) at ∷ edge_between at (moved (furthest corners next) at) ∷ []) []) point
+            ≡ (pos 0 +ℤ (spoke at (furthest corners next) -ℤ spoke at (furthest corners edge)))
+        around true apart = there_and_back
+        around false one =
+            let same = ap (λ (c : Point). spoke at c) (one-corner (furthest corners edge) (furthest corners next) one) in
+            omega (arith, ints, same)
+
         by : (t : Bool) → int_lt (pos 0) (turn edge next) ≡ t
-            → all_passed (cond t (map (moved_edge at) (fan corners edge next)) (edge_between (moved (furthest corners edge) at) at ∷ edge_between at (moved (furthest corners next) at) ∷ [])) point
+            → all_passed (cond t (map (moved_edge at) (fan corners edge next)) (ways corners edge next)) point
             ≡ (cond t (total (λ side. winding (part_of_fan at side) point) (fan corners edge next)) (pos 0) +ℤ (spoke at (furthest corners next) -ℤ spoke at (furthest corners edge)))
         by true is = fan-counts (omega (arith, ints, is))
-        by false is = there_and_back
+        by false is = around (has_two_ends (edge_between (furthest corners edge) (furthest corners next))) refl
 
     two-count : (two : Edge × Edge) → start_of two.0 ≢ end_of two.0 → start_of two.1 ≢ end_of two.1 → IsJoined two
         → all_passed (raw_of_two corners two) point ≡ ((passed_by two.0 point +ℤ parts_wind two) +ℤ (spoke (start_of two.1) (furthest corners two.1) -ℤ spoke (start_of two.0) (furthest corners two.0)))
@@ -297,7 +316,7 @@ module _ (corners : List Point) (convex : IsConvexAroundOrigin corners) (rings :
       (by (int_lt (pos 0) (turn edge next)) refl)))
     where
       by : (t : Bool) → int_lt (pos 0) (turn edge next) ≡ t
-          → Contains (cond t (map (moved_edge (end_of edge)) (fan corners edge next)) (edge_between (moved (furthest corners edge) (end_of edge)) (end_of edge) ∷ edge_between (end_of edge) (moved (furthest corners next) (end_of edge)) ∷ []))
+          → Contains (cond t (map (moved_edge (end_of edge)) (fan corners edge next)) (ways corners edge next))
           (moved_edge (end_of edge) side)
       by true is = Contains-map (moved_edge (end_of edge)) (fan corners edge next) side among
       by false is = absurd (omega (arith, ints, is, left))
