@@ -136,12 +136,17 @@ std::vector<Input (*)(std::size_t size)> generated() {
     return {united_stars, common_stars, boards, common_rings, first_ring_alone};
 }
 
-std::vector<Input> land_of(const char *file) {
+Shape land_alone(const char *file, std::int32_t &degree, std::int32_t &west, std::int32_t &columns) {
     std::ifstream stream(file, std::ios::binary);
-    const auto degree = number(stream), west = number(stream), columns = number(stream);
+    degree = number(stream), west = number(stream), columns = number(stream);
     Shape land;
     for (auto left = number(stream); left > 0; left--) land.push_back(read_polygon(stream));
-    land = united_by_itree(land);
+    return united_by_itree(land);
+}
+
+std::vector<Input> land_of(const char *file) {
+    std::int32_t degree = 0, west = 0, columns = 0;
+    const Shape land = land_alone(file, degree, west, columns);
     const Shape cells = board(west * degree, 0, degree, columns, 180);
     return {{"overlay: land and cells, intersection", land, cells, Operation::both, true},
             {"overlay: land and land moved aside, intersection", land, moved(land, 50'000, 30'000), Operation::both,

@@ -27,6 +27,10 @@ double length_of(const Input &input);
 /// Inputs of about so many edges, each made when it is asked for.
 std::vector<Input (*)(std::size_t size)> generated();
 
+/// The world's land of a file that bench/land.py writes, units in a degree, and the first column of degrees and how
+/// many there are. Some of its coastlines cross, which others don't take: so the land is what ours unites it to.
+Shape land_alone(const char *file, std::int32_t &degree, std::int32_t &west, std::int32_t &columns);
+
 /// The world's land of a file that bench/land.py writes, and with it cells of a grid, and the same land moved aside.
 /// Some of its coastlines cross, which GEOS and Boost.Geometry don't take: so the land is what ours unites it to.
 std::vector<Input> land_of(const char *file);

@@ -125,8 +125,8 @@ length-from side =
     let y = square-from (side.y1 -ℤ side.y0) in
     omega (arith, ints, x, y)
 
--- A side that the origin lies left of has a length: what it sweeps and how far it goes away from the origin, by squares, are its length
--- times how far its start is.
+-- A side that the origin lies left of has a length: what it sweeps and how far it goes away from the origin, by squares, are its
+-- length times how far its start is.
 pub length-some : (side : Edge) → pos 0 <ℤ swept side → pos 0 <ℤ square_length side
 length-some side left =
     by_lt_z (pos 0) (square_length side)

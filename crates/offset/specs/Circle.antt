@@ -15,7 +15,8 @@ IsWithinCircle radius point = ((point.x *ℤ point.x) +ℤ (point.y *ℤ point.y
 abbrev pub square_length : Edge → ℤ
 square_length side = ((side.x1 -ℤ side.x0) *ℤ (side.x1 -ℤ side.x0)) +ℤ ((side.y1 -ℤ side.y0) *ℤ (side.y1 -ℤ side.y0))
 
--- No point of the side's line is nearer to the origin than the radius: what the side sweeps is its length times how far the line is.
+-- No point of the side's line is nearer to the origin than the radius: what the side sweeps is its length times how far the line
+-- is.
 abbrev pub IsOutsideCircle : ℤ → Edge → Type 0
 IsOutsideCircle radius side = ((radius *ℤ radius) *ℤ square_length side) ≤ℤ (swept side *ℤ swept side)
 
@@ -34,8 +35,8 @@ across radius parts step =
 abbrev pub IsAcross : ℕ → ℕ → ℤ → ℤ → Type 0
 IsAcross radius away x y = (y ≡ pos away) × ((along : ℕ) × (x ≡ pos along) × IsRoot ((radius * radius) - (away * away)) along)
 
--- The corner of this number in the first quarter, from the x axis on: in the middle the last point of the diagonal within the circle,
--- before it those of an eighth, and behind it those of the other eighth, which mirrors it.
+-- The corner of this number in the first quarter, from the x axis on: in the middle the last point of the diagonal within the
+-- circle, before it those of an eighth, and behind it those of the other eighth, which mirrors it.
 abbrev pub IsFirstCorner : ℕ → ℕ → ℕ → Point → Type 0
 IsFirstCorner radius parts step point =
     ((step < parts) × IsAcross radius (across radius parts step) point.x point.y)
@@ -86,8 +87,8 @@ pub record IsInner (radius : ℤ) (sides : List Edge) (inner : ℤ) : Type 0 whe
   pub upto : inner ≤ℤ radius
   pub most : inner <ℤ radius → ¬ (All (IsOutsideCircle (inner +ℤ pos 1)) sides)
 
--- A convex polygon of at most so many corners around the origin, counterclockwise, between the circle of the radius and that of the inner
--- one, which is the greatest such number up to the radius.
+-- A convex polygon of at most so many corners around the origin, counterclockwise, between the circle of the radius and that of
+-- the inner one, which is the greatest such number up to the radius.
 pub record IsCircle (radius : ℤ) (most : ℕ) (corners : List Point) (inner : ℤ) : Type 0 where
   pub some : pos 1 ≤ℤ radius
   pub room : 4 ≤ most

@@ -38,8 +38,8 @@ pub fn square(radius: i32) -> Result<[Point; 4], ShapeFault>
     ])
 }
 
-/// The octagon around the origin of which four sides run along the axes, as far from it as the radius, and of which all are as long,
-/// as far as whole points allow: half a side is the root of twice the radius' square, rounded down, less the radius.
+/// The octagon around the origin of which four sides run along the axes, as far from it as the radius, and of which all are as
+/// long, as far as whole points allow: half a side is the root of twice the radius' square, rounded down, less the radius.
 ///
 /// `Radius` comes where the radius is below 3, as there is no room for eight corners then.
 pub fn octagon(radius: i32) -> Result<[Point; 8], ShapeFault>

@@ -51,7 +51,8 @@ pub fn circle<A: Allocator>(alloc: A, radius: i32, most: usize) -> Result<RoundS
 /// A convex polygon that stands for the circle of this radius around the origin: it has as many corners as make it some units
 /// smaller at most, besides the unit or two that whole points take. `inner` of what it answers tells how much that is.
 ///
-/// `Radius` comes where the radius is below 1, else `Tolerance` where the tolerance is, else `OutOfMemory` where memory was refused.
+/// `Radius` comes where the radius is below 1, else `Tolerance` where the tolerance is, else `OutOfMemory` where memory was
+/// refused.
 pub fn circle_within<A: Allocator>(
     alloc: A,
     radius: i32,
