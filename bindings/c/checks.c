@@ -40,6 +40,9 @@ int32_t proved_itree_join(const struct itree_window *windows, size_t window_coun
                           size_t tile_count, const size_t *polygon_ends, size_t polygon_count, const size_t *ring_ends,
                           size_t ring_count, const struct itree_point *points, size_t point_count,
                           struct itree_polygons **polygons);
+int32_t proved_itree_minkowski(const struct itree_point *points, size_t point_count, const size_t *ring_ends,
+                               size_t ring_count, const struct itree_point *shape, size_t corner_count, int32_t rule,
+                               struct itree_polygons **polygons);
 size_t proved_itree_polygons_points(const struct itree_polygons *polygons, const struct itree_point **first);
 size_t proved_itree_polygons_ring_offsets(const struct itree_polygons *polygons, const size_t **first);
 size_t proved_itree_polygons_polygon_offsets(const struct itree_polygons *polygons, const size_t **first);
@@ -294,6 +297,18 @@ int32_t itree_join(const struct itree_window *windows, size_t window_count, cons
                                         tile_count, slice(polygon_ends, polygon_count), polygon_count,
                                         slice(ring_ends, ring_count), ring_count, slice(points, point_count),
                                         point_count, polygons));
+}
+
+int32_t itree_minkowski(const struct itree_point *points, size_t point_count, const size_t *ring_ends,
+                        size_t ring_count, const struct itree_point *shape, size_t corner_count, int32_t rule,
+                        struct itree_polygons **polygons) {
+    if (!can_be_rings(points, point_count, ring_ends, ring_count) ||
+        !can_hold(shape, corner_count, OF(struct itree_point)) || !can_hold(polygons, 1, OF(struct itree_polygons *))) {
+        return ITREE_POINTER;
+    }
+    limits_begin();
+    return limits_end(proved_itree_minkowski(slice(points, point_count), point_count, slice(ring_ends, ring_count),
+                                             ring_count, slice(shape, corner_count), corner_count, rule, polygons));
 }
 
 size_t itree_polygons_points(const struct itree_polygons *polygons, const struct itree_point **first) {

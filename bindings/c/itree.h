@@ -42,13 +42,15 @@ enum itree_status {
     ITREE_FAULTY = 8,   /* A coordinate or a geometry is faulty. */
     ITREE_STOPPED = 9,  /* The flag of itree_stop_flag stopped the call. */
     ITREE_WINDOW = 10,  /* A window has no points or comes too near to the ends of 32 bits, or two windows overlap. */
-    ITREE_UNFIT = 11    /* Tiles don't fit: a polygon leaves its window, or polygons at borders overlap. */
+    ITREE_UNFIT = 11,   /* Tiles don't fit: a polygon leaves its window, or polygons at borders overlap. */
+    ITREE_SHAPE = 12,   /* A shape by which polygons grow isn't convex around the origin. */
+    ITREE_RANGE = 13    /* What has grown leaves 32 bits. */
 };
 
 /* A status in words, which stay as long as the library does; of a number that is none, that it is none. */
 const char *itree_status_text(int32_t status);
 
-/* The version of the library, as "0.5.0". It is ITREE_VERSION of the header that came with it. */
+/* The version of the library, as "0.6.0". It is ITREE_VERSION of the header that came with it. */
 const char *itree_version(void);
 
 /* Limits the memory of this thread's calls, from the next one on: no call holds more bytes at once than so many, of those
@@ -361,6 +363,32 @@ int32_t itree_whole_window(const struct itree_window *windows, size_t window_cou
 int32_t itree_join(const struct itree_window *windows, size_t window_count, const size_t *tile_ends, size_t tile_count,
                    const size_t *polygon_ends, size_t polygon_count, const size_t *ring_ends, size_t ring_count,
                    const struct itree_point *points, size_t point_count, struct itree_polygons **polygons);
+
+/* Writes a handle of the polygons of the Minkowski sum of what is inside of rings, by one of itree_fill_rule, and a shape: of the
+ * points that one of the inside and one of the shape add up to. So what is inside grows by the shape on all sides; parts that come
+ * to touch become one, and holes that are small close.
+ *
+ * The rings are as itree_overlay takes them. The shape is the corners of a convex polygon, counterclockwise, with the origin
+ * inside: at each corner it turns left, none stands there twice, and the origin lies left of each side. It goes once around.
+ *
+ * The polygons are as itree_overlay writes them. They wind once around each point of the sum, and not at all around any other, if
+ * each edge of the rings, and each of the curve around the sum, isn't moved, or runs along an axis, or isn't within half a unit, on
+ * both axes, of the point, and none of the curve goes through it. The curve is each edge of what bounds the inside, moved by the
+ * corner of the shape that lies furthest to the right of it, and what joins these at corners: around one that turns left the
+ * sides of the shape, and at one that turns right the ways to the corner itself and on. Around no point do they wind more often.
+ * The call returns
+ *   ITREE_ANSWERED  and *polygons is the caller's, also where there are none;
+ *   ITREE_REFUSED   and *polygons is NULL;
+ *   ITREE_POINTER   exactly where a pointer is faulty, and *polygons stays as it was;
+ *   ITREE_CHOICE    exactly where none is, and rule is none of its numbers: *polygons is NULL;
+ *   ITREE_LENGTHS   exactly where all that is well, and a ring stops before it begins or behind the points: *polygons is
+ *                   NULL;
+ *   ITREE_SHAPE     exactly where all that is well, and the shape isn't such a polygon: *polygons is NULL;
+ *   ITREE_RANGE     and all that is well, but a corner of the curve is no point of 32 bits: *polygons is NULL.
+ * polygons may not be NULL. What *polygons was before isn't looked at. It looks at each two corners of the shape. */
+int32_t itree_minkowski(const struct itree_point *points, size_t point_count, const size_t *ring_ends,
+                        size_t ring_count, const struct itree_point *shape, size_t corner_count, int32_t rule,
+                        struct itree_polygons **polygons);
 
 /* Shapes: each is some rings, as a polygon with its holes, or a multipolygon. The points of all rings, one ring after the
  * other; for each ring the place among the points at which it stops; and for each shape the place among the rings at

@@ -165,6 +165,18 @@ public:
     Unfit() : std::invalid_argument("tiles don't fit: a polygon leaves its window, or polygons at borders overlap") {}
 };
 
+/// A shape by which polygons grow isn't convex around the origin.
+class ShapeFault : public std::invalid_argument {
+public:
+    ShapeFault() : std::invalid_argument("a shape by which polygons grow isn't convex around the origin") {}
+};
+
+/// What has grown leaves 32 bits.
+class RangeFault : public std::invalid_argument {
+public:
+    RangeFault() : std::invalid_argument("what has grown leaves 32 bits") {}
+};
+
 namespace detail {
 
 /// Throws what a status says that each call may return.
@@ -172,6 +184,8 @@ inline void throw_unless_answered(std::int32_t status) {
     if (status == ITREE_STOPPED) throw Stopped();
     if (status == ITREE_WINDOW) throw WindowFault();
     if (status == ITREE_UNFIT) throw Unfit();
+    if (status == ITREE_SHAPE) throw ShapeFault();
+    if (status == ITREE_RANGE) throw RangeFault();
     if (status == ITREE_POINTER) throw std::invalid_argument("a span is null, misaligned or larger than memory can be");
     if (status == ITREE_LENGTHS) throw std::invalid_argument("a ring stops before it begins, or behind the points");
     if (status == ITREE_CHOICE) throw std::invalid_argument("there is no such rule or operation");
@@ -1246,6 +1260,39 @@ template <typename Items = detail::InBraces<Point>>
 template <typename Items = detail::InBraces<Position>>
 [[nodiscard]] Polygons simplify(const Items &rings, FillRule rule, const Grid &grid) {
     return overlay(rings, Rings(), Operation::union_, rule, grid);
+}
+
+namespace detail {
+
+inline Polygons minkowski(const Rings &rings, Span<Point> shape, FillRule rule) {
+    ::itree_polygons *handle = nullptr;
+    throw_unless_answered(::itree_minkowski(rings.points.data(), rings.points.size(), rings.ends.data(),
+                                            rings.ends.size(), shape.data(), shape.size(),
+                                            static_cast<std::int32_t>(rule), &handle));
+    return Polygons(handle);
+}
+
+}  // namespace detail
+
+/// The polygons of the Minkowski sum of what is inside of the rings and a shape: of the points that one of the inside and one of
+/// the shape add up to. So what is inside grows by the shape on all sides, as is said at `itree_minkowski` of itree.h.
+///
+///     const auto wider = itree::minkowski(fields, {{-5, -5}, {5, -5}, {5, 5}, {-5, 5}}, itree::FillRule::non_zero);
+///
+/// The shape is the corners of a convex polygon with the origin inside, counterclockwise. It takes rings as `overlay` does, and
+/// throws what `overlay` does; `ShapeFault` where the shape isn't such a polygon; and `RangeFault` where a corner of the curve around
+/// the sum is no point of 32 bits.
+template <typename Items = detail::InBraces<Point>>
+[[nodiscard]] Polygons minkowski(const Items &rings, Span<Point> shape, FillRule rule) {
+    const auto all = detail::rings_of(rings);
+    return detail::minkowski(all, shape, rule);
+}
+
+/// The same of positions, which are first rounded to the grid. The shape is one of the grid's units, and so is the answer.
+template <typename Items = detail::InBraces<Position>>
+[[nodiscard]] Polygons minkowski(const Items &rings, Span<Point> shape, FillRule rule, const Grid &grid) {
+    const auto all = detail::rings_on(grid, rings);
+    return detail::minkowski(all, shape, rule);
 }
 
 namespace detail {

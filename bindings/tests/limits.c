@@ -31,14 +31,16 @@ static const char *word_of(enum itree_status status) {
     case ITREE_STOPPED: return "stopped";
     case ITREE_WINDOW: return "window";
     case ITREE_UNFIT: return "unfit";
+    case ITREE_SHAPE: return "shape";
+    case ITREE_RANGE: return "range";
     }
     return "none";
 }
 
 static void checks_words(void) {
-    const char *const none = itree_status_text(ITREE_UNFIT + 1);
+    const char *const none = itree_status_text(ITREE_RANGE + 1);
     int ok = 1;
-    for (int32_t status = 0; status <= ITREE_UNFIT; status++) {
+    for (int32_t status = 0; status <= ITREE_RANGE; status++) {
         const char *const text = itree_status_text(status);
         ok = ok && strlen(text) > 10 && strcmp(text, none) != 0 &&
              strcmp(word_of((enum itree_status)status), "none") != 0;
@@ -81,6 +83,7 @@ static int32_t call(int which) {
     const struct itree_lines lines = {points, MANY, &end, 1};
     const struct itree_window window = {0, 0, 9, 999};
     const struct itree_point corners[] = {{0, 0}, {9, 0}, {0, 9}};
+    const struct itree_point around[] = {{1, 0}, {0, 1}, {-1, 0}, {0, -1}};
     size_t stop = 0;
     struct itree_pairs *pairs = NULL;
     struct itree_chains *chains = NULL;
@@ -105,6 +108,7 @@ static int32_t call(int which) {
     case 15: status = itree_overlay_in(&window, points, MANY, &end, 1, points, MANY, &end, 1, 1, 0, &polygons); break;
     case 16: status = itree_join(&window, 1, &one, 1, &one, 1, &three, 1, corners, 3, &polygons); break;
     case 17: status = itree_crop(&window, points, MANY, &end, 1, &chains); break;
+    case 18: status = itree_minkowski(points, MANY, &end, 1, around, 4, ITREE_NON_ZERO, &polygons); break;
     }
     const int has_handle = pairs != NULL || chains != NULL || polygons != NULL;
     itree_pairs_free(pairs);
@@ -113,7 +117,7 @@ static int32_t call(int which) {
     return has_handle == (status == ITREE_ANSWERED) ? status : -1;
 }
 
-enum { EACH = 9, CALLS = 18 };
+enum { EACH = 9, CALLS = 19 };
 
 static void checks_memory(void) {
     for (int which = 0; which < CALLS; which++) {

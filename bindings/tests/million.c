@@ -111,6 +111,11 @@ static void many_shapes(void) {
     check("most far off", itree_crop(&column, corners, MANY, ends, SQUARES, &chains) == ITREE_ANSWERED &&
                               itree_chains_count(chains) == SQUARES && itree_chains_point_count(chains) == 4 * SIDE);
     itree_chains_free(chains);
+    const struct itree_point square[] = {{-1, -1}, {1, -1}, {1, 1}, {-1, 1}};
+    check("grown",
+          itree_minkowski(corners, MANY, ends, SQUARES, square, 4, ITREE_NON_ZERO, &polygons) == ITREE_ANSWERED &&
+              itree_polygons_points(polygons, NULL) == MANY);
+    itree_polygons_free(polygons);
 }
 
 /* A polygon of a million points to well-known binary and back. */

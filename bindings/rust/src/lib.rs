@@ -33,16 +33,18 @@ pub use layers::{
     Border, Groups, Layer, LayerBuf, LayerFault, Lines, Overlays, OverlaysIter, Pieces, Side,
 };
 pub use limits::{limited_to, memory_peak, stopped_by};
+pub use offsets::{minkowski, MinkowskiFault};
 pub use tiles::{crop, join, overlay_in, overlay_threads, whole_window, Tile, TileFault, Window};
 pub use wkb::{read_wkb, wkb_corners, wkb_srid, Shapes, WkbFault, WkbFaultKind};
 
 mod grid;
 mod layers;
 mod limits;
+mod offsets;
 mod tiles;
 mod wkb;
 
-/// The version of the library, as `"0.5.0"`.
+/// The version of the library, as `"0.6.0"`.
 pub fn version() -> &'static str {
     // SAFETY: the library answers a text that ends with 0 and stays.
     unsafe { CStr::from_ptr(calls::itree_version()) }
@@ -608,6 +610,8 @@ mod calls {
     pub const FAULTY: i32 = 8;
     pub const WINDOW: i32 = 10;
     pub const UNFIT: i32 = 11;
+    pub const SHAPE: i32 = 12;
+    pub const RANGE: i32 = 13;
 
     pub const MULTIPOLYGON: i32 = 0;
     pub const EACH_POLYGON: i32 = 1;
@@ -817,6 +821,17 @@ mod calls {
             ring_ends: *const usize,
             ring_count: usize,
             cropped: *mut *mut Handle,
+        ) -> i32;
+
+        pub fn itree_minkowski(
+            points: *const Point,
+            point_count: usize,
+            ring_ends: *const usize,
+            ring_count: usize,
+            shape: *const Point,
+            corner_count: usize,
+            rule: i32,
+            polygons: *mut *mut Handle,
         ) -> i32;
 
         pub fn itree_whole_window(

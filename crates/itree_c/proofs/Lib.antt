@@ -3,6 +3,7 @@ pub mod GroupedMade
 pub mod HandleFrees
 pub mod HandleLemmas
 pub mod HandleMade
+pub mod HandleMadeBeside
 pub mod HandleMadeBy
 pub mod HandleReads
 pub mod LayerLemmas

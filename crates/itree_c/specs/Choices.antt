@@ -36,6 +36,10 @@ abbrev pub IsOperation : ℤ → Option Operation → Type 0
 IsOperation number (Some operation) = number ≡ number_of_operation operation
 IsOperation number None = (operation : Operation) → number ≢ number_of_operation operation
 
+-- a rule has the number
+abbrev pub IsNumberOfRule : ℤ → Type 0
+IsNumberOfRule number = (rule : FillRule) × (number ≡ number_of_rule rule)
+
 -- a rule has the one number, and an operation the other
 abbrev pub AreChoices : ℤ → ℤ → Type 0
 AreChoices rule operation =

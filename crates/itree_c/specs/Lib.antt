@@ -6,6 +6,7 @@ pub mod Heights
 pub mod Kinds
 pub mod Layers
 pub mod Meetings
+pub mod Offsets
 pub mod Overlay
 pub mod Places
 pub mod Raw

@@ -31,6 +31,12 @@ pub const WINDOW: i32 = 10;
 /// Tiles don't fit: a polygon leaves its window, or polygons at borders overlap.
 pub const UNFIT: i32 = 11;
 
+/// A shape by which polygons grow isn't convex around the origin.
+pub const SHAPE: i32 = 12;
+
+/// A corner of the curve around polygons that have grown is no point of 32 bits.
+pub const RANGE: i32 = 13;
+
 // `itree.h` has these numbers.
 const _: () = prove!(
     ANSWERED == 0
@@ -43,4 +49,6 @@ const _: () = prove!(
         && FAULTY == 8
         && WINDOW == 10
         && UNFIT == 11
+        && SHAPE == 12
+        && RANGE == 13
 );

@@ -1,0 +1,107 @@
+//! Polygons that grow: by hand, at faults, and with each request for memory refused in turn.
+
+use itree::{minkowski, FillRule, MinkowskiFault, Point, Rings};
+use refuse::granted;
+
+mod refuse;
+
+const SQUARE: [Point; 4] = [
+    Point { x: -1, y: -1 },
+    Point { x: 1, y: -1 },
+    Point { x: 1, y: 1 },
+    Point { x: -1, y: 1 },
+];
+
+fn rectangle(x0: i32, y0: i32, x1: i32, y1: i32) -> [Point; 4] {
+    [(x0, y0), (x1, y0), (x1, y1), (x0, y1)].map(Point::from)
+}
+
+/// The rings of all polygons, each from its least point on.
+fn rings_of(points: &[Point], ends: &[usize], shape: &[Point]) -> Vec<Vec<Point>> {
+    let polygons = minkowski(Rings { points, ends }, shape, FillRule::NonZero).unwrap();
+    let from_least = |ring: &[Point]| {
+        let least = (0..ring.len()).min_by_key(|place| ring[*place]).unwrap();
+        [&ring[least..], &ring[..least]].concat()
+    };
+    polygons
+        .iter()
+        .flat_map(|polygon| polygon.rings())
+        .map(from_least)
+        .collect()
+}
+
+#[test]
+fn grows_by_a_shape() {
+    let field = rectangle(0, 0, 9, 9);
+    assert_eq!(rings_of(&field, &[4], &SQUARE), [rectangle(-1, -1, 10, 10)]);
+    let rhomb = [(2, 0), (0, 2), (-2, 0), (0, -2)].map(Point::from);
+    let octagon = [(-2, 0), (0, -2), (9, -2), (11, 0), (11, 9), (9, 11), (0, 11), (-2, 9)].map(Point::from);
+    assert_eq!(rings_of(&field, &[4], &rhomb), [octagon]);
+    let two = [rectangle(0, 0, 2, 9), rectangle(4, 0, 6, 9)].concat();
+    assert_eq!(rings_of(&two, &[4, 8], &SQUARE), [rectangle(-1, -1, 7, 10)]);
+    for (side, left) in [(2, 0), (3, 1)] {
+        let mut hole = rectangle(3, 3, 3 + side, 3 + side);
+        hole.reverse();
+        let rings = rings_of(&[field, hole].concat(), &[4, 8], &SQUARE);
+        assert_eq!(rings.len(), 1 + left, "a hole of {side}");
+    }
+    assert!(rings_of(&[], &[], &SQUARE).is_empty());
+}
+
+#[test]
+fn tells_faulty_shapes_and_rings() {
+    let field = rectangle(0, 0, 9, 9);
+    let call = |points, ends, shape| {
+        let made = minkowski(Rings { points, ends }, shape, FillRule::EvenOdd);
+        made.map(|polygons| polygons.len())
+    };
+    let clockwise = [(-1, -1), (-1, 1), (1, 1), (1, -1)].map(Point::from);
+    let aside = [(-1, 0), (1, 0), (0, 1)].map(Point::from);
+    for shape in [&clockwise[..], &aside, &SQUARE[..2], &[]] {
+        assert_eq!(call(&field, &[4], shape), Err(MinkowskiFault::Shape), "{shape:?}");
+        assert_eq!(call(&field, &[5], shape), Err(MinkowskiFault::Lengths), "{shape:?}");
+    }
+    let far = rectangle(0, 0, i32::MAX, 9);
+    assert_eq!(call(&far, &[4], &SQUARE), Err(MinkowskiFault::Range));
+    assert_eq!(call(&rectangle(0, 0, i32::MAX - 1, 9), &[4], &SQUARE), Ok(1));
+    for (fault, text) in [
+        (MinkowskiFault::Refused, "memory was refused, or the call was stopped"),
+        (
+            MinkowskiFault::Lengths,
+            "a ring stops before it begins, or behind the points",
+        ),
+        (
+            MinkowskiFault::Shape,
+            "a shape by which polygons grow isn't convex around the origin",
+        ),
+        (MinkowskiFault::Range, "what has grown leaves 32 bits"),
+    ] {
+        assert_eq!(fault.to_string(), text);
+    }
+}
+
+#[test]
+fn is_refused_growth_where_memory_is() {
+    let points: Vec<Point> = (0..12)
+        .flat_map(|bar| {
+            [
+                rectangle(0, 20 * bar, 240, 20 * bar + 10),
+                rectangle(20 * bar, 0, 20 * bar + 10, 240),
+            ]
+        })
+        .flatten()
+        .collect();
+    let ends: Vec<usize> = (1..=24).map(|ring| 4 * ring).collect();
+    let rings = Rings {
+        points: &points,
+        ends: &ends,
+    };
+    let call = || minkowski(rings, &SQUARE, FillRule::NonZero);
+    let mut requests = 0;
+    while let Err(fault) = granted(requests, call) {
+        assert_eq!(fault, MinkowskiFault::Refused);
+        requests += 1;
+    }
+    assert!(requests > 10, "{requests} requests");
+    assert_eq!(call().unwrap().polygon(0).holes().count(), 11 * 11);
+}

@@ -1,0 +1,260 @@
+/* Polygons that grow, from C beside a plain model, at faults, and with each request for memory refused in turn. */
+#include <itree.h>
+#include <stdio.h>
+#include <string.h>
+
+#include "counted.h"
+#include "plain_overlay.h"
+#include "refuse.h"
+
+enum { MOST = 5, SIDE = 9, FAR = 3 };
+
+static const struct itree_point square[] = {{-1, -1}, {1, -1}, {1, 1}, {-1, 1}};
+static const struct itree_point field[] = {{0, 0}, {9, 0}, {9, 9}, {0, 9}};
+static const size_t one_ring[] = {4};
+
+static int32_t grow(const struct itree_point *points, const size_t *ends, size_t rings, const struct itree_point *shape,
+                    size_t corners, struct itree_polygons **polygons) {
+    return itree_minkowski(points, rings ? ends[rings - 1] : 0, ends, rings, shape, corners, ITREE_NON_ZERO, polygons);
+}
+
+/* Whether the polygons are one with so many rings, the first of which has the wanted points from whichever on. */
+static int is_one(const struct itree_polygons *polygons, size_t rings, const struct itree_point *wanted, size_t count) {
+    const struct itree_point *points;
+    const size_t *offsets, *stops;
+    itree_polygons_points(polygons, &points);
+    return itree_polygons_polygon_offsets(polygons, &stops) == 2 && stops[1] == rings &&
+           itree_polygons_ring_offsets(polygons, &offsets) == rings + 1 && is_ring(points, offsets[1], wanted, count);
+}
+
+/* Rings, a shape, and the outer ring of the one polygon that they add up to, with how many rings it has. */
+struct row {
+    const char *what;
+    struct itree_point points[12];
+    size_t ends[2], rings;
+    struct itree_point shape[8];
+    size_t corners;
+    struct itree_point wanted[12];
+    size_t wanted_count, wanted_rings;
+};
+
+static const struct row rows[] = {
+    {"a square by a square",
+     {{0, 0}, {9, 0}, {9, 9}, {0, 9}},
+     {4},
+     1,
+     {{-1, -1}, {1, -1}, {1, 1}, {-1, 1}},
+     4,
+     {{-1, -1}, {10, -1}, {10, 10}, {-1, 10}},
+     4,
+     1},
+    {"a square by a rhomb",
+     {{0, 0}, {9, 0}, {9, 9}, {0, 9}},
+     {4},
+     1,
+     {{2, 0}, {0, 2}, {-2, 0}, {0, -2}},
+     4,
+     {{0, -2}, {9, -2}, {11, 0}, {11, 9}, {9, 11}, {0, 11}, {-2, 9}, {-2, 0}},
+     8,
+     1},
+    {"a shape that lies aside",
+     {{0, 0}, {9, 0}, {9, 9}, {0, 9}},
+     {4},
+     1,
+     {{-1, -1}, {5, -1}, {-1, 5}},
+     3,
+     {{-1, -1}, {14, -1}, {14, 8}, {8, 14}, {-1, 14}},
+     5,
+     1},
+    {"a hole of two units closes",
+     {{0, 0}, {9, 0}, {9, 9}, {0, 9}, {3, 3}, {3, 5}, {5, 5}, {5, 3}},
+     {4, 8},
+     2,
+     {{-1, -1}, {1, -1}, {1, 1}, {-1, 1}},
+     4,
+     {{-1, -1}, {10, -1}, {10, 10}, {-1, 10}},
+     4,
+     1},
+    {"and one of three is left",
+     {{0, 0}, {9, 0}, {9, 9}, {0, 9}, {3, 3}, {3, 6}, {6, 6}, {6, 3}},
+     {4, 8},
+     2,
+     {{-1, -1}, {1, -1}, {1, 1}, {-1, 1}},
+     4,
+     {{-1, -1}, {10, -1}, {10, 10}, {-1, 10}},
+     4,
+     2},
+    {"two parts become one",
+     {{0, 0}, {2, 0}, {2, 9}, {0, 9}, {4, 0}, {6, 0}, {6, 9}, {4, 9}},
+     {4, 8},
+     2,
+     {{-1, -1}, {1, -1}, {1, 1}, {-1, 1}},
+     4,
+     {{-1, -1}, {7, -1}, {7, 10}, {-1, 10}},
+     4,
+     1},
+    {"a corner that turns right",
+     {{0, 0}, {9, 0}, {9, 4}, {4, 4}, {4, 9}, {0, 9}},
+     {6},
+     1,
+     {{-1, -1}, {1, -1}, {1, 1}, {-1, 1}},
+     4,
+     {{-1, -1}, {10, -1}, {10, 5}, {5, 5}, {5, 10}, {-1, 10}},
+     6,
+     1},
+};
+
+static void checks_rows(void) {
+    for (size_t place = 0; place < sizeof rows / sizeof *rows; place++) {
+        const struct row *const row = &rows[place];
+        struct itree_polygons *polygons = NULL;
+        const int ok = grow(row->points, row->ends, row->rings, row->shape, row->corners, &polygons) == ITREE_ANSWERED;
+        check(row->what, ok && is_one(polygons, row->wanted_rings, row->wanted, row->wanted_count));
+        itree_polygons_free(polygons);
+    }
+}
+
+/* Whether rectangles by chance, grown by one around the origin, cover the unit squares that they are to. */
+static int is_grown_right(int32_t rule) {
+    struct itree_point points[4 * MOST];
+    size_t ends[MOST], count = (size_t)random_below(MOST + 1);
+    const int32_t left = 1 + random_below(FAR), low = 1 + random_below(FAR), right = 1 + random_below(FAR),
+                  high = 1 + random_below(FAR);
+    const struct itree_point shape[] = {{-left, -low}, {right, -low}, {right, high}, {-left, high}};
+    for (size_t ring = 0; ring < count; ring++) {
+        const int32_t x0 = random_below(SIDE), y0 = random_below(SIDE), x1 = random_below(SIDE),
+                      y1 = random_below(SIDE);
+        const struct itree_point corners[] = {{x0, y0}, {x1, y0}, {x1, y1}, {x0, y1}};
+        memcpy(points + 4 * ring, corners, sizeof corners);
+        ends[ring] = 4 * ring + 4;
+    }
+    struct itree_polygons *polygons = NULL;
+    if (itree_minkowski(points, 4 * count, ends, count, shape, 4, rule, &polygons) != ITREE_ANSWERED) return 0;
+    const struct itree_point *grown;
+    const size_t *offsets;
+    itree_polygons_points(polygons, &grown);
+    const size_t rings = itree_polygons_ring_offsets(polygons, &offsets) - 1;
+    int ok = 1;
+    for (int32_t x = -FAR - 1; x < SIDE + FAR; x++) {
+        for (int32_t y = -FAR - 1; y < SIDE + FAR; y++) {
+            int wanted = 0;
+            for (int32_t i = x - right; i <= x + left; i++) {
+                for (int32_t j = y - high; j <= y + low; j++) {
+                    wanted = wanted || plain_is_inside(rule, plain_winding(points, ends, count, i, j));
+                }
+            }
+            ok = ok && plain_winding(grown, offsets + 1, rings, x, y) == wanted;
+        }
+    }
+    itree_polygons_free(polygons);
+    return ok;
+}
+
+static void checks_by_chance(void) {
+    int ok = 1;
+    for (int32_t round = 0; round < 2000; round++) ok = ok && is_grown_right(round % 4);
+    check("rectangles by rectangles, as the plain model", ok);
+}
+
+static void checks_faulty_pointers(void) {
+    uint64_t words[8] = {0};
+    char *const odd = (char *)words + 1;
+    struct itree_polygons *polygons = (void *)words;
+    check("no points to grow", itree_minkowski(NULL, 4, one_ring, 1, square, 4, 1, &polygons) == ITREE_POINTER);
+    check("no ends", itree_minkowski(field, 4, NULL, 1, square, 4, 1, &polygons) == ITREE_POINTER);
+    check("no shape", itree_minkowski(field, 4, one_ring, 1, NULL, 4, 1, &polygons) == ITREE_POINTER);
+    check("points at an odd address",
+          itree_minkowski((void *)odd, 1, one_ring, 1, square, 4, 1, &polygons) == ITREE_POINTER);
+    check("a shape at an odd address",
+          itree_minkowski(field, 4, one_ring, 1, (void *)odd, 4, 1, &polygons) == ITREE_POINTER);
+    check("a shape of more than there is",
+          itree_minkowski(field, 4, one_ring, 1, square, SIZE_MAX, 1, &polygons) == ITREE_POINTER);
+    check("the handle stays as it was there", polygons == (void *)words);
+    check("no handle of what has grown", itree_minkowski(field, 4, one_ring, 1, square, 4, 1, NULL) == ITREE_POINTER);
+    check("null for no rings", itree_minkowski(NULL, 0, NULL, 0, square, 4, 1, &polygons) == ITREE_ANSWERED &&
+                                   itree_polygons_points(polygons, NULL) == 0);
+    itree_polygons_free(polygons);
+}
+
+/* Whether this ends so, and there is no handle. */
+static int ends_so(const struct itree_point *points, const size_t *ends, const struct itree_point *shape,
+                   size_t corners, int32_t rule, int32_t wanted) {
+    struct itree_polygons *polygons = (void *)&polygons;
+    return itree_minkowski(points, 4, ends, 1, shape, corners, rule, &polygons) == wanted && polygons == NULL;
+}
+
+/* Shapes that are none. */
+static const struct {
+    const char *what;
+    struct itree_point corners[10];
+    size_t count;
+} faulty_shapes[] = {
+    {"no corners", {{0, 0}}, 0},
+    {"one corner", {{1, 1}}, 1},
+    {"two corners", {{-1, 0}, {1, 0}}, 2},
+    {"corners that run clockwise", {{-1, -1}, {-1, 1}, {1, 1}, {1, -1}}, 4},
+    {"a corner that turns right", {{-2, -2}, {2, -2}, {1, 0}, {2, 2}, {-2, 2}}, 5},
+    {"a corner on a straight line", {{-2, -2}, {0, -2}, {2, -2}, {2, 2}, {-2, 2}}, 5},
+    {"the origin on a side", {{-1, 0}, {1, 0}, {0, 1}}, 3},
+    {"the origin outside", {{1, 1}, {2, 1}, {2, 2}, {1, 2}}, 4},
+    {"a shape that goes round twice", {{-1, -1}, {1, -1}, {1, 1}, {-1, 1}, {-1, -1}, {1, -1}, {1, 1}, {-1, 1}}, 8},
+    {"a star", {{0, 9}, {-5, -7}, {9, 3}, {-9, 3}, {5, -7}}, 5},
+};
+
+static void checks_faults(void) {
+    const size_t behind[] = {5};
+    const struct itree_point far[] = {{0, 0}, {INT32_MAX, 0}, {INT32_MAX, 9}, {0, 9}},
+                             low[] = {{0, INT32_MIN}, {9, INT32_MIN}, {9, 9}, {0, 9}};
+    for (size_t place = 0; place < sizeof faulty_shapes / sizeof *faulty_shapes; place++) {
+        const struct itree_point *const corners = faulty_shapes[place].corners;
+        const size_t count = faulty_shapes[place].count;
+        check(faulty_shapes[place].what, ends_so(field, one_ring, corners, count, ITREE_NON_ZERO, ITREE_SHAPE));
+        check("a ring behind the points comes first", ends_so(field, behind, corners, count, 1, ITREE_LENGTHS));
+        check("and before that a rule that is none", ends_so(field, behind, corners, count, 4, ITREE_CHOICE) &&
+                                                         ends_so(field, behind, corners, count, -1, ITREE_CHOICE));
+    }
+    check("what leaves 32 bits to the right", ends_so(far, one_ring, square, 4, 1, ITREE_RANGE));
+    check("and what leaves them below", ends_so(low, one_ring, square, 4, 1, ITREE_RANGE));
+    struct itree_polygons *polygons = NULL;
+    const struct itree_point nearly[] = {{0, 0}, {INT32_MAX - 1, 0}, {INT32_MAX - 1, 9}, {0, 9}};
+    const struct itree_point wanted[] = {{-1, -1}, {INT32_MAX, -1}, {INT32_MAX, 10}, {-1, 10}};
+    check("what comes up to them", grow(nearly, one_ring, 1, square, 4, &polygons) == ITREE_ANSWERED);
+    check("is there", is_one(polygons, 1, wanted, 4));
+    itree_polygons_free(polygons);
+}
+
+static void checks_refused(void) {
+    enum { BARS = 12 };
+    struct itree_point points[8 * BARS];
+    size_t ends[2 * BARS], requests = 0;
+    struct itree_polygons *polygons = NULL;
+    int ok = 1;
+    for (int32_t bar = 0; bar < BARS; bar++) {
+        const int32_t at = 20 * bar;
+        const struct itree_point across[] = {{0, at}, {240, at}, {240, at + 10}, {0, at + 10}};
+        const struct itree_point up[] = {{at, 0}, {at + 10, 0}, {at + 10, 240}, {at, 240}};
+        memcpy(points + 8 * bar, across, sizeof across);
+        memcpy(points + 8 * bar + 4, up, sizeof up);
+        ends[2 * bar] = (size_t)(8 * bar + 4);
+        ends[2 * bar + 1] = (size_t)(8 * bar + 8);
+    }
+    for (int32_t status = ITREE_REFUSED; status == ITREE_REFUSED; requests++) {
+        polygons = (void *)points;
+        refuse_after(requests);
+        status = grow(points, ends, 2 * BARS, square, 4, &polygons);
+        refuse_after(SIZE_MAX);
+        ok = ok && (status == ITREE_ANSWERED || (status == ITREE_REFUSED && polygons == NULL));
+    }
+    check("each request for what grows is refused in turn", requests > 10 && ok);
+    check("a lattice keeps its holes", itree_polygons_ring_offsets(polygons, NULL) == 1 + 1 + (BARS - 1) * (BARS - 1));
+    itree_polygons_free(polygons);
+}
+
+int main(void) {
+    checks_rows();
+    checks_by_chance();
+    checks_faulty_pointers();
+    checks_faults();
+    checks_refused();
+    return told();
+}
