@@ -29,7 +29,8 @@ OTHERS = {
     # goals of a function, which the check names
     *"decreases-loop-pair loop-pair loop-pair-smaller push-requires".split(),
     # other tools, libraries and languages
-    *"CMAKE_PREFIX_PATH MemoryError NotImplementedError PKG_CONFIG_PATH TypeError ValueError __geo_interface__".split(),
+    *"CMAKE_PREFIX_PATH MemoryError NotImplementedError OverflowError PKG_CONFIG_PATH TypeError ValueError".split(),
+    *"__geo_interface__".split(),
     *"LocalCluster anyhow ar cc dist free malloc memmove memset objcopy pkg-config proves realloc tactic thiserror".split(),
     *"rattle_alloc rattle_dealloc rattle_realloc".split(),
 }

@@ -449,9 +449,11 @@ class Documents(Files):
     def test_options(self):
         """Each option that the command takes stands there, and no other."""
         section = (TOP / "docs" / "COMMANDS.md").read_text(encoding="utf-8").partition("\n## `python3 -m itree`\n")[2]
-        listed = re.findall(r"^\| `(--\w+)", section, re.M)
-        _, said, _ = self.called("overlay", "--help")
-        self.assertEqual(sorted(set(re.findall(r"--\w+", said)) - {"--help"}), sorted(set(listed) - {"--version"}))
+        rows = re.findall(r"^\| (`--\w.*?) \|", section, re.M)
+        listed = [it for row in rows for it in re.findall(r"`(--[\w-]+)", row)]
+        said = [self.called(it, "--help")[1] for it in ("overlay", "offset")]
+        told = set(re.findall(r"(?<!\w)--\w[\w-]*", "".join(said)))
+        self.assertEqual(sorted(told - {"--help"}), sorted(set(listed) - {"--version"}))
         endings = [it for row in re.findall(r"^\| (`\..*?) \|", section, re.M) for it in re.findall(r"`(.*?)`", row)]
         self.assertEqual(sorted(endings), sorted(_files.ENDINGS))
 

@@ -5,8 +5,8 @@ usage: draw.py            writes them all
        draw.py --check    compares each with what it would write, and ends with 'N passed, M failed'
 
 Some stand in files of their own: `stages.py` (the way from rings to polygons, and counts in columns), `chords.py` (rings cut
-into stretches), `tiles.py` (windows, and tiles that are joined) and `sizes.py` (the crates, which it reads from crates.txt with
-their lines, and the rooms of i_tree).
+into stretches), `tiles.py` (windows, and tiles that are joined), `growing.py` (polygons that grow) and `sizes.py` (the crates,
+which it reads from crates.txt with their lines, and the rooms of i_tree).
 
 `sweep.svg` shows `sweep.lines`, with the answers that `sweep.replies` has: the process tests run the program over the one
 and compare what it prints with the other. So does `locate.svg` with `locate.lines` and `locate.replies`, and `snap.svg` with
@@ -19,6 +19,7 @@ import sys
 sys.dont_write_bytecode = True
 
 import chords
+import growing
 import sizes
 import stages
 import tiles
@@ -392,6 +393,7 @@ PICTURES = {
     **{"layers": sizes.layers, "rooms": sizes.rooms, "slots": slots, "descent": descent, "buckets": buckets},
     **{"sweep": sweep, "locate": locate, "snap": snap, "fill": fill, "overlay": overlay},
     **{"stages": stages.stages, "columns": stages.columns, "chords": chords.chords, "tiles": tiles.tiles},
+    "growing": growing.growing,
 }
 
 

@@ -67,8 +67,9 @@ Shapes
 
     `python3 -m itree overlay a.geojson b.geojson` takes files: see its --help.
 
-    There are no offsets or buffers, no triangulation, no coordinates of 64 bits,
-    and no Z.
+    `offset` grows and shrinks shapes, lines and points by a distance, as shapely's
+    buffer, and `minkowski` polygons by a convex shape of the caller's. There is
+    no triangulation, there are no coordinates of 64 bits, and no Z.
 
 Layers
     What `overlay_each`, `candidate_pairs` and `points_in` take: many shapes, each
@@ -162,6 +163,7 @@ from ._edges import (
     snap,
 )
 from ._grid import Grid
+from ._offset import minkowski, offset
 from ._overlay import make_valid, overlay, simplify, unary_union
 from ._overlays import Overlays
 from ._polygons import Polygon, Polygons
@@ -193,7 +195,9 @@ __all__ = [
     "make_valid",
     "meetings",
     "meetings_between",
+    "minkowski",
     "node",
+    "offset",
     "overlay",
     "overlay_each",
     "overlay_in",

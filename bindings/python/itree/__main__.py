@@ -10,7 +10,7 @@ import os
 import sys
 from typing import Iterable, List, NoReturn, Optional, Sequence
 
-from . import _files, _lines, _tasks
+from . import _files, _lines, _offset, _tasks
 from ._files import Answer
 from ._library import version
 from ._overlay import OPERATIONS, RULES, overlaid
@@ -76,9 +76,19 @@ def _parser() -> argparse.ArgumentParser:
     overlay.add_argument("--operation", choices=list(OPERATIONS), default="union", help="union where none is given")
     simplify = commands.add_parser("simplify", help="polygons of one file whose edges don't cross", description=DESCRIPTION)
     simplify.set_defaults(operation="union")
+    said = "polygons of one file that grow by a distance, or shrink where it is below 0"
+    offset = commands.add_parser(_tasks.OFFSET, help=said, description=DESCRIPTION)
+    offset.set_defaults(operation=_tasks.OFFSET)
+    said = "how far, in the units of the coordinates; as --distance=-5 below 0"
+    offset.add_argument("--distance", type=float, required=True, help=said)
+    said = "by how many sides a quarter of a circle is replaced; 16 where none are given"
+    offset.add_argument("--quad-segs", type=int, default=16, metavar="N", help=said)
+    said = "how much nearer than the distance a side of the circle may come, in place of --quad-segs"
+    offset.add_argument("--tolerance", type=float, help=said)
     overlay.add_argument("files", nargs="*", metavar="FILE", help="two files; or OPERATION RULE; or nothing, for lines")
     simplify.add_argument("files", nargs=1, metavar="FILE")
-    for command in overlay, simplify:
+    offset.add_argument("files", nargs=1, metavar="FILE")
+    for command in overlay, simplify, offset:
         command.add_argument("--rule", choices=list(RULES), default="nonzero", help="nonzero where none is given")
         command.add_argument("--unit", type=float, help="a power of two; the finest that fits where none is given")
         _add_what_is_written(command)
@@ -135,7 +145,29 @@ def _run_lines(asked: argparse.Namespace) -> None:
 
 def _run(asked: argparse.Namespace) -> None:
     """Answers files."""
-    task = Task(
+    try:
+        task = _task(asked)
+        for name in asked.output:
+            _files.check_output(name)
+        with Progress(sys.stderr) as progress:
+            sources = [_files.read(name, place == 0 and task.has_members(), progress) for place, name in enumerate(asked.files)]
+            answer = _tasks.done(task, sources, progress)
+            _write(answer, asked.output, progress)
+    except (TypeError, ValueError, OverflowError) as fault:
+        raise Fault(str(fault)) from None
+    except MemoryError:
+        raise Fault("memory was refused", 1) from None
+    except OSError as fault:
+        raise Fault(f"{'the standard input' if fault.filename is None else fault.filename}: {fault.strerror}") from None
+
+
+def _task(asked: argparse.Namespace) -> Task:
+    """What is asked for. Raises ValueError where a distance or a number of sides is none."""
+    far, corners = 0.0, 0
+    if asked.operation == _tasks.OFFSET:
+        far = _offset.finite(asked.distance)
+        corners = _offset.corners_by(far, asked.quad_segs, asked.tolerance)
+    return Task(
         asked.operation,
         asked.rule,
         asked.unit,
@@ -144,20 +176,9 @@ def _run(asked: argparse.Namespace) -> None:
         asked.digits,
         asked.features,
         any(_files.ending_of(name) == ".svg" for name in asked.output),
+        far,
+        corners,
     )
-    try:
-        for name in asked.output:
-            _files.check_output(name)
-        with Progress(sys.stderr) as progress:
-            sources = [_files.read(name, place == 0 and task.has_members(), progress) for place, name in enumerate(asked.files)]
-            answer = _tasks.done(task, sources, progress)
-            _write(answer, asked.output, progress)
-    except (TypeError, ValueError) as fault:
-        raise Fault(str(fault)) from None
-    except MemoryError:
-        raise Fault("memory was refused", 1) from None
-    except OSError as fault:
-        raise Fault(f"{'the standard input' if fault.filename is None else fault.filename}: {fault.strerror}") from None
 
 
 def _write(answer: Answer, names: Sequence[str], progress: Progress) -> None:

@@ -7,6 +7,7 @@ import os
 
 # As itree.h has them.
 ANSWERED, REFUSED, OVERLAP, LENGTHS, CROSSING, MEETING, FAULTY, STOPPED, WINDOW, UNFIT = 0, 1, 2, 3, 6, 7, 8, 9, 10, 11
+SHAPE, RANGE = 12, 13
 
 _address, _length = ctypes.c_void_p, ctypes.c_size_t
 _status = ctypes.c_int32
@@ -31,6 +32,7 @@ _CALLS = {
     "itree_locate": (_status, [_address, _length, _address, _length, _address, _length, _address, _address]),
     "itree_meetings_all": (_status, [_address, _length, _address]),
     "itree_meetings_between": (_status, [_address, _length, _address, _length, _address]),
+    "itree_minkowski": (_status, [*[_address, _length] * 3, _status, _address]),
     "itree_node": (_status, [_address, _length, _address]),
     "itree_overlay": (_status, [*[_address, _length] * 4, _status, _status, _address]),
     "itree_overlay_each": (_status, [*[_address] * 4, _status, _status, _address, _length, _address]),

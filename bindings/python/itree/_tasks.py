@@ -7,19 +7,21 @@ import itertools
 import json
 from typing import Any, Dict, Iterable, Iterator, List, NamedTuple, Optional, Sequence, Tuple
 
-from . import _answers, _boxes, _each, _files, _near, _wkb
+from . import _answers, _boxes, _each, _files, _grown, _near, _wkb
 from ._answers import Lists
 from ._each import Groups
 from ._files import Answer, Part, Source
-from ._grid import fitted
+from ._offset import grid_around
 from ._overlay import OPERATIONS, RULES
 from ._progress import Progress
-from ._shapes import NOTHING, HeldRings
+from ._shapes import NOTHING, HeldRings, held_rings
 
 # Points of the groups that one call takes, which has to be as many as a large one has.
 _AT_ONCE = 1 << 18
 # Points of a clip from which on numpy is worth its loading.
 _MANY = 5000
+# What the command has besides the operations.
+OFFSET = "offset"
 # What is outside of the subject is of no account.
 _WITHIN_SUBJECT = {"intersection", "difference"}
 
@@ -28,7 +30,8 @@ class Task(NamedTuple):
     """What is asked for.
 
     each: whether of each feature. by: the field by whose values features are taken together, or None.
-    digits, is_apart: as those of an answer. is_drawn: whether the files are drawn, too.
+    digits, is_apart: as those of an answer. is_drawn: whether the files are drawn, too. far, corners: of an offset how far, and
+    how many corners the circle has.
     """
 
     operation: str
@@ -39,6 +42,8 @@ class Task(NamedTuple):
     digits: Optional[int]
     is_apart: bool
     is_drawn: bool
+    far: float = 0.0
+    corners: int = 0
 
     def has_members(self) -> bool:
         """Whether what else features have is wanted of the subject."""
@@ -51,13 +56,17 @@ def done(task: Task, sources: List[Source], progress: Progress) -> Answer:
     Raises ValueError of what is faulty, and MemoryError.
     """
     crs = _files.common_crs((it.crs, it.name) for it in sources)
-    grid = fitted(array.array("d", itertools.chain.from_iterable(map(_files.corners_of, sources))), task.unit)
+    corners = array.array("d", itertools.chain.from_iterable(map(_files.corners_of, sources)))
+    grid = grid_around(corners, task.far, task.unit)
     features = _grouped(task, sources[0])
     fields = _fields(task, sources[0])
     layers = [_wkb.read(it.shapes, grid.of_c(), grid) for it in sources]
     sources.clear()
     about = {"operation": task.operation, "rule": task.rule, "unit": grid.unit}
-    if features is None:
+    if task.operation == OFFSET:
+        about["distance"] = task.far
+        parts = list(_offset(task, layers[0], round(abs(task.far) / grid.unit), features, about, progress))
+    elif features is None:
         parts = [_of_all(task, layers, about, progress)]
     else:
         parts = list(_of_each(task, layers, features, progress))
@@ -78,6 +87,38 @@ def _of_all(task: Task, layers: Sequence[Lists], about: Dict[str, Any], progress
     subject, clip = held if len(held) == 2 else (held[0], NOTHING)
     polygons = _answers.polygons_of(subject, clip, RULES[task.rule], OPERATIONS[task.operation], 0)
     return Part(polygons, [0, polygons.polygon_count], [{} if task.is_apart else {"properties": about}])
+
+
+def _offset(
+    task: Task,
+    layer: Lists,
+    radius: int,
+    features: Optional[Sequence[_Group]],
+    about: Dict[str, Any],
+    progress: Progress,
+) -> Iterator[Part]:
+    """The parts of an offset: one of all, or one for each feature of which something is left."""
+    all_of_it = _Group(range(layer.polygon_count), {} if task.is_apart else {"properties": about})
+    groups = [all_of_it] if features is None else features
+    progress.begin("offset" if features is None else "offset of each", len(groups))
+    signed = radius if task.far > 0 else -radius
+    for group in groups:
+        polygons = _grown.by_circle(_rings_of(layer, group.places), signed, task.corners, RULES[task.rule], 0)
+        progress.add(1)
+        if features is None or polygons.polygon_count:
+            yield Part(polygons, [0, polygons.polygon_count], [group.members])
+
+
+def _rings_of(layer: Lists, places: Sequence[int]) -> HeldRings:
+    """The rings of the shapes at these places."""
+    if len(places) == layer.polygon_count:
+        return HeldRings(layer.given(), layer)
+    numbers, shapes, rings = layer.numbers(), layer.polygon_offsets(), layer.ring_offsets()
+    points, ends = array.array("i"), array.array("Q")
+    for ring in itertools.chain.from_iterable(range(shapes[it], shapes[it + 1]) for it in places):
+        points.extend(numbers[2 * rings[ring] : 2 * rings[ring + 1]])
+        ends.append(len(points) // 2)
+    return held_rings(points, ends)
 
 
 class _Group(NamedTuple):

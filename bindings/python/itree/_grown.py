@@ -1,0 +1,161 @@
+"""What grows and shrinks, in whole units: the shape that goes round, its sum with rings, and what of rings is left."""
+
+from __future__ import annotations
+
+import array
+import math
+from typing import List, Sequence, Tuple
+
+from . import _answers
+from ._answers import Handle, Lists
+from ._calls import made
+from ._library import RANGE, SHAPE, library
+from ._overlay import OPERATIONS, RULES
+from ._rows import _GREATEST, _LEAST
+from ._shapes import NOTHING, HeldRings, held_rings
+
+Point = Tuple[int, int]
+
+# No circle has more corners: each two of them are looked at.
+MOST_CORNERS = 8192
+_NON_ZERO, _UNION, _DIFFERENCE = RULES["nonzero"], OPERATIONS["union"], OPERATIONS["difference"]
+NOT_CONVEX = "the corners of a convex polygon with the origin inside are wanted, counterclockwise"
+TOO_FAR = "what has grown leaves the numbers of 32 bits"
+
+
+def circle(radius: int, corners: int) -> List[Point]:
+    """So many corners of a circle, or fewer where whole points have no more, counterclockwise from (radius, 0) on.
+
+    corners: a multiple of 4. Each corner is rounded inwards: so none lies outside of the circle, nor 1.5 within it.
+    """
+    quarter = corners // 4
+    turns = [2 * math.pi * place / corners for place in range(quarter)]
+    first = [(radius, 0), *((int(radius * math.cos(it)), int(radius * math.sin(it))) for it in turns[1:])]
+    # Turned by a right angle three times, so that each side has an opposite one.
+    around = [*first, *((-y, x) for x, y in first), *((-x, -y) for x, y in first), *((y, -x) for x, y in first)]
+    return hull(around)
+
+
+def hull(points: Sequence[Point]) -> List[Point]:
+    """The corners of the least convex polygon around points, counterclockwise, at each of which it turns left."""
+    ordered = sorted(set(points))
+    lower, upper = _half(ordered), _half(ordered[::-1])
+    found = [*lower[:-1], *upper[:-1]]
+    # From the corner on that lies furthest to the right.
+    start = found.index(max(found, key=lambda it: (it[0], -abs(it[1])))) if found else 0
+    return [*found[start:], *found[:start]]
+
+
+def _half(ordered: Sequence[Point]) -> List[Point]:
+    half: List[Point] = []
+    for point in ordered:
+        while len(half) > 1 and _turn(half[-2], half[-1], point) <= 0:
+            half.pop()
+        half.append(point)
+    return half
+
+
+def _turn(first: Point, second: Point, third: Point) -> int:
+    """Above 0 where the way over three points turns left, below 0 where it turns right."""
+    (x0, y0), (x1, y1), (x2, y2) = first, second, third
+    return (x1 - x0) * (y2 - y1) - (y1 - y0) * (x2 - x1)
+
+
+def corners_for(distance: float, quad_segs: int, tolerance: float) -> int:
+    """How many corners a circle has: 4 * quad_segs; or where a tolerance isn't 0, so many that its sides come no nearer to
+    the middle than the distance less the tolerance."""
+    if not tolerance:
+        return min(4 * quad_segs, MOST_CORNERS)
+    half = math.acos(max(0.0, 1 - tolerance / distance))
+    wanted = math.pi / half if half > math.pi / MOST_CORNERS else MOST_CORNERS
+    return min(max(4, 4 * math.ceil(wanted / 4)), MOST_CORNERS)
+
+
+def minkowski_sum(rings: HeldRings, shape: Sequence[Point], rule: int, limit: int) -> Lists:
+    """The polygons of the sum of what is inside of rings and a shape, where the library wrote them.
+
+    Raises ValueError where a ring stops where it can't, or the shape is none, and OverflowError where the sum leaves 32 bits.
+    """
+    handle, corners = Handle(library.itree_polygons_free), array.array("i")
+    for point in shape:
+        corners.extend(point)
+    at, count = corners.buffer_info()
+    words = *rings.given, at, count // 2, rule, handle.to_write
+    size, kept = rings.given[1] + count // 2, (rings, corners, handle)
+    status = made(library.itree_minkowski, *words, size=size, limit=limit, kept=kept)
+    if status == SHAPE:
+        raise ValueError(f"the shape: {NOT_CONVEX}")
+    if status == RANGE:
+        raise OverflowError(TOO_FAR)
+    _answers.check_rings(status, limit)
+    return _answers.lists_in(handle)
+
+
+def by_circle(rings: HeldRings, radius: int, corners: int, rule: int, limit: int) -> Lists:
+    """What becomes of the inside of rings: it grows by a circle, shrinks where the radius is below 0, and stays where it is 0.
+
+    Raises what `minkowski_sum` does.
+    """
+    if radius > 0:
+        return minkowski_sum(rings, circle(radius, corners), rule, limit)
+    inside = _answers.polygons_of(rings, NOTHING, rule, _UNION, limit)
+    numbers = inside.numbers()
+    if radius == 0 or not len(numbers):
+        return inside
+    if -2 * radius >= min(max(numbers[axis::2]) - min(numbers[axis::2]) for axis in (0, 1)):
+        # No circle of the radius has room.
+        return _answers.polygons_of(NOTHING, NOTHING, rule, _UNION, limit)
+    return eroded(HeldRings(inside.given(), inside), circle(-radius, corners), limit)
+
+
+def eroded(inside: HeldRings, shape: Sequence[Point], limit: int) -> Lists:
+    """The polygons of what is left of polygons: of the points around which all of the shape lies inside.
+
+    What is outside grows by the shape turned by half a circle, within a box around all, and is taken away.
+    """
+    points, count = inside.given[:2]
+    numbers = _answers.view_at(inside, points, 2 * count, "i")
+    reach = 2 + max(max(abs(x), abs(y)) for x, y in shape)
+    low, high = ([way(numbers[axis::2]) + far for axis in (0, 1)] for way, far in ((min, -reach), (max, reach)))
+    if min(low) < _LEAST or max(high) > _GREATEST:
+        raise OverflowError(TOO_FAR)
+    box = held_rings(array.array("i", [*low, high[0], low[1], *high, low[0], high[1]]), array.array("Q", [4]))
+    outside = _answers.polygons_of(box, inside, _NON_ZERO, _DIFFERENCE, limit)
+    opposite = [(-x, -y) for x, y in shape]
+    grown = minkowski_sum(HeldRings(outside.given(), outside), opposite, _NON_ZERO, limit)
+    return _answers.polygons_of(inside, HeldRings(grown.given(), grown), _NON_ZERO, _DIFFERENCE, limit)
+
+
+def around_edges(points: Sequence[Point], shape: Sequence[Point]) -> List[List[Point]]:
+    """The sum of each edge of a line and a shape, as a convex ring. A line of one point is an edge from it to itself."""
+    if not points:
+        return []
+    edges = list(zip(points, points[1:])) if len(points) > 1 else [(points[0], points[0])]
+    return [_around(start, end, shape) for start, end in edges]
+
+
+def _around(start: Point, end: Point, shape: Sequence[Point]) -> List[Point]:
+    (x0, y0), (x1, y1) = start, end
+    heights = [(x1 - x0) * y - (y1 - y0) * x for x, y in shape]
+    right, left = heights.index(min(heights)), heights.index(max(heights))
+    count = len(shape)
+    # Round the end from the corner that lies furthest to the right up to that furthest to the left, and back round the start.
+    ahead = [shape[(right + step) % count] for step in range((left - right) % count + 1)]
+    behind = [shape[(left + step) % count] for step in range((right - left) % count + 1)]
+    if left == right:
+        return [(x0 + x, y0 + y) for x, y in shape]
+    return [*((x1 + x, y1 + y) for x, y in ahead), *((x0 + x, y0 + y) for x, y in behind)]
+
+
+def united(rings: Sequence[Sequence[Point]], grown: Lists, limit: int) -> Lists:
+    """The union of rings, each of which runs counterclockwise, and of polygons."""
+    numbers, ends = array.array("i"), array.array("Q")
+    try:
+        for ring in rings:
+            for point in ring:
+                numbers.extend(point)
+            ends.append(len(numbers) // 2)
+    except OverflowError:
+        raise OverflowError(TOO_FAR) from None
+    held = HeldRings(grown.given(), grown)
+    return _answers.polygons_of(held_rings(numbers, ends), held, _NON_ZERO, _UNION, limit)

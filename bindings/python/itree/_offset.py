@@ -1,0 +1,294 @@
+"""offset and minkowski: polygons, lines and points that grow, and polygons that shrink."""
+
+from __future__ import annotations
+
+import array
+import math
+import operator
+from collections.abc import Iterator as IsIterator
+from collections.abc import Mapping
+from typing import Any, Iterable, Iterator, List, Literal, Optional, Sequence, Tuple
+
+from . import _gathered, _grown, _rings, _rows, _shapely, _shapes
+from ._answers import two_by_two, view_at
+from ._calls import limit_of
+from ._clip import LineLayer
+from ._gathered import Gathered
+from ._grid import Grid, fitted
+from ._grown import Point
+from ._layers import Layer, is_of_objects
+from ._overlay import RULES, Rule, check_grid, number_in
+from ._points import PointLayer
+from ._polygons import Polygons
+from ._rings import Rings
+from ._shapes import Shapes
+
+Style = Literal["round"]
+_LINES, _POINTS = ("LineString", "LinearRing", "MultiLineString"), ("Point", "MultiPoint")
+
+
+def offset(
+    shapes: Shapes,
+    distance: float,
+    quad_segs: int = 16,
+    cap_style: Style = "round",
+    join_style: Style = "round",
+    *,
+    tolerance: Optional[float] = None,
+    rule: Rule = "nonzero",
+    grid: Optional[Grid] = None,
+    memory_limit: Optional[int] = None,
+) -> Polygons:
+    """The polygons of the points within a distance of shapes, as shapely's buffer; or below 0, of those within the shapes that
+    are as far from all that is outside.
+
+    shapes: what `overlay` takes; and in shapely's objects, GeoSeries and GeoJSON
+    also lines and points. All are taken together: so where they come to touch
+    they become one. `[itree.offset(it, 5) for it in shapes]` grows each alone.
+    distance: how far they grow, in the units of the coordinates; below 0 they
+    shrink, and lines and points are gone.
+    quad_segs: by how many sides a quarter of a circle is replaced, as shapely has it.
+    cap_style, join_style: "round" alone: there are no others.
+    tolerance: how much nearer than the distance a side of the circle may come, in
+    the units of the coordinates; it takes the place of quad_segs. None: there are
+    quad_segs, and by 16 of them a side comes 0.12 % of the distance nearer.
+    rule: which points are inside of rings, as that of `overlay`.
+    grid: by which floats become whole numbers; by default the finest on which the
+    shapes and what becomes of them fit.
+    memory_limit: as that of `overlay`, for each call of the library.
+
+    >>> square = {"type": "Polygon", "coordinates": [[(0, 0), (4, 0), (4, 4), (0, 4), (0, 0)]]}
+    >>> wider = offset(square, 1)
+    >>> len(wider), len(wider[0].outer)
+    (1, 68)
+    >>> [(round(x, 6), round(y, 6)) for x, y in offset(square, -1)[0].outer]
+    [(1.0, 1.0), (3.0, 1.0), (3.0, 3.0), (1.0, 3.0)]
+    >>> len(offset({"type": "LineString", "coordinates": [(0, 0), (5, 0), (5, 5)]}, 1))
+    1
+
+    The circle is a polygon whose corners lie on it, rounded inwards to the grid.
+    The answer is the Minkowski sum of the shapes and that polygon, exact but for
+    what `overlay` says that it rounds: so nothing grows further than the distance,
+    nor less far than the distance less what the sides leave. Where shapes shrink,
+    what is outside grows so.
+
+    Rings of whole numbers, without a grid, stay whole: the distance is to be
+    whole then, and so are the circle's corners. A distance under half a unit of
+    the grid is 0.
+
+    Raises what `overlay` does; ValueError where the distance or the tolerance is
+    no finite number, the tolerance isn't above 0, quad_segs is below 1, or a
+    style is another; OverflowError where what has grown leaves the grid.
+    """
+    far, corners = finite(distance), corners_by(distance, quad_segs, tolerance)
+    _check_styles(cap_style, join_style)
+    number = number_in(RULES, rule, "rule")
+    check_grid(grid)
+    limit = limit_of(memory_limit)
+    given = _Given(shapes, grid is not None)
+    if grid is None:
+        grid = given.grid_for(far)
+    radius = _radius(far, grid)
+    lists = _grown.by_circle(given.areas.held(grid), radius if far > 0 else -radius, corners, number, limit)
+    if radius and far > 0:
+        circle = _grown.circle(radius, corners)
+        around = [ring for line in given.lines(grid) for ring in _grown.around_edges(line, circle)]
+        lists = _grown.united(around, lists, limit) if around else lists
+    return Polygons(lists, grid, given.crs, given.areas.srid)
+
+
+def minkowski(
+    polygons: Shapes,
+    shape: Iterable[Tuple[int, int]],
+    rule: Rule = "nonzero",
+    *,
+    memory_limit: Optional[int] = None,
+) -> Polygons:
+    """The polygons of the Minkowski sum of polygons and a shape: of the points that one of each add up to.
+
+    So polygons grow by the shape on all sides; parts that come to touch become
+    one, and holes that are small close.
+
+    polygons: what `overlay` takes, of whole numbers.
+    shape: the corners (x, y) of a convex polygon, whole numbers, counterclockwise,
+    with the origin inside.
+    rule, memory_limit: as those of `overlay`.
+
+    >>> square, shape = [(0, 0), (9, 0), (9, 9), (0, 9)], [(-1, -2), (1, -2), (1, 2), (-1, 2)]
+    >>> [sorted(it.outer) for it in minkowski([square], shape)]
+    [[(-1, -2), (-1, 11), (10, -2), (10, 11)]]
+
+    It is exact, but for what `overlay` says that it rounds.
+
+    Raises what `overlay` does; ValueError where the shape isn't such a polygon,
+    or a coordinate isn't whole; OverflowError where the sum leaves 32 bits.
+    """
+    number, limit = number_in(RULES, rule, "rule"), limit_of(memory_limit)
+    kind = _rows.Kind("shape", 2)
+    corners = list(two_by_two(_rings.flat(_rows._numbers_of(shape, kind)[0])))
+    areas = _gathered.gathered([(polygons, "polygons")], False, kept=False)[0]
+    if areas.is_of_shapes() and not areas.is_whole():
+        raise ValueError("polygons: whole numbers are wanted; itree.offset takes others")
+    lists = _grown.minkowski_sum(areas.held(None), corners, number, limit)
+    return Polygons(lists, None, areas.crs, areas.srid)
+
+
+def finite(distance: Any) -> float:
+    """The distance. Raises ValueError where it is no finite number."""
+    far = float(distance)
+    if not math.isfinite(far):
+        raise ValueError(f"the distance: {far}; a finite number is wanted")
+    return far
+
+
+def corners_by(distance: Any, quad_segs: int, tolerance: Optional[float]) -> int:
+    """How many corners the circle has. Raises ValueError where quad_segs is below 1, or the tolerance isn't above 0."""
+    segments = operator.index(quad_segs)
+    if segments < 1:
+        raise ValueError(f"quad_segs: {segments}; a number from 1 on is wanted")
+    if tolerance is None:
+        return _grown.corners_for(1.0, segments, 0.0)
+    within = float(tolerance)
+    if not (within > 0 and math.isfinite(within)):
+        raise ValueError(f"the tolerance: {within}; a finite number above 0 is wanted")
+    return _grown.corners_for(abs(float(distance)) or 1.0, segments, within)
+
+
+def _check_styles(cap_style: str, join_style: str) -> None:
+    for called, style in (("cap_style", cap_style), ("join_style", join_style)):
+        if style != "round":
+            raise ValueError(f"the {called} {style!r}: 'round' is wanted, there is no other")
+
+
+def _radius(far: float, grid: Optional[Grid]) -> int:
+    """The distance in units."""
+    if grid is not None:
+        return round(abs(far) / grid.unit)
+    if not far.is_integer():
+        wanted = "a whole number is wanted where rings are whole; or give a grid: itree.Grid.fit(...)"
+        raise ValueError(f"the distance: {far}; {wanted}")
+    return abs(int(far))
+
+
+def grid_around(corners: array.array[float], far: float, unit: Optional[float] = None) -> Grid:
+    """The grid on which positions, x, y, x, y and so on, fit, and what becomes of them by a distance."""
+    # Of what shrinks the outside grows, from beyond as far again.
+    reach = far if far > 0 else -2 * far
+    return fitted(array.array("d", [it + way for way in (-reach, reach) for it in corners]), unit)
+
+
+class _Given:
+    """What is to grow: areas, and beside them lines and points, each as it was given."""
+
+    def __init__(self, shapes: Any, has_grid: bool) -> None:
+        parts = _Parts()
+        series = _gathered.series_of(shapes)
+        self.areas: Gathered = _gathered.gathered([(parts.areas_of(shapes), "shapes")], has_grid, kept=False)[0]
+        self.crs = self.areas.crs if series is None else series.crs
+        self._lines = [LineLayer(it, "shapes") for it in (parts.lines, parts.told_lines) if it]
+        self._points = [PointLayer(it, "shapes") for it in (parts.points, parts.told_points) if it]
+
+    def grid_for(self, far: float) -> Optional[Grid]:
+        """The finest grid on which all fits, and what becomes of it; None of rings of whole numbers."""
+        others: List[Layer] = [*self._lines, *self._points]
+        if not others and not self.areas.is_of_shapes():
+            return None
+        numbers = self.areas.corners()
+        for it in others:
+            numbers.extend(it.corners())
+        return grid_around(numbers, far)
+
+    def lines(self, grid: Optional[Grid]) -> Iterator[Sequence[Point]]:
+        """The points of each line, in units of a grid; a point is a line of one."""
+        for layer in self._lines:
+            of_c, kept = layer.held(grid)
+            points = list(two_by_two(view_at(kept, of_c.points, 2 * of_c.point_count, "i")))
+            start = 0
+            for stop in view_at(kept, of_c.ends, of_c.line_count, "Q"):
+                yield points[start:stop]
+                start = stop
+        for it in self._points:
+            at, count, kept = it.held(grid)
+            for point in two_by_two(view_at(kept, at, 2 * count, "i")):
+                yield [point]
+
+
+class _Parts:
+    """The lines and the points among shapes: of shapely's, and as GeoJSON tells them."""
+
+    def __init__(self) -> None:
+        self.lines: List[Any] = []
+        self.points: List[Any] = []
+        self.told_lines: List[Any] = []
+        self.told_points: List[Any] = []
+        self._base = _shapely.base()
+
+    def areas_of(self, given: Any) -> Any:
+        """What is left of the shapes without lines and points, which are put aside."""
+        series = _gathered.series_of(given)
+        if series is not None:
+            items: Any = _gathered.listed(series)
+        elif isinstance(given, self._base) or self._is_told(given):
+            items = [given]
+        elif is_of_objects(given) or isinstance(given, (list, tuple, IsIterator)):
+            if _shapes.is_ring(given):
+                return given
+            items = list(given)
+        else:
+            return given
+        areas = [area for item in items for area in self._areas_in(item)]
+        has_others = self.lines or self.points or self.told_lines or self.told_points
+        return areas if has_others or isinstance(given, IsIterator) else given
+
+    def _is_told(self, given: Any) -> bool:
+        return isinstance(given, Mapping) or (not isinstance(given, (Polygons, Rings)) and hasattr(given, "__geo_interface__"))
+
+    def _areas_in(self, item: Any) -> Iterator[Any]:
+        if isinstance(item, self._base):
+            yield from self._areas_in_object(item)
+        elif self._is_told(item):
+            yield from self._areas_told(_shapes.shape_of(item))
+        else:
+            yield item
+
+    def _areas_in_object(self, shape: Any) -> Iterator[Any]:
+        kind = shape.geom_type
+        if shape.is_empty:
+            return
+        if kind == "GeometryCollection":
+            for part in shape.geoms:
+                yield from self._areas_in_object(part)
+        elif kind in _LINES:
+            self.lines.append(shape)
+        elif kind in _POINTS:
+            self.points += [shape] if kind == "Point" else shape.geoms
+        else:
+            yield shape
+
+    def _areas_told(self, shape: Any) -> Iterator[Any]:
+        kind = shape.get("type") if isinstance(shape, Mapping) else None
+        parts = shape.get(_PARTS.get(str(kind), "")) if isinstance(shape, Mapping) else None
+        if isinstance(parts, (list, tuple)) and kind in _COLLECTIONS:
+            for part in parts:
+                yield from self._areas_told(part)
+        elif kind == "Feature" and isinstance(parts, Mapping):
+            yield from self._areas_told(parts)
+        elif kind in _LINES:
+            # shapely tells a LinearRing, too, which GeoJSON doesn't have.
+            self.told_lines.append({**shape, "type": "LineString"} if kind == "LinearRing" else shape)
+        elif kind in _POINTS and isinstance(parts, (list, tuple)):
+            rows = [parts] if kind == "Point" else parts
+            self.told_points += [row[:2] for row in rows if row]
+        elif shape is not None:
+            yield shape
+
+
+_COLLECTIONS = "FeatureCollection", "GeometryCollection"
+# The member in which each has its parts.
+_PARTS = {
+    "FeatureCollection": "features",
+    "GeometryCollection": "geometries",
+    "Feature": "geometry",
+    "Point": "coordinates",
+    "MultiPoint": "coordinates",
+}

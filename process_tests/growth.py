@@ -1,0 +1,191 @@
+"""The points that polygons and a convex shape add up to, which says what polygons that grow are to wind around; and such
+polygons and shapes by chance.
+
+A point is of the sum where the shape, turned by half a circle and moved there, meets the polygons. Whether two convex parts
+meet is told by lines along their sides: they don't where one such line has them on both sides.
+"""
+
+from chains import is_near, winding
+from windings import HALF, PARTS, edges_of, is_along_axis
+
+# So many points are looked at in each case.
+LOOKS = 40
+
+
+def turn(first, second, third):
+    """Above 0 where the way over three points turns left."""
+    (x0, y0), (x1, y1), (x2, y2) = first, second, third
+    return (x1 - x0) * (y2 - y1) - (y1 - y0) * (x2 - x1)
+
+
+def meets(edge, corners):
+    """Whether an edge and a convex polygon, which runs counterclockwise, have a point in common."""
+    start, end = edge[:2], edge[2:]
+    xs, ys = zip(*corners)
+    if max(start[0], end[0]) < min(xs) or max(xs) < min(start[0], end[0]):
+        return False
+    if max(start[1], end[1]) < min(ys) or max(ys) < min(start[1], end[1]):
+        return False
+    for corner, following in zip(corners, corners[1:] + corners[:1]):
+        if turn(corner, following, start) < 0 and turn(corner, following, end) < 0:
+            return False
+    aside = [turn(start, end, corner) for corner in corners]
+    return min(aside) <= 0 <= max(aside)
+
+
+def is_of_sum(edges, shape, point):
+    """Whether a point is of the sum of what edges wind around and a shape. All are told in the same parts."""
+    x, y = point
+    corners = [(x - a, y - b) for a, b in shape]
+    return any(meets(edge, corners) for edge in edges) or winding(edges, corners[0]) != 0
+
+
+def is_of_rest(edges, shape, point):
+    """Whether all of a shape that is moved to a point lies within what edges wind around."""
+    x, y = point
+    corners = [(x + a, y + b) for a, b in shape]
+    return winding(edges, corners[0]) != 0 and not any(meets(edge, corners) for edge in edges)
+
+
+def vector(edge):
+    return edge[2] - edge[0], edge[3] - edge[1]
+
+
+def cross(one, other):
+    return one[0] * other[1] - one[1] * other[0]
+
+
+def furthest(shape, way):
+    """The first corner of those that lie furthest to the right of a way, counterclockwise."""
+    found = max(cross(corner, way) for corner in shape)
+    least = [cross(corner, way) == found for corner in shape]
+    return next(corner for place, corner in enumerate(shape) if least[place] and not least[place - 1])
+
+
+def moved(edge, by):
+    return edge[0] + by[0], edge[1] + by[1], edge[2] + by[0], edge[3] + by[1]
+
+
+def raw_curve(rings, shape):
+    """The edges of the curve around the sum of rings, which bound the inside, and a shape."""
+    sides, found = edges_of([shape]), []
+    for ring in rings:
+        edges = edges_of([ring])
+        for edge, following in zip(edges, edges[1:] + edges[:1]):
+            way, on, at = vector(edge), vector(following), edge[2:]
+            found.append(moved(edge, furthest(shape, way)))
+            if cross(way, on) > 0:
+                fan = (side for side in sides if cross(way, vector(side)) >= 0 and cross(on, vector(side)) < 0)
+                found += [moved(side, at) for side in fan]
+            else:
+                (x, y), (z, w) = furthest(shape, way), furthest(shape, on)
+                found += [(at[0] + x, at[1] + y, *at), (*at, at[0] + z, at[1] + w)]
+    return found
+
+
+def point_problems(rings, shape, made, points, grows=True):
+    """At which points, in parts, what is made winds otherwise than it is to: of rings that bound the inside, which grow by a
+    shape, or of which that is left around which the shape lies inside."""
+    raw = raw_curve(rings, shape) if grows else raw_curve([it[::-1] for it in rings], [(-x, -y) for x, y in shape])
+    near = [tuple(number * PARTS for number in edge) for edge in raw]
+    edges, answer = edges_of(rings, PARTS), edges_of(made, PARTS)
+    corners = [(x * PARTS, y * PARTS) for x, y in shape]
+    for point in points:
+        if any(is_on(edge, point) if is_along_axis(edge) else is_near(edge, point, HALF) for edge in near):
+            continue
+        wanted = (is_of_sum if grows else is_of_rest)(edges, corners, point)
+        if winding(answer, point) != wanted:
+            where = f"{point[0]}/{PARTS} {point[1]}/{PARTS}"
+            yield f"around {where} it winds {winding(answer, point)} times in place of {int(wanted)}"
+
+
+def is_on(edge, point):
+    """Whether a point lies on an edge."""
+    (x0, y0, x1, y1), (x, y) = edge, point
+    if (x1 - x0) * (y - y0) != (y1 - y0) * (x - x0):
+        return False
+    return min(x0, x1) <= x <= max(x0, x1) and min(y0, y1) <= y <= max(y0, y1)
+
+
+def hull(points):
+    """The corners of the convex polygon around points, counterclockwise."""
+    ordered = sorted(set(points))
+    halves = []
+    for some in (ordered, ordered[::-1]):
+        half = []
+        for point in some:
+            while len(half) > 1 and turn(half[-2], half[-1], point) <= 0:
+                half.pop()
+            half.append(point)
+        halves += half[:-1]
+    return halves
+
+
+def is_shape(corners):
+    """Whether the corners go around the origin."""
+    return len(corners) > 2 and all(cross(one, other) > 0 for one, other in zip(corners, corners[1:] + corners[:1]))
+
+
+def some_shape(random):
+    """A convex polygon around the origin, by chance."""
+    size = random.randint(1, 4)
+    kinds = [
+        [(-size, -size), (size, -size), (size, size), (-size, size)],
+        [(size, 0), (0, size), (-size, 0), (0, -size)],
+        [(2 * size, size), (size, 2 * size), (-size, 2 * size), (-2 * size, size)]
+        + [(-2 * size, -size), (-size, -2 * size), (size, -2 * size), (2 * size, -size)],
+    ]
+    if random.randrange(2):
+        return random.choice(kinds)
+    while True:
+        corners = hull([(random.randint(-5, 5), random.randint(-5, 5)) for _ in range(random.randint(3, 7))])
+        if is_shape(corners):
+            return corners
+
+
+def some_ways(random):
+    """Ways round a point by chance, each to the left of the one before it, none of which makes half a turn."""
+    while True:
+        found = {}
+        for _ in range(random.randint(3, 8)):
+            x, y = random.randint(-4, 4), random.randint(-4, 4)
+            if (x, y) != (0, 0):
+                found.setdefault(quarter_and_slope(x, y), (x, y))
+        ways = [found[it] for it in sorted(found)]
+        turns = [cross(one, other) for one, other in zip(ways, ways[1:] + ways[:1])]
+        corners = zip(ways, ways[1:] + ways[:1], ways[2:] + ways[:2])
+        if len(ways) > 2 and min(turns) > 0 and all(turn(*three) for three in corners):
+            return ways
+
+
+def quarter_and_slope(x, y):
+    """By which ways are ordered counterclockwise: fractions of whole numbers up to 4, exactly."""
+    if y >= 0 and x > 0:
+        return 0, y * 144 // x if y else 0
+    if x <= 0 < y:
+        return 1, -x * 144 // y
+    if x < 0:
+        return 2, -y * 144 // -x
+    return 3, x * 144 // -y
+
+
+def some_rings(random, has_hole):
+    """Rings that bound an inside: a polygon around a point, maybe with a hole, and maybe another one that lies beside it."""
+    ways = some_ways(random)
+    rings = [[(3 * x, 3 * y) for x, y in ways]]
+    if has_hole:
+        rings.append([(x, y) for x, y in reversed(ways)])
+    if not random.randrange(3):
+        aside, up = 25 + random.randint(0, 6), random.randint(-9, 9)
+        rings.append([(aside + 3 * x, up + 3 * y) for x, y in some_ways(random)])
+    return rings
+
+
+def some_points(random, rings, shape):
+    """Points about the curve around the sum, in parts."""
+    raw = raw_curve(rings, shape)
+    for _ in range(LOOKS):
+        x0, y0, x1, y1 = random.choice(raw)
+        share = random.randrange(PARTS + 1)
+        at = x0 * PARTS + (x1 - x0) * share, y0 * PARTS + (y1 - y0) * share
+        yield at[0] + random.randint(-2 * PARTS, 2 * PARTS), at[1] + random.randint(-2 * PARTS, 2 * PARTS)
