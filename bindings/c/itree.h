@@ -390,6 +390,22 @@ int32_t itree_minkowski(const struct itree_point *points, size_t point_count, co
                         size_t ring_count, const struct itree_point *shape, size_t corner_count, int32_t rule,
                         struct itree_polygons **polygons);
 
+/* Writes the corners of a convex polygon that stands for a circle around the origin, counterclockwise: a shape for
+ * itree_minkowski. It has at most so many corners: 8, 16, 24 or more, up to 8,192, as far as most allows, and no more than eight
+ * times the root of a sixth of the radius; below 8, or where the radius is below 6, it is a diamond. No corner is farther from the
+ * origin than the radius, and *inner is the greatest whole number up to it such that no side is nearer.
+ *
+ * *count is how many corners there are. They are written where corner_count is *count; where it is 0 they are counted alone. The
+ * call returns
+ *   ITREE_ANSWERED  and *count and *inner are written, and so are the corners, or none are where corner_count is 0;
+ *   ITREE_POINTER   exactly where a pointer is faulty;
+ *   ITREE_CHOICE    exactly where none is, and the radius is below 1 or most below 4;
+ *   ITREE_LENGTHS   and all that is well, but corner_count is neither 0 nor how many corners there are, which *count is then;
+ *   ITREE_REFUSED   and nothing is written.
+ * count and inner may be NULL. */
+int32_t itree_circle(int32_t radius, size_t most, struct itree_point *corners, size_t corner_count, size_t *count,
+                     int32_t *inner);
+
 /* Shapes: each is some rings, as a polygon with its holes, or a multipolygon. The points of all rings, one ring after the
  * other; for each ring the place among the points at which it stops; and for each shape the place among the rings at
  * which it stops, both as the ends of itree_overlay. A handle of itree_wkb_read has shapes. Points behind the last ring

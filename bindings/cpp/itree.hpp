@@ -1295,6 +1295,31 @@ template <typename Items = detail::InBraces<Position>>
     return detail::minkowski(all, shape, rule);
 }
 
+/// A convex polygon around the origin that stands for a circle.
+struct Circle {
+    /// Its corners, counterclockwise. None is farther from the origin than the radius.
+    std::vector<Point> corners;
+    /// No side is nearer to the origin: the greatest such whole number up to the radius.
+    std::int32_t inner;
+};
+
+/// A circle of a radius around the origin, with so many corners at most, as is said at `itree_circle` of itree.h.
+///
+///     const auto wider = itree::minkowski(fields, itree::circle(500, 64).corners, itree::FillRule::non_zero);
+///
+/// Throws `std::invalid_argument` where the radius is below 1 or `most` below 4, and as `overlay` where memory is refused.
+[[nodiscard]] inline Circle circle(std::int32_t radius, std::size_t most) {
+    std::size_t count = 0;
+    Circle made{{}, 0};
+    auto status = ::itree_circle(radius, most, nullptr, 0, &count, &made.inner);
+    if (status == ITREE_CHOICE) throw std::invalid_argument("a radius below 1, or fewer corners than 4");
+    detail::throw_unless_answered(status);
+    made.corners.resize(count);
+    status = ::itree_circle(radius, most, made.corners.data(), count, &count, &made.inner);
+    detail::throw_unless_answered(status);
+    return made;
+}
+
 namespace detail {
 
 /// Shapes on a grid: those that are on it, or positions that are rounded to it.

@@ -109,6 +109,7 @@ static int32_t call(int which) {
     case 16: status = itree_join(&window, 1, &one, 1, &one, 1, &three, 1, corners, 3, &polygons); break;
     case 17: status = itree_crop(&window, points, MANY, &end, 1, &chains); break;
     case 18: status = itree_minkowski(points, MANY, &end, 1, around, 4, ITREE_NON_ZERO, &polygons); break;
+    case 19: return itree_circle(1000, MANY, NULL, 0, NULL, NULL);
     }
     const int has_handle = pairs != NULL || chains != NULL || polygons != NULL;
     itree_pairs_free(pairs);
@@ -117,7 +118,7 @@ static int32_t call(int which) {
     return has_handle == (status == ITREE_ANSWERED) ? status : -1;
 }
 
-enum { EACH = 9, CALLS = 19 };
+enum { EACH = 9, CALLS = 20 };
 
 static void checks_memory(void) {
     for (int which = 0; which < CALLS; which++) {

@@ -223,6 +223,66 @@ static void checks_faults(void) {
     itree_polygons_free(polygons);
 }
 
+/* Whether the corners are those of a convex polygon that goes round the origin, none of which lies outside of the circle, and no
+ * side of which is nearer than inner, while one is nearer than one more. */
+static int is_circle(const struct itree_point *corners, size_t count, int64_t radius, int64_t inner) {
+    int near = inner == radius;
+    for (size_t place = 0; place < count; place++) {
+        const struct itree_point from = corners[place], to = corners[(place + 1) % count],
+                                 then = corners[(place + 2) % count];
+        const int64_t across = (int64_t)to.x - from.x, up = (int64_t)to.y - from.y;
+        const int64_t swept = (int64_t)from.x * to.y - (int64_t)to.x * from.y, length = across * across + up * up;
+        if ((int64_t)from.x * from.x + (int64_t)from.y * from.y > radius * radius) return 0;
+        if (swept <= 0 || across * (then.y - to.y) - up * (then.x - to.x) <= 0) return 0;
+        if (swept * swept < inner * inner * length) return 0;
+        near = near || swept * swept < (inner + 1) * (inner + 1) * length;
+    }
+    return near;
+}
+
+static void checks_circles(void) {
+    enum { ROOM = 64 };
+    struct itree_point corners[ROOM];
+    const int32_t radii[] = {1, 2, 5, 6, 7, 30, 100, 1000, 9999};
+    const size_t mosts[] = {4, 7, 8, 16, 31, ROOM};
+    int ok = 1;
+    for (size_t which = 0; which < 9; which++) {
+        for (size_t fewer = 0; fewer < 6; fewer++) {
+            size_t count = 0, again = 0;
+            int32_t inner = -1, its = -1;
+            ok = ok && itree_circle(radii[which], mosts[fewer], NULL, 0, &count, &inner) == ITREE_ANSWERED;
+            ok = ok && 4 <= count && count <= mosts[fewer];
+            ok = ok && itree_circle(radii[which], mosts[fewer], corners, count, &again, &its) == ITREE_ANSWERED;
+            ok = ok && again == count && its == inner && is_circle(corners, count, radii[which], inner);
+        }
+    }
+    check("circles lie between two circles", ok);
+    const struct itree_point diamond[] = {{5, 0}, {0, 5}, {-5, 0}, {0, -5}}, before = {7, 7};
+    size_t count = 9;
+    int32_t inner = 9;
+    check("a small one is a diamond", itree_circle(5, 64, corners, 4, NULL, &inner) == ITREE_ANSWERED && inner == 3 &&
+                                          is_ring(corners, 4, diamond, 4));
+    corners[0] = before;
+    inner = 9;
+    check("no radius", itree_circle(0, 64, corners, 4, &count, &inner) == ITREE_CHOICE);
+    check("one below 0", itree_circle(INT32_MIN, 64, corners, 4, &count, &inner) == ITREE_CHOICE);
+    check("too few corners", itree_circle(5, 3, corners, 4, &count, &inner) == ITREE_CHOICE);
+    check("no room for a circle", itree_circle(5, 64, NULL, 4, &count, &inner) == ITREE_POINTER);
+    refuse_after(0);
+    check("no memory for one", itree_circle(5, 64, corners, 4, &count, &inner) == ITREE_REFUSED);
+    refuse_after(SIZE_MAX);
+    check("nothing is written there", count == 9 && inner == 9 && corners[0].x == before.x && corners[0].y == before.y);
+    check("too little room",
+          itree_circle(5, 64, corners, 3, &count, &inner) == ITREE_LENGTHS && count == 4 && inner == 3);
+    check("too much", itree_circle(5, 64, corners, 5, &count, NULL) == ITREE_LENGTHS && count == 4);
+    check("no corner is written there", corners[0].x == before.x && corners[0].y == before.y);
+    struct itree_polygons *polygons = NULL;
+    check("a circle of 32", itree_circle(100, 32, corners, 32, NULL, NULL) == ITREE_ANSWERED);
+    check("is a shape to grow by", grow(field, one_ring, 1, corners, 32, &polygons) == ITREE_ANSWERED &&
+                                       itree_polygons_points(polygons, NULL) == 36);
+    itree_polygons_free(polygons);
+}
+
 static void checks_refused(void) {
     enum { BARS = 12 };
     struct itree_point points[8 * BARS];
@@ -255,6 +315,7 @@ int main(void) {
     checks_by_chance();
     checks_faulty_pointers();
     checks_faults();
+    checks_circles();
     checks_refused();
     return told();
 }

@@ -48,6 +48,21 @@ void checks_grown() {
     check("positions by a shape of a grid's units", is_ring(rounded, {{-1, -1}, {3, -1}, {3, 3}, {-1, 3}}));
 }
 
+void checks_circles() {
+    const auto circle = itree::circle(1000, 64);
+    check("a circle", circle.corners.size() == 64 && circle.inner < 1000 && circle.inner > 990);
+    check("its first corner", circle.corners[0] == itree::Point{1000, 0});
+    const auto wider = itree::minkowski(field, circle.corners, FillRule::non_zero);
+    check("grows a field", wider.size() == 1 && wider.points().size() == 68);
+    for (const auto &[radius, most] : {std::pair<std::int32_t, std::size_t>{0, 64}, {5, 3}}) {
+        const auto call = [r = radius, m = most] { return itree::circle(r, m); };
+        check("no circle", thrown<std::invalid_argument>(call) == "a radius below 1, or fewer corners than 4");
+    }
+    refuse_after(0);
+    check("no memory for one", thrown<std::bad_alloc>([] { return itree::circle(5, 64); }) != "");
+    refuse_after(SIZE_MAX);
+}
+
 void checks_faults() {
     const auto grow = [](const PointRings &rings, itree::Span<itree::Point> shape, FillRule rule) {
         return itree::minkowski(rings, shape, rule);
@@ -84,6 +99,7 @@ void checks_faults() {
 
 int main() {
     checks_grown();
+    checks_circles();
     checks_faults();
     return told();
 }

@@ -33,7 +33,7 @@ pub use layers::{
     Border, Groups, Layer, LayerBuf, LayerFault, Lines, Overlays, OverlaysIter, Pieces, Side,
 };
 pub use limits::{limited_to, memory_peak, stopped_by};
-pub use offsets::{minkowski, MinkowskiFault};
+pub use offsets::{circle, minkowski, Circle, CircleFault, MinkowskiFault};
 pub use tiles::{crop, join, overlay_in, overlay_threads, whole_window, Tile, TileFault, Window};
 pub use wkb::{read_wkb, wkb_corners, wkb_srid, Shapes, WkbFault, WkbFaultKind};
 
@@ -605,6 +605,7 @@ mod calls {
     pub const ANSWERED: i32 = 0;
     pub const OVERLAP: i32 = 2;
     pub const LENGTHS: i32 = 3;
+    pub const CHOICE: i32 = 5;
     pub const CROSSING: i32 = 6;
     pub const MEETING: i32 = 7;
     pub const FAULTY: i32 = 8;
@@ -832,6 +833,15 @@ mod calls {
             corner_count: usize,
             rule: i32,
             polygons: *mut *mut Handle,
+        ) -> i32;
+
+        pub fn itree_circle(
+            radius: i32,
+            most: usize,
+            corners: *mut Point,
+            corner_count: usize,
+            count: *mut usize,
+            inner: *mut i32,
         ) -> i32;
 
         pub fn itree_whole_window(

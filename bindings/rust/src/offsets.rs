@@ -1,6 +1,7 @@
 //! Polygons that grow.
 
 use crate::{answered, calls, polygons_of, FillRule, Point, Polygons, Refused, Rings, REFUSED};
+use std::collections::TryReserveError;
 use std::error::Error;
 use std::fmt::{self, Display, Formatter};
 use std::ptr;
@@ -82,5 +83,77 @@ pub fn minkowski(rings: Rings<'_>, shape: &[Point], rule: FillRule) -> Result<Po
         calls::SHAPE => Err(MinkowskiFault::Shape),
         calls::RANGE => Err(MinkowskiFault::Range),
         _ => Ok(answered(status, handle).map(polygons_of)?),
+    }
+}
+
+/// Why there is no circle.
+#[derive(Clone, Copy, Debug, PartialEq, Eq, Hash)]
+pub enum CircleFault {
+    /// Memory was refused, or the call was stopped.
+    Refused,
+    /// The radius is below 1, or there may be fewer corners than 4.
+    Few,
+}
+
+impl Display for CircleFault {
+    fn fmt(&self, f: &mut Formatter<'_>) -> fmt::Result {
+        match self {
+            CircleFault::Refused => write!(f, "{REFUSED}"),
+            CircleFault::Few => write!(f, "a radius below 1, or fewer corners than 4"),
+        }
+    }
+}
+
+impl Error for CircleFault {}
+
+impl From<TryReserveError> for CircleFault {
+    fn from(_refused: TryReserveError) -> CircleFault {
+        CircleFault::Refused
+    }
+}
+
+/// A convex polygon around the origin that stands for a circle.
+#[derive(Clone, Debug, PartialEq, Eq)]
+pub struct Circle {
+    /// Its corners, counterclockwise. None is farther from the origin than the radius.
+    pub corners: Vec<Point>,
+    /// No side is nearer to the origin: the greatest such whole number up to the radius.
+    pub inner: i32,
+}
+
+/// A circle of a radius around the origin, with so many corners at most: 8, 16, 24 or more, up to 8,192, as far as `most` allows,
+/// and no more than eight times the root of a sixth of the radius; below 8, or where the radius is below 6, it is a diamond.
+///
+/// `CircleFault::Few` comes where the radius is below 1 or `most` below 4.
+///
+/// ```
+/// use itree::{circle, minkowski, FillRule, Point, Rings};
+///
+/// let points = [(0, 0), (900, 0), (900, 900), (0, 900)].map(Point::from);
+/// let field = Rings { points: &points, ends: &[4] };
+/// let round = circle(100, 64).unwrap();
+/// let wider = minkowski(field, &round.corners, FillRule::NonZero).unwrap();
+/// assert!(wider.points().iter().all(|point| -100 <= point.x && point.x <= 1000));
+/// ```
+pub fn circle(radius: i32, most: usize) -> Result<Circle, CircleFault> {
+    let (mut count, mut inner) = (0, 0);
+    // SAFETY: no room is told, and the others are of values of this call.
+    let status = unsafe { calls::itree_circle(radius, most, ptr::null_mut(), 0, &mut count, &mut inner) };
+    made(status)?;
+    let mut corners = Vec::new();
+    corners.try_reserve_exact(count)?;
+    corners.resize(count, Point::default());
+    // SAFETY: the pointer and the length are those of a vector, and the others are of values of this call.
+    let status = unsafe { calls::itree_circle(radius, most, corners.as_mut_ptr(), count, &mut count, &mut inner) };
+    made(status)?;
+    Ok(Circle { corners, inner })
+}
+
+/// What the status of a circle tells.
+fn made(status: i32) -> Result<(), CircleFault> {
+    match status {
+        calls::ANSWERED => Ok(()),
+        calls::CHOICE => Err(CircleFault::Few),
+        _ => Err(CircleFault::Refused),
     }
 }

@@ -1,6 +1,6 @@
 //! Polygons that grow: by hand, at faults, and with each request for memory refused in turn.
 
-use itree::{minkowski, FillRule, MinkowskiFault, Point, Rings};
+use itree::{circle, minkowski, CircleFault, FillRule, MinkowskiFault, Point, Rings};
 use refuse::granted;
 
 mod refuse;
@@ -78,6 +78,32 @@ fn tells_faulty_shapes_and_rings() {
     ] {
         assert_eq!(fault.to_string(), text);
     }
+}
+
+#[test]
+fn grows_by_a_circle() {
+    let round = circle(1000, 64).unwrap();
+    assert_eq!((round.corners.len(), round.corners[0]), (64, Point { x: 1000, y: 0 }));
+    assert!((991..1000).contains(&round.inner));
+    let square = |corner: &Point| i64::from(corner.x).pow(2) + i64::from(corner.y).pow(2);
+    assert!(round.corners.iter().all(|corner| square(corner) <= 1_000_000));
+    let field = rectangle(0, 0, 9, 9);
+    assert_eq!(rings_of(&field, &[4], &round.corners)[0].len(), 68);
+    for (radius, most) in [(0, 64), (-5, 64), (5, 3)] {
+        assert_eq!(circle(radius, most).unwrap_err(), CircleFault::Few);
+    }
+    for (fault, text) in [
+        (CircleFault::Refused, "memory was refused, or the call was stopped"),
+        (CircleFault::Few, "a radius below 1, or fewer corners than 4"),
+    ] {
+        assert_eq!(fault.to_string(), text);
+    }
+    let mut requests = 0;
+    while let Err(fault) = granted(requests, || circle(1000, 64)) {
+        assert_eq!(fault, CircleFault::Refused);
+        requests += 1;
+    }
+    assert!(requests > 1, "{requests} requests");
 }
 
 #[test]

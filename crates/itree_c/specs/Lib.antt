@@ -1,5 +1,6 @@
 pub mod Chains
 pub mod Choices
+pub mod Circles
 pub mod Grids
 pub mod Handle
 pub mod Heights

@@ -9,6 +9,7 @@
 
 pub mod chains;
 pub mod choices;
+pub mod circles;
 pub mod cropped;
 pub mod grids;
 pub mod grown;
