@@ -371,12 +371,12 @@ int32_t itree_join(const struct itree_window *windows, size_t window_count, cons
  * The rings are as itree_overlay takes them. The shape is the corners of a convex polygon, counterclockwise, with the origin
  * inside: at each corner it turns left, none stands there twice, and the origin lies left of each side. It goes once around.
  *
- * The polygons are as itree_overlay writes them. They wind once around each point of the sum, and not at all around any other, if
- * each edge of the rings, and each of the curve around the sum, isn't moved, or runs along an axis, or isn't within half a unit, on
- * both axes, of the point, and none of the curve goes through it. The curve is each edge of what bounds the inside, moved by the
- * corner of the shape that lies furthest to the right of it, and what joins these at corners: around one that turns left the
- * sides of the shape, and at one that turns right the ways to the corner itself and on. Around no point do they wind more often.
- * The call returns
+ * What is inside is bounded by rings first, as those of itree_overlay of it and nothing: exactly where it moves no edge. The
+ * polygons are as itree_overlay writes them, too. Of what those rings bound they wind once around each point of the sum, and not at
+ * all around any other, if each edge of the curve around the sum isn't moved, or runs along an axis, or isn't within half a unit, on
+ * both axes, of the point, and none goes through it. The curve is each edge of those rings, moved by the corner of the shape that
+ * lies furthest to the right of it, and what joins these at corners: around one that turns left the sides of the shape, and at one
+ * that turns right the ways to the corner itself and on. Around no point do they wind more often. The call returns
  *   ITREE_ANSWERED  and *polygons is the caller's, also where there are none;
  *   ITREE_REFUSED   and *polygons is NULL;
  *   ITREE_POINTER   exactly where a pointer is faulty, and *polygons stays as it was;

@@ -45,11 +45,12 @@ impl From<Refused> for MinkowskiFault {
 /// The shape is the corners of a convex polygon with the origin inside, counterclockwise: at each corner it turns left, none stands
 /// there twice, and the origin lies left of each side.
 ///
-/// The polygons wind once around each point of the sum, and not at all around any other, if each edge of the rings, and each of the
-/// curve around the sum, runs along an axis, or isn't within half a unit, on both axes, of the point, and none of the curve goes
-/// through it. Around no point do they wind more often. The curve is each edge of what bounds the inside, moved by the corner of the
-/// shape that lies furthest to the right of it, and what joins these at corners: around one that turns left the sides of the
-/// shape, and at one that turns right the ways to the corner itself and on.
+/// What is inside is bounded by rings first, as those of `overlay_rings` of it and nothing: exactly where it moves no edge. Of what
+/// these bound the polygons wind once around each point of the sum, and not at all around any other, if each edge of the curve
+/// around the sum runs along an axis, or isn't within half a unit, on both axes, of the point, and none goes through it. Around no
+/// point do they wind more often. The curve is each edge of those rings, moved by the corner of the shape that lies furthest to the
+/// right of it, and what joins these at corners: around one that turns left the sides of the shape, and at one that turns right the
+/// ways to the corner itself and on.
 ///
 /// `MinkowskiFault::Lengths` comes where a ring stops before it begins or behind the points; else `MinkowskiFault::Shape`, where the
 /// shape isn't such a polygon; else `MinkowskiFault::Range`, where a corner of the curve is no point of 32 bits.
